@@ -1,0 +1,13 @@
+pub mod Causes
+pub mod Moves
+pub mod Flows
+pub mod SoundFlows
+pub mod Sounds
+pub mod Told
+pub mod Falls
+pub mod Uptos
+pub mod Committing
+pub mod Nows
+pub mod Counting
+pub mod Answered
+pub mod Whole

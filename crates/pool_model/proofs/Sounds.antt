@@ -1,0 +1,76 @@
+-- A step of the machine is a step of its groups, holds and items, and keeps a view sound.
+use Rattle.std.proofs.Common.{inl, inr, ◌≤◌, List, [], ◌∷◌, refl, ap, arith, lit≤}
+use Rattle.pool_model.specs.declared.step.Step.{Step}
+use Rattle.pool_model.specs.declared.step.Step.TheVariants.{Hold, Plan}
+use Rattle.pool_model.specs.declared.step.Reply.{Reply}
+use Rattle.pool_model.specs.declared.step.Reply.TheVariants.{Refused}
+use Rattle.pool_model.specs.declared.refusal.Refusal.{Refusal}
+use Rattle.pool_model.specs.Flow.{Flow, FlowStep, FlowRun}
+use Rattle.pool_model.specs.View.{View, Vdev, Given, started}
+use Rattle.pool_model.specs.Flow.{flow_of}
+use Rattle.pool_model.specs.Machine.{StepOf, Run}
+use Rattle.pool_model.specs.Sound.{IsSound}
+use Rattle.pool_model.proofs.Moves.{EachMove, by_move}
+use Rattle.pool_model.proofs.SoundFlows.{sound_flow}
+
+refused_flow : (f : Flow) (step : Step) (cause : Refusal) → FlowStep f step (Refused cause) f
+refused_flow f (Plan timestamp) cause = inl refl
+refused_flow f (Hold writer) cause = refl
+refused_flow f step cause = refl
+
+flow_moves : EachMove (λ v given step reply w. FlowStep (flow_of v) step reply (flow_of w))
+flow_moves = record {
+  stays = λ v given step cause. refused_flow (flow_of v) step cause;
+  begun = λ v given t cause. inr (inr (refl, refl, refl));
+  failed = λ v given cause disk left e. refl;
+  replanned = λ v given disk left e. refl;
+  moved = λ v given phase left rest. refl;
+  read = λ v given name offset len bytes a. refl;
+  read_under = λ v given g name offset len bytes k a. refl;
+  held = λ v given by n. (n, refl, refl);
+  wrote = λ v given x g h n le. (h, n, le, refl);
+  acted = λ v given a g h n le o. (h, n, le, o, refl);
+  released = λ v given by. refl;
+  closed = λ v given b. (refl, b, refl, refl);
+  quiesced = λ v given e. (refl, e, refl, refl);
+  planned = λ v given t calls. (refl, inr (refl, refl, refl));
+  replanned_group = λ v given t calls. (refl, inl (refl, refl));
+  committed = λ v given left. (refl, refl, refl);
+}
+
+pub flow_step : (v : View) (given : Given) (step : Step) (reply : Reply) (w : View) → StepOf v given step reply w → FlowStep (flow_of v) step reply (flow_of w)
+flow_step v given step reply w h = by_move (λ v given step reply w. FlowStep (flow_of v) step reply (flow_of w)) flow_moves v given step reply w h
+
+pub flow_run : (v : View) (steps : List Step) (givens : List Given) (replies : List Reply) (w : View) → Run v steps givens replies w → FlowRun (flow_of v) steps replies (flow_of w)
+flow_run v [] [] [] w r = ap flow_of r
+flow_run v (step ∷ steps) (given ∷ givens) (reply ∷ replies) w r = (flow_of r.0, flow_step v given step reply r.0 r.1, flow_run r.0 steps givens replies w r.2)
+flow_run v steps givens replies w r = absurd r
+
+first_moves : EachMove (λ v given step reply w. v.first ≤ v.committed → w.first ≤ w.committed)
+first_moves = record {
+  stays = λ v given step cause s. s;
+  begun = λ v given t cause s. s;
+  failed = λ v given cause disk left e s. s;
+  replanned = λ v given disk left e s. s;
+  moved = λ v given phase left rest s. s;
+  read = λ v given name offset len bytes a s. s;
+  read_under = λ v given g name offset len bytes k a s. s;
+  held = λ v given by n s. s;
+  wrote = λ v given x g h n le s. s;
+  acted = λ v given a g h n le o s. s;
+  released = λ v given by s. s;
+  closed = λ v given b s. s;
+  quiesced = λ v given e s. s;
+  planned = λ v given t calls s. s;
+  replanned_group = λ v given t calls s. s;
+  committed = λ v given left s. omega arith;
+}
+
+pub sound_step : (v : View) (given : Given) (step : Step) (reply : Reply) (w : View) → IsSound v → StepOf v given step reply w → IsSound w
+sound_step v given step reply w s h = record {
+  first = by_move (λ v given step reply w. v.first ≤ v.committed → w.first ≤ w.committed) first_moves v given step reply w h s.first;
+  flow = sound_flow (flow_of v) step reply (flow_of w) s.flow (flow_step v given step reply w h);
+}
+
+pub sound_start : (vdevs : List Vdev) → IsSound (started vdevs)
+sound_start vdevs = record { first = omega arith; flow = record { holds = tt; beyond = λ group lt. refl; groups = lit≤ tt; numbers = λ writer. lit≤ tt } }

@@ -1,0 +1,100 @@
+-- The part of the view that groups, holds and pending items are: what a pipeline of groups keeps.
+use Rattle.std.specs.Prelude.{◌≡◌, ◌⊎◌, ℕ, suc, ◌≤◌, ◌<◌, List, [], ◌∷◌, ◌++◌, filter, Bool, true, false, not, Option, Some, None, is_some, ◌==◌, if◌then◌else◌}
+use Rattle.std.specs.List.{AllByRecursion}
+use Rattle.pool_model.specs.declared.group.Holder.{Holder}
+use Rattle.pool_model.specs.declared.group.Stage.{Stage}
+use Rattle.pool_model.specs.declared.group.Stage.TheVariants.{Quiescing, Quiesced as QuiescedStage}
+use Rattle.pool_model.specs.declared.item.Item.{Item}
+use Rattle.pool_model.specs.declared.item.Item.TheVariants.{Write as WriteItem, Action as ActionItem}
+use Rattle.pool_model.specs.declared.step.Step.{Step}
+use Rattle.pool_model.specs.declared.step.Step.TheVariants.{Hold, Write as WriteStep, Act, Release, Close, Quiesce, Plan, Device, Read, ReadUnder}
+use Rattle.pool_model.specs.declared.step.Reply.{Reply}
+use Rattle.pool_model.specs.declared.step.Reply.TheVariants.{Held, Receipt, Released, Closed, Quiesced, Planned, Moved, Replan, Committed, Bytes, Refused}
+use Rattle.pool_model.specs.Pools.{Entry, Ledger, no_items}
+use Rattle.pool_model.specs.View.{View, is_syncing, waiting_after, open_after, hold_group, is_held}
+use Rattle.pool_model.specs.Refusals.{greatest}
+
+pub record Flow : Type 0 where
+  pub committed : ℕ  -- the group that was committed last
+  pub syncing : Bool  -- whether the group after that is synced
+  pub waiting : Option Stage
+  pub holds : List Holder
+  pub next : ℕ → ℕ
+  pub ledger : Ledger
+
+abbrev pub flow_of : View → Flow
+flow_of v = record { committed = v.committed; syncing = is_syncing v.sync; waiting = v.waiting; holds = v.holds; next = v.next; ledger = v.ledger }
+
+abbrev pub waits : Flow → ℕ
+waits f = waiting_after f.committed f.syncing
+
+abbrev pub opened : Flow → ℕ
+opened f = open_after f.committed f.syncing (is_some f.waiting)
+
+-- ---- what a step changes
+
+-- an item joins its kind
+abbrev pub added : Entry → Item → Entry
+added entry (WriteItem w) = record entry { writes = entry.writes ++ w ∷ [] }
+added entry (ActionItem a) = record entry { actions = entry.actions ++ a ∷ [] }
+
+-- the writer's hold is the newest
+abbrev pub held_by : List Holder → ℕ → ℕ → List Holder
+held_by holds writer group = holds ++ record { writer = writer; group = group } ∷ []
+
+abbrev pub released_by : List Holder → ℕ → List Holder
+released_by holds writer = filter (λ h. not (h.writer == writer)) holds
+
+-- the writer's next number is one more
+abbrev pub counted_on : (ℕ → ℕ) → ℕ → ℕ → ℕ
+counted_on next writer w = if w == writer then suc (next w) else next w
+
+-- a group has accepted an item
+abbrev pub ledger_took : Ledger → ℕ → Item → Ledger
+ledger_took ledger group item g = if g == group then added (ledger g) item else ledger g
+
+-- a group has accepted an item of a writer
+abbrev pub flow_took : Flow → ℕ → ℕ → Item → Flow
+flow_took f writer group item = record f { next = counted_on f.next writer; ledger = ledger_took f.ledger group item }
+
+-- the group after the committed one is synced: it was, or it is the quiesced one, which is taken
+abbrev pub TakesGroup : Flow → Flow → Type 0
+TakesGroup f g = ((f.syncing ≡ true) × (g ≡ f)) ⊎ ((f.syncing ≡ false) × (f.waiting ≡ Some QuiescedStage) × (g ≡ record f { syncing = true; waiting = None }))
+
+-- what a step and its reply make of groups, holds and pending items
+abbrev pub FlowStep : Flow → Step → Reply → Flow → Type 0
+FlowStep f (Hold writer) (Held group) g = (hold_group writer f.holds ≡ None) × (group ≡ opened f) × (g ≡ record f { holds = held_by f.holds writer group })
+FlowStep f (WriteStep x) (Receipt group) g = (hold_group x.writer f.holds ≡ Some group) × (x.number ≡ f.next x.writer) × (x.number ≤ greatest) × (g ≡ flow_took f x.writer group (WriteItem x))
+FlowStep f (Act a) (Receipt group) g = (hold_group a.writer f.holds ≡ Some group) × (a.number ≡ f.next a.writer) × (a.number ≤ greatest) × (group ≡ opened f) × (g ≡ flow_took f a.writer group (ActionItem a))
+FlowStep f (Release writer) Released g = g ≡ record f { holds = released_by f.holds writer }
+FlowStep f Close (Closed group) g = (f.waiting ≡ None) × (opened f < greatest) × (group ≡ opened f) × (g ≡ record f { waiting = Some Quiescing })
+FlowStep f Quiesce (Quiesced group) g = (f.waiting ≡ Some Quiescing) × (is_held (waits f) f.holds ≡ false) × (group ≡ waits f) × (g ≡ record f { waiting = Some QuiescedStage })
+FlowStep f (Plan timestamp) (Planned group) g = (group ≡ suc f.committed) × TakesGroup f g
+FlowStep f (Plan timestamp) (Refused cause) g = (g ≡ f) ⊎ TakesGroup f g
+FlowStep f Device (Committed group) g = (f.syncing ≡ true) × (group ≡ suc f.committed) × (g ≡ record f { committed = suc f.committed; syncing = false })
+FlowStep f Device (Moved phase) g = g ≡ f
+FlowStep f Device (Replan disk) g = g ≡ f
+FlowStep f (Read name offset len) (Bytes bytes) g = g ≡ f
+FlowStep f (ReadUnder group name offset len) (Bytes bytes) g = g ≡ f
+FlowStep f step (Refused cause) g = g ≡ f
+FlowStep f step reply g = ⊥
+
+abbrev pub FlowRun : Flow → List Step → List Reply → Flow → Type 0
+FlowRun f [] [] g = g ≡ f
+FlowRun f (step ∷ steps) (reply ∷ replies) g = (mid : Flow) × FlowStep f step reply mid × FlowRun mid steps replies g
+FlowRun f steps replies g = ⊥
+
+-- ---- what is true of each flow that a run comes to
+
+-- a group that may take items: the open one, and the waiting one while it quiesces
+abbrev pub Takes : Flow → ℕ → Type 0
+Takes f group = (group ≡ opened f) ⊎ ((f.waiting ≡ Some Quiescing) × (group ≡ waits f))
+
+pub record IsSoundFlow (f : Flow) : Type 0 where
+  -- each hold is in the open or the quiescing group
+  pub holds : AllByRecursion (λ h. Takes f h.group) f.holds
+  -- nothing is accepted above the open group
+  pub beyond : (group : ℕ) → opened f < group → f.ledger group ≡ no_items
+  -- groups and numbers end
+  pub groups : opened f ≤ greatest
+  pub numbers : (writer : ℕ) → f.next writer ≤ suc greatest

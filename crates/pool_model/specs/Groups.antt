@@ -1,0 +1,63 @@
+-- How groups move: four counters, each of which a reply raises by one.
+use Rattle.std.specs.Prelude.{◌≡◌, ◌⊎◌, ℕ, suc, ◌≤◌, List, [], ◌∷◌, Bool, true, false, is_some, if◌then◌else◌}
+use Rattle.pool_model.specs.declared.step.Step.{Step}
+use Rattle.pool_model.specs.declared.step.Step.TheVariants.{Plan, Device}
+use Rattle.pool_model.specs.declared.step.Reply.{Reply}
+use Rattle.pool_model.specs.declared.step.Reply.TheVariants.{Held, Closed, Quiesced, Planned, Moved, Replan, Committed, Refused}
+use Rattle.pool_model.specs.View.{View, is_syncing, is_planned, is_quiesced}
+
+-- The groups up to each of these were committed, taken to be synced, quiesced, closed. The open group is the one after
+-- the closed ones. Planned: the group that is synced has a plan.
+pub record Counters : Type 0 where
+  pub committed : ℕ
+  pub taken : ℕ
+  pub quiesced : ℕ
+  pub closed : ℕ
+  pub planned : Bool
+
+abbrev pub taken_in : View → ℕ
+taken_in v = if is_syncing v.sync then suc v.committed else v.committed
+
+abbrev pub counters_of : View → Counters
+counters_of v = record {
+  committed = v.committed;
+  taken = taken_in v;
+  quiesced = if is_quiesced v.waiting then suc (taken_in v) else taken_in v;
+  closed = if is_some v.waiting then suc (taken_in v) else taken_in v;
+  planned = is_planned v.sync;
+}
+
+-- above the last committed group there are one that is synced or none, one that waits or none, and the open one
+pub record AreInOrder (c : Counters) : Type 0 where
+  pub one_synced : (c.committed ≤ c.taken) × (c.taken ≤ suc c.committed)
+  pub one_waits : (c.taken ≤ c.closed) × (c.closed ≤ suc c.taken)
+  pub quiesced_first : (c.taken ≤ c.quiesced) × (c.quiesced ≤ c.closed)
+
+-- a refused Plan may leave the next group taken, and a Device step whose fault suspends the pool drops the plan
+abbrev pub MovesRefused : Counters → Step → Counters → Type 0
+MovesRefused c (Plan timestamp) d = (d ≡ c) ⊎ ((suc c.committed ≤ c.quiesced) × (c.planned ≡ false) × (d ≡ record c { taken = suc c.committed }))
+MovesRefused c Device d = (d ≡ c) ⊎ ((c.planned ≡ true) × (d ≡ record c { planned = false }))
+MovesRefused c step d = d ≡ c
+
+-- what a reply says of the groups, and how it moves them
+abbrev pub MovesBy : Counters → Step → Reply → Counters → Type 0
+MovesBy c step (Held group) d = (group ≡ suc c.closed) × (d ≡ c)
+MovesBy c step (Closed group) d = (group ≡ suc c.closed) × (c.closed ≡ c.taken) × (d ≡ record c { closed = group })
+MovesBy c step (Quiesced group) d = (group ≡ suc c.quiesced) × (group ≡ c.closed) × (d ≡ record c { quiesced = group })
+MovesBy c step (Planned group) d = (group ≡ suc c.committed) × (group ≤ c.quiesced) × (c.planned ≡ false) × (d ≡ record c { taken = group; planned = true })
+MovesBy c step (Moved phase) d = (c.planned ≡ true) × (d ≡ c)
+MovesBy c step (Replan disk) d = (c.planned ≡ true) × (d ≡ record c { planned = false })
+MovesBy c step (Committed group) d = (group ≡ suc c.committed) × (group ≡ c.taken) × (c.planned ≡ true) × (d ≡ record c { committed = group; planned = false })
+MovesBy c step (Refused cause) d = MovesRefused c step d
+MovesBy c step reply d = d ≡ c
+
+abbrev pub GroupsMove : Counters → List Step → List Reply → Counters → Type 0
+GroupsMove c [] [] d = d ≡ c
+GroupsMove c (step ∷ steps) (reply ∷ replies) d = (mid : Counters) × MovesBy c step reply mid × GroupsMove mid steps replies d
+GroupsMove c steps replies d = ⊥
+
+-- the groups answered as committed, in order
+abbrev pub commits : List Reply → List ℕ
+commits [] = []
+commits (Committed group ∷ replies) = group ∷ commits replies
+commits (reply ∷ replies) = commits replies

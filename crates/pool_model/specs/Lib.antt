@@ -1,0 +1,10 @@
+pub mod Names
+pub mod Pools
+pub mod View
+pub mod Refusals
+pub mod Flow
+pub mod Machine
+pub mod Sound
+pub mod Accepted
+pub mod Groups
+pub mod Headline

@@ -1,0 +1,28 @@
+-- Names and bytes as lists.
+use Rattle.std.specs.Prelude.{ℕ, ◌+◌, List, [], ◌∷◌, ◌++◌, length, take, drop, Bool, false, nat_eq, nat_le, ◌==◌, ◌&&◌, ◌||◌, if◌then◌else◌}
+use Rattle.std.specs.List.{list_all, list_any}
+use Rattle.std.specs.Cmp.Lexicographic.{pointwise}
+
+-- whether two names are the same
+abbrev pub same : List ℕ → List ℕ → Bool
+same name other = pointwise nat_eq name other
+
+-- old with new in place of what it has from the offset on, where that lies within old
+abbrev pub stored : ℕ → List ℕ → List ℕ → List ℕ
+stored offset new old = if nat_le (offset + length new) (length old) then take offset old ++ (new ++ drop (offset + length new) old) else old
+
+abbrev pub is_letter : ℕ → Bool
+is_letter c = nat_le 97 c && nat_le c 122
+
+-- a letter, a digit, '.', '_' or '-'
+abbrev pub is_name_letter : ℕ → Bool
+is_name_letter c = is_letter c || ((nat_le 48 c && nat_le c 57) || ((c == 46) || ((c == 95) || (c == 45))))
+
+-- 1 to 27 of these, of which the first is a letter
+abbrev pub is_name : List ℕ → Bool
+is_name [] = false
+is_name (c ∷ cs) = is_letter c && (nat_le (length cs) 26 && list_all is_name_letter cs)
+
+-- a power of two from 512 to 131,072
+abbrev pub is_block_size : ℕ → Bool
+is_block_size n = list_any (λ size. n == size) (512 ∷ 1024 ∷ 2048 ∷ 4096 ∷ 8192 ∷ 16384 ∷ 32768 ∷ 65536 ∷ 131072 ∷ [])

@@ -1,0 +1,26 @@
+//! The abstract machine of the pool: its words, its definitions, and what every run of it tells.
+//!
+//! The definitions stand in `specs/`. They know nothing of disks' bytes, trees or the code of a core: a core is right
+//! where its steps are steps of this machine. `headline_of_runs` then says what a whole run tells its users.
+#![tactic(auto)]
+
+mod group;
+mod item;
+mod laws;
+mod refusal;
+mod step;
+#[cfg(test)]
+mod tests;
+mod text;
+mod volume;
+
+pub use group::{Holder, Stage};
+pub use item::{Action, Change, Item, Write};
+pub use laws::{
+    flows_are_once_in_order, headline_of_runs, runs_keep_flows_sound, runs_keep_views_sound,
+    steps_follow_runs,
+};
+pub use refusal::Refusal;
+pub use step::{Phase, Reply, Step};
+pub use text::{Bytes, Name};
+pub use volume::PlainVolume;

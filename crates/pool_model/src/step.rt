@@ -1,0 +1,64 @@
+//! The steps of the machine and its replies.
+use crate::item::{Action, Write};
+use crate::refusal::Refusal;
+use crate::text::{Bytes, Name};
+
+/// What is asked of the pool: one step of the machine, taken whole.
+#[derive(Debug, Drop)]
+pub enum Step {
+    /// Takes a hold of the open group.
+    Hold(u32),
+    Write(Write),
+    Act(Action),
+    /// Gives the writer's hold back.
+    Release(u32),
+    /// Lets the open group wait, and opens the next.
+    Close,
+    /// Asks that the waiting group be quiesced.
+    Quiesce,
+    /// Takes the quiesced group to be synced, or plans again the syncing one whose plan was dropped.
+    Plan {
+        /// As it goes into the uberblock.
+        timestamp: u64,
+    },
+    /// Makes the next device calls of the plan: one to four, in one phase.
+    Device,
+    /// Reads what all accepted groups make.
+    Read {
+        name: Name,
+        /// In bytes.
+        offset: u64,
+        len: u64,
+    },
+    /// Reads what a committed group contains.
+    ReadUnder {
+        group: u64,
+        name: Name,
+        offset: u64,
+        len: u64,
+    },
+}
+
+/// A phase of a commit. None begins before the one before it is done.
+#[derive(Clone, Copy, Debug, PartialEq, Eq)]
+pub enum Phase {
+    Blocks,
+    BlocksFlush,
+}
+
+#[derive(Debug, Drop)]
+pub enum Reply {
+    Held(u64),
+    Receipt(u64),
+    Released,
+    Closed(u64),
+    Quiesced(u64),
+    Planned(u64),
+    /// Device calls were made, the last of them in this phase, and some are left.
+    Moved(Phase),
+    /// This disk failed a write or a flush: it is out, and the plan is dropped.
+    Replan(usize),
+    Committed(u64),
+    Bytes(Bytes),
+    Refused(Refusal),
+}

@@ -1,0 +1,126 @@
+//! Names and bytes, which a contract sees as lists.
+ghost use Rattle.std.specs.Prelude.{◌≡◌, ◌==◌, IfOk};
+ghost use Rattle.pool_model.specs.Names.{same};
+
+use std::alloc::{AllocError, Global};
+use std::marker::Model;
+
+/// The name of a volume.
+#[derive(Debug, Drop)]
+pub struct Name {
+    letters: Vec<u8>,
+}
+
+impl Model for Name {
+    ghost use Rattle.std.specs.Prelude.{ℕ, List};
+
+    ghost Value = { List ℕ };
+
+    ghost view = { λ name. name.letters.items };
+}
+
+impl Name {
+    /// A name that need not be a good one.
+    pub fn new(letters: Vec<u8>) -> Name
+        ensures { result ≡ letters.items }
+    {
+        Name { letters }
+    }
+
+    pub fn as_slice(&self) -> &[u8]
+        ensures { result.now ≡ self.now }
+    {
+        self.letters.as_slice()
+    }
+
+    /// Whether both are the same name.
+    pub fn is(&self, other: &Name) -> bool
+        ensures { result ≡ same self.now other.now }
+    {
+        self.letters.as_slice() == other.letters.as_slice()
+    }
+
+    pub fn copied(&self, alloc: Global) -> Result<Name, AllocError>
+        ensures { IfOk result (λ name. name ≡ self.now) }
+    {
+        let letters = Vec::from_slice(alloc, self.letters.as_slice())?;
+        Ok(Name { letters })
+    }
+}
+
+/// Bytes of a volume.
+#[derive(Debug, Drop)]
+pub struct Bytes {
+    bytes: Vec<u8>,
+}
+
+impl Model for Bytes {
+    ghost use Rattle.std.specs.Prelude.{ℕ, List};
+
+    ghost Value = { List ℕ };
+
+    ghost view = { λ b. b.bytes.items };
+}
+
+impl Bytes {
+    ghost use Rattle.std.specs.Prelude.{length, replicate, slice_range, ◌≤◌, ◌+◌};
+    ghost use Rattle.pool_model.specs.Names.{stored};
+
+    pub fn new(bytes: Vec<u8>) -> Bytes
+        ensures { result ≡ bytes.items }
+    {
+        Bytes { bytes }
+    }
+
+    /// As many bytes of value 0.
+    pub fn zeros(alloc: Global, count: usize) -> Result<Bytes, AllocError>
+        ensures { IfOk result (λ b. b ≡ replicate count 0) }
+    {
+        let bytes = vec![in alloc; 0; count]?;
+        Ok(Bytes { bytes })
+    }
+
+    pub fn len(&self) -> usize
+        ensures { result ≡ length self.now }
+    {
+        self.bytes.len()
+    }
+
+    pub fn is_empty(&self) -> bool
+        ensures { result ≡ (length self.now == 0) }
+    {
+        self.bytes.is_empty()
+    }
+
+    pub fn as_slice(&self) -> &[u8]
+        ensures { result.now ≡ self.now }
+    {
+        self.bytes.as_slice()
+    }
+
+    pub fn copied(&self, alloc: Global) -> Result<Bytes, AllocError>
+        ensures { IfOk result (λ b. b ≡ self.now) }
+    {
+        let bytes = Vec::from_slice(alloc, self.bytes.as_slice())?;
+        Ok(Bytes { bytes })
+    }
+
+    /// The bytes of a range.
+    pub fn range(&self, alloc: Global, offset: usize, len: usize) -> Result<Bytes, AllocError>
+        requires { offset + len ≤ length self.now }
+        ensures { IfOk result (λ b. b ≡ slice_range self.now offset (offset + len)) }
+    {
+        let bytes = Vec::from_slice(alloc, &self.bytes[offset..offset + len])?;
+        Ok(Bytes { bytes })
+    }
+
+    /// Puts bytes in place of those at an offset. Past the end it changes nothing.
+    pub fn store(&mut self, offset: usize, bytes: &Bytes)
+        ensures { self.new ≡ stored offset bytes.now self.old }
+    {
+        let len = bytes.bytes.len();
+        if offset <= self.bytes.len() && len <= self.bytes.len() - offset {
+            self.bytes[offset..offset + len].copy_from_slice(bytes.bytes.as_slice());
+        }
+    }
+}
