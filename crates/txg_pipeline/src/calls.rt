@@ -1,0 +1,82 @@
+//! Whole runs of calls, each call as a value.
+ghost use Rattle.std.specs.Prelude.{◌≡◌, ◌++◌, List, OnOk, OnErr};
+ghost use Rattle.txg_pipeline.specs.Calls.{Ran, IsCall};
+ghost use Rattle.txg_pipeline.specs.declared.calls.Call.{Call};
+
+use crate::pipeline::Pipeline;
+use crate::refusal::Refusal;
+use pool_model::Item;
+use std::alloc::AllocError;
+use std::collections::VecDeque;
+
+/// A call of the pipeline.
+#[derive(Debug, Drop)]
+pub enum Call {
+    Hold(u32),
+    Accept(Item),
+    Release(u32),
+    Close,
+    Quiesce,
+    Take,
+    Commit,
+}
+
+/// What a call was answered.
+#[derive(Clone, Copy, Debug, PartialEq, Eq, Drop)]
+pub enum Answer {
+    Held(u64),
+    Receipt(u64),
+    Released,
+    Closed(u64),
+    Quiesced(u64),
+    Taken(u64),
+    Committed(u64),
+    Refused(Refusal),
+}
+
+impl Pipeline {
+    /// One call, whichever it is.
+    pub fn call(&mut self, call: Call) -> Answer
+        ensures { IsCall self.old call result self.new }
+    {
+        match call {
+            Call::Hold(writer) => self.hold(writer).map_or_else(Answer::Refused, Answer::Held),
+            Call::Accept(item) => self
+                .accept(item)
+                .map_or_else(Answer::Refused, Answer::Receipt),
+            Call::Release(writer) => match self.release(writer) {
+                Ok(()) => Answer::Released,
+                Err(cause) => Answer::Refused(cause),
+            },
+            Call::Close => self
+                .close_open()
+                .map_or_else(Answer::Refused, Answer::Closed),
+            Call::Quiesce => self
+                .mark_quiesced()
+                .map_or_else(Answer::Refused, Answer::Quiesced),
+            Call::Take => self.take().map_or_else(Answer::Refused, Answer::Taken),
+            Call::Commit => self
+                .committed()
+                .map_or_else(Answer::Refused, Answer::Committed),
+        }
+    }
+}
+
+/// Takes the calls in order, and adds the answer of each. At an `Err` memory ran out before a call, and that one and those
+/// after it are not taken.
+pub fn run(
+    pipeline: &mut Pipeline,
+    calls: Vec<Call>,
+    answers: &mut Vec<Answer>,
+) -> Result<(), AllocError>
+    ensures all { OnOk result (Ran pipeline.old calls.items answers.old.items pipeline.new answers.new.items) }
+    ensures front { OnErr result ((taken rest : List Call) × (taken ++ rest ≡ calls.items) × Ran pipeline.old taken answers.old.items pipeline.new answers.new.items) }
+{
+    let mut left = VecDeque::from_vec(calls);
+    'taking: while let Some(call) = left.pop_front() {
+        answers.try_reserve(1)?;
+        let answer = pipeline.call(call);
+        answers.push(answer)?;
+    }
+    Ok(())
+}
