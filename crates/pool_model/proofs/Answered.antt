@@ -20,9 +20,9 @@ pub rightly : (v : View) (given : Given) (step : Step) (reply : Reply) (w : View
 rightly v given step reply w s = ⊎_elim
     (λ r. subst (λ x. IsRightlyAnswered v given step x w) (sym r.answer) (inl (r.first, r.unchanged)))
     (λ s. ⊎_elim
-        (λ l. subst (λ x. IsRightlyAnswered v given step x w) (sym l.answer) (inr (inl (refl, l.takes))))
-        (λ g. granted_rightly v given step reply w g.none g.granted)
-        s)
+    (λ l. subst (λ x. IsRightlyAnswered v given step x w) (sym l.answer) (inr (inl (refl, l.takes))))
+    (λ g. granted_rightly v given step reply w g.none g.granted)
+    s)
     s
 
 pub told_refusals : (v : View) (steps : List Step) (givens : List Given) (replies : List Reply) (w : View) → Run v steps givens replies w → Refusals v steps givens replies
@@ -74,7 +74,8 @@ pub told_outs : (v : View) (steps : List Step) (givens : List Given) (replies : 
 told_outs v [] [] [] w r = ((λ d h. inl (sym (ap (λ (x : View). x.out d) r) ∙ h)), (λ d h. ap (λ (x : View). x.out d) r ∙ h))
 told_outs v (step ∷ steps) (given ∷ givens) (reply ∷ replies) w r =
     let m = by_move OutsBy out_moves v given step reply r.0 r.1 in
-    let t = told_outs r.0 steps givens replies w r.2 in
-    ((λ d h. ⊎_elim (λ was. ⊎_elim (λ first. inl first) (λ failed. inr (Contains-append_left given.failed (failures_in givens) d failed)) (m.0 d was)) (λ later. inr (Contains-append_right given.failed (failures_in givens) d later)) (t.0 d h)),
-    (λ d h. t.1 d (m.1 d h)))
+    let t = told_outs r.0 steps givens replies w r.2 in (
+      (λ d h. ⊎_elim (λ was. ⊎_elim (λ first. inl first) (λ failed. inr (Contains-append_left given.failed (failures_in givens) d failed)) (m.0 d was)) (λ later. inr (Contains-append_right given.failed (failures_in givens) d later)) (t.0 d h)),
+      (λ d h. t.1 d (m.1 d h)),
+    )
 told_outs v steps givens replies w r = absurd r

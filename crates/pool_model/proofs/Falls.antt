@@ -13,7 +13,6 @@ use Rattle.pool_model.proofs.Flows.{EachFlow, by_flow}
 use Rattle.pool_model.proofs.SoundFlows.{sound_flow, taken_hold, takes_below}
 use Rattle.pool_model.proofs.Told.{refused_item, hold_filter, told_ledger, told_numbers, told_holds, told_shut, told_quiesced, was_shut}
 
-
 -- what the writer's next item is for is not below low
 pub record IsLow (v : Flow) (writer low : ℕ) : Type 0 where
   pub below : low ≤ opened v

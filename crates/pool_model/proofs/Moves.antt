@@ -143,7 +143,7 @@ by_move P m v given step reply w s =
     ⊎_elim
     (λ r. subst (λ x. P v given step x w) (sym r.answer) (subst (P v given step (Refused r.cause)) (sym r.unchanged) (m.stays v given step r.cause)))
     (λ s. ⊎_elim
-        (λ l. subst (λ x. P v given step x w) (sym l.answer) (subst (P v given step (Refused NoMemory)) (sym l.leaves) (lacks P m v given step NoMemory)))
-        (λ g. grants P m v given step reply w g.none g.granted)
-        s)
+    (λ l. subst (λ x. P v given step x w) (sym l.answer) (subst (P v given step (Refused NoMemory)) (sym l.leaves) (lacks P m v given step NoMemory)))
+    (λ g. grants P m v given step reply w g.none g.granted)
+    s)
     s

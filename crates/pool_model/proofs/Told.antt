@@ -19,7 +19,6 @@ use Rattle.pool_model.specs.Flow.{Flow, waits, opened, added, FlowRun, Takes, Is
 use Rattle.pool_model.specs.Accepted.{Accepted, with_item, accepted, with_front, items_in, ledger_with, numbers_of, CountsFrom, hold_then, IsForHold, AreForHold, NoReceipt, StaysQuiesced, WasShut}
 use Rattle.pool_model.proofs.Flows.{EachFlow, by_flow}
 
-
 -- ---- the ledger
 
 item_joins : (e rest : Entry) (item : Item) (b : Bool) → ◌≡◌ {A = Entry} (record { writes = (cond b (added e item) e).writes ++ rest.writes; actions = (cond b (added e item) e).actions ++ rest.actions }) (record { writes = e.writes ++ (cond b (with_front item rest) rest).writes; actions = e.actions ++ (cond b (with_front item rest) rest).actions })

@@ -1,4 +1,5 @@
 pub mod Names
+pub mod Causes
 pub mod Pools
 pub mod View
 pub mod Refusals

@@ -13,33 +13,28 @@ ghost use Rattle.pool_model.specs.Headline.{Headline};
 pub fn headline_of_runs()
     ensures { (v : View) (steps : List Step) (givens : List Given) (replies : List Reply) (w : View) →
         IsSound v → Run v steps givens replies w → Headline v steps givens replies w }
-{
-}
+{}
 
 /// A step from a sound view leads to a sound view, and the start is sound.
 pub fn runs_keep_views_sound()
     ensures step { (v : View) (given : Given) (step : Step) (reply : Reply) (w : View) → IsSound v → StepOf v given step reply w → IsSound w }
     ensures start { (vdevs : List Vdev) → IsSound (started vdevs) }
-{
-}
+{}
 
 /// A run goes on by a step.
 pub fn steps_follow_runs()
     ensures { (v : View) (steps : List Step) (givens : List Given) (replies : List Reply) (mid : View) (given : Given) (step : Step) (reply : Reply) (w : View) →
         Run v steps givens replies mid → StepOf mid given step reply w → Run v (steps ++ step ∷ []) (givens ++ given ∷ []) (replies ++ reply ∷ []) w }
-{
-}
+{}
 
 /// Once and in order, of any run of groups, holds and items, as a pipeline of groups keeps them.
 pub fn flows_are_once_in_order()
     ensures { (f : Flow) (steps : List Step) (replies : List Reply) (g : Flow) → IsSoundFlow f → FlowRun f steps replies g → OnceInOrder f steps replies g }
-{
-}
+{}
 
 /// A step from a sound flow leads to a sound flow, and such a run goes on by a step.
 pub fn runs_keep_flows_sound()
     ensures step { (f : Flow) (step : Step) (reply : Reply) (g : Flow) → IsSoundFlow f → FlowStep f step reply g → IsSoundFlow g }
     ensures further { (f : Flow) (steps : List Step) (replies : List Reply) (mid : Flow) (step : Step) (reply : Reply) (g : Flow) →
         FlowRun f steps replies mid → FlowStep mid step reply g → FlowRun f (steps ++ step ∷ []) (replies ++ reply ∷ []) g }
-{
-}
+{}

@@ -1,4 +1,6 @@
 //! Why a step is refused.
+ghost use Rattle.std.specs.Prelude.{◌≡◌};
+
 use std::fmt;
 
 /// Why a step is refused. It prints as its number, its name and its argument, if it has one: `7 OutOfOrder 2`.
@@ -29,8 +31,12 @@ pub enum Refusal {
 }
 
 impl Refusal {
+    ghost use Rattle.pool_model.specs.Causes.{number_of_cause, name_of_cause};
+
     /// The number by which a schedule's output and a program's error name it.
-    pub fn number(&self) -> u8 {
+    pub fn number(&self) -> u8
+        ensures { result ≡ number_of_cause self.now }
+    {
         match self {
             Refusal::NoMemory => 1,
             Refusal::DiskFault => 2,
@@ -51,7 +57,9 @@ impl Refusal {
     }
 
     /// The name that stands after the number.
-    pub fn name(&self) -> &'static str {
+    pub fn name(&self) -> &'static str
+        ensures { result.now ≡ name_of_cause self.now }
+    {
         match self {
             Refusal::NoMemory => "NoMemory",
             Refusal::DiskFault => "DiskFault",

@@ -27,6 +27,13 @@ impl Name {
         Name { letters }
     }
 
+    /// The letters, given back.
+    pub fn into_vec(self) -> Vec<u8>
+        ensures { result.items ≡ self }
+    {
+        self.letters
+    }
+
     pub fn as_slice(&self) -> &[u8]
         ensures { result.now ≡ self.now }
     {
@@ -70,6 +77,13 @@ impl Bytes {
         ensures { result ≡ bytes.items }
     {
         Bytes { bytes }
+    }
+
+    /// The bytes, given back.
+    pub fn into_vec(self) -> Vec<u8>
+        ensures { result.items ≡ self }
+    {
+        self.bytes
     }
 
     /// As many bytes of value 0.
