@@ -1,6 +1,6 @@
 //! The sums of a block's columns, 64 bytes of each column at a time. The sums of all columns are made in lanes, so that
 //! each column is read once and each parity is written once.
-ghost use Rattle.std.specs.Prelude.{◌≡◌, ℕ, ◌+◌, ◌<◌, ◌≤◌, ◌^◌, length, sum, slice_index, EachIndex};
+ghost use Rattle.std.specs.Prelude.{◌≡◌, ℕ, ◌+◌, ◌<◌, ◌≤◌, ◌^◌, length, sum, slice_index, All, EachIndex};
 ghost use Rattle.raidz_parity.specs.Layout.{columns_of};
 ghost use Rattle.raidz_parity.specs.Parity.{weighted_sum_at};
 
@@ -74,29 +74,70 @@ fn put_lanes(target: &mut [u8], at: usize, lanes: u8x64)
     }
 }
 
-/// The first parity of the columns of these lengths, which lie one after the other in `bytes`, from `at` on.
-#[inline(always)]
-fn first_sums(lengths: &[usize], bytes: &[u8], at: usize) -> u8x64
+/// The parity `row` of the columns of these lengths, which lie one after the other in `bytes`, from `at` on.
+fn row_sums(row: u8, lengths: &[usize], bytes: &[u8], at: usize) -> u8x64
+    requires row { row ≤ 1 }
     requires at { at + 64 < 2 ^ 64 }
     requires fits { sum lengths.now ≤ length bytes.now }
-    ensures { (k : ℕ) → k < 64 → slice_index result k ≡ weighted_sum_at 0 (columns_of lengths.now bytes.now) (at + k) }
+    ensures { (k : ℕ) → k < 64 → slice_index result k ≡ weighted_sum_at row (columns_of lengths.now bytes.now) (at + k) }
 {
     let mut sums = u8x64::splat(0);
     let mut rest = bytes;
     for &length in lengths {
         let (column, after) = rest.split_at(length);
-        sums ^= lanes_at(column, at);
+        let lanes = lanes_at(column, at);
+        if row == 1 {
+            sums = doubled_wide(sums);
+        }
+        sums ^= lanes;
         rest = after;
     }
     sums
 }
 
-/// The first and the second parity of the columns of these lengths, which lie one after the other in `bytes`, from `at`
-/// on.
+/// Makes `target` from `from` on the parity `row` of the columns of these lengths, which lie one after the other in
+/// `bytes`.
+fn fill_ends(row: u8, target: &mut [u8], from: usize, lengths: &[usize], bytes: &[u8])
+    requires row { row ≤ 1 }
+    requires from { from ≤ length target.old }
+    requires fits { sum lengths.now ≤ length bytes.now }
+    requires begun { (j : ℕ) → j < from → slice_index target.old j ≡ weighted_sum_at row (columns_of lengths.now bytes.now) j }
+    ensures { EachIndex target.new (λ j. slice_index target.new j ≡ weighted_sum_at row (columns_of lengths.now bytes.now) j) }
+{
+    let mut at = from;
+    while at < target.len() {
+        put_lanes(target, at, row_sums(row, lengths, bytes, at));
+        at += 64;
+    }
+}
+
+/// The first parity of the columns of these lengths, which lie one after the other in `bytes`, at 64 places that each
+/// column has.
+#[inline(always)]
+fn first_sums(lengths: &[usize], bytes: &[u8], at: usize) -> u8x64
+    requires reach { All (λ n. at + 64 ≤ n) lengths.now }
+    requires fits { sum lengths.now ≤ length bytes.now }
+    ensures count { length result ≡ 64 }
+    ensures sums { (k : ℕ) → k < 64 → slice_index result k ≡ weighted_sum_at 0 (columns_of lengths.now bytes.now) (at + k) }
+{
+    let mut sums = u8x64::splat(0);
+    let mut rest = bytes;
+    for &length in lengths {
+        let (column, after) = rest.split_at(length);
+        sums ^= u8x64::from_slice(&column[at..]);
+        rest = after;
+    }
+    sums
+}
+
+/// The first and the second parity of the columns of these lengths, which lie one after the other in `bytes`, at 64
+/// places that each column has.
 #[inline(always)]
 fn both_sums(lengths: &[usize], bytes: &[u8], at: usize) -> (u8x64, u8x64)
-    requires at { at + 64 < 2 ^ 64 }
+    requires reach { All (λ n. at + 64 ≤ n) lengths.now }
     requires fits { sum lengths.now ≤ length bytes.now }
+    ensures first_count { length result.0 ≡ 64 }
+    ensures second_count { length result.1 ≡ 64 }
     ensures first { (k : ℕ) → k < 64 → slice_index result.0 k ≡ weighted_sum_at 0 (columns_of lengths.now bytes.now) (at + k) }
     ensures second { (k : ℕ) → k < 64 → slice_index result.1 k ≡ weighted_sum_at 1 (columns_of lengths.now bytes.now) (at + k) }
 {
@@ -105,7 +146,7 @@ fn both_sums(lengths: &[usize], bytes: &[u8], at: usize) -> (u8x64, u8x64)
     let mut rest = bytes;
     for &length in lengths {
         let (column, after) = rest.split_at(length);
-        let lanes = lanes_at(column, at);
+        let lanes = u8x64::from_slice(&column[at..]);
         first ^= lanes;
         second = doubled_wide(second) ^ lanes;
         rest = after;
@@ -113,16 +154,30 @@ fn both_sums(lengths: &[usize], bytes: &[u8], at: usize) -> (u8x64, u8x64)
     (first, second)
 }
 
+/// A length that no column falls short of, up to `rows`.
+fn common_length(lengths: &[usize], rows: usize) -> usize
+    ensures rows { result ≤ rows }
+    ensures columns { All (λ n. result ≤ n) lengths.now }
+{
+    let mut common = rows;
+    for &length in lengths {
+        common = common.min(length);
+    }
+    common
+}
+
 /// Makes `first` the first parity of the columns of these lengths, which lie one after the other in `bytes`.
 pub(crate) fn fill_first(first: &mut [u8], lengths: &[usize], bytes: &[u8])
     requires fits { sum lengths.now ≤ length bytes.now }
     ensures { EachIndex first.new (λ j. slice_index first.new j ≡ weighted_sum_at 0 (columns_of lengths.now bytes.now) j) }
 {
+    let common = common_length(lengths, first.len());
     let mut at = 0;
-    while at < first.len() {
-        put_lanes(first, at, first_sums(lengths, bytes, at));
+    while common - at >= 64 {
+        first_sums(lengths, bytes, at).copy_to_slice(&mut first[at..]);
         at += 64;
     }
+    fill_ends(0, first, at, lengths, bytes);
 }
 
 /// Makes `first` and `second` the parities of the columns of these lengths, which lie one after the other in `bytes`.
@@ -132,11 +187,14 @@ pub(crate) fn fill_both(first: &mut [u8], second: &mut [u8], lengths: &[usize], 
     ensures first { EachIndex first.new (λ j. slice_index first.new j ≡ weighted_sum_at 0 (columns_of lengths.now bytes.now) j) }
     ensures second { EachIndex second.new (λ j. slice_index second.new j ≡ weighted_sum_at 1 (columns_of lengths.now bytes.now) j) }
 {
+    let common = common_length(lengths, first.len());
     let mut at = 0;
-    while at < first.len() {
+    while common - at >= 64 {
         let (first_lanes, second_lanes) = both_sums(lengths, bytes, at);
-        put_lanes(first, at, first_lanes);
-        put_lanes(second, at, second_lanes);
+        first_lanes.copy_to_slice(&mut first[at..]);
+        second_lanes.copy_to_slice(&mut second[at..]);
         at += 64;
     }
+    fill_ends(0, first, at, lengths, bytes);
+    fill_ends(1, second, at, lengths, bytes);
 }
