@@ -1,8 +1,9 @@
-//! Says on standard error how fast the kernels and the parity of a block are on one core, in bytes of 128 KiB a
-//! nanosecond (GB/s), each by the fastest of some rounds. The argument, if any, is the number of rounds.
+//! Says on standard error how fast the kernels and the parity of a block are on one core, over 128 KiB in cache: bytes
+//! of the column or of the block a nanosecond (GB/s), by the fastest of some rounds. `generate` counts the memory that it
+//! takes, and `fill_parity` works in memory that stands. The argument, if any, is the number of rounds.
 #![tactic(auto)]
 
-ghost use Rattle.std.specs.Prelude.{◌≡◌, ◌+◌, ◌*◌, ◌^◌, ◌<◌, ◌≤◌, [], ◌∷◌, length, replicate, sum, slice_index, All, IfOk, vec_len};
+ghost use Rattle.std.specs.Prelude.{◌≡◌, ◌+◌, ◌*◌, ◌^◌, ◌<◌, ◌≤◌, [], ◌∷◌, length, replicate, sum, slice_index, All};
 
 use arrayvec::ArrayVec;
 use gf_lanes::{horner2_into, horner4_into, mul_add_into, mul_into, xor_into};
@@ -71,21 +72,28 @@ fn parities(rt: &impl Runtime, alloc: Global, rounds: u32, count: usize, size: u
             let _columns = Columns::generate(alloc, parity, even(count, size), block)?;
             best = best.min(start.elapsed(rt)?.as_nanos());
         }
-        eprint!(rt; "{parity} of {count} columns, generate: ")?;
-        print(rt, "", bytes, best)?;
+        let name = format!(in alloc; "generate, {count} + {parity} columns")?;
+        print(rt, name.as_str(), bytes, best)?;
 
         let block = vec![in alloc; 7; bytes]?;
         let mut columns = Columns::generate(alloc, parity, even(count, size), block)?;
         let again = fastest!(rt, rounds, columns.fill_parity());
-        eprint!(rt; "{parity} of {count} columns, fill_parity: ")?;
-        print(rt, "", bytes, again)?;
+        let name = format!(in alloc; "fill_parity, {count} + {parity} columns")?;
+        print(rt, name.as_str(), bytes, again)?;
     }
     Ok(())
 }
 
 fn main(rt: HostRuntime) -> io::Result<()> {
-    kernels(&rt, rt.alloc(), 2000, 131_072)?;
-    parities(&rt, rt.alloc(), 2000, 4, 32_768)?;
-    parities(&rt, rt.alloc(), 2000, 8, 16_384)?;
+    let rounds = match env::args(&rt)?.nth(1) {
+        Some(word) => match word.parse::<u32>() {
+            Ok(rounds) => rounds,
+            Err(_) => return Err(io::Error::from(io::ErrorKind::InvalidInput)),
+        },
+        None => 200,
+    };
+    kernels(&rt, rt.alloc(), rounds, 131_072)?;
+    parities(&rt, rt.alloc(), rounds, 4, 32_768)?;
+    parities(&rt, rt.alloc(), rounds, 8, 16_384)?;
     Ok(())
 }

@@ -145,11 +145,11 @@ fn both_sums(lengths: &[usize], bytes: &[u8], at: usize) -> (u8x64, u8x64)
     let mut second = u8x64::splat(0);
     let mut rest = bytes;
     for &length in lengths {
-        let (column, after) = rest.split_at(length);
+        let (column, later) = rest.split_at(length);
         let lanes = u8x64::from_slice(&column[at..]);
         first ^= lanes;
         second = doubled_wide(second) ^ lanes;
-        rest = after;
+        rest = later;
     }
     (first, second)
 }
