@@ -1,0 +1,26 @@
+use Rattle.std.proofs.Common.{ℕ, ◌≡◌, List, length, drop, ap, arith}
+use Rattle.raidz_parity.proofs.Filled.{parity_from_filled}
+use Rattle.raidz_parity.proofs.Weights.{All-wider}
+use Rattle.raidz_parity.proofs.parity.refill_both.Goals as goal
+
+pub returns-clause-first_parity : goal.returns-clause-first_parity
+returns-clause-first_parity c =
+    let lengths : List ℕ = c.args.lengths.now in
+    let items : List ℕ = c.args.first.now.items in
+    let len : ℕ = c.args.first.now.len in
+    let filled : List ℕ = c.fill_both.new.first in
+    let count : length items ≡ len = omega (arith, c.as_mut_slice.ensures.len, ap (length {A = ℕ}) c.as_mut_slice.ensures.value) in
+    let kept : length filled ≡ len = omega (arith, c.fill_both.auto.first, c.as_mut_slice.ensures.len) in
+    parity_from_filled 0 len lengths c.args.block.now filled (drop (length filled) items)
+    c.requires.fits (All-wider lengths (length c.args.first.now.items) len (omega (arith, c.requires)) c.requires.longest) kept c.fill_both.ensures.first
+
+pub returns-clause-second_parity : goal.returns-clause-second_parity
+returns-clause-second_parity c =
+    let lengths : List ℕ = c.args.lengths.now in
+    let items : List ℕ = c.args.second.now.items in
+    let len : ℕ = c.args.second.now.len in
+    let filled : List ℕ = c.fill_both.new.second in
+    let count : length items ≡ len = omega (arith, c.as_mut_slice-2.ensures.len, ap (length {A = ℕ}) c.as_mut_slice-2.ensures.value) in
+    let kept : length filled ≡ len = omega (arith, c.fill_both.auto.second, c.as_mut_slice-2.ensures.len) in
+    parity_from_filled 1 len lengths c.args.block.now filled (drop (length filled) items)
+    c.requires.fits (All-wider lengths (length c.args.first.now.items) len (omega (arith, c.requires)) c.requires.longest) kept c.fill_both.ensures.second
