@@ -1,9 +1,8 @@
 -- The calls that were made on a disk before it was handed in, in the list of all calls.
 use Rattle.std.proofs.Common.{◌≡◌, ◌≢◌, ◌<◌, ◌≤◌, ◌∙◌, ℕ, zero, suc, ◌+◌, ◌==◌, Bool, true, false, List, [], ◌∷◌, ◌++◌, length, get_or, map, take, ap, sym, refl, arith}
 use Rattle.std.proofs.Math.Seq.{take-suc}
-use Rattle.std.proofs.lemmas.Bool.Decides.{nat_tests}
 use Rattle.std.proofs.lemmas.List.{append-nil, map-append, get_or-map, take_all, length-map, length-take-le}
-use Rattle.model_disk.proofs.JointLemmas.{calls_on-same, calls_on-other}
+use Rattle.model_disk.proofs.JointLemmas.{calls_on-same, calls_on-other, same_if, apart_if}
 use Rattle.model_disk.specs.Call.{Call}
 use Rattle.model_disk.specs.Joint.{JointCall, on_each, calls_on, log_of}
 
@@ -36,21 +35,15 @@ log_of-not_last [] log (suc which) apart = refl
 log_of-not_last (first ∷ logs) log zero apart = refl
 log_of-not_last (first ∷ logs) log (suc which) apart = log_of-not_last logs log which (λ same. apart (ap suc same))
 
-same_if : (which other : ℕ) → (which == other) ≡ true → which ≡ other
-same_if which other test = grind (arith, nat_tests)
-
-apart_if : (which other : ℕ) → (which == other) ≡ false → which ≢ other
-apart_if which other test = λ same. grind (arith, nat_tests)
-
 by_test : (logs : List (List Call)) (log : List Call) (calls : List JointCall) → ((which : ℕ) → log_of logs which ≡ calls_on which calls)
     → (which : ℕ) (test : Bool) → (which == length logs) ≡ test
     → log_of (logs ++ log ∷ []) which ≡ calls_on which (on_each (length logs) log ++ calls)
 by_test logs log calls agree which true tested =
-    rw (same_if which (length logs) tested)
+    rw (sym (same_if which (length logs) tested))
     (log_of-last logs log ∙ sym (append-nil log) ∙ ap (λ rest. log ++ rest) (sym (log_of-past logs) ∙ agree (length logs))
     ∙ sym (calls_on-own (length logs) log calls))
 by_test logs log calls agree which false tested =
-    let apart = apart_if which (length logs) tested in
+    let apart : which ≢ length logs = λ same. apart_if which (length logs) tested (sym same) in
     log_of-not_last logs log which apart ∙ agree which ∙ sym (calls_on-others (length logs) which log calls apart)
 
 -- one more disk, with its calls
