@@ -1,6 +1,7 @@
 //! The labels of a disk: what it says of itself and of its pool, four times.
 #![tactic(auto)]
 
+mod area;
 mod label;
 mod place;
 mod refusal;
