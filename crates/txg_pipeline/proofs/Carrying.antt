@@ -1,21 +1,15 @@
 -- What a pipeline carries after each call.
-use Rattle.std.proofs.Common.{◌≡◌, ◌≢◌, ◌⊎◌, ⊎_elim, inl, inr, ℕ, suc, ◌+◌, ◌<◌, ◌≤◌, Bool, true, false, true≢false, Option, Some, None, refl, sym, ap, ◌∙◌, subst, arith}
+use Rattle.std.proofs.Common.{◌≡◌, ⊎_elim, ℕ, suc, ◌+◌, ◌<◌, ◌≤◌, Bool, true, false, true≢false, Option, Some, None, refl, sym, ap, ◌∙◌, arith}
 use Rattle.std.specs.Prelude.{cond, is_some, is_ok, nat_eq, unwrap_or, Result, Ok, Err, OnOk, ◌==◌, ◌&&◌, not}
 use Rattle.std.proofs.lemmas.Bool.Decides.{nat_tests}
 use Rattle.pool_model.specs.declared.group.Stage.{Stage}
 use Rattle.pool_model.specs.declared.group.Stage.TheVariants.{Quiescing, Quiesced as QuiescedStage}
-use Rattle.pool_model.specs.declared.step.Step.{Step}
-use Rattle.pool_model.specs.declared.step.Step.TheVariants as steps
-use Rattle.pool_model.specs.declared.step.Reply.{Reply}
-use Rattle.pool_model.specs.declared.step.Reply.TheVariants as replies
 use Rattle.pool_model.specs.View.{is_quiescing, is_quiesced}
 use Rattle.pool_model.specs.declared.item.Item.{Item}
 use Rattle.pool_model.specs.Pools.{Entry}
-use Rattle.pool_model.specs.View.{waiting_after, open_after, hold_group}
+use Rattle.pool_model.specs.View.{waiting_after, open_after}
 use Rattle.pool_model.specs.Refusals.{greatest}
-use Rattle.pool_model.specs.Flow.{Flow, opened, waits, added, counted_on, ledger_took, flow_took, FlowStep, Takes, IsSoundFlow}
-use Rattle.pool_model.proofs.SoundFlows.{sound_flow, taken_hold}
-use Rattle.txg_pipeline.specs.Carries.{Carries, Does}
+use Rattle.pool_model.specs.Flow.{Flow, opened, waits, added, counted_on, ledger_took, Takes}
 
 pub quiescing_is : (waiting : Option Stage) → is_quiescing waiting ≡ true → waiting ≡ Some Quiescing
 quiescing_is (Some Quiescing) e = refl

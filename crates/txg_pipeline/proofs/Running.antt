@@ -3,13 +3,12 @@ use Rattle.std.proofs.Common.{◌≡◌, ◌++◌, List, [], ◌∷◌, drop, le
 use Rattle.std.specs.Prelude.{map, Result, Ok, Err, OnErr}
 use Rattle.pool_model.specs.declared.step.Step.{Step}
 use Rattle.pool_model.specs.declared.step.Reply.{Reply}
-use Rattle.pool_model.specs.Flow.{Flow, FlowRun}
+use Rattle.pool_model.specs.Flow.{FlowRun}
 use Rattle.pool_model.proofs.SoundFlows.{flow_snoc}
 use Rattle.pool_model.proofs.Falls.{once_in_order}
 use Rattle.txg_pipeline.specs.declared.calls.Answer.{Answer}
 use Rattle.txg_pipeline.specs.declared.calls.Call.{Call}
 use Rattle.txg_pipeline.specs.declared.pipeline.Pipeline.{Pipeline}
-use Rattle.txg_pipeline.specs.Carries.{Carries}
 use Rattle.txg_pipeline.specs.Calls.{step_of, reply_of, IsCall, Runs, Ran}
 
 pub map_snoc : {A B : Type 0} (f : A → B) (xs : List A) (x : A) → map f (xs ++ x ∷ []) ≡ map f xs ++ f x ∷ []

@@ -1,4 +1,4 @@
-use Rattle.std.proofs.Common.{[], ◌∷◌, ◌++◌, refl, sym, ap, ◌∙◌, subst, append_assoc}
+use Rattle.std.proofs.Common.{[], ◌∷◌, ◌++◌, sym, ap, ◌∙◌, subst, append_assoc}
 use Rattle.txg_pipeline.specs.Calls.{Runs, Ran}
 use Rattle.txg_pipeline.proofs.Running.{runs_on, ran, on_err, append_none, drops_nothing}
 use Rattle.txg_pipeline.proofs.calls.run.Goals as goal

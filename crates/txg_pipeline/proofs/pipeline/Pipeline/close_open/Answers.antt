@@ -1,6 +1,4 @@
-use Rattle.std.proofs.Common.{◌≡◌, ◌<◌, suc, false, Some, None, refl, sym, ap, ◌∙◌, arith}
-use Rattle.std.specs.Prelude.{is_some}
-use Rattle.std.proofs.lemmas.Bool.Decides.{nat_tests}
+use Rattle.std.proofs.Common.{◌≡◌, ◌<◌, suc, Some, None, refl, sym, ap, ◌∙◌, arith}
 use Rattle.pool_model.specs.declared.group.Stage.TheVariants.{Quiescing}
 use Rattle.pool_model.specs.declared.step.Step.TheVariants.{Close}
 use Rattle.pool_model.specs.declared.step.Reply.TheVariants.{Closed}
