@@ -9,10 +9,9 @@ use arrayvec::ArrayVec;
 use gf_lanes::{horner2_into, horner4_into, mul_add_into, mul_into, xor_into};
 use raidz_parity::Columns;
 use std::alloc::{AllocError, Global};
-use std::env;
-use std::io;
 use std::rt::Runtime;
 use std::time::Instant;
+use std::{env, io};
 
 /// The fastest of `rounds` runs of an expression, in nanoseconds.
 macro_rules! fastest {
@@ -36,11 +35,36 @@ fn print(rt: &impl Runtime, name: &str, bytes: usize, nanos: u128) -> io::Result
 fn kernels(rt: &impl Runtime, alloc: Global, rounds: u32, size: usize) -> io::Result<()> {
     let mut target = vec![in alloc; 1; size]?;
     let source = vec![in alloc; 2; size]?;
-    print(rt, "xor_into", size, fastest!(rt, rounds, xor_into(&mut target, &source)))?;
-    print(rt, "horner2_into", size, fastest!(rt, rounds, horner2_into(&mut target, &source)))?;
-    print(rt, "horner4_into", size, fastest!(rt, rounds, horner4_into(&mut target, &source)))?;
-    print(rt, "mul_into", size, fastest!(rt, rounds, mul_into(&mut target, 0x8e)))?;
-    print(rt, "mul_add_into", size, fastest!(rt, rounds, mul_add_into(&mut target, &source, 0x8e)))?;
+    print(
+        rt,
+        "xor_into",
+        size,
+        fastest!(rt, rounds, xor_into(&mut target, &source)),
+    )?;
+    print(
+        rt,
+        "horner2_into",
+        size,
+        fastest!(rt, rounds, horner2_into(&mut target, &source)),
+    )?;
+    print(
+        rt,
+        "horner4_into",
+        size,
+        fastest!(rt, rounds, horner4_into(&mut target, &source)),
+    )?;
+    print(
+        rt,
+        "mul_into",
+        size,
+        fastest!(rt, rounds, mul_into(&mut target, 0x8e)),
+    )?;
+    print(
+        rt,
+        "mul_add_into",
+        size,
+        fastest!(rt, rounds, mul_add_into(&mut target, &source, 0x8e)),
+    )?;
     Ok(())
 }
 
@@ -59,7 +83,13 @@ fn even(count: usize, size: usize) -> ArrayVec<usize, 32>
 }
 
 /// Blocks of `count` columns of `size` bytes, with one parity and with two.
-fn parities(rt: &impl Runtime, alloc: Global, rounds: u32, count: usize, size: usize) -> io::Result<()>
+fn parities(
+    rt: &impl Runtime,
+    alloc: Global,
+    rounds: u32,
+    count: usize,
+    size: usize,
+) -> io::Result<()>
     requires count { (0 < count) × (count ≤ 32) }
     requires size { count * size < 2 ^ 32 }
 {

@@ -24,6 +24,9 @@ fn last_lanes(column: &[u8], at: usize) -> u8x64
     requires { at + 64 < 2 ^ 64 }
     ensures { (k : ℕ) → k < 64 → slice_index result k ≡ slice_index column.now (at + k) }
 {
+    if at >= column.len() {
+        return u8x64::splat(0);
+    }
     let mut bytes = [0; 64];
     for k in 0..64usize {
         bytes[k] = byte_at(column, at + k);

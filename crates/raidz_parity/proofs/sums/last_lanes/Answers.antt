@@ -1,8 +1,11 @@
 use Rattle.std.proofs.Common.{ℕ, ◌≡◌, ◌+◌, inl, inr, slice_index, sym, ◌∙◌, ap, arith}
 use Rattle.std.proofs.lemmas.Bool.{cases_lt}
-use Rattle.std.proofs.lemmas.List.{get_or-set_same, get_or-set_other}
+use Rattle.std.proofs.lemmas.List.{get_or-set_same, get_or-set_other, get_or-replicate, get_or_past}
 use Rattle.std.proofs.Math.ListN.{set, length-set}
 use Rattle.raidz_parity.proofs.sums.last_lanes.Goals as goal
+
+pub returns-then-at-column : goal.returns-then-at-column
+returns-then-at-column c k within = get_or-replicate 64 k 0 0 within ∙ sym (get_or_past c.args.column.now (c.args.at + k) 0 (omega arith))
 
 pub loop-k-preserved : goal.loop-k-preserved
 loop-k-preserved c =
