@@ -1,0 +1,3 @@
+pub mod Uberblock
+pub mod Slot
+pub mod Ranking

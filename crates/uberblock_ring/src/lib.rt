@@ -1,0 +1,18 @@
+//! The ring of uberblock slots in a label, after the ZFS On-Disk Specification (2006), chapter 1, in
+//! this project's profile: a slot also has a claim and the digest of the configuration, and ends in a
+//! seal.
+#![tactic(auto)]
+
+mod fields;
+mod ranking;
+mod refusal;
+mod slot;
+mod uberblock;
+
+pub use ranking::best;
+pub use refusal::Refusal;
+pub use slot::{SLOT_LEN, decode_slot, encode_slot, slot_of, slot_offset};
+pub use uberblock::Uberblock;
+
+#[cfg(test)]
+mod tests;

@@ -1,0 +1,126 @@
+use super::*;
+use block_pointer::{Block, Copies, Dva, Property};
+use std::test::*;
+use words::seal;
+
+const ROOT: Block = Block {
+    copies: Copies::Three(
+        Dva {
+            vdev: 0,
+            offset: 8,
+            allocated: 12,
+        },
+        Dva {
+            vdev: 0,
+            offset: 4096,
+            allocated: 12,
+        },
+        Dva {
+            vdev: 1,
+            offset: 20,
+            allocated: 12,
+        },
+    ),
+    property: Property {
+        level: 0,
+        object_type: 11,
+        sectors: 2,
+    },
+    birth: 4,
+    fill: 1,
+    checksum: [0xee; 32],
+};
+
+const UBERBLOCK: Uberblock = Uberblock {
+    group: 4,
+    guid_sum: 0x0102_0304_0506_0708,
+    timestamp: 9,
+    root: ROOT,
+    claim: 1,
+    config_digest: [0xdd; 32],
+};
+
+#[test]
+fn slots_of_groups(rt: HostRuntime) {
+    assert_eq!(rt; slot_of(4), 4);
+    assert_eq!(rt; slot_offset(4), 135_168);
+    assert_eq!(rt; slot_of(130), 2);
+    assert_eq!(rt; slot_offset(130), 133_120);
+}
+
+#[test]
+fn an_uberblock_is_written_and_read(rt: HostRuntime) {
+    let bytes = encode_slot(&UBERBLOCK);
+    assert_eq!(rt; &bytes[..8], [0x0c, 0xb1, 0xba, 0, 0, 0, 0, 0].as_slice());
+    assert_eq!(rt; bytes[16], 4);
+    assert_eq!(rt; &bytes[40..48], [12, 0, 0, 0, 0, 0, 0, 0].as_slice());
+    assert_eq!(rt; bytes[168], 1);
+    assert_eq!(rt; &bytes[207..209], [0xdd, 0].as_slice());
+    assert_eq!(rt;
+        &bytes[984..992],
+        [0x11, 0x7a, 0x0c, 0xb1, 0x7a, 0xda, 0x10, 0x02].as_slice()
+    );
+    assert_eq!(rt; decode_slot(4, &bytes), Ok(UBERBLOCK));
+    assert_eq!(rt; decode_slot(5, &bytes), Err(Refusal::NoUberblock));
+    assert_eq!(rt; decode_slot(132, &bytes), Err(Refusal::NoUberblock));
+    assert_eq!(rt; decode_slot(0, &[0; 1024]), Err(Refusal::NoUberblock));
+}
+
+/// What a byte must not become, even under a seal of its own, and why.
+const BREACHES: [(usize, u8, &str); 14] = [
+    (0, 0x0d, "the magic is another"),
+    (8, 2, "the version is 2"),
+    (16, 0, "the group is 0"),
+    (16, 132, "the group is another than the root's birth"),
+    (23, 0x80, "the group is too great"),
+    (40, 0, "the root pointer is none"),
+    (72, 0, "a used place of the root is empty"),
+    (94, 0x0c, "the type is 12"),
+    (95, 0x81, "the level is 1"),
+    (120, 5, "the root's birth is another"),
+    (168, 0, "the claim is 0"),
+    (175, 0x80, "the claim is too great"),
+    (208, 1, "a byte behind the fields is not zero"),
+    (983, 1, "the last byte before the seal is not zero"),
+];
+
+#[test]
+fn breaches_are_refused(rt: HostRuntime) {
+    for (place, byte, why) in BREACHES {
+        let mut bytes = encode_slot(&UBERBLOCK);
+        bytes[place] = byte;
+        assert_eq!(rt;
+            decode_slot(4, &bytes),
+            Err(Refusal::NoUberblock),
+            "unsealed: {why}"
+        );
+        seal(&mut bytes);
+        assert_eq!(rt; decode_slot(4, &bytes), Err(Refusal::NoUberblock), "{why}");
+    }
+}
+
+#[test]
+fn a_hole_and_two_copies_are_no_root(rt: HostRuntime) {
+    let mut bytes = encode_slot(&UBERBLOCK);
+    bytes[72..88].copy_from_slice(&[0; 16]);
+    seal(&mut bytes);
+    assert_eq!(rt; decode_slot(4, &bytes), Err(Refusal::NoUberblock));
+    bytes[40..168].copy_from_slice(&[0; 128]);
+    seal(&mut bytes);
+    assert_eq!(rt; decode_slot(4, &bytes), Err(Refusal::NoUberblock));
+}
+
+#[test]
+fn the_claim_counts_before_the_group(rt: HostRuntime) {
+    let claimed = Uberblock {
+        claim: 2,
+        ..UBERBLOCK
+    };
+    let later = Uberblock {
+        group: 5,
+        ..UBERBLOCK
+    };
+    assert_eq!(rt; best(&[UBERBLOCK, later]), Some(later));
+    assert_eq!(rt; best(&[later, UBERBLOCK, claimed]), Some(claimed));
+    assert_eq!(rt; best(&[]), None);
+}
