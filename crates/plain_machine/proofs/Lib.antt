@@ -1,0 +1,4 @@
+pub mod Judging
+pub mod Stepping
+pub mod Reaching
+pub mod Running
