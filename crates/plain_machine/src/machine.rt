@@ -11,6 +11,10 @@ use std::mem;
 use txg_pipeline::Pipeline;
 
 /// A pool over no vdevs: groups, holds and items in flow, and the plain volumes of each kept group.
+///
+/// With no disks it is never suspended, a plan has no device calls, and one Device step commits. What it refuses is
+/// what the definition of the machine names, or want of memory. Each write, action and read copies the whole pool, so
+/// that it serves small runs alone (this project's profile).
 #[derive(Drop)]
 pub struct Machine {
     alloc: Global,
@@ -24,10 +28,10 @@ pub struct Machine {
 }
 
 impl Machine {
-    ghost use Rattle.std.specs.Prelude.{ℕ, suc, [], true, Some, None, IfOk, IfErr, OnOk, OnErr, if◌then◌else◌};
+    ghost use Rattle.std.specs.Prelude.{ℕ, suc, [], Some, None, IfOk, IfErr, OnOk, if◌then◌else◌};
     ghost use Rattle.pool_model.specs.declared.step.Step.TheVariants as steps;
     ghost use Rattle.pool_model.specs.Pools.{upto};
-    ghost use Rattle.pool_model.specs.View.{View, Unplanned, started, now_of, is_kept, is_syncing, waiting_group, open_group};
+    ghost use Rattle.pool_model.specs.View.{View, Unplanned, started, now_of, is_kept};
     ghost use Rattle.pool_model.specs.Refusals.{refusal_of};
     ghost use Rattle.pool_model.specs.Groups.{taken_in};
     ghost use Rattle.pool_model.specs.Machine.{taken};
@@ -47,7 +51,8 @@ impl Machine {
         }
     }
 
-    /// One step of the machine.
+    /// One step of the machine. Where memory runs out nothing changes, but that a Plan may leave its group taken, without
+    /// a plan.
     pub fn step(&mut self, step: Step) -> Reply
         ensures { Steps self.old step result self.new }
     {
