@@ -194,6 +194,7 @@ impl Pipeline {
     /// The writer gives its hold back.
     pub fn release(&mut self, writer: u32) -> Result<(), Refusal>
         ensures released { OnOk result (Does self.old (Release writer) Released self.new) }
+        ensures was_held { OnOk result ((f : Flow) → Carries self.old f → is_some (hold_group writer f.holds) ≡ true) }
         ensures refused { IfErr result (λ cause. (cause ≡ NoHold) × ((f : Flow) → Carries self.old f → hold_group writer f.holds ≡ None)) }
         ensures err { OnErr result (IsUnchanged self.old self.new) }
     {
