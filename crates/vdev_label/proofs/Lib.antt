@@ -1,0 +1,6 @@
+mod Children
+mod Found
+mod Labels
+mod Lookups
+mod Numbered
+mod Vdevs

@@ -1,2 +1,5 @@
 pub mod Place
+pub mod Area
+pub mod Pairs
 pub mod Plain
+pub mod Refuses

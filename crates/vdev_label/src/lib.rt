@@ -2,10 +2,14 @@
 #![tactic(auto)]
 
 mod area;
+mod decoding;
 mod label;
+mod pairs;
 mod place;
+mod reading;
 mod refusal;
 
+pub use decoding::decode_area;
 pub use label::{Config, Label, State, Vdev};
 pub use place::{AREA_LEN, LABEL_LEN, LABELS, label_offset, labels_are_apart};
 pub use refusal::{Breach, Refusal};
