@@ -1,6 +1,8 @@
+mod Areas
 mod Children
 mod Found
 mod Labels
 mod Lookups
 mod Numbered
+mod Unique
 mod Vdevs

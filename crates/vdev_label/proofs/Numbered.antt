@@ -11,7 +11,7 @@ use Rattle.vdev_label.specs.Refuses.{Refuses}
 use Rattle.vdev_label.specs.declared.refusal.Refusal.{Refusal}
 
 -- the lists, one by one
-abbrev items_of : PlainLists → List PlainList
+abbrev pub items_of : PlainLists → List PlainList
 items_of no_lists = []
 items_of (next first others) = first ∷ items_of others
 
@@ -19,7 +19,7 @@ items_of-lists_of : (all : List PlainList) → items_of (lists_of all) ≡ all
 items_of-lists_of [] = refl
 items_of-lists_of (first ∷ others) = ap (λ rest. first ∷ rest) (items_of-lists_of others)
 
-same_lists : (xs ys : List PlainList) → lists_of xs ≡ lists_of ys → xs ≡ ys
+pub same_lists : (xs ys : List PlainList) → lists_of xs ≡ lists_of ys → xs ≡ ys
 same_lists xs ys same = sym (items_of-lists_of xs) ∙ ap items_of same ∙ items_of-lists_of ys
 
 pub each_fits : (all : List PlainList) (i : ℕ) → FitsLists (lists_of all) → i < length all → FitsBehind [] (get_or all i no_pairs)

@@ -1,5 +1,6 @@
 pub mod Place
 pub mod Area
+pub mod Finds
 pub mod Pairs
 pub mod Plain
 pub mod Refuses

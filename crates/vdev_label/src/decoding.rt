@@ -5,6 +5,7 @@ ghost use Rattle.nvlist.specs.View.{list_view};
 ghost use Rattle.words.specs.Seal.{sealed};
 ghost use Rattle.vdev_label.specs.Area.{front_of, HasRoom, Spells, IsCause, Finds};
 ghost use Rattle.vdev_label.specs.Plain.{PlainLabel, label_view};
+ghost use Rattle.vdev_label.specs.Finds.{FindsList};
 ghost use Rattle.vdev_label.specs.Refuses.{RefusesList};
 
 use crate::label::Label;
@@ -26,6 +27,7 @@ fn front_list(alloc: Global, front: &[u8]) -> Result<NvList, Refusal>
     requires { length front.now ≡ 114_648 }
     ensures room { IfOk result (λ list. HasRoom (list_view list)) }
     ensures found { IfOk result (λ list. front.now ≡ front_of (list_view list)) }
+    ensures only { (l : PlainList) → HasRoom l → front.now ≡ front_of l → FindsList result l }
     ensures bad { IfErr result (λ refusal. RefusesList refusal ((l : PlainList) → HasRoom l → front.now ≢ front_of l)) }
 {
     let (list, len) = match nvlist::decode(alloc, front) {
