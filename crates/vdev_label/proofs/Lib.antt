@@ -4,5 +4,6 @@ mod Found
 mod Labels
 mod Lookups
 mod Numbered
+mod ReadLabels
 mod Unique
 mod Vdevs

@@ -3,6 +3,7 @@
 
 mod area;
 mod decoding;
+mod disks;
 mod label;
 mod pairs;
 mod place;
@@ -10,6 +11,7 @@ mod reading;
 mod refusal;
 
 pub use decoding::decode_area;
+pub use disks::read_label;
 pub use label::{Config, Label, State, Vdev};
 pub use place::{AREA_LEN, LABEL_LEN, LABELS, label_offset, labels_are_apart};
 pub use refusal::{Breach, Refusal};
