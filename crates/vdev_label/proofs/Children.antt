@@ -1,5 +1,5 @@
 -- The pairs of a disk of a vdev.
-use Rattle.std.proofs.Common.{◌≡◌, ◌≢◌, ◌≤◌, ℕ, suc, ◌+◌, ◌<◌, List, [], Option, Some, refl, ap, sym, ◌∙◌, arith}
+use Rattle.std.proofs.Common.{◌≡◌, ◌≢◌, ◌≤◌, ℕ, [], Some, refl, ap}
 use Rattle.std.specs.Prelude.{codes}
 use Rattle.nvlist.specs.Find.{find}
 use Rattle.nvlist.specs.Grammar.{FitsBehind}

@@ -1,12 +1,12 @@
 -- The pairs of a label.
-use Rattle.std.proofs.Common.{◌≡◌, ◌≢◌, ◌≤◌, ℕ, List, [], Option, Some, refl, ap, sym, ◌∙◌}
-use Rattle.std.specs.Prelude.{codes, IsTrue}
+use Rattle.std.proofs.Common.{◌≡◌, ◌≢◌, ◌≤◌, ℕ, List, [], Some, refl, ap, sym, ◌∙◌}
+use Rattle.std.specs.Prelude.{codes}
 use Rattle.nvlist.specs.Find.{find}
 use Rattle.nvlist.specs.Grammar.{FitsBehind}
-use Rattle.nvlist.specs.Plain.{PlainValue, PlainList, number, text, list, pair_count}
+use Rattle.nvlist.specs.Plain.{PlainList, number, text, list, pair_count}
 use Rattle.vdev_label.proofs.Children.{refuses}
 use Rattle.vdev_label.proofs.Found.{exactly, fits_ascend, find_fits}
-use Rattle.vdev_label.specs.Pairs.{tree_pairs, state_number, label_pairs, is_name, IsCount, InRange}
+use Rattle.vdev_label.specs.Pairs.{tree_pairs, state_number, label_pairs, IsCount, InRange}
 use Rattle.vdev_label.specs.Plain.{PlainVdev, PlainLabel}
 use Rattle.vdev_label.specs.Refuses.{Refuses}
 use Rattle.vdev_label.specs.declared.label.State.{State}

@@ -1,7 +1,7 @@
 -- Lists that are made of items and their numbers.
 use Rattle.std.proofs.Common.{◌≡◌, ◌≢◌, ◌<◌, ◌≤◌, ◌∙◌, ℕ, zero, suc, ◌+◌, List, [], ◌∷◌, ◌++◌, length, get_or, map, take, refl, sym, ap, subst, arith}
 use Rattle.std.proofs.Math.Seq.{take-suc}
-use Rattle.std.proofs.lemmas.List.{get_or-map, length-append, take_all, map-append, length-map}
+use Rattle.std.proofs.lemmas.List.{get_or-map, length-append, length-take-le, take_all, map-append, length-map}
 use Rattle.nvlist.specs.Grammar.{FitsBehind, FitsLists}
 use Rattle.nvlist.specs.Plain.{PlainList, no_pairs, PlainLists, no_lists, next}
 use Rattle.nvlist.specs.View.{lists_of}
@@ -89,3 +89,19 @@ view_fits view lists i it below is fits =
 
 pub one_longer : {A : Type 0} (old new : List A) (x : A) (n : ℕ) → new ≡ old ++ x ∷ [] → length old ≡ n → length new ≡ n + 1
 one_longer old new x n are count = ap length are ∙ length-append old (x ∷ []) ∙ ap (λ k. k + 1) count
+
+-- one more is made
+pub made_next : {A X : Type 0} (of : ℕ → A → PlainList) (view : X → PlainList) (all : List A) (i : ℕ) (x : A) (old new : List X) (it : X) → i < length all
+    → get_or all i x ≡ x → view it ≡ of i x → new ≡ old ++ it ∷ [] → map view old ≡ numbered of 0 (take i all)
+    → map view new ≡ numbered of 0 (take (i + 1) all)
+made_next of view all i x old new it below at_i is are so_far =
+    let sum : suc i ≡ i + 1 = omega arith in
+    let place : i ≡ 0 + length (take i all) = omega (arith, length-take-le i all (omega (arith, below))) in
+    ap (map view) are ∙ map-append view old (it ∷ []) ∙ ap (λ front. front ++ view it ∷ []) so_far
+    ∙ ap (λ one. numbered of 0 (take i all) ++ one ∷ []) (is ∙ ap (λ k. of k x) place) ∙ sym (numbered-push of 0 (take i all) x)
+    ∙ ap (λ one. numbered of 0 (take i all ++ one ∷ [])) (sym at_i) ∙ ap (numbered of 0) (sym (take-suc all i x below) ∙ ap (λ n. take n all) sum)
+
+pub get_again : {A : Type 0} (xs : List A) (i : ℕ) (d : A) → i < length xs → get_or xs i (get_or xs i d) ≡ get_or xs i d
+get_again [] i d below = absurd (omega (arith, below))
+get_again (x ∷ xs) zero d below = refl
+get_again (x ∷ xs) (suc i) d below = get_again xs i d (omega (arith, below))

@@ -1,5 +1,5 @@
 -- What was read of a label.
-use Rattle.std.proofs.Common.{◌≡◌, ℕ, List, length, inl, inr}
+use Rattle.std.proofs.Common.{ℕ, List, inr}
 use Rattle.std.specs.Prelude.{Result, Ok, Err, IfOk, IfErr}
 use Rattle.model_disk.specs.Joint.{Disks}
 use Rattle.vdev_label.specs.Area.{Spells, IsCause}

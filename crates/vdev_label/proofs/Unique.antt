@@ -1,8 +1,8 @@
 -- Pairs are those of one label at most.
-use Rattle.std.proofs.Common.{◌≡◌, ◌∙◌, ℕ, suc, List, [], ◌∷◌, Option, Some, refl, sym, ap}
+use Rattle.std.proofs.Common.{◌≡◌, ℕ, suc, List, [], ◌∷◌, Some, refl, ap}
 use Rattle.std.specs.Prelude.{codes}
 use Rattle.nvlist.specs.Find.{find}
-use Rattle.nvlist.specs.Plain.{PlainValue, PlainList, PlainLists, number, text, list, lists}
+use Rattle.nvlist.specs.Plain.{PlainList, PlainLists, number, text, list, lists}
 use Rattle.nvlist.specs.View.{lists_of}
 use Rattle.vdev_label.proofs.Numbered.{same_lists}
 use Rattle.vdev_label.specs.Pairs.{numbered, child_pairs, vdev_pairs, tree_pairs, state_number, label_pairs}

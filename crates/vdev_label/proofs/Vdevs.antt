@@ -1,9 +1,9 @@
 -- The pairs of a vdev.
-use Rattle.std.proofs.Common.{◌≡◌, ◌≢◌, ◌≤◌, ℕ, List, [], Option, Some, refl, ap, sym, ◌∙◌}
+use Rattle.std.proofs.Common.{◌≡◌, ◌≢◌, ◌≤◌, ℕ, List, [], Some, refl, ap, sym, ◌∙◌}
 use Rattle.std.specs.Prelude.{codes}
 use Rattle.nvlist.specs.Find.{find}
-use Rattle.nvlist.specs.Grammar.{FitsBehind, FitsLists, FitsValue}
-use Rattle.nvlist.specs.Plain.{PlainValue, PlainList, no_pairs, pair, PlainLists, number, text, lists, list, pair_count}
+use Rattle.nvlist.specs.Grammar.{FitsBehind, FitsLists}
+use Rattle.nvlist.specs.Plain.{PlainList, PlainLists, number, text, lists, pair_count}
 use Rattle.nvlist.specs.View.{lists_of}
 use Rattle.vdev_label.proofs.Children.{refuses}
 use Rattle.vdev_label.proofs.Found.{exactly, fits_ascend, find_fits}

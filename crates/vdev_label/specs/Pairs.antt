@@ -1,5 +1,5 @@
 -- The pairs of a label.
-use Rattle.std.specs.Prelude.{◌≡◌, ℕ, suc, ◌^◌, ◌≤◌, ◌&&◌, ◌||◌, Bool, nat_le, ◌==◌, List, [], ◌∷◌, length, IsTrue, codes}
+use Rattle.std.specs.Prelude.{ℕ, suc, ◌^◌, ◌≤◌, ◌&&◌, ◌||◌, Bool, nat_le, ◌==◌, List, [], ◌∷◌, length, IsTrue, codes}
 use Rattle.std.specs.List.{list_all}
 use Rattle.nvlist.specs.Plain.{PlainList, no_pairs, pair, number, text, list, lists}
 use Rattle.nvlist.specs.View.{lists_of}

@@ -1,6 +1,5 @@
 -- Why pairs are not read.
 use Rattle.std.specs.Prelude.{◌≡◌}
-use Rattle.vdev_label.specs.declared.refusal.Breach.{Breach}
 use Rattle.vdev_label.specs.declared.refusal.Breach.TheVariants as breach
 use Rattle.vdev_label.specs.declared.refusal.Refusal.{Refusal}
 use Rattle.vdev_label.specs.declared.refusal.Refusal.TheVariants.{NoMemory, DiskFault, BadLabel}

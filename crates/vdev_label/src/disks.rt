@@ -1,10 +1,14 @@
 //! The labels of disks.
-ghost use Rattle.std.specs.Prelude.{◌≡◌, ◌≤◌, ◌<◌, ◌*◌, ◌∷◌, ℕ, length, IfOk};
-ghost use Rattle.model_disk.specs.Joint.{bytes_of};
-ghost use Rattle.vdev_label.specs.Reads.{ReadsLabel};
+ghost use Rattle.std.specs.Prelude.{◌≡◌, ◌≤◌, ◌<◌, ◌*◌, ◌∷◌, ℕ, length, IfOk, OnOk};
+ghost use Rattle.model_disk.specs.Joint.{bytes_of, Stands};
+ghost use Rattle.vdev_label.specs.Area.{HasRoom, area_of};
+ghost use Rattle.vdev_label.specs.Pairs.{label_pairs};
+ghost use Rattle.vdev_label.specs.Plain.{label_view};
+ghost use Rattle.vdev_label.specs.Reads.{ReadsLabel, WritesArea, KeepsElsewhere, place_of};
 
-use crate::area::read_area;
+use crate::area::{read_area, write_area};
 use crate::decoding::decode_area;
+use crate::encoding::encode_area;
 use crate::label::Label;
 use crate::place::{AREA_LEN, LABEL_LEN, LABELS};
 use crate::refusal::Refusal;
@@ -36,4 +40,26 @@ pub fn read_label<D: Disk + Drop>(
     let mut area = blank(alloc, AREA_LEN)?;
     read_area(disks, which, number, &mut area)?;
     decode_area(alloc, &area)
+}
+
+/// Writes the area of a label's list on a disk. All else on the disk stays, so do the label's slots.
+/// A write that fails is a `DiskFault`.
+pub fn write_label<D: Disk + Drop>(
+    alloc: Global,
+    disks: &mut DiskArray<D>,
+    which: usize,
+    number: u64,
+    label: &Label,
+) -> Result<(), Refusal>
+    requires which { which < length disks.old.starts }
+    requires number { number < LABELS }
+    requires size { LABELS * LABEL_LEN ≤ length (bytes_of disks.old.starts which) }
+    requires room { HasRoom (label_pairs (label_view label.now)) }
+    ensures starts { disks.new.starts ≡ disks.old.starts }
+    ensures calls { WritesArea disks.old disks.new which number (area_of (label_view label.now)) result }
+    ensures stands { OnOk result (Stands disks.new which (place_of disks.old which number) (area_of (label_view label.now))) }
+    ensures elsewhere { KeepsElsewhere disks.old disks.new which number }
+{
+    let area = encode_area(alloc, label)?;
+    write_area(disks, which, number, &area)
 }

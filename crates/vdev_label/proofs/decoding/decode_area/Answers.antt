@@ -1,4 +1,4 @@
-use Rattle.std.proofs.Common.{rules, ◌≡◌, ◌∙◌, ℕ, ◌-◌, List, length, take, drop, refl, sym, ap, arith, Err}
+use Rattle.std.proofs.Common.{rules, ◌≡◌, ◌∙◌, ◌-◌, length, take, drop, refl, ap, arith, Err}
 use Rattle.nvlist.specs.View.{list_view}
 use Rattle.words.proofs.SealLemmas.{length-sealed}
 use Rattle.words.specs.Seal.{sealed}
@@ -20,8 +20,7 @@ returns-in-Err-Digest-clause-only c label spells = absurd (c.in-Err-Digest.ensur
 
 pub returns-in-Err-Digest-clause-cause : goal.returns-in-Err-Digest-clause-cause
 returns-in-Err-Digest-clause-cause c =
-    let place : 114648 ≡ length c.args.area.now - 40 = omega (arith, c.requires) in
-    (
+    let place : 114648 ≡ length c.args.area.now - 40 = omega (arith, c.requires) in (
       λ other. not_both _ _ c.in-Err-Digest.field-0 c.in-Err-Digest.field-0-is (c.in-Err-Digest.ensures.word.1 (λ is. other (ap (λ n. take 8 (drop n c.args.area.now)) place ∙ is))) refl refl,
       c.in-Err-Digest.ensures.only,
     )
