@@ -21,6 +21,7 @@ pub(crate) fn read_area<D: Disk + Drop>(
     requires len { length area.old ≡ AREA_LEN }
     ensures starts { disks.new.starts ≡ disks.old.starts }
     ensures calls { disks.new.calls ≡ on which (read_call result (area_at (length (bytes_of disks.old.starts which)) number) area.new) ∷ disks.old.calls }
+    ensures len { length area.new ≡ AREA_LEN }
     ensures fault { IfErr result (λ refusal. refusal ≡ Refusal.DiskFault) }
 {
     let at = area_offset(disks.size(which), number);

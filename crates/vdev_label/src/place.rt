@@ -43,5 +43,4 @@ pub(crate) fn area_offset(size: u64, number: u64) -> u64
 /// A law: no two labels of a disk share a byte, and each lies within it.
 pub fn labels_are_apart()
     ensures { LabelsAreApart }
-{
-}
+{}
