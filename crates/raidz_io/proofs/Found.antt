@@ -1,16 +1,18 @@
 -- A choice that is tried.
-use Rattle.std.proofs.Common.{ℕ, zero, suc, ◌≡◌, ◌+◌, ◌<◌, ◌≤◌, Bool, true, false, IsTrue, List, [], ◌∷◌, ◌++◌, length, map, take, drop, replicate, slice_index, sum, Some, All, Contains, refl, sym, ap, subst, ◌∙◌, arith, length-append}
+use Rattle.std.proofs.Common.{ℕ, zero, suc, ◌≡◌, ◌+◌, ◌<◌, ◌≤◌, Bool, true, false, IsTrue, Option, None, IfSome, IfNone, inl, inr, List, [], ◌∷◌, ◌++◌, length, map, take, drop, replicate, slice_index, sum, Some, All, Contains, refl, sym, ap, subst, ◌∙◌, append_assoc, arith, length-append}
 use Rattle.std.specs.List.{slice_get}
 use Rattle.std.proofs.lemmas.List.{ext_get_or, take_at, map-append}
+use Rattle.std.proofs.lemmas.Bool.{cases_lt}
+use Rattle.std.proofs.lemmas.List.Elements.{All-push, Contains-append_left}
 use Rattle.std.proofs.lemmas.List.Sums.{sum_by-cons}
 use Rattle.sha2.specs.Sha256.{sha256}
 use Rattle.raidz_parity.specs.Layout.{Block, AreBytes, columns_of, joined}
 use Rattle.raidz_parity.specs.Parity.{IsParity, IsParityOf}
 use Rattle.raidz_io.specs.Stripe.{stripe_sizes, HasSizes, read_columns, MatchesBut}
-use Rattle.raidz_io.specs.Choices.{IsWhole, IsFound, HasNone}
+use Rattle.raidz_io.specs.Choices.{IsWhole, IsFound, IsFoundChoice, HasNone, AreFurther}
 use Rattle.raidz_io.proofs.Agree.{AreBytes-columns_of}
 use Rattle.raidz_io.proofs.Parts.{joined_buffer}
-use Rattle.raidz_io.proofs.Tries.{joined-append, columns_of-joined}
+use Rattle.raidz_io.proofs.Tries.{append-nil, joined-append, columns_of-joined}
 
 -- the block of the columns
 pub block_of_whole : (p : ℕ) (sizes block : List ℕ) (columns : Block) → IsWhole p sizes block columns → joined columns.data_columns ≡ block
@@ -138,3 +140,94 @@ whole_at p sizes slice block columns same whole = let P : List ℕ → Type 0 = 
 
 pub false_not_true : (b : Bool) → b ≡ false → ¬ IsTrue b
 false_not_true b never is = absurd (cc)
+
+pub some_at : {X : Type 0} (o : Option X) (x : X) (P : X → Type 0) → o ≡ Some x → IfSome o P → P x
+some_at None x P is held = absurd (cc)
+some_at (Some y) x P is held = let same : y ≡ x = cc in subst P same held
+
+pub none_at : {X : Type 0} (o : Option X) (P : Type 0) → o ≡ None → IfNone o P → P
+none_at None P is held = held
+none_at (Some y) P is held = absurd (cc)
+
+-- a choice with one more wrong column
+pub one_more : (p : ℕ) (sizes bytes wrong more block digest : List ℕ) (column : ℕ) → length wrong < p → All (λ k. k < length sizes + p) wrong
+    → column < length sizes + p → more ≡ wrong ++ column ∷ [] → IsFound digest p sizes bytes more block → IsFoundChoice digest p sizes bytes wrong block
+one_more p sizes bytes wrong more block digest column few below inside is found =
+    let P : List ℕ → Type 0 = λ ws. IsFound digest p sizes bytes ws block in
+    record {
+      wrong = wrong ++ column ∷ [];
+      few = omega (arith, few, length-append wrong (column ∷ []));
+      below = All-push (λ k. k < length sizes + p) wrong column below inside;
+      lost_are_wrong = λ k held. Contains-append_left wrong (column ∷ []) k held;
+      found = subst P is found;
+    }
+
+-- of one with one more
+pub two_more : (p : ℕ) (sizes bytes wrong more block digest : List ℕ) (column : ℕ) → more ≡ wrong ++ column ∷ []
+    → IsFoundChoice digest p sizes bytes more block → IsFoundChoice digest p sizes bytes wrong block
+two_more p sizes bytes wrong more block digest column is found = record {
+  wrong = found.wrong;
+  few = found.few;
+  below = found.below;
+  lost_are_wrong = λ k held. found.lost_are_wrong k (subst (λ (ws : List ℕ). Contains ws k) (sym is) (Contains-append_left wrong (column ∷ []) k held));
+  found = found.found;
+}
+
+-- no choice with one more has it
+pub none_more : (digest : List ℕ) (p : ℕ) (sizes bytes wrong more : List ℕ) (from column : ℕ)
+    → ((k : ℕ) → from ≤ k → k < column → HasNone digest p sizes bytes (wrong ++ k ∷ []))
+    → more ≡ wrong ++ column ∷ [] → HasNone digest p sizes bytes more
+    → (k : ℕ) → from ≤ k → k < column + 1 → HasNone digest p sizes bytes (wrong ++ k ∷ [])
+none_more digest p sizes bytes wrong more from column before is none k start within =
+    elim (cases_lt k column) [
+      | inl earlier ↦ before k start earlier
+      | inr here ↦
+          let same : column ≡ k = omega arith in
+          let P : List ℕ → Type 0 = HasNone digest p sizes bytes in
+          let Q : ℕ → Type 0 = λ n. HasNone digest p sizes bytes (wrong ++ n ∷ []) in
+          subst Q same (subst P is none)
+    ]
+
+pub none_two_more : (digest : List ℕ) (p : ℕ) (sizes bytes wrong more : List ℕ) (count column : ℕ)
+    → ((i k : ℕ) → i < column → i < k → k < count → HasNone digest p sizes bytes ((wrong ++ i ∷ []) ++ k ∷ []))
+    → more ≡ wrong ++ column ∷ [] → ((k : ℕ) → column + 1 ≤ k → k < count → HasNone digest p sizes bytes (more ++ k ∷ []))
+    → (i k : ℕ) → i < column + 1 → i < k → k < count → HasNone digest p sizes bytes ((wrong ++ i ∷ []) ++ k ∷ [])
+none_two_more digest p sizes bytes wrong more count column before is none i k within less below =
+    elim (cases_lt i column) [
+      | inl earlier ↦ before i k earlier less below
+      | inr here ↦
+          let same : column ≡ i = omega arith in
+          let P : List ℕ → Type 0 = λ ws. HasNone digest p sizes bytes (ws ++ k ∷ []) in
+          let Q : ℕ → Type 0 = λ n. HasNone digest p sizes bytes ((wrong ++ n ∷ []) ++ k ∷ []) in
+          subst Q same (subst P is (none k (omega arith) below))
+    ]
+
+-- no choice with as many more as there may be
+pub none_further : (digest : List ℕ) (p count : ℕ) (sizes bytes lost : List ℕ) → p ≤ 2 → HasNone digest p sizes bytes lost
+    → (length lost < p → (k : ℕ) → k < count → HasNone digest p sizes bytes (lost ++ k ∷ []))
+    → (length lost + 1 < p → (i k : ℕ) → i < k → k < count → HasNone digest p sizes bytes ((lost ++ i ∷ []) ++ k ∷ []))
+    → (further : List ℕ) → AreFurther 0 count further → length lost + length further ≤ p → HasNone digest p sizes bytes (lost ++ further)
+none_further digest p count sizes bytes lost most none one two [] are few =
+    let P : List ℕ → Type 0 = HasNone digest p sizes bytes in subst P (sym (append-nil lost)) none
+none_further digest p count sizes bytes lost most none one two (i ∷ []) are few = one (omega arith) i are.1
+none_further digest p count sizes bytes lost most none one two (i ∷ k ∷ []) are few =
+    let P : List ℕ → Type 0 = HasNone digest p sizes bytes in
+    subst P (append_assoc lost (i ∷ []) (k ∷ [])) (two (omega arith) i k (omega (arith, are.2.0)) are.2.1)
+none_further digest p count sizes bytes lost most none one two (i ∷ k ∷ j ∷ further) are few = absurd (omega arith)
+
+-- where nothing but the lost columns is wrong, and the first try finds none, no block has the digest
+pub none_lost : (p : ℕ) (sizes bytes lost block digest : List ℕ) → HasNone digest p sizes bytes lost
+    → (other : List ℕ) (right : Block) → IsWhole p sizes other right
+    → MatchesBut lost (read_columns right) (columns_of (stripe_sizes p sizes) bytes) → sha256 other ≡ digest → block ≡ other
+none_lost p sizes bytes lost block digest none other right whole matches same = absurd (none other right whole matches same)
+
+pub sized_below : (sizes wrong : List ℕ) (n p : ℕ) → length sizes ≡ n → All (λ k. k < n + p) wrong → All (λ k. k < length sizes + p) wrong
+sized_below sizes wrong n p same below = rw same below
+
+pub IfSome-each : {X : Type 0} (o : Option X) (P : X → Type 0) → ((x : X) → P x) → IfSome o P
+IfSome-each None P each = tt
+IfSome-each (Some x) P each = each x
+
+pub IfNone-map : {X : Type 0} (o : Option X) (P Q : Type 0) → (P → Q) → IfNone o P → IfNone o Q
+IfNone-map None P Q made held = made held
+IfNone-map (Some x) P Q made held = tt

@@ -1,5 +1,5 @@
 //! Tries of which columns are wrong.
-ghost use Rattle.std.specs.Prelude.{ℕ, ◌≡◌, ◌≤◌, ◌<◌, ◌+◌, ◌↔◌, ◌++◌, length, sum, All, IsTrue, OnOk, IfOk, IfSome, IfNone, Contains};
+ghost use Rattle.std.specs.Prelude.{ℕ, ◌≡◌, ◌≤◌, ◌<◌, ◌+◌, ◌↔◌, List, [], ◌∷◌, ◌++◌, length, sum, All, IsTrue, OnOk, IfOk, IfSome, IfNone, Contains};
 ghost use Rattle.sha2.specs.Sha256.{sha256};
 ghost use Rattle.raidz_parity.specs.Layout.{Block, columns_of, joined};
 ghost use Rattle.raidz_io.specs.Places.{sizes_of};
@@ -129,4 +129,119 @@ fn try_choice(
     } else {
         Ok(None)
     }
+}
+
+/// The wrong columns and one more.
+fn with_column(wrong: &[usize], column: usize) -> ArrayVec<usize, 32>
+    requires { length wrong.now < 32 }
+    ensures { result.items ≡ wrong.now ++ column ∷ [] }
+{
+    let mut more = ArrayVec::new();
+    for &column in wrong {
+        more.push(column);
+    }
+    more.push(column);
+    more
+}
+
+/// Tries each column from `from` on as wrong, beside those that are wrong already.
+fn try_one_more(
+    alloc: Global,
+    data: &[Column],
+    parity: usize,
+    bytes: &[u8],
+    wrong: &[usize],
+    from: usize,
+    digest: &[u8; 32],
+) -> Result<Option<Vec<u8>>, AllocError>
+    requires stripe { IsStripe parity (sizes_of data.now) }
+    requires whole { length bytes.now ≡ sum (stripe_sizes parity (sizes_of data.now)) }
+    requires few { length wrong.now < parity }
+    requires below { All (λ k. k < length data.now + parity) wrong.now }
+    ensures found { IfOk result (λ found. IfSome found (λ block. IsFoundChoice digest.now parity (sizes_of data.now) bytes.now wrong.now block.items)) }
+    ensures none { IfOk result (λ found. IfNone found ((k : ℕ) → from ≤ k → k < length data.now + parity
+        → HasNone digest.now parity (sizes_of data.now) bytes.now (wrong.now ++ k ∷ []))) }
+{
+    for column in from..data.len() + parity {
+        let choice = with_column(wrong, column);
+        let found = try_choice(alloc, data, parity, bytes, choice.as_slice(), digest)?;
+        if let Some(block) = found {
+            return Ok(Some(block));
+        }
+    }
+    Ok(None)
+}
+
+/// Tries each two columns as wrong, beside those that are wrong already.
+fn try_two_more(
+    alloc: Global,
+    data: &[Column],
+    parity: usize,
+    bytes: &[u8],
+    wrong: &[usize],
+    digest: &[u8; 32],
+) -> Result<Option<Vec<u8>>, AllocError>
+    requires stripe { IsStripe parity (sizes_of data.now) }
+    requires whole { length bytes.now ≡ sum (stripe_sizes parity (sizes_of data.now)) }
+    requires few { length wrong.now + 1 < parity }
+    requires below { All (λ k. k < length data.now + parity) wrong.now }
+    ensures found { IfOk result (λ found. IfSome found (λ block. IsFoundChoice digest.now parity (sizes_of data.now) bytes.now wrong.now block.items)) }
+    ensures none { IfOk result (λ found. IfNone found ((i k : ℕ) → i < k → k < length data.now + parity
+        → HasNone digest.now parity (sizes_of data.now) bytes.now ((wrong.now ++ i ∷ []) ++ k ∷ []))) }
+{
+    for column in 0..data.len() + parity {
+        let choice = with_column(wrong, column);
+        let found = try_one_more(
+            alloc,
+            data,
+            parity,
+            bytes,
+            choice.as_slice(),
+            column + 1,
+            digest,
+        )?;
+        if let Some(block) = found {
+            return Ok(Some(block));
+        }
+    }
+    Ok(None)
+}
+
+/// Finds the block that has the digest and of which all columns but the lost ones, and further ones that are
+/// wrong, are what was read: as many further ones as parities are left, fewer first.
+pub(crate) fn find_choice(
+    alloc: Global,
+    data: &[Column],
+    parity: usize,
+    bytes: &[u8],
+    lost: &[usize],
+    digest: &[u8; 32],
+) -> Result<Option<Vec<u8>>, AllocError>
+    requires stripe { IsStripe parity (sizes_of data.now) }
+    requires whole { length bytes.now ≡ sum (stripe_sizes parity (sizes_of data.now)) }
+    requires few { length lost.now ≤ parity }
+    requires below { All (λ k. k < length data.now + parity) lost.now }
+    ensures found { IfOk result (λ found. IfSome found (λ block. IsFoundChoice digest.now parity (sizes_of data.now) bytes.now lost.now block.items)) }
+
+    // Where nothing but the lost columns is wrong, the answer is that block.
+    ensures first { IfOk result (λ found. IfSome found (λ block. (other : List ℕ) (right : Block) → IsWhole parity (sizes_of data.now) other right
+        → MatchesBut lost.now (read_columns right) (columns_of (stripe_sizes parity (sizes_of data.now)) bytes.now) → sha256 other ≡ digest.now
+        → block.items ≡ other)) }
+    ensures none { IfOk result (λ found. IfNone found ((further : List ℕ) → AreFurther 0 (length data.now + parity) further
+        → length lost.now + length further ≤ parity → HasNone digest.now parity (sizes_of data.now) bytes.now (lost.now ++ further))) }
+{
+    if let Some(block) = try_choice(alloc, data, parity, bytes, lost, digest)? {
+        return Ok(Some(block));
+    }
+    if lost.len() == parity {
+        return Ok(None);
+    }
+    if let Some(block) = try_one_more(alloc, data, parity, bytes, lost, 0, digest)? {
+        return Ok(Some(block));
+    }
+    if lost.len() + 1 == parity {
+        return Ok(None);
+    }
+    let found = try_two_more(alloc, data, parity, bytes, lost, digest)?;
+    Ok(found)
 }
