@@ -1,7 +1,8 @@
 -- The columns in the order in which they are read.
-use Rattle.std.proofs.Common.{ℕ, zero, suc, ◌≡◌, ◌+◌, ◌-◌, ◌<◌, ◌≤◌, inl, inr, List, [], ◌∷◌, ◌++◌, length, take, drop, sym, ap, subst, ◌∙◌, arith}
+use Rattle.std.proofs.Common.{ℕ, zero, suc, ◌≡◌, ◌+◌, ◌-◌, ◌<◌, ◌≤◌, inl, inr, List, [], ◌∷◌, ◌++◌, length, take, drop, sym, ap, subst, ◌∙◌, arith, length-drop}
 use Rattle.std.proofs.lemmas.Bool.{cases_lt}
 use Rattle.std.proofs.lemmas.List.{take_all}
+use Rattle.std.proofs.Math.Seq.{take-append_seam}
 use Rattle.model_disk.specs.Joint.{Disks}
 use Rattle.raidz_map.specs.declared.column.Column.{Column}
 use Rattle.raidz_io.specs.declared.vdev.Vdev.{Vdev}
@@ -22,27 +23,43 @@ none_read old vdev missing bytes lost no_bytes none =
     let Q : List ℕ → Type 0 = λ ls. AreRead old old vdev missing [] [] ls in
     subst P (sym no_bytes) (subst Q (sym none) (AreRead-none old vdev missing))
 
+-- the data comes first
+pub take_data : (layout : List Column) (p n : ℕ) → n + p ≡ length layout → take n (drop p layout ++ take p layout) ≡ drop p layout
+take_data layout p n count =
+    let long : length (drop p layout) ≡ n = omega (arith, length-drop p layout, count) in
+    ap (λ m. take m (drop p layout ++ take p layout)) (sym long) ∙ take-append_seam (drop p layout) (take p layout)
+
 -- the data is read
-pub data_read : (old mid : Disks) (vdev : Vdev) (missing bytes lost : List ℕ) (data_columns : List Column) (count : ℕ) → count ≡ length data_columns
-    → AreRead old mid vdev missing ([] ++ take (count - 0) data_columns) bytes lost → AreRead old mid vdev missing data_columns bytes lost
-data_read old mid vdev missing bytes lost data_columns count all read =
+pub data_read : (old mid : Disks) (vdev : Vdev) (missing bytes lost : List ℕ) (layout back : List Column) (p count start : ℕ) → start ≡ 0
+    → back ≡ drop p layout → count ≡ length back → count + p ≡ length layout
+    → AreRead old mid vdev missing ([] ++ take (count - start) back) bytes lost
+    → AreRead old mid vdev missing (take count (drop p layout ++ take p layout)) bytes lost
+data_read old mid vdev missing bytes lost layout back p count start none is all total read =
     let P : List Column → Type 0 = λ cs. AreRead old mid vdev missing cs bytes lost in
-    let same : [] ++ take (count - 0) data_columns ≡ data_columns = take_all (count - 0) data_columns (omega arith) in
-    subst P same read
+    let whole : [] ++ take (count - start) back ≡ back = take_all (count - start) back (omega (arith, none, all)) in
+    subst P (whole ∙ is ∙ sym (take_data layout p count total)) read
+
+-- what was read of the data
+pub data_was_read : (old mid : Disks) (vdev : Vdev) (missing bytes lost : List ℕ) (layout : List Column) (p n : ℕ) → n + p ≡ length layout
+    → AreRead old mid vdev missing (take n (drop p layout ++ take p layout)) bytes lost → AreRead old mid vdev missing (drop p layout) bytes lost
+data_was_read old mid vdev missing bytes lost layout p n count read =
+    let P : List Column → Type 0 = λ cs. AreRead old mid vdev missing cs bytes lost in
+    subst P (take_data layout p n count) read
 
 -- and some of the parity
-pub some_read : (old new : Disks) (vdev : Vdev) (missing bytes lost : List ℕ) (layout front back : List Column) (p n count : ℕ)
-    → front ≡ take p layout → back ≡ drop p layout → n ≡ length back → n ≤ count
-    → AreRead old new vdev missing (back ++ take (count - n) front) bytes lost
+pub some_read : (old new : Disks) (vdev : Vdev) (missing bytes lost : List ℕ) (layout front : List Column) (p n count : ℕ)
+    → front ≡ take p layout → n + p ≡ length layout → n ≤ count
+    → AreRead old new vdev missing (drop p layout ++ take (count - n) front) bytes lost
     → AreRead old new vdev missing (take count (drop p layout ++ take p layout)) bytes lost
-some_read old new vdev missing bytes lost layout front back p n count front_is back_is all more read =
+some_read old new vdev missing bytes lost layout front p n count front_is total more read =
     let P : List Column → Type 0 = λ cs. AreRead old new vdev missing cs bytes lost in
     let Q : List Column → Type 0 = λ cs. AreRead old new vdev missing (take count (drop p layout ++ cs)) bytes lost in
-    let R : List Column → Type 0 = λ cs. AreRead old new vdev missing (take count (cs ++ front)) bytes lost in
-    let same : back ++ take (count - n) front ≡ take count (back ++ front) =
-    ap (λ m. back ++ take (count - m) front) all ∙ take_order back front count (omega arith) in
-    subst Q front_is (subst R back_is (subst P same read))
+    let long : n ≡ length (drop p layout) = omega (arith, length-drop p layout, total) in
+    let same : drop p layout ++ take (count - n) front ≡ take count (drop p layout ++ front) =
+    ap (λ m. drop p layout ++ take (count - m) front) long ∙ take_order (drop p layout) front count (omega (arith, long, more)) in
+    subst Q front_is (subst P same read)
 
 -- reads do not end before all data is read
-pub all_data : (count n lost : ℕ) → count ≤ 0 + n → (count < 0 + n → n + lost ≤ count) → count ≡ n
-all_data count n lost most ended = elim (cases_lt count (0 + n)) [ inl fewer ↦ absurd (omega (arith, ended fewer, fewer)) | inr all ↦ omega arith ]
+pub all_data : (count start n lost : ℕ) → start ≡ 0 → count ≤ start + n → (count < start + n → n + lost ≤ count) → count ≡ n
+all_data count start n lost none most ended =
+    elim (cases_lt count (start + n)) [ inl fewer ↦ absurd (omega (arith, ended fewer, fewer, none)) | inr all ↦ omega (arith, none) ]

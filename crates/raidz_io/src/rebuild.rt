@@ -39,7 +39,8 @@ fn parity_in(alloc: Global, count: usize, size: usize, bytes: &[u8]) -> Result<P
     Ok(Parity::Two(first, second))
 }
 
-fn total(sizes: &[usize]) -> usize
+/// How many bytes columns of these sizes have.
+pub(crate) fn total(sizes: &[usize]) -> usize
     requires { sum sizes.now < 2 ^ 64 }
     ensures { result ≡ sum sizes.now }
 {
