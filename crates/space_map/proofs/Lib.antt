@@ -1,0 +1,4 @@
+pub mod RunLemmas
+pub mod Changes
+pub mod Replays
+pub mod Pieces
