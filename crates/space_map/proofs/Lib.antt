@@ -2,3 +2,4 @@ pub mod RunLemmas
 pub mod Changes
 pub mod Replays
 pub mod Pieces
+pub mod Gaps
