@@ -1,0 +1,5 @@
+pub mod RunLemmas
+pub mod Changes
+pub mod Replays
+pub mod Pieces
+pub mod Gaps
