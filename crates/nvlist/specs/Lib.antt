@@ -1,0 +1,5 @@
+pub mod Plain
+pub mod Grammar
+pub mod Reading
+pub mod View
+pub mod Find

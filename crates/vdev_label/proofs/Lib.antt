@@ -1,0 +1,12 @@
+mod Adding
+mod Areas
+mod Children
+mod Found
+mod Fronts
+mod Labels
+mod Lookups
+mod Numbered
+mod ReadLabels
+mod Unique
+mod Vdevs
+mod WriteLabels

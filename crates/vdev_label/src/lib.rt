@@ -1,0 +1,22 @@
+//! The labels of a disk: what it says of itself and of its pool, four times.
+#![tactic(auto)]
+
+mod area;
+mod decoding;
+mod disks;
+mod encoding;
+mod label;
+mod pairs;
+mod place;
+mod reading;
+mod refusal;
+
+pub use decoding::decode_area;
+pub use disks::{read_label, write_label};
+pub use encoding::encode_area;
+pub use label::{Config, Label, State, Vdev};
+pub use place::{AREA_LEN, LABEL_LEN, LABELS, label_offset, labels_are_apart};
+pub use refusal::{Breach, Refusal};
+
+#[cfg(test)]
+mod tests;

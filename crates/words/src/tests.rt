@@ -1,0 +1,44 @@
+use super::*;
+use std::test::*;
+
+/// Eight zeros and their seal. Its digest is what coreutils' `sha256sum` makes of the eight zeros, the
+/// word and 32 zeros.
+const SEALED: [u8; 48] = [
+    0, 0, 0, 0, 0, 0, 0, 0, 0x11, 0x7a, 0x0c, 0xb1, 0x7a, 0xda, 0x10, 0x02, 0xdb, 0x94, 0xf7, 0xa0,
+    0x88, 0xe8, 0x2d, 0x29, 0x2c, 0x71, 0x7c, 0xa4, 0xae, 0x97, 0xf5, 0x50, 0x4a, 0xf3, 0x28, 0xe6,
+    0x00, 0x77, 0xf5, 0x74, 0x28, 0x21, 0x25, 0x71, 0x7b, 0x58, 0x18, 0xcc,
+];
+
+#[test]
+fn an_area_is_sealed(rt: HostRuntime) {
+    let mut area = [0; 48];
+    area[40] = 1;
+    seal(&mut area);
+    assert_eq!(rt; area, SEALED);
+    assert_eq!(rt; check_seal(&area), Ok([0; 8].as_slice()));
+}
+
+/// A byte that is changed, and what is wrong then.
+const BREACHES: [(usize, SealFault); 5] = [
+    (0, SealFault::Digest),
+    (7, SealFault::Digest),
+    (8, SealFault::Word),
+    (15, SealFault::Word),
+    (47, SealFault::Digest),
+];
+
+#[test]
+fn another_seal_is_found_out(rt: HostRuntime) {
+    for (place, fault) in BREACHES {
+        let mut area = SEALED;
+        area[place] ^= 1;
+        assert_eq!(rt; check_seal(&area), Err(fault), "at {place}");
+    }
+}
+
+#[test]
+fn words_are_read_lowest_byte_first(rt: HostRuntime) {
+    let mut words = [0; 2];
+    read_words(&SEALED[..16], &mut words);
+    assert_eq!(rt; words, [0, 0x0210_da7a_b10c_7a11]);
+}
