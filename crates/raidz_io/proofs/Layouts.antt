@@ -31,7 +31,7 @@ last_of_column : Column → Place
 last_of_column c = record { child = c.child; sector = c.sector + c.sectors - 1 }
 
 -- the set of its places makes a column
-same_column : (extent : Extent) (i : ℕ) (a b : Column) → IsPlaced extent a → IsPlaced extent b
+pub same_column : (extent : Extent) (i : ℕ) (a b : Column) → IsPlaced extent a → IsPlaced extent b
     → IsColumn extent.vdev.geometry extent.start extent.sectors i a → IsColumn extent.vdev.geometry extent.start extent.sectors i b → a ≡ b
 unfolding first_of_column last_of_column
 same_column extent i a b in_a in_b is_a is_b =
@@ -69,4 +69,3 @@ pub apart : ChildHoldsOneColumn → (extent : Extent) (layout : List Column) (i 
     → slice_get layout i ≡ Some a → slice_get layout k ≡ Some b → disk_of extent.vdev a ≡ disk_of extent.vdev b → i ≡ k
 apart law extent layout i k a b is_layout at at' =
     apart_at law extent i k a b (placed extent layout i a is_layout at) (placed extent layout k b is_layout at') (is_layout.places i a at) (is_layout.places k b at')
-

@@ -16,7 +16,8 @@ use std::alloc::{AllocError, Global};
 
 /// Whether the SHA-256 (FIPS 180-4) of the block is this one.
 pub(crate) fn has_digest(block: &[u8], digest: &[u8; 32]) -> bool
-    ensures { IsTrue result ↔ (sha256 block.now ≡ digest.now) }
+    ensures digest { IsTrue result ↔ (sha256 block.now ≡ digest.now) }
+    ensures bytes { All (λ byte. byte < 256) block.now }
 {
     Sha256::digest(block) == *digest
 }
@@ -35,11 +36,7 @@ fn all_sizes(data: &[Column], parity: usize) -> ArrayVec<usize, 32>
 }
 
 /// Appends the parity columns.
-fn add_parity(
-    whole: &mut Vec<u8>,
-    columns: &Columns,
-    parity: usize,
-) -> Result<(), AllocError>
+fn add_parity(whole: &mut Vec<u8>, columns: &Columns, parity: usize) -> Result<(), AllocError>
     requires { parity ≡ length columns.now.parity }
     ensures { OnOk result (whole.new.items ≡ whole.old.items ++ joined columns.now.parity) }
 {
@@ -120,7 +117,12 @@ fn try_choice(
         return Ok(None);
     }
     let mut whole = with_parity(alloc, data, parity, block)?;
-    if !agree(all_sizes(data, parity).as_slice(), whole.as_slice(), bytes, wrong) {
+    if !agree(
+        all_sizes(data, parity).as_slice(),
+        whole.as_slice(),
+        bytes,
+        wrong,
+    ) {
         return Ok(None);
     }
     whole.truncate(size);

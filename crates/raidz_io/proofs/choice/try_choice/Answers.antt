@@ -38,7 +38,7 @@ returns-then-has_digest-clause-found c =
     (c.total-size.ensures ∙ ap sum (c.as_slice.ensures.value ∙ c.sizes.ensures))
     (rw c.as_slice-3.ensures.value c.truncate.ensures.items)
     (c.agree.ensures.yes c.if-not-agree.false)
-    (rw c.as_slice-4.ensures.value at (c.has_digest.ensures.0 c.if-has_digest.true))
+    (rw c.as_slice-4.ensures.value at (c.has_digest.ensures.digest.0 c.if-has_digest.true))
 
 pub returns-clause-none : goal.returns-clause-none
 returns-clause-none c =
@@ -49,4 +49,4 @@ returns-clause-none c =
     (c.as_slice-3.ensures.value ∙ found.2)
     (c.total-size.ensures ∙ ap sum (c.as_slice.ensures.value ∙ c.sizes.ensures))
     (rw c.as_slice-3.ensures.value c.truncate.ensures.items)
-    (λ same. false_not_true c.has_digest.result c.if-has_digest.false (c.has_digest.ensures.1 (rw c.as_slice-4.ensures.value same)))
+    (λ same. false_not_true c.has_digest.result c.if-has_digest.false (c.has_digest.ensures.digest.1 (rw c.as_slice-4.ensures.value same)))
