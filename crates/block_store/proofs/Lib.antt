@@ -1,0 +1,6 @@
+pub mod Copies
+pub mod Extents
+pub mod Outs
+pub mod SameBlock
+pub mod Taking
+pub mod Writing

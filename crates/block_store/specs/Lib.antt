@@ -1,0 +1,6 @@
+pub mod Blocks
+pub mod Places
+pub mod Plans
+pub mod Reading
+pub mod Shapes
+pub mod Store

@@ -1,0 +1,60 @@
+-- Plans: blocks that are to be written.
+use Rattle.std.specs.Prelude.{ℕ, ◌≡◌, ◌⊎◌, Some, None, false, List, length, slice_get, Contains, All}
+use Rattle.model_disk.specs.Joint.{content}
+use Rattle.block_pointer.specs.declared.block.Block.{Block}
+use Rattle.block_pointer.specs.declared.dva.Dva.{Dva}
+use Rattle.raidz_io.specs.declared.vdev.Extent.{Extent}
+use Rattle.raidz_io.specs.declared.writes.ColumnWrite.{ColumnWrite}
+use Rattle.raidz_io.specs.Stands.{WouldStore, AreColumnWrites, IsDone}
+use Rattle.block_store.specs.Blocks.{Contents, Extends}
+use Rattle.block_store.specs.Places.{IsCopy, IsExtentAt}
+use Rattle.block_store.specs.Places.{planned as planned_marks}
+use Rattle.block_store.specs.Store.{Store, outs, is_out, ArePlaced, Holds}
+
+-- the writes would store a copy of the block, and each of them is done, is due, or is to a disk that is out
+pub record IsOnTheWay (store : Store) (writes : List ColumnWrite) (extent : Extent) (bytes : List ℕ) : Type 0 where
+  pub would_store : WouldStore writes extent bytes
+  pub columns : AreColumnWrites extent writes
+  pub each : (write : ColumnWrite) → Contains writes write → ¬ Contains (outs store) write.disk
+      → IsDone (content store.disks) write ⊎ Contains store.due write
+
+-- the write is one of those for a copy of a block that the plan adds
+pub record IsDueFor (store : Store) (stored planned : Contents) (writes_of : Block → ℕ → List ColumnWrite) (write : ColumnWrite) : Type 0 where
+  pub block : Block
+  pub bytes : List ℕ
+  pub i : ℕ
+  pub extent : Extent
+  pub is_planned : planned block ≡ Some bytes
+  pub is_new : stored block ≡ None
+  pub is_copy : IsCopy store.spaces block i extent
+  pub is_of_copy : Contains (writes_of block i) write
+
+-- the writes are those for copies at these places, but for the ones to disks that are out
+pub record AreWritesAt (store : Store) (sectors : ℕ) (bytes : List ℕ) (places : List Dva) (writes : List ColumnWrite) : Type 0 where
+  pub copies : List (List ColumnWrite)
+  pub count : length copies ≡ length places
+  pub would_store : (i : ℕ) (place : Dva) (copy : List ColumnWrite) (extent : Extent) → slice_get places i ≡ Some place → slice_get copies i ≡ Some copy
+      → IsExtentAt store.spaces sectors place extent → WouldStore copy extent bytes × AreColumnWrites extent copy
+  pub each : (i : ℕ) (copy : List ColumnWrite) (write : ColumnWrite) → slice_get copies i ≡ Some copy → Contains copy write
+      → ¬ Contains (outs store) write.disk → Contains writes write
+  pub only : (write : ColumnWrite) → Contains writes write → (i : ℕ) × (copy : List ColumnWrite) × (slice_get copies i ≡ Some copy) × Contains copy write
+  pub in_use : All (λ write. is_out store.out write.disk ≡ false) writes
+
+-- Some blocks are stored, and a plan adds others: they are placed too, and once what is due is written all are stored.
+pub record Plans (store : Store) (stored planned : Contents) : Type 0 where
+  pub held : Holds store stored
+  pub kept : Extends stored planned
+  pub placed : ArePlaced store.spaces planned_marks planned
+  -- the writes of each copy that is new
+  pub writes_of : Block → ℕ → List ColumnWrite
+  pub on_the_way : (block : Block) (bytes : List ℕ) (i : ℕ) (extent : Extent) → planned block ≡ Some bytes → stored block ≡ None
+      → IsCopy store.spaces block i extent → IsOnTheWay store (writes_of block i) extent bytes
+  pub due : (write : ColumnWrite) → Contains store.due write → IsDueFor store stored planned writes_of write
+
+-- each plan of the store is one still
+abbrev pub KeepsPlans : Store → Store → Type 0
+KeepsPlans old new = (stored planned : Contents) → Plans old stored planned → Plans new stored planned
+
+-- what was stored before a plan is stored beside it
+abbrev pub PlansHold : Type 0
+PlansHold = (store : Store) (stored planned : Contents) → Plans store stored planned → Holds store stored

@@ -1,0 +1,28 @@
+-- The parts of a vdev.
+use Rattle.std.specs.Prelude.{ℕ, ◌≡◌, ◌+◌, ◌*◌, ◌/◌, ◌%◌, ◌<◌, ◌≤◌, ◌^◌}
+use Rattle.block_pointer.specs.declared.dva.Dva.{Dva}
+use Rattle.raidz_map.specs.Layout.{asize}
+use Rattle.block_store.specs.declared.shape.VdevShape.{VdevShape}
+
+-- how many sectors a vdev has, and each of its metaslabs; and how many metaslabs it has
+abbrev pub vdev_sectors : VdevShape → ℕ
+vdev_sectors shape = shape.vdev.geometry.children * shape.child_sectors
+
+abbrev pub metaslab_sectors : VdevShape → ℕ
+metaslab_sectors shape = 2 ^ shape.metaslab_shift
+
+abbrev pub metaslabs : VdevShape → ℕ
+metaslabs shape = vdev_sectors shape / metaslab_sectors shape
+
+-- which metaslab a copy begins in, and at which of its sectors
+abbrev pub metaslab_of : VdevShape → Dva → ℕ
+metaslab_of shape place = place.offset / metaslab_sectors shape
+
+abbrev pub sector_of : VdevShape → Dva → ℕ
+sector_of shape place = place.offset % metaslab_sectors shape
+
+-- a copy of a block of so many sectors may lie there: it has the size that it must have, and is in one metaslab
+pub record IsPlace (shape : VdevShape) (sectors : ℕ) (place : Dva) : Type 0 where
+  pub allocated : place.allocated ≡ asize shape.vdev.geometry sectors
+  pub metaslab : metaslab_of shape place < metaslabs shape
+  pub one : sector_of shape place + place.allocated ≤ metaslab_sectors shape

@@ -1,0 +1,19 @@
+//! Blocks by pointer: where a block is placed on the vdevs of a pool, and how its bytes are read back.
+#![tactic(auto)]
+
+mod block;
+mod choice;
+mod device;
+mod plan;
+mod read;
+mod refusal;
+mod shape;
+mod space;
+mod store;
+
+pub use block::{Asked, CopyCount, NewBlock};
+pub use device::FailedDisk;
+pub use refusal::Refusal;
+pub use shape::VdevShape;
+pub use space::VdevSpace;
+pub use store::BlockStore;

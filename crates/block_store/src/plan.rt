@@ -1,0 +1,172 @@
+//! Plans of blocks that are to be written.
+ghost use Rattle.std.specs.Prelude.{◌≡◌, ◌≤◌, ◌<◌, ◌+◌, ◌*◌, ◌^◌, ◌⊎◌, ℕ, List, All, Contains, false, filter, not, length, [], ◌++◌, OnOk, OnErr, IfOk, IfErr};
+ghost use Rattle.block_pointer.specs.Copies.{dvas};
+ghost use Rattle.raidz_io.specs.declared.writes.ColumnWrite.{ColumnWrite};
+ghost use Rattle.raidz_io.specs.Places.{CanHold, IsOnDisks};
+ghost use Rattle.block_store.specs.Blocks.{Contents, Adds, FitsNew, IsBlockOf, count_of};
+ghost use Rattle.block_store.specs.Places.{shapes_of, AreChosen, RanOut, IsPlaceIn, IsExtentAt};
+ghost use Rattle.block_store.specs.Plans.{Plans, KeepsPlans, AreWritesAt};
+ghost use Rattle.block_store.specs.Store.{Holds, Keeps, is_out};
+
+use crate::block::{CopyCount, NewBlock};
+use crate::refusal::Refusal;
+use crate::store::BlockStore;
+use block_pointer::{Block, Copies, Dva};
+use model_disk::Disk;
+use raidz_io::{ColumnWrite, Extent, extent_fits};
+use sha2::{Digest, Sha256};
+use std::alloc::{AllocError, Global};
+use std::collections::VecDeque;
+
+impl CopyCount {
+    /// The number of copies.
+    pub fn count(self) -> usize
+        ensures some { 1 ≤ result }
+        ensures few { result ≤ 3 }
+        ensures value { result ≡ count_of self }
+    {
+        match self {
+            CopyCount::One => 1,
+            CopyCount::Two => 2,
+            CopyCount::Three => 3,
+        }
+    }
+}
+
+/// The places as the copies of a block.
+fn copies_at(places: &[Dva]) -> Copies
+    requires some { 1 ≤ length places.now }
+    requires few { length places.now ≤ 3 }
+    ensures { dvas result ≡ places.now }
+{
+    match places.len() {
+        1 => Copies::One(places[0]),
+        2 => Copies::Two(places[0], places[1]),
+        _ => Copies::Three(places[0], places[1], places[2]),
+    }
+}
+
+impl<D: Disk + Drop> BlockStore<D> {
+    /// Begins a plan, and drops the one before it. Nothing is due.
+    pub fn begin_plan(&mut self)
+        ensures disks { self.new.disks ≡ self.old.disks }
+        ensures out { self.new.out ≡ self.old.out }
+        ensures shapes { shapes_of self.new.spaces ≡ shapes_of self.old.spaces }
+        ensures due { self.new.due ≡ [] }
+
+        // What is stored stays so, and nothing else is planned.
+        ensures plans { (stored : Contents) → Holds self.old stored → Plans self.new stored stored }
+    {
+        self.due.clear();
+        for space in self.spaces.as_mut_slice() {
+            space.drop_planned();
+        }
+    }
+
+    /// Ends a plan of which nothing is due: its blocks are stored.
+    pub fn finish_plan(&mut self)
+        ensures disks { self.new.disks ≡ self.old.disks }
+        ensures out { self.new.out ≡ self.old.out }
+        ensures shapes { shapes_of self.new.spaces ≡ shapes_of self.old.spaces }
+        ensures due { self.new.due ≡ self.old.due }
+        ensures stored { (stored planned : Contents) → Plans self.old stored planned → self.old.due ≡ [] → Holds self.new planned }
+    {
+        for space in self.spaces.as_mut_slice() {
+            space.keep_planned();
+        }
+    }
+
+    /// Adds a block to the plan: it places so many copies, each in another vdev while one has room, then in other
+    /// metaslabs, then anywhere apart, and the writes that store them are due. None is to a disk that is out.
+    /// Where no metaslab has room for a copy the answer is `NoSpace`.
+    pub fn plan_write(
+        &mut self,
+        alloc: Global,
+        bytes: &[u8],
+        new: NewBlock,
+        copies: CopyCount,
+    ) -> Result<Block, Refusal>
+        requires fits { FitsNew new }
+        requires size { length bytes.now ≡ new.property.sectors * 512 }
+        ensures disks { self.new.disks ≡ self.old.disks }
+        ensures out { self.new.out ≡ self.old.out }
+        ensures shapes { shapes_of self.new.spaces ≡ shapes_of self.old.spaces }
+        ensures keeps { Keeps self.old self.new }
+        ensures block { IfOk result (λ block. IsBlockOf new bytes.now (count_of copies) block) }
+
+        // The block is planned, and all others stay.
+        ensures planned { IfOk result (λ block. (stored planned : Contents) → Plans self.old stored planned
+            → (later : Contents) × Plans self.new stored later × Adds planned later block bytes.now) }
+        ensures places { IfOk result (λ block. AreChosen self.old.spaces [] new.property.sectors (dvas block.copies) self.new.spaces) }
+        ensures due { OnOk result ((added : List ColumnWrite) × (self.new.due ≡ self.old.due ++ added) × All (λ write. is_out self.old.out write.disk ≡ false) added) }
+        ensures refused { IfErr result (λ refusal. (refusal ≡ Refusal.NoMemory)
+            ⊎ ((refusal ≡ Refusal.NoSpace) × RanOut self.old.spaces new.property.sectors (count_of copies) self.new.spaces)) }
+        ensures err_due { OnErr result (self.new.due ≡ self.old.due) }
+        ensures err { OnErr result (KeepsPlans self.old self.new) }
+    {
+        let places = self.choose_places(new.property.sectors, copies.count())?;
+        let mut writes = self.writes_at(alloc, places.as_slice(), new.property.sectors, bytes)?;
+        let block = Block {
+            copies: copies_at(places.as_slice()),
+            property: new.property,
+            birth: new.birth,
+            fill: new.fill,
+            checksum: Sha256::digest(bytes),
+        };
+        self.due.append(&mut writes)?;
+        Ok(block)
+    }
+
+    /// The writes of the copies of a block to these places, but for those to disks that are out.
+    fn writes_at(
+        &self,
+        alloc: Global,
+        places: &[Dva],
+        sectors: u32,
+        bytes: &[u8],
+    ) -> Result<VecDeque<ColumnWrite>, AllocError>
+        requires size { length bytes.now ≡ sectors * 512 }
+        requires some { 0 < sectors }
+        requires places { (place : Dva) → Contains places.now place → IsPlaceIn self.now.spaces sectors place }
+        ensures { IfOk result (λ writes. AreWritesAt self.now sectors bytes.now places.now writes.items) }
+    {
+        let mut writes = VecDeque::new(alloc);
+        for place in places {
+            let copy = self.extent_at(*place, sectors).column_writes(alloc, bytes)?;
+            self.add_in_use(copy, &mut writes)?;
+        }
+        Ok(writes)
+    }
+
+    /// The extent of a copy of a block.
+    pub(crate) fn extent_at(&self, place: Dva, sectors: u32) -> Extent
+        requires some { 0 < sectors }
+        requires place { IsPlaceIn self.now.spaces sectors place }
+        ensures extent { IsExtentAt self.now.spaces sectors place result }
+        ensures fits { CanHold result }
+        ensures on_disks { IsOnDisks result self.now.disks.starts }
+    {
+        extent_fits();
+        Extent {
+            vdev: self.spaces[place.vdev as usize].shape.vdev,
+            start: place.offset,
+            sectors,
+        }
+    }
+
+    /// Adds the writes that are to disks in use.
+    fn add_in_use(
+        &self,
+        copy: Vec<ColumnWrite>,
+        writes: &mut VecDeque<ColumnWrite>,
+    ) -> Result<(), AllocError>
+        ensures { OnOk result (writes.new.items ≡ writes.old.items ++ filter (λ write. not (is_out self.now.out write.disk)) copy.items) }
+    {
+        for write in copy {
+            if !self.is_out(write.disk) {
+                writes.push_back(write)?;
+            }
+        }
+        Ok(())
+    }
+}

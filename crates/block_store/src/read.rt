@@ -1,0 +1,181 @@
+//! Reads of blocks.
+ghost use Rattle.std.specs.Prelude.{◌≡◌, ◌⊎◌, ◌++◌, ◌*◌, ◌↔◌, ◌<◌, ℕ, List, Some, IsTrue, IfOk, IfErr, OnErr, length, Contains};
+ghost use Rattle.sha2.specs.Sha256.{sha256};
+ghost use Rattle.model_disk.specs.Joint.{Disks};
+ghost use Rattle.block_pointer.specs.Copies.{dvas};
+ghost use Rattle.raidz_io.specs.Reads.{OnlyReads, AreUntouched, IsHonestSince, absent_since};
+ghost use Rattle.block_store.specs.Blocks.{Contents};
+ghost use Rattle.block_store.specs.Plans.{KeepsPlans};
+ghost use Rattle.block_store.specs.Reading.{Asks, IsReadable, AreTolerable, IsLastFault, IsFault};
+ghost use Rattle.block_store.specs.Store.{Holds, Keeps, outs};
+
+use crate::block::Asked;
+use crate::refusal::Refusal;
+use crate::store::BlockStore;
+use arrayvec::ArrayVec;
+use block_pointer::{Block, Copies, Dva};
+use model_disk::Disk;
+use std::alloc::{AllocError, Global};
+
+impl<D: Disk + Drop> BlockStore<D> {
+    /// The bytes of a block, with the disks that are named taken as missing. The copies are tried in order, each with
+    /// its parity; the last one's refusal is the answer. A pointer that is not what its parent asks, or whose copies
+    /// are in no places of the pool, is `BadPointer`, and nothing is read.
+    pub fn read(
+        &mut self,
+        alloc: Global,
+        block: &Block,
+        asked: Asked,
+        missing: &[usize],
+    ) -> Result<Vec<u8>, Refusal>
+        ensures rest { self.new ≡ record self.old { disks = self.new.disks } }
+        ensures reads { OnlyReads self.old.disks self.new.disks }
+        ensures untouched { AreUntouched (outs self.old ++ missing.now) self.old.disks self.new.disks }
+        ensures keeps { Keeps self.old self.new }
+        ensures plans { KeepsPlans self.old self.new }
+        ensures readable { IfOk result (λ read. IsReadable self.old.spaces asked block.now) }
+        ensures digest { IfOk result (λ read. sha256 read.items ≡ block.now.checksum) }
+        ensures size { IfOk result (λ read. length read.items ≡ block.now.property.sectors * 512) }
+
+        // A block that is stored is read as it was written.
+        ensures bytes { IfOk result (λ read. (stored : Contents) (bytes : List ℕ) → Holds self.old stored → stored block.now ≡ Some bytes
+            → IsHonestSince self.old.disks self.new.disks → read.items ≡ bytes) }
+        ensures refused { IfErr result (λ refusal. (refusal ≡ Refusal.NoMemory)
+            ⊎ (((refusal ≡ Refusal.BadPointer) × ¬ IsReadable self.old.spaces asked block.now)
+            ⊎ IsLastFault self.old self.new (outs self.old ++ missing.now) block.now refusal)) }
+
+        // And it is read, where no vdev misses more disks than it has parities and what they answer is true.
+        ensures known { IfErr result (λ refusal. (stored : Contents) (bytes : List ℕ) → Holds self.old stored → stored block.now ≡ Some bytes
+            → Asks asked block.now → IsHonestSince self.old.disks self.new.disks
+            → AreTolerable self.old.spaces (absent_since self.old.disks self.new.disks (outs self.old ++ missing.now)) → refusal ≡ Refusal.NoMemory) }
+    {
+        if !self.is_readable(block, asked) {
+            return Err(Refusal::BadPointer);
+        }
+        let absent = self.absent(alloc, missing)?;
+        let places = places_of(block.copies);
+        self.read_places(alloc, places.as_slice(), block, absent.as_slice())
+    }
+}
+
+/// The places of the copies.
+fn places_of(copies: Copies) -> ArrayVec<Dva, 3>
+    ensures { result.items ≡ dvas copies }
+{
+    let mut places = ArrayVec::new();
+    match copies {
+        Copies::One(first) => places.push(first),
+        Copies::Two(first, second) => {
+            places.push(first);
+            places.push(second);
+        }
+        Copies::Three(first, second, third) => {
+            places.push(first);
+            places.push(second);
+            places.push(third);
+        }
+    }
+    places
+}
+
+/// Whether another copy may still be read.
+fn is_fault(read: &Result<Vec<u8>, Refusal>) -> bool
+    ensures { IsTrue result ↔ IsFault read.now }
+{
+    matches!(read, Err(Refusal::DiskFault | Refusal::BadDigest))
+}
+
+impl<D: Disk + Drop> BlockStore<D> {
+    ghost use Rattle.std.specs.Prelude.{slice_get};
+    ghost use Rattle.block_store.specs.Places.{IsPlaceIn};
+    ghost use Rattle.block_store.specs.Reading.{IsCopyRead, IsReadUpTo};
+
+    /// Whether the pointer is what its parent asks, and its copies are in places of the pool.
+    fn is_readable(&self, block: &Block, asked: Asked) -> bool
+        ensures { IsTrue result ↔ IsReadable self.now.spaces asked block.now }
+    {
+        let places = places_of(block.copies);
+        block.property == asked.property
+            && block.birth <= asked.birth
+            && block.property.sectors > 0
+            && self.are_places(places.as_slice(), block.property.sectors)
+    }
+
+    fn are_places(&self, places: &[Dva], sectors: u32) -> bool
+        ensures { IsTrue result ↔ ((place : Dva) → Contains places.now place → IsPlaceIn self.now.spaces sectors place) }
+    {
+        places.iter().all(|place| self.is_place(*place, sectors))
+    }
+
+    /// Whether the place is in a vdev that is there, and a copy of a block of so many data sectors may lie there.
+    fn is_place(&self, place: Dva, sectors: u32) -> bool
+        ensures { IsTrue result ↔ IsPlaceIn self.now.spaces sectors place }
+    {
+        match self.spaces.get(place.vdev as usize) {
+            Some(space) => space.shape.is_place(sectors, place),
+            None => false,
+        }
+    }
+
+    /// The disks that are out, and those that are named.
+    fn absent(&self, alloc: Global, missing: &[usize]) -> Result<Vec<usize>, AllocError>
+        ensures { IfOk result (λ absent. absent.items ≡ outs self.now ++ missing.now) }
+    {
+        let mut absent = Vec::new(alloc);
+        for (disk, is_out) in self.out.iter().enumerate() {
+            if *is_out {
+                absent.push(disk)?;
+            }
+        }
+        absent.extend_from_slice(missing)?;
+        Ok(absent)
+    }
+
+    /// Reads the copies in order, until one is read.
+    fn read_places(
+        &mut self,
+        alloc: Global,
+        places: &[Dva],
+        block: &Block,
+        absent: &[usize],
+    ) -> Result<Vec<u8>, Refusal>
+        requires places { places.now ≡ dvas block.now.copies }
+        requires some { 0 < block.now.property.sectors }
+        requires readable { (place : Dva) → Contains places.now place → IsPlaceIn self.old.spaces block.now.property.sectors place }
+        ensures rest { self.new ≡ record self.old { disks = self.new.disks } }
+        ensures read { IsReadUpTo self.old.spaces absent.now block.now (length places.now) self.old.disks self.new.disks result }
+    {
+        let mut read = self.read_copy(alloc, places, 0, block, absent);
+        for i in 1..places.len() {
+            if is_fault(&read) {
+                read = self.read_copy(alloc, places, i, block, absent);
+            }
+        }
+        read
+    }
+
+    /// Reads one copy.
+    fn read_copy(
+        &mut self,
+        alloc: Global,
+        places: &[Dva],
+        i: usize,
+        block: &Block,
+        absent: &[usize],
+    ) -> Result<Vec<u8>, Refusal>
+        requires places { places.now ≡ dvas block.now.copies }
+        requires below { i < length places.now }
+        requires some { 0 < block.now.property.sectors }
+        requires readable { (place : Dva) → Contains places.now place → IsPlaceIn self.old.spaces block.now.property.sectors place }
+        ensures rest { self.new ≡ record self.old { disks = self.new.disks } }
+        ensures read { IsCopyRead self.old.spaces absent.now block.now i self.old.disks self.new.disks result }
+    {
+        let extent = self.extent_at(places[i], block.property.sectors);
+        match extent.read_checked(&mut self.disks, alloc, absent, &block.checksum) {
+            Ok(bytes) => Ok(bytes),
+            Err(raidz_io::Refusal::NoMemory) => Err(Refusal::NoMemory),
+            Err(raidz_io::Refusal::DiskFault) => Err(Refusal::DiskFault),
+            Err(raidz_io::Refusal::BadDigest) => Err(Refusal::BadDigest),
+        }
+    }
+}

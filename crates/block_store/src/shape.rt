@@ -1,0 +1,65 @@
+//! Vdevs as the store divides them.
+ghost use Rattle.std.specs.Prelude.{◌≡◌, ◌<◌, ◌≤◌, ◌^◌, ◌↔◌, IsTrue};
+
+use block_pointer::Dva;
+use raidz_io::Vdev;
+
+/// A vdev, which is divided into metaslabs. Those sectors behind the last whole metaslab are not used.
+#[derive(Debug, Clone, Copy)]
+pub struct VdevShape {
+    pub vdev: Vdev,
+    /// How many sectors of 512 bytes of each child hold blocks.
+    pub child_sectors: u64,
+    /// A metaslab has 2 to this power sectors of the vdev.
+    pub metaslab_shift: u32,
+    ghost most_sectors: { child_sectors < 2 ^ 34 },
+    ghost least_shift: { 12 ≤ metaslab_shift },
+    ghost most_shift: { metaslab_shift ≤ 20 },
+}
+
+impl VdevShape {
+    ghost use Rattle.block_store.specs.Shapes.{vdev_sectors, metaslab_sectors, metaslabs, metaslab_of, sector_of, IsPlace};
+
+    /// How many sectors the vdev has.
+    pub fn sectors(self) -> u64
+        ensures value { result ≡ vdev_sectors self }
+        ensures bound { result < 2 ^ 39 }
+    {
+        u64::from(self.vdev.geometry.children) * self.child_sectors
+    }
+
+    /// How many sectors a metaslab has.
+    pub fn metaslab_sectors(self) -> u64
+        ensures value { result ≡ metaslab_sectors self }
+        ensures some { 0 < result }
+        ensures bound { result ≤ 2 ^ 20 }
+    {
+        1 << self.metaslab_shift
+    }
+
+    /// How many metaslabs there are.
+    pub fn metaslabs(self) -> u64
+        ensures value { result ≡ metaslabs self }
+        ensures bound { result < 2 ^ 39 }
+    {
+        self.sectors() / self.metaslab_sectors()
+    }
+
+    /// The number of the metaslab that a copy begins in.
+    pub(crate) fn metaslab_of(self, place: Dva) -> u64
+        ensures { result ≡ metaslab_of self place }
+    {
+        place.offset / self.metaslab_sectors()
+    }
+
+    /// Whether a copy of a block of so many data sectors may lie there: it takes up what such a block does, and lies
+    /// in one metaslab.
+    pub(crate) fn is_place(self, sectors: u32, place: Dva) -> bool
+        ensures { IsTrue result ↔ IsPlace self sectors place }
+    {
+        let within = place.offset % self.metaslab_sectors();
+        u64::from(place.allocated) == self.vdev.geometry.asize(sectors)
+            && self.metaslab_of(place) < self.metaslabs()
+            && within + u64::from(place.allocated) <= self.metaslab_sectors()
+    }
+}

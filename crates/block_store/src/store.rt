@@ -1,0 +1,72 @@
+//! The store.
+ghost use Rattle.std.specs.Prelude.{◌≡◌, ◌<◌, length, slice_get, Some, option_map};
+ghost use Rattle.block_store.specs.Store.{is_out};
+
+use crate::shape::VdevShape;
+use crate::space::VdevSpace;
+use model_disk::{Disk, DiskArray};
+use raidz_io::ColumnWrite;
+use std::collections::VecDeque;
+use std::marker::Model;
+
+/// Blocks on the vdevs of a pool, and a plan of those that are to be written.
+///
+/// A plan begins with `begin_plan`. Each `plan_write` places a block and names the writes that store it, which are then
+/// due. `write_next` makes the next of them. Once none is due, `finish_plan` takes the blocks of the plan as stored.
+/// A plan is dropped by the next `begin_plan`: what it placed is free again.
+#[derive(Drop)]
+pub struct BlockStore<D: Disk + Drop> {
+    pub(crate) disks: DiskArray<D>,
+    pub(crate) spaces: Vec<VdevSpace>,
+    pub(crate) out: Vec<bool>,
+    pub(crate) due: VecDeque<ColumnWrite>,
+}
+
+impl<D: Disk + Drop> Model for BlockStore<D> {
+    ghost use Rattle.block_store.specs.Store.{Store, IsStore};
+
+    ghost Value = { Store };
+
+    ghost view = { λ s. record { disks = s.disks; spaces = s.spaces.items; out = s.out.items; due = s.due.items } };
+
+    ghost invariant = { λ s. IsStore (record { disks = s.disks; spaces = s.spaces.items; out = s.out.items; due = s.due.items }) };
+}
+
+impl<D: Disk + Drop> BlockStore<D> {
+    /// How many disks there are.
+    pub fn disk_count(&self) -> usize
+        ensures starts { result ≡ length self.now.disks.starts }
+        ensures out { result ≡ length self.now.out }
+    {
+        self.disks.len()
+    }
+
+    /// Whether a disk is out: it failed a write or a flush.
+    pub fn is_out(&self, disk: usize) -> bool
+        ensures { result ≡ is_out self.now.out disk }
+    {
+        self.out.get(disk).copied().unwrap_or(false)
+    }
+
+    /// How many vdevs there are.
+    pub fn vdev_count(&self) -> usize
+        ensures { result ≡ length self.now.spaces }
+    {
+        self.spaces.len()
+    }
+
+    /// The shape of a vdev.
+    pub fn shape(&self, vdev: usize) -> VdevShape
+        requires { vdev < length self.now.spaces }
+        ensures { option_map (λ space. space.shape) (slice_get self.now.spaces vdev) ≡ Some result }
+    {
+        self.spaces[vdev].shape
+    }
+
+    /// How many writes of the plan are due.
+    pub fn due_count(&self) -> usize
+        ensures { result ≡ length self.now.due }
+    {
+        self.due.len()
+    }
+}
