@@ -1,7 +1,8 @@
 -- Places that are taken.
 use Rattle.std.proofs.Common.{ℕ, zero, suc, ◌≡◌, ◌≢◌, ◌⊎◌, inl, inr, ◌+◌, ◌*◌, ◌/◌, ◌%◌, ◌<◌, ◌≤◌, Some, List, [], ◌∷◌, ◌++◌, length, Contains, refl, sym, ap, subst, ◌∙◌, arith, mul-le-mul_right}
-use Rattle.std.specs.Prelude.{slice_index, map}
-use Rattle.std.proofs.lemmas.Bool.{cases_lt}
+use Rattle.std.specs.Prelude.{slice_index, slice_set, map}
+use Rattle.std.proofs.lemmas.Bool.{cases_lt, cases_eq}
+use Rattle.std.proofs.lemmas.List.{length-map}
 use Rattle.std.specs.List.{slice_get}
 use Rattle.std.proofs.lemmas.Nat.{div-add-mod'}
 use Rattle.block_pointer.specs.declared.block.Block.{Block}
@@ -11,7 +12,9 @@ use Rattle.raidz_io.proofs.Written.{same_some}
 use Rattle.block_store.specs.declared.shape.VdevShape.{VdevShape}
 use Rattle.block_store.specs.declared.space.VdevSpace.{VdevSpace}
 use Rattle.block_store.specs.Blocks.{Contents}
-use Rattle.block_store.specs.Places.{Marks, shapes_of, planned, IsTaken, IsCopy, IsExtentAt, ArePlacesApart, IsChosen, IsTakenToo, AreChosen}
+use Rattle.block_store.specs.Places.{Marks, shapes_of, planned, IsTaken, IsCopy, IsExtentAt, ArePlacesApart, IsLaidOut, IsChosen, IsTakenToo, AreChosen}
+use Rattle.block_store.specs.Places.{filled as filled_marks}
+use Rattle.raidz_io.specs.Places.{HasRoom}
 use Rattle.block_store.specs.Shapes.{metaslab_sectors, metaslab_of, sector_of, IsPlace}
 use Rattle.block_store.specs.Store.{ArePlaced}
 
@@ -230,3 +233,96 @@ are_taken spaces taken sectors (first ∷ places) after (chosen, mid, too, rest)
         let same : first ≡ other = same_some first other at' in
         inr (subst (λ p. ArePlacesApart place p) same (others.from_others i sectors place first at one.taken))
     apart_at one others (suc i) (suc k) place other at at' = elim (others.apart i k place other at at') [ inl same ↦ inl (ap suc same) | inr are ↦ inr are ]
+
+-- ---- a space in place of another
+
+slice_get-set_same : {X : Type 0} (xs : List X) (i : ℕ) (x y : X) → slice_get (slice_set xs i x) i ≡ Some y → x ≡ y
+slice_get-set_same [] i x y is = absurd (cc)
+slice_get-set_same (z ∷ xs) zero x y is = same_some x y is
+slice_get-set_same (z ∷ xs) (suc i) x y is = slice_get-set_same xs i x y is
+
+slice_get-set_other : {X : Type 0} (xs : List X) (i k : ℕ) (x : X) → i ≢ k → slice_get (slice_set xs i x) k ≡ slice_get xs k
+slice_get-set_other [] i k x differ = refl
+slice_get-set_other (z ∷ xs) zero zero x differ = absurd (differ refl)
+slice_get-set_other (z ∷ xs) zero (suc k) x differ = refl
+slice_get-set_other (z ∷ xs) (suc i) zero x differ = refl
+slice_get-set_other (z ∷ xs) (suc i) (suc k) x differ = slice_get-set_other xs i k x (λ same. differ (ap suc same))
+
+slice_index-set_same : (xs : List ℕ) (i x : ℕ) → i < length xs → slice_index (slice_set xs i x) i ≡ x
+slice_index-set_same [] i x within = absurd (omega arith)
+slice_index-set_same (y ∷ xs) zero x within = refl
+slice_index-set_same (y ∷ xs) (suc i) x within = slice_index-set_same xs i x (omega arith)
+
+slice_index-set_other : (xs : List ℕ) (i k x : ℕ) → i ≢ k → slice_index (slice_set xs i x) k ≡ slice_index xs k
+slice_index-set_other [] i k x differ = refl
+slice_index-set_other (y ∷ xs) zero zero x differ = absurd (differ refl)
+slice_index-set_other (y ∷ xs) zero (suc k) x differ = refl
+slice_index-set_other (y ∷ xs) (suc i) zero x differ = refl
+slice_index-set_other (y ∷ xs) (suc i) (suc k) x differ = slice_index-set_other xs i k x (λ same. differ (ap suc same))
+
+-- what is the same of both spaces is the same of all
+pub map-set_same : {X : Type 0} (f : VdevSpace → X) (spaces : List VdevSpace) (v : ℕ) (space new : VdevSpace) → slice_get spaces v ≡ Some space → f new ≡ f space
+    → map f (slice_set spaces v new) ≡ map f spaces
+map-set_same f [] v space new found same = refl
+map-set_same f (s ∷ spaces) zero space new found same = ap (λ x. x ∷ map f spaces) (same ∙ ap f (sym (same_some s space found)))
+map-set_same f (s ∷ spaces) (suc v) space new found same = ap (λ xs. f s ∷ xs) (map-set_same f spaces v space new found same)
+
+-- the plan takes a place in a space
+pub takes_place : (spaces : List VdevSpace) (place : Dva) (space new : VdevSpace) → slice_get spaces place.vdev ≡ Some space → new.shape ≡ space.shape
+    → filled_marks new ≡ filled_marks space
+    → planned new ≡ slice_set (planned space) (metaslab_of space.shape place) (slice_index (planned space) (metaslab_of space.shape place) + place.allocated)
+    → metaslab_of space.shape place < length (planned space) → IsTakenToo spaces place (slice_set spaces place.vdev new)
+takes_place spaces place space new found shape same_filled changed within = record {
+  shapes = map-set_same (λ s. s.shape) spaces place.vdev space new found shape;
+  filled_stays = map-set_same filled_marks spaces place.vdev space new found same_filled;
+  marks = λ v old after metaslab at at'. elim (cases_eq v place.vdev) [
+    | inr other ↦
+        let same : old ≡ after = same_some old after (sym at ∙ sym (slice_get-set_other spaces place.vdev v new (λ is. other (sym is))) ∙ at') in
+        inr (inl other, ap (λ s. slice_index (planned s) metaslab) (sym same))
+    | inl this ↦
+        let is_old : old ≡ space = same_some old space (sym at ∙ ap (λ n. slice_get spaces n) this ∙ found) in
+        let is_new : new ≡ after = slice_get-set_same spaces place.vdev new after (ap (λ n. slice_get (slice_set spaces place.vdev new) n) (sym this) ∙ at') in
+        let slab : ℕ = metaslab_of space.shape place in
+        let mark : slice_index (planned after) metaslab ≡ slice_index (slice_set (planned space) slab (slice_index (planned space) slab + place.allocated)) metaslab =
+        ap (λ s. slice_index (planned s) metaslab) (sym is_new) ∙ ap (λ xs. slice_index xs metaslab) changed in
+        let slab_is : metaslab_of old.shape place ≡ slab = ap (λ (s : VdevSpace). metaslab_of s.shape place) is_old in
+        elim (cases_eq metaslab slab) [
+          | inl here ↦
+              inl (this, here ∙ sym slab_is,
+              mark ∙ ap (λ n. slice_index (slice_set (planned space) slab (slice_index (planned space) slab + place.allocated)) n) here
+              ∙ slice_index-set_same (planned space) slab (slice_index (planned space) slab + place.allocated) within
+              ∙ ap (λ n. slice_index (planned space) n + place.allocated) (sym here) ∙ ap (λ s. slice_index (planned s) metaslab + place.allocated) (sym is_old))
+          | inr there ↦
+              inr (inr (λ is. there (is ∙ slab_is)),
+              mark ∙ slice_index-set_other (planned space) slab metaslab (slice_index (planned space) slab + place.allocated) (λ is. there (sym is))
+              ∙ ap (λ s. slice_index (planned s) metaslab) (sym is_old))
+        ]
+  ];
+}
+
+pub takes_place_of : (old spaces : List VdevSpace) (place : Dva) (space new : VdevSpace) → spaces ≡ old → slice_get spaces place.vdev ≡ Some space → new.shape ≡ space.shape
+    → filled_marks new ≡ filled_marks space
+    → planned new ≡ slice_set (planned space) (metaslab_of space.shape place) (slice_index (planned space) (metaslab_of space.shape place) + place.allocated)
+    → metaslab_of space.shape place < length (planned space) → IsTakenToo old place (slice_set spaces place.vdev new)
+takes_place_of old spaces place space new same found shape same_filled changed within =
+    subst (λ (them : List VdevSpace). IsTakenToo them place (slice_set spaces place.vdev new)) same
+    (takes_place spaces place space new found shape same_filled changed within)
+
+-- vdevs are laid out by their shapes alone
+pub laid_out_too : (starts : List (List ℕ)) (spaces after : List VdevSpace) → shapes_of after ≡ shapes_of spaces → IsLaidOut starts spaces → IsLaidOut starts after
+laid_out_too starts spaces after shapes laid = record {
+  room = λ v space found.
+      let there = found_too after spaces v space (sym shapes) found in
+      let P : VdevShape → Type 0 = λ shape. HasRoom shape.vdev shape.child_sectors starts in
+      subst P there.2 (laid.room v there.0 there.1);
+  apart = λ v other space behind less found found'.
+      let there = found_too after spaces v space (sym shapes) found in
+      let there' = found_too after spaces other behind (sym shapes) found' in
+      let before = laid.apart v other there.0 there'.0 less there.1 there'.1 in
+      let P : VdevShape → Type 0 = λ shape. shape.vdev.first + shape.vdev.geometry.children ≤ there'.0.shape.vdev.first in
+      let Q : VdevShape → Type 0 = λ shape. space.shape.vdev.first + space.shape.vdev.geometry.children ≤ shape.vdev.first in
+      subst Q there'.2 (subst P there.2 before);
+  few =
+      let count : length after ≡ length spaces = sym (length-map after (λ (s : VdevSpace). s.shape)) ∙ ap length shapes ∙ length-map spaces (λ (s : VdevSpace). s.shape) in
+      omega (arith, laid.few, count);
+}

@@ -54,7 +54,7 @@ impl VdevSpace {
     /// The place behind what is planned in a metaslab.
     fn place_in(&self, vdev: usize, metaslab: usize, sectors: u32) -> Dva
         requires vdev { vdev < 2 ^ 32 }
-        requires sectors { sectors ≤ 2 ^ 16 }
+        requires some { 0 < sectors }
         requires is_there { metaslab < metaslabs self.now.shape }
         requires room { slice_index (planned self.now) metaslab + asize self.now.shape.vdev.geometry sectors ≤ metaslab_sectors self.now.shape }
         ensures vdev { result.vdev ≡ vdev }
@@ -101,7 +101,7 @@ impl<D: Disk + Drop> BlockStore<D> {
 
     /// The first place that has room and may be taken.
     fn find_place(&self, sectors: u32, taken: &[Dva], spread: Spread) -> Option<Dva>
-        requires { sectors ≤ 2 ^ 16 }
+        requires { 0 < sectors }
         ensures some { IfSome result (λ place. IsFound self.now.spaces taken.now sectors spread place) }
         ensures none { IfNone result ((v metaslab : ℕ) → (room : HasRoomAt self.now.spaces sectors v metaslab) → ¬ MayTake room.space.shape taken.now v metaslab spread) }
     {
@@ -115,8 +115,9 @@ impl<D: Disk + Drop> BlockStore<D> {
 
     /// A place for a further copy of a block: in another vdev than those that were taken where one has room, else in
     /// another metaslab where one has.
+    #[tactic(auto, using(crate::proofs::Choosing::chosen_elsewhere, crate::proofs::Choosing::chosen_apart, crate::proofs::Choosing::chosen_anywhere))]
     fn choose(&self, sectors: u32, taken: &[Dva]) -> Option<Dva>
-        requires { sectors ≤ 2 ^ 16 }
+        requires { 0 < sectors }
         ensures some { IfSome result (λ place. IsChosen self.now.spaces taken.now sectors place) }
         ensures none { IfNone result ((v metaslab : ℕ) → ¬ HasRoomAt self.now.spaces sectors v metaslab) }
     {
@@ -152,7 +153,7 @@ impl<D: Disk + Drop> BlockStore<D> {
         sectors: u32,
         copies: usize,
     ) -> Result<ArrayVec<Dva, 3>, Refusal>
-        requires sectors { sectors ≤ 2 ^ 16 }
+        requires some { 0 < sectors }
         requires copies { copies ≤ 3 }
         ensures disks { self.new.disks ≡ self.old.disks }
         ensures out { self.new.out ≡ self.old.out }

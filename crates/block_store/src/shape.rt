@@ -29,6 +29,7 @@ impl VdevShape {
     }
 
     /// How many sectors a metaslab has.
+    #[tactic(auto, using(crate::proofs::Sizes::slab_bound))]
     pub fn metaslab_sectors(self) -> u64
         ensures value { result ≡ metaslab_sectors self }
         ensures some { 0 < result }

@@ -1,0 +1,100 @@
+-- The choice of places.
+use Rattle.std.proofs.Common.{ℕ, zero, suc, ◌≡◌, ◌≢◌, ◌⊎◌, inl, inr, ◌+◌, ◌<◌, ◌≤◌, Some, Option, List, [], ◌∷◌, ◌++◌, length, get_or, Contains, refl, sym, ap, subst, ◌∙◌, arith}
+use Rattle.std.specs.Prelude.{slice_index}
+use Rattle.std.specs.List.{slice_get}
+use Rattle.std.proofs.lemmas.Bool.{cases_lt}
+use Rattle.std.proofs.lemmas.List.{append-nil, append_assoc}
+use Rattle.block_pointer.specs.declared.dva.Dva.{Dva}
+use Rattle.raidz_map.specs.Layout.{asize}
+use Rattle.raidz_io.proofs.Written.{same_some}
+use Rattle.block_store.specs.declared.choice.Spread.{Spread}
+use Rattle.block_store.specs.declared.choice.Spread.TheVariants.{Vdevs, Metaslabs, Anywhere}
+use Rattle.block_store.specs.declared.space.VdevSpace.{VdevSpace}
+use Rattle.block_store.specs.Places.{planned, HasRoomAt, MayTake, IsFound, IsInVdev, IsInMetaslab, IsChosen, IsTakenToo, AreChosen}
+use Rattle.block_store.specs.Shapes.{metaslab_sectors, metaslabs, metaslab_of}
+
+-- an item of a list
+pub at_item : {X : Type 0} (xs : List X) (i : ℕ) (x : X) → i < length xs → x ≡ get_or xs i x → slice_get xs i ≡ Some x
+at_item [] i x within is = absurd (omega arith)
+at_item (y ∷ ys) zero x within is = ap Some (sym is)
+at_item (y ∷ ys) (suc i) x within is = at_item ys i x (omega arith) is
+
+-- no metaslab of the vdevs before this one has room and may be taken
+abbrev pub NoneBefore : List VdevSpace → List Dva → ℕ → Spread → ℕ → Type 0
+NoneBefore spaces taken sectors spread n =
+    (v metaslab : ℕ) → v < n → (room : HasRoomAt spaces sectors v metaslab) → ¬ MayTake room.space.shape taken v metaslab spread
+
+pub none_of_one_more : (spaces : List VdevSpace) (taken : List Dva) (sectors : ℕ) (spread : Spread) (n : ℕ) (space : VdevSpace)
+    → NoneBefore spaces taken sectors spread n → slice_get spaces n ≡ Some space
+    → ((metaslab : ℕ) → metaslab < metaslabs space.shape → slice_index (planned space) metaslab + asize space.shape.vdev.geometry sectors ≤ metaslab_sectors space.shape
+        → ¬ MayTake space.shape taken n metaslab spread)
+    → NoneBefore spaces taken sectors spread (n + 1)
+none_of_one_more spaces taken sectors spread n space before found here v metaslab below room may =
+    elim (cases_lt v n) [
+      | inl less ↦ before v metaslab less room may
+      | inr not_less ↦
+          let same_v : v ≡ n = omega (arith, below, not_less) in
+          let same : room.space ≡ space = same_some room.space space (sym room.found ∙ ap (λ k. slice_get spaces k) same_v ∙ found) in
+          let P : VdevSpace → Type 0 = λ s. metaslab < metaslabs s.shape in
+          let Q : VdevSpace → Type 0 = λ s. slice_index (planned s) metaslab + asize s.shape.vdev.geometry sectors ≤ metaslab_sectors s.shape in
+          let R : VdevSpace → Type 0 = λ s. MayTake s.shape taken v metaslab spread in
+          let M : ℕ → Type 0 = λ k. MayTake space.shape taken k metaslab spread in
+          here metaslab (subst P same room.is_there) (subst Q same room.room) (subst M same_v (subst R same may))
+    ]
+
+-- after all vdevs
+pub none_at_all : (spaces : List VdevSpace) (taken : List Dva) (sectors : ℕ) (spread : Spread) (n : ℕ) → length spaces ≤ n → NoneBefore spaces taken sectors spread n
+    → (v metaslab : ℕ) → (room : HasRoomAt spaces sectors v metaslab) → ¬ MayTake room.space.shape taken v metaslab spread
+none_at_all spaces taken sectors spread n all before v metaslab room may =
+    before v metaslab (omega (arith, all, within spaces v room.space room.found)) room may
+  where
+    within : (xs : List VdevSpace) (k : ℕ) (x : VdevSpace) → slice_get xs k ≡ Some x → k < length xs
+    within [] k x is = absurd (cc)
+    within (y ∷ ys) zero x is = omega arith
+    within (y ∷ ys) (suc k) x is = omega (arith, within ys k x is)
+
+-- what a pass finds is chosen where no pass before it found anything
+pub chosen_elsewhere : (spaces : List VdevSpace) (taken : List Dva) (sectors : ℕ) (place : Dva) → IsFound spaces taken sectors Vdevs place → IsChosen spaces taken sectors place
+chosen_elsewhere spaces taken sectors place found = record {
+  space = found.space;
+  found = found.found;
+  behind = found.behind;
+  other_vdev = λ v metaslab room free. found.may;
+  other_metaslab = λ v metaslab room free (other, held, at, slab). found.may (other, held, at);
+}
+
+pub chosen_apart : (spaces : List VdevSpace) (taken : List Dva) (sectors : ℕ) (place : Dva) → IsFound spaces taken sectors Metaslabs place
+    → ((v metaslab : ℕ) → (room : HasRoomAt spaces sectors v metaslab) → ¬ MayTake room.space.shape taken v metaslab Vdevs) → IsChosen spaces taken sectors place
+chosen_apart spaces taken sectors place found none = record {
+  space = found.space;
+  found = found.found;
+  behind = found.behind;
+  other_vdev = λ v metaslab room free. absurd (none v metaslab room free);
+  other_metaslab = λ v metaslab room free. found.may;
+}
+
+pub chosen_anywhere : (spaces : List VdevSpace) (taken : List Dva) (sectors : ℕ) (place : Dva) → IsFound spaces taken sectors Anywhere place
+    → ((v metaslab : ℕ) → (room : HasRoomAt spaces sectors v metaslab) → ¬ MayTake room.space.shape taken v metaslab Vdevs)
+    → ((v metaslab : ℕ) → (room : HasRoomAt spaces sectors v metaslab) → ¬ MayTake room.space.shape taken v metaslab Metaslabs) → IsChosen spaces taken sectors place
+chosen_anywhere spaces taken sectors place found none none' = record {
+  space = found.space;
+  found = found.found;
+  behind = found.behind;
+  other_vdev = λ v metaslab room free. absurd (none v metaslab room free);
+  other_metaslab = λ v metaslab room free. absurd (none' v metaslab room free);
+}
+
+-- a place more
+pub AreChosen-push : (spaces : List VdevSpace) (taken : List Dva) (sectors : ℕ) (places : List Dva) (mid : List VdevSpace) (place : Dva) (after : List VdevSpace)
+    → AreChosen spaces taken sectors places mid → IsChosen mid (taken ++ places) sectors place → IsTakenToo mid place after
+    → AreChosen spaces taken sectors (places ++ place ∷ []) after
+AreChosen-push spaces taken sectors [] mid place after is chosen too =
+    let none : taken ++ [] ≡ taken = append-nil taken in
+    let P : List VdevSpace → Type 0 = λ s. IsChosen s taken sectors place in
+    let Q : List VdevSpace → Type 0 = λ s. IsTakenToo s place after in
+    let C : List Dva → Type 0 = λ t. IsChosen mid t sectors place in
+    (subst P is (subst C none chosen), after, subst Q is too, refl)
+AreChosen-push spaces taken sectors (first ∷ places) mid place after (chosen', next, too', rest) chosen too =
+    let C : List Dva → Type 0 = λ t. IsChosen mid t sectors place in
+    let moved : taken ++ (first ∷ places) ≡ (taken ++ first ∷ []) ++ places = sym (append_assoc taken (first ∷ []) places) in
+    (chosen', next, too', AreChosen-push next (taken ++ first ∷ []) sectors places mid place after rest (subst C moved chosen) too)

@@ -1,0 +1,10 @@
+use Rattle.std.proofs.Common.{◌≡◌, ◌≤◌, ◌<◌, ◌^◌, ◌↔◌, ℕ, Some, IsTrue, IfSome, IfNone, IfOk, IfErr, length, slice_get, [], ◌+◌, slice_index, ◌-◌, ◌*◌}
+use Rattle.block_store.specs.Places.{IsInVdev, IsInMetaslab, HasRoomAt, IsBehind, MayTake, IsChosen, IsTakenToo, AreChosen, RanOut, IsFound, planned}
+use Rattle.block_store.specs.Shapes.{metaslab_of, metaslabs}
+use Rattle.block_store.specs.declared.space.VdevSpace.{VdevSpace}
+use Rattle.block_store.proofs.Choosing.{NoneBefore}
+use Rattle.block_store.proofs.store.BlockStore.find_place.Given as goal
+
+-- no vdev before this one has a metaslab with room that may be taken
+abbrev pub invariant-loop-vdev : goal.invariant-loop-vdev
+invariant-loop-vdev g l = NoneBefore l.self.spaces l.taken l.sectors l.spread l.vdev
