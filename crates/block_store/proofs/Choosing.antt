@@ -1,5 +1,5 @@
 -- The choice of places.
-use Rattle.std.proofs.Common.{ℕ, zero, suc, ◌≡◌, ◌≢◌, ◌⊎◌, inl, inr, ◌+◌, ◌<◌, ◌≤◌, Some, Option, List, [], ◌∷◌, ◌++◌, length, get_or, Contains, refl, sym, ap, subst, ◌∙◌, arith}
+use Rattle.std.proofs.Common.{ℕ, zero, suc, ◌≡◌, ◌≢◌, ◌⊎◌, inl, inr, ◌+◌, ◌<◌, ◌≤◌, Some, None, Option, IfNone, List, [], ◌∷◌, ◌++◌, length, get_or, Contains, refl, sym, ap, subst, ◌∙◌, arith}
 use Rattle.std.specs.Prelude.{slice_index}
 use Rattle.std.specs.List.{slice_get}
 use Rattle.std.proofs.lemmas.Bool.{cases_lt}
@@ -98,3 +98,7 @@ AreChosen-push spaces taken sectors (first ∷ places) mid place after (chosen',
     let C : List Dva → Type 0 = λ t. IsChosen mid t sectors place in
     let moved : taken ++ (first ∷ places) ≡ (taken ++ first ∷ []) ++ places = sym (append_assoc taken (first ∷ []) places) in
     (chosen', next, too', AreChosen-push next (taken ++ first ∷ []) sectors places mid place after rest (subst C moved chosen) too)
+
+pub IfNone-map : {X : Type 0} (found : Option X) (P Q : Type 0) → (P → Q) → IfNone found P → IfNone found Q
+IfNone-map (Some x) P Q f is = tt
+IfNone-map None P Q f is = f is

@@ -121,13 +121,11 @@ impl<D: Disk + Drop> BlockStore<D> {
         ensures some { IfSome result (λ place. IsChosen self.now.spaces taken.now sectors place) }
         ensures none { IfNone result ((v metaslab : ℕ) → ¬ HasRoomAt self.now.spaces sectors v metaslab) }
     {
-        let elsewhere = self.find_place(sectors, taken, Spread::Vdevs);
-        if elsewhere.is_some() {
-            return elsewhere;
+        if let Some(place) = self.find_place(sectors, taken, Spread::Vdevs) {
+            return Some(place);
         }
-        let apart = self.find_place(sectors, taken, Spread::Metaslabs);
-        if apart.is_some() {
-            return apart;
+        if let Some(place) = self.find_place(sectors, taken, Spread::Metaslabs) {
+            return Some(place);
         }
         self.find_place(sectors, taken, Spread::Anywhere)
     }

@@ -1,0 +1,12 @@
+use Rattle.block_store.proofs.Choosing.{chosen_elsewhere, chosen_apart, IfNone-map}
+use Rattle.block_store.proofs.store.BlockStore.choose.Goals as goal
+
+pub returns-in-Some-clause-some : goal.returns-in-Some-clause-some
+returns-in-Some-clause-some g c = chosen_elsewhere c.args.self.now.spaces c.args.taken.now c.args.sectors c.in-Some.place c.in-Some.ensures.some
+
+pub returns-in-Some-find_place-clause-some : goal.returns-in-Some-find_place-clause-some
+returns-in-Some-find_place-clause-some g c =
+    chosen_apart c.args.self.now.spaces c.args.taken.now c.args.sectors c.in-Some-find_place.place c.in-Some-find_place.ensures.some c.in_default.ensures.none
+
+pub returns-clause-none : goal.returns-clause-none
+returns-clause-none g c = IfNone-map c.find_place-3.result _ _ (λ none v metaslab room. none v metaslab room tt) c.find_place-3.ensures.none
