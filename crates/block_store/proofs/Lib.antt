@@ -1,5 +1,6 @@
 pub mod Copies
 pub mod Extents
+pub mod Kept
 pub mod Outs
 pub mod SameBlock
 pub mod Taking
