@@ -2,6 +2,7 @@ pub mod Copies
 pub mod Extents
 pub mod Kept
 pub mod Outs
+pub mod ReadingCopy
 pub mod ReadingPlaces
 pub mod SameBlock
 pub mod Taking
