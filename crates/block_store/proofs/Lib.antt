@@ -4,6 +4,7 @@ pub mod Kept
 pub mod Outs
 pub mod ReadingCopy
 pub mod ReadingPlaces
+pub mod ReadingPointers
 pub mod ReadingSteps
 pub mod SameBlock
 pub mod Taking

@@ -1,6 +1,6 @@
 -- The extents of copies are on the disks.
-use Rattle.std.proofs.Common.{ℕ, ◌≡◌, ◌+◌, ◌≤◌, Some, List, sym, ap, subst, ◌∙◌, get_or, arith}
-use Rattle.std.proofs.lemmas.Option.{get_or_from_slice_get}
+use Rattle.std.proofs.Common.{ℕ, ◌≡◌, ◌+◌, ◌<◌, ◌≤◌, Some, None, List, length, refl, sym, ap, subst, ◌∙◌, get_or, arith}
+use Rattle.std.proofs.lemmas.Option.{get_or_from_slice_get, slice_get_read, slice_get_past}
 use Rattle.std.specs.List.{slice_get}
 use Rattle.block_pointer.specs.declared.dva.Dva.{Dva}
 use Rattle.raidz_io.specs.declared.vdev.Extent.{Extent}
@@ -36,3 +36,18 @@ extent_found store spaces sectors place extent space view is is_in vdev start se
       start = start;
       sectors_are = sectors_are;
     }
+
+-- whether a place is in the vdevs, by the one that was found
+pub in_place : (spaces : List VdevSpace) (sectors : ℕ) (place : Dva) (space : VdevSpace) → place.vdev < length spaces → space ≡ get_or spaces place.vdev space
+    → (IsPlace space.shape sectors place → IsPlaceIn spaces sectors place) × (IsPlaceIn spaces sectors place → IsPlace space.shape sectors place)
+in_place spaces sectors place space below is =
+    let found : slice_get spaces place.vdev ≡ Some space = slice_get_read spaces (length spaces) place.vdev space refl below is in (
+      λ lies. record { space = space; found = found; is_place = lies },
+      λ is_in.
+          let same : is_in.space ≡ space = same_some is_in.space space (sym is_in.found ∙ found) in
+          subst (λ (s : VdevSpace). IsPlace s.shape sectors place) same is_in.is_place,
+    )
+
+pub in_none : (spaces : List VdevSpace) (sectors : ℕ) (place : Dva) → length spaces ≤ place.vdev → ¬ IsPlaceIn spaces sectors place
+in_none spaces sectors place past is_in =
+    absurd (let no : Some is_in.space ≡ None = sym is_in.found ∙ slice_get_past spaces place.vdev past in cc)
