@@ -3,6 +3,7 @@ pub mod Extents
 pub mod Kept
 pub mod Outs
 pub mod ReadingCopy
+pub mod ReadingOuts
 pub mod ReadingPlaces
 pub mod ReadingPointers
 pub mod ReadingSteps
