@@ -1,7 +1,13 @@
 pub mod Choosing
 pub mod Copies
 pub mod Extents
+pub mod Kept
 pub mod Outs
+pub mod ReadingCopy
+pub mod ReadingOuts
+pub mod ReadingPlaces
+pub mod ReadingPointers
+pub mod ReadingSteps
 pub mod SameBlock
 pub mod Sizes
 pub mod Taking

@@ -84,7 +84,7 @@ placed_too spaces after marks later contents grows placed = record {
 }
 
 -- what ends in its metaslab ends before the next
-ends_before : (a b n size : ℕ) → a / size < b / size → a % size + n ≤ size → a + n ≤ b
+pub ends_before : (a b n size : ℕ) → a / size < b / size → a % size + n ≤ size → a + n ≤ b
 ends_before a b n size less fits =
     let split : a / size * size + a % size ≡ a = div-add-mod' a size in
     let split' : b / size * size + b % size ≡ b = div-add-mod' b size in

@@ -15,6 +15,8 @@ use crate::store::BlockStore;
 use arrayvec::ArrayVec;
 use block_pointer::{Block, Copies, Dva};
 use model_disk::Disk;
+use model_disk::laws::parts_are_honest;
+use raidz_io::{few_are_not_more, reads_keep_contents, stands_while_kept, stands_with_more_absent};
 use std::alloc::{AllocError, Global};
 
 impl<D: Disk + Drop> BlockStore<D> {
@@ -49,6 +51,11 @@ impl<D: Disk + Drop> BlockStore<D> {
             → Asks asked block.now → IsHonestSince self.old.disks self.new.disks
             → AreTolerable self.old.spaces (absent_since self.old.disks self.new.disks (outs self.old ++ missing.now)) → refusal ≡ Refusal.NoMemory) }
     {
+        reads_keep_contents();
+        stands_while_kept();
+        stands_with_more_absent();
+        few_are_not_more();
+        parts_are_honest();
         if !self.is_readable(block, asked) {
             return Err(Refusal::BadPointer);
         }
@@ -104,7 +111,12 @@ impl<D: Disk + Drop> BlockStore<D> {
     fn are_places(&self, places: &[Dva], sectors: u32) -> bool
         ensures { IsTrue result ↔ ((place : Dva) → Contains places.now place → IsPlaceIn self.now.spaces sectors place) }
     {
-        places.iter().all(|place| self.is_place(*place, sectors))
+        for place in places {
+            if !self.is_place(*place, sectors) {
+                return false;
+            }
+        }
+        true
     }
 
     /// Whether the place is in a vdev that is there, and a copy of a block of so many data sectors may lie there.

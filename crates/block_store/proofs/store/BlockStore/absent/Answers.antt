@@ -1,0 +1,17 @@
+use Rattle.std.proofs.Common.{ℕ, ◌≡◌, ◌<◌, false, length, ap, ◌∙◌, get_or, arith}
+use Rattle.block_store.specs.Store.{Store}
+use Rattle.block_store.proofs.ReadingOuts.{out_too, not_out}
+use Rattle.block_store.proofs.store.BlockStore.absent.Goals as goal
+use Rattle.block_store.proofs.store.BlockStore.absent.Goals.{then-is_out+in_ok-push, else-is_out}
+
+pub loop-disk-preserved : goal.loop-disk-preserved
+loop-disk-preserved g c =
+    let out : c.deref-is_out-items.result.now ≡ c.args.self.now.out = c.deref-is_out-items.ensures.value ∙ ap (λ (s : Store). s.out) c.self.view_is in
+    let below : c.loop-disk.disk < length c.args.self.now.out = omega (arith, c.loop-disk-test.true, ap length out) in
+    elim c.if-is_out.branch [
+      | then-is_out+in_ok-push w ↦
+          rw w.absent-is
+          (out_too c.args.self.now.out c.loop-disk.disk false c.loop-disk.absent.items w.push.new.self.items below (rw out at w.if-is_out.true) c.loop-disk.invariant w.in_ok-push.ensures.items)
+      | else-is_out w ↦
+          rw w.absent-is (not_out c.args.self.now.out c.loop-disk.disk false c.loop-disk.absent.items below (rw out at w.if-is_out.false) c.loop-disk.invariant)
+    ]
