@@ -1,8 +1,11 @@
 pub mod Choosing
 pub mod Copies
+pub mod Adding
+pub mod Calling
 pub mod Extents
 pub mod Kept
 pub mod Outs
+pub mod Planning
 pub mod ReadingCopy
 pub mod ReadingOuts
 pub mod ReadingPlaces

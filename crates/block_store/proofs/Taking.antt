@@ -162,7 +162,7 @@ step spaces taken sectors place after chosen too =
       apart = λ sectors' other is. apart_from_taken spaces taken sectors sectors' place other chosen is;
     }
 
-turned : (place other : Dva) → ArePlacesApart place other → ArePlacesApart other place
+pub turned : (place other : Dva) → ArePlacesApart place other → ArePlacesApart other place
 turned place other (inl differ) = inl (λ same. differ (sym same))
 turned place other (inr (inl before)) = inr (inr before)
 turned place other (inr (inr after)) = inr (inl after)
@@ -170,6 +170,7 @@ turned place other (inr (inr after)) = inr (inl after)
 -- places that are taken one after the other
 pub record AreTakenToo (spaces : List VdevSpace) (sectors : ℕ) (places : List Dva) (after : List VdevSpace) : Type 0 where
   pub grows : Grows spaces after planned planned
+  pub filled_stays : map filled_marks after ≡ map filled_marks spaces
   pub taken : (i : ℕ) (place : Dva) → slice_get places i ≡ Some place → IsTaken after planned sectors place
   pub from_others : (i sectors' : ℕ) (place other : Dva) → slice_get places i ≡ Some place → IsTaken spaces planned sectors' other → ArePlacesApart place other
   pub apart : (i k : ℕ) (place other : Dva) → slice_get places i ≡ Some place → slice_get places k ≡ Some other → (i ≡ k) ⊎ ArePlacesApart place other
@@ -196,6 +197,7 @@ pub are_taken : (spaces : List VdevSpace) (taken : List Dva) (sectors : ℕ) (pl
     → AreTakenToo spaces sectors places after
 are_taken spaces taken sectors [] after is = record {
   grows = rw is (same_grows spaces planned);
+  filled_stays = ap (map filled_marks) is;
   taken = λ i place at. absurd (cc);
   from_others = λ i sectors' place other at. absurd (cc);
   apart = λ i k place other at at'. absurd (cc);
@@ -205,6 +207,7 @@ are_taken spaces taken sectors (first ∷ places) after (chosen, mid, too, rest)
     let others : AreTakenToo mid sectors places after = are_taken mid (taken ++ first ∷ []) sectors places after rest in
     record {
       grows = grows_on spaces mid after planned planned planned one.grows others.grows;
+      filled_stays = others.filled_stays ∙ too.filled_stays;
       taken = taken_at one others;
       from_others = others_at one others;
       apart = apart_at one others;
@@ -236,12 +239,12 @@ are_taken spaces taken sectors (first ∷ places) after (chosen, mid, too, rest)
 
 -- ---- a space in place of another
 
-slice_get-set_same : {X : Type 0} (xs : List X) (i : ℕ) (x y : X) → slice_get (slice_set xs i x) i ≡ Some y → x ≡ y
+pub slice_get-set_same : {X : Type 0} (xs : List X) (i : ℕ) (x y : X) → slice_get (slice_set xs i x) i ≡ Some y → x ≡ y
 slice_get-set_same [] i x y is = absurd (cc)
 slice_get-set_same (z ∷ xs) zero x y is = same_some x y is
 slice_get-set_same (z ∷ xs) (suc i) x y is = slice_get-set_same xs i x y is
 
-slice_get-set_other : {X : Type 0} (xs : List X) (i k : ℕ) (x : X) → i ≢ k → slice_get (slice_set xs i x) k ≡ slice_get xs k
+pub slice_get-set_other : {X : Type 0} (xs : List X) (i k : ℕ) (x : X) → i ≢ k → slice_get (slice_set xs i x) k ≡ slice_get xs k
 slice_get-set_other [] i k x differ = refl
 slice_get-set_other (z ∷ xs) zero zero x differ = absurd (differ refl)
 slice_get-set_other (z ∷ xs) zero (suc k) x differ = refl

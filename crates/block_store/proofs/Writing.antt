@@ -10,20 +10,12 @@ use Rattle.raidz_io.specs.Elsewhere.{ChangesOnlyWritten, ApartExtentsShareNoByte
 use Rattle.raidz_io.specs.Stands.{ExtentStands, IsDone, IsColumnWrite}
 use Rattle.raidz_io.proofs.Written.{same_some}
 use Rattle.block_store.specs.Blocks.{Contents}
+use Rattle.block_store.specs.Laws.{Laws}
 use Rattle.block_store.specs.Places.{IsLaidOut, IsCopy}
 use Rattle.block_store.specs.Places.{filled as filled_marks, planned as planned_marks}
 use Rattle.block_store.specs.Plans.{Plans, IsOnTheWay, IsDueFor}
 use Rattle.block_store.specs.Store.{Store, outs, Holds}
 use Rattle.block_store.proofs.Copies.{copies_apart}
-
--- the laws of blocks that are written beside others
-pub record Laws : Type 0 where
-  pub apart_extents : ApartExtentsShareNoByte
-  pub other_vdevs : OtherVdevsShareNoByte
-  pub more_absent : StandsWithMoreAbsent
-  pub others_written : StandsWhileOthersAreWritten
-  pub writes_apart : WritesAreApart
-  pub done_kept : DoneWhileOthersAreWritten
 
 -- the first write that was due was made: it is done, or its disk is out
 pub record Makes (old new : Store) (write : ColumnWrite) : Type 0 where
@@ -47,6 +39,9 @@ some_is_not_none x found is none = absurd (let e : Some x ≡ None = sym is ∙ 
 pub first_or_later : {X : Type 0} (x y : X) (xs : List X) → Contains (x ∷ xs) y → (x ≡ y) ⊎ Contains xs y
 first_or_later x y xs (zero, within, is) = inl is
 first_or_later x y xs (suc k, within, is) = inr (k, omega arith, is)
+
+pub later_too : {X : Type 0} (x y : X) (xs : List X) → Contains xs y → Contains (x ∷ xs) y
+later_too x y xs (k, within, is) = (suc k, omega arith, is)
 
 -- what was stored stands still
 held_still : Laws → (old new : Store) (write : ColumnWrite) (stored planned : Contents) → IsLaidOut old.disks.starts old.spaces → Makes old new write
@@ -145,6 +140,3 @@ write_keeps laws old new write stored planned laid makes plans =
             is_of_copy = was.is_of_copy;
           };
     }
-  where
-    later_too : {X : Type 0} (x y : X) (xs : List X) → Contains xs y → Contains (x ∷ xs) y
-    later_too x y xs (k, within, is) = (suc k, omega arith, is)

@@ -25,6 +25,10 @@ filled space = space.filled.items
 abbrev pub planned : Marks
 planned space = space.planned.items
 
+-- of each vdev these marks are those that it had
+abbrev pub HaveMarks : List VdevSpace → Marks → List VdevSpace → Marks → Type 0
+HaveMarks spaces marks after later = (v : ℕ) (space new : VdevSpace) → slice_get spaces v ≡ Some space → slice_get after v ≡ Some new → later new ≡ marks space
+
 -- the vdevs are on these disks, in their order, and share none
 pub record IsLaidOut (starts : List (List ℕ)) (spaces : List VdevSpace) : Type 0 where
   pub room : (v : ℕ) (space : VdevSpace) → slice_get spaces v ≡ Some space → HasRoom space.shape.vdev space.shape.child_sectors starts

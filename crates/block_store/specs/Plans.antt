@@ -33,6 +33,7 @@ pub record IsDueFor (store : Store) (stored planned : Contents) (writes_of : Blo
 pub record AreWritesAt (store : Store) (sectors : ℕ) (bytes : List ℕ) (places : List Dva) (writes : List ColumnWrite) : Type 0 where
   pub copies : List (List ColumnWrite)
   pub count : length copies ≡ length places
+  pub extents : (i : ℕ) (place : Dva) → slice_get places i ≡ Some place → (extent : Extent) × IsExtentAt store.spaces sectors place extent
   pub would_store : (i : ℕ) (place : Dva) (copy : List ColumnWrite) (extent : Extent) → slice_get places i ≡ Some place → slice_get copies i ≡ Some copy
       → IsExtentAt store.spaces sectors place extent → WouldStore copy extent bytes × AreColumnWrites extent copy
   pub each : (i : ℕ) (copy : List ColumnWrite) (write : ColumnWrite) → slice_get copies i ≡ Some copy → Contains copy write

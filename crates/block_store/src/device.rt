@@ -1,19 +1,37 @@
 //! The device calls of a plan.
-ghost use Rattle.std.specs.Prelude.{◌≡◌, ◌<◌, ◌∷◌, ℕ, List, true, ◌↔◌, length, IsOk, OnOk, IfErr};
+ghost use Rattle.std.specs.Prelude.{◌≡◌, ◌<◌, ◌∷◌, ℕ, length, is_ok, OnOk, IfErr};
 ghost use Rattle.model_disk.specs.Call.{write_call, flush_call};
 ghost use Rattle.model_disk.specs.Joint.{on};
 ghost use Rattle.raidz_io.specs.declared.writes.ColumnWrite.{ColumnWrite};
+ghost use Rattle.block_store.specs.Laws.{Laws};
 ghost use Rattle.block_store.specs.Plans.{KeepsPlans};
 ghost use Rattle.block_store.specs.Store.{Keeps, IsOutToo};
 
 use crate::store::BlockStore;
 use model_disk::Disk;
+use raidz_io::{
+    apart_extents_share_no_byte, done_while_others_are_written, other_vdevs_share_no_byte,
+    stands_while_kept, stands_while_others_are_written, stands_with_more_absent, writes_are_apart,
+};
 
 /// A write or a flush of this disk failed, and it is out.
 #[derive(Debug, Clone, Copy, PartialEq, Eq, Drop, thiserror::Error)]
 #[error("disk {disk} failed a write or a flush")]
 pub struct FailedDisk {
     pub disk: usize,
+}
+
+/// What holds of blocks that are written beside others.
+fn blocks_beside_others()
+    ensures { Laws }
+{
+    stands_while_kept();
+    apart_extents_share_no_byte();
+    other_vdevs_share_no_byte();
+    stands_with_more_absent();
+    stands_while_others_are_written();
+    writes_are_apart();
+    done_while_others_are_written();
 }
 
 impl<D: Disk + Drop> BlockStore<D> {
@@ -24,12 +42,13 @@ impl<D: Disk + Drop> BlockStore<D> {
         ensures spaces { self.new.spaces ≡ self.old.spaces }
         ensures call { (write : ColumnWrite) × (self.old.due ≡ write ∷ self.new.due)
             × (self.new.disks.calls ≡ on write.disk (write_call result write.offset write.bytes.items) ∷ self.old.disks.calls)
-            × IfErr result (λ failed. (failed.disk ≡ write.disk) × IsOutToo self.old.out failed.disk self.new.out) }
+            × IfErr result (λ failed. failed.disk ≡ write.disk) × IfErr result (λ failed. IsOutToo self.old.out write.disk self.new.out) }
         ensures out { OnOk result (self.new.out ≡ self.old.out) }
 
         // Each plan goes on.
         ensures plans { KeepsPlans self.old self.new }
     {
+        blocks_beside_others();
         let Some(write) = self.due.pop_front() else {
             return Ok(());
         };
@@ -45,25 +64,28 @@ impl<D: Disk + Drop> BlockStore<D> {
         ensures due { self.new.due ≡ self.old.due }
         ensures call { self.new.disks.calls ≡ on disk (flush_call result) ∷ self.old.disks.calls }
         ensures out { OnOk result (self.new.out ≡ self.old.out) }
-        ensures failed { IfErr result (λ failed. (failed.disk ≡ disk) × IsOutToo self.old.out disk self.new.out) }
+        ensures failed { IfErr result (λ failed. failed.disk ≡ disk) }
+        ensures out_too { IfErr result (λ failed. IsOutToo self.old.out disk self.new.out) }
         ensures keeps { Keeps self.old self.new }
         ensures plans { KeepsPlans self.old self.new }
     {
+        blocks_beside_others();
         let answer = self.disks.flush(disk);
         self.note(disk, answer.is_ok())
     }
 
     /// Notes that a disk is out, where a call on it failed.
-    fn note(&mut self, disk: usize, is_ok: bool) -> Result<(), FailedDisk>
+    fn note(&mut self, disk: usize, answered: bool) -> Result<(), FailedDisk>
         requires { disk < length self.old.out }
         ensures disks { self.new.disks ≡ self.old.disks }
         ensures spaces { self.new.spaces ≡ self.old.spaces }
         ensures due { self.new.due ≡ self.old.due }
-        ensures ok { IsOk result ↔ (is_ok ≡ true) }
+        ensures ok { is_ok result ≡ answered }
         ensures out { OnOk result (self.new.out ≡ self.old.out) }
-        ensures failed { IfErr result (λ failed. (failed.disk ≡ disk) × IsOutToo self.old.out disk self.new.out) }
+        ensures failed { IfErr result (λ failed. failed.disk ≡ disk) }
+        ensures out_too { IfErr result (λ failed. IsOutToo self.old.out disk self.new.out) }
     {
-        if is_ok {
+        if answered {
             return Ok(());
         }
         self.out[disk] = true;

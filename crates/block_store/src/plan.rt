@@ -4,12 +4,13 @@ ghost use Rattle.block_pointer.specs.Copies.{dvas};
 ghost use Rattle.raidz_io.specs.declared.writes.ColumnWrite.{ColumnWrite};
 ghost use Rattle.raidz_io.specs.Places.{CanHold, IsOnDisks};
 ghost use Rattle.block_store.specs.Blocks.{Contents, Adds, FitsNew, IsBlockOf, count_of};
-ghost use Rattle.block_store.specs.Places.{shapes_of, AreChosen, RanOut, IsPlaceIn, IsExtentAt};
+ghost use Rattle.block_store.specs.Places.{shapes_of, filled, planned, HaveMarks, AreChosen, RanOut, IsPlaceIn, IsExtentAt};
 ghost use Rattle.block_store.specs.Plans.{Plans, KeepsPlans, AreWritesAt};
 ghost use Rattle.block_store.specs.Store.{Holds, Keeps, is_out};
 
 use crate::block::{CopyCount, NewBlock};
 use crate::refusal::Refusal;
+use crate::space::VdevSpace;
 use crate::store::BlockStore;
 use block_pointer::{Block, Copies, Dva};
 use model_disk::Disk;
@@ -46,6 +47,29 @@ fn copies_at(places: &[Dva]) -> Copies
     }
 }
 
+/// Takes the blocks of the plan as blocks that are there, in each vdev.
+fn keep_plans(spaces: &mut Vec<VdevSpace>)
+    ensures count { length spaces.new.items ≡ length spaces.old.items }
+    ensures shapes { shapes_of spaces.new.items ≡ shapes_of spaces.old.items }
+    ensures filled { HaveMarks spaces.old.items planned spaces.new.items filled }
+{
+    for vdev in 0..spaces.len() {
+        spaces[vdev].keep_planned();
+    }
+}
+
+/// Drops the blocks of the plan, in each vdev.
+fn drop_plans(spaces: &mut Vec<VdevSpace>)
+    ensures count { length spaces.new.items ≡ length spaces.old.items }
+    ensures shapes { shapes_of spaces.new.items ≡ shapes_of spaces.old.items }
+    ensures filled { HaveMarks spaces.old.items filled spaces.new.items filled }
+    ensures planned { HaveMarks spaces.old.items filled spaces.new.items planned }
+{
+    for vdev in 0..spaces.len() {
+        spaces[vdev].drop_planned();
+    }
+}
+
 impl<D: Disk + Drop> BlockStore<D> {
     /// Begins a plan, and drops the one before it. Nothing is due.
     pub fn begin_plan(&mut self)
@@ -58,9 +82,7 @@ impl<D: Disk + Drop> BlockStore<D> {
         ensures plans { (stored : Contents) → Holds self.old stored → Plans self.new stored stored }
     {
         self.due.clear();
-        for space in self.spaces.as_mut_slice() {
-            space.drop_planned();
-        }
+        drop_plans(&mut self.spaces);
     }
 
     /// Ends a plan of which nothing is due: its blocks are stored.
@@ -71,9 +93,7 @@ impl<D: Disk + Drop> BlockStore<D> {
         ensures due { self.new.due ≡ self.old.due }
         ensures stored { (stored planned : Contents) → Plans self.old stored planned → self.old.due ≡ [] → Holds self.new planned }
     {
-        for space in self.spaces.as_mut_slice() {
-            space.keep_planned();
-        }
+        keep_plans(&mut self.spaces);
     }
 
     /// Adds a block to the plan: it places so many copies, each in another vdev while one has room, then in other

@@ -1,29 +1,17 @@
-use Rattle.std.proofs.Common.{rules, ◌≡◌, ◌≤◌, ◌<◌, ◌+◌, ◌*◌, ◌^◌, ◌⊎◌, ℕ, List, All, Contains, false, filter, not, length, [], ◌++◌, OnOk, OnErr, IfOk, IfErr, ◌-◌, ◌/◌, ◌%◌, Bool, true, nat_eq, nat_lt, ◌∷◌, slice_index_or, slice_set, bit_and, bit_or, Fits, w8, w32, w64, Bor, MutBor}
-use Rattle.block_pointer.specs.Copies.{dvas}
-use Rattle.raidz_io.specs.declared.writes.ColumnWrite.{ColumnWrite}
-use Rattle.raidz_io.specs.Places.{CanHold, IsOnDisks}
-use Rattle.block_store.specs.Blocks.{Contents, Adds, FitsNew, IsBlockOf, count_of}
-use Rattle.block_store.specs.Places.{shapes_of, AreChosen, RanOut, IsPlaceIn, IsExtentAt}
-use Rattle.block_store.specs.Plans.{Plans, KeepsPlans, AreWritesAt}
-use Rattle.block_store.specs.Store.{Holds, Keeps, is_out}
+use Rattle.std.proofs.Common.{◌≡◌, ◌<◌, [], Contains, refl, sym, ap, ◌∙◌, subst, arith}
+use Rattle.block_store.specs.Store.{Store, Holds}
+use Rattle.block_store.proofs.Planning.{begun, nothing}
+use Rattle.block_store.proofs.Taking.{laid_out_too}
 use Rattle.block_store.proofs.store.BlockStore.begin_plan.Goals as goal
 
--- src/plan.rt:61:9
-pub loop-space-init : goal.loop-space-init
-loop-space-init g c = ?
-
--- src/plan.rt:61:22
 pub invariant_of-self : goal.invariant_of-self
-invariant_of-self g c = ?
+invariant_of-self g c = record {
+  laid_out = laid_out_too c.self.inside.disks.starts c.self.inside.spaces.items _ c.drop_plans.ensures.shapes c.self.invariant.laid_out;
+  disks = c.self.invariant.disks;
+  due = λ write held. absurd (nothing write (subst (λ xs. Contains xs write) c.clear.ensures.items held));
+}
 
--- src/plan.rt:61:9
-pub loop-space-preserved : goal.loop-space-preserved
-loop-space-preserved g c = ?
-
--- src/plan.rt:51:5
-pub returns-clause-shapes : goal.returns-clause-shapes
-returns-clause-shapes g c = ?
-
--- src/plan.rt:51:5
 pub returns-clause-plans : goal.returns-clause-plans
-returns-clause-plans g c = ?
+returns-clause-plans g c stored holds =
+    begun _ _ (record { disks = refl; out = refl; shapes = c.drop_plans.ensures.shapes; are = c.drop_plans.ensures.filled }) c.drop_plans.ensures.planned c.clear.ensures.items stored
+    (subst (λ (s : Store). Holds s stored) (sym c.self.view_is) holds)

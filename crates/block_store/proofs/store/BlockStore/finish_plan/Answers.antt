@@ -1,29 +1,19 @@
-use Rattle.std.proofs.Common.{rules, ◌≡◌, ◌≤◌, ◌<◌, ◌+◌, ◌*◌, ◌^◌, ◌⊎◌, ℕ, List, All, Contains, false, filter, not, length, [], ◌++◌, OnOk, OnErr, IfOk, IfErr, ◌-◌, ◌/◌, ◌%◌, Bool, true, nat_eq, nat_lt, ◌∷◌, slice_index_or, slice_set, bit_and, bit_or, Fits, w8, w32, w64, Bor, MutBor}
-use Rattle.block_pointer.specs.Copies.{dvas}
-use Rattle.raidz_io.specs.declared.writes.ColumnWrite.{ColumnWrite}
-use Rattle.raidz_io.specs.Places.{CanHold, IsOnDisks}
-use Rattle.block_store.specs.Blocks.{Contents, Adds, FitsNew, IsBlockOf, count_of}
-use Rattle.block_store.specs.Places.{shapes_of, AreChosen, RanOut, IsPlaceIn, IsExtentAt}
-use Rattle.block_store.specs.Plans.{Plans, KeepsPlans, AreWritesAt}
-use Rattle.block_store.specs.Store.{Holds, Keeps, is_out}
+use Rattle.std.proofs.Common.{◌≡◌, [], refl, sym, ap, ◌∙◌, subst}
+use Rattle.block_store.specs.Plans.{Plans}
+use Rattle.block_store.specs.Store.{Store}
+use Rattle.block_store.proofs.Planning.{finished}
+use Rattle.block_store.proofs.Taking.{laid_out_too}
 use Rattle.block_store.proofs.store.BlockStore.finish_plan.Goals as goal
 
--- src/plan.rt:74:9
-pub loop-space-init : goal.loop-space-init
-loop-space-init g c = ?
-
--- src/plan.rt:74:22
 pub invariant_of-self : goal.invariant_of-self
-invariant_of-self g c = ?
+invariant_of-self g c = record {
+  laid_out = laid_out_too c.self.inside.disks.starts c.self.inside.spaces.items _ c.keep_plans.ensures.shapes c.self.invariant.laid_out;
+  disks = c.self.invariant.disks;
+  due = c.self.invariant.due;
+}
 
--- src/plan.rt:74:9
-pub loop-space-preserved : goal.loop-space-preserved
-loop-space-preserved g c = ?
-
--- src/plan.rt:67:5
-pub returns-clause-shapes : goal.returns-clause-shapes
-returns-clause-shapes g c = ?
-
--- src/plan.rt:67:5
 pub returns-clause-stored : goal.returns-clause-stored
-returns-clause-stored g c = ?
+returns-clause-stored g c stored planned plans none =
+    finished _ _ (record { disks = refl; out = refl; shapes = c.keep_plans.ensures.shapes; are = c.keep_plans.ensures.filled })
+    (ap (λ (s : Store). s.due) c.self.view_is ∙ none) stored planned
+    (subst (λ (s : Store). Plans s stored planned) (sym c.self.view_is) plans)

@@ -1,15 +1,28 @@
-use Rattle.std.proofs.Common.{rules, ◌≡◌, ◌<◌, ◌∷◌, ℕ, List, true, ◌↔◌, length, IsOk, OnOk, IfErr, ◌+◌, ◌-◌, ◌*◌, ◌≤◌, ◌/◌, ◌%◌, Bool, false, nat_eq, nat_lt, [], ◌++◌, slice_index_or, slice_set, bit_and, bit_or, Fits, w8, w32, w64, Bor, MutBor}
-use Rattle.model_disk.specs.Call.{write_call, flush_call}
-use Rattle.model_disk.specs.Joint.{on}
-use Rattle.raidz_io.specs.declared.writes.ColumnWrite.{ColumnWrite}
-use Rattle.block_store.specs.Plans.{KeepsPlans}
-use Rattle.block_store.specs.Store.{Keeps, IsOutToo}
+use Rattle.std.proofs.Common.{ℕ, ◌≡◌, ◌∷◌, IfErr, OnOk, is_ok, sym, ap, ◌∙◌, subst}
+use Rattle.model_disk.specs.Call.{flush_call}
+use Rattle.model_disk.specs.Joint.{Disks, on}
+use Rattle.block_store.specs.Store.{Store, IsOutToo}
+use Rattle.block_store.proofs.Calling.{flushed, same_flush_call}
+use Rattle.block_store.proofs.Kept.{IsKept, keeps, keeps_plans}
+use Rattle.block_store.proofs.store.BlockStore.flush.Given.{Over}
 use Rattle.block_store.proofs.store.BlockStore.flush.Goals as goal
 
--- src/device.rt:41:5
-pub returns-clause-keeps : goal.returns-clause-keeps
-returns-clause-keeps g c = ?
+kept : (g : Over) (c : goal.After-note g) → IsKept c.args.self.now c.note.new.self
+kept g c =
+    let answers : is_ok c.note.result ≡ is_ok c.flush-answer.result = c.note.ensures.ok ∙ c.is_ok.ensures.value in
+    let calls : c.note.new.self.disks.calls ≡ on c.args.disk (flush_call c.note.result) ∷ c.args.self.now.disks.calls =
+    ap (λ (d : Disks). d.calls) c.note.ensures.disks ∙ c.flush-answer.ensures.calls
+    ∙ ap (λ made. on c.args.disk made ∷ c.self.inside.disks.calls) (sym (same_flush_call c.note.result c.flush-answer.result answers))
+    ∙ ap (λ (s : Store). on c.args.disk (flush_call c.note.result) ∷ s.disks.calls) c.self.view_is in
+    flushed c.args.self.now c.note.new.self c.args.disk c.note.result
+    (ap (λ (d : Disks). d.starts) c.note.ensures.disks ∙ c.flush-answer.ensures.starts ∙ ap (λ (s : Store). s.disks.starts) c.self.view_is)
+    (c.note.ensures.spaces ∙ ap (λ (s : Store). s.spaces) c.self.view_is)
+    (c.note.ensures.due ∙ ap (λ (s : Store). s.due) c.self.view_is) calls
+    (subst (λ (s : Store). OnOk c.note.result (c.note.new.self.out ≡ s.out)) c.self.view_is c.note.ensures.out)
+    (subst (λ (s : Store). IfErr c.note.result (λ failed. IsOutToo s.out c.args.disk c.note.new.self.out)) c.self.view_is c.note.ensures.out_too)
 
--- src/device.rt:41:5
+pub returns-clause-keeps : goal.returns-clause-keeps
+returns-clause-keeps g c = keeps c.blocks_beside_others.ensures.kept c.blocks_beside_others.ensures.more_absent c.args.self.now c.note.new.self (kept g c)
+
 pub returns-clause-plans : goal.returns-clause-plans
-returns-clause-plans g c = ?
+returns-clause-plans g c = keeps_plans c.blocks_beside_others.ensures.kept c.blocks_beside_others.ensures.more_absent c.args.self.now c.note.new.self (kept g c)

@@ -1,0 +1,265 @@
+-- A block that a plan adds.
+use Rattle.std.proofs.Common.{ℕ, zero, suc, ◌≡◌, ◌≢◌, ◌⊎◌, inl, inr, ◌+◌, ◌*◌, ◌<◌, ◌≤◌, Bool, true, false, if◌then◌else◌, Option, Some, None, List, [], ◌∷◌, ◌++◌, length, Contains, refl, sym, ap, subst, ◌∙◌, arith}
+use Rattle.std.specs.Prelude.{map, unwrap_or}
+use Rattle.std.specs.List.{slice_get}
+use Rattle.std.proofs.lemmas.List.Elements.{Contains-append_left, Contains-append_right, Contains-append_cases}
+use Rattle.std.proofs.lemmas.Option.{slice_get_within}
+use Rattle.model_disk.specs.Joint.{Disks, content}
+use Rattle.block_pointer.specs.declared.block.Block.{Block}
+use Rattle.block_pointer.specs.declared.copies.Copies.{Copies}
+use Rattle.block_pointer.specs.declared.copies.Copies.TheVariants.{One, Two, Three}
+use Rattle.block_pointer.specs.declared.dva.Dva.{Dva}
+use Rattle.block_pointer.specs.Copies.{dvas}
+use Rattle.raidz_io.specs.declared.vdev.Extent.{Extent}
+use Rattle.raidz_io.specs.declared.writes.ColumnWrite.{ColumnWrite}
+use Rattle.raidz_io.specs.Stands.{IsDone}
+use Rattle.raidz_io.proofs.Written.{same_some, slice_get_some}
+use Rattle.block_store.specs.declared.space.VdevSpace.{VdevSpace}
+use Rattle.block_store.specs.Blocks.{Contents, Extends, Adds, IsWrittenAs}
+use Rattle.block_store.specs.Places.{shapes_of, IsTaken, IsCopy, IsExtentAt, ArePlacesApart, AreChosen}
+use Rattle.block_store.specs.Places.{filled as filled_marks, planned as planned_marks}
+use Rattle.block_store.specs.Plans.{Plans, IsOnTheWay, IsDueFor, AreWritesAt}
+use Rattle.block_store.specs.Store.{Store, outs, outs_from, ArePlaced}
+use Rattle.block_store.proofs.Planning.{IsSameBut, keeps_by, marks_by_map, some_or_none}
+use Rattle.block_store.proofs.SameBlock.{same_block, block_is, block_itself}
+use Rattle.block_store.proofs.Sizes.{asize_some}
+use Rattle.block_store.proofs.Taking.{Grows, AreTakenToo, are_taken, taken_too, copy_too, extent_too, turned}
+
+-- the contents with this block
+with_block : Block → List ℕ → Contents → Contents
+with_block block bytes planned other = if same_block other block then Some bytes else planned other
+
+-- the writes of each copy, with those of this block
+with_copies : Block → List (List ColumnWrite) → (Block → ℕ → List ColumnWrite) → Block → ℕ → List ColumnWrite
+with_copies block copies before other i = if same_block other block then unwrap_or (slice_get copies i) [] else before other i
+
+-- a block that was placed, written and is now planned
+pub record IsNewBlock (old new : Store) (block : Block) (bytes : List ℕ) (places : List Dva) (writes : List ColumnWrite) : Type 0 where
+  pub disks : new.disks ≡ old.disks
+  pub out : new.out ≡ old.out
+  pub due : new.due ≡ old.due ++ writes
+  pub chosen : AreChosen old.spaces [] block.property.sectors places new.spaces
+  pub copies_at : dvas block.copies ≡ places
+  pub written : IsWrittenAs block bytes
+  pub mid : Store
+  pub mid_spaces : mid.spaces ≡ new.spaces
+  pub mid_out : mid.out ≡ new.out
+  pub writes_at : AreWritesAt mid block.property.sectors bytes places writes
+
+-- a place is not apart from itself
+not_apart : (place : Dva) → 0 < place.allocated → ¬ ArePlacesApart place place
+not_apart place some (inl differ) = differ refl
+not_apart place some (inr (inl before)) = absurd (omega (arith, before, some))
+not_apart place some (inr (inr after)) = absurd (omega (arith, after, some))
+
+first_copy : (copies : Copies) → (place : Dva) × (slice_get (dvas copies) 0 ≡ Some place)
+first_copy (One a) = (a, refl)
+first_copy (Two a b) = (a, refl)
+first_copy (Three a b c) = (a, refl)
+
+-- the block was not known
+is_fresh : (old new : Store) (block : Block) (bytes : List ℕ) (places : List Dva) (writes : List ColumnWrite) (planned : Contents)
+    → IsNewBlock old new block bytes places writes → ArePlaced old.spaces planned_marks planned → planned block ≡ None
+is_fresh old new block bytes places writes planned is placed =
+    let taken : AreTakenToo old.spaces block.property.sectors places new.spaces = are_taken old.spaces [] block.property.sectors places new.spaces is.chosen in
+    let first = first_copy block.copies in
+    let at : slice_get places 0 ≡ Some first.0 = ap (λ xs. slice_get xs 0) (sym is.copies_at) ∙ first.1 in
+    elim (some_or_none (planned block)) [
+      | inr none ↦ none
+      | inl (known, is_known) ↦
+          let was : IsTaken old.spaces planned_marks block.property.sectors first.0 = placed.places block known 0 first.0 is_known first.1 in
+          let some : 0 < first.0.allocated = omega (arith, was.is_place.allocated, asize_some was.space.shape.vdev.geometry block.property.sectors is.written.fits.property.not_empty) in
+          absurd (not_apart first.0 some (taken.from_others 0 block.property.sectors first.0 first.0 at was))
+    ]
+
+if_yes : {X : Type 0} (test : Bool) (x y : X) → test ≡ true → (if test then x else y) ≡ x
+if_yes true x y is = refl
+if_yes false x y is = absurd (cc)
+
+if_no : {X : Type 0} (test : Bool) (x y : X) → test ≡ false → (if test then x else y) ≡ y
+if_no true x y is = absurd (cc)
+if_no false x y is = refl
+
+either : (test : Bool) → (test ≡ true) ⊎ (test ≡ false)
+either true = inl refl
+either false = inr refl
+
+-- a block that was known is another
+is_other : (block other : Block) (planned : Contents) (known : List ℕ) → planned block ≡ None → planned other ≡ Some known → same_block other block ≡ false
+is_other block other planned known fresh is = elim (either (same_block other block)) [
+  | inr no ↦ no
+  | inl yes ↦ absurd (let e : Some known ≡ None = sym is ∙ ap planned (block_is other block yes) ∙ fresh in cc)
+]
+
+-- each block that is known now is this one, or was known
+this_or_known : (block other : Block) (bytes known : List ℕ) (planned : Contents) → with_block block bytes planned other ≡ Some known
+    → ((other ≡ block) × (known ≡ bytes)) ⊎ (planned other ≡ Some known)
+unfolding with_block
+this_or_known block other bytes known planned is = elim (either (same_block other block)) [
+  | inl yes ↦ inl (block_is other block yes, same_some known bytes (sym is ∙ if_yes (same_block other block) (Some bytes) (planned other) yes))
+  | inr no ↦ inr (sym (if_no (same_block other block) (Some bytes) (planned other) no) ∙ is)
+]
+
+still_known : (block other : Block) (bytes known : List ℕ) (planned : Contents) → planned block ≡ None → planned other ≡ Some known
+    → with_block block bytes planned other ≡ Some known
+unfolding with_block
+still_known block other bytes known planned fresh is =
+    if_no (same_block other block) (Some bytes) (planned other) (is_other block other planned known fresh is) ∙ is
+
+now_known : (block : Block) (bytes : List ℕ) (planned : Contents) → with_block block bytes planned block ≡ Some bytes
+unfolding with_block
+now_known block bytes planned = if_yes (same_block block block) (Some bytes) (planned block) (block_itself block)
+
+their_copies : (block other : Block) (copies : List (List ColumnWrite)) (before : Block → ℕ → List ColumnWrite) (i : ℕ) (planned : Contents) (known : List ℕ)
+    → planned block ≡ None → planned other ≡ Some known → with_copies block copies before other i ≡ before other i
+unfolding with_copies
+their_copies block other copies before i planned known fresh is =
+    if_no (same_block other block) (unwrap_or (slice_get copies i) []) (before other i) (is_other block other planned known fresh is)
+
+its_copies : (block : Block) (copies : List (List ColumnWrite)) (before : Block → ℕ → List ColumnWrite) (i : ℕ) (copy : List ColumnWrite)
+    → slice_get copies i ≡ Some copy → with_copies block copies before block i ≡ copy
+unfolding with_copies
+its_copies block copies before i copy at =
+    if_yes (same_block block block) (unwrap_or (slice_get copies i) []) (before block i) (block_itself block) ∙ ap (λ found. unwrap_or found []) at
+
+-- all that is known is placed
+placed_with : (old new : Store) (block : Block) (bytes : List ℕ) (places : List Dva) (writes : List ColumnWrite) (planned : Contents)
+    → IsNewBlock old new block bytes places writes → ArePlaced old.spaces planned_marks planned → ArePlaced new.spaces planned_marks (with_block block bytes planned)
+placed_with old new block bytes places writes planned is placed =
+    let taken : AreTakenToo old.spaces block.property.sectors places new.spaces = are_taken old.spaces [] block.property.sectors places new.spaces is.chosen in
+    record {
+      blocks = λ other known found. elim (this_or_known block other bytes known planned found) [
+        | inl (this, same) ↦ subst (λ b. IsWrittenAs b known) (sym this) (subst (λ x. IsWrittenAs block x) (sym same) is.written)
+        | inr was ↦ placed.blocks other known was
+      ];
+      places = λ other known i place found at. elim (this_or_known block other bytes known planned found) [
+        | inl (this, same) ↦
+            let here : slice_get places i ≡ Some place = ap (λ xs. slice_get xs i) (sym is.copies_at) ∙ ap (λ (b : Block). slice_get (dvas b.copies) i) (sym this) ∙ at in
+            subst (λ (b : Block). IsTaken new.spaces planned_marks b.property.sectors place) (sym this) (taken.taken i place here)
+        | inr was ↦ taken_too old.spaces new.spaces planned_marks planned_marks other.property.sectors place taken.grows (placed.places other known i place was at)
+      ];
+      apart = λ first second known known' i k place behind found found' at at'.
+          elim (this_or_known block first bytes known planned found) [
+            | inl (this, same) ↦
+                let here : slice_get places i ≡ Some place = ap (λ xs. slice_get xs i) (sym is.copies_at) ∙ ap (λ (b : Block). slice_get (dvas b.copies) i) (sym this) ∙ at in
+                elim (this_or_known block second bytes known' planned found') [
+                  | inl (this', same') ↦
+                      let here' : slice_get places k ≡ Some behind = ap (λ xs. slice_get xs k) (sym is.copies_at) ∙ ap (λ (b : Block). slice_get (dvas b.copies) k) (sym this') ∙ at' in
+                      elim (taken.apart i k place behind here here') [ inl one ↦ inl (this ∙ sym this', one) | inr apart ↦ inr apart ]
+                  | inr was ↦ inr (taken.from_others i second.property.sectors place behind here (placed.places second known' k behind was at'))
+                ]
+            | inr was ↦ elim (this_or_known block second bytes known' planned found') [
+                | inl (this', same') ↦
+                    let here' : slice_get places k ≡ Some behind = ap (λ xs. slice_get xs k) (sym is.copies_at) ∙ ap (λ (b : Block). slice_get (dvas b.copies) k) (sym this') ∙ at' in
+                    inr (turned behind place (taken.from_others k first.property.sectors behind place here' (placed.places first known i place was at)))
+                | inr was' ↦ placed.apart first second known known' i k place behind was was' at at'
+              ]
+          ];
+    }
+
+-- the copies of the block are on the way
+its_way : (old new : Store) (block : Block) (bytes : List ℕ) (places : List Dva) (writes : List ColumnWrite) (before : Block → ℕ → List ColumnWrite)
+    → (is : IsNewBlock old new block bytes places writes) → (i : ℕ) (extent : Extent) → IsCopy new.spaces block i extent
+    → IsOnTheWay new (with_copies block is.writes_at.copies before block i) extent bytes
+its_way old new block bytes places writes before is i extent copy =
+    let at : slice_get places i ≡ Some copy.place = ap (λ xs. slice_get xs i) (sym is.copies_at) ∙ copy.is_copy in
+    let within : i < length is.writes_at.copies = omega (arith, slice_get_within places i copy.place at, is.writes_at.count) in
+    let found = slice_get_some is.writes_at.copies i within in
+    let extent_is : IsExtentAt is.mid.spaces block.property.sectors copy.place extent =
+    subst (λ s. IsExtentAt s block.property.sectors copy.place extent) (sym is.mid_spaces) copy.extent_is in
+    let stores = is.writes_at.would_store i copy.place found.0 extent at found.1 extent_is in
+    subst (λ them. IsOnTheWay new them extent bytes) (sym (its_copies block is.writes_at.copies before i found.0 found.1)) (record {
+      would_store = stores.0;
+      columns = stores.1;
+      each = λ write of present.
+          let not_out : ¬ Contains (outs is.mid) write.disk = subst (λ o. ¬ Contains (outs_from 0 o) write.disk) (sym is.mid_out) present in
+          inr (subst (λ xs. Contains xs write) (sym is.due) (Contains-append_right old.due writes write (is.writes_at.each i found.0 write found.1 of not_out)));
+    })
+
+-- those that were on the way are so still
+their_way : (old new : Store) (block : Block) (bytes : List ℕ) (places : List Dva) (writes their_writes : List ColumnWrite) (extent : Extent) (known : List ℕ)
+    → IsNewBlock old new block bytes places writes → IsOnTheWay old their_writes extent known → IsOnTheWay new their_writes extent known
+their_way old new block bytes places writes their_writes extent known is way = record {
+  would_store = way.would_store;
+  columns = way.columns;
+  each = λ write of present.
+      let not_out : ¬ Contains (outs old) write.disk = subst (λ o. ¬ Contains (outs_from 0 o) write.disk) is.out present in
+      elim (way.each write of not_out) [
+        | inl done ↦ inl (subst (λ (d : Disks). IsDone (content d) write) (sym is.disks) done)
+        | inr due ↦ inr (subst (λ xs. Contains xs write) (sym is.due) (Contains-append_left old.due writes write due))
+      ];
+}
+
+-- the block is planned
+pub added : (old new : Store) (block : Block) (bytes : List ℕ) (places : List Dva) (writes : List ColumnWrite) (stored planned : Contents)
+    → IsNewBlock old new block bytes places writes → Plans old stored planned → (later : Contents) × Plans new stored later × Adds planned later block bytes
+added old new block bytes places writes stored planned is plans =
+    let taken : AreTakenToo old.spaces block.property.sectors places new.spaces = are_taken old.spaces [] block.property.sectors places new.spaces is.chosen in
+    let fresh : planned block ≡ None = is_fresh old new block bytes places writes planned is plans.placed in
+    let later : Contents = with_block block bytes planned in
+    let of_copies : Block → ℕ → List ColumnWrite = with_copies block is.writes_at.copies plans.writes_of in
+    (later,
+    record {
+      held = keeps_by old new (record {
+        disks = is.disks;
+        out = is.out;
+        shapes = taken.grows.shapes;
+        are = marks_by_map filled_marks old.spaces new.spaces taken.filled_stays;
+      }) stored plans.held;
+      kept = λ other known found. still_known block other bytes known planned fresh (plans.kept other known found);
+      placed = placed_with old new block bytes places writes planned is plans.placed;
+      writes_of = of_copies;
+      on_the_way = λ other known i extent found unknown copy. elim (this_or_known block other bytes known planned found) [
+        | inl (this, same) ↦
+            subst (λ b. IsOnTheWay new (of_copies b i) extent known) (sym this) (subst (λ x. IsOnTheWay new (of_copies block i) extent x) (sym same)
+            (its_way old new block bytes places writes plans.writes_of is i extent (subst (λ b. IsCopy new.spaces b i extent) this copy)))
+        | inr was ↦
+            let old_copy : IsCopy old.spaces other i extent = copy_too new.spaces old.spaces other i extent (sym taken.grows.shapes) copy in
+            subst (λ them. IsOnTheWay new them extent known) (sym (their_copies block other is.writes_at.copies plans.writes_of i planned known fresh was))
+            (their_way old new block bytes places writes (plans.writes_of other i) extent known is (plans.on_the_way other known i extent was unknown old_copy))
+      ];
+      due = λ write held. elim (Contains-append_cases old.due writes write (subst (λ xs. Contains xs write) is.due held)) [
+        | inl before ↦
+            let was : IsDueFor old stored planned plans.writes_of write = plans.due write before in
+            record {
+              block = was.block;
+              bytes = was.bytes;
+              i = was.i;
+              extent = was.extent;
+              is_planned = still_known block was.block bytes was.bytes planned fresh was.is_planned;
+              is_new = was.is_new;
+              is_copy = copy_too old.spaces new.spaces was.block was.i was.extent taken.grows.shapes was.is_copy;
+              is_of_copy = subst (λ xs. Contains xs write) (sym (their_copies block was.block is.writes_at.copies plans.writes_of was.i planned was.bytes fresh was.is_planned)) was.is_of_copy;
+            }
+        | inr here ↦
+            let of = is.writes_at.only write here in
+            let at : (place : Dva) × (slice_get places of.0 ≡ Some place) =
+            slice_get_some places of.0 (omega (arith, slice_get_within is.writes_at.copies of.0 of.1 of.2, is.writes_at.count)) in
+            let extent = is.writes_at.extents of.0 at.0 at.1 in
+            record {
+              block = block;
+              bytes = bytes;
+              i = of.0;
+              extent = extent.0;
+              is_planned = now_known block bytes planned;
+              is_new = not_stored (stored block) refl;
+              is_copy = record {
+                place = at.0;
+                is_copy = ap (λ xs. slice_get xs of.0) is.copies_at ∙ at.1;
+                extent_is = subst (λ s. IsExtentAt s block.property.sectors at.0 extent.0) is.mid_spaces extent.1;
+              };
+              is_of_copy = subst (λ xs. Contains xs write) (sym (its_copies block is.writes_at.copies plans.writes_of of.0 of.1 of.2)) of.3;
+            }
+      ];
+    },
+    record {
+      fresh = fresh;
+      added = now_known block bytes planned;
+      kept = λ other known found. still_known block other bytes known planned fresh found;
+      only = λ other known found. this_or_known block other bytes known planned found;
+    })
+  where
+    not_stored : (found : Option (List ℕ)) → stored block ≡ found → stored block ≡ None
+    not_stored None is' = is'
+    not_stored (Some known) is' =
+        absurd (let e : Some known ≡ None = sym (plans.kept block known is') ∙ is_fresh old new block bytes places writes planned is plans.placed in cc)

@@ -1,0 +1,87 @@
+-- Device calls.
+use Rattle.std.proofs.Common.{ℕ, ◌≡◌, ◌≢◌, ◌⊎◌, inl, inr, ◌+◌, ◌<◌, ◌≤◌, Bool, true, false, List, [], ◌∷◌, length, Contains, Result, Ok, Err, OnOk, IfErr, is_ok, refl, sym, ap, subst, ◌∙◌, arith}
+use Rattle.std.proofs.lemmas.Bool.{cases_eq}
+use Rattle.model_disk.specs.Call.{Call, Wrote, FailedWrite, Flushed, FailedFlush, write_call, flush_call}
+use Rattle.model_disk.specs.Contents.{touches}
+use Rattle.model_disk.specs.Joint.{Disks, on, content}
+use Rattle.model_disk.proofs.ContentsLemmas.{covers-outside}
+use Rattle.model_disk.proofs.LawLemmas.{written_bytes_stand, other_bytes_stay}
+use Rattle.raidz_io.specs.declared.writes.ColumnWrite.{ColumnWrite}
+use Rattle.raidz_io.specs.Elsewhere.{ChangesOnlyWritten}
+use Rattle.raidz_io.specs.Stands.{IsDone, IsWritten}
+use Rattle.block_store.specs.declared.device.FailedDisk.{FailedDisk}
+use Rattle.block_store.specs.Store.{Store, outs, outs_from, IsOutToo}
+use Rattle.block_store.proofs.Kept.{IsKept}
+use Rattle.block_store.proofs.Outs.{more_out, this_is_out}
+use Rattle.block_store.proofs.Writing.{Makes}
+
+pub same_write_call : {T E U F : Type 0} (result : Result T E) (other : Result U F) (at : ℕ) (bytes : List ℕ) → is_ok result ≡ is_ok other
+    → write_call result at bytes ≡ write_call other at bytes
+same_write_call (Ok x) (Ok y) at bytes same = refl
+same_write_call (Ok x) (Err e) at bytes same = absurd (cc)
+same_write_call (Err e) (Ok y) at bytes same = absurd (cc)
+same_write_call (Err e) (Err f) at bytes same = refl
+
+pub same_flush_call : {T E U F : Type 0} (result : Result T E) (other : Result U F) → is_ok result ≡ is_ok other → flush_call result ≡ flush_call other
+same_flush_call (Ok x) (Ok y) same = refl
+same_flush_call (Ok x) (Err e) same = absurd (cc)
+same_flush_call (Err e) (Ok y) same = absurd (cc)
+same_flush_call (Err e) (Err f) same = refl
+
+-- after a call on this disk those that were out are so, and this one too where the call failed
+pub outs_after : (old new : Store) (result : Result (Unit {0}) FailedDisk) (disk : ℕ) → OnOk result (new.out ≡ old.out)
+    → IfErr result (λ failed. IsOutToo old.out disk new.out) → (other : ℕ) → Contains (outs old) other → Contains (outs new) other
+outs_after old new (Ok x) disk ok err other held = subst (λ out. Contains (outs_from 0 out) other) (sym ok) held
+outs_after old new (Err e) disk ok err other held = more_out old new disk err other held
+
+outside_or_in : (at n i : ℕ) → ((i < at) ⊎ (at + n ≤ i)) ⊎ ((at ≤ i) × (i < at + n))
+outside_or_in at n i = grind arith
+
+untouched : (result : Result (Unit {0}) FailedDisk) (at : ℕ) (bytes : List ℕ) (i : ℕ) → (i < at) ⊎ (at + length bytes ≤ i) → touches (write_call result at bytes) i ≡ false
+untouched (Ok x) at bytes i out = covers-outside at (length bytes) i out
+untouched (Err e) at bytes i out = covers-outside at (length bytes) i out
+
+changes_only : (old new : Disks) (write : ColumnWrite) (result : Result (Unit {0}) FailedDisk) → new.starts ≡ old.starts
+    → new.calls ≡ on write.disk (write_call result write.offset write.bytes.items) ∷ old.calls → ChangesOnlyWritten (content old) (content new) write
+changes_only old new write result starts calls disk i outside =
+    other_bytes_stay old new write.disk (write_call result write.offset write.bytes.items) starts calls disk i (elim (cases_eq disk write.disk) [
+      | inr differ ↦ inl differ
+      | inl same ↦ elim (outside_or_in write.offset (length write.bytes.items) i) [
+          | inl out ↦ inr (untouched result write.offset write.bytes.items i out)
+          | inr (from, before) ↦ absurd (outside (record { which = same; from_first = from; before_end = before }))
+        ]
+    ])
+
+done_or_out : (old new : Store) (write : ColumnWrite) (result : Result (Unit {0}) FailedDisk) → new.disks.starts ≡ old.disks.starts
+    → new.disks.calls ≡ on write.disk (write_call result write.offset write.bytes.items) ∷ old.disks.calls
+    → IfErr result (λ failed. IsOutToo old.out write.disk new.out) → ¬ Contains (outs new) write.disk → IsDone (content new.disks) write
+done_or_out old new write (Ok x) starts calls err present = written_bytes_stand old.disks new.disks write.disk write.offset write.bytes.items starts calls
+done_or_out old new write (Err e) starts calls err present = absurd (present (this_is_out old new write.disk err))
+
+-- the first write that was due was made
+pub made : (old new : Store) (write : ColumnWrite) (result : Result (Unit {0}) FailedDisk) → new.disks.starts ≡ old.disks.starts → new.spaces ≡ old.spaces
+    → old.due ≡ write ∷ new.due → new.disks.calls ≡ on write.disk (write_call result write.offset write.bytes.items) ∷ old.disks.calls
+    → OnOk result (new.out ≡ old.out) → IfErr result (λ failed. IsOutToo old.out write.disk new.out) → Makes old new write
+made old new write result starts spaces due calls ok err = record {
+  starts = starts;
+  spaces = spaces;
+  due = due;
+  others = changes_only old.disks new.disks write result starts calls;
+  done = done_or_out old new write result starts calls err;
+  more_out = outs_after old new result write.disk ok err;
+}
+
+untouched_by_flush : (result : Result (Unit {0}) FailedDisk) (i : ℕ) → touches (flush_call result) i ≡ false
+untouched_by_flush (Ok x) i = refl
+untouched_by_flush (Err e) i = refl
+
+-- a flush changes no byte
+pub flushed : (old new : Store) (disk : ℕ) (result : Result (Unit {0}) FailedDisk) → new.disks.starts ≡ old.disks.starts → new.spaces ≡ old.spaces
+    → new.due ≡ old.due → new.disks.calls ≡ on disk (flush_call result) ∷ old.disks.calls
+    → OnOk result (new.out ≡ old.out) → IfErr result (λ failed. IsOutToo old.out disk new.out) → IsKept old new
+flushed old new disk result starts spaces due calls ok err = record {
+  spaces = spaces;
+  due = due;
+  contents = λ other i. other_bytes_stay old.disks new.disks disk (flush_call result) starts calls other i (inr (untouched_by_flush result i));
+  more_out = outs_after old new result disk ok err;
+}

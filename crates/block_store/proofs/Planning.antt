@@ -1,0 +1,143 @@
+-- Plans that begin, and plans that end.
+use Rattle.std.proofs.Common.{ℕ, zero, suc, ◌≡◌, ◌≢◌, ◌⊎◌, inl, inr, ◌+◌, ◌<◌, ◌≤◌, Bool, Option, Some, None, List, [], ◌∷◌, ◌++◌, length, get_or, Contains, refl, sym, ap, subst, ◌∙◌, arith}
+use Rattle.std.specs.Prelude.{slice_index, slice_index_or, slice_set, map, All}
+use Rattle.std.specs.List.{slice_get}
+use Rattle.std.proofs.lemmas.Bool.{cases_eq}
+use Rattle.std.proofs.lemmas.Option.{slice_get_within}
+use Rattle.model_disk.specs.Joint.{Disks, content}
+use Rattle.block_pointer.specs.declared.block.Block.{Block}
+use Rattle.block_pointer.specs.Copies.{dvas}
+use Rattle.raidz_io.specs.declared.vdev.Extent.{Extent}
+use Rattle.raidz_io.specs.declared.writes.ColumnWrite.{ColumnWrite}
+use Rattle.raidz_io.specs.Stands.{ExtentStands, AreDone, IsDone}
+use Rattle.raidz_io.proofs.Written.{same_some}
+use Rattle.block_store.specs.declared.space.VdevSpace.{VdevSpace}
+use Rattle.block_store.specs.Blocks.{Contents}
+use Rattle.block_store.specs.Places.{Marks, shapes_of, HaveMarks, IsCopy}
+use Rattle.block_store.specs.Places.{filled as filled_marks, planned as planned_marks}
+use Rattle.block_store.specs.Plans.{Plans, IsOnTheWay}
+use Rattle.block_store.specs.Store.{Store, outs, outs_from, ArePlaced, Holds}
+use Rattle.block_store.proofs.Taking.{Grows, placed_too, copy_too, slice_get-set_same, slice_get-set_other}
+
+pub marks_by_map : (marks : Marks) (spaces after : List VdevSpace) → map marks after ≡ map marks spaces → HaveMarks spaces marks after marks
+marks_by_map marks [] after same v space new found found' = absurd (cc)
+marks_by_map marks (s ∷ spaces) [] same v space new found found' = absurd (cc)
+marks_by_map marks (s ∷ spaces) (a ∷ after) same zero space new found found' =
+    let head : marks a ≡ marks s = cc in
+    ap marks (sym (same_some a new found')) ∙ head ∙ ap marks (same_some s space found)
+marks_by_map marks (s ∷ spaces) (a ∷ after) same (suc v) space new found found' =
+    let rest : map marks after ≡ map marks spaces = cc in
+    marks_by_map marks spaces after rest v space new found found'
+
+grows_by : (spaces after : List VdevSpace) (marks later : Marks) → shapes_of after ≡ shapes_of spaces → HaveMarks spaces marks after later → Grows spaces after marks later
+grows_by spaces after marks later shapes are = record {
+  shapes = shapes;
+  more = λ v space new metaslab found found'. omega (arith, ap (λ xs. slice_index xs metaslab) (are v space new found found'));
+}
+
+-- the marks are so of the first vdevs
+abbrev pub HaveMarksBelow : List VdevSpace → Marks → List VdevSpace → Marks → ℕ → Type 0
+HaveMarksBelow spaces marks after later n =
+    (v : ℕ) (space new : VdevSpace) → v < n → slice_get spaces v ≡ Some space → slice_get after v ≡ Some new → later new ≡ marks space
+
+-- one more vdev has them
+pub one_more : (spaces mid : List VdevSpace) (marks later : Marks) (n : ℕ) (item new : VdevSpace) → slice_get mid n ≡ Some item
+    → HaveMarks spaces marks mid marks → HaveMarksBelow spaces marks mid later n → marks new ≡ marks item → later new ≡ marks item
+    → HaveMarks spaces marks (slice_set mid n new) marks × HaveMarksBelow spaces marks (slice_set mid n new) later (n + 1)
+one_more spaces mid marks later n item new at are below same changed =
+    (λ v space there found found'. elim (cases_eq v n) [
+      | inl here ↦
+          let is_new : new ≡ there = slice_get-set_same mid n new there (ap (λ k. slice_get (slice_set mid n new) k) (sym here) ∙ found') in
+          ap marks (sym is_new) ∙ same ∙ are v space item found (ap (λ k. slice_get mid k) here ∙ at)
+      | inr other ↦ are v space there found (sym (slice_get-set_other mid n v new (λ is. other (sym is))) ∙ found')
+    ],
+    λ v space there less found found'. elim (cases_eq v n) [
+      | inl here ↦
+          let is_new : new ≡ there = slice_get-set_same mid n new there (ap (λ k. slice_get (slice_set mid n new) k) (sym here) ∙ found') in
+          ap later (sym is_new) ∙ changed ∙ are v space item found (ap (λ k. slice_get mid k) here ∙ at)
+      | inr other ↦ below v space there (omega (arith, less, other)) found (sym (slice_get-set_other mid n v new (λ is. other (sym is))) ∙ found')
+    ])
+
+pub all_below : (spaces after : List VdevSpace) (marks later : Marks) (n : ℕ) → length spaces ≤ n → HaveMarksBelow spaces marks after later n → HaveMarks spaces marks after later
+all_below spaces after marks later n all below v space new found found' = below v space new (omega (arith, all, slice_get_within spaces v space found)) found found'
+
+pub same_marks : (spaces : List VdevSpace) (marks : Marks) → HaveMarks spaces marks spaces marks
+same_marks spaces marks v space new found found' = ap marks (same_some new space (sym found' ∙ found))
+
+-- a store with the same disks and the same marks holds what it held
+held_by : (old new : Store) (marks : Marks) (stored : Contents) → new.disks ≡ old.disks → new.out ≡ old.out → shapes_of new.spaces ≡ shapes_of old.spaces
+    → ArePlaced new.spaces filled_marks stored
+    → ((block : Block) (bytes : List ℕ) (i : ℕ) (extent : Extent) → stored block ≡ Some bytes → IsCopy old.spaces block i extent
+        → ExtentStands (content old.disks) (outs old) extent bytes)
+    → Holds new stored
+held_by old new marks stored disks out shapes placed stand = record {
+  placed = placed;
+  stand = λ block bytes i extent known copy.
+      let stood = stand block bytes i extent known (copy_too new.spaces old.spaces block i extent (sym shapes) copy) in
+      let P : Disks → Type 0 = λ d. ExtentStands (content d) (outs old) extent bytes in
+      let Q : List Bool → Type 0 = λ o. ExtentStands (content new.disks) (outs_from 0 o) extent bytes in
+      subst Q (sym out) (subst P (sym disks) stood);
+}
+
+no_contents : {X : Type 0} (x : X) (found : Option X) → found ≡ Some x → ¬ (found ≡ None)
+no_contents x found is none = absurd (let e : Some x ≡ None = sym is ∙ none in cc)
+
+-- what a store keeps: its disks, the vdevs and their marks
+pub record IsSameBut (old new : Store) (marks later : Marks) : Type 0 where
+  pub disks : new.disks ≡ old.disks
+  pub out : new.out ≡ old.out
+  pub shapes : shapes_of new.spaces ≡ shapes_of old.spaces
+  pub are : HaveMarks old.spaces marks new.spaces later
+
+pub keeps_by : (old new : Store) → IsSameBut old new filled_marks filled_marks → (stored : Contents) → Holds old stored → Holds new stored
+keeps_by old new same stored holds =
+    held_by old new filled_marks stored same.disks same.out same.shapes
+    (placed_too old.spaces new.spaces filled_marks filled_marks stored (grows_by old.spaces new.spaces filled_marks filled_marks same.shapes same.are) holds.placed)
+    holds.stand
+
+pub nothing : (write : ColumnWrite) → ¬ Contains [] write
+nothing write (k, within, is) = absurd (omega arith)
+
+-- a plan begins
+pub begun : (old new : Store) → IsSameBut old new filled_marks filled_marks → HaveMarks old.spaces filled_marks new.spaces planned_marks → new.due ≡ []
+    → (stored : Contents) → Holds old stored → Plans new stored stored
+begun old new same planned none stored holds = record {
+  held = keeps_by old new same stored holds;
+  kept = λ block bytes known. known;
+  placed = placed_too old.spaces new.spaces filled_marks planned_marks stored (grows_by old.spaces new.spaces filled_marks planned_marks same.shapes planned) holds.placed;
+  writes_of = λ block i. [];
+  on_the_way = λ block bytes i extent known fresh copy. absurd (no_contents bytes (stored block) known fresh);
+  due = λ write held. absurd (nothing write (subst (λ xs. Contains xs write) none held));
+}
+pub some_or_none : {X : Type 0} (found : Option X) → ((x : X) × (found ≡ Some x)) ⊎ (found ≡ None)
+some_or_none (Some x) = inl (x, refl)
+some_or_none None = inr refl
+
+-- what is on the way stands once nothing is due
+arrived : (store : Store) (writes : List ColumnWrite) (extent : Extent) (bytes : List ℕ) → store.due ≡ [] → IsOnTheWay store writes extent bytes
+    → ExtentStands (content store.disks) (outs store) extent bytes
+arrived store writes extent bytes none way =
+    way.would_store (content store.disks) (outs store) (all_done writes (λ write of present. elim (way.each write of present) [
+      | inl done ↦ done
+      | inr due ↦ absurd (nothing write (subst (λ xs. Contains xs write) none due))
+    ]))
+  where
+    is_there : (them : List ColumnWrite) (i : ℕ) (write : ColumnWrite) → i < length them → slice_index_or them i (get_or them i write) ≡ get_or them i write
+    is_there [] i write within = absurd (omega arith)
+    is_there (w ∷ them) zero write within = refl
+    is_there (w ∷ them) (suc i) write within = is_there them i write (omega arith)
+    all_done : (them : List ColumnWrite) → ((write : ColumnWrite) → Contains them write → ¬ Contains (outs store) write.disk → IsDone (content store.disks) write)
+        → AreDone (content store.disks) (outs store) them
+    all_done them each = λ i write within present. each (get_or them i write) (i, within, is_there them i write within) present
+
+-- a plan ends
+pub finished : (old new : Store) → IsSameBut old new planned_marks filled_marks → old.due ≡ [] → (stored planned : Contents) → Plans old stored planned → Holds new planned
+finished old new same none stored planned plans =
+    held_by old new filled_marks planned same.disks same.out same.shapes
+    (placed_too old.spaces new.spaces planned_marks filled_marks planned (grows_by old.spaces new.spaces planned_marks filled_marks same.shapes same.are) plans.placed)
+    (λ block bytes i extent known copy. elim (some_or_none (stored block)) [
+      | inl (was, is) ↦
+          let same_bytes : was ≡ bytes = same_some was bytes (sym (plans.kept block was is) ∙ known) in
+          subst (λ b. ExtentStands (content old.disks) (outs old) extent b) same_bytes (plans.held.stand block was i extent is copy)
+      | inr fresh ↦ arrived old (plans.writes_of block i) extent bytes none (plans.on_the_way block bytes i extent known fresh copy)
+    ])

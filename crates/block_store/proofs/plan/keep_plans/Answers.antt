@@ -1,0 +1,23 @@
+use Rattle.std.proofs.Common.{rules, ℕ, ◌≡◌, ◌<◌, ◌≤◌, Some, length, refl, sym, ap, ◌∙◌, arith}
+use Rattle.std.specs.List.{slice_get}
+use Rattle.block_store.specs.Places.{shapes_of, filled, planned}
+use Rattle.block_store.proofs.Choosing.{at_item}
+use Rattle.block_store.proofs.Planning.{one_more, all_below, same_marks}
+use Rattle.block_store.proofs.Taking.{map-set_same}
+use Rattle.block_store.proofs.plan.keep_plans.Goals as goal
+
+pub loop-vdev-init : goal.loop-vdev-init
+loop-vdev-init c = (refl, refl, same_marks c.args.spaces.now.items planned, λ v space new below. absurd (omega (arith, below)))
+
+pub loop-vdev-preserved : goal.loop-vdev-preserved
+loop-vdev-preserved c =
+    let at : slice_get c.loop-vdev.spaces.items c.loop-vdev.vdev ≡ Some c.index_mut.result.now =
+    at_item c.loop-vdev.spaces.items c.loop-vdev.vdev c.index_mut.result.now (search rules) c.index_mut.ensures.value in
+    let before = c.loop-vdev.invariant in
+    let more = one_more c.args.spaces.now.items c.loop-vdev.spaces.items planned filled c.loop-vdev.vdev c.index_mut.result.now c.keep_planned.new.self at
+    before.2 before.3 c.keep_planned.ensures.planned c.keep_planned.ensures.filled in
+    (search rules, map-set_same (λ s. s.shape) c.loop-vdev.spaces.items c.loop-vdev.vdev c.index_mut.result.now c.keep_planned.new.self at c.keep_planned.ensures.shape ∙ before.1,
+    more.0, more.1)
+
+pub returns-clause-filled : goal.returns-clause-filled
+returns-clause-filled c = all_below c.args.spaces.now.items c.loop-vdev.spaces.items planned filled c.loop-vdev.vdev (search rules) c.loop-vdev.invariant.3
