@@ -3,10 +3,12 @@ pub mod Extents
 pub mod Kept
 pub mod Outs
 pub mod ReadingCopy
+pub mod ReadingLost
 pub mod ReadingOuts
 pub mod ReadingPlaces
 pub mod ReadingPointers
 pub mod ReadingSteps
+pub mod ReadingWhole
 pub mod SameBlock
 pub mod Taking
 pub mod Writing
