@@ -77,7 +77,7 @@ stands_there laws old new missing block result stored bytes is holds known =
     stands_later laws.reads_keep laws.kept laws.more_absent old.disks is.read.mid (outs old) (absent_since is.read.mid new.disks (outs old ++ missing)) is.read.read.extent
     bytes is.read.before
     (λ disk held.
-        Contains-append_left (outs old ++ missing) (failed_since (length is.read.mid.calls) new.disks.calls) disk (Contains-append_left (outs old) missing disk held))
+    Contains-append_left (outs old ++ missing) (failed_since (length is.read.mid.calls) new.disks.calls) disk (Contains-append_left (outs old) missing disk held))
     (holds.stand block bytes is.read.i is.read.read.extent known is.read.read.is_copy)
 
 pub bytes_right : Laws → (old new : Store) (missing : List ℕ) (block : Block) (result : Result (Vec ℕ Global) Refusal) → IsBlockRead old new missing block result

@@ -1,5 +1,4 @@
-use Rattle.std.proofs.Common.{ℕ, ◌≡◌, rules, false, true, refl, ◌∙◌}
-use Rattle.block_pointer.specs.Copies.{dvas}
+use Rattle.std.proofs.Common.{◌≡◌, rules, false, true, refl, ◌∙◌}
 use Rattle.block_store.proofs.Kept.{keeps, keeps_plans}
 use Rattle.block_store.proofs.ReadingPointers.{in_places}
 use Rattle.block_store.proofs.ReadingWhole.{Laws, IsBlockRead, block_read, reads, untouched, is_kept, bytes_right, last_fault, is_known, stored_is_readable}
