@@ -7,10 +7,12 @@ pub mod Kept
 pub mod Outs
 pub mod Planning
 pub mod ReadingCopy
+pub mod ReadingLost
 pub mod ReadingOuts
 pub mod ReadingPlaces
 pub mod ReadingPointers
 pub mod ReadingSteps
+pub mod ReadingWhole
 pub mod SameBlock
 pub mod Sizes
 pub mod Taking

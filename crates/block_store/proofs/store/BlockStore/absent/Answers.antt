@@ -1,4 +1,4 @@
-use Rattle.std.proofs.Common.{ℕ, ◌≡◌, ◌<◌, false, length, ap, ◌∙◌, get_or, arith}
+use Rattle.std.proofs.Common.{◌≡◌, ◌<◌, false, length, ap, ◌∙◌, arith}
 use Rattle.block_store.specs.Store.{Store}
 use Rattle.block_store.proofs.ReadingOuts.{out_too, not_out}
 use Rattle.block_store.proofs.store.BlockStore.absent.Goals as goal

@@ -1,4 +1,4 @@
-use Rattle.std.proofs.Common.{ℕ, ◌≡◌, ◌<◌, true, false, length, refl, subst, arith}
+use Rattle.std.proofs.Common.{◌≡◌, ◌<◌, true, false, length, refl, subst, arith}
 use Rattle.std.proofs.lemmas.List.{get_or_default}
 use Rattle.std.proofs.lemmas.List.Elements.{AllWithin-more}
 use Rattle.block_pointer.specs.declared.dva.Dva.{Dva}
@@ -23,8 +23,8 @@ loop-place-preserved g c =
     let below : c.loop-place.place-index < length c.args.places.now = omega arith in
     AllWithin-more (λ place. IsPlaceIn c.args.self.now.spaces c.args.sectors place) c.args.places.now 0 c.loop-place.place-index c.loop-place.invariant
     (λ d.
-        subst (λ (place : Dva). IsPlaceIn c.args.self.now.spaces c.args.sectors place) (get_or_default c.args.places.now c.loop-place.place-index _ d below)
-        (c.if-not-is_place.ensures.0 refl))
+    subst (λ (place : Dva). IsPlaceIn c.args.self.now.spaces c.args.sectors place) (get_or_default c.args.places.now c.loop-place.place-index _ d below)
+    (c.if-not-is_place.ensures.0 refl))
 
 pub returns : goal.returns
 returns g c =

@@ -1,5 +1,4 @@
-use Rattle.std.proofs.Common.{◌≡◌, refl, ap, subst}
-use Rattle.raidz_io.specs.Places.{CanHold, IsOnDisks}
+use Rattle.std.proofs.Common.{refl, ap, subst}
 use Rattle.block_store.specs.Store.{Store, IsStore}
 use Rattle.block_store.proofs.ReadingPlaces.{place_fits, extent_found}
 use Rattle.block_store.proofs.store.BlockStore.extent_at.Goals as goal

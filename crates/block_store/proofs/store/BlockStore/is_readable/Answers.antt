@@ -1,4 +1,4 @@
-use Rattle.std.proofs.Common.{◌≡◌, ◌<◌, ◌≤◌, true, false, List, sym, ◌∙◌}
+use Rattle.std.proofs.Common.{◌≡◌, ◌<◌, ◌≤◌, true, false, sym, ◌∙◌}
 use borrow.Author.Tests.{ltb-true, leb-true}
 use Rattle.block_pointer.specs.Copies.{dvas}
 use Rattle.block_store.proofs.ReadingPointers.{property_is, readable, in_places}
@@ -14,9 +14,9 @@ returns-then-block-gt0 g c =
     ] in
     let asks : (c.args.block.now.property ≡ c.args.asked.property) × (c.args.block.now.birth ≤ c.args.asked.birth) = elim c.if-eq.branch [
       | then-eq w ↦ (
-          property_is c.args.block.now.property c.args.asked.property (sym c.eq.ensures ∙ w.if-eq.true),
-          leb-true c.args.block.now.birth c.args.asked.birth (sym w.value-is ∙ some.0),
-        )
+        property_is c.args.block.now.property c.args.asked.property (sym c.eq.ensures ∙ w.if-eq.true),
+        leb-true c.args.block.now.birth c.args.asked.birth (sym w.value-is ∙ some.0),
+      )
       | else-eq w ↦ absurd (let no : false ≡ true = sym w.if-eq.false ∙ sym w.value-is ∙ some.0 in cc)
     ] in (
       λ is. readable c.args.self.now.spaces c.args.asked c.args.block.now c.as_slice.result.now places asks.0 asks.1 some.1 (c.are_places.ensures.0 is),

@@ -1,26 +1,43 @@
-use Rattle.std.proofs.Common.{◌≡◌}
+use Rattle.std.proofs.Common.{◌≡◌, rules, false, true, refl, ◌∙◌}
+use Rattle.block_store.proofs.Kept.{keeps, keeps_plans}
+use Rattle.block_store.proofs.ReadingPointers.{in_places}
+use Rattle.block_store.proofs.ReadingWhole.{Laws, IsBlockRead, block_read, reads, untouched, is_kept, bytes_right, last_fault, is_known, stored_is_readable}
 use Rattle.block_store.proofs.store.BlockStore.read.Goals as goal
 
 pub returns-then-not-is_readable-clause-known : goal.returns-then-not-is_readable-clause-known
-returns-then-not-is_readable-clause-known g c = let a = c.is_readable.ensures in let b = c.if-not-is_readable in ?
+returns-then-not-is_readable-clause-known g c = λ stored bytes holds known asks honest tolerable.
+    let no : false ≡ true = c.if-not-is_readable.ensures.1 (stored_is_readable c.args.self.now stored c.args.block.now bytes c.args.asked holds known asks) in
+    absurd (cc)
 
 pub read_places-requires-clause-readable : goal.read_places-requires-clause-readable
-read_places-requires-clause-readable g c = ?
+read_places-requires-clause-readable g c =
+    in_places c.args.self.now.spaces c.args.asked c.args.block.now c.as_slice.result.now (c.as_slice.ensures.value ∙ c.places_of-places.ensures)
+    (c.if-not-is_readable.ensures.0 refl)
 
-pub returns-clause-reads : goal.returns-clause-reads
-returns-clause-reads g c = ?
-
-pub returns-clause-keeps : goal.returns-clause-keeps
-returns-clause-keeps g c = ?
-
-pub returns-clause-plans : goal.returns-clause-plans
-returns-clause-plans g c = ?
-
-pub returns-clause-bytes : goal.returns-clause-bytes
-returns-clause-bytes g c = ?
-
-pub returns-clause-refused : goal.returns-clause-refused
-returns-clause-refused g c = ?
-
-pub returns-clause-known : goal.returns-clause-known
-returns-clause-known g c = ?
+pub returns : goal.returns
+returns g c =
+    let laws : Laws = record {
+      reads_keep = c.reads_keep_contents.ensures;
+      kept = c.stands_while_kept.ensures;
+      more_absent = c.stands_with_more_absent.ensures;
+      few_not_more = c.few_are_not_more.ensures;
+      parts_honest = c.parts_are_honest.ensures.all;
+    } in
+    let is : IsBlockRead c.args.self.now c.read_places.new.self c.args.missing.now c.args.block.now c.read_places.result =
+    block_read c.args.self.now c.read_places.new.self c.args.missing.now c.args.block.now c.read_places.result c.as_slice-2.result.now c.as_slice.result.now
+    (c.as_slice-2.ensures.value ∙ c.in_ok-absent.ensures) (c.as_slice.ensures.value ∙ c.places_of-places.ensures) c.read_places.ensures.rest
+    c.read_places.ensures.read in
+    let kept = is_kept laws c.args.self.now c.read_places.new.self c.args.missing.now c.args.block.now c.read_places.result is in
+    record {
+      rest = c.read_places.ensures.rest;
+      reads = reads c.args.self.now c.read_places.new.self c.args.missing.now c.args.block.now c.read_places.result is;
+      untouched = untouched c.args.self.now c.read_places.new.self c.args.missing.now c.args.block.now c.read_places.result is;
+      keeps = keeps laws.kept laws.more_absent c.args.self.now c.read_places.new.self kept;
+      plans = keeps_plans laws.kept laws.more_absent c.args.self.now c.read_places.new.self kept;
+      readable = search rules;
+      digest = is.read.read.digest;
+      size = is.read.read.size;
+      bytes = bytes_right laws c.args.self.now c.read_places.new.self c.args.missing.now c.args.block.now c.read_places.result is;
+      refused = last_fault c.args.self.now c.read_places.new.self c.args.missing.now c.args.block.now c.args.asked c.read_places.result is;
+      known = is_known laws c.args.self.now c.read_places.new.self c.args.missing.now c.args.block.now c.args.asked c.read_places.result is;
+    }

@@ -1,4 +1,4 @@
-use Rattle.std.proofs.Common.{ℕ, ◌≡◌, inl, refl, ap, subst, Err, Vec, Global}
+use Rattle.std.proofs.Common.{inl, refl, ap, subst}
 use Rattle.model_disk.specs.Joint.{Disks}
 use Rattle.raidz_io.specs.declared.refusal.Refusal.{Refusal as ReadRefusal}
 use Rattle.block_store.specs.Places.{IsCopy}

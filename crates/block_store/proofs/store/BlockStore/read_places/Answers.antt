@@ -1,8 +1,8 @@
-use Rattle.std.proofs.Common.{ℕ, ◌≡◌, ◌+◌, ◌<◌, List, Contains, IsTrue, false, true, refl, sym, ap, subst, ◌∙◌, ◌↔◌}
+use Rattle.std.proofs.Common.{◌≡◌, List, Contains, IsTrue, false, sym, ap, subst, ◌∙◌}
 use Rattle.block_pointer.specs.declared.dva.Dva.{Dva}
 use Rattle.block_store.specs.declared.space.VdevSpace.{VdevSpace}
 use Rattle.block_store.specs.Places.{IsPlaceIn}
-use Rattle.block_store.specs.Reading.{IsFault, IsCopyRead, IsReadUpTo}
+use Rattle.block_store.specs.Reading.{IsCopyRead}
 use Rattle.block_store.specs.Store.{Store}
 use Rattle.block_store.proofs.ReadingSteps.{ends_here, next_read}
 use Rattle.block_store.proofs.store.BlockStore.read_places.Goals as goal
@@ -27,12 +27,12 @@ loop-i-preserved g c =
           rw (w.self-is, w.read-is) (record {
             rest = w.read_copy-read-then-is_fault.ensures.rest ∙ ap (λ (s : Store). record s { disks = after.disks }) c.loop-i.invariant.rest;
             read = next_read c.args.self.now.spaces c.args.absent.now c.args.block.now c.loop-i.i c.args.self.now.disks before.disks after.disks c.loop-i.read
-            w.read_copy-read-then-is_fault.result c.loop-i.invariant.read read;
+                w.read_copy-read-then-is_fault.result c.loop-i.invariant.read read;
           })
       | else-is_fault w ↦
           rw (w.self-is, w.read-is) (record {
             rest = c.loop-i.invariant.rest;
             read = ends_here c.args.self.now.spaces c.args.absent.now c.args.block.now c.loop-i.i c.args.self.now.disks c.loop-i.self.disks c.loop-i.read
-            (λ fault. absurd (let no : IsTrue false = w.if-is_fault.ensures.1 fault in cc)) c.loop-i.invariant.read;
+                (λ fault. absurd (let no : IsTrue false = w.if-is_fault.ensures.1 fault in cc)) c.loop-i.invariant.read;
           })
     ]
