@@ -87,8 +87,8 @@ either false = inr refl
 -- a block that was known is another
 is_other : (block other : Block) (planned : Contents) (known : List ℕ) → planned block ≡ None → planned other ≡ Some known → same_block other block ≡ false
 is_other block other planned known fresh is = elim (either (same_block other block)) [
-  | inr no ↦ no
-  | inl yes ↦ absurd (let e : Some known ≡ None = sym is ∙ ap planned (block_is other block yes) ∙ fresh in cc)
+  | inr is_not ↦ is_not
+  | inl is_it ↦ absurd (let e : Some known ≡ None = sym is ∙ ap planned (block_is other block is_it) ∙ fresh in cc)
 ]
 
 -- each block that is known now is this one, or was known
@@ -96,8 +96,8 @@ this_or_known : (block other : Block) (bytes known : List ℕ) (planned : Conten
     → ((other ≡ block) × (known ≡ bytes)) ⊎ (planned other ≡ Some known)
 unfolding with_block
 this_or_known block other bytes known planned is = elim (either (same_block other block)) [
-  | inl yes ↦ inl (block_is other block yes, same_some known bytes (sym is ∙ if_yes (same_block other block) (Some bytes) (planned other) yes))
-  | inr no ↦ inr (sym (if_no (same_block other block) (Some bytes) (planned other) no) ∙ is)
+  | inl is_it ↦ inl (block_is other block is_it, same_some known bytes (sym is ∙ if_yes (same_block other block) (Some bytes) (planned other) is_it))
+  | inr is_not ↦ inr (sym (if_no (same_block other block) (Some bytes) (planned other) is_not) ∙ is)
 ]
 
 still_known : (block other : Block) (bytes known : List ℕ) (planned : Contents) → planned block ≡ None → planned other ≡ Some known

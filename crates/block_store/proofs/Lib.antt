@@ -2,6 +2,7 @@ pub mod Choosing
 pub mod Copies
 pub mod Adding
 pub mod Calling
+pub mod CopyWrites
 pub mod Extents
 pub mod Kept
 pub mod Outs
