@@ -12,18 +12,22 @@ use Rattle.block_pointer.specs.declared.dva.Dva.{Dva}
 use Rattle.block_pointer.specs.Copies.{dvas}
 use Rattle.raidz_io.specs.declared.vdev.Extent.{Extent}
 use Rattle.raidz_io.specs.declared.writes.ColumnWrite.{ColumnWrite}
-use Rattle.raidz_io.specs.Stands.{IsDone}
+use Rattle.raidz_io.specs.Stands.{IsDone, IsWithin}
+use Rattle.raidz_io.proofs.Kept.{writes_on_disks}
+use Rattle.raidz_io.proofs.Placed.{extent_fits}
 use Rattle.raidz_io.proofs.Written.{same_some, slice_get_some}
 use Rattle.block_store.specs.declared.space.VdevSpace.{VdevSpace}
 use Rattle.block_store.specs.Blocks.{Contents, Extends, Adds, IsWrittenAs}
-use Rattle.block_store.specs.Places.{shapes_of, IsTaken, IsCopy, IsExtentAt, ArePlacesApart, AreChosen}
+use Rattle.block_store.specs.Places.{shapes_of, IsTaken, IsPlaceIn, IsCopy, IsExtentAt, ArePlacesApart, AreChosen}
 use Rattle.block_store.specs.Places.{filled as filled_marks, planned as planned_marks}
-use Rattle.block_store.specs.Plans.{Plans, IsOnTheWay, IsDueFor, AreWritesAt}
-use Rattle.block_store.specs.Store.{Store, outs, outs_from, ArePlaced}
+use Rattle.block_store.specs.Plans.{Plans, KeepsPlans, IsOnTheWay, IsDueFor, AreWritesAt}
+use Rattle.block_store.specs.Store.{Store, Keeps, IsStore, outs, outs_from, ArePlaced}
 use Rattle.block_store.proofs.Planning.{IsSameBut, keeps_by, marks_by_map, some_or_none}
+use Rattle.block_store.proofs.ReadingPlaces.{place_fits}
 use Rattle.block_store.proofs.SameBlock.{same_block, block_is, block_itself}
 use Rattle.block_store.proofs.Sizes.{asize_some}
-use Rattle.block_store.proofs.Taking.{Grows, AreTakenToo, are_taken, taken_too, copy_too, extent_too, turned}
+use Rattle.block_store.proofs.Taking.{Grows, AreTakenToo, are_taken, taken_too, placed_too, copy_too, turned}
+use Rattle.block_store.proofs.Writing.{found_at}
 
 -- the contents with this block
 with_block : Block → List ℕ → Contents → Contents
@@ -263,3 +267,82 @@ added old new block bytes places writes stored planned is plans =
     not_stored None is' = is'
     not_stored (Some known) is' =
         absurd (let e : Some known ≡ None = sym (plans.kept block known is') ∙ is_fresh old new block bytes places writes planned is plans.placed in cc)
+
+-- ---- places that were taken, where nothing else changed
+
+-- places were taken, and nothing else was changed
+pub record OnlyTook (old new : Store) (sectors : ℕ) (places : List Dva) : Type 0 where
+  pub disks : new.disks ≡ old.disks
+  pub out : new.out ≡ old.out
+  pub due : new.due ≡ old.due
+  pub chosen : AreChosen old.spaces [] sectors places new.spaces
+
+took_same : (old new : Store) (sectors : ℕ) (places : List Dva) → OnlyTook old new sectors places → IsSameBut old new filled_marks filled_marks
+took_same old new sectors places took =
+    let taken : AreTakenToo old.spaces sectors places new.spaces = are_taken old.spaces [] sectors places new.spaces took.chosen in
+    record {
+      disks = took.disks;
+      out = took.out;
+      shapes = taken.grows.shapes;
+      are = marks_by_map filled_marks old.spaces new.spaces taken.filled_stays;
+    }
+
+pub took_keeps : (old new : Store) (sectors : ℕ) (places : List Dva) → OnlyTook old new sectors places → Keeps old new
+took_keeps old new sectors places took stored holds = keeps_by old new (took_same old new sectors places took) stored holds
+
+pub took_shapes : (old new : Store) (sectors : ℕ) (places : List Dva) → OnlyTook old new sectors places → shapes_of new.spaces ≡ shapes_of old.spaces
+took_shapes old new sectors places took = (took_same old new sectors places took).shapes
+
+pub took_keeps_plans : (old new : Store) (sectors : ℕ) (places : List Dva) → OnlyTook old new sectors places → KeepsPlans old new
+took_keeps_plans old new sectors places took stored planned plans =
+    let taken : AreTakenToo old.spaces sectors places new.spaces = are_taken old.spaces [] sectors places new.spaces took.chosen in
+    record {
+      held = took_keeps old new sectors places took stored plans.held;
+      kept = plans.kept;
+      placed = placed_too old.spaces new.spaces planned_marks planned_marks planned taken.grows plans.placed;
+      writes_of = plans.writes_of;
+      on_the_way = λ block bytes i extent known fresh copy.
+          let way = plans.on_the_way block bytes i extent known fresh (copy_too new.spaces old.spaces block i extent (sym taken.grows.shapes) copy) in
+          record {
+            would_store = way.would_store;
+            columns = way.columns;
+            each = λ write of present.
+                let not_out : ¬ Contains (outs old) write.disk = subst (λ o. ¬ Contains (outs_from 0 o) write.disk) took.out present in
+                elim (way.each write of not_out) [
+                  | inl done ↦ inl (subst (λ (d : Disks). IsDone (content d) write) (sym took.disks) done)
+                  | inr due ↦ inr (subst (λ xs. Contains xs write) (sym took.due) due)
+                ];
+          };
+      due = λ write held.
+          let was = plans.due write (subst (λ xs. Contains xs write) took.due held) in
+          record {
+            block = was.block;
+            bytes = was.bytes;
+            i = was.i;
+            extent = was.extent;
+            is_planned = was.is_planned;
+            is_new = was.is_new;
+            is_copy = copy_too old.spaces new.spaces was.block was.i was.extent taken.grows.shapes was.is_copy;
+            is_of_copy = was.is_of_copy;
+          };
+    }
+
+-- the places are in the vdevs
+pub places_in : (old new : Store) (sectors : ℕ) (places : List Dva) → OnlyTook old new sectors places → (i : ℕ) (place : Dva) → slice_get places i ≡ Some place
+    → IsPlaceIn new.spaces sectors place
+places_in old new sectors places took i place at =
+    let taken : IsTaken new.spaces planned_marks sectors place = (are_taken old.spaces [] sectors places new.spaces took.chosen).taken i place at in
+    record { space = taken.space; found = taken.found; is_place = taken.is_place }
+
+-- the writes for copies at them are within the disks
+pub writes_within : (store : Store) (sectors : ℕ) (bytes : List ℕ) (places : List Dva) (writes : List ColumnWrite) → IsStore store
+    → AreWritesAt store sectors bytes places writes → ((i : ℕ) (place : Dva) → slice_get places i ≡ Some place → IsPlaceIn store.spaces sectors place)
+    → (write : ColumnWrite) → Contains writes write → IsWithin store.disks.starts write
+writes_within store sectors bytes places writes is at are_in write held =
+    let of = at.only write held in
+    let place : (p : Dva) × (slice_get places of.0 ≡ Some p) = slice_get_some places of.0 (omega (arith, slice_get_within at.copies of.0 of.1 of.2, at.count)) in
+    let extent = at.extents of.0 place.0 place.1 in
+    let stores = at.would_store of.0 place.0 of.1 extent.0 place.1 of.2 extent.1 in
+    let fits = place_fits extent_fits store sectors place.0 extent.0 is (are_in of.0 place.0 place.1) extent.1 in
+    let column = found_at of.1 write of.3 in
+    writes_on_disks extent.0 store.disks.starts column.0 write fits.0 fits.1 (stores.1 column.0 write column.1)

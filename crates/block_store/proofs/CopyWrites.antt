@@ -131,3 +131,12 @@ writes_more store sectors bytes places writes place extent copy after before at 
     it_is [] i d within = absurd (omega arith)
     it_is (w ∷ them) zero d within = refl
     it_is (w ∷ them) (suc i) d within = it_is them i d (omega arith)
+
+-- an item is in its list
+pub item_in : {X : Type 0} (xs : List X) (i : ℕ) (d : X) → i < length xs → Contains xs (slice_index_or xs i d)
+item_in {X = X} xs i d within = (i, within, it_is xs i within)
+  where
+    it_is : (them : List X) (k : ℕ) → k < length them → slice_index_or them k (slice_index_or them k d) ≡ slice_index_or them k d
+    it_is [] k within = absurd (omega arith)
+    it_is (w ∷ them) zero within = refl
+    it_is (w ∷ them) (suc k) within = it_is them k (omega arith)

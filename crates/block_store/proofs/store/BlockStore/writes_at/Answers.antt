@@ -1,25 +1,28 @@
-use Rattle.std.proofs.Common.{rules, ◌≡◌, ◌≤◌, ◌<◌, ◌+◌, ◌*◌, ◌^◌, ◌⊎◌, ℕ, List, All, Contains, false, filter, not, length, [], ◌++◌, OnOk, OnErr, IfOk, IfErr, ◌-◌, ◌/◌, ◌%◌, Bool, true, nat_eq, nat_lt, ◌∷◌, slice_index_or, slice_set, bit_and, bit_or, Fits, w8, w32, w64, Bor, MutBor}
-use Rattle.block_pointer.specs.Copies.{dvas}
+use Rattle.std.proofs.Common.{rules, ℕ, ◌≡◌, ◌+◌, ◌<◌, ◌≤◌, List, [], ◌∷◌, ◌++◌, length, take, sym, ap, ◌∙◌, subst, arith}
+use Rattle.std.proofs.lemmas.List.{take_all, take_more}
+use Rattle.block_pointer.specs.declared.dva.Dva.{Dva}
 use Rattle.raidz_io.specs.declared.writes.ColumnWrite.{ColumnWrite}
-use Rattle.raidz_io.specs.Places.{CanHold, IsOnDisks}
-use Rattle.block_store.specs.Blocks.{Contents, Adds, FitsNew, IsBlockOf, count_of}
-use Rattle.block_store.specs.Places.{shapes_of, AreChosen, RanOut, IsPlaceIn, IsExtentAt}
-use Rattle.block_store.specs.Plans.{Plans, KeepsPlans, AreWritesAt}
-use Rattle.block_store.specs.Store.{Holds, Keeps, is_out}
+use Rattle.block_store.specs.Plans.{AreWritesAt}
+use Rattle.block_store.proofs.CopyWrites.{no_writes, writes_more, item_in}
 use Rattle.block_store.proofs.store.BlockStore.writes_at.Goals as goal
 
--- src/plan.rt:134:9
 pub loop-place-init : goal.loop-place-init
-loop-place-init g c = ?
+loop-place-init g c =
+    subst (λ writes. AreWritesAt c.args.self.now c.args.sectors c.args.bytes.now [] writes) (sym c.new-writes.ensures.items)
+    (no_writes c.args.self.now c.args.sectors c.args.bytes.now)
 
--- src/plan.rt:135:24
 pub extent_at-requires-clause-place : goal.extent_at-requires-clause-place
-extent_at-requires-clause-place g c = ?
+extent_at-requires-clause-place g c = c.requires.places _ (item_in c.args.places.now c.loop-place.place-index _ c.loop-place-test.true)
 
--- src/plan.rt:134:9
 pub loop-place-preserved : goal.loop-place-preserved
-loop-place-preserved g c = ?
+loop-place-preserved g c =
+    let more : take (c.loop-place.place-index + 1) c.args.places.now ≡ take c.loop-place.place-index c.args.places.now ++ _ ∷ [] =
+    take_more c.args.places.now c.loop-place.place-index _ c.loop-place-test.true in
+    subst (λ places. AreWritesAt c.args.self.now c.args.sectors c.args.bytes.now places c.add_in_use.new.writes.items) (sym more)
+    (writes_more c.args.self.now c.args.sectors c.args.bytes.now (take c.loop-place.place-index c.args.places.now) c.loop-place.writes.items _ c.extent_at.result c.in_ok-copy.copy.items
+    c.add_in_use.new.writes.items c.loop-place.invariant c.extent_at.ensures.extent c.in_ok-copy.ensures.stored c.in_ok-copy.ensures.columns c.in_ok-add_in_use.ensures)
 
--- src/plan.rt:121:5
 pub returns : goal.returns
-returns g c = ?
+returns g c =
+    let all : take c.loop-place.place-index c.args.places.now ≡ c.args.places.now = take_all c.loop-place.place-index c.args.places.now c.loop-place-test.false in
+    subst (λ places. AreWritesAt c.args.self.now c.args.sectors c.args.bytes.now places c.loop-place.writes.items) all c.loop-place.invariant

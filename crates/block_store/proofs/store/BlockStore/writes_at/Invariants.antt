@@ -1,12 +1,7 @@
-use Rattle.std.proofs.Common.{◌≡◌, ◌≤◌, ◌<◌, ◌+◌, ◌*◌, ◌^◌, ◌⊎◌, ℕ, List, All, Contains, false, filter, not, length, [], ◌++◌, OnOk, OnErr, IfOk, IfErr, ◌-◌}
-use Rattle.block_pointer.specs.Copies.{dvas}
-use Rattle.raidz_io.specs.declared.writes.ColumnWrite.{ColumnWrite}
-use Rattle.raidz_io.specs.Places.{CanHold, IsOnDisks}
-use Rattle.block_store.specs.Blocks.{Contents, Adds, FitsNew, IsBlockOf, count_of}
-use Rattle.block_store.specs.Places.{shapes_of, AreChosen, RanOut, IsPlaceIn, IsExtentAt}
-use Rattle.block_store.specs.Plans.{Plans, KeepsPlans, AreWritesAt}
-use Rattle.block_store.specs.Store.{Holds, Keeps, is_out}
+use Rattle.std.proofs.Common.{take}
+use Rattle.block_store.specs.Plans.{AreWritesAt}
 use Rattle.block_store.proofs.store.BlockStore.writes_at.Given as goal
 
+-- so far they are those for the first places
 abbrev pub invariant-loop-place : goal.invariant-loop-place
-invariant-loop-place g l = ?
+invariant-loop-place g l = AreWritesAt l.self l.sectors l.bytes (take l.place-index l.places) l.writes.items
