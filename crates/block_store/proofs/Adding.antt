@@ -287,6 +287,18 @@ took_same old new sectors places took =
       are = marks_by_map filled_marks old.spaces new.spaces taken.filled_stays;
     }
 
+-- what is stored is so where a plan took places, whatever is due
+pub chosen_keeps : (old new : Store) (sectors : ℕ) (places : List Dva) → new.disks ≡ old.disks → new.out ≡ old.out → AreChosen old.spaces [] sectors places new.spaces
+    → Keeps old new
+chosen_keeps old new sectors places disks out chosen stored holds =
+    let taken : AreTakenToo old.spaces sectors places new.spaces = are_taken old.spaces [] sectors places new.spaces chosen in
+    keeps_by old new (record {
+      disks = disks;
+      out = out;
+      shapes = taken.grows.shapes;
+      are = marks_by_map filled_marks old.spaces new.spaces taken.filled_stays;
+    }) stored holds
+
 pub took_keeps : (old new : Store) (sectors : ℕ) (places : List Dva) → OnlyTook old new sectors places → Keeps old new
 took_keeps old new sectors places took stored holds = keeps_by old new (took_same old new sectors places took) stored holds
 

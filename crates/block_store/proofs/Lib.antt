@@ -4,6 +4,7 @@ pub mod Adding
 pub mod Calling
 pub mod CopyWrites
 pub mod Extents
+pub mod Fitting
 pub mod Kept
 pub mod Outs
 pub mod Planning

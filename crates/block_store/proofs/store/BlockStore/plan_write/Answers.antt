@@ -1,53 +1,128 @@
-use Rattle.std.proofs.Common.{rules, ◌≡◌, ◌≤◌, ◌<◌, ◌+◌, ◌*◌, ◌^◌, ◌⊎◌, ℕ, List, All, Contains, false, filter, not, length, [], ◌++◌, OnOk, OnErr, IfOk, IfErr, ◌-◌, ◌/◌, ◌%◌, Bool, true, nat_eq, nat_lt, ◌∷◌, slice_index_or, slice_set, bit_and, bit_or, Fits, w8, w32, w64, Bor, MutBor}
+use Rattle.std.proofs.Common.{rules, ℕ, ◌≡◌, ◌+◌, ◌<◌, List, [], ◌∷◌, ◌++◌, length, Contains, refl, sym, ap, ◌∙◌, subst, arith, inl, inr}
+use Rattle.std.specs.List.{slice_get}
+use Rattle.std.proofs.lemmas.List.Elements.{Contains-append_cases}
+use Rattle.block_pointer.specs.declared.dva.Dva.{Dva}
 use Rattle.block_pointer.specs.Copies.{dvas}
-use Rattle.raidz_io.specs.declared.writes.ColumnWrite.{ColumnWrite}
-use Rattle.raidz_io.specs.Places.{CanHold, IsOnDisks}
-use Rattle.block_store.specs.Blocks.{Contents, Adds, FitsNew, IsBlockOf, count_of}
-use Rattle.block_store.specs.Places.{shapes_of, AreChosen, RanOut, IsPlaceIn, IsExtentAt}
-use Rattle.block_store.specs.Plans.{Plans, KeepsPlans, AreWritesAt}
-use Rattle.block_store.specs.Store.{Holds, Keeps, is_out}
+use Rattle.raidz_io.specs.Stands.{IsWithin}
+use Rattle.block_store.specs.Blocks.{IsWrittenAs}
+use Rattle.block_store.specs.Places.{shapes_of, IsPlaceIn}
+use Rattle.block_store.specs.Plans.{KeepsPlans, AreWritesAt}
+use Rattle.block_store.specs.Store.{Store, Keeps, IsStore}
+use Rattle.block_store.proofs.Adding.{OnlyTook, IsNewBlock, added, chosen_keeps, took_keeps, took_keeps_plans, took_shapes, places_in, writes_within}
+use Rattle.block_store.proofs.Fitting.{bytes_fit, fits_copies, on_err, took_some}
+use Rattle.block_store.proofs.Writing.{found_at}
 use Rattle.block_store.proofs.store.BlockStore.plan_write.Goals as goal
 
--- src/plan.rt:107:22
 pub returns-in_err-places-clause-shapes : goal.returns-in_err-places-clause-shapes
-returns-in_err-places-clause-shapes g c = ?
+returns-in_err-places-clause-shapes g c =
+    let took = took_some c.args.self.now c.choose_places.new.self c.args.new.property.sectors c.count.result c.in_err-places.field-0.0
+    c.in_err-places.ensures.disks c.in_err-places.ensures.out c.in_err-places.ensures.due c.in_err-places.ensures.refused in
+    took_shapes c.args.self.now c.choose_places.new.self c.args.new.property.sectors took.0 took.1
 
--- src/plan.rt:107:22
 pub returns-in_err-places-clause-keeps : goal.returns-in_err-places-clause-keeps
-returns-in_err-places-clause-keeps g c = ?
+returns-in_err-places-clause-keeps g c =
+    let took = took_some c.args.self.now c.choose_places.new.self c.args.new.property.sectors c.count.result c.in_err-places.field-0.0
+    c.in_err-places.ensures.disks c.in_err-places.ensures.out c.in_err-places.ensures.due c.in_err-places.ensures.refused in
+    took_keeps c.args.self.now c.choose_places.new.self c.args.new.property.sectors took.0 took.1
 
--- src/plan.rt:107:22
 pub returns-in_err-places-clause-err : goal.returns-in_err-places-clause-err
-returns-in_err-places-clause-err g c = ?
+returns-in_err-places-clause-err g c =
+    let took = took_some c.args.self.now c.choose_places.new.self c.args.new.property.sectors c.count.result c.in_err-places.field-0.0
+    c.in_err-places.ensures.disks c.in_err-places.ensures.out c.in_err-places.ensures.due c.in_err-places.ensures.refused in
+    on_err _ _ (took_keeps_plans c.args.self.now c.choose_places.new.self c.args.new.property.sectors took.0 took.1)
 
--- src/plan.rt:108:26
 pub writes_at-requires-clause-places : goal.writes_at-requires-clause-places
-writes_at-requires-clause-places g c = ?
+writes_at-requires-clause-places g c place held =
+    let took : OnlyTook c.args.self.now c.choose_places.new.self c.args.new.property.sectors c.in_ok-places.places.items = record {
+      disks = c.in_ok-places.ensures.disks; out = c.in_ok-places.ensures.out; due = c.in_ok-places.ensures.due; chosen = c.in_ok-places.ensures.chosen } in
+    let at = found_at c.in_ok-places.places.items place (subst (λ xs. Contains xs place) c.as_slice.ensures.value held) in
+    places_in c.args.self.now c.choose_places.new.self c.args.new.property.sectors c.in_ok-places.places.items took at.0 place at.1
 
--- src/plan.rt:108:26
 pub returns-in_err-writes-clause-keeps : goal.returns-in_err-writes-clause-keeps
-returns-in_err-writes-clause-keeps g c = ?
+returns-in_err-writes-clause-keeps g c =
+    took_keeps c.args.self.now c.choose_places.new.self c.args.new.property.sectors c.in_ok-places.places.items (record {
+      disks = c.in_ok-places.ensures.disks; out = c.in_ok-places.ensures.out; due = c.in_ok-places.ensures.due; chosen = c.in_ok-places.ensures.chosen })
 
--- src/plan.rt:108:26
 pub returns-in_err-writes-clause-err : goal.returns-in_err-writes-clause-err
-returns-in_err-writes-clause-err g c = ?
+returns-in_err-writes-clause-err g c =
+    on_err _ _ (took_keeps_plans c.args.self.now c.choose_places.new.self c.args.new.property.sectors c.in_ok-places.places.items (record {
+      disks = c.in_ok-places.ensures.disks; out = c.in_ok-places.ensures.out; due = c.in_ok-places.ensures.due; chosen = c.in_ok-places.ensures.chosen }))
 
--- src/plan.rt:116:9
 pub returns-in_err-append-clause-keeps : goal.returns-in_err-append-clause-keeps
-returns-in_err-append-clause-keeps g c = ?
+returns-in_err-append-clause-keeps g c =
+    let took : OnlyTook c.args.self.now c.choose_places.new.self c.args.new.property.sectors c.in_ok-places.places.items = record {
+      disks = c.in_ok-places.ensures.disks; out = c.in_ok-places.ensures.out; due = c.in_ok-places.ensures.due; chosen = c.in_ok-places.ensures.chosen } in
+    let inside = subst (λ (s : Store). OnlyTook c.args.self.now s c.args.new.property.sectors c.in_ok-places.places.items) (sym c.self.view_is) took in
+    took_keeps c.args.self.now _ c.args.new.property.sectors c.in_ok-places.places.items (record {
+      disks = inside.disks; out = inside.out; due = c.in_err-append.ensures.items ∙ inside.due; chosen = inside.chosen })
 
--- src/plan.rt:116:9
 pub returns-in_err-append-clause-err : goal.returns-in_err-append-clause-err
-returns-in_err-append-clause-err g c = ?
+returns-in_err-append-clause-err g c =
+    let took : OnlyTook c.args.self.now c.choose_places.new.self c.args.new.property.sectors c.in_ok-places.places.items = record {
+      disks = c.in_ok-places.ensures.disks; out = c.in_ok-places.ensures.out; due = c.in_ok-places.ensures.due; chosen = c.in_ok-places.ensures.chosen } in
+    let inside = subst (λ (s : Store). OnlyTook c.args.self.now s c.args.new.property.sectors c.in_ok-places.places.items) (sym c.self.view_is) took in
+    on_err _ _ (took_keeps_plans c.args.self.now _ c.args.new.property.sectors c.in_ok-places.places.items (record {
+      disks = inside.disks; out = inside.out; due = c.in_err-append.ensures.items ∙ inside.due; chosen = inside.chosen }))
 
--- src/plan.rt:82:5
 pub invariant_of-self-2 : goal.invariant_of-self-2
-invariant_of-self-2 g c = ?
+invariant_of-self-2 g c =
+    let took : OnlyTook c.args.self.now c.choose_places.new.self c.args.new.property.sectors c.in_ok-places.places.items = record {
+      disks = c.in_ok-places.ensures.disks; out = c.in_ok-places.ensures.out; due = c.in_ok-places.ensures.due; chosen = c.in_ok-places.ensures.chosen } in
+    let store : IsStore c.choose_places.new.self = subst IsStore c.self.view_is c.self.invariant in
+    let at : AreWritesAt c.choose_places.new.self c.args.new.property.sectors c.args.bytes.now c.in_ok-places.places.items c.in_ok-writes.writes.items =
+    subst (λ places. AreWritesAt c.choose_places.new.self c.args.new.property.sectors c.args.bytes.now places c.in_ok-writes.writes.items) c.as_slice.ensures.value c.in_ok-writes.ensures in
+    record {
+      laid_out = c.self.invariant.laid_out;
+      disks = c.self.invariant.disks;
+      due = λ write held. elim (Contains-append_cases c.self.inside.due.items c.in_ok-writes.writes.items write (subst (λ xs. Contains xs write) c.in_ok-append.ensures.items held)) [
+        | inl before ↦ c.self.invariant.due write before
+        | inr here ↦
+            subst (λ (s : Store). IsWithin s.disks.starts write) (sym c.self.view_is)
+            (writes_within c.choose_places.new.self c.args.new.property.sectors c.args.bytes.now c.in_ok-places.places.items c.in_ok-writes.writes.items store at
+            (places_in c.args.self.now c.choose_places.new.self c.args.new.property.sectors c.in_ok-places.places.items took) write here)
+      ];
+    }
 
--- src/plan.rt:82:5
 pub returns-clause-keeps : goal.returns-clause-keeps
-returns-clause-keeps g c = ?
+returns-clause-keeps g c =
+    let took : OnlyTook c.args.self.now c.choose_places.new.self c.args.new.property.sectors c.in_ok-places.places.items = record {
+      disks = c.in_ok-places.ensures.disks; out = c.in_ok-places.ensures.out; due = c.in_ok-places.ensures.due; chosen = c.in_ok-places.ensures.chosen } in
+    let inside = subst (λ (s : Store). OnlyTook c.args.self.now s c.args.new.property.sectors c.in_ok-places.places.items) (sym c.self.view_is) took in
+    chosen_keeps c.args.self.now _ c.args.new.property.sectors c.in_ok-places.places.items inside.disks inside.out inside.chosen
 
--- src/plan.rt:82:5
 pub returns-clause-planned : goal.returns-clause-planned
-returns-clause-planned g c = ?
+returns-clause-planned g c stored planned plans =
+    let took : OnlyTook c.args.self.now c.choose_places.new.self c.args.new.property.sectors c.in_ok-places.places.items = record {
+      disks = c.in_ok-places.ensures.disks; out = c.in_ok-places.ensures.out; due = c.in_ok-places.ensures.due; chosen = c.in_ok-places.ensures.chosen } in
+    let inside = subst (λ (s : Store). OnlyTook c.args.self.now s c.args.new.property.sectors c.in_ok-places.places.items) (sym c.self.view_is) took in
+    let store : IsStore c.choose_places.new.self = subst IsStore c.self.view_is c.self.invariant in
+    let at : AreWritesAt c.choose_places.new.self c.args.new.property.sectors c.args.bytes.now c.in_ok-places.places.items c.in_ok-writes.writes.items =
+    subst (λ places. AreWritesAt c.choose_places.new.self c.args.new.property.sectors c.args.bytes.now places c.in_ok-writes.writes.items) c.as_slice.ensures.value c.in_ok-writes.ensures in
+    let copies : dvas c.copies_at.result ≡ c.in_ok-places.places.items = c.copies_at.ensures ∙ c.as_slice-2.ensures.value in
+    added c.args.self.now _ _ c.args.bytes.now c.in_ok-places.places.items c.in_ok-writes.writes.items stored planned (record {
+      disks = inside.disks;
+      out = inside.out;
+      due = c.in_ok-append.ensures.items ∙ ap (λ xs. xs ++ c.in_ok-writes.writes.items) inside.due;
+      chosen = inside.chosen;
+      copies_at = copies;
+      written = record {
+        fits = record {
+          copies = fits_copies c.choose_places.new.self.spaces c.choose_places.new.self.disks.starts c.args.new.property.sectors c.in_ok-places.places.items c.copies_at.result
+              c.requires.fits.property.not_empty store.laid_out
+              (places_in c.args.self.now c.choose_places.new.self c.args.new.property.sectors c.in_ok-places.places.items took) copies;
+          property = c.requires.fits.property;
+          born = c.requires.fits.born;
+          birth = search rules;
+          filled = c.requires.fits.filled;
+          fill = search rules;
+          fill_of_data = c.requires.fits.fill_of_data;
+        };
+        size = c.requires.size;
+        are_bytes = bytes_fit c.args.bytes.now c.type_inv.bytes;
+        digest = sym c.digest.ensures;
+      };
+      mid = c.choose_places.new.self;
+      mid_spaces = ap (λ (s : Store). s.spaces) (sym c.self.view_is);
+      mid_out = ap (λ (s : Store). s.out) (sym c.self.view_is);
+      writes_at = at;
+    }) plans
