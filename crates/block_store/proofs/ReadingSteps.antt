@@ -1,5 +1,5 @@
 -- Copies that are read one after the other.
-use Rattle.std.proofs.Common.{ℕ, zero, suc, ◌≡◌, ◌+◌, ◌<◌, Result, List, [], ◌∷◌, ◌++◌, Vec, Global, refl, ap, ◌∙◌, sym, append_assoc, arith}
+use Rattle.std.proofs.Common.{ℕ, ◌≡◌, ◌+◌, Result, List, [], ◌∷◌, ◌++◌, Vec, Global, refl, ap, ◌∙◌, sym, append_assoc, arith}
 use Rattle.model_disk.specs.Joint.{JointCall, Disks}
 use Rattle.block_pointer.specs.declared.block.Block.{Block}
 use Rattle.raidz_io.specs.Reads.{AreReads, OnlyReads, AreUntouched}
