@@ -1,15 +1,12 @@
 -- What is stored and planned stays so where no byte of a disk is another.
-use Rattle.std.proofs.Common.{ℕ, ◌≡◌, ◌⊎◌, inl, inr, ◌+◌, Some, None, List, Contains, sym, subst, ◌∙◌}
+use Rattle.std.proofs.Common.{ℕ, ◌≡◌, inl, inr, ◌+◌, List, Contains, sym, subst, ◌∙◌}
 use Rattle.model_disk.specs.Joint.{content}
-use Rattle.block_pointer.specs.declared.block.Block.{Block}
 use Rattle.raidz_io.specs.declared.vdev.Extent.{Extent}
 use Rattle.raidz_io.specs.declared.writes.ColumnWrite.{ColumnWrite}
 use Rattle.raidz_io.specs.Elsewhere.{StandsWhileKept, StandsWithMoreAbsent}
 use Rattle.raidz_io.specs.Stands.{IsDone}
-use Rattle.block_store.specs.Blocks.{Contents}
-use Rattle.block_store.specs.Places.{IsCopy}
-use Rattle.block_store.specs.Plans.{Plans, IsOnTheWay, IsDueFor, KeepsPlans}
-use Rattle.block_store.specs.Store.{Store, outs, Holds, Keeps}
+use Rattle.block_store.specs.Plans.{IsOnTheWay, IsDueFor, KeepsPlans}
+use Rattle.block_store.specs.Store.{Store, outs, Keeps}
 
 -- the disks hold the same bytes, and no disk that was out is in use
 pub record IsKept (old new : Store) : Type 0 where

@@ -1,19 +1,17 @@
 -- The disks that are absent for a part of the reads.
-use Rattle.std.proofs.Common.{ℕ, ◌≡◌, ◌⊎◌, inl, inr, ◌+◌, ◌<◌, ◌≤◌, ◌&&◌, nat_le, Bool, true, false, if◌then◌else◌, Some, List, [], ◌∷◌, ◌++◌, length, Contains, refl, sym, ap, subst, ◌∙◌, arith}
+use Rattle.std.proofs.Common.{ℕ, ◌≡◌, inl, inr, ◌+◌, ◌≤◌, ◌&&◌, nat_le, Bool, true, false, if◌then◌else◌, List, [], ◌∷◌, length, Contains, refl, sym, subst, arith}
 use Rattle.std.proofs.lemmas.Bool.Decides.{nat_tests}
 use Rattle.std.proofs.lemmas.List.Elements.{Contains-append_left, Contains-append_right, Contains-append_cases}
-use Rattle.std.specs.List.{slice_get}
 use Rattle.model_disk.specs.Call.{is_failed}
 use Rattle.model_disk.specs.Joint.{JointCall, Disks, content, failed_since}
 use Rattle.model_disk.specs.Laws.{PartsAreHonest}
 use Rattle.raidz_io.specs.declared.vdev.Extent.{Extent}
 use Rattle.raidz_io.specs.declared.vdev.Vdev.{Vdev}
 use Rattle.raidz_io.specs.Elsewhere.{StandsWhileKept, StandsWithMoreAbsent}
-use Rattle.raidz_io.specs.Reads.{OnlyReads, IsHonestSince, absent_since, HoldsColumn, FewAreLost, ReadsKeepContents}
+use Rattle.raidz_io.specs.Reads.{OnlyReads, IsHonestSince, absent_since, FewAreLost, ReadsKeepContents}
 use Rattle.raidz_io.specs.Stands.{ExtentStands}
 use Rattle.raidz_io.proofs.Calls.{Contains-front, Contains-later, Contains-cases, length-OnlyReads}
 use Rattle.raidz_io.proofs.Placed.{placed_at}
-use Rattle.block_store.specs.declared.space.VdevSpace.{VdevSpace}
 use Rattle.block_store.specs.Reading.{FewAreAbsent}
 
 at_earlier : (n m count : ℕ) → n ≤ m → nat_le m count ≡ true → nat_le n count ≡ true

@@ -1,5 +1,5 @@
 -- Copies that are read one after the other.
-use Rattle.std.proofs.Common.{ℕ, zero, suc, ◌≡◌, ◌+◌, ◌<◌, Result, List, [], ◌∷◌, ◌++◌, Vec, Global, refl, ap, ◌∙◌, sym, append_assoc, arith}
+use Rattle.std.proofs.Common.{ℕ, ◌≡◌, ◌+◌, Result, List, [], ◌∷◌, ◌++◌, Vec, Global, refl, ap, ◌∙◌, sym, append_assoc, arith}
 use Rattle.model_disk.specs.Joint.{JointCall, Disks}
 use Rattle.block_pointer.specs.declared.block.Block.{Block}
 use Rattle.raidz_io.specs.Reads.{AreReads, OnlyReads, AreUntouched}
@@ -7,6 +7,7 @@ use Rattle.raidz_io.proofs.Calls.{OnlyReads-none}
 use Rattle.block_store.specs.declared.refusal.Refusal.{Refusal}
 use Rattle.block_store.specs.declared.space.VdevSpace.{VdevSpace}
 use Rattle.block_store.specs.Reading.{IsFault, IsCopyRead, IsReadUpTo}
+use Rattle.block_store.specs.Store.{Store}
 
 are_reads_too : (newer calls : List JointCall) → AreReads newer → AreReads calls → AreReads (newer ++ calls)
 are_reads_too [] calls are are' = are'
@@ -22,6 +23,10 @@ reads_on old mid new first second = record {
 
 pub untouched_on : (absent : List ℕ) (old mid new : Disks) → AreUntouched absent old mid → AreUntouched absent mid new → AreUntouched absent old new
 untouched_on absent old mid new first second disk held = second disk held ∙ first disk held
+
+-- only the disks are others
+pub rest_on : (old mid new : Store) → mid ≡ record old { disks = mid.disks } → new ≡ record mid { disks = new.disks } → new ≡ record old { disks = new.disks }
+rest_on old mid new first second = second ∙ ap (λ (s : Store). record s { disks = new.disks }) first
 
 -- the first copy was read
 pub first_read : (spaces : List VdevSpace) (absent : List ℕ) (block : Block) (old new : Disks) (result : Result (Vec ℕ Global) Refusal)

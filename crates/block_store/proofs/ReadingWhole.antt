@@ -1,9 +1,7 @@
 -- What a read of a block gives.
-use Rattle.std.proofs.Common.{ℕ, suc, ◌≡◌, ◌⊎◌, inl, inr, ◌+◌, ◌-◌, ◌*◌, ◌<◌, ◌≤◌, Some, Ok, Err, Result, IfOk, IfErr, List, Vec, Global, [], ◌++◌, length, Contains, append-nil, refl, sym, ap, subst, ◌∙◌, arith}
+use Rattle.std.proofs.Common.{ℕ, ◌≡◌, ◌⊎◌, inl, inr, ◌-◌, Some, Ok, Err, Result, IfOk, IfErr, List, Vec, Global, [], ◌++◌, length, append-nil, sym, ap, subst, arith}
 use Rattle.std.proofs.lemmas.List.Elements.{Contains-append_left}
-use Rattle.std.specs.List.{slice_get}
-use Rattle.sha2.specs.Sha256.{sha256}
-use Rattle.model_disk.specs.Joint.{Disks, content, failed_since}
+use Rattle.model_disk.specs.Joint.{content, failed_since}
 use Rattle.model_disk.specs.Laws.{PartsAreHonest}
 use Rattle.block_pointer.specs.declared.block.Block.{Block}
 use Rattle.block_pointer.specs.declared.dva.Dva.{Dva}
@@ -16,11 +14,10 @@ use Rattle.raidz_io.specs.Stands.{ExtentStands}
 use Rattle.block_store.specs.declared.block.Asked.{Asked}
 use Rattle.block_store.specs.declared.refusal.Refusal.{Refusal}
 use Rattle.block_store.specs.declared.refusal.Refusal.TheVariants.{NoMemory, BadPointer, DiskFault, BadDigest}
-use Rattle.block_store.specs.declared.space.VdevSpace.{VdevSpace}
 use Rattle.block_store.specs.Blocks.{Contents}
-use Rattle.block_store.specs.Places.{IsPlaceIn, IsCopy}
-use Rattle.block_store.specs.Reading.{Asks, IsReadable, AreTolerable, IsLastFault, IsFault, IsCopyRead, IsReadUpTo}
-use Rattle.block_store.specs.Store.{Store, outs, outs_from, Holds}
+use Rattle.block_store.specs.Places.{IsCopy}
+use Rattle.block_store.specs.Reading.{Asks, IsReadable, AreTolerable, IsLastFault, IsReadUpTo}
+use Rattle.block_store.specs.Store.{Store, outs, Holds}
 use Rattle.block_store.proofs.Kept.{IsKept}
 use Rattle.block_store.proofs.ReadingLost.{absent_earlier, honest_later, stands_later, few_lost}
 use Rattle.block_store.proofs.ReadingSteps.{reads_on, untouched_on}

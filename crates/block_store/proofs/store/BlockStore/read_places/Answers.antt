@@ -1,10 +1,10 @@
-use Rattle.std.proofs.Common.{◌≡◌, List, Contains, IsTrue, false, sym, ap, subst, ◌∙◌}
+use Rattle.std.proofs.Common.{◌≡◌, List, Contains, IsTrue, false, sym, ap, subst}
 use Rattle.block_pointer.specs.declared.dva.Dva.{Dva}
 use Rattle.block_store.specs.declared.space.VdevSpace.{VdevSpace}
 use Rattle.block_store.specs.Places.{IsPlaceIn}
 use Rattle.block_store.specs.Reading.{IsCopyRead}
 use Rattle.block_store.specs.Store.{Store}
-use Rattle.block_store.proofs.ReadingSteps.{ends_here, next_read}
+use Rattle.block_store.proofs.ReadingSteps.{rest_on, ends_here, next_read}
 use Rattle.block_store.proofs.store.BlockStore.read_places.Goals as goal
 use Rattle.block_store.proofs.store.BlockStore.read_places.Goals.{then-is_fault, else-is_fault}
 
@@ -25,7 +25,7 @@ loop-i-preserved g c =
           subst (λ (spaces : List VdevSpace). IsCopyRead spaces c.args.absent.now c.args.block.now c.loop-i.i before.disks after.disks w.read_copy-read-then-is_fault.result)
           spaces w.read_copy-read-then-is_fault.ensures.read in
           rw (w.self-is, w.read-is) (record {
-            rest = w.read_copy-read-then-is_fault.ensures.rest ∙ ap (λ (s : Store). record s { disks = after.disks }) c.loop-i.invariant.rest;
+            rest = rest_on c.args.self.now before after c.loop-i.invariant.rest w.read_copy-read-then-is_fault.ensures.rest;
             read = next_read c.args.self.now.spaces c.args.absent.now c.args.block.now c.loop-i.i c.args.self.now.disks before.disks after.disks c.loop-i.read
                 w.read_copy-read-then-is_fault.result c.loop-i.invariant.read read;
           })
