@@ -19,3 +19,6 @@ pub use refusal::Refusal;
 pub use shape::VdevShape;
 pub use space::VdevSpace;
 pub use store::BlockStore;
+
+#[cfg(test)]
+mod tests;
