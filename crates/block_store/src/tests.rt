@@ -44,7 +44,11 @@ fn small_store(alloc: Global) -> Result<MemStore, Fail> {
     Ok(BlockStore::new(alloc, disks, &[vdev(3, 1, 12)?])?)
 }
 
-fn property(sectors: u32) -> Property {
+fn property(sectors: u32) -> Property
+    ensures level { result.level ≡ 0 }
+    ensures object_type { result.object_type ≡ 19 }
+    ensures sectors { result.sectors ≡ sectors }
+{
     Property {
         level: 0,
         object_type: 19,
@@ -269,6 +273,7 @@ fn a_disk_whose_write_fails_is_out(rt: HostRuntime) -> Result<(), Fail> {
     reads_back(&rt, &mut store, alloc, &before, 1, LARGE, &[])?;
     reads_back(&rt, &mut store, alloc, &during, 2, LARGE, &[])?;
     reads_back(&rt, &mut store, alloc, &after, 3, LARGE, &[])?;
+    assert_eq!(rt; store.disk_count(), 3);
     assert_eq!(rt; store.flush(0), Ok(()));
     Ok(())
 }
