@@ -65,7 +65,7 @@ record AreFirstAndRest (starts : List (List ℕ)) (first : ℕ) (config : VdevCo
 first_and_rest : (starts : List (List ℕ)) (first : ℕ) (config : VdevConfig) (configs : List VdevConfig) (shapes : List VdevShape)
     → AreShapes starts first (config ∷ configs) shapes → AreFirstAndRest starts first config configs
 first_and_rest starts first config configs [] are = absurd are
-first_and_rest starts first config configs (shape ∷ rest) are = record { shape = shape; rest = rest; is_shape = are.0; are_rest = are.1; }
+first_and_rest starts first config configs (shape ∷ rest) are = record { shape = shape; rest = rest; is_shape = are.0; are_rest = are.1 }
 
 -- a space more
 shapes_of-push : (spaces : List VdevSpace) (space : VdevSpace) (rest : List VdevShape)
@@ -97,7 +97,7 @@ before_more starts configs index first spaces config space before there is is_sh
           let others : (rest : List VdevShape) × AreShapes starts first (drop index configs) rest = before.needed shapes are in
           let P : List VdevConfig → Type 0 = λ xs. AreShapes starts first xs others.0 in
           let parts : AreFirstAndRest starts first config (drop (index + 1) configs)
-              = first_and_rest starts first config (drop (index + 1) configs) others.0 (subst P tail others.1) in
+          = first_and_rest starts first config (drop (index + 1) configs) others.0 (subst P tail others.1) in
           (parts.rest, parts.are_rest);
     }
 
@@ -109,7 +109,7 @@ no_shape starts configs index first spaces config before there is none shapes ar
     let others : (rest : List VdevShape) × AreShapes starts first (drop index configs) rest = before.needed shapes are in
     let P : List VdevConfig → Type 0 = λ xs. AreShapes starts first xs others.0 in
     let parts : AreFirstAndRest starts first config (drop (index + 1) configs)
-        = first_and_rest starts first config (drop (index + 1) configs) others.0 (subst P (behind configs index config there is) others.1) in
+    = first_and_rest starts first config (drop (index + 1) configs) others.0 (subst P (behind configs index config there is) others.1) in
     none parts.shape parts.is_shape
 
 -- after the last vdev all are made
@@ -129,16 +129,17 @@ record WasAsked (starts : List (List ℕ)) (first : ℕ) (space : VdevSpace) : T
   pub after : first ≤ at
   pub is_shape : IsShapeOf starts at config space.shape
 
+-- each vdev was asked for
 was_asked : (starts : List (List ℕ)) (first : ℕ) (configs : List VdevConfig) (spaces : List VdevSpace) (v : ℕ) (space : VdevSpace)
     → AreShapes starts first configs (shapes_of spaces) → slice_get spaces v ≡ Some space → WasAsked starts first space
 was_asked starts first configs [] v space are found = absurd (cc)
 was_asked starts first [] (here ∷ spaces) v space are found = absurd are
 was_asked starts first (config ∷ configs) (here ∷ spaces) zero space are found =
     let P : VdevSpace → Type 0 = λ s. IsShapeOf starts first config s.shape in
-    record { config = config; at = first; after = omega arith; is_shape = subst P (same_some here space found) are.0; }
+    record { config = config; at = first; after = omega arith; is_shape = subst P (same_some here space found) are.0 }
 was_asked starts first (config ∷ configs) (here ∷ spaces) (suc v) space are found =
     let later : WasAsked starts (first + config.geometry.children) space = was_asked starts (first + config.geometry.children) configs spaces v space are.1 found in
-    record { config = later.config; at = later.at; after = omega (arith, later.after); is_shape = later.is_shape; }
+    record { config = later.config; at = later.at; after = omega (arith, later.after); is_shape = later.is_shape }
 
 -- a vdev has as many children as were asked for
 children_are : (starts : List (List ℕ)) (first : ℕ) (config : VdevConfig) (shape : VdevShape) → IsShapeOf starts first config shape
@@ -156,7 +157,7 @@ are_apart starts first (config ∷ configs) (here ∷ spaces) zero (suc other) s
     let P : VdevSpace → Type 0 = λ s. IsShapeOf starts first config s.shape in
     let is : IsShapeOf starts first config space.shape = subst P (same_some here space found) are.0 in
     let later : WasAsked starts (first + config.geometry.children) behind
-        = was_asked starts (first + config.geometry.children) configs spaces other behind are.1 found' in
+    = was_asked starts (first + config.geometry.children) configs spaces other behind are.1 found' in
     omega (arith, is.first_is, children_are starts first config space.shape is, later.after, later.is_shape.first_is)
 are_apart starts first (config ∷ configs) (here ∷ spaces) (suc v) (suc other) space behind are less found found' =
     are_apart starts (first + config.geometry.children) configs spaces v other space behind are.1 (omega (arith, less)) found found'
@@ -179,8 +180,8 @@ has_room : (starts : List (List ℕ)) (first : ℕ) (config : VdevConfig) (shape
 has_room starts first config shape count is =
     let children : shape.vdev.geometry.children ≡ config.geometry.children = children_are starts first config shape is in
     let at : (child : ℕ) → child < config.geometry.children → offset_of_sector shape.child_sectors ≤ length (bytes_of starts (first + child)) = λ child below.
-        on_disk (size_of starts (first + child)) shape.child_sectors (is.sizes (first + child) (omega arith) (omega (arith, below)))
-        (is.sectors.least (first + child) (omega arith) (omega (arith, below))) in
+    on_disk (size_of starts (first + child)) shape.child_sectors (is.sizes (first + child) (omega arith) (omega (arith, below)))
+    (is.sectors.least (first + child) (omega arith) (omega (arith, below))) in
     record {
       numbers = omega (arith, is.first_is, children, is.disks, count);
       offsets = omega (arith, shape.most_sectors);
@@ -210,7 +211,7 @@ is_store store configs are few count out due =
 -- a store that holds nothing
 holds_nothing : (store : Store) → Holds store nothing_stored
 holds_nothing store = record {
-  placed = record { blocks = λ block bytes is. absurd (cc); places = λ block bytes i place is copy. absurd (cc); apart = λ block other bytes others i k place behind is is'. absurd (cc); };
+  placed = record { blocks = λ block bytes is. absurd (cc); places = λ block bytes i place is copy. absurd (cc); apart = λ block other bytes others i k place behind is is'. absurd (cc) };
   stand = λ block bytes i extent is copy. absurd (cc);
 }
 
@@ -218,7 +219,7 @@ pub plans_nothing : (store : Store) → store.due ≡ [] → Plans store nothing
 plans_nothing store due = record {
   held = holds_nothing store;
   kept = λ block bytes is. is;
-  placed = record { blocks = λ block bytes is. absurd (cc); places = λ block bytes i place is copy. absurd (cc); apart = λ block other bytes others i k place behind is is'. absurd (cc); };
+  placed = record { blocks = λ block bytes is. absurd (cc); places = λ block bytes i place is copy. absurd (cc); apart = λ block other bytes others i k place behind is is'. absurd (cc) };
   writes_of = λ block i. [];
   on_the_way = λ block bytes i extent is new copy. absurd (cc);
   due = λ write among. let P : List ColumnWrite → Type 0 = λ xs. Contains xs write in absurd (omega (arith, (subst P due among).1));

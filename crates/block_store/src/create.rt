@@ -63,11 +63,7 @@ fn sectors_for_blocks(size: u64) -> Option<u64>
 
 /// How many sectors for blocks the smallest of the disks from `first` on and before `end` has, where none is too small or
 /// too large.
-fn least_sectors<D: Disk + Drop>(
-    disks: &DiskArray<D>,
-    first: usize,
-    end: usize,
-) -> Option<u64>
+fn least_sectors<D: Disk + Drop>(disks: &DiskArray<D>, first: usize, end: usize) -> Option<u64>
     requires some { first < end }
     requires there { end ≤ length disks.now.starts }
     ensures allowed { IfSome result (λ _. AreAllowedSizes disks.now.starts first end) }
