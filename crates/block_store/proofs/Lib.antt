@@ -1,11 +1,12 @@
-pub mod Choosing
-pub mod Copies
 pub mod Adding
 pub mod Calling
+pub mod Choosing
+pub mod Copies
 pub mod CopyWrites
 pub mod Extents
 pub mod Fitting
 pub mod Kept
+pub mod Making
 pub mod Outs
 pub mod Planning
 pub mod ReadingCopy

@@ -1,4 +1,5 @@
 pub mod Blocks
+pub mod Config
 pub mod Laws
 pub mod Places
 pub mod Plans

@@ -3,6 +3,7 @@
 
 mod block;
 mod choice;
+mod create;
 mod device;
 mod plan;
 mod read;
@@ -12,8 +13,12 @@ mod space;
 mod store;
 
 pub use block::{Asked, CopyCount, NewBlock};
+pub use create::VdevConfig;
 pub use device::FailedDisk;
 pub use refusal::Refusal;
 pub use shape::VdevShape;
 pub use space::VdevSpace;
 pub use store::BlockStore;
+
+#[cfg(test)]
+mod tests;

@@ -1,4 +1,4 @@
-//! Why a block is not read or written.
+//! Why a store is not made, or a block is not read or written.
 ghost use Rattle.std.specs.Prelude.{◌≡◌};
 
 use std::alloc::{AllocError, AllocFailed};
@@ -19,6 +19,9 @@ pub enum Refusal {
     /// No copy could be read, and no choice of the last one's columns has the digest.
     #[error("the block has another digest")]
     BadDigest,
+    /// The vdevs or the disks of a new store are not within its limits.
+    #[error("the store cannot be made of these vdevs and disks")]
+    BadConfig,
 }
 
 impl From<AllocError> for Refusal {

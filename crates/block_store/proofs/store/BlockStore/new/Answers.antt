@@ -1,0 +1,14 @@
+use Rattle.std.proofs.Common.{◌≡◌, ◌≤◌, ◌^◌, length, arith}
+use Rattle.std.proofs.lemmas.Grind.{common_steps}
+use Rattle.block_store.proofs.Making.{is_store, plans_nothing}
+use Rattle.block_store.proofs.store.BlockStore.new.Goals as goal
+
+pub invariant_of-result : goal.invariant_of-result
+invariant_of-result g c =
+    let few : length c.args.vdevs.now ≤ 8 = omega arith in
+    let count : length c.new-disks.result.starts ≤ 2 ^ 64 = omega (arith, c.len.ensures, c.len.type_inv) in
+    let out : length c.in_ok-out.out.items ≡ length c.new-disks.result.starts = grind (arith, common_steps) in
+    is_store _ c.args.vdevs.now c.in_ok-spaces.ensures.ok few count out c.new.ensures.items
+
+pub returns-clause-plans : goal.returns-clause-plans
+returns-clause-plans g c = plans_nothing _ c.new.ensures.items
