@@ -1,6 +1,6 @@
 -- A block that a plan adds.
-use Rattle.std.proofs.Common.{ℕ, zero, suc, ◌≡◌, ◌≢◌, ◌⊎◌, inl, inr, ◌+◌, ◌*◌, ◌<◌, ◌≤◌, Bool, true, false, if◌then◌else◌, Option, Some, None, List, [], ◌∷◌, ◌++◌, length, Contains, refl, sym, ap, subst, ◌∙◌, arith}
-use Rattle.std.specs.Prelude.{map, unwrap_or}
+use Rattle.std.proofs.Common.{ℕ, ◌≡◌, ◌⊎◌, inl, inr, ◌<◌, Bool, true, false, if◌then◌else◌, Option, Some, None, List, [], ◌++◌, length, Contains, refl, sym, ap, subst, ◌∙◌, arith}
+use Rattle.std.specs.Prelude.{unwrap_or}
 use Rattle.std.specs.List.{slice_get}
 use Rattle.std.proofs.lemmas.List.Elements.{Contains-append_left, Contains-append_right, Contains-append_cases}
 use Rattle.std.proofs.lemmas.Option.{slice_get_within}
@@ -16,8 +16,7 @@ use Rattle.raidz_io.specs.Stands.{IsDone, IsWithin}
 use Rattle.raidz_io.proofs.Kept.{writes_on_disks}
 use Rattle.raidz_io.proofs.Placed.{extent_fits}
 use Rattle.raidz_io.proofs.Written.{same_some, slice_get_some}
-use Rattle.block_store.specs.declared.space.VdevSpace.{VdevSpace}
-use Rattle.block_store.specs.Blocks.{Contents, Extends, Adds, IsWrittenAs}
+use Rattle.block_store.specs.Blocks.{Contents, Adds, IsWrittenAs}
 use Rattle.block_store.specs.Places.{shapes_of, IsTaken, IsPlaceIn, IsCopy, IsExtentAt, ArePlacesApart, AreChosen}
 use Rattle.block_store.specs.Places.{filled as filled_marks, planned as planned_marks}
 use Rattle.block_store.specs.Plans.{Plans, KeepsPlans, IsOnTheWay, IsDueFor, AreWritesAt}
@@ -26,7 +25,7 @@ use Rattle.block_store.proofs.Planning.{IsSameBut, keeps_by, marks_by_map, some_
 use Rattle.block_store.proofs.ReadingPlaces.{place_fits}
 use Rattle.block_store.proofs.SameBlock.{same_block, block_is, block_itself}
 use Rattle.block_store.proofs.Sizes.{asize_some}
-use Rattle.block_store.proofs.Taking.{Grows, AreTakenToo, are_taken, taken_too, placed_too, copy_too, turned}
+use Rattle.block_store.proofs.Taking.{AreTakenToo, are_taken, taken_too, placed_too, copy_too, turned}
 use Rattle.block_store.proofs.Writing.{found_at}
 
 -- the contents with this block

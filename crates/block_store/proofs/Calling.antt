@@ -1,14 +1,14 @@
 -- Device calls.
-use Rattle.std.proofs.Common.{ℕ, ◌≡◌, ◌≢◌, ◌⊎◌, inl, inr, ◌+◌, ◌<◌, ◌≤◌, Bool, true, false, List, [], ◌∷◌, length, Contains, Result, Ok, Err, OnOk, IfErr, is_ok, refl, sym, ap, subst, ◌∙◌, arith}
+use Rattle.std.proofs.Common.{ℕ, ◌≡◌, ◌⊎◌, inl, inr, ◌+◌, ◌<◌, ◌≤◌, false, List, ◌∷◌, length, Contains, Result, Ok, Err, OnOk, IfErr, is_ok, refl, sym, subst, arith}
 use Rattle.std.proofs.lemmas.Bool.{cases_eq}
-use Rattle.model_disk.specs.Call.{Call, Wrote, FailedWrite, Flushed, FailedFlush, write_call, flush_call}
+use Rattle.model_disk.specs.Call.{write_call, flush_call}
 use Rattle.model_disk.specs.Contents.{touches}
 use Rattle.model_disk.specs.Joint.{Disks, on, content}
 use Rattle.model_disk.proofs.ContentsLemmas.{covers-outside}
 use Rattle.model_disk.proofs.LawLemmas.{written_bytes_stand, other_bytes_stay}
 use Rattle.raidz_io.specs.declared.writes.ColumnWrite.{ColumnWrite}
 use Rattle.raidz_io.specs.Elsewhere.{ChangesOnlyWritten}
-use Rattle.raidz_io.specs.Stands.{IsDone, IsWritten}
+use Rattle.raidz_io.specs.Stands.{IsDone}
 use Rattle.block_store.specs.declared.device.FailedDisk.{FailedDisk}
 use Rattle.block_store.specs.Store.{Store, outs, outs_from, IsOutToo}
 use Rattle.block_store.proofs.Kept.{IsKept}

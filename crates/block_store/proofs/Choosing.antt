@@ -1,5 +1,5 @@
 -- The choice of places.
-use Rattle.std.proofs.Common.{ℕ, zero, suc, ◌≡◌, ◌≢◌, ◌⊎◌, inl, inr, ◌+◌, ◌<◌, ◌≤◌, Some, None, Option, IfNone, List, [], ◌∷◌, ◌++◌, length, get_or, Contains, refl, sym, ap, subst, ◌∙◌, arith}
+use Rattle.std.proofs.Common.{ℕ, zero, suc, ◌≡◌, inl, inr, ◌+◌, ◌<◌, ◌≤◌, Some, None, Option, IfNone, List, [], ◌∷◌, ◌++◌, length, get_or, refl, sym, ap, subst, ◌∙◌, arith}
 use Rattle.std.specs.Prelude.{slice_index}
 use Rattle.std.specs.List.{slice_get}
 use Rattle.std.proofs.lemmas.Bool.{cases_lt}
@@ -10,8 +10,8 @@ use Rattle.raidz_io.proofs.Written.{same_some}
 use Rattle.block_store.specs.declared.choice.Spread.{Spread}
 use Rattle.block_store.specs.declared.choice.Spread.TheVariants.{Vdevs, Metaslabs, Anywhere}
 use Rattle.block_store.specs.declared.space.VdevSpace.{VdevSpace}
-use Rattle.block_store.specs.Places.{planned, HasRoomAt, MayTake, IsFound, IsInVdev, IsInMetaslab, IsChosen, IsTakenToo, AreChosen}
-use Rattle.block_store.specs.Shapes.{metaslab_sectors, metaslabs, metaslab_of}
+use Rattle.block_store.specs.Places.{planned, HasRoomAt, MayTake, IsFound, IsChosen, IsTakenToo, AreChosen}
+use Rattle.block_store.specs.Shapes.{metaslab_sectors, metaslabs}
 
 -- an item of a list
 pub at_item : {X : Type 0} (xs : List X) (i : ℕ) (x : X) → i < length xs → x ≡ get_or xs i x → slice_get xs i ≡ Some x

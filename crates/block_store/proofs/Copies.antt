@@ -1,10 +1,9 @@
 -- Copies that lie apart.
-use Rattle.std.proofs.Common.{ℕ, zero, suc, ◌≡◌, ◌≢◌, ◌⊎◌, inl, inr, ◌+◌, ◌*◌, ◌<◌, ◌≤◌, Some, List, length, refl, sym, ap, subst, ◌∙◌, arith}
+use Rattle.std.proofs.Common.{ℕ, ◌≡◌, ◌≢◌, ◌⊎◌, inl, inr, ◌+◌, ◌≤◌, Some, List, sym, ap, ◌∙◌, arith}
 use Rattle.std.proofs.lemmas.Bool.{cases_lt}
 use Rattle.std.specs.List.{slice_get}
 use Rattle.block_pointer.specs.declared.block.Block.{Block}
 use Rattle.block_pointer.specs.declared.dva.Dva.{Dva}
-use Rattle.block_pointer.specs.Copies.{dvas}
 use Rattle.raidz_map.specs.Layout.{asize}
 use Rattle.raidz_map.specs.Extent.{AreApart}
 use Rattle.raidz_io.specs.declared.vdev.Vdev.{Vdev}

@@ -1,7 +1,6 @@
 -- The writes of the copies of a block.
-use Rattle.std.proofs.Common.{ℕ, zero, suc, ◌≡◌, ◌≢◌, ◌⊎◌, inl, inr, ◌+◌, ◌<◌, ◌≤◌, Bool, true, false, not, if◌then◌else◌, Some, List, [], ◌∷◌, ◌++◌, length, Contains, refl, sym, ap, subst, ◌∙◌, arith}
+use Rattle.std.proofs.Common.{ℕ, zero, suc, ◌≡◌, ◌⊎◌, inl, inr, ◌+◌, ◌<◌, Bool, true, false, not, List, [], ◌∷◌, ◌++◌, length, Contains, refl, sym, ap, subst, ◌∙◌, arith}
 use Rattle.std.specs.Prelude.{filter, All, slice_index_or}
-use Rattle.std.specs.List.{slice_get}
 use Rattle.std.proofs.lemmas.List.{length-append}
 use Rattle.std.proofs.lemmas.List.Elements.{Contains-append_left, Contains-append_right, Contains-append_cases, All-append}
 use Rattle.std.proofs.lemmas.Option.{slice_get_within}
@@ -10,13 +9,13 @@ use Rattle.raidz_io.specs.declared.vdev.Extent.{Extent}
 use Rattle.raidz_io.specs.declared.writes.ColumnWrite.{ColumnWrite}
 use Rattle.raidz_io.specs.Stands.{WouldStore, AreColumnWrites}
 use Rattle.raidz_io.proofs.Parts.{slice_get_before, slice_get_last}
-use Rattle.raidz_io.proofs.Written.{same_some, slice_get_push}
+use Rattle.raidz_io.proofs.Written.{slice_get_push}
 use Rattle.block_store.specs.Places.{IsExtentAt}
 use Rattle.block_store.specs.Plans.{AreWritesAt}
 use Rattle.block_store.specs.Store.{Store, is_out, outs}
 use Rattle.block_store.proofs.Extents.{one_extent}
 use Rattle.block_store.proofs.Outs.{out_is_in}
-use Rattle.block_store.proofs.Writing.{found_at, first_or_later, later_too}
+use Rattle.block_store.proofs.Writing.{first_or_later, later_too}
 
 either : (test : Bool) → (test ≡ true) ⊎ (test ≡ false)
 either true = inl refl

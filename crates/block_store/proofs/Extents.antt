@@ -1,6 +1,5 @@
 -- An extent is told by its vdev, its start and its size.
-use Rattle.std.proofs.Common.{ℕ, ◌≡◌, ◌<◌, Some, List, refl, sym, ap, subst, ◌∙◌, arith}
-use Rattle.std.specs.List.{slice_get}
+use Rattle.std.proofs.Common.{ℕ, ◌≡◌, ◌<◌, List, sym, ap, subst, ◌∙◌}
 use Rattle.std.proofs.Math.Bridge.{le_prop}
 use Rattle.block_pointer.specs.declared.dva.Dva.{Dva}
 use Rattle.raidz_io.specs.declared.vdev.Vdev.{Vdev}

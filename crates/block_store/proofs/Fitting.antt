@@ -1,10 +1,10 @@
 -- A new block has a spelling.
-use Rattle.std.proofs.Common.{ℕ, zero, suc, ◌≡◌, ◌+◌, ◌*◌, ◌/◌, ◌%◌, ◌^◌, ◌<◌, ◌≤◌, Some, List, [], ◌∷◌, ◌++◌, length, All, Fits, w8, Result, Ok, Err, OnErr, refl, sym, ap, subst, ◌∙◌, arith, mul-le-mul_right, mul-le-mul}
+use Rattle.std.proofs.Common.{ℕ, zero, suc, ◌≡◌, ◌+◌, ◌*◌, ◌/◌, ◌%◌, ◌^◌, ◌<◌, ◌≤◌, Some, List, [], ◌∷◌, length, All, Fits, w8, Result, Ok, Err, OnErr, refl, sym, ap, ◌∙◌, arith, mul-le-mul_right, mul-le-mul}
 use Rattle.std.specs.List.{AllByRecursion, slice_get}
 use Rattle.std.specs.Prelude.{slice_index_or}
 use Rattle.std.proofs.lemmas.Nat.{div-add-mod'}
 use Rattle.std.proofs.lemmas.Option.{slice_get_within}
-use Rattle.std.proofs.Math.Nat.{pow-le-pow_right, div-mul-le_self}
+use Rattle.std.proofs.Math.Nat.{div-mul-le_self}
 use Rattle.block_pointer.specs.declared.copies.Copies.{Copies}
 use Rattle.block_pointer.specs.declared.dva.Dva.{Dva}
 use Rattle.block_pointer.specs.Copies.{dvas, FitsCopies}
@@ -13,8 +13,8 @@ use Rattle.block_store.specs.declared.refusal.Refusal.{Refusal}
 use Rattle.block_store.specs.declared.refusal.Refusal.TheVariants.{NoSpace}
 use Rattle.block_store.specs.declared.shape.VdevShape.{VdevShape}
 use Rattle.block_store.specs.declared.space.VdevSpace.{VdevSpace}
-use Rattle.block_store.specs.Places.{IsLaidOut, IsPlaceIn, AreChosen, RanOut}
-use Rattle.block_store.specs.Shapes.{vdev_sectors, metaslab_sectors, metaslabs, IsPlace}
+use Rattle.block_store.specs.Places.{IsLaidOut, IsPlaceIn, RanOut}
+use Rattle.block_store.specs.Shapes.{vdev_sectors, metaslab_sectors, metaslabs}
 use Rattle.block_store.specs.Store.{Store}
 use Rattle.block_store.proofs.Adding.{OnlyTook}
 use Rattle.block_store.proofs.Sizes.{asize_some, slab_bound}

@@ -1,15 +1,14 @@
 -- Sizes of metaslabs and of what lies in them.
-use Rattle.std.proofs.Common.{ℕ, ◌≡◌, ◌+◌, ◌*◌, ◌/◌, ◌%◌, ◌^◌, ◌<◌, ◌≤◌, refl, sym, ap, subst, ◌∙◌, arith}
+use Rattle.std.proofs.Common.{ℕ, ◌≡◌, ◌+◌, ◌*◌, ◌/◌, ◌%◌, ◌^◌, ◌<◌, ◌≤◌, sym, ap, ◌∙◌, arith}
 use Rattle.std.specs.Prelude.{slice_index}
 use Rattle.std.proofs.Math.Nat.{pow-le-pow_right}
 use Rattle.std.proofs.lemmas.Nat.{div-mul-add, mod-mul-add}
 use Rattle.block_pointer.specs.declared.dva.Dva.{Dva}
 use Rattle.raidz_map.specs.declared.geometry.Geometry.{Geometry}
 use Rattle.raidz_map.specs.Layout.{asize}
-use Rattle.block_store.specs.declared.shape.VdevShape.{VdevShape}
 use Rattle.block_store.specs.declared.space.VdevSpace.{VdevSpace}
 use Rattle.block_store.specs.Places.{planned, IsBehind}
-use Rattle.block_store.specs.Shapes.{metaslab_sectors, metaslabs, metaslab_of, sector_of, IsPlace}
+use Rattle.block_store.specs.Shapes.{metaslab_sectors, metaslabs, metaslab_of, sector_of}
 
 -- a metaslab has at most 2^20 sectors
 pub slab_bound : (shift : ℕ) → shift ≤ 20 → 2 ^ shift ≤ 2 ^ 20

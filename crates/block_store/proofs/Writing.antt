@@ -1,18 +1,18 @@
 -- A write that is due is made.
-use Rattle.std.proofs.Common.{ℕ, zero, suc, ◌≡◌, ◌≢◌, ◌⊎◌, inl, inr, ◌+◌, ◌<◌, Option, Some, None, List, [], ◌∷◌, length, Contains, refl, sym, ap, subst, ◌∙◌, arith}
+use Rattle.std.proofs.Common.{ℕ, zero, suc, ◌≡◌, ◌≢◌, ◌⊎◌, inl, inr, Option, Some, None, List, [], ◌∷◌, Contains, refl, sym, ap, subst, ◌∙◌, arith}
 use Rattle.std.proofs.lemmas.Bool.{cases_lt}
 use Rattle.std.specs.List.{slice_get}
 use Rattle.model_disk.specs.Joint.{content}
 use Rattle.block_pointer.specs.declared.block.Block.{Block}
 use Rattle.raidz_io.specs.declared.vdev.Extent.{Extent}
 use Rattle.raidz_io.specs.declared.writes.ColumnWrite.{ColumnWrite}
-use Rattle.raidz_io.specs.Elsewhere.{ChangesOnlyWritten, ApartExtentsShareNoByte, OtherVdevsShareNoByte, ShareNoByte, StandsWithMoreAbsent, StandsWhileOthersAreWritten, WritesAreApart, DoneWhileOthersAreWritten}
+use Rattle.raidz_io.specs.Elsewhere.{ChangesOnlyWritten, ShareNoByte}
 use Rattle.raidz_io.specs.Stands.{ExtentStands, IsDone, IsColumnWrite}
 use Rattle.raidz_io.proofs.Written.{same_some}
 use Rattle.block_store.specs.Blocks.{Contents}
 use Rattle.block_store.specs.Laws.{Laws}
 use Rattle.block_store.specs.Places.{IsLaidOut, IsCopy}
-use Rattle.block_store.specs.Places.{filled as filled_marks, planned as planned_marks}
+use Rattle.block_store.specs.Places.{planned as planned_marks}
 use Rattle.block_store.specs.Plans.{Plans, IsOnTheWay, IsDueFor}
 use Rattle.block_store.specs.Store.{Store, outs, Holds}
 use Rattle.block_store.proofs.Copies.{copies_apart}

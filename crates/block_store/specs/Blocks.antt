@@ -1,8 +1,7 @@
 -- Blocks, and the bytes that they were written with.
-use Rattle.std.specs.Prelude.{ℕ, ◌≡◌, ◌*◌, ◌<◌, ◌≤◌, ◌⊎◌, Option, Some, None, List, length, All}
+use Rattle.std.specs.Prelude.{ℕ, ◌≡◌, ◌*◌, ◌<◌, ◌⊎◌, Option, Some, None, List, length, All}
 use Rattle.sha2.specs.Sha256.{sha256}
 use Rattle.block_pointer.specs.declared.block.Block.{Block}
-use Rattle.block_pointer.specs.declared.property.Property.{Property}
 use Rattle.block_pointer.specs.Block.{FitsBlock}
 use Rattle.block_pointer.specs.Copies.{dvas}
 use Rattle.block_pointer.specs.Property.{FitsProperty}

@@ -1,6 +1,6 @@
-use Rattle.std.proofs.Common.{rules, ℕ, ◌≡◌, ◌<◌, ◌≤◌, Some, length, refl, sym, ap, ◌∙◌, arith}
+use Rattle.std.proofs.Common.{rules, ◌≡◌, Some, refl, ◌∙◌, arith}
 use Rattle.std.specs.List.{slice_get}
-use Rattle.block_store.specs.Places.{shapes_of, filled, planned}
+use Rattle.block_store.specs.Places.{filled, planned}
 use Rattle.block_store.proofs.Choosing.{at_item}
 use Rattle.block_store.proofs.Planning.{one_more, all_below, same_marks}
 use Rattle.block_store.proofs.Taking.{map-set_same}

@@ -1,6 +1,6 @@
-use Rattle.std.proofs.Common.{◌≡◌, ◌≤◌, ◌<◌, ◌^◌, ◌↔◌, ℕ, Some, IsTrue, IfSome, IfNone, IfOk, IfErr, length, slice_get, ◌+◌, slice_index, ◌-◌, ◌*◌}
-use Rattle.block_store.specs.Places.{IsInVdev, IsInMetaslab, HasRoomAt, IsBehind, MayTake, IsChosen, IsTakenToo, AreChosen, RanOut, planned}
-use Rattle.block_store.specs.Shapes.{metaslab_of, metaslabs, metaslab_sectors}
+use Rattle.std.proofs.Common.{◌≤◌, ◌<◌, ℕ, ◌+◌, slice_index}
+use Rattle.block_store.specs.Places.{MayTake, planned}
+use Rattle.block_store.specs.Shapes.{metaslab_sectors}
 use Rattle.raidz_map.specs.Layout.{asize}
 use Rattle.block_store.proofs.space.VdevSpace.find_metaslab.Given as goal
 

@@ -1,7 +1,6 @@
-use Rattle.std.proofs.Common.{rules, ◌≡◌, ◌≤◌, ◌<◌, ◌^◌, ◌↔◌, ℕ, Some, IsTrue, IfSome, IfNone, IfOk, IfErr, length, slice_get, ◌+◌, slice_index, ◌-◌, ◌*◌, ◌/◌, ◌%◌, Bool, true, false, nat_eq, nat_lt, List, [], ◌∷◌, ◌++◌, slice_index_or, slice_set, bit_and, bit_or, Fits, w8, w32, w64, Bor, MutBor}
-use Rattle.block_store.specs.Places.{IsInVdev, IsInMetaslab, HasRoomAt, IsBehind, MayTake, IsChosen, IsTakenToo, AreChosen, RanOut, planned}
-use Rattle.block_store.specs.Shapes.{metaslab_of, metaslabs, metaslab_sectors}
-use Rattle.raidz_map.specs.Layout.{asize}
+use Rattle.std.proofs.Common.{rules, ◌≡◌, ◌<◌, length, ◌+◌, slice_index, ◌*◌}
+use Rattle.block_store.specs.Places.{planned}
+use Rattle.block_store.specs.Shapes.{metaslab_sectors}
 use Rattle.std.proofs.Common.{sym, ap, ◌∙◌}
 use Rattle.raidz_io.proofs.Pigeons.{same_at}
 use Rattle.block_store.proofs.Sizes.{is_behind}

@@ -1,4 +1,4 @@
-use Rattle.std.proofs.Common.{◌≡◌, ◌<◌, [], Contains, refl, sym, ap, ◌∙◌, subst, arith}
+use Rattle.std.proofs.Common.{Contains, refl, sym, subst}
 use Rattle.block_store.specs.Store.{Store, Holds}
 use Rattle.block_store.proofs.Planning.{begun, nothing}
 use Rattle.block_store.proofs.Taking.{laid_out_too}

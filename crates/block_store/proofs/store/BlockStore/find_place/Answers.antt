@@ -1,7 +1,5 @@
-use Rattle.std.proofs.Common.{rules, ◌≡◌, ◌≤◌, ◌<◌, ℕ, Some, length, slice_get, sym, ap, ◌∙◌, subst}
-use Rattle.block_store.specs.Places.{MayTake, IsFound}
-use Rattle.block_store.specs.Shapes.{metaslab_of, metaslabs}
-use Rattle.block_store.specs.declared.space.VdevSpace.{VdevSpace}
+use Rattle.std.proofs.Common.{rules, ◌≡◌, ℕ, Some, slice_get, sym, ap, ◌∙◌, subst}
+use Rattle.block_store.specs.Places.{MayTake}
 use Rattle.block_store.proofs.Choosing.{at_item, none_of_one_more, none_at_all}
 use Rattle.block_store.proofs.store.BlockStore.find_place.Goals as goal
 

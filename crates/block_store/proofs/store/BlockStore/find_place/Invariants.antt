@@ -1,7 +1,3 @@
-use Rattle.std.proofs.Common.{◌≡◌, ◌≤◌, ◌<◌, ◌^◌, ◌↔◌, ℕ, Some, IsTrue, IfSome, IfNone, IfOk, IfErr, length, slice_get, [], ◌+◌, slice_index, ◌-◌, ◌*◌}
-use Rattle.block_store.specs.Places.{IsInVdev, IsInMetaslab, HasRoomAt, IsBehind, MayTake, IsChosen, IsTakenToo, AreChosen, RanOut, IsFound, planned}
-use Rattle.block_store.specs.Shapes.{metaslab_of, metaslabs}
-use Rattle.block_store.specs.declared.space.VdevSpace.{VdevSpace}
 use Rattle.block_store.proofs.Choosing.{NoneBefore}
 use Rattle.block_store.proofs.store.BlockStore.find_place.Given as goal
 

@@ -1,4 +1,4 @@
-use Rattle.std.proofs.Common.{◌≡◌, [], refl, sym, ap, ◌∙◌, subst}
+use Rattle.std.proofs.Common.{refl, sym, ap, ◌∙◌, subst}
 use Rattle.block_store.specs.Plans.{Plans}
 use Rattle.block_store.specs.Store.{Store}
 use Rattle.block_store.proofs.Planning.{finished}

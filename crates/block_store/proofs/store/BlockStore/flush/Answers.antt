@@ -1,4 +1,4 @@
-use Rattle.std.proofs.Common.{ℕ, ◌≡◌, ◌∷◌, IfErr, OnOk, is_ok, sym, ap, ◌∙◌, subst}
+use Rattle.std.proofs.Common.{◌≡◌, ◌∷◌, IfErr, OnOk, is_ok, sym, ap, ◌∙◌, subst}
 use Rattle.model_disk.specs.Call.{flush_call}
 use Rattle.model_disk.specs.Joint.{Disks, on}
 use Rattle.block_store.specs.Store.{Store, IsOutToo}

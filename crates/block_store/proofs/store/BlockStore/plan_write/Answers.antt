@@ -1,14 +1,10 @@
-use Rattle.std.proofs.Common.{rules, ℕ, ◌≡◌, ◌+◌, ◌<◌, List, [], ◌∷◌, ◌++◌, length, Contains, refl, sym, ap, ◌∙◌, subst, arith, inl, inr}
-use Rattle.std.specs.List.{slice_get}
+use Rattle.std.proofs.Common.{rules, ◌≡◌, ◌++◌, Contains, sym, ap, ◌∙◌, subst, inl, inr}
 use Rattle.std.proofs.lemmas.List.Elements.{Contains-append_cases}
-use Rattle.block_pointer.specs.declared.dva.Dva.{Dva}
 use Rattle.block_pointer.specs.Copies.{dvas}
 use Rattle.raidz_io.specs.Stands.{IsWithin}
-use Rattle.block_store.specs.Blocks.{IsWrittenAs}
-use Rattle.block_store.specs.Places.{shapes_of, IsPlaceIn}
-use Rattle.block_store.specs.Plans.{KeepsPlans, AreWritesAt}
-use Rattle.block_store.specs.Store.{Store, Keeps, IsStore}
-use Rattle.block_store.proofs.Adding.{OnlyTook, IsNewBlock, added, chosen_keeps, took_keeps, took_keeps_plans, took_shapes, places_in, writes_within}
+use Rattle.block_store.specs.Plans.{AreWritesAt}
+use Rattle.block_store.specs.Store.{Store, IsStore}
+use Rattle.block_store.proofs.Adding.{OnlyTook, added, chosen_keeps, took_keeps, took_keeps_plans, took_shapes, places_in, writes_within}
 use Rattle.block_store.proofs.Fitting.{bytes_fit, fits_copies, on_err, took_some}
 use Rattle.block_store.proofs.Writing.{found_at}
 use Rattle.block_store.proofs.store.BlockStore.plan_write.Goals as goal

@@ -1,7 +1,6 @@
-use Rattle.std.proofs.Common.{rules, ◌≡◌, ◌≤◌, ◌<◌, ◌^◌, ◌↔◌, ℕ, Some, IsTrue, IfSome, IfNone, IfOk, IfErr, length, slice_get, [], ◌+◌, slice_index, ◌-◌, ◌*◌, ◌/◌, ◌%◌, Bool, true, false, nat_eq, nat_lt, List, ◌∷◌, ◌++◌, slice_index_or, slice_set, bit_and, bit_or, Fits, w8, w32, w64, Bor, MutBor}
-use Rattle.block_store.specs.Places.{IsInVdev, IsInMetaslab, HasRoomAt, IsBehind, MayTake, IsChosen, IsTakenToo, AreChosen, RanOut, IsFound, planned}
+use Rattle.std.proofs.Common.{rules, ◌≡◌, ◌<◌, ℕ, Some, length, slice_get, ◌+◌, slice_index, slice_index_or, slice_set}
+use Rattle.block_store.specs.Places.{planned}
 use Rattle.block_store.specs.Shapes.{metaslab_of, metaslabs}
-use Rattle.block_store.specs.declared.space.VdevSpace.{VdevSpace}
 use Rattle.block_store.proofs.Choosing.{at_item}
 use Rattle.std.proofs.Common.{refl, ap, sym, ◌∙◌}
 use Rattle.raidz_io.proofs.Pigeons.{same_at}

@@ -1,7 +1,6 @@
-use Rattle.std.proofs.Common.{ℕ, ◌≡◌, ◌∷◌, List, length, Contains, IfErr, OnOk, is_ok, sym, ap, ◌∙◌, subst}
+use Rattle.std.proofs.Common.{◌≡◌, ◌∷◌, length, Contains, IfErr, OnOk, is_ok, sym, ap, ◌∙◌, subst}
 use Rattle.model_disk.specs.Call.{write_call}
 use Rattle.model_disk.specs.Joint.{Disks, on}
-use Rattle.raidz_io.specs.declared.writes.ColumnWrite.{ColumnWrite}
 use Rattle.raidz_io.specs.Stands.{IsWithin}
 use Rattle.block_store.specs.Places.{IsLaidOut}
 use Rattle.block_store.specs.Store.{Store, IsOutToo}
