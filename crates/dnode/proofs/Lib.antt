@@ -1,0 +1,4 @@
+pub mod LevelLemmas
+pub mod Nodes
+pub mod PointerLists
+pub mod Seams

@@ -1,0 +1,252 @@
+use super::*;
+use block_pointer::{Block, BlockPtr, Copies, Dva, Property};
+use std::test::*;
+
+/// An 8 KiB data block of type 23, with one copy, on device 3.
+const DATA_BLOCK: Block = Block {
+    copies: Copies::One(Dva {
+        vdev: 3,
+        offset: 0x0123_4567,
+        allocated: 18,
+    }),
+    property: Property {
+        level: 0,
+        object_type: 23,
+        sectors: 16,
+    },
+    birth: 0x0a0b,
+    fill: 1,
+    checksum: [0xee; 32],
+};
+
+/// An indirect block above data of type 23, with 5 of its blocks there.
+const INDIRECT_BLOCK: Block = Block {
+    property: Property {
+        level: 1,
+        object_type: 23,
+        sectors: 32,
+    },
+    fill: 5,
+    ..DATA_BLOCK
+};
+
+const ONE_BLOCK: ObjectNode = ObjectNode {
+    object_type: 23,
+    data_sectors: 16,
+    highest: 0,
+    pointer: BlockPtr::Block(DATA_BLOCK),
+};
+
+const MANY_HOLES: ObjectNode = ObjectNode {
+    object_type: 23,
+    data_sectors: 256,
+    highest: 0x0102_0304,
+    pointer: BlockPtr::Hole,
+};
+
+const META: ObjectSet = ObjectSet {
+    dnodes: ObjectNode {
+        object_type: 10,
+        data_sectors: 32,
+        highest: 1,
+        pointer: BlockPtr::Hole,
+    },
+    kind: ObjectSetKind::Meta,
+    objects: 64,
+};
+
+/// `DATA_BLOCK`, byte by byte.
+fn data_block_bytes() -> [u8; 128] {
+    let mut bytes = [0; 128];
+    bytes[..16].copy_from_slice(&[18, 0, 0, 0, 3, 0, 0, 0, 0x67, 0x45, 0x23, 0x01, 0, 0, 0, 0]);
+    bytes[48..56].copy_from_slice(&[0x0f, 0x00, 0x0f, 0x00, 0x02, 0x08, 0x17, 0x80]);
+    bytes[80..82].copy_from_slice(&[0x0b, 0x0a]);
+    bytes[88] = 1;
+    bytes[96..].copy_from_slice(&[0xee; 32]);
+    bytes
+}
+
+fn one_block_bytes() -> [u8; 512] {
+    let mut bytes = [0; 512];
+    bytes[..8].copy_from_slice(&[23, 14, 1, 1, 0, 8, 2, 0]);
+    bytes[8] = 16;
+    bytes[64..192].copy_from_slice(&data_block_bytes());
+    bytes
+}
+
+fn many_holes_bytes() -> [u8; 512] {
+    let mut bytes = [0; 512];
+    bytes[..8].copy_from_slice(&[23, 14, 5, 1, 0, 8, 2, 0]);
+    bytes[8..10].copy_from_slice(&[0, 1]);
+    bytes[16..20].copy_from_slice(&[4, 3, 2, 1]);
+    bytes
+}
+
+fn meta_bytes() -> [u8; 1024] {
+    let mut bytes = [0; 1024];
+    bytes[..8].copy_from_slice(&[10, 14, 2, 1, 0, 8, 2, 0]);
+    bytes[8] = 32;
+    bytes[16] = 1;
+    bytes[512] = 1;
+    bytes[520] = 64;
+    bytes
+}
+
+#[test]
+fn levels_are_the_least(rt: HostRuntime) {
+    assert_eq!(rt; levels_of(0), 1);
+    assert_eq!(rt; levels_of(1), 2);
+    assert_eq!(rt; levels_of(127), 2);
+    assert_eq!(rt; levels_of(128), 3);
+    assert_eq!(rt; levels_of(16_383), 3);
+    assert_eq!(rt; levels_of(16_384), 4);
+    assert_eq!(rt; levels_of(2_097_152), 5);
+    assert_eq!(rt; levels_of(268_435_456), 6);
+    assert_eq!(rt; levels_of(34_359_738_367), 6);
+    assert_eq!(rt; MANY_HOLES.levels(), 5);
+}
+
+#[test]
+fn a_dnode_is_written_and_read(rt: HostRuntime) {
+    let one_block = Dnode::Object(ONE_BLOCK);
+    assert_eq!(rt; one_block.encode(), one_block_bytes());
+    assert_eq!(rt; Dnode::decode(&one_block_bytes()), Ok(one_block));
+    let many_holes = Dnode::Object(MANY_HOLES);
+    assert_eq!(rt; many_holes.encode(), many_holes_bytes());
+    assert_eq!(rt; Dnode::decode(&many_holes_bytes()), Ok(many_holes));
+}
+
+#[test]
+fn a_free_dnode_is_zeros(rt: HostRuntime) {
+    assert_eq!(rt; Dnode::Free.encode(), [0; 512]);
+    assert_eq!(rt; Dnode::decode(&[0; 512]), Ok(Dnode::Free));
+}
+
+/// What a byte of the dnode's must not become, and why.
+const DNODE_BREACHES: [(usize, u8, &str); 22] = [
+    (0, 0, "the type is 0"),
+    (0, 24, "the type is not the pointer's"),
+    (1, 13, "the indirect block shift is 13"),
+    (2, 2, "there is a level too many"),
+    (3, 2, "there are two pointers"),
+    (4, 1, "there is a bonus type"),
+    (5, 7, "the checksum is 7"),
+    (6, 3, "the compression is 3"),
+    (7, 1, "the byte behind the compression is not zero"),
+    (8, 0, "a data block has no sectors"),
+    (8, 17, "a data block is not as long as the pointer's"),
+    (9, 1, "a data block has more than 256 sectors"),
+    (10, 1, "there is a bonus"),
+    (12, 1, "a byte behind the bonus length is not zero"),
+    (16, 1, "the highest block needs two levels"),
+    (20, 8, "the highest block needs seven levels"),
+    (24, 1, "the used space is told"),
+    (63, 1, "the last byte before the pointer is not zero"),
+    (118, 24, "the pointer's type is another"),
+    (119, 0x81, "the pointer's level is 1"),
+    (192, 1, "the first byte behind the pointer is not zero"),
+    (511, 1, "the last byte is not zero"),
+];
+
+#[test]
+fn breaches_of_a_dnode_are_refused(rt: HostRuntime) {
+    for (place, byte, why) in DNODE_BREACHES {
+        let mut bytes = one_block_bytes();
+        bytes[place] = byte;
+        assert_eq!(rt; Dnode::decode(&bytes), Err(Refusal::BadPointer), "{why}");
+    }
+}
+
+#[test]
+fn an_indirect_block_is_written_and_read(rt: HostRuntime) -> Result<(), Fail> {
+    let mut block = Indirect::holes(rt.alloc())?;
+    assert_eq!(rt; block.fill(), Some(0));
+    block.set(1, BlockPtr::Block(DATA_BLOCK));
+    block.set(127, BlockPtr::Block(INDIRECT_BLOCK));
+    assert_eq!(rt; block.fill(), Some(6));
+    let bytes = block.encode(rt.alloc())?;
+    assert_eq!(rt; bytes.len(), 16_384);
+    assert_eq!(rt; &bytes[..128], [0; 128].as_slice());
+    assert_eq!(rt; &bytes[128..256], data_block_bytes().as_slice());
+    assert_eq!(rt; &bytes[256..384], [0; 128].as_slice());
+    assert_eq!(rt; bytes[16_256 + 88], 5);
+    let again = Indirect::decode(rt.alloc(), &bytes)?;
+    assert_eq!(rt; again.pointers(), block.pointers());
+    assert_eq!(rt; again.get(0), BlockPtr::Hole);
+    assert_eq!(rt; again.get(1), BlockPtr::Block(DATA_BLOCK));
+    assert_eq!(rt; again.get(127), BlockPtr::Block(INDIRECT_BLOCK));
+    Ok(())
+}
+
+#[test]
+fn what_is_no_indirect_block_is_refused(rt: HostRuntime) -> Result<(), Fail> {
+    let bad = Some(Refusal::BadPointer);
+    let short = vec![in rt.alloc(); 0; 16_383]?;
+    let found = Indirect::decode(rt.alloc(), &short);
+    assert_eq!(rt; found.err(), bad, "a byte is missing");
+    let long = vec![in rt.alloc(); 0; 16_385]?;
+    let found = Indirect::decode(rt.alloc(), &long);
+    assert_eq!(rt; found.err(), bad, "there is a byte more");
+    let mut spoiled = vec![in rt.alloc(); 0; 16_384]?;
+    spoiled[16_383] = 1;
+    let found = Indirect::decode(rt.alloc(), &spoiled);
+    assert_eq!(rt; found.err(), bad, "the last pointer is none");
+    Ok(())
+}
+
+#[test]
+fn a_fill_that_is_too_great_has_no_sum(rt: HostRuntime) -> Result<(), Fail> {
+    let great = BlockPtr::Block(Block {
+        fill: u64::MAX,
+        ..INDIRECT_BLOCK
+    });
+    let mut block = Indirect::holes(rt.alloc())?;
+    block.set(0, great);
+    assert_eq!(rt; block.fill(), Some(u64::MAX));
+    block.set(5, BlockPtr::Block(DATA_BLOCK));
+    assert_eq!(rt; block.fill(), None);
+    Ok(())
+}
+
+#[test]
+fn an_object_set_is_written_and_read(rt: HostRuntime) {
+    assert_eq!(rt; META.encode(), meta_bytes());
+    assert_eq!(rt; ObjectSet::decode(&meta_bytes()), Ok(META));
+    let volume = ObjectSet {
+        kind: ObjectSetKind::Volume,
+        objects: 2,
+        ..META
+    };
+    let mut bytes = meta_bytes();
+    bytes[512] = 3;
+    bytes[520] = 2;
+    assert_eq!(rt; volume.encode(), bytes);
+    assert_eq!(rt; ObjectSet::decode(&bytes), Ok(volume));
+}
+
+/// What a byte of the object set's must not become, and why.
+const SET_BREACHES: [(usize, u8, &str); 10] = [
+    (0, 0, "there is no object of dnodes"),
+    (0, 23, "the type of the dnodes is another"),
+    (1, 13, "the dnode of the dnodes is none"),
+    (8, 16, "the blocks of the dnodes are short"),
+    (512, 2, "the kind is 2"),
+    (513, 1, "the kind is above 3"),
+    (520, 0, "there are no objects"),
+    (520, 65, "there are more objects than dnodes"),
+    (528, 1, "the first byte behind the fields is not zero"),
+    (1023, 1, "the last byte is not zero"),
+];
+
+#[test]
+fn breaches_of_an_object_set_are_refused(rt: HostRuntime) {
+    for (place, byte, why) in SET_BREACHES {
+        let mut bytes = meta_bytes();
+        bytes[place] = byte;
+        assert_eq!(rt;
+            ObjectSet::decode(&bytes),
+            Err(Refusal::BadPointer),
+            "{why}"
+        );
+    }
+}
