@@ -1,0 +1,11 @@
+//! The pool after all accepted groups: an index of its names, why a step is refused by it, how the machine's steps move
+//! it, and its bytes as pending writes over committed ones. Nothing here knows of disks.
+#![tactic(auto)]
+
+mod causes;
+mod index;
+mod shape;
+
+pub use causes::{against_change, against_read, against_write, named};
+pub use index::NameIndex;
+pub use shape::VolumeShape;
