@@ -1,3 +1,5 @@
 pub mod Indexes
 pub mod Volumes
 pub mod NowMoves
+pub mod Ranges
+pub mod Overlays

@@ -45,7 +45,7 @@ now_wrote v writer group x = shapes_upto v.committed (v.pools v.committed) (ledg
 
 -- ---- actions
 
-fold_push : {A B : Type 0} (f : B → A → B) (z : B) (xs : List A) (y : A) → fold f z (xs ++ y ∷ []) ≡ f (fold f z xs) y
+pub fold_push : {A B : Type 0} (f : B → A → B) (z : B) (xs : List A) (y : A) → fold f z (xs ++ y ∷ []) ≡ f (fold f z xs) y
 fold_push f z [] y = refl
 fold_push f z (x ∷ xs) y = fold_push f (f z x) xs y
 

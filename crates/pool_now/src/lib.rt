@@ -4,8 +4,10 @@
 
 mod causes;
 mod index;
+mod overlay;
 mod shape;
 
 pub use causes::{against_change, against_read, against_write, named};
 pub use index::NameIndex;
+pub use overlay::lay_over;
 pub use shape::VolumeShape;
