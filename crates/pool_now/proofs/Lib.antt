@@ -3,3 +3,4 @@ pub mod Volumes
 pub mod NowMoves
 pub mod Ranges
 pub mod Overlays
+pub mod Pending

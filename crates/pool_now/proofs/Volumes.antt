@@ -32,7 +32,7 @@ name_after w volume = elim (same volume.name w.volume) as (λ b. (cond b (record
 
 pub shape_after : (w : Write) (volume : PlainVolume) → shape_of (volume_after w volume) ≡ shape_of volume
 shape_after w volume = elim (same volume.name w.volume) as (λ b. shape_of (cond b (record volume { bytes = stored w.offset w.bytes volume.bytes }) volume) ≡ shape_of volume) [
-  true ↦ λ i. record (shape_of volume) { size = length-stored w.offset w.bytes volume.bytes i }
+  | true ↦ λ i. record (shape_of volume) { size = length-stored w.offset w.bytes volume.bytes i }
   | false ↦ refl
 ]
 

@@ -2,7 +2,8 @@
 use Rattle.std.specs.Prelude.{◌≡◌, ℕ, ◌+◌, ◌<◌, List, fold, length, replicate, slice_range, Option, Some, None}
 use Rattle.pool_model.specs.declared.item.Write.{Write}
 use Rattle.pool_model.specs.declared.volume.PlainVolume.{PlainVolume}
-use Rattle.pool_model.specs.Pools.{PlainPool, volume_at, volume_after}
+use Rattle.pool_model.specs.Groups.{counters_of}
+use Rattle.pool_model.specs.Pools.{volume_at, volume_after, upto}
 use Rattle.pool_model.specs.View.{View}
 use Rattle.pool_now.specs.declared.shape.VolumeShape.{VolumeShape}
 use Rattle.pool_now.specs.Shapes.{shape_of}
@@ -28,3 +29,17 @@ HasRange buffer bytes offset = buffer ≡ slice_range bytes offset (offset + len
 abbrev pub ComesTo : VolumeShape → ℕ → Option PlainVolume → Type 0
 ComesTo shape group (Some volume) = shape_of volume ≡ shape
 ComesTo shape group None = group < shape.group
+
+-- what the pool of a group that isn't below the committed one has at a name
+abbrev pub reached : View → List ℕ → ℕ → Option PlainVolume
+reached v name group = volume_at name (upto v.committed (v.pools v.committed) v.ledger group)
+
+-- a buffer had a range of what one group has at a name, and then has that of what a later group has, where that comes to
+-- a volume of this shape
+abbrev pub Lays : View → List ℕ → VolumeShape → ℕ → ℕ → ℕ → List ℕ → List ℕ → Type 0
+Lays v name shape offset earlier later old new = ComesTo shape later (reached v name later) → HasRange old (bytes_or_zeros (reached v name earlier) shape.size) offset →
+    HasRange new (bytes_or_zeros (reached v name later) shape.size) offset
+
+-- the last group that is closed: the one before the open group
+abbrev pub closed_in : View → ℕ
+closed_in v = (counters_of v).closed

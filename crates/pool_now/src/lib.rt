@@ -9,5 +9,5 @@ mod shape;
 
 pub use causes::{against_change, against_read, against_write, named};
 pub use index::NameIndex;
-pub use overlay::lay_over;
+pub use overlay::{lay_over, read_pending};
 pub use shape::VolumeShape;

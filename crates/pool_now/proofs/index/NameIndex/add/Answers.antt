@@ -12,8 +12,8 @@ returns-clause-added c = λ pool volume k none called shape.
     let updates = on_ok c.insert.result (c.insert.ensures.succeeds c.requires) c.insert.ensures.updates in
     record {
       shapes = shapes_added (λ key. key.items) c.args.self.now.shapes.entries c.insert.new.self.entries c.into_vec.result pool volume k.shapes
-      (ap (λ name. volume_at name pool) c.into_vec.ensures ∙ none) (called ∙ sym c.into_vec.ensures)
-      (updates.1 ∙ ap Some (sym shape)) updates.2;
+          (ap (λ name. volume_at name pool) c.into_vec.ensures ∙ none) (called ∙ sym c.into_vec.ensures)
+          (updates.1 ∙ ap Some (sym shape)) updates.2;
     }
 
 pub returns-clause-created : goal.returns-clause-created
