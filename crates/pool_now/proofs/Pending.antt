@@ -5,12 +5,16 @@ use Rattle.std.proofs.lemmas.Bool.Decides.{nat_tests}
 use Rattle.pool_model.specs.declared.volume.PlainVolume.{PlainVolume}
 use Rattle.pool_model.specs.Groups.{taken_in}
 use Rattle.pool_model.specs.Pools.{PlainPool, Ledger, Entry, volume_at, applied, upto}
-use Rattle.pool_model.specs.View.{View, is_syncing, waiting_after, waiting_group, open_after, open_group, now_of}
-use Rattle.pool_model.proofs.Uptos.{upto_base, upto_above}
+use Rattle.pool_model.specs.View.{View, Given, Vdev, started, is_syncing, waiting_after, waiting_group, open_after, open_group, now_of}
+use Rattle.pool_model.specs.declared.step.Step.{Step}
+use Rattle.pool_model.specs.declared.step.Reply.{Reply}
+use Rattle.pool_model.specs.Machine.{StepOf}
+use Rattle.pool_model.proofs.Moves.{EachMove, by_move}
+use Rattle.pool_model.proofs.Uptos.{upto_base, upto_above, itself}
 use Rattle.pool_now.specs.declared.shape.VolumeShape.{VolumeShape}
 use Rattle.pool_now.specs.Shapes.{shape_of}
 use Rattle.pool_now.specs.NowMoves.{IsMadeBy, GroupsAreBelow}
-use Rattle.pool_now.specs.Overlay.{bytes_or_zeros, base_of, closed_in, reached, ComesTo, HasRange, Lays}
+use Rattle.pool_now.specs.Overlay.{bytes_or_zeros, base_of, closed_in, reached, ComesTo, HasRange, Lays, IsCommitted}
 use Rattle.pool_now.proofs.Overlays.{made_by_applied, comes_back}
 
 -- ---- pools above the committed one
@@ -122,3 +126,51 @@ pub committed_part : (v : View) (name : List ℕ) (volume : PlainVolume) → vol
 committed_part v name volume e =
     subst (ComesTo (shape_of volume) v.committed) (reached_committed v name)
     (comes_committed v name (shape_of volume) (comes_taken v name (shape_of volume) (comes_closed v name (shape_of volume) (comes_now v name volume (shape_of volume) e refl))))
+
+pub committed_iff : (v : View) (name : List ℕ) (volume : PlainVolume) → GroupsAreBelow v → volume_at name (now_of v) ≡ Some volume → (volume.group ≤ v.committed → IsCommitted v name volume) × (IsCommitted v name volume → volume.group ≤ v.committed)
+committed_iff v name volume m e = (
+  cases (volume_at name (v.pools v.committed)) refl (committed_part v name volume e),
+  λ k. let low = m name k.0 k.1 in let same : k.0.group ≡ volume.group = ap (λ (s : VolumeShape). s.group) k.2 in omega arith,
+)
+  where
+    cases : (o : Option PlainVolume) → volume_at name (v.pools v.committed) ≡ o → ComesTo (shape_of volume) v.committed o → volume.group ≤ v.committed → IsCommitted v name volume
+    cases (Some base) f k le = (base, f, k)
+    cases None f k le = absurd (omega arith)
+
+pub no_base : (v : View) (name : List ℕ) (volume : PlainVolume) → GroupsAreBelow v → volume_at name (now_of v) ≡ Some volume → v.committed < volume.group → volume_at name (v.pools v.committed) ≡ None
+no_base v name volume m e lt = cases (volume_at name (v.pools v.committed)) refl (committed_part v name volume e)
+  where
+    cases : (o : Option PlainVolume) → volume_at name (v.pools v.committed) ≡ o → ComesTo (shape_of volume) v.committed o → volume_at name (v.pools v.committed) ≡ None
+    cases (Some base) f k = absurd (let low = m name base f in let same : base.group ≡ volume.group = ap (λ (s : VolumeShape). s.group) k in omega arith)
+    cases None f k = f
+
+-- ---- the groups that made the committed volumes
+
+abbrev KeepsBelow : View → Given → Step → Reply → View → Type 0
+KeepsBelow v given step reply w = GroupsAreBelow v → GroupsAreBelow w
+
+below_moves : EachMove KeepsBelow
+below_moves = record {
+  stays = λ v given step cause m. m;
+  begun = λ v given t cause m. m;
+  failed = λ v given cause disk left e m. m;
+  replanned = λ v given disk left e m. m;
+  moved = λ v given phase left rest m. m;
+  read = λ v given name offset len bytes a m. m;
+  read_under = λ v given g name offset len bytes k a m. m;
+  held = λ v given by n m. m;
+  wrote = λ v given x g h n le m. m;
+  acted = λ v given a g h n le op m. m;
+  released = λ v given by m. m;
+  closed = λ v given b m. m;
+  quiesced = λ v given e m. m;
+  planned = λ v given t calls m. m;
+  replanned_group = λ v given t calls m. m;
+  committed = λ v given left m. subst (λ b. IsMadeBy (suc v.committed) (cond b (applied (suc v.committed) (v.pools v.committed) (v.ledger (suc v.committed))) (v.pools (suc v.committed)))) (sym (itself (suc v.committed))) (made_by_applied v.committed (v.pools v.committed) (v.ledger (suc v.committed)) m);
+}
+
+pub below_step : (v : View) (given : Given) (step : Step) (reply : Reply) (w : View) → StepOf v given step reply w → GroupsAreBelow v → GroupsAreBelow w
+below_step v given step reply w h m = by_move KeepsBelow below_moves v given step reply w h m
+
+pub below_start : (vdevs : List Vdev) → GroupsAreBelow (started vdevs)
+below_start vdevs name volume e = absurd (cc)

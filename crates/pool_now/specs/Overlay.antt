@@ -43,3 +43,7 @@ Lays v name shape offset earlier later old new = ComesTo shape later (reached v 
 -- the last group that is closed: the one before the open group
 abbrev pub closed_in : View → ℕ
 closed_in v = (counters_of v).closed
+
+-- a volume of NOW is committed: the pool that was committed last has one of that name, with the same shape
+abbrev pub IsCommitted : View → List ℕ → PlainVolume → Type 0
+IsCommitted v name volume = (base : PlainVolume) × (volume_at name (v.pools v.committed) ≡ Some base) × (shape_of base ≡ shape_of volume)
