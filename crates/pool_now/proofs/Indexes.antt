@@ -1,6 +1,6 @@
 -- A map from keys to shapes, looked up by names.
 use Rattle.std.proofs.Common.{◌≡◌, ℕ, Bool, true, false, true≢false, List, [], ◌∷◌, ◌++◌, Option, Some, None, refl, sym, ap, ◌∙◌, subst}
-use Rattle.std.specs.Prelude.{cond, find, Result, Ok, Err, OnOk, IsOk}
+use Rattle.std.specs.Prelude.{cond, Result, Ok, Err, OnOk, IsOk}
 use Rattle.std.specs.Map.{lookup}
 use Rattle.std.specs.Option.{option_map, option_or}
 use Rattle.std.proofs.lemmas.List.Folds.{find-append}

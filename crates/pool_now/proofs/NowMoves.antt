@@ -1,11 +1,9 @@
 -- How each step moves NOW.
-use Rattle.std.proofs.Common.{◌≡◌, ◌≢◌, ℕ, zero, suc, ◌+◌, ◌<◌, ◌≤◌, Bool, true, false, true≢false, List, [], ◌∷◌, ◌++◌, Option, Some, None, refl, sym, ap, ◌∙◌, subst, arith}
+use Rattle.std.proofs.Common.{◌≡◌, ℕ, zero, suc, ◌≤◌, Bool, true, false, true≢false, List, [], ◌∷◌, ◌++◌, Option, Some, None, refl, sym, ap, ◌∙◌, subst, arith}
 use Rattle.std.specs.Prelude.{cond, fold, is_some, nat_le, not, ◌==◌, ◌&&◌, ◌||◌}
-use Rattle.std.proofs.lemmas.Bool.Decides.{nat_tests}
 use Rattle.pool_model.specs.declared.group.Stage.{Stage}
 use Rattle.pool_model.specs.declared.group.Stage.TheVariants.{Quiescing, Quiesced as QuiescedStage}
 use Rattle.pool_model.specs.declared.item.Action.{Action}
-use Rattle.pool_model.specs.declared.item.Item.{Item}
 use Rattle.pool_model.specs.declared.item.Item.TheVariants.{Write as WriteItem, Action as ActionItem}
 use Rattle.pool_model.specs.declared.item.Write.{Write}
 use Rattle.pool_model.specs.declared.refusal.Refusal.{Refusal}
@@ -13,7 +11,7 @@ use Rattle.pool_model.specs.declared.step.Step.{Step}
 use Rattle.pool_model.specs.declared.step.Step.TheVariants.{Hold, Write as WriteStep, Act}
 use Rattle.pool_model.specs.declared.step.Reply.{Reply}
 use Rattle.pool_model.specs.declared.step.Reply.TheVariants.{Receipt, Refused}
-use Rattle.pool_model.specs.Pools.{PlainPool, Ledger, Entry, no_items, written, changed, applied, upto}
+use Rattle.pool_model.specs.Pools.{PlainPool, Ledger, no_items, written, changed, applied, upto}
 use Rattle.pool_model.specs.View.{View, Given, Sync, Idle, Unplanned, Left, is_syncing, is_planned, is_quiesced, waiting_after, open_after, open_group, now_of}
 use Rattle.pool_model.specs.Refusals.{may_plan}
 use Rattle.pool_model.specs.Flow.{added, ledger_took}

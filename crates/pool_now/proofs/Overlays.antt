@@ -1,8 +1,7 @@
 -- Pending writes over the bytes that lie under them.
-use Rattle.std.proofs.Common.{◌≡◌, ℕ, zero, suc, ◌+◌, ◌<◌, ◌≤◌, Bool, true, false, true≢false, List, [], ◌∷◌, ◌++◌, length, take, replicate, get_or, Option, Some, None, refl, sym, ap, ◌∙◌, subst, arith}
-use Rattle.std.specs.Prelude.{cond, fold, nat_le}
+use Rattle.std.proofs.Common.{◌≡◌, ℕ, suc, ◌+◌, ◌<◌, ◌≤◌, Bool, true, false, true≢false, List, [], ◌∷◌, ◌++◌, length, take, replicate, get_or, Option, Some, None, refl, sym, ap, ◌∙◌, subst, arith}
+use Rattle.std.specs.Prelude.{cond, fold}
 use Rattle.std.specs.Option.{option_map, option_or}
-use Rattle.std.proofs.lemmas.Bool.Decides.{nat_tests}
 use Rattle.std.proofs.lemmas.List.{length-replicate, take_more}
 use Rattle.std.proofs.lemmas.List.Folds.{find-append}
 use Rattle.std.proofs.lemmas.Option.{cond_some}
@@ -12,8 +11,7 @@ use Rattle.pool_model.specs.declared.item.Change.TheVariants.{Create}
 use Rattle.pool_model.specs.declared.item.Write.{Write}
 use Rattle.pool_model.specs.declared.volume.PlainVolume.{PlainVolume}
 use Rattle.pool_model.specs.Names.{same, stored}
-use Rattle.pool_model.specs.Pools.{PlainPool, Ledger, Entry, volume_at, volume_after, written, changed, applied, upto}
-use Rattle.pool_model.proofs.Uptos.{upto_base, upto_above}
+use Rattle.pool_model.specs.Pools.{PlainPool, Entry, volume_at, volume_after, written, changed, applied}
 use Rattle.pool_now.specs.declared.shape.VolumeShape.{VolumeShape}
 use Rattle.pool_now.specs.Shapes.{shape_of}
 use Rattle.pool_now.specs.NowMoves.{IsMadeBy}
@@ -40,9 +38,11 @@ after_more volume writes i item lt is =
     ap (after_writes volume) (take_more writes i item lt ∙ ap (λ w. take i writes ++ w ∷ []) (sym is)) ∙ fold_push (λ v w. volume_after w v) volume (take i writes) item
 
 -- a write to the volume is laid over it
-pub lay_more : (volume : PlainVolume) (writes : List Write) (i : ℕ) (item : Write) (name new : List ℕ) (offset : ℕ) → i < length writes → item ≡ get_or writes i item → same volume.name name ≡ true → same item.volume name ≡ true
-    → HasRange new (stored item.offset item.bytes (after_writes volume (take i writes)).bytes) offset → HasRange new (after_writes volume (take (i + 1) writes)).bytes offset
-lay_more volume writes i item name new offset lt is named wanted h = subst (λ (v : PlainVolume). HasRange new v.bytes offset) (sym (after_more volume writes i item lt is ∙ ap (λ b. cond b (record here { bytes = stored item.offset item.bytes here.bytes }) here) test)) h
+pub lay_more : (volume : PlainVolume) (writes : List Write) (i : ℕ) (item : Write) (name buffer new : List ℕ) (offset : ℕ) → i < length writes → item ≡ get_or writes i item → same volume.name name ≡ true → same item.volume name ≡ true → buffer ≡ new
+    → HasRange new (stored item.offset item.bytes (after_writes volume (take i writes)).bytes) offset → HasRange buffer (after_writes volume (take (i + 1) writes)).bytes offset
+lay_more volume writes i item name buffer new offset lt is named wanted e h =
+    let more = after_more volume writes i item lt is ∙ ap (λ b. cond b (record here { bytes = stored item.offset item.bytes here.bytes }) here) test in
+    subst (λ (xs : List ℕ). HasRange xs (after_writes volume (take (i + 1) writes)).bytes offset) (sym e) (subst (λ (v : PlainVolume). HasRange new v.bytes offset) (sym more) h)
   where
     here : PlainVolume
     here = after_writes volume (take i writes)
@@ -51,9 +51,11 @@ lay_more volume writes i item name new offset lt is named wanted h = subst (λ (
     test = is_same _ _ (name_after_writes volume (take i writes) ∙ (same_is volume.name name named ∙ sym (same_is item.volume name wanted)))
 
 -- one to another volume isn't
-pub skip_more : (volume : PlainVolume) (writes : List Write) (i : ℕ) (item : Write) (name new : List ℕ) (offset : ℕ) → i < length writes → item ≡ get_or writes i item → same volume.name name ≡ true → same item.volume name ≡ false
-    → HasRange new (after_writes volume (take i writes)).bytes offset → HasRange new (after_writes volume (take (i + 1) writes)).bytes offset
-skip_more volume writes i item name new offset lt is named other h = subst (λ (v : PlainVolume). HasRange new v.bytes offset) (sym (after_more volume writes i item lt is ∙ ap (λ b. cond b (record here { bytes = stored item.offset item.bytes here.bytes }) here) test)) h
+pub skip_more : (volume : PlainVolume) (writes : List Write) (i : ℕ) (item : Write) (name buffer new : List ℕ) (offset : ℕ) → i < length writes → item ≡ get_or writes i item → same volume.name name ≡ true → same item.volume name ≡ false → buffer ≡ new
+    → HasRange new (after_writes volume (take i writes)).bytes offset → HasRange buffer (after_writes volume (take (i + 1) writes)).bytes offset
+skip_more volume writes i item name buffer new offset lt is named other e h =
+    let more = after_more volume writes i item lt is ∙ ap (λ b. cond b (record here { bytes = stored item.offset item.bytes here.bytes }) here) test in
+    subst (λ (xs : List ℕ). HasRange xs (after_writes volume (take (i + 1) writes)).bytes offset) (sym e) (subst (λ (v : PlainVolume). HasRange new v.bytes offset) (sym more) h)
   where
     here : PlainVolume
     here = after_writes volume (take i writes)

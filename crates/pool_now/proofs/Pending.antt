@@ -1,11 +1,11 @@
 -- The groups above the committed one, laid one over another.
-use Rattle.std.proofs.Common.{◌≡◌, ℕ, zero, suc, ◌+◌, ◌-◌, ◌<◌, ◌≤◌, Bool, true, false, List, length, Option, Some, None, refl, sym, ap, ◌∙◌, subst, arith}
-use Rattle.std.specs.Prelude.{cond, is_some, nat_le, ◌↔◌}
+use Rattle.std.proofs.Common.{◌≡◌, ℕ, zero, suc, ◌-◌, ◌<◌, ◌≤◌, Bool, true, false, List, length, Option, Some, None, refl, sym, ap, ◌∙◌, subst, arith}
+use Rattle.std.specs.Prelude.{cond, is_some, nat_le}
 use Rattle.std.proofs.lemmas.Bool.Decides.{nat_tests}
 use Rattle.pool_model.specs.declared.volume.PlainVolume.{PlainVolume}
 use Rattle.pool_model.specs.Groups.{taken_in}
 use Rattle.pool_model.specs.Pools.{PlainPool, Ledger, Entry, volume_at, applied, upto}
-use Rattle.pool_model.specs.View.{View, Given, Vdev, started, is_syncing, waiting_after, waiting_group, open_after, open_group, now_of}
+use Rattle.pool_model.specs.View.{View, Given, Vdev, started, is_syncing, waiting_after, waiting_group, open_group, now_of}
 use Rattle.pool_model.specs.declared.step.Step.{Step}
 use Rattle.pool_model.specs.declared.step.Reply.{Reply}
 use Rattle.pool_model.specs.Machine.{StepOf}

@@ -1,5 +1,5 @@
 -- A range of bytes, with a write laid over it.
-use Rattle.std.proofs.Common.{◌≡◌, ◌⊎◌, ⊎_elim, inl, inr, ℕ, ◌+◌, ◌-◌, ◌<◌, ◌≤◌, Bool, true, false, List, [], ◌∷◌, ◌++◌, length, take, drop, get_or, refl, sym, ap, ◌∙◌, subst, arith}
+use Rattle.std.proofs.Common.{◌≡◌, ◌⊎◌, ⊎_elim, inl, inr, ℕ, ◌+◌, ◌-◌, ◌<◌, ◌≤◌, Bool, true, false, List, ◌++◌, length, take, drop, get_or, refl, sym, ap, ◌∙◌, subst, arith}
 use Rattle.std.specs.Prelude.{cond, max, min, nat_le, slice_range}
 use Rattle.std.proofs.lemmas.Bool.Decides.{nat_tests}
 use Rattle.std.proofs.lemmas.List.{length-append, length-take, length-drop, get_or-take, get_or-drop, get_or_append_left, get_or-append_right, drop-drop, same_lists}
@@ -132,12 +132,12 @@ apart_at at len offset n k start end s e le lt = cases (nat_le at (offset + k)) 
 -- they meet from start to end
 pub laid : (buffer bytes new part : List ℕ) (at offset start end : ℕ) → at + length new ≤ length bytes → offset + length buffer ≤ length bytes
     → start ≡ max at offset → end ≡ min (at + length new) (offset + length buffer) → start < end
-    → part ≡ slice_range new (start - at) (end - at)
-    → HasRange buffer bytes offset → HasRange (put_mid (start - offset) (end - offset - (start - offset)) buffer part) (stored at new bytes) offset
+    → part ≡ slice_range new (start - at) (start - at + (end - start))
+    → HasRange buffer bytes offset → HasRange (put_mid (start - offset) (start - offset + (end - start) - (start - offset)) buffer part) (stored at new bytes) offset
 laid buffer bytes new part at offset start end fits le s e lt is h =
-    laid_part buffer bytes new part at offset (start - offset) (end - offset - (start - offset)) (start - at) fits le
-    (is ∙ ap (slice_range new (start - at)) (let same : end - at ≡ start - at + (end - offset - (start - offset)) = omega arith in same))
-    (omega arith) (omega arith) (omega arith)
+    let width : start - offset + (end - start) - (start - offset) ≡ end - start = omega arith in
+    subst (λ m. HasRange (put_mid (start - offset) m buffer part) (stored at new bytes) offset) (sym width)
+    (laid_part buffer bytes new part at offset (start - offset) (end - start) (start - at) fits le is (omega arith) (omega arith) (omega arith)
     (⊎_elim (λ f. inr (omega arith)) (λ f. inl (omega arith)) (either_first at offset))
     (⊎_elim (λ f. inr (omega arith)) (λ f. inl (omega arith)) (either_last (at + length new) (offset + length buffer)))
-    h
+    h)

@@ -1,5 +1,5 @@
 //! The names of a pool.
-ghost use Rattle.std.specs.Prelude.{◌≡◌, [], ◌∷◌, ◌++◌, None, OnOk};
+ghost use Rattle.std.specs.Prelude.{◌≡◌, ◌↔◌, [], ◌∷◌, ◌++◌, None, OnOk};
 
 use crate::shape::VolumeShape;
 use pool_model::Name;
@@ -16,7 +16,6 @@ pub struct NameIndex {
 }
 
 impl NameIndex {
-    ghost use Rattle.std.specs.Option.{option_map};
     ghost use Rattle.pool_model.specs.declared.item.Change.TheVariants.{Create};
     ghost use Rattle.pool_model.specs.declared.volume.PlainVolume.{PlainVolume};
     ghost use Rattle.pool_model.specs.Pools.{PlainPool, volume_at, changed};
@@ -42,7 +41,7 @@ impl NameIndex {
     /// Makes room for one name more.
     pub fn reserve(&mut self) -> Result<(), AllocError>
         ensures room { OnOk result (HasRoom self.new) }
-        ensures same { (pool : PlainPool) → Knows self.old pool → Knows self.new pool }
+        ensures same { (pool : PlainPool) → Knows self.old pool ↔ Knows self.new pool }
     {
         self.shapes.try_reserve(1)
     }

@@ -114,8 +114,10 @@ fn lay_one(write: &Write, size: u64, offset: u64, buffer: &mut [u8])
     let start = write.offset.max(offset);
     let end = (write.offset + len).min(offset + buffer.len() as u64);
     if start < end {
-        let part = &write.bytes.as_slice()[(start - write.offset) as usize..(end
-            - write.offset) as usize];
-        buffer[(start - offset) as usize..(end - offset) as usize].copy_from_slice(part);
+        let skipped = (start - write.offset) as usize;
+        let at = (start - offset) as usize;
+        let count = (end - start) as usize;
+        let part = &write.bytes.as_slice()[skipped..skipped + count];
+        buffer[at..at + count].copy_from_slice(part);
     }
 }

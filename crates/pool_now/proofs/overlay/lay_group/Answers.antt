@@ -1,4 +1,4 @@
-use Rattle.std.proofs.Common.{◌<◌, refl, ap, ◌∙◌, subst, arith}
+use Rattle.std.proofs.Common.{refl, subst, arith}
 use Rattle.std.specs.Prelude.{List}
 use Rattle.pool_model.specs.declared.item.Write.{Write}
 use Rattle.pool_now.specs.Overlay.{after_writes, HasRange}

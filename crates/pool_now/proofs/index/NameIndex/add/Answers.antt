@@ -1,9 +1,6 @@
-use Rattle.std.proofs.Common.{◌≡◌, ℕ, ◌++◌, ◌∷◌, [], None, Some, replicate, refl, sym, ap, ◌∙◌, subst}
+use Rattle.std.proofs.Common.{ℕ, Some, replicate, refl, sym, ap, ◌∙◌}
 use Rattle.std.proofs.lemmas.List.{length-replicate}
-use Rattle.pool_model.specs.declared.volume.PlainVolume.{PlainVolume}
-use Rattle.pool_model.specs.Pools.{PlainPool, volume_at}
-use Rattle.pool_now.specs.Index.{Knows}
-use Rattle.pool_now.specs.Shapes.{shape_of}
+use Rattle.pool_model.specs.Pools.{volume_at}
 use Rattle.pool_now.proofs.Indexes.{on_ok, shapes_added}
 use Rattle.pool_now.proofs.index.NameIndex.add.Goals as goal
 
