@@ -55,7 +55,7 @@ or_none : {A : Type 0} (o : Option A) → option_or o None ≡ o
 or_none None = refl
 or_none (Some x) = refl
 
-volume_more : (pool : PlainPool) (volume : PlainVolume) (name : List ℕ) → volume_at name (pool ++ volume ∷ []) ≡ option_or (volume_at name pool) (cond (same volume.name name) (Some volume) None)
+pub volume_more : (pool : PlainPool) (volume : PlainVolume) (name : List ℕ) → volume_at name (pool ++ volume ∷ []) ≡ option_or (volume_at name pool) (cond (same volume.name name) (Some volume) None)
 volume_more pool volume name = find-append (λ v. same v.name name) pool (volume ∷ [])
 
 pub other_name : (pool : PlainPool) (volume : PlainVolume) (name : List ℕ) → same volume.name name ≡ false → volume_at name (pool ++ volume ∷ []) ≡ volume_at name pool

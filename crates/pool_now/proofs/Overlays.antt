@@ -3,7 +3,6 @@ use Rattle.std.proofs.Common.{◌≡◌, ℕ, suc, ◌+◌, ◌<◌, ◌≤◌, 
 use Rattle.std.specs.Prelude.{cond, fold}
 use Rattle.std.specs.Option.{option_map, option_or}
 use Rattle.std.proofs.lemmas.List.{length-replicate, take_more}
-use Rattle.std.proofs.lemmas.List.Folds.{find-append}
 use Rattle.std.proofs.lemmas.Option.{cond_some}
 use Rattle.pool_model.specs.declared.item.Action.{Action}
 use Rattle.pool_model.specs.declared.item.Change.{Change}
@@ -16,7 +15,7 @@ use Rattle.pool_now.specs.declared.shape.VolumeShape.{VolumeShape}
 use Rattle.pool_now.specs.Shapes.{shape_of}
 use Rattle.pool_now.specs.NowMoves.{IsMadeBy}
 use Rattle.pool_now.specs.Overlay.{after_writes, bytes_or_zeros, HasRange, ComesTo}
-use Rattle.pool_now.proofs.Indexes.{same_is, is_same}
+use Rattle.pool_now.proofs.Indexes.{same_is, is_same, volume_more}
 use Rattle.pool_now.proofs.Volumes.{name_after, shape_after, volume_at_written}
 use Rattle.pool_now.proofs.NowMoves.{fold_push}
 
@@ -73,9 +72,6 @@ skip_more volume writes i item name buffer new offset lt is named other e h =
 pub record IsFresh (maker : ℕ) (volume : PlainVolume) : Type 0 where
   pub group : volume.group ≡ maker
   pub zeros : volume.bytes ≡ replicate (length volume.bytes) 0
-
-volume_more : (pool : PlainPool) (volume : PlainVolume) (name : List ℕ) → volume_at name (pool ++ volume ∷ []) ≡ option_or (volume_at name pool) (cond (same volume.name name) (Some volume) None)
-volume_more pool volume name = find-append (λ v. same v.name name) pool (volume ∷ [])
 
 found_changed : (group : ℕ) (pool : PlainPool) (change : Change) (name : List ℕ) (x : PlainVolume) → volume_at name pool ≡ Some x → volume_at name (changed group pool change) ≡ Some x
 found_changed group pool (Create called size block_size) name x e =

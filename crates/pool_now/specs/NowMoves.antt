@@ -24,6 +24,6 @@ is_action_taken step reply = false
 abbrev pub IsMadeBy : ℕ → PlainPool → Type 0
 IsMadeBy group pool = (name : List ℕ) (volume : PlainVolume) → volume_at name pool ≡ Some volume → volume.group ≤ group
 
--- so it is of the pool that was committed last
+-- the volumes that are committed were made by committed groups
 abbrev pub GroupsAreBelow : View → Type 0
 GroupsAreBelow v = IsMadeBy v.committed (v.pools v.committed)

@@ -1,12 +1,12 @@
 //! Pending writes laid over the bytes that lie under them.
 ghost use Rattle.std.specs.Prelude.{◌≡◌, ℕ, suc, ◌+◌, ◌≤◌, List, length, true, Some};
 ghost use Rattle.pool_model.specs.declared.volume.PlainVolume.{PlainVolume};
+ghost use Rattle.pool_model.specs.Groups.{taken_in};
 ghost use Rattle.pool_model.specs.Names.{same, stored};
 ghost use Rattle.pool_model.specs.Pools.{PlainPool, applied, volume_at};
 ghost use Rattle.pool_model.specs.View.{View, now_of, open_group};
 ghost use Rattle.pool_model.specs.Flow.{flow_of};
 ghost use Rattle.txg_pipeline.specs.Carries.{Carries};
-ghost use Rattle.pool_model.specs.Groups.{taken_in};
 ghost use Rattle.pool_now.specs.NowMoves.{IsMadeBy, GroupsAreBelow};
 ghost use Rattle.pool_now.specs.Overlay.{after_writes, base_of, bytes_or_zeros, closed_in, ComesTo, HasRange, Lays};
 ghost use Rattle.pool_now.specs.Shapes.{shape_of};
@@ -83,7 +83,7 @@ fn lay_open(pipeline: &Pipeline, shape: VolumeShape, name: &Name, offset: u64, b
     );
 }
 
-// The writes of a group are laid over a volume that this group before it, or an earlier one, made.
+// The writes of a group are laid over a volume that the group before it made, or an earlier one.
 fn lay_group(
     before: u64,
     items: &Pending,
