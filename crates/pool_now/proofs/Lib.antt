@@ -1,0 +1,6 @@
+pub mod Indexes
+pub mod Volumes
+pub mod NowMoves
+pub mod Ranges
+pub mod Overlays
+pub mod Pending

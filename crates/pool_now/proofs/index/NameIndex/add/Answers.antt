@@ -1,0 +1,17 @@
+use Rattle.std.proofs.Common.{ℕ, Some, replicate, refl, sym, ap, ◌∙◌}
+use Rattle.std.proofs.lemmas.List.{length-replicate}
+use Rattle.pool_model.specs.Pools.{volume_at}
+use Rattle.pool_now.proofs.Indexes.{on_ok, shapes_added}
+use Rattle.pool_now.proofs.index.NameIndex.add.Goals as goal
+
+pub returns-clause-added : goal.returns-clause-added
+returns-clause-added c = λ pool volume k none called shape.
+    let updates = on_ok c.insert.result (c.insert.ensures.succeeds c.requires) c.insert.ensures.updates in
+    record {
+      shapes = shapes_added (λ key. key.items) c.args.self.now.shapes.entries c.insert.new.self.entries c.into_vec.result pool volume k.shapes
+          (ap (λ name. volume_at name pool) c.into_vec.ensures ∙ none) (called ∙ sym c.into_vec.ensures)
+          (updates.1 ∙ ap Some (sym shape)) updates.2;
+    }
+
+pub returns-clause-created : goal.returns-clause-created
+returns-clause-created c = λ pool k none. returns-clause-added c pool (record { name = c.args.name; bytes = replicate c.args.shape.size 0; block_size = c.args.shape.block_size; group = c.args.shape.group }) k none refl (λ i. record c.args.shape { size = length-replicate {A = ℕ} c.args.shape.size 0 i })

@@ -1,0 +1,4 @@
+pub mod Shapes
+pub mod Index
+pub mod NowMoves
+pub mod Overlay

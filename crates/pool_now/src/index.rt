@@ -1,0 +1,59 @@
+//! The names of a pool.
+ghost use Rattle.std.specs.Prelude.{◌≡◌, ◌↔◌, [], ◌∷◌, ◌++◌, None, OnOk};
+
+use crate::shape::VolumeShape;
+use pool_model::Name;
+use std::alloc::{AllocError, Global};
+use std::collections::HashMap;
+
+/// For each name of a pool, the shape of the volume.
+///
+/// A name is added in two calls, so that what is accepted is also known: first `reserve`, which may fail, and then, once
+/// the group has accepted the change, `add`, which takes no memory.
+#[derive(Debug, Drop)]
+pub struct NameIndex {
+    shapes: HashMap<Vec<u8>, VolumeShape>,
+}
+
+impl NameIndex {
+    ghost use Rattle.pool_model.specs.declared.item.Change.TheVariants.{Create};
+    ghost use Rattle.pool_model.specs.declared.volume.PlainVolume.{PlainVolume};
+    ghost use Rattle.pool_model.specs.Pools.{PlainPool, volume_at, changed};
+    ghost use Rattle.pool_now.specs.Shapes.{shape_of, shape_at};
+    ghost use Rattle.pool_now.specs.Index.{Knows, HasRoom};
+
+    /// The index of a pool with no volume.
+    pub fn new(alloc: Global) -> NameIndex
+        ensures { Knows result [] }
+    {
+        NameIndex {
+            shapes: HashMap::new(alloc),
+        }
+    }
+
+    /// The shape of the volume of that name.
+    pub fn find(&self, name: &Name) -> Option<VolumeShape>
+        ensures { (pool : PlainPool) → Knows self.now pool → result ≡ shape_at name.now pool }
+    {
+        self.shapes.get(name.as_slice()).copied()
+    }
+
+    /// Makes room for one name more.
+    pub fn reserve(&mut self) -> Result<(), AllocError>
+        ensures room { OnOk result (HasRoom self.new) }
+        ensures same { (pool : PlainPool) → Knows self.old pool ↔ Knows self.new pool }
+    {
+        self.shapes.try_reserve(1)
+    }
+
+    /// Adds the name of a new volume, for which there is room.
+    pub fn add(&mut self, name: Name, shape: VolumeShape)
+        requires { HasRoom self.old }
+        ensures added { (pool : PlainPool) (volume : PlainVolume) → Knows self.old pool → volume_at name pool ≡ None → volume.name ≡ name → shape_of volume ≡ shape →
+            Knows self.new (pool ++ volume ∷ []) }
+        ensures created { (pool : PlainPool) → Knows self.old pool → volume_at name pool ≡ None →
+            Knows self.new (changed shape.group pool (Create name shape.size shape.block_size)) }
+    {
+        let _ = self.shapes.insert(name.into_vec(), shape);
+    }
+}
