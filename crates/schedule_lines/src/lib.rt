@@ -9,6 +9,8 @@ mod number;
 mod reading;
 mod refusal;
 mod reply;
+#[cfg(test)]
+mod tests;
 mod words;
 
 pub use command::{Command, CreateLine, Line, PoolLine, ReadLine, UnderLine, WriteLine};
