@@ -1,5 +1,5 @@
 -- The two laws of commands: what is read is spelled so, and what is spelled so is read.
-use Rattle.std.proofs.Common.{◌≡◌, ◌≢◌, ℕ, ◌^◌, ◌<◌, ◌≤◌, List, [], ◌∷◌, ◌++◌, length, drop, Option, Some, None, codes, lit<, refl, sym, ap, subst, ◌∙◌, arith}
+use Rattle.std.proofs.Common.{◌≡◌, ℕ, ◌^◌, List, [], ◌∷◌, ◌++◌, drop, Some, codes, lit<, refl, ap, subst, ◌∙◌, arith}
 use Rattle.std.specs.List.{AllByRecursion}
 use Rattle.std.specs.Fmt.{decimal}
 use Rattle.schedule_lines.specs.declared.command.PoolLine.{PoolLine}
@@ -8,11 +8,11 @@ use Rattle.schedule_lines.specs.declared.command.CreateLine.{CreateLine}
 use Rattle.schedule_lines.specs.declared.command.ReadLine.{ReadLine}
 use Rattle.schedule_lines.specs.declared.command.UnderLine.{UnderLine}
 use Rattle.schedule_lines.specs.declared.command.Command.{Command}
-use Rattle.schedule_lines.specs.declared.command.Command.TheVariants.{Pool, Hold, Release, Write, Create, Close, Quiesced, Plan, Device, Commit, Sync, Read, Under}
+use Rattle.schedule_lines.specs.declared.command.Command.TheVariants.{Pool, Write, Create, Read, Under}
 use Rattle.schedule_lines.specs.Hexadecimal.{byte_text}
 use Rattle.schedule_lines.specs.Grammar.{words_of, NumbersFit}
-use Rattle.schedule_lines.specs.Reading.{◌>>=◌, number_at, byte_at, name_at, pool_at, write_at, create_at, read_at, under_at}
-use Rattle.schedule_lines.proofs.Fields.{bind_some, some_is, Words, IsFull, Number, number_then, number_read, Byte, byte_then, byte_read, NameWord, name_then, name_read}
+use Rattle.schedule_lines.specs.Reading.{pool_at, write_at, create_at, read_at, under_at}
+use Rattle.schedule_lines.proofs.Fields.{some_is, Words, IsFull, Number, number_then, number_read, Byte, byte_then, byte_read, NameWord, name_then, name_read}
 
 -- words are those of a command, and then these
 pub record Taken (words : Words) (c : Command) (rest : Words) : Type 0 where

@@ -1,5 +1,5 @@
 -- The two laws of lines: what is read is spelled so, and what is spelled so is read.
-use Rattle.std.proofs.Common.{◌≡◌, ◌≢◌, ℕ, ◌+◌, ◌^◌, ◌<◌, ◌≤◌, ◌⊎◌, inl, inr, Bool, true, false, cond, nat_eq, find, List, [], ◌∷◌, ◌++◌, length, drop, Option, Some, None, option_map, Result, Ok, Err, IfOk, codes, lit<, refl, sym, ap, subst, ◌∙◌, arith}
+use Rattle.std.proofs.Common.{◌≡◌, ℕ, ◌^◌, ◌⊎◌, inl, inr, Bool, true, false, cond, nat_eq, find, List, [], ◌∷◌, ◌++◌, drop, Option, Some, None, Result, Ok, Err, IfOk, codes, lit<, refl, sym, ap, subst, ◌∙◌, arith}
 use Rattle.std.specs.List.{AllByRecursion, slice_split, join_with_byte}
 use Rattle.std.specs.Fmt.{decimal}
 use Rattle.std.specs.Str.{bytes_eq}
@@ -15,9 +15,9 @@ use Rattle.schedule_lines.specs.declared.keyword.Keyword.{Keyword}
 use Rattle.schedule_lines.specs.declared.keyword.Keyword.TheVariants as keyword
 use Rattle.schedule_lines.specs.declared.refusal.Refusal.{Refusal}
 use Rattle.schedule_lines.specs.declared.refusal.Refusal.TheVariants.{Fault, NoMemory}
-use Rattle.schedule_lines.specs.Grammar.{words_of, NumbersFit, IsWord, IsSayable, IsSkipped, Spells}
+use Rattle.schedule_lines.specs.Grammar.{words_of, NumbersFit, IsWord, Spells}
 use Rattle.schedule_lines.specs.Keywords.{keyword_text, keywords, keyword_of}
-use Rattle.schedule_lines.specs.Reading.{◌>>=◌, Gives, word_at, end_at, number_at, pool_at, write_at, create_at, read_at, under_at, of_read, command_at, whole_command, line_of}
+use Rattle.schedule_lines.specs.Reading.{Gives, word_at, end_at, number_at, pool_at, write_at, create_at, read_at, under_at, of_read, command_at, whole_command, line_of}
 use Rattle.schedule_lines.proofs.Fields.{bind_some, some, some_is, Words, IsFull, word_taken, number_taken, number_read, Number}
 use Rattle.schedule_lines.proofs.Commands.{Taken, onto, pool_taken, pool_read, write_taken, write_read, create_taken, create_read, read_taken, read_read, under_taken, under_read}
 use Rattle.schedule_lines.proofs.Splitting.{is_space, Spaceless, split_joined, parts_spaceless}

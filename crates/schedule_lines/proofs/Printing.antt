@@ -1,11 +1,11 @@
 -- What formats write.
-use Rattle.std.proofs.Common.{◌≡◌, ℕ, ◌<◌, ◌^◌, ◌-◌, false, List, [], ◌∷◌, ◌++◌, Option, Some, Result, Ok, Err, IfOk, option_map, codes, refl, sym, ap, ◌∙◌, arith}
+use Rattle.std.proofs.Common.{◌≡◌, ℕ, ◌<◌, ◌^◌, ◌-◌, false, List, [], ◌∷◌, ◌++◌, Some, Result, Ok, Err, IfOk, option_map, codes, refl, sym, ap, ◌∙◌}
 use Rattle.std.specs.Fmt.{decimal, digits, digits_output, styled_digits_output, padded_integral, format_spec}
 use Rattle.std.proofs.lemmas.Fmt.{hex_byte}
 use Rattle.std.proofs.lemmas.List.{append-nil}
 use Rattle.pool_model.specs.Causes.{number_of_cause, name_of_cause}
 use Rattle.pool_model.specs.declared.refusal.Refusal.{Refusal}
-use Rattle.pool_model.specs.declared.refusal.Refusal.TheVariants.{NoMemory, DiskFault, NoSpace, Suspended, AlreadyHeld, NoHold, OutOfOrder, NoSuchName, NotYet, Exists, OutOfRange, Misaligned, NotNow, BadName, GroupGone}
+use Rattle.pool_model.specs.declared.refusal.Refusal.TheVariants.{OutOfOrder}
 use Rattle.schedule_lines.specs.Hexadecimal.{byte_text}
 use Rattle.schedule_lines.specs.Replies.{argument_text, refusal_text}
 

@@ -6,7 +6,7 @@ use Rattle.pool_model.specs.declared.step.Phase.TheVariants.{Blocks, BlocksFlush
 use Rattle.pool_model.specs.declared.step.Reply.{Reply}
 use Rattle.pool_model.specs.declared.step.Reply.TheVariants.{Held, Receipt, Released, Closed, Quiesced, Planned, Moved, Replan, Committed, Bytes, Refused}
 use Rattle.pool_model.specs.declared.refusal.Refusal.{Refusal}
-use Rattle.pool_model.specs.declared.refusal.Refusal.TheVariants.{NoMemory, DiskFault, NoSpace, Suspended, AlreadyHeld, NoHold, OutOfOrder, NoSuchName, NotYet, Exists, OutOfRange, Misaligned, NotNow, BadName, GroupGone}
+use Rattle.pool_model.specs.declared.refusal.Refusal.TheVariants.{OutOfOrder}
 use Rattle.pool_model.specs.Causes.{number_of_cause, name_of_cause}
 use Rattle.schedule_lines.specs.declared.equal_bytes.Run.{Run}
 use Rattle.schedule_lines.specs.Runs.{AreRuns, runs_text}

@@ -1,4 +1,4 @@
-use Rattle.std.proofs.Common.{◌∷◌, sym, ap, ◌∙◌, string_bytes}
+use Rattle.std.proofs.Common.{◌∷◌, sym, ap, string_bytes}
 use Rattle.std.specs.Fmt.{decimal}
 use Rattle.schedule_lines.specs.Replies.{argument_text}
 use Rattle.schedule_lines.proofs.Printing.{if_printed, refused, refused_plainly}

@@ -1,4 +1,4 @@
-use Rattle.std.proofs.Common.{◌≡◌, ◌∙◌, ap, sym, refl, ◌+◌, List, ℕ, ◌∷◌, take, drop}
+use Rattle.std.proofs.Common.{◌∙◌, ap, sym, ◌+◌, List, ℕ, ◌∷◌, take}
 use Rattle.std.specs.List.{slice_split}
 use Rattle.std.proofs.lemmas.List.{take_rest}
 use Rattle.schedule_lines.proofs.Splitting.{is_space, split_at_space, split_at_none}

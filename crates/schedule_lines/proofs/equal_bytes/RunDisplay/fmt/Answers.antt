@@ -1,4 +1,4 @@
-use Rattle.std.proofs.Common.{◌≡◌, ◌<◌, arith}
+use Rattle.std.proofs.Common.{arith}
 use Rattle.schedule_lines.proofs.Printing.{styled_byte}
 use Rattle.schedule_lines.proofs.equal_bytes.RunDisplay.fmt.Goals as goal
 
