@@ -1,0 +1,7 @@
+pub mod Splitting
+pub mod Texts
+pub mod Fields
+pub mod Commands
+pub mod Lines
+pub mod Printing
+pub mod RunLists

@@ -1,0 +1,60 @@
+-- Which bytes spell which line.
+use Rattle.std.specs.Prelude.{◌≡◌, ◌≢◌, ℕ, ◌^◌, ◌<◌, List, [], ◌∷◌, length, codes}
+use Rattle.std.specs.List.{AllByRecursion, join_with_byte}
+use Rattle.std.specs.Fmt.{decimal}
+use Rattle.schedule_lines.specs.declared.command.Line.{Line}
+use Rattle.schedule_lines.specs.declared.command.Line.TheVariants.{Skipped, Command as CommandLine}
+use Rattle.schedule_lines.specs.declared.command.Command.{Command}
+use Rattle.schedule_lines.specs.declared.command.Command.TheVariants.{Pool, Hold, Release, Write, Create, Close, Quiesced, Plan, Device, Commit, Sync, Read, Under}
+use Rattle.schedule_lines.specs.Hexadecimal.{byte_text}
+
+-- the words of a command
+abbrev pub words_of : Command → List (List ℕ)
+words_of (Pool p) = codes "pool" ∷ decimal p.parities ∷ decimal p.disks ∷ decimal p.bytes ∷ decimal p.metaslab_shift ∷ decimal p.meta_metaslabs ∷ []
+words_of (Hold writer) = codes "hold" ∷ decimal writer ∷ []
+words_of (Release writer) = codes "release" ∷ decimal writer ∷ []
+words_of (Write w) = codes "write" ∷ decimal w.writer ∷ decimal w.number ∷ w.volume ∷ decimal w.offset ∷ decimal w.len ∷ byte_text w.byte ∷ []
+words_of (Create c) = codes "create" ∷ decimal c.writer ∷ decimal c.number ∷ c.volume ∷ decimal c.size ∷ decimal c.block_size ∷ []
+words_of Close = codes "close" ∷ []
+words_of Quiesced = codes "quiesced" ∷ []
+words_of Plan = codes "plan" ∷ []
+words_of Device = codes "device" ∷ []
+words_of Commit = codes "commit" ∷ []
+words_of Sync = codes "sync" ∷ []
+words_of (Read r) = codes "read" ∷ r.name ∷ decimal r.offset ∷ decimal r.len ∷ []
+words_of (Under u) = codes "under" ∷ decimal u.group ∷ u.name ∷ decimal u.offset ∷ decimal u.len ∷ []
+
+-- one byte or more, and no space
+abbrev pub IsWord : List ℕ → Type 0
+IsWord word = (0 < length word) × AllByRecursion (λ b. b ≢ 32) word
+
+-- the numbers of a command fit their types
+abbrev pub NumbersFit : Command → Type 0
+NumbersFit (Pool p) = (p.parities < 2 ^ 32) × (p.disks < 2 ^ 32) × (p.bytes < 2 ^ 64) × (p.metaslab_shift < 2 ^ 32) × (p.meta_metaslabs < 2 ^ 32)
+NumbersFit (Hold writer) = writer < 2 ^ 32
+NumbersFit (Release writer) = writer < 2 ^ 32
+NumbersFit (Write w) = (w.writer < 2 ^ 32) × (w.number < 2 ^ 64) × (w.offset < 2 ^ 64) × (w.len < 2 ^ 64) × (w.byte < 2 ^ 8)
+NumbersFit (Create c) = (c.writer < 2 ^ 32) × (c.number < 2 ^ 64) × (c.size < 2 ^ 64) × (c.block_size < 2 ^ 64)
+NumbersFit Close = Unit {0}
+NumbersFit Quiesced = Unit {0}
+NumbersFit Plan = Unit {0}
+NumbersFit Device = Unit {0}
+NumbersFit Commit = Unit {0}
+NumbersFit Sync = Unit {0}
+NumbersFit (Read r) = (r.offset < 2 ^ 64) × (r.len < 2 ^ 64)
+NumbersFit (Under u) = (u.group < 2 ^ 64) × (u.offset < 2 ^ 64) × (u.len < 2 ^ 64)
+
+-- a command that a line can say
+pub record IsSayable (c : Command) : Type 0 where
+  pub words : AllByRecursion IsWord (words_of c)
+  pub numbers : NumbersFit c
+
+-- an empty line, or one that begins with '#'
+abbrev pub IsSkipped : List ℕ → Type 0
+IsSkipped [] = Unit {0}
+IsSkipped (b ∷ bytes) = b ≡ 35
+
+-- the bytes spell the line: those of a command are its words, parted by one space
+abbrev pub Spells : Line → List ℕ → Type 0
+Spells Skipped bytes = IsSkipped bytes
+Spells (CommandLine c) bytes = IsSayable c × (bytes ≡ join_with_byte 32 (words_of c))

@@ -1,0 +1,26 @@
+-- The words that lines begin with.
+use Rattle.std.specs.Prelude.{List, [], ◌∷◌, ℕ, Option, codes, find}
+use Rattle.std.specs.Str.{bytes_eq}
+use Rattle.schedule_lines.specs.declared.keyword.Keyword.{Keyword}
+use Rattle.schedule_lines.specs.declared.keyword.Keyword.TheVariants.{Pool, Hold, Release, Write, Create, Close, Quiesced, Plan, Device, Commit, Sync, Read, Under}
+
+abbrev pub keyword_text : Keyword → List ℕ
+keyword_text Pool = codes "pool"
+keyword_text Hold = codes "hold"
+keyword_text Release = codes "release"
+keyword_text Write = codes "write"
+keyword_text Create = codes "create"
+keyword_text Close = codes "close"
+keyword_text Quiesced = codes "quiesced"
+keyword_text Plan = codes "plan"
+keyword_text Device = codes "device"
+keyword_text Commit = codes "commit"
+keyword_text Sync = codes "sync"
+keyword_text Read = codes "read"
+keyword_text Under = codes "under"
+
+abbrev pub keywords : List Keyword
+keywords = Pool ∷ Hold ∷ Release ∷ Write ∷ Create ∷ Close ∷ Quiesced ∷ Plan ∷ Device ∷ Commit ∷ Sync ∷ Read ∷ Under ∷ []
+
+unfoldable pub keyword_of : List ℕ → Option Keyword
+keyword_of word = find (λ keyword. bytes_eq (keyword_text keyword) word) keywords

@@ -1,0 +1,6 @@
+pub mod Grammar
+pub mod Hexadecimal
+pub mod Keywords
+pub mod Reading
+pub mod Replies
+pub mod Runs

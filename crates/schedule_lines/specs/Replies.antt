@@ -1,0 +1,38 @@
+-- What is printed of a reply.
+use Rattle.std.specs.Prelude.{◌≡◌, ℕ, List, [], ◌∷◌, ◌++◌, codes}
+use Rattle.std.specs.Fmt.{decimal}
+use Rattle.pool_model.specs.declared.step.Phase.{Phase}
+use Rattle.pool_model.specs.declared.step.Phase.TheVariants.{Blocks, BlocksFlush}
+use Rattle.pool_model.specs.declared.step.Reply.{Reply}
+use Rattle.pool_model.specs.declared.step.Reply.TheVariants.{Held, Receipt, Released, Closed, Quiesced, Planned, Moved, Replan, Committed, Bytes, Refused}
+use Rattle.pool_model.specs.declared.refusal.Refusal.{Refusal}
+use Rattle.pool_model.specs.declared.refusal.Refusal.TheVariants.{OutOfOrder}
+use Rattle.pool_model.specs.Causes.{number_of_cause, name_of_cause}
+use Rattle.schedule_lines.specs.declared.equal_bytes.Run.{Run}
+use Rattle.schedule_lines.specs.Runs.{AreRuns, runs_text}
+
+abbrev pub phase_text : Phase → List ℕ
+phase_text Blocks = codes "Blocks"
+phase_text BlocksFlush = codes "BlocksFlush"
+
+-- a space and the argument, if there is one
+abbrev pub argument_text : Refusal → List ℕ
+argument_text (OutOfOrder expected) = 32 ∷ decimal expected
+argument_text _ = []
+
+-- the number, the name and the argument
+abbrev pub refusal_text : Refusal → List ℕ
+refusal_text refusal = codes "refused " ++ (decimal (number_of_cause refusal) ++ (32 ∷ (name_of_cause refusal ++ argument_text refusal)))
+
+abbrev pub IsReplyText : Reply → List ℕ → Type 0
+IsReplyText (Held group) text = text ≡ codes "held " ++ decimal group
+IsReplyText (Receipt group) text = text ≡ codes "receipt " ++ decimal group
+IsReplyText Released text = text ≡ codes "released"
+IsReplyText (Closed group) text = text ≡ codes "closed " ++ decimal group
+IsReplyText (Quiesced group) text = text ≡ codes "quiesced " ++ decimal group
+IsReplyText (Planned group) text = text ≡ codes "planned " ++ decimal group
+IsReplyText (Moved phase) text = text ≡ codes "moved " ++ phase_text phase
+IsReplyText (Replan disk) text = text ≡ codes "replan " ++ decimal disk
+IsReplyText (Committed group) text = text ≡ codes "committed " ++ decimal group
+IsReplyText (Bytes bytes) text = (runs : List Run) × AreRuns bytes runs × (text ≡ runs_text runs)
+IsReplyText (Refused refusal) text = text ≡ refusal_text refusal

@@ -1,0 +1,90 @@
+//! What the lines of a schedule say.
+use pool_model::Name;
+
+/// A line of a schedule.
+#[derive(Debug, Drop)]
+pub enum Line {
+    /// An empty line, or one that begins with `#`.
+    Skipped,
+    Command(Command),
+}
+
+/// What a line asks for.
+#[derive(Debug, Drop)]
+pub enum Command {
+    Pool(PoolLine),
+    Hold { writer: u32 },
+    Release { writer: u32 },
+    Write(WriteLine),
+    Create(CreateLine),
+    Close,
+    Quiesced,
+    Plan,
+    Device,
+    Commit,
+    Sync,
+    Read(ReadLine),
+    Under(UnderLine),
+}
+
+/// A pool over disks in memory.
+#[derive(Clone, Copy, Debug, PartialEq, Eq)]
+pub struct PoolLine {
+    pub parities: u32,
+    pub disks: u32,
+    /// Of each disk.
+    pub bytes: u64,
+    /// A metaslab has two to the power of this many sectors.
+    pub metaslab_shift: u32,
+    /// How many metaslabs are for the pool's own blocks.
+    pub meta_metaslabs: u32,
+}
+
+/// Bytes that are all alike, written as a writer's item.
+#[derive(Debug, Drop)]
+pub struct WriteLine {
+    pub writer: u32,
+    /// The item's number.
+    pub number: u64,
+    pub volume: Name,
+    /// In bytes.
+    pub offset: u64,
+    /// In bytes.
+    pub len: u64,
+    /// Each of the bytes.
+    pub byte: u8,
+}
+
+/// A new volume, made as a writer's item.
+#[derive(Debug, Drop)]
+pub struct CreateLine {
+    pub writer: u32,
+    /// The item's number.
+    pub number: u64,
+    pub volume: Name,
+    /// In bytes.
+    pub size: u64,
+    /// In bytes.
+    pub block_size: u64,
+}
+
+/// A range of what all accepted groups make.
+#[derive(Debug, Drop)]
+pub struct ReadLine {
+    pub name: Name,
+    /// In bytes.
+    pub offset: u64,
+    /// In bytes.
+    pub len: u64,
+}
+
+/// A range of what a committed group contains.
+#[derive(Debug, Drop)]
+pub struct UnderLine {
+    pub group: u64,
+    pub name: Name,
+    /// In bytes.
+    pub offset: u64,
+    /// In bytes.
+    pub len: u64,
+}

@@ -1,0 +1,21 @@
+//! The lines of a schedule and what they mean, and the texts of the replies. Nothing is run here.
+#![tactic(auto)]
+
+mod command;
+mod equal_bytes;
+mod keyword;
+mod laws;
+mod number;
+mod reading;
+mod refusal;
+mod reply;
+#[cfg(test)]
+mod tests;
+mod words;
+
+pub use command::{Command, CreateLine, Line, PoolLine, ReadLine, UnderLine, WriteLine};
+pub use equal_bytes::{Run, runs, runs_text};
+pub use laws::{bytes_have_one_list_of_runs, bytes_spell_one_line};
+pub use reading::parse;
+pub use refusal::Refusal;
+pub use reply::reply_text;

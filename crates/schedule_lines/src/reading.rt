@@ -1,0 +1,126 @@
+//! Reading lines.
+ghost use Rattle.std.specs.Prelude.{◌≡◌, ◌⊎◌, List, ℕ, IfOk, Ok, Err};
+ghost use Rattle.schedule_lines.specs.declared.command.Line.{Line};
+ghost use Rattle.schedule_lines.specs.Grammar.{Spells};
+ghost use Rattle.schedule_lines.specs.Reading.{Gives, pool_at, write_at, create_at, read_at, under_at, command_at, line_of};
+
+use crate::command::{Command, CreateLine, Line, PoolLine, ReadLine, UnderLine, WriteLine};
+use crate::keyword::Keyword;
+use crate::refusal::Refusal;
+use crate::words::Words;
+use std::alloc::Global;
+
+#[tactic(auto, unfolding(crate::specs::Reading::pool_at))]
+fn pool(words: &mut Words) -> Result<PoolLine, Refusal>
+    ensures { Gives (λ pool. (pool, words.new)) result (pool_at words.old) }
+{
+    Ok(PoolLine {
+        parities: words.number32()?,
+        disks: words.number32()?,
+        bytes: words.number64()?,
+        metaslab_shift: words.number32()?,
+        meta_metaslabs: words.number32()?,
+    })
+}
+
+#[tactic(auto, unfolding(crate::specs::Reading::write_at))]
+fn write(alloc: Global, words: &mut Words) -> Result<WriteLine, Refusal>
+    ensures { Gives (λ write. (write, words.new)) result (write_at words.old) }
+{
+    Ok(WriteLine {
+        writer: words.number32()?,
+        number: words.number64()?,
+        volume: words.name(alloc)?,
+        offset: words.number64()?,
+        len: words.number64()?,
+        byte: words.byte()?,
+    })
+}
+
+#[tactic(auto, unfolding(crate::specs::Reading::create_at))]
+fn create(alloc: Global, words: &mut Words) -> Result<CreateLine, Refusal>
+    ensures { Gives (λ create. (create, words.new)) result (create_at words.old) }
+{
+    Ok(CreateLine {
+        writer: words.number32()?,
+        number: words.number64()?,
+        volume: words.name(alloc)?,
+        size: words.number64()?,
+        block_size: words.number64()?,
+    })
+}
+
+#[tactic(auto, unfolding(crate::specs::Reading::read_at))]
+fn read(alloc: Global, words: &mut Words) -> Result<ReadLine, Refusal>
+    ensures { Gives (λ read. (read, words.new)) result (read_at words.old) }
+{
+    Ok(ReadLine {
+        name: words.name(alloc)?,
+        offset: words.number64()?,
+        len: words.number64()?,
+    })
+}
+
+#[tactic(auto, unfolding(crate::specs::Reading::under_at))]
+fn under(alloc: Global, words: &mut Words) -> Result<UnderLine, Refusal>
+    ensures { Gives (λ under. (under, words.new)) result (under_at words.old) }
+{
+    Ok(UnderLine {
+        group: words.number64()?,
+        name: words.name(alloc)?,
+        offset: words.number64()?,
+        len: words.number64()?,
+    })
+}
+
+/// The command of a keyword, from the words behind it.
+#[tactic(auto, unfolding(crate::specs::Reading::command_at))]
+fn command(alloc: Global, keyword: Keyword, words: &mut Words) -> Result<Command, Refusal>
+    ensures { Gives (λ command. (command, words.new)) result (command_at keyword words.old) }
+{
+    Ok(match keyword {
+        Keyword::Pool => Command::Pool(pool(words)?),
+        Keyword::Hold => Command::Hold {
+            writer: words.number32()?,
+        },
+        Keyword::Release => Command::Release {
+            writer: words.number32()?,
+        },
+        Keyword::Write => Command::Write(write(alloc, words)?),
+        Keyword::Create => Command::Create(create(alloc, words)?),
+        Keyword::Close => Command::Close,
+        Keyword::Quiesced => Command::Quiesced,
+        Keyword::Plan => Command::Plan,
+        Keyword::Device => Command::Device,
+        Keyword::Commit => Command::Commit,
+        Keyword::Sync => Command::Sync,
+        Keyword::Read => Command::Read(read(alloc, words)?),
+        Keyword::Under => Command::Under(under(alloc, words)?),
+    })
+}
+
+#[tactic(auto, unfolding(crate::specs::Reading::line_of, crate::specs::Reading::whole_command))]
+fn line_of(alloc: Global, line: &[u8]) -> Result<Line, Refusal>
+    ensures { Gives (λ line. line) result (line_of line.now) }
+{
+    if line.first().is_none_or(|b| *b == b'#') {
+        return Ok(Line::Skipped);
+    }
+    let mut words = Words::new(line);
+    let keyword = Keyword::from_word(words.word()?).ok_or(Refusal::Fault)?;
+    let command = command(alloc, keyword, &mut words)?;
+    words.end()?;
+    Ok(Line::Command(command))
+}
+
+/// What a line says, without its line feed.
+pub fn parse(alloc: Global, line: &[u8]) -> Result<Line, Refusal>
+    // What is read is spelled so.
+    ensures found { IfOk result (λ value. Spells value line.now) }
+    // What is spelled so is read, unless memory runs out.
+    ensures only { (value : Line) → Spells value line.now → (result ≡ Ok value) ⊎ (result ≡ Err Refusal.NoMemory) }
+    // A fault spells nothing.
+    ensures fault { result ≡ Err Refusal.Fault → (value : Line) → Spells value line.now → ⊥ }
+{
+    line_of(alloc, line)
+}
