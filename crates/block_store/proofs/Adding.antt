@@ -152,11 +152,11 @@ placed_with old new block bytes places writes planned is placed =
                   | inr was ↦ inr (taken.from_others i second.property.sectors place behind here (placed.places second known' k behind was at'))
                 ]
             | inr was ↦ elim (this_or_known block second bytes known' planned found') [
-                | inl (this', same') ↦
-                    let here' : slice_get places k ≡ Some behind = ap (λ xs. slice_get xs k) (sym is.copies_at) ∙ ap (λ (b : Block). slice_get (dvas b.copies) k) (sym this') ∙ at' in
-                    inr (turned behind place (taken.from_others k first.property.sectors behind place here' (placed.places first known i place was at)))
-                | inr was' ↦ placed.apart first second known known' i k place behind was was' at at'
-              ]
+              | inl (this', same') ↦
+                  let here' : slice_get places k ≡ Some behind = ap (λ xs. slice_get xs k) (sym is.copies_at) ∙ ap (λ (b : Block). slice_get (dvas b.copies) k) (sym this') ∙ at' in
+                  inr (turned behind place (taken.from_others k first.property.sectors behind place here' (placed.places first known i place was at)))
+              | inr was' ↦ placed.apart first second known known' i k place behind was was' at at'
+            ]
           ];
     }
 
@@ -200,67 +200,68 @@ added old new block bytes places writes stored planned is plans =
     let taken : AreTakenToo old.spaces block.property.sectors places new.spaces = are_taken old.spaces [] block.property.sectors places new.spaces is.chosen in
     let fresh : planned block ≡ None = is_fresh old new block bytes places writes planned is plans.placed in
     let later : Contents = with_block block bytes planned in
-    let of_copies : Block → ℕ → List ColumnWrite = with_copies block is.writes_at.copies plans.writes_of in
-    (later,
-    record {
-      held = keeps_by old new (record {
-        disks = is.disks;
-        out = is.out;
-        shapes = taken.grows.shapes;
-        are = marks_by_map filled_marks old.spaces new.spaces taken.filled_stays;
-      }) stored plans.held;
-      kept = λ other known found. still_known block other bytes known planned fresh (plans.kept other known found);
-      placed = placed_with old new block bytes places writes planned is plans.placed;
-      writes_of = of_copies;
-      on_the_way = λ other known i extent found unknown copy. elim (this_or_known block other bytes known planned found) [
-        | inl (this, same) ↦
-            subst (λ b. IsOnTheWay new (of_copies b i) extent known) (sym this) (subst (λ x. IsOnTheWay new (of_copies block i) extent x) (sym same)
-            (its_way old new block bytes places writes plans.writes_of is i extent (subst (λ b. IsCopy new.spaces b i extent) this copy)))
-        | inr was ↦
-            let old_copy : IsCopy old.spaces other i extent = copy_too new.spaces old.spaces other i extent (sym taken.grows.shapes) copy in
-            subst (λ them. IsOnTheWay new them extent known) (sym (their_copies block other is.writes_at.copies plans.writes_of i planned known fresh was))
-            (their_way old new block bytes places writes (plans.writes_of other i) extent known is (plans.on_the_way other known i extent was unknown old_copy))
-      ];
-      due = λ write held. elim (Contains-append_cases old.due writes write (subst (λ xs. Contains xs write) is.due held)) [
-        | inl before ↦
-            let was : IsDueFor old stored planned plans.writes_of write = plans.due write before in
-            record {
-              block = was.block;
-              bytes = was.bytes;
-              i = was.i;
-              extent = was.extent;
-              is_planned = still_known block was.block bytes was.bytes planned fresh was.is_planned;
-              is_new = was.is_new;
-              is_copy = copy_too old.spaces new.spaces was.block was.i was.extent taken.grows.shapes was.is_copy;
-              is_of_copy = subst (λ xs. Contains xs write) (sym (their_copies block was.block is.writes_at.copies plans.writes_of was.i planned was.bytes fresh was.is_planned)) was.is_of_copy;
-            }
-        | inr here ↦
-            let of = is.writes_at.only write here in
-            let at : (place : Dva) × (slice_get places of.0 ≡ Some place) =
-            slice_get_some places of.0 (omega (arith, slice_get_within is.writes_at.copies of.0 of.1 of.2, is.writes_at.count)) in
-            let extent = is.writes_at.extents of.0 at.0 at.1 in
-            record {
-              block = block;
-              bytes = bytes;
-              i = of.0;
-              extent = extent.0;
-              is_planned = now_known block bytes planned;
-              is_new = not_stored (stored block) refl;
-              is_copy = record {
-                place = at.0;
-                is_copy = ap (λ xs. slice_get xs of.0) is.copies_at ∙ at.1;
-                extent_is = subst (λ s. IsExtentAt s block.property.sectors at.0 extent.0) is.mid_spaces extent.1;
-              };
-              is_of_copy = subst (λ xs. Contains xs write) (sym (its_copies block is.writes_at.copies plans.writes_of of.0 of.1 of.2)) of.3;
-            }
-      ];
-    },
-    record {
-      fresh = fresh;
-      added = now_known block bytes planned;
-      kept = λ other known found. still_known block other bytes known planned fresh found;
-      only = λ other known found. this_or_known block other bytes known planned found;
-    })
+    let of_copies : Block → ℕ → List ColumnWrite = with_copies block is.writes_at.copies plans.writes_of in (
+      later,
+      record {
+        held = keeps_by old new (record {
+          disks = is.disks;
+          out = is.out;
+          shapes = taken.grows.shapes;
+          are = marks_by_map filled_marks old.spaces new.spaces taken.filled_stays;
+        }) stored plans.held;
+        kept = λ other known found. still_known block other bytes known planned fresh (plans.kept other known found);
+        placed = placed_with old new block bytes places writes planned is plans.placed;
+        writes_of = of_copies;
+        on_the_way = λ other known i extent found unknown copy. elim (this_or_known block other bytes known planned found) [
+          | inl (this, same) ↦
+              subst (λ b. IsOnTheWay new (of_copies b i) extent known) (sym this) (subst (λ x. IsOnTheWay new (of_copies block i) extent x) (sym same)
+              (its_way old new block bytes places writes plans.writes_of is i extent (subst (λ b. IsCopy new.spaces b i extent) this copy)))
+          | inr was ↦
+              let old_copy : IsCopy old.spaces other i extent = copy_too new.spaces old.spaces other i extent (sym taken.grows.shapes) copy in
+              subst (λ them. IsOnTheWay new them extent known) (sym (their_copies block other is.writes_at.copies plans.writes_of i planned known fresh was))
+              (their_way old new block bytes places writes (plans.writes_of other i) extent known is (plans.on_the_way other known i extent was unknown old_copy))
+        ];
+        due = λ write held. elim (Contains-append_cases old.due writes write (subst (λ xs. Contains xs write) is.due held)) [
+          | inl before ↦
+              let was : IsDueFor old stored planned plans.writes_of write = plans.due write before in
+              record {
+                block = was.block;
+                bytes = was.bytes;
+                i = was.i;
+                extent = was.extent;
+                is_planned = still_known block was.block bytes was.bytes planned fresh was.is_planned;
+                is_new = was.is_new;
+                is_copy = copy_too old.spaces new.spaces was.block was.i was.extent taken.grows.shapes was.is_copy;
+                is_of_copy = subst (λ xs. Contains xs write) (sym (their_copies block was.block is.writes_at.copies plans.writes_of was.i planned was.bytes fresh was.is_planned)) was.is_of_copy;
+              }
+          | inr here ↦
+              let of = is.writes_at.only write here in
+              let at : (place : Dva) × (slice_get places of.0 ≡ Some place) =
+              slice_get_some places of.0 (omega (arith, slice_get_within is.writes_at.copies of.0 of.1 of.2, is.writes_at.count)) in
+              let extent = is.writes_at.extents of.0 at.0 at.1 in
+              record {
+                block = block;
+                bytes = bytes;
+                i = of.0;
+                extent = extent.0;
+                is_planned = now_known block bytes planned;
+                is_new = not_stored (stored block) refl;
+                is_copy = record {
+                  place = at.0;
+                  is_copy = ap (λ xs. slice_get xs of.0) is.copies_at ∙ at.1;
+                  extent_is = subst (λ s. IsExtentAt s block.property.sectors at.0 extent.0) is.mid_spaces extent.1;
+                };
+                is_of_copy = subst (λ xs. Contains xs write) (sym (its_copies block is.writes_at.copies plans.writes_of of.0 of.1 of.2)) of.3;
+              }
+        ];
+      },
+      record {
+        fresh = fresh;
+        added = now_known block bytes planned;
+        kept = λ other known found. still_known block other bytes known planned fresh found;
+        only = λ other known found. this_or_known block other bytes known planned found;
+      },
+    )
   where
     not_stored : (found : Option (List ℕ)) → stored block ≡ found → stored block ≡ None
     not_stored None is' = is'

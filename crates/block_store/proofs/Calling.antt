@@ -47,9 +47,9 @@ changes_only old new write result starts calls disk i outside =
     other_bytes_stay old new write.disk (write_call result write.offset write.bytes.items) starts calls disk i (elim (cases_eq disk write.disk) [
       | inr differ ↦ inl differ
       | inl same ↦ elim (outside_or_in write.offset (length write.bytes.items) i) [
-          | inl out ↦ inr (untouched result write.offset write.bytes.items i out)
-          | inr (from, before) ↦ absurd (outside (record { which = same; from_first = from; before_end = before }))
-        ]
+        | inl out ↦ inr (untouched result write.offset write.bytes.items i out)
+        | inr (from, before) ↦ absurd (outside (record { which = same; from_first = from; before_end = before }))
+      ]
     ])
 
 done_or_out : (old new : Store) (write : ColumnWrite) (result : Result (Unit {0}) FailedDisk) → new.disks.starts ≡ old.disks.starts

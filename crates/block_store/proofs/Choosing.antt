@@ -27,7 +27,7 @@ NoneBefore spaces taken sectors spread n =
 pub none_of_one_more : (spaces : List VdevSpace) (taken : List Dva) (sectors : ℕ) (spread : Spread) (n : ℕ) (space : VdevSpace)
     → NoneBefore spaces taken sectors spread n → slice_get spaces n ≡ Some space
     → ((metaslab : ℕ) → metaslab < metaslabs space.shape → slice_index (planned space) metaslab + asize space.shape.vdev.geometry sectors ≤ metaslab_sectors space.shape
-        → ¬ MayTake space.shape taken n metaslab spread)
+    → ¬ MayTake space.shape taken n metaslab spread)
     → NoneBefore spaces taken sectors spread (n + 1)
 none_of_one_more spaces taken sectors spread n space before found here v metaslab below room may =
     elim (cases_lt v n) [

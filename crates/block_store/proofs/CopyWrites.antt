@@ -32,13 +32,13 @@ in_filter : {X : Type 0} (p : X → Bool) (xs : List X) (x : X) → p x ≡ true
 in_filter p [] x is held = held
 in_filter p (y ∷ xs) x is held = elim (either (p y)) [
   | inl passes ↦ subst (λ them. Contains them x) (sym (filter_yes p y xs passes)) (elim (first_or_later y x xs held) [
-      | inl same ↦ (zero, omega arith, same)
-      | inr later ↦ later_too y x (filter p xs) (in_filter p xs x is later)
-    ])
+    | inl same ↦ (zero, omega arith, same)
+    | inr later ↦ later_too y x (filter p xs) (in_filter p xs x is later)
+  ])
   | inr fails ↦ subst (λ them. Contains them x) (sym (filter_no p y xs fails)) (elim (first_or_later y x xs held) [
-      | inl same ↦ absurd (let e : true ≡ false = sym is ∙ ap p (sym same) ∙ fails in cc)
-      | inr later ↦ in_filter p xs x is later
-    ])
+    | inl same ↦ absurd (let e : true ≡ false = sym is ∙ ap p (sym same) ∙ fails in cc)
+    | inr later ↦ in_filter p xs x is later
+  ])
 ]
 
 -- what is left was there, and passes the test
@@ -49,9 +49,9 @@ from_filter p [] x held = absurd (nothing held)
     nothing (k, within, is) = absurd (omega arith)
 from_filter p (y ∷ xs) x held = elim (either (p y)) [
   | inl passes ↦ elim (first_or_later y x (filter p xs) (subst (λ them. Contains them x) (filter_yes p y xs passes) held)) [
-      | inl same ↦ ((zero, omega arith, same), ap p (sym same) ∙ passes)
-      | inr later ↦ let rest = from_filter p xs x later in (later_too y x xs rest.0, rest.1)
-    ]
+    | inl same ↦ ((zero, omega arith, same), ap p (sym same) ∙ passes)
+    | inr later ↦ let rest = from_filter p xs x later in (later_too y x xs rest.0, rest.1)
+  ]
   | inr fails ↦ let rest = from_filter p xs x (subst (λ them. Contains them x) (filter_no p y xs fails) held) in (later_too y x xs rest.0, rest.1)
 ]
 
@@ -96,17 +96,17 @@ writes_more store sectors bytes places writes place extent copy after before at 
       ];
       would_store = λ i other them there found found' is. elim (slice_get_push places place other i found) [
         | inl earlier ↦ elim (slice_get_push before.copies copy them i found') [
-            | inl earlier' ↦ before.would_store i other them there earlier earlier' is
-            | inr (last', same') ↦ absurd (omega (arith, slice_get_within places i other earlier, last', before.count))
-          ]
+          | inl earlier' ↦ before.would_store i other them there earlier earlier' is
+          | inr (last', same') ↦ absurd (omega (arith, slice_get_within places i other earlier, last', before.count))
+        ]
         | inr (last, same) ↦ elim (slice_get_push before.copies copy them i found') [
-            | inl earlier' ↦ absurd (omega (arith, slice_get_within before.copies i them earlier', last, before.count))
-            | inr (last', same') ↦
-                let one : extent ≡ there = one_extent store.spaces sectors place extent there at (subst (λ p. IsExtentAt store.spaces sectors p there) (sym same) is) in
-                let P : Extent → Type 0 = λ e. WouldStore them e bytes × AreColumnWrites e them in
-                let Q : List ColumnWrite → Type 0 = λ c. WouldStore c extent bytes × AreColumnWrites extent c in
-                subst P one (subst Q same' (stores, columns))
-          ]
+          | inl earlier' ↦ absurd (omega (arith, slice_get_within before.copies i them earlier', last, before.count))
+          | inr (last', same') ↦
+              let one : extent ≡ there = one_extent store.spaces sectors place extent there at (subst (λ p. IsExtentAt store.spaces sectors p there) (sym same) is) in
+              let P : Extent → Type 0 = λ e. WouldStore them e bytes × AreColumnWrites e them in
+              let Q : List ColumnWrite → Type 0 = λ c. WouldStore c extent bytes × AreColumnWrites extent c in
+              subst P one (subst Q same' (stores, columns))
+        ]
       ];
       each = λ i them write found of present. subst (λ xs. Contains xs write) (sym all) (elim (slice_get_push before.copies copy them i found) [
         | inl earlier ↦ Contains-append_left writes (in_use store copy) write (before.each i them write earlier of present)

@@ -43,19 +43,20 @@ HaveMarksBelow spaces marks after later n =
 pub one_more : (spaces mid : List VdevSpace) (marks later : Marks) (n : ℕ) (item new : VdevSpace) → slice_get mid n ≡ Some item
     → HaveMarks spaces marks mid marks → HaveMarksBelow spaces marks mid later n → marks new ≡ marks item → later new ≡ marks item
     → HaveMarks spaces marks (slice_set mid n new) marks × HaveMarksBelow spaces marks (slice_set mid n new) later (n + 1)
-one_more spaces mid marks later n item new at are below same changed =
-    (λ v space there found found'. elim (cases_eq v n) [
-      | inl here ↦
-          let is_new : new ≡ there = slice_get-set_same mid n new there (ap (λ k. slice_get (slice_set mid n new) k) (sym here) ∙ found') in
-          ap marks (sym is_new) ∙ same ∙ are v space item found (ap (λ k. slice_get mid k) here ∙ at)
-      | inr other ↦ are v space there found (sym (slice_get-set_other mid n v new (λ is. other (sym is))) ∙ found')
-    ],
-    λ v space there less found found'. elim (cases_eq v n) [
-      | inl here ↦
-          let is_new : new ≡ there = slice_get-set_same mid n new there (ap (λ k. slice_get (slice_set mid n new) k) (sym here) ∙ found') in
-          ap later (sym is_new) ∙ changed ∙ are v space item found (ap (λ k. slice_get mid k) here ∙ at)
-      | inr other ↦ below v space there (omega (arith, less, other)) found (sym (slice_get-set_other mid n v new (λ is. other (sym is))) ∙ found')
-    ])
+one_more spaces mid marks later n item new at are below same changed = (
+  λ v space there found found'. elim (cases_eq v n) [
+    | inl here ↦
+        let is_new : new ≡ there = slice_get-set_same mid n new there (ap (λ k. slice_get (slice_set mid n new) k) (sym here) ∙ found') in
+        ap marks (sym is_new) ∙ same ∙ are v space item found (ap (λ k. slice_get mid k) here ∙ at)
+    | inr other ↦ are v space there found (sym (slice_get-set_other mid n v new (λ is. other (sym is))) ∙ found')
+  ],
+  λ v space there less found found'. elim (cases_eq v n) [
+    | inl here ↦
+        let is_new : new ≡ there = slice_get-set_same mid n new there (ap (λ k. slice_get (slice_set mid n new) k) (sym here) ∙ found') in
+        ap later (sym is_new) ∙ changed ∙ are v space item found (ap (λ k. slice_get mid k) here ∙ at)
+    | inr other ↦ below v space there (omega (arith, less, other)) found (sym (slice_get-set_other mid n v new (λ is. other (sym is))) ∙ found')
+  ],
+)
 
 pub all_below : (spaces after : List VdevSpace) (marks later : Marks) (n : ℕ) → length spaces ≤ n → HaveMarksBelow spaces marks after later n → HaveMarks spaces marks after later
 all_below spaces after marks later n all below v space new found found' = below v space new (omega (arith, all, slice_get_within spaces v space found)) found found'
@@ -67,7 +68,7 @@ same_marks spaces marks v space new found found' = ap marks (same_some new space
 held_by : (old new : Store) (marks : Marks) (stored : Contents) → new.disks ≡ old.disks → new.out ≡ old.out → shapes_of new.spaces ≡ shapes_of old.spaces
     → ArePlaced new.spaces filled_marks stored
     → ((block : Block) (bytes : List ℕ) (i : ℕ) (extent : Extent) → stored block ≡ Some bytes → IsCopy old.spaces block i extent
-        → ExtentStands (content old.disks) (outs old) extent bytes)
+    → ExtentStands (content old.disks) (outs old) extent bytes)
     → Holds new stored
 held_by old new marks stored disks out shapes placed stand = record {
   placed = placed;
@@ -108,6 +109,7 @@ begun old new same planned none stored holds = record {
   on_the_way = λ block bytes i extent known fresh copy. absurd (no_contents bytes (stored block) known fresh);
   due = λ write held. absurd (nothing write (subst (λ xs. Contains xs write) none held));
 }
+
 pub some_or_none : {X : Type 0} (found : Option X) → ((x : X) × (found ≡ Some x)) ⊎ (found ≡ None)
 some_or_none (Some x) = inl (x, refl)
 some_or_none None = inr refl
@@ -125,6 +127,7 @@ arrived store writes extent bytes none way =
     is_there [] i write within = absurd (omega arith)
     is_there (w ∷ them) zero write within = refl
     is_there (w ∷ them) (suc i) write within = is_there them i write (omega arith)
+
     all_done : (them : List ColumnWrite) → ((write : ColumnWrite) → Contains them write → ¬ Contains (outs store) write.disk → IsDone (content store.disks) write)
         → AreDone (content store.disks) (outs store) them
     all_done them each = λ i write within present. each (get_or them i write) (i, within, is_there them i write within) present

@@ -291,14 +291,19 @@ takes_place spaces place space new found shape same_filled changed within = reco
         let slab_is : metaslab_of old.shape place ≡ slab = ap (λ (s : VdevSpace). metaslab_of s.shape place) is_old in
         elim (cases_eq metaslab slab) [
           | inl here ↦
-              inl (this, here ∙ sym slab_is,
-              mark ∙ ap (λ n. slice_index (slice_set (planned space) slab (slice_index (planned space) slab + place.allocated)) n) here
-              ∙ slice_index-set_same (planned space) slab (slice_index (planned space) slab + place.allocated) within
-              ∙ ap (λ n. slice_index (planned space) n + place.allocated) (sym here) ∙ ap (λ s. slice_index (planned s) metaslab + place.allocated) (sym is_old))
+              inl (
+                this,
+                here ∙ sym slab_is,
+                mark ∙ ap (λ n. slice_index (slice_set (planned space) slab (slice_index (planned space) slab + place.allocated)) n) here
+                    ∙ slice_index-set_same (planned space) slab (slice_index (planned space) slab + place.allocated) within
+                    ∙ ap (λ n. slice_index (planned space) n + place.allocated) (sym here) ∙ ap (λ s. slice_index (planned s) metaslab + place.allocated) (sym is_old),
+              )
           | inr there ↦
-              inr (inr (λ is. there (is ∙ slab_is)),
-              mark ∙ slice_index-set_other (planned space) slab metaslab (slice_index (planned space) slab + place.allocated) (λ is. there (sym is))
-              ∙ ap (λ s. slice_index (planned s) metaslab) (sym is_old))
+              inr (
+                inr (λ is. there (is ∙ slab_is)),
+                mark ∙ slice_index-set_other (planned space) slab metaslab (slice_index (planned space) slab + place.allocated) (λ is. there (sym is))
+                    ∙ ap (λ s. slice_index (planned s) metaslab) (sym is_old),
+              )
         ]
   ];
 }

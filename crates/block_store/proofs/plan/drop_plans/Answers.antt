@@ -15,9 +15,12 @@ loop-vdev-preserved c =
     at_item c.loop-vdev.spaces.items c.loop-vdev.vdev c.index_mut.result.now (search rules) c.index_mut.ensures.value in
     let before = c.loop-vdev.invariant in
     let more = one_more c.args.spaces.now.items c.loop-vdev.spaces.items filled planned c.loop-vdev.vdev c.index_mut.result.now c.drop_planned.new.self at
-    before.2 before.3 c.drop_planned.ensures.filled c.drop_planned.ensures.planned in
-    (search rules, map-set_same (λ s. s.shape) c.loop-vdev.spaces.items c.loop-vdev.vdev c.index_mut.result.now c.drop_planned.new.self at c.drop_planned.ensures.shape ∙ before.1,
-    more.0, more.1)
+    before.2 before.3 c.drop_planned.ensures.filled c.drop_planned.ensures.planned in (
+      search rules,
+      map-set_same (λ s. s.shape) c.loop-vdev.spaces.items c.loop-vdev.vdev c.index_mut.result.now c.drop_planned.new.self at c.drop_planned.ensures.shape ∙ before.1,
+      more.0,
+      more.1,
+    )
 
 pub returns-clause-planned : goal.returns-clause-planned
 returns-clause-planned c = all_below c.args.spaces.now.items c.loop-vdev.spaces.items filled planned c.loop-vdev.vdev (search rules) c.loop-vdev.invariant.3

@@ -15,9 +15,12 @@ loop-vdev-preserved c =
     at_item c.loop-vdev.spaces.items c.loop-vdev.vdev c.index_mut.result.now (search rules) c.index_mut.ensures.value in
     let before = c.loop-vdev.invariant in
     let more = one_more c.args.spaces.now.items c.loop-vdev.spaces.items planned filled c.loop-vdev.vdev c.index_mut.result.now c.keep_planned.new.self at
-    before.2 before.3 c.keep_planned.ensures.planned c.keep_planned.ensures.filled in
-    (search rules, map-set_same (λ s. s.shape) c.loop-vdev.spaces.items c.loop-vdev.vdev c.index_mut.result.now c.keep_planned.new.self at c.keep_planned.ensures.shape ∙ before.1,
-    more.0, more.1)
+    before.2 before.3 c.keep_planned.ensures.planned c.keep_planned.ensures.filled in (
+      search rules,
+      map-set_same (λ s. s.shape) c.loop-vdev.spaces.items c.loop-vdev.vdev c.index_mut.result.now c.keep_planned.new.self at c.keep_planned.ensures.shape ∙ before.1,
+      more.0,
+      more.1,
+    )
 
 pub returns-clause-filled : goal.returns-clause-filled
 returns-clause-filled c = all_below c.args.spaces.now.items c.loop-vdev.spaces.items planned filled c.loop-vdev.vdev (search rules) c.loop-vdev.invariant.3

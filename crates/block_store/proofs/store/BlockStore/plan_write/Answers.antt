@@ -30,40 +30,72 @@ returns-in_err-places-clause-err g c =
 pub writes_at-requires-clause-places : goal.writes_at-requires-clause-places
 writes_at-requires-clause-places g c place held =
     let took : OnlyTook c.args.self.now c.choose_places.new.self c.args.new.property.sectors c.in_ok-places.places.items = record {
-      disks = c.in_ok-places.ensures.disks; out = c.in_ok-places.ensures.out; due = c.in_ok-places.ensures.due; chosen = c.in_ok-places.ensures.chosen } in
+      disks = c.in_ok-places.ensures.disks;
+      out = c.in_ok-places.ensures.out;
+      due = c.in_ok-places.ensures.due;
+      chosen = c.in_ok-places.ensures.chosen;
+    } in
     let at = found_at c.in_ok-places.places.items place (subst (λ xs. Contains xs place) c.as_slice.ensures.value held) in
     places_in c.args.self.now c.choose_places.new.self c.args.new.property.sectors c.in_ok-places.places.items took at.0 place at.1
 
 pub returns-in_err-writes-clause-keeps : goal.returns-in_err-writes-clause-keeps
 returns-in_err-writes-clause-keeps g c =
     took_keeps c.args.self.now c.choose_places.new.self c.args.new.property.sectors c.in_ok-places.places.items (record {
-      disks = c.in_ok-places.ensures.disks; out = c.in_ok-places.ensures.out; due = c.in_ok-places.ensures.due; chosen = c.in_ok-places.ensures.chosen })
+      disks = c.in_ok-places.ensures.disks;
+      out = c.in_ok-places.ensures.out;
+      due = c.in_ok-places.ensures.due;
+      chosen = c.in_ok-places.ensures.chosen;
+    })
 
 pub returns-in_err-writes-clause-err : goal.returns-in_err-writes-clause-err
 returns-in_err-writes-clause-err g c =
     on_err _ _ (took_keeps_plans c.args.self.now c.choose_places.new.self c.args.new.property.sectors c.in_ok-places.places.items (record {
-      disks = c.in_ok-places.ensures.disks; out = c.in_ok-places.ensures.out; due = c.in_ok-places.ensures.due; chosen = c.in_ok-places.ensures.chosen }))
+      disks = c.in_ok-places.ensures.disks;
+      out = c.in_ok-places.ensures.out;
+      due = c.in_ok-places.ensures.due;
+      chosen = c.in_ok-places.ensures.chosen;
+    }))
 
 pub returns-in_err-append-clause-keeps : goal.returns-in_err-append-clause-keeps
 returns-in_err-append-clause-keeps g c =
     let took : OnlyTook c.args.self.now c.choose_places.new.self c.args.new.property.sectors c.in_ok-places.places.items = record {
-      disks = c.in_ok-places.ensures.disks; out = c.in_ok-places.ensures.out; due = c.in_ok-places.ensures.due; chosen = c.in_ok-places.ensures.chosen } in
+      disks = c.in_ok-places.ensures.disks;
+      out = c.in_ok-places.ensures.out;
+      due = c.in_ok-places.ensures.due;
+      chosen = c.in_ok-places.ensures.chosen;
+    } in
     let inside = subst (λ (s : Store). OnlyTook c.args.self.now s c.args.new.property.sectors c.in_ok-places.places.items) (sym c.self.view_is) took in
     took_keeps c.args.self.now _ c.args.new.property.sectors c.in_ok-places.places.items (record {
-      disks = inside.disks; out = inside.out; due = c.in_err-append.ensures.items ∙ inside.due; chosen = inside.chosen })
+      disks = inside.disks;
+      out = inside.out;
+      due = c.in_err-append.ensures.items ∙ inside.due;
+      chosen = inside.chosen;
+    })
 
 pub returns-in_err-append-clause-err : goal.returns-in_err-append-clause-err
 returns-in_err-append-clause-err g c =
     let took : OnlyTook c.args.self.now c.choose_places.new.self c.args.new.property.sectors c.in_ok-places.places.items = record {
-      disks = c.in_ok-places.ensures.disks; out = c.in_ok-places.ensures.out; due = c.in_ok-places.ensures.due; chosen = c.in_ok-places.ensures.chosen } in
+      disks = c.in_ok-places.ensures.disks;
+      out = c.in_ok-places.ensures.out;
+      due = c.in_ok-places.ensures.due;
+      chosen = c.in_ok-places.ensures.chosen;
+    } in
     let inside = subst (λ (s : Store). OnlyTook c.args.self.now s c.args.new.property.sectors c.in_ok-places.places.items) (sym c.self.view_is) took in
     on_err _ _ (took_keeps_plans c.args.self.now _ c.args.new.property.sectors c.in_ok-places.places.items (record {
-      disks = inside.disks; out = inside.out; due = c.in_err-append.ensures.items ∙ inside.due; chosen = inside.chosen }))
+      disks = inside.disks;
+      out = inside.out;
+      due = c.in_err-append.ensures.items ∙ inside.due;
+      chosen = inside.chosen;
+    }))
 
 pub invariant_of-self-2 : goal.invariant_of-self-2
 invariant_of-self-2 g c =
     let took : OnlyTook c.args.self.now c.choose_places.new.self c.args.new.property.sectors c.in_ok-places.places.items = record {
-      disks = c.in_ok-places.ensures.disks; out = c.in_ok-places.ensures.out; due = c.in_ok-places.ensures.due; chosen = c.in_ok-places.ensures.chosen } in
+      disks = c.in_ok-places.ensures.disks;
+      out = c.in_ok-places.ensures.out;
+      due = c.in_ok-places.ensures.due;
+      chosen = c.in_ok-places.ensures.chosen;
+    } in
     let store : IsStore c.choose_places.new.self = subst IsStore c.self.view_is c.self.invariant in
     let at : AreWritesAt c.choose_places.new.self c.args.new.property.sectors c.args.bytes.now c.in_ok-places.places.items c.in_ok-writes.writes.items =
     subst (λ places. AreWritesAt c.choose_places.new.self c.args.new.property.sectors c.args.bytes.now places c.in_ok-writes.writes.items) c.as_slice.ensures.value c.in_ok-writes.ensures in
@@ -82,14 +114,22 @@ invariant_of-self-2 g c =
 pub returns-clause-keeps : goal.returns-clause-keeps
 returns-clause-keeps g c =
     let took : OnlyTook c.args.self.now c.choose_places.new.self c.args.new.property.sectors c.in_ok-places.places.items = record {
-      disks = c.in_ok-places.ensures.disks; out = c.in_ok-places.ensures.out; due = c.in_ok-places.ensures.due; chosen = c.in_ok-places.ensures.chosen } in
+      disks = c.in_ok-places.ensures.disks;
+      out = c.in_ok-places.ensures.out;
+      due = c.in_ok-places.ensures.due;
+      chosen = c.in_ok-places.ensures.chosen;
+    } in
     let inside = subst (λ (s : Store). OnlyTook c.args.self.now s c.args.new.property.sectors c.in_ok-places.places.items) (sym c.self.view_is) took in
     chosen_keeps c.args.self.now _ c.args.new.property.sectors c.in_ok-places.places.items inside.disks inside.out inside.chosen
 
 pub returns-clause-planned : goal.returns-clause-planned
 returns-clause-planned g c stored planned plans =
     let took : OnlyTook c.args.self.now c.choose_places.new.self c.args.new.property.sectors c.in_ok-places.places.items = record {
-      disks = c.in_ok-places.ensures.disks; out = c.in_ok-places.ensures.out; due = c.in_ok-places.ensures.due; chosen = c.in_ok-places.ensures.chosen } in
+      disks = c.in_ok-places.ensures.disks;
+      out = c.in_ok-places.ensures.out;
+      due = c.in_ok-places.ensures.due;
+      chosen = c.in_ok-places.ensures.chosen;
+    } in
     let inside = subst (λ (s : Store). OnlyTook c.args.self.now s c.args.new.property.sectors c.in_ok-places.places.items) (sym c.self.view_is) took in
     let store : IsStore c.choose_places.new.self = subst IsStore c.self.view_is c.self.invariant in
     let at : AreWritesAt c.choose_places.new.self c.args.new.property.sectors c.args.bytes.now c.in_ok-places.places.items c.in_ok-writes.writes.items =

@@ -28,9 +28,13 @@ returns-clause-call g c =
     ap (λ (d : Disks). d.calls) c.note.ensures.disks ∙ c.write_at-answer.ensures.calls
     ∙ ap (λ b. on c.in-Some.write.disk (write_call c.write_at-answer.result c.in-Some.write.offset b) ∷ c.self.inside.disks.calls) c.deref.ensures.value
     ∙ ap (λ made. on c.in-Some.write.disk made ∷ c.self.inside.disks.calls) (sym call)
-    ∙ ap (λ (s : Store). on c.in-Some.write.disk (write_call c.note.result c.in-Some.write.offset c.in-Some.write.bytes.items) ∷ s.disks.calls) c.self.view_is in
-    (c.in-Some.write, due, calls, c.note.ensures.failed,
-    subst (λ (s : Store). IfErr c.note.result (λ failed. IsOutToo s.out c.in-Some.write.disk c.note.new.self.out)) c.self.view_is c.note.ensures.out_too)
+    ∙ ap (λ (s : Store). on c.in-Some.write.disk (write_call c.note.result c.in-Some.write.offset c.in-Some.write.bytes.items) ∷ s.disks.calls) c.self.view_is in (
+      c.in-Some.write,
+      due,
+      calls,
+      c.note.ensures.failed,
+      subst (λ (s : Store). IfErr c.note.result (λ failed. IsOutToo s.out c.in-Some.write.disk c.note.new.self.out)) c.self.view_is c.note.ensures.out_too,
+    )
 
 pub returns-clause-plans : goal.returns-clause-plans
 returns-clause-plans g c stored planned plans =
