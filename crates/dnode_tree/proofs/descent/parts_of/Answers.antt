@@ -1,0 +1,37 @@
+use Rattle.std.proofs.Common.{◌≡◌, suc, ◌-◌, ◌++◌, subst, sym, ap, ◌∙◌, arith}
+use Rattle.block_store.specs.Reading.{Asks}
+use Rattle.dnode_tree.proofs.Collecting.{parts_below}
+use Rattle.dnode_tree.proofs.Holes.{hole_parts}
+use Rattle.dnode_tree.proofs.Parts.{hole_part, indirect_part}
+use Rattle.dnode_tree.proofs.Refusing.{passed_on}
+use Rattle.dnode_tree.specs.Tree.{property_of}
+use Rattle.dnode_tree.specs.Subtree.{blocks_at, joined}
+use Rattle.dnode_tree.proofs.descent.parts_of.Goals as goal
+
+pub returns-in_default-clause-parts : goal.returns-in_default-clause-parts
+returns-in_default-clause-parts g c =
+    let e : c.args.part.level ≡ suc (c.args.part.level - 1) = omega arith in
+    λ stored first array blocks held part honest.
+    let empty = hole_part stored (property_of c.args.node.now) c.args.part.level first c.args.part.birth c.args.part.pointer array blocks c.in_default.is part in
+    let below = hole_parts stored (property_of c.args.node.now) c.args.part.level (c.args.part.level - 1) first c.args.part.birth _ array e empty.0 c.in_ok-holes.ensures in
+    (below.0, below.1, empty.1 ∙ sym (ap (λ pointer. blocks_at pointer ++ joined below.0) c.in_default.is ∙ below.2))
+
+pub returns-in_err-read_indirect-clause-known : goal.returns-in_err-read_indirect-clause-known
+returns-in_err-read_indirect-clause-known g c =
+    let e : c.args.part.level ≡ suc (c.args.part.level - 1) = omega arith in
+    passed_on _ _ _ c.from_residual-in_err-read_indirect.ensures.1
+    (λ stored first array blocks held part honest few.
+    let there = indirect_part stored (property_of c.args.node.now) c.args.part.level _ first c.args.part.birth c.args.part.pointer c.in-Block.block array blocks e c.in-Block.is part in
+    c.in_err-read_indirect.ensures.known stored there.bytes there.pointers held there.known there.spelled
+    (subst (λ asked. Asks asked c.in-Block.block) (sym c.asked_at-asked.ensures) there.asks) honest few)
+
+pub returns-clause-parts : goal.returns-clause-parts
+returns-clause-parts g c =
+    let e : c.args.part.level ≡ suc (c.args.part.level - 1) = omega arith in
+    λ stored first array blocks held part honest.
+    let there = indirect_part stored (property_of c.args.node.now) c.args.part.level (c.args.part.level - 1) first c.args.part.birth c.args.part.pointer c.in-Block.block array blocks e c.in-Block.is part in
+    let read = c.in_ok-read_indirect.ensures.value stored there.bytes there.pointers held there.known there.spelled honest in (
+      there.parts,
+      parts_below stored (property_of c.args.node.now) c.args.part.level (c.args.part.level - 1) first c.args.part.birth c.args.part.pointer c.in-Block.block array blocks _ e c.in-Block.is part read,
+      there.blocks_are ∙ sym (ap (λ pointer. blocks_at pointer ++ joined there.parts) c.in-Block.is),
+    )

@@ -1,0 +1,75 @@
+use Rattle.std.proofs.Common.{◌≡◌, lit<, subst, ◌+◌, ◌-◌, ◌*◌, ◌^◌, ◌<◌, ◌≤◌, refl, ap, ◌∙◌, arith, add-one}
+use Rattle.dnode_tree.proofs.Raising.{six_levels}
+use Rattle.dnode_tree.proofs.Refusing.{passed_on}
+use Rattle.dnode_tree.proofs.Spans.{span_up}
+use Rattle.dnode_tree.proofs.Steps.{steps_on, no_room_on}
+use Rattle.dnode_tree.proofs.WholeTree.{raising_begins, raising_goes_on, raising_fails, power_rises, level_between, root_of, tree_rewritten}
+use Rattle.dnode_tree.proofs.putting.put_many.Goals as goal
+
+pub returns-in_err-pointer-clause-known : goal.returns-in_err-pointer-clause-known
+returns-in_err-pointer-clause-known g c =
+    passed_on _ _ _ c.from_residual.ensures.1
+    (λ stored planned bound array blocks plans tree le honest few.
+    c.in_err-pointer.ensures.known stored planned array blocks plans (root_of stored bound c.args.birth c.args.node.now array blocks le tree) honest few)
+
+pub loop-level-init : goal.loop-level-init
+loop-level-init g c =
+    let level_is = ap (λ n. n - 1) c.levels_of-levels.ensures.value in
+    let few : c.levels_of-levels.result ≤ 6 = c.levels_of-levels.ensures.least.least 6 (lit< tt) c.requires.node.0.highest in
+    let short : c.levels_of-levels.result - 1 ≤ 5 = omega (arith, few) in
+    let small : c.span.result ≤ 128 ^ 5 = omega (arith, c.span.ensures.value, power_rises (c.levels_of-levels.result - 1) 5 short) in
+    raising_begins _ _ _ _ _ _ _ _ _ _ _ _ _ c.count_before.ensures.before c.count_before.ensures.behind c.split_at.ensures.front c.split_at.ensures.back c.requires.order c.requires.ids
+    _ level_is c.span.ensures.value small c.new-replaced.ensures.items c.requires.whole c.in_ok-pointer.ensures.steps c.in_ok-pointer.ensures.fits c.in_ok-pointer.ensures.property
+    c.in_ok-pointer.ensures.rewritten
+
+pub raise-requires-clause-between : goal.raise-requires-clause-between
+raise-requires-clause-between g c =
+    let few : c.levels_of-new_levels.result ≤ 6 = c.levels_of-new_levels.ensures.least.least 6 (lit< tt) c.highest_of-highest.ensures.small in
+    let low : c.loop-level.level < 5 = omega (arith, few, c.loop-level-test.true) in
+    let middle_is : c.span-in-loop-level.result ≡ 128 * 128 ^ c.loop-level.level =
+    omega (arith, c.span-in-loop-level.ensures.value, span_up (c.loop-level.level + 1) c.loop-level.level (add-one c.loop-level.level)) in
+    let small : c.span-in-loop-level.result ≤ 128 ^ 5 = omega (arith, middle_is, six_levels c.loop-level.level low) in
+    let enough = subst (λ n. c.args.node.now.highest < 128 ^ (n - 1)) c.levels_of-levels.ensures.value c.levels_of-levels.ensures.least.enough in
+    level_between _ _ _ _ _ _ _ _ _ _ _ _ _ _ c.loop-level.invariant low middle_is small c.count_before-in-loop-level.ensures.before c.count_before-in-loop-level.ensures.behind
+    c.split_at-in-loop-level.ensures.front c.split_at-in-loop-level.ensures.back enough
+
+pub returns-in_err-pointer-2-clause-steps : goal.returns-in_err-pointer-2-clause-steps
+returns-in_err-pointer-2-clause-steps g c = steps_on _ _ _ _ c.loop-level.invariant.steps c.in_err-pointer-2.ensures.steps
+
+pub returns-in_err-pointer-2-clause-no_room : goal.returns-in_err-pointer-2-clause-no_room
+returns-in_err-pointer-2-clause-no_room g c =
+    passed_on _ _ _ c.from_residual-in_err-pointer-2.ensures.1 (λ none. no_room_on _ _ _ _ _ c.loop-level.invariant.steps.shapes (c.in_err-pointer-2.ensures.no_room none))
+
+pub returns-in_err-pointer-2-clause-known : goal.returns-in_err-pointer-2-clause-known
+returns-in_err-pointer-2-clause-known g c =
+    let few : c.levels_of-new_levels.result ≤ 6 = c.levels_of-new_levels.ensures.least.least 6 (lit< tt) c.highest_of-highest.ensures.small in
+    let low : c.loop-level.level < 5 = omega (arith, few, c.loop-level-test.true) in
+    let middle_is : c.span-in-loop-level.result ≡ 128 * 128 ^ c.loop-level.level =
+    omega (arith, c.span-in-loop-level.ensures.value, span_up (c.loop-level.level + 1) c.loop-level.level (add-one c.loop-level.level)) in
+    let small : c.span-in-loop-level.result ≤ 128 ^ 5 = omega (arith, middle_is, six_levels c.loop-level.level low) in
+    let enough = subst (λ n. c.args.node.now.highest < 128 ^ (n - 1)) c.levels_of-levels.ensures.value c.levels_of-levels.ensures.least.enough in
+    passed_on _ _ _ c.from_residual-in_err-pointer-2.ensures.1
+    (raising_fails _ _ _ _ _ _ _ _ _ _ _ _ _ _ c.loop-level.invariant low middle_is small c.count_before-in-loop-level.ensures.before c.count_before-in-loop-level.ensures.behind
+    c.split_at-in-loop-level.ensures.front c.split_at-in-loop-level.ensures.back enough _ c.in_err-pointer-2.ensures.steps _ c.in_err-pointer-2.ensures.known)
+
+pub loop-level-preserved : goal.loop-level-preserved
+loop-level-preserved g c =
+    let few : c.levels_of-new_levels.result ≤ 6 = c.levels_of-new_levels.ensures.least.least 6 (lit< tt) c.highest_of-highest.ensures.small in
+    let low : c.loop-level.level < 5 = omega (arith, few, c.loop-level-test.true) in
+    let middle_is : c.span-in-loop-level.result ≡ 128 * 128 ^ c.loop-level.level =
+    omega (arith, c.span-in-loop-level.ensures.value, span_up (c.loop-level.level + 1) c.loop-level.level (add-one c.loop-level.level)) in
+    let small : c.span-in-loop-level.result ≤ 128 ^ 5 = omega (arith, middle_is, six_levels c.loop-level.level low) in
+    let enough = subst (λ n. c.args.node.now.highest < 128 ^ (n - 1)) c.levels_of-levels.ensures.value c.levels_of-levels.ensures.least.enough in
+    raising_goes_on _ _ _ _ _ _ _ _ _ _ _ _ _ _ c.loop-level.invariant low middle_is small c.count_before-in-loop-level.ensures.before c.count_before-in-loop-level.ensures.behind
+    c.split_at-in-loop-level.ensures.front c.split_at-in-loop-level.ensures.back enough _ c.in_ok-pointer-2.ensures.steps _ _ c.in_ok-pointer-2.ensures.fits c.in_ok-pointer-2.ensures.property
+    c.in_ok-pointer-2.ensures.rewritten
+
+pub returns-clause-rewritten : goal.returns-clause-rewritten
+returns-clause-rewritten g c =
+    let room : c.args.node.now.highest < 128 ^ (c.levels_of-new_levels.result - 1) = omega (arith, c.levels_of-new_levels.ensures.least.enough, c.highest_of-highest.ensures.from) in
+    let grown : c.levels_of-levels.result ≤ c.levels_of-new_levels.result =
+    c.levels_of-levels.ensures.least.least c.levels_of-new_levels.result c.levels_of-new_levels.ensures.least.one room in
+    let rises : c.levels_of-levels.result - 1 ≤ c.levels_of-new_levels.result - 1 = omega (arith, grown) in
+    let at_end : c.loop-level.level ≡ c.levels_of-new_levels.result - 1 = omega (arith, c.loop-level-test.false, c.loop-level.auto.level-end rises) in
+    let level_is = at_end ∙ ap (λ n. n - 1) c.levels_of-new_levels.ensures.value in
+    tree_rewritten _ _ _ _ _ _ _ _ _ c.loop-level.invariant refl level_is c.highest_of-highest.ensures.from c.highest_of-highest.ensures.room

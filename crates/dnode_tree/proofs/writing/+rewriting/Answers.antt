@@ -1,0 +1,159 @@
+use Rattle.std.proofs.Common.{◌≡◌, suc, ◌+◌, ◌*◌, ◌^◌, ◌<◌, ◌≤◌, Some, [], length, get_or, inl, refl, sym, ap, ◌∙◌, subst, arith, rules, add-one}
+use Rattle.std.proofs.lemmas.Result.{IfOk-weaker, IfErr-weaker}
+use Rattle.dnode.specs.Indirect.{SpellsIndirect}
+use Rattle.block_store.specs.Reading.{Asks}
+use Rattle.dnode_tree.proofs.Fitting.{indirect_sectors}
+use Rattle.dnode_tree.proofs.NewArrays.{written_first}
+use Rattle.dnode_tree.proofs.Refusing.{passed_on, ok_both}
+use Rattle.dnode_tree.proofs.Rewriting.{rewriting_begins, sum_fits, root_rewritten}
+use Rattle.dnode_tree.proofs.Roots.{indirect_length, leaf_rewritten, part_has_root}
+use Rattle.dnode_tree.proofs.Steps.{steps_on, steps_read, steps_plan, true_sooner, true_later, few_later, no_room_on}
+use Rattle.dnode_tree.proofs.WritingParts.{writing_skips, writing_goes_on, writing_fails, run_is_between, run_in_order, run_whole, root_filled}
+use Rattle.dnode_tree.specs.Subtree.{asked_of}
+use Rattle.dnode_tree.specs.Tree.{property_of}
+use Rattle.dnode_tree.specs.Writes.{written, AreBetween, AreInOrder, AreWholeBlocks}
+use Rattle.dnode_tree.proofs.writing.+rewriting.Goals as goal
+
+pub write_part-returns-then-part-eq0-clause-rewritten : goal.write_part-returns-then-part-eq0-clause-rewritten
+write_part-returns-then-part-eq0-clause-rewritten g t c =
+    let e : c.args.part.level ≡ 0 = c.if-part-eq0.true in
+    let one : 128 ^ c.args.part.level ≡ 1 = ap (λ n. 128 ^ n) e in
+    let range = c.requires.between 0 c.index-writes-0.result c.requires.some in
+    let here : (get_or c.args.writes.now 0 c.index-writes-0.result).id ≡ c.args.first = omega (arith, range.0, range.1, one) in
+    IfOk-weaker c.plan_block.result _ _
+    (λ block made stored planned array blocks plans part honest.
+    let added = made.0 stored planned plans in (
+      added.0,
+      added.1,
+      leaf_rewritten stored planned added.0 (property_of c.args.node.now) c.args.part.level c.args.first c.args.part.birth c.args.birth c.args.part.pointer array (written c.args.writes.now array) blocks _ _
+          block c.deref.result.now e part c.in_ok-note.ensures.ok added.2 made.1.0 made.1.1.0 made.1.1.1
+          (written_first c.args.writes.now array c.args.first c.index-writes-0.result c.requires.some here ∙ ap (λ bytes. Some bytes) (sym c.deref.ensures.value)),
+    ))
+    (ok_both c.plan_block.result _ _ c.plan_block.ensures.planned
+    (ok_both c.plan_block.result _ _ c.plan_block.ensures.asks (ok_both c.plan_block.result _ _ c.plan_block.ensures.fill c.plan_block.ensures.birth)))
+
+pub write_part-returns-in_err-parts-clause-known : goal.write_part-returns-in_err-parts-clause-known
+write_part-returns-in_err-parts-clause-known g t c =
+    passed_on _ _ _ c.from_residual-in_err-parts.ensures.1
+    (λ stored planned array blocks plans part honest few. inl (c.in_err-parts.ensures.known stored c.args.first array blocks plans.held part honest few))
+
+pub write_part-returns-clause-steps : goal.write_part-returns-clause-steps
+write_part-returns-clause-steps g t c = steps_on _ _ _ _ (steps_read _ _ _ c.in_ok-parts.ensures.reads) c.write_parts.ensures.steps
+
+pub write_part-returns-clause-rewritten : goal.write_part-returns-clause-rewritten
+write_part-returns-clause-rewritten g t c =
+    let e : c.args.part.level ≡ suc c.in_ok-parts.parts.level = omega (arith, c.in_ok-parts.ensures.level) in
+    let reads = steps_read _ _ _ c.in_ok-parts.ensures.reads in
+    IfOk-weaker c.write_parts.result _ _
+    (λ block is stored planned array blocks plans part honest.
+    let below = c.in_ok-parts.ensures.parts stored c.args.first array blocks plans.held part (true_sooner _ _ _ _ reads c.write_parts.ensures.steps honest) in
+    let begun = rewriting_begins stored planned (property_of c.args.node.now) c.in_ok-parts.parts.level c.args.first c.in_ok-parts.parts.birth c.args.birth c.in_ok-parts.parts.pointers
+    array (written c.args.writes.now array) below.0 c.note.new.replaced.items plans.kept below.1 in
+    let done = is stored planned planned array (written c.args.writes.now array) below.0 [] c.note.new.replaced.items (c.in_ok-parts.ensures.reads.plans stored planned plans) begun
+    (λ id above under. refl) (true_later _ _ _ _ reads c.write_parts.ensures.steps honest) in (
+      done.0,
+      done.1,
+      part_has_root planned done.0 (property_of c.args.node.now) c.args.part.level c.in_ok-parts.parts.level c.args.first c.args.birth block c.args.part.pointer (written c.args.writes.now array) below.0
+          blocks _ _ _ e below.2 c.in_ok-note.ensures.ok done.2,
+    ))
+    c.write_parts.ensures.rewritten
+
+pub write_part-returns-clause-no_room : goal.write_part-returns-clause-no_room
+write_part-returns-clause-no_room g t c =
+    let reads = steps_read _ _ _ c.in_ok-parts.ensures.reads in
+    IfErr-weaker c.write_parts.result _ _ (λ refusal is none. no_room_on _ _ _ _ _ reads.shapes (is none)) c.write_parts.ensures.no_room
+
+pub write_part-returns-clause-known : goal.write_part-returns-clause-known
+write_part-returns-clause-known g t c =
+    let reads = steps_read _ _ _ c.in_ok-parts.ensures.reads in
+    IfErr-weaker c.write_parts.result _ _
+    (λ refusal is stored planned array blocks plans part honest few.
+    let below = c.in_ok-parts.ensures.parts stored c.args.first array blocks plans.held part (true_sooner _ _ _ _ reads c.write_parts.ensures.steps honest) in
+    let begun = rewriting_begins stored planned (property_of c.args.node.now) c.in_ok-parts.parts.level c.args.first c.in_ok-parts.parts.birth c.args.birth c.in_ok-parts.parts.pointers
+    array (written c.args.writes.now array) below.0 c.note.new.replaced.items plans.kept below.1 in
+    is stored planned planned array (written c.args.writes.now array) below.0 [] c.note.new.replaced.items (c.in_ok-parts.ensures.reads.plans stored planned plans) begun
+    (λ id above under. refl) (true_later _ _ _ _ reads c.write_parts.ensures.steps honest) (few_later _ _ _ _ reads c.write_parts.ensures.steps few))
+    c.write_parts.ensures.known
+
+pub write_parts-loop-place-preserved-then-is_empty : goal.write_parts-loop-place-preserved-then-is_empty
+write_parts-loop-place-preserved-then-is_empty g t c =
+    let middle_is : c.start_of-start.result + c.span.result ≡ (c.args.first + c.loop-place.place * 128 ^ c.args.parts.level) + 128 ^ c.args.parts.level =
+    omega (arith, c.start_of-start.ensures.value, c.span.ensures.value) in
+    let none : length c.split_at.result.0.now ≡ 0 = search rules in
+    writing_skips _ _ _ _ _ _ _ _ _ _ _ _ _ _ _ _ c.loop-place.invariant c.loop-place-test.true c.requires.bound _ _ middle_is c.count_before.ensures.before c.count_before.ensures.behind
+    _ _ c.count_before.ensures.within c.split_at.ensures.front c.split_at.ensures.back none
+
+pub write_parts-write_part-requires : goal.write_parts-write_part-requires
+write_parts-write_part-requires g t c =
+    let middle_is : c.start_of-start.result + c.span.result ≡ (c.args.first + c.loop-place.place * 128 ^ c.args.parts.level) + 128 ^ c.args.parts.level =
+    omega (arith, c.start_of-start.ensures.value, c.span.ensures.value) in
+    let room : c.start_of-start.result + 128 ^ c.args.parts.level ≤ 128 ^ 5 = omega (arith, c.start_of-start.ensures.within, c.requires.room) in
+    let some : 0 < length c.split_at.result.0.now = search rules in
+    let between : AreBetween c.start_of-start.result (c.start_of-start.result + 128 ^ c.args.parts.level) c.split_at.result.0.now =
+    run_is_between _ _ _ _ _ _ _ _ middle_is c.loop-place.invariant.between c.loop-place.invariant.order c.count_before.ensures.before c.count_before.ensures.behind
+    c.start_of-start.ensures.value c.split_at.ensures.front in
+    let order : AreInOrder c.split_at.result.0.now = run_in_order _ _ _ c.split_at.ensures.front c.loop-place.invariant.order in
+    let whole : AreWholeBlocks c.args.node.now c.split_at.result.0.now = run_whole c.args.node.now _ _ _ c.split_at.ensures.front c.loop-place.invariant.whole in
+    search rules
+
+pub write_parts-returns-in_err-block-clause-steps : goal.write_parts-returns-in_err-block-clause-steps
+write_parts-returns-in_err-block-clause-steps g t c = steps_on _ _ _ _ c.loop-place.invariant.steps c.in_err-block.ensures.steps
+
+pub write_parts-returns-in_err-block-clause-no_room : goal.write_parts-returns-in_err-block-clause-no_room
+write_parts-returns-in_err-block-clause-no_room g t c =
+    passed_on _ _ _ c.from_residual.ensures.1 (λ none. no_room_on _ _ _ _ _ c.loop-place.invariant.steps.shapes (c.in_err-block.ensures.no_room none))
+
+pub write_parts-returns-in_err-block-clause-known : goal.write_parts-returns-in_err-block-clause-known
+write_parts-returns-in_err-block-clause-known g t c =
+    let middle_is : c.start_of-start.result + c.span.result ≡ (c.args.first + c.loop-place.place * 128 ^ c.args.parts.level) + 128 ^ c.args.parts.level =
+    omega (arith, c.start_of-start.ensures.value, c.span.ensures.value) in
+    passed_on _ _ _ c.from_residual.ensures.1
+    (writing_fails _ _ _ _ _ _ _ _ _ _ _ _ _ _ _ _ c.loop-place.invariant c.loop-place-test.true c.requires.bound _ _ middle_is c.count_before.ensures.before c.count_before.ensures.behind
+    _ _ _ _ c.in_err-block.ensures.steps c.start_of-start.ensures.value c.get.ensures.value c.split_at.ensures.front _ c.in_err-block.ensures.known)
+
+pub write_parts-loop-place-preserved : goal.write_parts-loop-place-preserved
+write_parts-loop-place-preserved g t c =
+    let middle_is : c.start_of-start.result + c.span.result ≡ (c.args.first + c.loop-place.place * 128 ^ c.args.parts.level) + 128 ^ c.args.parts.level =
+    omega (arith, c.start_of-start.ensures.value, c.span.ensures.value) in
+    writing_goes_on _ _ _ _ _ _ _ _ _ _ _ _ _ _ _ _ c.loop-place.invariant c.loop-place-test.true c.requires.bound _ _ middle_is c.count_before.ensures.before c.count_before.ensures.behind
+    _ _ _ _ c.in_ok-block.ensures.steps c.start_of-start.ensures.value c.get.ensures.value c.split_at.ensures.front
+    _ _ _ _ c.set.ensures c.split_at.ensures.back c.in_ok-block.ensures.fits.filled c.in_ok-block.ensures.rewritten
+
+pub write_parts-returns-in_default-clause-known : goal.write_parts-returns-in_default-clause-known
+write_parts-returns-in_default-clause-known g t c =
+    λ stored planned now array new_array before after noted plans rewritten has honest few.
+    let there = c.loop-place.invariant.rewriting stored planned now array new_array before after noted plans rewritten has honest in
+    let fits = sum_fits _ _ _ _ _ _ _ _ _ _ _ _ _ _ _ _ there.3 c.requires.low in
+    absurd (omega (arith, fits, c.in_default.ensures.none.0 refl))
+
+pub write_parts-plan_block-requires-clause-filled : goal.write_parts-plan_block-requires-clause-filled
+write_parts-plan_block-requires-clause-filled g t c =
+    let all : c.loop-place.place ≡ 128 = omega (arith, c.loop-place-test.false, c.loop-place.auto.place-end, c.requires.from) in
+    let some = root_filled _ _ _ _ _ _ _ _ _ _ _ _ _ _ _ _ c.loop-place.invariant all in
+    omega (arith, some, c.in-Some.ensures.some)
+
+pub write_parts-plan_block-requires-clause-size : goal.write_parts-plan_block-requires-clause-size
+write_parts-plan_block-requires-clause-size g t c =
+    let sectors : (property_of c.args.node.now (c.args.parts.level + 1)).sectors ≡ 32 = rw (add-one c.args.parts.level) (indirect_sectors c.args.node.now c.args.parts.level) in
+    let size = indirect_length _ _ c.in_ok-bytes.ensures in
+    ap length c.deref.ensures.value ∙ size ∙ sym (ap (λ n. n * 512) sectors)
+
+pub write_parts-returns-clause-rewritten : goal.write_parts-returns-clause-rewritten
+write_parts-returns-clause-rewritten g t c =
+    let all : c.loop-place.place ≡ 128 = omega (arith, c.loop-place-test.false, c.loop-place.auto.place-end, c.requires.from) in
+    IfOk-weaker c.plan_block.result _ _
+    (λ block made stored planned now array new_array before after noted plans rewritten has honest.
+    let planned_step = steps_plan c.loop-place.store c.plan_block.new.store c.args.missing.now c.plan_block.ensures.disks c.plan_block.ensures.out c.plan_block.ensures.shapes c.plan_block.ensures.keeps in
+    let there = c.loop-place.invariant.rewriting stored planned now array new_array before after noted plans rewritten has (true_sooner _ _ _ _ c.loop-place.invariant.steps planned_step honest) in
+    let added = made.0.0 stored there.0 there.2 in
+    let asks : Asks (asked_of (property_of c.args.node.now (suc c.args.parts.level)) c.args.birth) block = rw add-one at made.0.1 in (
+      added.0,
+      added.1,
+      root_rewritten _ _ _ _ _ _ _ _ _ _ _ _ _ _ _ _ there.3 added.0 block _ all added.2 (subst (λ bytes. SpellsIndirect bytes c.loop-place.pointers) (sym c.deref.ensures.value) c.in_ok-bytes.ensures)
+          asks made.1.0 (made.1.1 ∙ c.in-Some.ensures.some),
+    ))
+    (ok_both c.plan_block.result _ _ (ok_both c.plan_block.result _ _ c.plan_block.ensures.planned c.plan_block.ensures.asks) (ok_both c.plan_block.result _ _ c.plan_block.ensures.birth c.plan_block.ensures.fill))
+
+pub write_parts-returns-clause-no_room : goal.write_parts-returns-clause-no_room
+write_parts-returns-clause-no_room g t c =
+    IfErr-weaker c.plan_block.result _ _ (λ refusal is none. no_room_on _ _ _ _ _ c.loop-place.invariant.steps.shapes (is none)) c.plan_block.ensures.no_room

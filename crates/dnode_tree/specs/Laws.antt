@@ -1,0 +1,24 @@
+-- What follows from these definitions for those who have trees.
+use Rattle.std.specs.Prelude.{ℕ, ◌≡◌, ◌≤◌, List, [], Option, Some, None, Contains}
+use Rattle.block_pointer.specs.declared.block.Block.{Block}
+use Rattle.block_pointer.specs.declared.pointer.BlockPtr.TheVariants.{Hole}
+use Rattle.dnode.specs.declared.node.ObjectNode.{ObjectNode}
+use Rattle.block_store.specs.Blocks.{Contents}
+use Rattle.dnode_tree.specs.Tree.{IsTree}
+
+-- a tree keeps its array and its blocks where its own blocks stay known, whatever becomes of others
+abbrev pub TreesStandOnTheirBlocks : Type 0
+TreesStandOnTheirBlocks =
+    (old new : Contents) (birth : ℕ) (node : ObjectNode) (array : ℕ → Option (List ℕ)) (blocks : List Block)
+    → ((block : Block) (bytes : List ℕ) → Contains blocks block → old block ≡ Some bytes → new block ≡ Some bytes)
+    → IsTree old birth node array blocks → IsTree new birth node array blocks
+
+-- each block of a tree is known, and was born by then
+abbrev pub BlocksOfTreesAreKnown : Type 0
+BlocksOfTreesAreKnown =
+    (stored : Contents) (birth : ℕ) (node : ObjectNode) (array : ℕ → Option (List ℕ)) (blocks : List Block) → IsTree stored birth node array blocks
+    → (block : Block) → Contains blocks block → (block.birth ≤ birth) × (bytes : List ℕ) × (stored block ≡ Some bytes)
+
+-- an object that begins at a hole is a tree that reads as nothing
+abbrev pub HolesAreTrees : Type 0
+HolesAreTrees = (stored : Contents) (birth : ℕ) (node : ObjectNode) → node.pointer ≡ Hole → IsTree stored birth node (λ id. None) []

@@ -1,0 +1,44 @@
+-- Writes of data blocks.
+use Rattle.std.specs.Prelude.{ℕ, ◌≡◌, ◌⊎◌, ◌*◌, ◌<◌, ◌≤◌, ◌==◌, cond, List, [], ◌∷◌, length, Option, Some, All, AllPairs, if◌then◌else◌}
+use Rattle.dnode.specs.declared.node.ObjectNode.{ObjectNode}
+use Rattle.block_store.specs.declared.refusal.Refusal.{Refusal}
+use Rattle.block_store.specs.declared.refusal.Refusal.TheVariants.{NoMemory, NoSpace}
+use Rattle.block_store.specs.declared.space.VdevSpace.{VdevSpace}
+use Rattle.block_store.specs.Blocks.{count_of}
+use Rattle.block_store.specs.Places.{shapes_of, RanOut}
+use Rattle.block_store.specs.Store.{Store}
+use Rattle.dnode_tree.specs.declared.writes.BlockWrite.{BlockWrite}
+use Rattle.dnode_tree.specs.declared.writes.CopyCounts.{CopyCounts}
+use Rattle.dnode_tree.specs.Tree.{property_of}
+
+-- each id is written once, in ascending order
+abbrev pub AreInOrder : List BlockWrite → Type 0
+AreInOrder writes = AllPairs (λ write later. write.id < later.id) writes
+
+-- their ids are from the first on and before the end
+abbrev pub AreBetween : ℕ → ℕ → List BlockWrite → Type 0
+AreBetween first end writes = All (λ write. (first ≤ write.id) × (write.id < end)) writes
+
+-- each has the bytes of a data block
+abbrev pub AreWholeBlocks : ObjectNode → List BlockWrite → Type 0
+AreWholeBlocks node writes = All (λ write. length write.bytes.items ≡ node.data_sectors * 512) writes
+
+-- the array with the blocks that are written
+abbrev pub written : List BlockWrite → (ℕ → Option (List ℕ)) → ℕ → Option (List ℕ)
+written [] array id = array id
+written (write ∷ writes) array id = if write.id == id then Some write.bytes.items else written writes array id
+
+-- how many copies the blocks of a level have
+abbrev pub copies_at : CopyCounts → ℕ → ℕ
+copies_at copies level = cond (level == 0) (count_of copies.data) (count_of copies.indirect)
+
+-- there is no room: at a block of some level no metaslab had room for another copy
+pub record HasNoRoom (old store : Store) (node : ObjectNode) (copies : CopyCounts) : Type 0 where
+  pub spaces : List VdevSpace
+  pub shapes : shapes_of spaces ≡ shapes_of old.spaces
+  pub level : ℕ
+  pub ran_out : RanOut spaces (property_of node level).sectors (copies_at copies level) store.spaces
+
+-- there is not enough memory, or no room
+abbrev pub IsForRoom : Refusal → Type 0
+IsForRoom refusal = (refusal ≡ NoMemory) ⊎ (refusal ≡ NoSpace)

@@ -1,0 +1,17 @@
+//! Laws of trees, as functions with no body: what each ensures follows from the definitions alone.
+ghost use Rattle.dnode_tree.specs.Laws.{TreesStandOnTheirBlocks, BlocksOfTreesAreKnown, HolesAreTrees};
+
+/// A tree keeps its array and its blocks whatever becomes of other blocks.
+pub fn trees_stand_on_their_blocks()
+    ensures { TreesStandOnTheirBlocks }
+{}
+
+/// The blocks of a tree are known.
+pub fn blocks_of_trees_are_known()
+    ensures { BlocksOfTreesAreKnown }
+{}
+
+/// An object of holes is a tree.
+pub fn holes_are_trees()
+    ensures { HolesAreTrees }
+{}

@@ -1,0 +1,23 @@
+//! An object's data as a tree of blocks that are never overwritten: a write makes new blocks up to a new root, and the
+//! old tree stays as it was.
+#![tactic(auto)]
+
+mod descent;
+mod laws;
+mod planning;
+mod putting;
+mod reading;
+mod subtree;
+mod walking;
+mod writes;
+mod writing;
+
+pub use block_store::Refusal;
+pub use laws::{blocks_of_trees_are_known, holes_are_trees, trees_stand_on_their_blocks};
+pub use putting::put_many;
+pub use reading::get;
+pub use walking::walk;
+pub use writes::{BlockWrite, CopyCounts, Rewrite};
+
+#[cfg(test)]
+mod tests;

@@ -1,0 +1,89 @@
+//! One block of an object that is planned.
+ghost use Rattle.std.specs.Prelude.{◌≡◌, ◌≢◌, ◌*◌, ◌^◌, ◌<◌, length, cond, ◌==◌, IfOk, IfErr};
+ghost use Rattle.std.specs.List.{AllByRecursion};
+ghost use Rattle.block_pointer.specs.Block.{FitsBlock};
+ghost use Rattle.block_pointer.specs.Copies.{dvas};
+ghost use Rattle.dnode.specs.Node.{IsNode};
+ghost use Rattle.block_store.specs.Blocks.{Contents, Adds, FitsNew};
+ghost use Rattle.block_store.specs.Places.{shapes_of};
+ghost use Rattle.block_store.specs.Plans.{Plans};
+ghost use Rattle.block_store.specs.Reading.{Asks};
+ghost use Rattle.block_store.specs.Store.{Keeps};
+ghost use Rattle.dnode_tree.specs.Subtree.{asked_of};
+ghost use Rattle.dnode_tree.specs.Tree.{property_of};
+ghost use Rattle.dnode_tree.specs.Writes.{HasNoRoom, IsForRoom};
+
+use crate::descent::property_at;
+use crate::writes::CopyCounts;
+use block_pointer::{Block, Copies, Dva};
+use block_store::{BlockStore, NewBlock, Refusal};
+use dnode::ObjectNode;
+use model_disk::Disk;
+use std::alloc::Global;
+
+/// Plans a block of an object.
+pub(crate) fn plan_block<D: Disk + Drop>(
+    node: &ObjectNode,
+    store: &mut BlockStore<D>,
+    alloc: Global,
+    bytes: &[u8],
+    level: u8,
+    fill: u64,
+    birth: u64,
+    copies: CopyCounts,
+) -> Result<Block, Refusal>
+    requires node { IsNode node.now }
+    requires low { level < 6 }
+    requires born { 0 < birth }
+    requires filled { 0 < fill }
+    requires fill_of_data { level ≡ 0 → fill ≡ 1 }
+    requires size { length bytes.now ≡ (property_of node.now level).sectors * 512 }
+    ensures disks { store.new.disks ≡ store.old.disks }
+    ensures out { store.new.out ≡ store.old.out }
+    ensures shapes { shapes_of store.new.spaces ≡ shapes_of store.old.spaces }
+    ensures keeps { Keeps store.old store.new }
+    ensures fits { IfOk result FitsBlock }
+    ensures property { IfOk result (λ block. block.property ≡ property_of node.now level) }
+    ensures asks { IfOk result (Asks (asked_of (property_of node.now level) birth)) }
+    ensures birth { IfOk result (λ block. block.birth ≡ birth) }
+    ensures fill { IfOk result (λ block. block.fill ≡ fill) }
+    ensures planned { IfOk result (λ block. (stored planned : Contents) → Plans store.old stored planned
+        → (later : Contents) × Plans store.new stored later × Adds planned later block bytes.now) }
+    ensures refused { IfErr result IsForRoom }
+    ensures no_room { IfErr result (λ refusal. refusal ≡ Refusal.NoSpace → HasNoRoom store.old store.new node.now copies) }
+{
+    let block = NewBlock {
+        property: property_at(node, level),
+        birth,
+        fill,
+    };
+    let planned = store.plan_write(alloc, bytes, block, copies.at(level))?;
+    vdevs_are_short(&planned.copies);
+    Ok(planned)
+}
+
+/// The numbers of vdevs have 32 bits.
+fn vdevs_are_short(copies: &Copies)
+    ensures { AllByRecursion (λ place. place.vdev < 2 ^ 32) (dvas copies.now) }
+{
+    match copies {
+        Copies::One(first) => {
+            vdev_is_short(first);
+        }
+        Copies::Two(first, second) => {
+            vdev_is_short(first);
+            vdev_is_short(second);
+        }
+        Copies::Three(first, second, third) => {
+            vdev_is_short(first);
+            vdev_is_short(second);
+            vdev_is_short(third);
+        }
+    }
+}
+
+fn vdev_is_short(place: &Dva)
+    ensures { place.now.vdev < 2 ^ 32 }
+{
+    let _vdev = place.vdev;
+}

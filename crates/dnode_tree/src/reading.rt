@@ -1,0 +1,83 @@
+//! One data block of a tree.
+ghost use Rattle.std.specs.Prelude.{◌≡◌, ◌≢◌, ◌+◌, ◌^◌, ◌<◌, ℕ, List, Option, IfOk, IfErr};
+ghost use Rattle.std.specs.Option.{option_map};
+ghost use Rattle.block_pointer.specs.declared.block.Block.{Block};
+ghost use Rattle.block_store.specs.Blocks.{Contents};
+ghost use Rattle.block_store.specs.Store.{Holds};
+ghost use Rattle.dnode_tree.specs.Reading.{OnlyReadsBlocks, AnswersAreTrue, LossIsTolerable};
+ghost use Rattle.dnode_tree.specs.Tree.{IsPart, IsTree};
+
+use crate::descent::{asked_at, read_indirect, span};
+use crate::subtree::Subtree;
+use block_pointer::BlockPtr;
+use block_store::{BlockStore, Refusal};
+use dnode::ObjectNode;
+use model_disk::Disk;
+use std::alloc::Global;
+
+/// The bytes of a data block of an object, or nothing where it has none: one block is read a level. The object's blocks
+/// were born in the transaction group `birth` or before. The disks that are named are taken as missing.
+pub fn get<D: Disk + Drop>(
+    node: &ObjectNode,
+    store: &mut BlockStore<D>,
+    alloc: Global,
+    id: u64,
+    birth: u64,
+    missing: &[usize],
+) -> Result<Option<Vec<u8>>, Refusal>
+    requires { node.now.highest < 128 ^ 5 }
+    ensures reads { OnlyReadsBlocks store.old store.new missing.now }
+    ensures value { IfOk result (λ found. (stored : Contents) (array : ℕ → Option (List ℕ)) (blocks : List Block) → Holds store.old stored
+        → IsTree stored birth node.now array blocks → AnswersAreTrue store.old store.new → option_map (λ bytes. bytes.items) found ≡ array id) }
+    ensures cause { IfErr result (λ refusal. refusal ≢ Refusal.NoSpace) }
+    ensures known { IfErr result (λ refusal. (stored : Contents) (array : ℕ → Option (List ℕ)) (blocks : List Block) → Holds store.old stored
+        → IsTree stored birth node.now array blocks → AnswersAreTrue store.old store.new → LossIsTolerable store.old store.new missing.now
+        → refusal ≡ Refusal.NoMemory) }
+{
+    if id > node.highest {
+        return Ok(None);
+    }
+    let root = Subtree {
+        level: node.levels() - 1,
+        pointer: node.pointer,
+        birth,
+    };
+    get_below(node, store, alloc, root, id, missing)
+}
+
+/// The same in a part of a tree, by the place of the data block in it.
+fn get_below<D: Disk + Drop>(
+    node: &ObjectNode,
+    store: &mut BlockStore<D>,
+    alloc: Global,
+    part: Subtree,
+    place: u64,
+    missing: &[usize],
+) -> Result<Option<Vec<u8>>, Refusal>
+    requires low { part.level < 6 }
+    requires within { place < 128 ^ part.level }
+    ensures reads { OnlyReadsBlocks store.old store.new missing.now }
+    ensures value { IfOk result (λ found. (stored : Contents) (first : ℕ) (array : ℕ → Option (List ℕ)) (blocks : List Block) → Holds store.old stored
+        → IsPart stored node.now first part array blocks → AnswersAreTrue store.old store.new
+        → option_map (λ bytes. bytes.items) found ≡ array (first + place)) }
+    ensures cause { IfErr result (λ refusal. refusal ≢ Refusal.NoSpace) }
+    ensures known { IfErr result (λ refusal. (stored : Contents) (first : ℕ) (array : ℕ → Option (List ℕ)) (blocks : List Block) → Holds store.old stored
+        → IsPart stored node.now first part array blocks → AnswersAreTrue store.old store.new → LossIsTolerable store.old store.new missing.now
+        → refusal ≡ Refusal.NoMemory) }
+{
+    let BlockPtr::Block(block) = part.pointer else {
+        return Ok(None);
+    };
+    let asked = asked_at(node, part.level, part.birth);
+    if part.level == 0 {
+        return Ok(Some(store.read(alloc, &block, asked, missing)?));
+    }
+    let children = read_indirect(store, alloc, &block, asked, missing)?;
+    let span = span(part.level - 1);
+    let child = Subtree {
+        level: part.level - 1,
+        pointer: children.get((place / span) as usize),
+        birth: block.birth,
+    };
+    get_below(node, store, alloc, child, place % span, missing)
+}

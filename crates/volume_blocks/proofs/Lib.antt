@@ -1,0 +1,12 @@
+mod Changed
+mod Dividing
+mod Further
+mod FurtherReads
+mod Laying
+mod Planning
+mod Ranges
+mod Rewriting
+mod Refusing
+mod Sizes
+mod Spelled
+mod Untouched

@@ -1,0 +1,56 @@
+-- A group's writes to a volume.
+use Rattle.std.specs.Prelude.{ℕ, ◌≡◌, ◌+◌, ◌*◌, ◌<◌, ◌≤◌, List, [], ◌++◌, length, false, All, Any, IsSomeAnd}
+use Rattle.pool_model.specs.declared.item.Write.{Write}
+use Rattle.raidz_io.specs.declared.writes.ColumnWrite.{ColumnWrite}
+use Rattle.raidz_io.specs.Reads.{OnlyReads, AreUntouched}
+use Rattle.block_store.specs.declared.refusal.Refusal.{Refusal}
+use Rattle.block_store.specs.declared.space.VdevSpace.{VdevSpace}
+use Rattle.block_store.specs.Blocks.{Contents, Extends}
+use Rattle.block_store.specs.Places.{shapes_of, HasRoomAt}
+use Rattle.block_store.specs.Plans.{Plans}
+use Rattle.block_store.specs.Store.{Store, Keeps, outs, is_out}
+use Rattle.volume_blocks.specs.declared.volume.VolumeBlocks.{VolumeBlocks}
+use Rattle.volume_blocks.specs.Reading.{IsUnread}
+use Rattle.volume_blocks.specs.Volume.{HasShape, block_at}
+
+-- the write lies within a volume of that size, and has a byte in the block of that id
+pub record Reaches (size block_size : ℕ) (write : Write) (id : ℕ) : Type 0 where
+  pub within : write.offset + length write.bytes ≤ size
+  pub some : 0 < length write.bytes
+  pub begins : write.offset < id * block_size + block_size
+  pub ends : id * block_size < write.offset + length write.bytes
+
+-- one of the writes to the volume of that name has a byte in the block
+abbrev pub IsChanged : VolumeBlocks → List ℕ → List Write → ℕ → Type 0
+IsChanged volume name writes id = Any (λ write. (write.volume ≡ name) × Reaches volume.size volume.block_size write id) writes
+
+-- the blocks that the writes change were born in that group, and the others stay
+pub record ChangesOnly (old : VolumeBlocks) (name : List ℕ) (writes : List Write) (birth : ℕ) (new : VolumeBlocks) : Type 0 where
+  pub shape : HasShape new old.size old.block_size
+  pub changed : (id : ℕ) → IsChanged old name writes id → IsSomeAnd (block_at new id) (λ block. block.birth ≡ birth)
+  pub others : (id : ℕ) → ¬ IsChanged old name writes id → block_at new id ≡ block_at old id
+
+-- no metaslab has room for a block of so many sectors
+abbrev pub HasNoRoom : List VdevSpace → ℕ → Type 0
+HasNoRoom spaces sectors = (v metaslab : ℕ) → ¬ HasRoomAt spaces sectors v metaslab
+
+-- nothing was done but reads, none of them on a disk that is out, and a plan that has what it had and perhaps more blocks
+pub record OnlyReadsAndPlans (old new : Store) : Type 0 where
+  pub reads : OnlyReads old.disks new.disks
+  pub untouched : AreUntouched (outs old) old.disks new.disks
+  pub out : new.out ≡ old.out
+  pub shapes : shapes_of new.spaces ≡ shapes_of old.spaces
+  pub keeps : Keeps old new
+  pub added : List ColumnWrite
+  pub due : new.due ≡ old.due ++ added
+  pub in_use : All (λ write. is_out old.out write.disk ≡ false) added
+  pub plans : (stored planned : Contents) → Plans old stored planned → (later : Contents) × Plans new stored later × Extends planned later
+
+-- a block that the writes change was read last, and could not be read
+pub record IsUnreadOf (old new : Store) (volume : VolumeBlocks) (name : List ℕ) (writes : List Write) (birth : ℕ) (refusal : Refusal) : Type 0 where
+  pub id : ℕ
+  pub is_changed : IsChanged volume name writes id
+  -- as the blocks before it were read and planned
+  pub mid : Store
+  pub before : OnlyReadsAndPlans old mid
+  pub unread : IsUnread mid new volume birth id [] refusal
