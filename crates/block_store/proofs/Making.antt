@@ -2,7 +2,9 @@
 use Rattle.std.proofs.Common.{ℕ, zero, suc, ◌≡◌, inl, inr, ◌+◌, ◌<◌, ◌≤◌, ◌^◌, Some, List, [], ◌∷◌, ◌++◌, length, min, drop, get_or, refl, sym, ap, subst, ◌∙◌, arith, add-one, drop-cons}
 use Rattle.std.proofs.lemmas.Bool.{cases_lt}
 use Rattle.std.proofs.lemmas.List.{drop_all, append-nil}
+use Rattle.std.proofs.lemmas.List.Elements.{All-push}
 use Rattle.std.specs.List.{slice_get, Contains}
+use Rattle.std.specs.Prelude.{replicate}
 use Rattle.model_disk.specs.Joint.{bytes_of}
 use Rattle.raidz_map.specs.declared.geometry.Geometry.{Geometry}
 use Rattle.raidz_io.specs.declared.writes.ColumnWrite.{ColumnWrite}
@@ -13,8 +15,9 @@ use Rattle.block_store.specs.declared.shape.VdevShape.{VdevShape}
 use Rattle.block_store.specs.declared.space.VdevSpace.{VdevSpace}
 use Rattle.block_store.specs.Blocks.{nothing_stored}
 use Rattle.block_store.specs.Config.{IsAllowedSize, sectors_of, size_of, AreAllowedSizes, IsLeastOf, IsShapeOf, AreShapes}
-use Rattle.block_store.specs.Places.{shapes_of}
+use Rattle.block_store.specs.Places.{filled, planned, shapes_of, IsEmpty, AreEmpty}
 use Rattle.block_store.specs.Plans.{Plans}
+use Rattle.block_store.specs.Shapes.{metaslabs}
 use Rattle.block_store.specs.Store.{Store, IsStore, Holds}
 
 -- the disks from the first on and before the end are of allowed sizes, and so many sectors are the fewest of one of them
@@ -224,3 +227,10 @@ plans_nothing store due = record {
   on_the_way = λ block bytes i extent is new copy. absurd (cc);
   due = λ write among. let P : List ColumnWrite → Type 0 = λ xs. Contains xs write in absurd (omega (arith, (subst P due among).1));
 }
+
+-- an empty vdev more
+pub empty_more : (spaces : List VdevSpace) (space : VdevSpace) (shape : VdevShape) → AreEmpty spaces → space.shape ≡ shape → filled space ≡ replicate (metaslabs shape) 0
+    → planned space ≡ replicate (metaslabs shape) 0 → AreEmpty (spaces ++ space ∷ [])
+empty_more spaces space shape before same none_filled none_planned =
+    let marks : replicate (metaslabs shape) 0 ≡ replicate (metaslabs space.shape) 0 = ap (λ s. replicate (metaslabs s) 0) (sym same) in
+    All-push IsEmpty spaces space before (record { none_filled = none_filled ∙ marks; none_planned = none_planned ∙ marks })

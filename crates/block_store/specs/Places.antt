@@ -1,5 +1,5 @@
 -- Where copies of blocks lie.
-use Rattle.std.specs.Prelude.{ℕ, ◌≡◌, ◌≢◌, ◌⊎◌, ◌+◌, ◌<◌, ◌≤◌, Some, List, [], ◌∷◌, ◌++◌, length, slice_get, slice_index, map, Contains}
+use Rattle.std.specs.Prelude.{ℕ, ◌≡◌, ◌≢◌, ◌⊎◌, ◌+◌, ◌<◌, ◌≤◌, Some, List, [], ◌∷◌, ◌++◌, length, slice_get, slice_index, map, Contains, All, replicate}
 use Rattle.block_pointer.specs.declared.block.Block.{Block}
 use Rattle.block_pointer.specs.declared.dva.Dva.{Dva}
 use Rattle.block_pointer.specs.Copies.{dvas}
@@ -28,6 +28,14 @@ planned space = space.planned.items
 -- of each vdev these marks are those that it had
 abbrev pub HaveMarks : List VdevSpace → Marks → List VdevSpace → Marks → Type 0
 HaveMarks spaces marks after later = (v : ℕ) (space new : VdevSpace) → slice_get spaces v ≡ Some space → slice_get after v ≡ Some new → later new ≡ marks space
+
+-- no sector of the vdev is in use
+pub record IsEmpty (space : VdevSpace) : Type 0 where
+  pub none_filled : filled space ≡ replicate (metaslabs space.shape) 0
+  pub none_planned : planned space ≡ replicate (metaslabs space.shape) 0
+
+abbrev pub AreEmpty : List VdevSpace → Type 0
+AreEmpty spaces = All IsEmpty spaces
 
 -- the vdevs are on these disks, in their order, and share none
 pub record IsLaidOut (starts : List (List ℕ)) (spaces : List VdevSpace) : Type 0 where
@@ -124,6 +132,10 @@ abbrev pub AreChosen : List VdevSpace → List Dva → ℕ → List Dva → List
 AreChosen spaces taken sectors [] after = after ≡ spaces
 AreChosen spaces taken sectors (place ∷ places) after =
     IsChosen spaces taken sectors place × (mid : List VdevSpace) × IsTakenToo spaces place mid × AreChosen mid (taken ++ place ∷ []) sectors places after
+
+-- places for some of the copies, or for all, were chosen and taken
+abbrev pub TookSome : List VdevSpace → ℕ → ℕ → List VdevSpace → Type 0
+TookSome spaces sectors copies after = (places : List Dva) × (length places ≤ copies) × AreChosen spaces [] sectors places after
 
 -- places for some of the copies were chosen, and then no metaslab had room for another
 abbrev pub RanOut : List VdevSpace → ℕ → ℕ → List VdevSpace → Type 0

@@ -4,7 +4,7 @@ ghost use Rattle.std.specs.Option.{SomeIff};
 ghost use Rattle.model_disk.specs.Joint.{calls_on, log_of};
 ghost use Rattle.block_store.specs.declared.shape.VdevShape.{VdevShape};
 ghost use Rattle.block_store.specs.Config.{IsAllowedSize, sectors_of, AreAllowedSizes, IsLeastOf, IsShapeOf, AreShapes, IsFewVdevs};
-ghost use Rattle.block_store.specs.Places.{shapes_of};
+ghost use Rattle.block_store.specs.Places.{shapes_of, AreEmpty};
 
 use crate::refusal::Refusal;
 use crate::shape::VdevShape;
@@ -119,6 +119,7 @@ fn spaces_of<D: Disk + Drop>(
     vdevs: &[VdevConfig],
 ) -> Result<Vec<VdevSpace>, Refusal>
     ensures ok { IfOk result (λ spaces. AreShapes disks.now.starts 0 vdevs.now (shapes_of spaces.items)) }
+    ensures empty { IfOk result (λ spaces. AreEmpty spaces.items) }
     ensures refused { IfErr result (λ refusal. (refusal ≡ Refusal.NoMemory)
         ⊎ ((refusal ≡ Refusal.BadConfig) × ((shapes : List VdevShape) → ¬ AreShapes disks.now.starts 0 vdevs.now shapes))) }
 {
@@ -154,7 +155,8 @@ impl<D: Disk + Drop> BlockStore<D> {
         ensures out { IfOk result (λ store. (disk : ℕ) → is_out store.out disk ≡ false) }
         ensures due { IfOk result (λ store. store.due ≡ []) }
 
-        // It holds no block, and no plan is begun.
+        // It holds no block, and no plan is begun: no sector is in use.
+        ensures empty { IfOk result (λ store. AreEmpty store.spaces) }
         ensures holds { IfOk result (λ store. Holds store nothing_stored) }
         ensures plans { IfOk result (λ store. Plans store nothing_stored nothing_stored) }
         ensures refused { IfErr result (λ refusal. (refusal ≡ Refusal.NoMemory)

@@ -1,10 +1,11 @@
 //! Plans of blocks that are to be written.
 ghost use Rattle.std.specs.Prelude.{◌≡◌, ◌≤◌, ◌<◌, ◌+◌, ◌*◌, ◌^◌, ◌⊎◌, ℕ, List, All, Contains, false, filter, not, length, [], ◌++◌, OnOk, OnErr, IfOk, IfErr};
+ghost use Rattle.block_pointer.specs.Block.{FitsBlock};
 ghost use Rattle.block_pointer.specs.Copies.{dvas};
 ghost use Rattle.raidz_io.specs.declared.writes.ColumnWrite.{ColumnWrite};
 ghost use Rattle.raidz_io.specs.Places.{CanHold, IsOnDisks};
 ghost use Rattle.block_store.specs.Blocks.{Contents, Adds, FitsNew, IsBlockOf, count_of};
-ghost use Rattle.block_store.specs.Places.{shapes_of, filled, planned, HaveMarks, AreChosen, RanOut, IsPlaceIn, IsExtentAt};
+ghost use Rattle.block_store.specs.Places.{shapes_of, filled, planned, HaveMarks, AreChosen, TookSome, RanOut, IsPlaceIn, IsExtentAt};
 ghost use Rattle.block_store.specs.Plans.{Plans, KeepsPlans, AreWritesAt};
 ghost use Rattle.block_store.specs.Store.{Holds, Keeps, is_out};
 
@@ -52,6 +53,7 @@ fn keep_plans(spaces: &mut Vec<VdevSpace>)
     ensures count { length spaces.new.items ≡ length spaces.old.items }
     ensures shapes { shapes_of spaces.new.items ≡ shapes_of spaces.old.items }
     ensures filled { HaveMarks spaces.old.items planned spaces.new.items filled }
+    ensures planned { HaveMarks spaces.old.items planned spaces.new.items planned }
 {
     for vdev in 0..spaces.len() {
         spaces[vdev].keep_planned();
@@ -78,6 +80,10 @@ impl<D: Disk + Drop> BlockStore<D> {
         ensures shapes { shapes_of self.new.spaces ≡ shapes_of self.old.spaces }
         ensures due { self.new.due ≡ [] }
 
+        // The places of the plan that is dropped are free again.
+        ensures filled { HaveMarks self.old.spaces filled self.new.spaces filled }
+        ensures free { HaveMarks self.old.spaces filled self.new.spaces planned }
+
         // What is stored stays so, and nothing else is planned.
         ensures plans { (stored : Contents) → Holds self.old stored → Plans self.new stored stored }
     {
@@ -91,6 +97,8 @@ impl<D: Disk + Drop> BlockStore<D> {
         ensures out { self.new.out ≡ self.old.out }
         ensures shapes { shapes_of self.new.spaces ≡ shapes_of self.old.spaces }
         ensures due { self.new.due ≡ self.old.due }
+        ensures filled { HaveMarks self.old.spaces planned self.new.spaces filled }
+        ensures planned { HaveMarks self.old.spaces planned self.new.spaces planned }
         ensures stored { (stored planned : Contents) → Plans self.old stored planned → self.old.due ≡ [] → Holds self.new planned }
     {
         keep_plans(&mut self.spaces);
@@ -113,6 +121,7 @@ impl<D: Disk + Drop> BlockStore<D> {
         ensures shapes { shapes_of self.new.spaces ≡ shapes_of self.old.spaces }
         ensures keeps { Keeps self.old self.new }
         ensures block { IfOk result (λ block. IsBlockOf new bytes.now (count_of copies) block) }
+        ensures fits { IfOk result FitsBlock }
 
         // The block is planned, and all others stay.
         ensures planned { IfOk result (λ block. (stored planned : Contents) → Plans self.old stored planned
@@ -121,6 +130,7 @@ impl<D: Disk + Drop> BlockStore<D> {
         ensures due { OnOk result ((added : List ColumnWrite) × (self.new.due ≡ self.old.due ++ added) × All (λ write. is_out self.old.out write.disk ≡ false) added) }
         ensures refused { IfErr result (λ refusal. (refusal ≡ Refusal.NoMemory)
             ⊎ ((refusal ≡ Refusal.NoSpace) × RanOut self.old.spaces new.property.sectors (count_of copies) self.new.spaces)) }
+        ensures err_spaces { OnErr result (TookSome self.old.spaces new.property.sectors (count_of copies) self.new.spaces) }
         ensures err_due { OnErr result (self.new.due ≡ self.old.due) }
         ensures err { OnErr result (KeepsPlans self.old self.new) }
     {

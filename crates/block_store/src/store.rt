@@ -1,5 +1,5 @@
 //! The store.
-ghost use Rattle.std.specs.Prelude.{◌≡◌, ◌<◌, length, slice_get, Some, option_map};
+ghost use Rattle.std.specs.Prelude.{◌≡◌, ◌+◌, ◌<◌, ◌≤◌, length, slice_get, Some, option_map};
 ghost use Rattle.block_store.specs.Store.{is_out};
 
 use crate::shape::VdevShape;
@@ -58,7 +58,8 @@ impl<D: Disk + Drop> BlockStore<D> {
     /// The shape of a vdev.
     pub fn shape(&self, vdev: usize) -> VdevShape
         requires { vdev < length self.now.spaces }
-        ensures { option_map (λ space. space.shape) (slice_get self.now.spaces vdev) ≡ Some result }
+        ensures shape { option_map (λ space. space.shape) (slice_get self.now.spaces vdev) ≡ Some result }
+        ensures disks { result.vdev.first + result.vdev.geometry.children ≤ length self.now.disks.starts }
     {
         self.spaces[vdev].shape
     }

@@ -16,3 +16,6 @@ pub mod WritingParts
 pub mod Raising
 pub mod WholeTree
 pub mod Standing
+pub mod Leaving
+pub mod SameBlocks
+pub mod Replacing

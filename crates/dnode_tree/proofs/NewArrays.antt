@@ -4,7 +4,7 @@ use Rattle.std.proofs.lemmas.Bool.{ne_eqb, eq-eqb, cases_eq}
 use Rattle.std.proofs.lemmas.List.{take-append-drop, get_or-drop, get_or-take}
 use Rattle.std.proofs.lemmas.List.Elements.{All-head, All-tail, All-weaker}
 use Rattle.dnode_tree.specs.declared.writes.BlockWrite.{BlockWrite}
-use Rattle.dnode_tree.specs.Rewriting.{HasWrites}
+use Rattle.dnode_tree.specs.PartsRewritten.{HasWrites}
 use Rattle.dnode_tree.specs.Writes.{AreInOrder, written}
 
 -- writes of other blocks leave it

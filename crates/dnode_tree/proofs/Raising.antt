@@ -8,18 +8,20 @@ use Rattle.block_pointer.specs.declared.pointer.BlockPtr.TheVariants.{Hole, Bloc
 use Rattle.block_pointer.specs.declared.property.Property.{Property}
 use Rattle.block_store.specs.Blocks.{Contents, Extends}
 use Rattle.dnode_tree.specs.declared.writes.BlockWrite.{BlockWrite}
+use Rattle.dnode_tree.specs.declared.writes.CopyCounts.{CopyCounts}
 use Rattle.dnode_tree.proofs.Exchanging.{nothing_exchanged}
 use Rattle.dnode_tree.proofs.Holes.{empty_part, same_at, length_same, joined_nothing}
 use Rattle.dnode_tree.proofs.Kept.{subtree_as}
 use Rattle.dnode_tree.proofs.Spans.{span_up}
-use Rattle.dnode_tree.specs.Rewriting.{IsExchanged, IsPartRewritten, AreRewrittenTo, AreRewritten}
+use Rattle.dnode_tree.specs.PartsRewritten.{IsPartRewritten, AreRewrittenTo, AreRewritten}
+use Rattle.dnode_tree.specs.Rewriting.{IsExchanged}
 use Rattle.dnode_tree.specs.Subtree.{IsSubtree, joined}
 use Rattle.dnode_tree.specs.Writes.{written}
 
 -- where nothing is written, the tree stays
-pub root_stays : (stored planned : Contents) (property : ℕ → Property) (level first birth : ℕ) (pointer : BlockPtr) (array : ℕ → Option (List ℕ)) (blocks noted : List Block) (writes : List BlockWrite)
+pub root_stays : {copies : CopyCounts} (stored planned : Contents) (property : ℕ → Property) (level first birth : ℕ) (pointer : BlockPtr) (array : ℕ → Option (List ℕ)) (blocks noted : List Block) (writes : List BlockWrite)
     → Extends stored planned → writes ≡ [] → IsSubtree stored property level first birth pointer array blocks
-    → IsPartRewritten planned planned property level first birth pointer (written writes array) blocks noted noted
+    → IsPartRewritten copies planned planned property level first birth pointer (written writes array) blocks noted noted
 root_stays stored planned property level first birth pointer array blocks noted writes kept none part = record {
   kept = λ block bytes known. known;
   blocks = blocks;
@@ -29,9 +31,9 @@ root_stays stored planned property level first birth pointer array blocks noted 
   exchanged = nothing_exchanged birth planned blocks;
 }
 
-module _ (stored planned now : Contents) (property : ℕ → Property) (level birth : ℕ) (root : BlockPtr) (pointers : List BlockPtr) (array new_array : ℕ → Option (List ℕ)) (before noted noted_now : List Block)
+module _ {copies : CopyCounts} (stored planned now : Contents) (property : ℕ → Property) (level birth : ℕ) (root : BlockPtr) (pointers : List BlockPtr) (array new_array : ℕ → Option (List ℕ)) (before noted noted_now : List Block)
     (pointers_are : pointers ≡ set (replicate 128 Hole) 0 root) (behind : (id : ℕ) → 128 ^ level ≤ id → array id ≡ None)
-    (part : IsPartRewritten planned now property level 0 birth root new_array before noted noted_now) where
+    (part : IsPartRewritten copies planned now property level 0 birth root new_array before noted noted_now) where
   pointer_at : (j : ℕ) → 0 < j → get_or pointers j Hole ≡ Hole
   pointer_at j more =
       ap (λ ps. get_or ps j Hole) pointers_are ∙ get_or-set_other (replicate 128 Hole) 0 j root Hole (λ same. absurd (omega (arith, same, more))) ∙ same_at 128 j Hole
@@ -41,7 +43,7 @@ module _ (stored planned now : Contents) (property : ℕ → Property) (level bi
   blocks_behind (suc j) more = same_at 127 j []
 
   -- the old tree is the first part below a new root, and the others are holes
-  pub raising_begins : AreRewrittenTo stored planned now property level 0 birth birth pointers array new_array (before ∷ replicate 127 []) (part.blocks ∷ []) 1 noted noted_now
+  pub raising_begins : AreRewrittenTo copies stored planned now property level 0 birth birth pointers array new_array (before ∷ replicate 127 []) (part.blocks ∷ []) 1 noted noted_now
   raising_begins = record {
     kept = part.kept;
     pointer_count = ap length pointers_are ∙ length-set (replicate 128 Hole) 0 root ∙ length_same 128 Hole;
@@ -64,21 +66,21 @@ module _ (stored planned now : Contents) (property : ℕ → Property) (level bi
     gone = part.gone;
     noted_are = part.noted_are;
     exchanged =
-        subst (λ blocks. IsExchanged birth planned now blocks (part.blocks ++ []) part.gone) (sym (append-nil before))
-        (subst (λ blocks. IsExchanged birth planned now before blocks part.gone) (sym (append-nil part.blocks)) part.exchanged);
+        subst (λ blocks. IsExchanged copies birth planned now blocks (part.blocks ++ []) part.gone) (sym (append-nil before))
+        (subst (λ blocks. IsExchanged copies birth planned now before blocks part.gone) (sym (append-nil part.blocks)) part.exchanged);
   }
 
 -- and the new root is that of the tree
-pub raised : (planned later : Contents) (property : ℕ → Property) (level birth : ℕ) (block : Block) (new_array : ℕ → Option (List ℕ)) (before noted noted_later : List Block)
-    → AreRewritten planned later property level 0 birth block new_array (before ∷ replicate 127 []) noted noted_later
-    → IsPartRewritten planned later property (level + 1) 0 birth (At block) new_array before noted noted_later
-raised planned later property level birth block new_array before noted noted_later done = record {
+pub raised : {copies : CopyCounts} (planned later : Contents) (property : ℕ → Property) (level birth : ℕ) (block : Block) (new_array : ℕ → Option (List ℕ)) (before noted noted_later : List Block)
+    → AreRewritten copies planned later property level 0 birth block new_array (before ∷ replicate 127 []) noted noted_later
+    → IsPartRewritten copies planned later property (level + 1) 0 birth (At block) new_array before noted noted_later
+raised {copies = copies} planned later property level birth block new_array before noted noted_later done = record {
   kept = done.kept;
   blocks = block ∷ joined done.after;
   part = subst (λ n. IsSubtree later property n 0 birth (At block) new_array (block ∷ joined done.after)) (sym (add-one level)) done.part;
   gone = done.gone;
   noted_are = done.noted_are;
-  exchanged = subst (λ blocks. IsExchanged birth planned later blocks (block ∷ joined done.after) done.gone) (ap (λ blocks. before ++ blocks) (joined_nothing 127) ∙ append-nil before) done.exchanged;
+  exchanged = subst (λ blocks. IsExchanged copies birth planned later blocks (block ∷ joined done.after) done.gone) (ap (λ blocks. before ++ blocks) (joined_nothing 127) ∙ append-nil before) done.exchanged;
 }
 
 -- a tree of at most six levels has places for ids below 128^5

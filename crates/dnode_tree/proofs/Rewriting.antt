@@ -8,6 +8,7 @@ use Rattle.block_pointer.specs.declared.block.Block.{Block}
 use Rattle.block_pointer.specs.declared.pointer.BlockPtr.{BlockPtr}
 use Rattle.block_pointer.specs.declared.pointer.BlockPtr.TheVariants.{Hole, Block as At}
 use Rattle.block_pointer.specs.declared.property.Property.{Property}
+use Rattle.block_pointer.specs.Copies.{dvas}
 use Rattle.dnode.specs.Indirect.{SpellsIndirect, total_fill}
 use Rattle.block_store.specs.Blocks.{Contents, Extends, Adds}
 use Rattle.block_store.specs.Reading.{Asks}
@@ -15,8 +16,11 @@ use Rattle.dnode_tree.proofs.Collecting.{joined-take_more}
 use Rattle.dnode_tree.proofs.Exchanging.{nothing_exchanged, both_exchanged, block_added}
 use Rattle.dnode_tree.proofs.Fills.{fill_bound, total_fits}
 use Rattle.dnode_tree.proofs.Kept.{subtree_as}
-use Rattle.dnode_tree.specs.Rewriting.{IsExchanged, IsPartRewritten, AreRewrittenTo, AreRewritten}
+use Rattle.dnode_tree.specs.declared.writes.CopyCounts.{CopyCounts}
+use Rattle.dnode_tree.specs.PartsRewritten.{IsPartRewritten, AreRewrittenTo, AreRewritten}
+use Rattle.dnode_tree.specs.Rewriting.{IsExchanged}
 use Rattle.dnode_tree.specs.Subtree.{asked_of, IsSubtree, AreParts, joined}
+use Rattle.dnode_tree.specs.Writes.{copies_at}
 
 pub extends_itself : (stored : Contents) → Extends stored stored
 extends_itself stored block bytes known = known
@@ -33,9 +37,9 @@ get_or-push_before parts part k j count low = get_or_append_left parts (part ∷
 get_or-push_here : (parts : List (List Block)) (part : List Block) (k : ℕ) → length parts ≡ k → get_or (parts ++ part ∷ []) k [] ≡ part
 get_or-push_here parts part k count = ap (λ n. get_or (parts ++ part ∷ []) n []) (sym count) ∙ get_or-append_seam parts part [] []
 
-pub rewriting_begins : (stored planned : Contents) (property : ℕ → Property) (level first bound birth : ℕ) (pointers : List BlockPtr) (array new_array : ℕ → Option (List ℕ)) (parts : List (List Block)) (noted : List Block)
+pub rewriting_begins : {copies : CopyCounts} (stored planned : Contents) (property : ℕ → Property) (level first bound birth : ℕ) (pointers : List BlockPtr) (array new_array : ℕ → Option (List ℕ)) (parts : List (List Block)) (noted : List Block)
     → Extends stored planned → AreParts stored property level first bound pointers array parts
-    → AreRewrittenTo stored planned planned property level first bound birth pointers array new_array parts [] 0 noted noted
+    → AreRewrittenTo copies stored planned planned property level first bound birth pointers array new_array parts [] 0 noted noted
 rewriting_begins stored planned property level first bound birth pointers array new_array parts noted kept are = record {
   kept = extends_itself planned;
   pointer_count = are.pointer_count;
@@ -48,16 +52,16 @@ rewriting_begins stored planned property level first bound birth pointers array 
   exchanged = nothing_exchanged birth planned [];
 }
 
-module _ (stored planned now : Contents) (property : ℕ → Property) (level first bound birth : ℕ) (pointers : List BlockPtr) (array new_array : ℕ → Option (List ℕ))
+module _ {copies : CopyCounts} (stored planned now : Contents) (property : ℕ → Property) (level first bound birth : ℕ) (pointers : List BlockPtr) (array new_array : ℕ → Option (List ℕ))
     (before after : List (List Block)) (k : ℕ) (noted noted_now : List Block)
-    (so_far : AreRewrittenTo stored planned now property level first bound birth pointers array new_array before after k noted noted_now) (low : k < 128) where
+    (so_far : AreRewrittenTo copies stored planned now property level first bound birth pointers array new_array before after k noted noted_now) (low : k < 128) where
   taken : joined (take k before) ++ get_or before k [] ≡ joined (take (k + 1) before)
   taken = joined-take_more before k (omega (arith, low, so_far.count))
 
   -- the next part stays
   pub part_skipped : Extends stored now → bound ≤ birth
       → ((id : ℕ) → first + k * 128 ^ level ≤ id → id < first + k * 128 ^ level + 128 ^ level → array id ≡ new_array id)
-      → AreRewrittenTo stored planned now property level first bound birth pointers array new_array before (after ++ get_or before k [] ∷ []) (k + 1) noted noted_now
+      → AreRewrittenTo copies stored planned now property level first bound birth pointers array new_array before (after ++ get_or before k [] ∷ []) (k + 1) noted noted_now
   part_skipped there le same = record {
     kept = so_far.kept;
     pointer_count = so_far.pointer_count;
@@ -77,9 +81,9 @@ module _ (stored planned now : Contents) (property : ℕ → Property) (level fi
     left = λ j from under. so_far.left j (omega (arith, from)) under;
     gone = so_far.gone;
     noted_are = so_far.noted_are;
-    exchanged = subst (λ gone. IsExchanged birth planned now (joined (take (k + 1) before)) (joined (after ++ get_or before k [] ∷ [])) gone) (append-nil so_far.gone)
-        (subst (λ blocks. IsExchanged birth planned now (joined (take (k + 1) before)) blocks (so_far.gone ++ [])) (sym (joined-push after (get_or before k [])))
-        (subst (λ blocks. IsExchanged birth planned now blocks (joined after ++ get_or before k []) (so_far.gone ++ [])) taken
+    exchanged = subst (λ gone. IsExchanged copies birth planned now (joined (take (k + 1) before)) (joined (after ++ get_or before k [] ∷ [])) gone) (append-nil so_far.gone)
+        (subst (λ blocks. IsExchanged copies birth planned now (joined (take (k + 1) before)) blocks (so_far.gone ++ [])) (sym (joined-push after (get_or before k [])))
+        (subst (λ blocks. IsExchanged copies birth planned now blocks (joined after ++ get_or before k []) (so_far.gone ++ [])) taken
         (both_exchanged birth planned now now (joined (take k before)) (joined after) so_far.gone (get_or before k []) (get_or before k []) [] so_far.kept (extends_itself now)
         so_far.exchanged (nothing_exchanged birth now (get_or before k [])))));
   }
@@ -87,8 +91,8 @@ module _ (stored planned now : Contents) (property : ℕ → Property) (level fi
   -- the next part has a new root
   pub part_rewritten : (later : Contents) (block : Block) (run_array : ℕ → Option (List ℕ)) (noted_later : List Block)
       → ((id : ℕ) → first + k * 128 ^ level ≤ id → id < first + k * 128 ^ level + 128 ^ level → run_array id ≡ new_array id)
-      → (part : IsPartRewritten now later property level (first + k * 128 ^ level) birth (At block) run_array (get_or before k []) noted_now noted_later)
-      → AreRewrittenTo stored planned later property level first bound birth (set pointers k (At block)) array new_array before (after ++ part.blocks ∷ []) (k + 1) noted noted_later
+      → (part : IsPartRewritten copies now later property level (first + k * 128 ^ level) birth (At block) run_array (get_or before k []) noted_now noted_later)
+      → AreRewrittenTo copies stored planned later property level first bound birth (set pointers k (At block)) array new_array before (after ++ part.blocks ∷ []) (k + 1) noted noted_later
   part_rewritten later block run_array noted_later same part = record {
     kept = extends_on planned now later so_far.kept part.kept;
     pointer_count = length-set pointers k (At block) ∙ so_far.pointer_count;
@@ -115,15 +119,15 @@ module _ (stored planned now : Contents) (property : ℕ → Property) (level fi
     gone = so_far.gone ++ part.gone;
     noted_are = part.noted_are ∙ ap (λ blocks. blocks ++ part.gone) so_far.noted_are ∙ append_assoc noted so_far.gone part.gone;
     exchanged =
-        subst (λ blocks. IsExchanged birth planned later (joined (take (k + 1) before)) blocks (so_far.gone ++ part.gone)) (sym (joined-push after part.blocks))
-        (subst (λ blocks. IsExchanged birth planned later blocks (joined after ++ part.blocks) (so_far.gone ++ part.gone)) taken
+        subst (λ blocks. IsExchanged copies birth planned later (joined (take (k + 1) before)) blocks (so_far.gone ++ part.gone)) (sym (joined-push after part.blocks))
+        (subst (λ blocks. IsExchanged copies birth planned later blocks (joined after ++ part.blocks) (so_far.gone ++ part.gone)) taken
         (both_exchanged birth planned now later (joined (take k before)) (joined after) so_far.gone (get_or before k []) part.blocks part.gone so_far.kept part.kept so_far.exchanged part.exchanged));
   }
 
 -- all parts are rewritten, and then the root
-module _ (stored planned now : Contents) (property : ℕ → Property) (level first bound birth : ℕ) (pointers : List BlockPtr) (array new_array : ℕ → Option (List ℕ))
+module _ {copies : CopyCounts} (stored planned now : Contents) (property : ℕ → Property) (level first bound birth : ℕ) (pointers : List BlockPtr) (array new_array : ℕ → Option (List ℕ))
     (before after : List (List Block)) (k : ℕ) (noted noted_now : List Block)
-    (so_far : AreRewrittenTo stored planned now property level first bound birth pointers array new_array before after k noted noted_now) where
+    (so_far : AreRewrittenTo copies stored planned now property level first bound birth pointers array new_array before after k noted noted_now) where
   -- the fill counts of the pointers have a sum
   pub sum_fits : level < 5 → total_fill pointers < 2 ^ 64
   sum_fits low = total_fits pointers level so_far.pointer_count low (λ j under.
@@ -133,9 +137,9 @@ module _ (stored planned now : Contents) (property : ℕ → Property) (level fi
       ])
 
   pub root_rewritten : (later : Contents) (block : Block) (bytes : List ℕ) → k ≡ 128 → Adds now later block bytes → SpellsIndirect bytes pointers
-      → Asks (asked_of (property (suc level)) birth) block → block.birth ≡ birth → block.fill ≡ total_fill pointers
-      → AreRewritten planned later property level first birth block new_array before noted noted_now
-  root_rewritten later block bytes all adds spells asks born filled = record {
+      → Asks (asked_of (property (suc level)) birth) block → block.birth ≡ birth → block.fill ≡ total_fill pointers → length (dvas block.copies) ≡ copies_at copies block.property.level
+      → AreRewritten copies planned later property level first birth block new_array before noted noted_now
+  root_rewritten later block bytes all adds spells asks born filled copied = record {
     kept = extends_on planned now later so_far.kept adds.kept;
     after = after;
     part = record {
@@ -154,5 +158,5 @@ module _ (stored planned now : Contents) (property : ℕ → Property) (level fi
     gone = so_far.gone;
     noted_are = so_far.noted_are;
     exchanged = block_added birth planned now later (joined before) (joined after) so_far.gone block bytes so_far.kept
-        (subst (λ parts. IsExchanged birth planned now (joined parts) (joined after) so_far.gone) (take_all k before (omega (arith, all, so_far.count))) so_far.exchanged) adds born;
+        (subst (λ parts. IsExchanged copies birth planned now (joined parts) (joined after) so_far.gone) (take_all k before (omega (arith, all, so_far.count))) so_far.exchanged) adds born copied;
   }

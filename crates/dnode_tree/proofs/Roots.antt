@@ -5,13 +5,17 @@ use Rattle.block_pointer.specs.declared.block.Block.{Block}
 use Rattle.block_pointer.specs.declared.pointer.BlockPtr.{BlockPtr}
 use Rattle.block_pointer.specs.declared.pointer.BlockPtr.TheVariants.{Hole, Block as At}
 use Rattle.block_pointer.specs.declared.property.Property.{Property}
+use Rattle.block_pointer.specs.Copies.{dvas}
 use Rattle.block_pointer.specs.Pointer.{spelling}
 use Rattle.dnode.specs.Indirect.{SpellsIndirect, FitsPointer, indirect_bytes}
 use Rattle.block_store.specs.Blocks.{Contents, Adds}
 use Rattle.block_store.specs.Reading.{Asks}
 use Rattle.dnode_tree.proofs.Exchanging.{nothing_exchanged, block_added, front_gone}
-use Rattle.dnode_tree.specs.Rewriting.{IsExchanged, IsPartRewritten, AreRewritten}
+use Rattle.dnode_tree.specs.declared.writes.CopyCounts.{CopyCounts}
+use Rattle.dnode_tree.specs.PartsRewritten.{IsPartRewritten, AreRewritten}
+use Rattle.dnode_tree.specs.Rewriting.{IsExchanged}
 use Rattle.dnode_tree.specs.Subtree.{asked_of, IsSubtree, blocks_at, joined}
+use Rattle.dnode_tree.specs.Writes.{copies_at}
 use Rattle.std.proofs.Common.{length-append}
 
 -- an indirect block has 16,384 bytes
@@ -30,11 +34,11 @@ leaf_blocks stored property first birth Hole array blocks part = part.1
 leaf_blocks stored property first birth (At block) array blocks part = part.3
 
 -- a data block has a new one in its place
-pub leaf_rewritten : (stored planned later : Contents) (property : ℕ → Property) (level first bound birth : ℕ) (pointer : BlockPtr) (array new_array : ℕ → Option (List ℕ)) (blocks noted noted_later : List Block)
+pub leaf_rewritten : {copies : CopyCounts} (stored planned later : Contents) (property : ℕ → Property) (level first bound birth : ℕ) (pointer : BlockPtr) (array new_array : ℕ → Option (List ℕ)) (blocks noted noted_later : List Block)
     (block : Block) (bytes : List ℕ) → level ≡ 0 → IsSubtree stored property level first bound pointer array blocks → noted_later ≡ noted ++ blocks_at pointer
-    → Adds planned later block bytes → Asks (asked_of (property 0) birth) block → block.fill ≡ 1 → block.birth ≡ birth → new_array first ≡ Some bytes
-    → IsPartRewritten planned later property level first birth (At block) new_array blocks noted noted_later
-leaf_rewritten stored planned later property level first bound birth pointer array new_array blocks noted noted_later block bytes e part noted_are adds asks filled born is = record {
+    → Adds planned later block bytes → Asks (asked_of (property 0) birth) block → block.fill ≡ 1 → block.birth ≡ birth → length (dvas block.copies) ≡ copies_at copies block.property.level → new_array first ≡ Some bytes
+    → IsPartRewritten copies planned later property level first birth (At block) new_array blocks noted noted_later
+leaf_rewritten {copies = copies} stored planned later property level first bound birth pointer array new_array blocks noted noted_later block bytes e part noted_are adds asks filled born copied is = record {
   kept = adds.kept;
   blocks = block ∷ [];
   part = subst (λ n. IsSubtree later property n first birth (At block) new_array (block ∷ [])) (sym e)
@@ -43,23 +47,23 @@ leaf_rewritten stored planned later property level first bound birth pointer arr
   noted_are = noted_are;
   exchanged =
       let were : blocks ≡ blocks_at pointer = leaf_blocks stored property first bound pointer array blocks (subst (λ n. IsSubtree stored property n first bound pointer array blocks) e part) in
-      subst (λ before. IsExchanged birth planned later before (block ∷ []) (blocks_at pointer)) (append-nil (blocks_at pointer) ∙ sym were)
-      (subst (λ gone. IsExchanged birth planned later (blocks_at pointer ++ []) (block ∷ []) gone) (append-nil (blocks_at pointer))
+      subst (λ before. IsExchanged copies birth planned later before (block ∷ []) (blocks_at pointer)) (append-nil (blocks_at pointer) ∙ sym were)
+      (subst (λ gone. IsExchanged copies birth planned later (blocks_at pointer ++ []) (block ∷ []) gone) (append-nil (blocks_at pointer))
       (front_gone birth planned later [] (block ∷ []) [] (blocks_at pointer)
-      (block_added birth planned planned later [] [] [] block bytes (λ other known there. there) (nothing_exchanged birth planned []) adds born)));
+      (block_added birth planned planned later [] [] [] block bytes (λ other known there. there) (nothing_exchanged birth planned []) adds born copied)));
 }
 
 -- and so has a part
-pub part_has_root : (planned later : Contents) (property : ℕ → Property) (level next first birth : ℕ) (block : Block) (pointer : BlockPtr) (new_array : ℕ → Option (List ℕ)) (before : List (List Block))
+pub part_has_root : {copies : CopyCounts} (planned later : Contents) (property : ℕ → Property) (level next first birth : ℕ) (block : Block) (pointer : BlockPtr) (new_array : ℕ → Option (List ℕ)) (before : List (List Block))
     (blocks noted noted_mid noted_later : List Block) → level ≡ suc next → blocks ≡ blocks_at pointer ++ joined before → noted_mid ≡ noted ++ blocks_at pointer
-    → AreRewritten planned later property next first birth block new_array before noted_mid noted_later
-    → IsPartRewritten planned later property level first birth (At block) new_array blocks noted noted_later
-part_has_root planned later property level next first birth block pointer new_array before blocks noted noted_mid noted_later e were noted_are done = record {
+    → AreRewritten copies planned later property next first birth block new_array before noted_mid noted_later
+    → IsPartRewritten copies planned later property level first birth (At block) new_array blocks noted noted_later
+part_has_root {copies = copies} planned later property level next first birth block pointer new_array before blocks noted noted_mid noted_later e were noted_are done = record {
   kept = done.kept;
   blocks = block ∷ joined done.after;
   part = subst (λ n. IsSubtree later property n first birth (At block) new_array (block ∷ joined done.after)) (sym e) done.part;
   gone = blocks_at pointer ++ done.gone;
   noted_are = done.noted_are ∙ ap (λ blocks. blocks ++ done.gone) noted_are ∙ append_assoc noted (blocks_at pointer) done.gone;
-  exchanged = subst (λ blocks. IsExchanged birth planned later blocks (block ∷ joined done.after) (blocks_at pointer ++ done.gone)) (sym were)
+  exchanged = subst (λ blocks. IsExchanged copies birth planned later blocks (block ∷ joined done.after) (blocks_at pointer ++ done.gone)) (sym were)
       (front_gone birth planned later (joined before) (block ∷ joined done.after) done.gone (blocks_at pointer) done.exchanged);
 }

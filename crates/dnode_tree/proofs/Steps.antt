@@ -1,5 +1,5 @@
 -- Reads and plans one after the other.
-use Rattle.std.proofs.Common.{ℕ, ◌≡◌, List, ◌++◌, length, Contains, Option, Some, None, refl, sym, ap, ◌∙◌, subst}
+use Rattle.std.proofs.Common.{ℕ, ◌≡◌, List, [], ◌∷◌, ◌++◌, map, length, Contains, Option, Some, None, refl, sym, ap, ◌∙◌, subst}
 use Rattle.std.specs.List.{slice_get}
 use Rattle.std.specs.Option.{option_map}
 use Rattle.std.proofs.lemmas.Option.{slice_get-map, same_Some}
@@ -9,7 +9,8 @@ use Rattle.raidz_io.proofs.Calls.{length-OnlyReads, OnlyReads-none}
 use Rattle.dnode.specs.declared.node.ObjectNode.{ObjectNode}
 use Rattle.block_store.specs.declared.shape.VdevShape.{VdevShape}
 use Rattle.block_store.specs.declared.space.VdevSpace.{VdevSpace}
-use Rattle.block_store.specs.Places.{shapes_of}
+use Rattle.block_store.specs.Places.{shapes_of, filled as filled_marks, AreChosen}
+use Rattle.block_pointer.specs.declared.dva.Dva.{Dva}
 use Rattle.block_store.specs.Reading.{AreTolerable}
 use Rattle.block_store.specs.Reading.{FewAreAbsent}
 use Rattle.block_store.specs.Store.{Store, Keeps, outs, outs_from}
@@ -18,10 +19,18 @@ use Rattle.dnode_tree.specs.Reading.{OnlyReadsBlocks, OnlyReadsAndPlans, Answers
 use Rattle.dnode_tree.specs.Writes.{HasNoRoom}
 use Rattle.dnode_tree.proofs.FurtherReads.{OnlyReads-on, honest_part, honest_rest, failed_since-fewer, failed_since-append, fewer_absent, absent_more}
 
+-- places that are chosen fill nothing
+pub chosen_fills_nothing : (spaces : List VdevSpace) (taken : List Dva) (sectors : ℕ) (places : List Dva) (after : List VdevSpace) → AreChosen spaces taken sectors places after
+    → map filled_marks after ≡ map filled_marks spaces
+chosen_fills_nothing spaces taken sectors [] after is = ap (map filled_marks) is
+chosen_fills_nothing spaces taken sectors (place ∷ places) after (chosen, mid, too, rest) =
+    chosen_fills_nothing mid (taken ++ place ∷ []) sectors places after rest ∙ too.filled_stays
+
 pub steps_none : (store : Store) (missing : List ℕ) → OnlyReadsAndPlans store store missing
 steps_none store missing = record {
   out = refl;
   shapes = refl;
+  filled = refl;
   reads = OnlyReads-none store.disks;
   untouched = λ disk held. refl;
   keeps = λ stored held. held;
@@ -31,16 +40,19 @@ pub steps_read : (old new : Store) (missing : List ℕ) → OnlyReadsBlocks old 
 steps_read old new missing reads = record {
   out = ap (λ store. store.out) reads.rest;
   shapes = ap (λ store. shapes_of store.spaces) reads.rest;
+  filled = ap (λ store. map filled_marks store.spaces) reads.rest;
   reads = reads.reads;
   untouched = reads.untouched;
   keeps = reads.keeps;
 }
 
-pub steps_plan : (old new : Store) (missing : List ℕ) → new.disks ≡ old.disks → new.out ≡ old.out → shapes_of new.spaces ≡ shapes_of old.spaces → Keeps old new
+pub steps_plan : (old new : Store) (missing : List ℕ) → new.disks ≡ old.disks → new.out ≡ old.out → shapes_of new.spaces ≡ shapes_of old.spaces
+    → map filled_marks new.spaces ≡ map filled_marks old.spaces → Keeps old new
     → OnlyReadsAndPlans old new missing
-steps_plan old new missing disks out shapes keeps = record {
+steps_plan old new missing disks out shapes filled keeps = record {
   out = out;
   shapes = shapes;
+  filled = filled;
   reads = subst (λ (d : Disks). OnlyReads old.disks d) (sym disks) (OnlyReads-none old.disks);
   untouched = λ disk held. ap (λ (d : Disks). calls_on disk d.calls) disks;
   keeps = keeps;
@@ -53,6 +65,7 @@ pub steps_on : (old mid new : Store) (missing : List ℕ) → OnlyReadsAndPlans 
 steps_on old mid new missing first rest = record {
   out = rest.out ∙ first.out;
   shapes = rest.shapes ∙ first.shapes;
+  filled = rest.filled ∙ first.filled;
   reads = OnlyReads-on old.disks mid.disks new.disks first.reads rest.reads;
   untouched = λ disk held.
       rest.untouched disk (subst (λ disks. Contains (disks ++ missing) disk) (sym (same_outs old mid first.out)) held)

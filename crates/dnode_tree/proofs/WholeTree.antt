@@ -12,9 +12,11 @@ use Rattle.block_store.specs.Blocks.{Contents}
 use Rattle.block_store.specs.Plans.{Plans}
 use Rattle.block_store.specs.Store.{Store}
 use Rattle.dnode_tree.specs.declared.writes.BlockWrite.{BlockWrite}
+use Rattle.dnode_tree.specs.declared.writes.CopyCounts.{CopyCounts}
 use Rattle.dnode_tree.specs.declared.writes.Rewrite.{Rewrite}
 use Rattle.dnode_tree.specs.Reading.{OnlyReadsAndPlans, AnswersAreTrue, LossIsTolerable}
-use Rattle.dnode_tree.specs.Rewriting.{IsExchanged, IsPartRewritten, HasWrites, IsRewritten}
+use Rattle.dnode_tree.specs.PartsRewritten.{IsPartRewritten, HasWrites}
+use Rattle.dnode_tree.specs.Rewriting.{IsExchanged, IsRewritten}
 use Rattle.dnode_tree.specs.Subtree.{IsSubtree, HasProperty}
 use Rattle.dnode_tree.specs.Tree.{property_of, IsTree}
 use Rattle.dnode_tree.specs.Writes.{AreInOrder, AreBetween, AreWholeBlocks, written}
@@ -24,7 +26,7 @@ use Rattle.dnode_tree.proofs.Spans.{span_up}
 use Rattle.dnode_tree.proofs.Steps.{steps_on, true_sooner, true_later, few_later}
 
 -- the tree has that many levels above the data, and what its places have room for is written
-pub record IsRaising (start now : Store) (missing : List ℕ) (node : ObjectNode) (level birth : ℕ) (pointer : BlockPtr) (writes rest : List BlockWrite) (noted_now : List Block) : Type 0 where
+pub record IsRaising (copies : CopyCounts) (start now : Store) (missing : List ℕ) (node : ObjectNode) (level birth : ℕ) (pointer : BlockPtr) (writes rest : List BlockWrite) (noted_now : List Block) : Type 0 where
   pub steps : OnlyReadsAndPlans start now missing
   pub fits : Fits pointer
   pub property : HasProperty (property_of node level) pointer
@@ -37,12 +39,12 @@ pub record IsRaising (start now : Store) (missing : List ℕ) (node : ObjectNode
       → ((id : ℕ) → node.highest < id → array id ≡ None)
       → AnswersAreTrue start now
       → (present : Contents) × Plans now stored present
-      × IsPartRewritten planned present (property_of node) level 0 birth pointer (written writes array) blocks [] noted_now
+      × IsPartRewritten copies planned present (property_of node) level 0 birth pointer (written writes array) blocks [] noted_now
       × HasWrites (written writes array) array rest (128 ^ level) (128 ^ 5)
 
-pub part_as : (planned later : Contents) (property : ℕ → Property) (level first birth : ℕ) (pointer : BlockPtr) (array other : ℕ → Option (List ℕ)) (before noted noted_later : List Block)
+pub part_as : {copies : CopyCounts} (planned later : Contents) (property : ℕ → Property) (level first birth : ℕ) (pointer : BlockPtr) (array other : ℕ → Option (List ℕ)) (before noted noted_later : List Block)
     → ((id : ℕ) → first ≤ id → id < first + 128 ^ level → array id ≡ other id)
-    → IsPartRewritten planned later property level first birth pointer array before noted noted_later → IsPartRewritten planned later property level first birth pointer other before noted noted_later
+    → IsPartRewritten copies planned later property level first birth pointer array before noted noted_later → IsPartRewritten copies planned later property level first birth pointer other before noted noted_later
 part_as planned later property level first birth pointer array other before noted noted_later same part = record {
   kept = part.kept;
   blocks = part.blocks;
@@ -65,6 +67,10 @@ pub root_of : (stored : Contents) (bound birth : ℕ) (node : ObjectNode) (array
 root_of stored bound birth node array blocks le tree =
     subtree_as stored stored (λ block bytes known. known) (property_of node) (levels_of node.highest - 1) 0 bound birth node.pointer array array blocks le (λ id from under. refl) tree.root
 
+pub tree_later : (stored : Contents) (bound birth : ℕ) (node : ObjectNode) (array : ℕ → Option (List ℕ)) (blocks : List Block) → bound ≤ birth → IsTree stored bound node array blocks
+    → IsTree stored birth node array blocks
+tree_later stored bound birth node array blocks le tree = record { root = root_of stored bound birth node array blocks le tree; behind = tree.behind }
+
 module _ (start now : Store) (missing : List ℕ) (node : ObjectNode) (birth : ℕ) (pointer : BlockPtr) (writes run rest : List BlockWrite) (n middle : ℕ) (noted_first noted_now : List Block)
     (sooner : All (λ write. write.id < middle) (take n writes)) (later : (other : BlockWrite) → n < length writes → middle ≤ (get_or writes n other).id)
     (run_is : run ≡ take n writes) (rest_is : rest ≡ drop n writes) (order : AreInOrder writes) (ids : All (λ write. write.id < 128 ^ 5) writes) where
@@ -75,16 +81,16 @@ module _ (start now : Store) (missing : List ℕ) (node : ObjectNode) (birth : �
   all_writes array id from under = refl
 
   -- the writes that the root has places for are done
-  pub raising_begins : (level : ℕ) → level ≡ levels_of node.highest - 1 → middle ≡ 128 ^ level → middle ≤ 128 ^ 5 → noted_first ≡ [] → AreWholeBlocks node writes
+  pub raising_begins : {copies : CopyCounts} (level : ℕ) → level ≡ levels_of node.highest - 1 → middle ≡ 128 ^ level → middle ≤ 128 ^ 5 → noted_first ≡ [] → AreWholeBlocks node writes
       → OnlyReadsAndPlans start now missing → Fits pointer → HasProperty (property_of node (levels_of node.highest - 1)) pointer
       → ((stored planned : Contents) (array : ℕ → Option (List ℕ)) (blocks : List Block) → Plans start stored planned
       → IsSubtree stored (property_of node) (levels_of node.highest - 1) 0 birth node.pointer array blocks → AnswersAreTrue start now
       → (present : Contents) × Plans now stored present
-      × IsPartRewritten planned present (property_of node) (levels_of node.highest - 1) 0 birth pointer (written run array) blocks noted_first noted_now)
-      → IsRaising start now missing node level birth pointer writes rest noted_now
-  raising_begins level level_is middle_is small none whole steps fits property step =
-      subst (λ ws. IsRaising start now missing node level birth pointer writes ws noted_now) (sym rest_is)
-      (subst (λ l. IsRaising start now missing node l birth pointer writes (drop n writes) noted_now) (sym level_is) (record {
+      × IsPartRewritten copies planned present (property_of node) (levels_of node.highest - 1) 0 birth pointer (written run array) blocks noted_first noted_now)
+      → IsRaising copies start now missing node level birth pointer writes rest noted_now
+  raising_begins {copies = copies} level level_is middle_is small none whole steps fits property step =
+      subst (λ ws. IsRaising copies start now missing node level birth pointer writes ws noted_now) (sym rest_is)
+      (subst (λ l. IsRaising copies start now missing node l birth pointer writes (drop n writes) noted_now) (sym level_is) (record {
         steps = steps;
         fits = fits;
         property = property;
@@ -96,7 +102,7 @@ module _ (start now : Store) (missing : List ℕ) (node : ObjectNode) (birth : �
             let done = step stored planned array blocks plans root honest in (
               done.0,
               done.1,
-              subst (λ noted. IsPartRewritten planned done.0 (property_of node) (levels_of node.highest - 1) 0 birth pointer (written writes array) blocks noted noted_now) none
+              subst (λ noted. IsPartRewritten copies planned done.0 (property_of node) (levels_of node.highest - 1) 0 birth pointer (written writes array) blocks noted noted_now) none
                   (part_as planned done.0 (property_of node) (levels_of node.highest - 1) 0 birth pointer (written run array) (written writes array) blocks noted_first noted_now
                   (λ id from under. ap (λ ws. written ws array id) run_is
                   ∙ sym (has_before (written writes array) array writes n 0 middle (128 ^ 5) (all_writes array) sooner behind small id from (omega (arith, under, bottom)))) done.2),
@@ -109,8 +115,8 @@ module _ (start now : Store) (missing : List ℕ) (node : ObjectNode) (birth : �
       bottom = middle_is ∙ ap (λ l. 128 ^ l) level_is
 
 -- the writes of one more level
-module _ (start now : Store) (missing : List ℕ) (node : ObjectNode) (level birth : ℕ) (pointer : BlockPtr) (writes rest run others : List BlockWrite) (noted_now : List Block) (n middle : ℕ)
-    (so_far : IsRaising start now missing node level birth pointer writes rest noted_now) (low : level < 5) (middle_is : middle ≡ 128 * 128 ^ level) (small : middle ≤ 128 ^ 5)
+module _ {copies : CopyCounts} (start now : Store) (missing : List ℕ) (node : ObjectNode) (level birth : ℕ) (pointer : BlockPtr) (writes rest run others : List BlockWrite) (noted_now : List Block) (n middle : ℕ)
+    (so_far : IsRaising copies start now missing node level birth pointer writes rest noted_now) (low : level < 5) (middle_is : middle ≡ 128 * 128 ^ level) (small : middle ≤ 128 ^ 5)
     (sooner : All (λ write. write.id < middle) (take n rest)) (later : (other : BlockWrite) → n < length rest → middle ≤ (get_or rest n other).id)
     (run_is : run ≡ take n rest) (others_are : others ≡ drop n rest) (enough : node.highest < 128 ^ (levels_of node.highest - 1)) where
   pub level_between : AreBetween (128 ^ level) (128 * 128 ^ level) run
@@ -133,13 +139,13 @@ module _ (start now : Store) (missing : List ℕ) (node : ObjectNode) (level bir
 
     pub raising_goes_on : (new_pointer : BlockPtr) (noted_later : List Block) → Fits new_pointer → HasProperty (property_of node (level + 1)) new_pointer
         → ((stored planned present : Contents) (array new_array : ℕ → Option (List ℕ)) (before noted : List Block) → Plans now stored present
-        → IsPartRewritten planned present (property_of node) level 0 birth pointer new_array before noted noted_now
+        → IsPartRewritten copies planned present (property_of node) level 0 birth pointer new_array before noted noted_now
         → ((id : ℕ) → 128 ^ level ≤ id → array id ≡ None) → HasWrites new_array array run (128 ^ level) (128 * 128 ^ level) → AnswersAreTrue now after_write
         → (later : Contents) × Plans after_write stored later
-        × IsPartRewritten planned later (property_of node) (level + 1) 0 birth new_pointer new_array before noted noted_later)
-        → IsRaising start after_write missing node (level + 1) birth new_pointer writes others noted_later
+        × IsPartRewritten copies planned later (property_of node) (level + 1) 0 birth new_pointer new_array before noted noted_later)
+        → IsRaising copies start after_write missing node (level + 1) birth new_pointer writes others noted_later
     raising_goes_on new_pointer noted_later fits property step =
-        subst (λ ws. IsRaising start after_write missing node (level + 1) birth new_pointer writes ws noted_later) (sym others_are) (record {
+        subst (λ ws. IsRaising copies start after_write missing node (level + 1) birth new_pointer writes ws noted_later) (sym others_are) (record {
           steps = steps_on start now after_write missing so_far.steps steps;
           fits = fits;
           property = property;
@@ -167,7 +173,7 @@ module _ (start now : Store) (missing : List ℕ) (node : ObjectNode) (level bir
 
     pub raising_fails : (Refused : Type 0)
         → ((stored planned present : Contents) (array new_array : ℕ → Option (List ℕ)) (before noted : List Block) → Plans now stored present
-        → IsPartRewritten planned present (property_of node) level 0 birth pointer new_array before noted noted_now
+        → IsPartRewritten copies planned present (property_of node) level 0 birth pointer new_array before noted noted_now
         → ((id : ℕ) → 128 ^ level ≤ id → array id ≡ None) → HasWrites new_array array run (128 ^ level) (128 * 128 ^ level) → AnswersAreTrue now after_write
         → LossIsTolerable now after_write missing → Refused)
         → (stored planned : Contents) (bound : ℕ) (array : ℕ → Option (List ℕ)) (blocks : List Block) → Plans start stored planned → IsTree stored bound node array blocks → bound ≤ birth
@@ -178,13 +184,13 @@ module _ (start now : Store) (missing : List ℕ) (node : ObjectNode) (level bir
         (level_has (written writes array) array there.3) (true_later start now after_write missing so_far.steps steps honest) (few_later start now after_write missing so_far.steps steps few)
 
 -- the tree with all writes
-pub tree_rewritten : (start now : Store) (missing : List ℕ) (node : ObjectNode) (level birth : ℕ) (writes rest : List BlockWrite) (done : Rewrite)
-    → IsRaising start now missing node level birth done.node.pointer writes rest done.replaced.items
+pub tree_rewritten : {copies : CopyCounts} (start now : Store) (missing : List ℕ) (node : ObjectNode) (level birth : ℕ) (writes rest : List BlockWrite) (done : Rewrite)
+    → IsRaising copies start now missing node level birth done.node.pointer writes rest done.replaced.items
     → property_of done.node ≡ property_of node → level ≡ levels_of done.node.highest - 1 → node.highest ≤ done.node.highest
     → All (λ write. write.id ≤ done.node.highest) writes
     → (stored planned : Contents) (bound : ℕ) (array : ℕ → Option (List ℕ)) (blocks : List Block) → Plans start stored planned → IsTree stored bound node array blocks → bound ≤ birth → AnswersAreTrue start now
-    → (present : Contents) × Plans now stored present × IsRewritten planned present birth done (written writes array) blocks
-tree_rewritten start now missing node level birth writes rest done raising same level_is grown within stored planned bound array blocks plans tree le honest =
+    → (present : Contents) × Plans now stored present × IsRewritten copies planned present birth done (written writes array) blocks
+tree_rewritten {copies = copies} start now missing node level birth writes rest done raising same level_is grown within stored planned bound array blocks plans tree le honest =
     let there = raising.rewriting stored planned array blocks plans (root_of stored bound birth node array blocks le tree) tree.behind honest in
     let made : IsSubtree there.0 (property_of done.node) level 0 birth done.node.pointer (written writes array) there.2.blocks =
     subst (λ property. IsSubtree there.0 property level 0 birth done.node.pointer (written writes array) there.2.blocks) (sym same) there.2.part in (
@@ -199,6 +205,6 @@ tree_rewritten start now missing node level birth writes rest done raising same 
               written_others writes array id (All-weaker (λ w. w.id ≤ done.node.highest) (λ w. w.id ≢ id) (λ w under is. omega (arith, under, is, past)) writes within)
               ∙ tree.behind id (omega (arith, grown, past));
         };
-        exchanged = subst (λ gone. IsExchanged birth planned there.0 blocks there.2.blocks gone) (sym there.2.noted_are) there.2.exchanged;
+        exchanged = subst (λ gone. IsExchanged copies birth planned there.0 blocks there.2.blocks gone) (sym there.2.noted_are) there.2.exchanged;
       },
     )

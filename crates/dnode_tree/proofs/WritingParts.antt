@@ -11,8 +11,9 @@ use Rattle.block_store.specs.Blocks.{Contents}
 use Rattle.block_store.specs.Plans.{Plans}
 use Rattle.block_store.specs.Store.{Store}
 use Rattle.dnode_tree.specs.declared.writes.BlockWrite.{BlockWrite}
+use Rattle.dnode_tree.specs.declared.writes.CopyCounts.{CopyCounts}
 use Rattle.dnode_tree.specs.Reading.{OnlyReadsAndPlans, AnswersAreTrue, LossIsTolerable}
-use Rattle.dnode_tree.specs.Rewriting.{IsPartRewritten, AreRewrittenTo, HasWrites}
+use Rattle.dnode_tree.specs.PartsRewritten.{IsPartRewritten, AreRewrittenTo, HasWrites}
 use Rattle.dnode_tree.specs.Subtree.{IsSubtree}
 use Rattle.dnode_tree.specs.Tree.{property_of}
 use Rattle.dnode_tree.specs.Writes.{AreInOrder, AreBetween, AreWholeBlocks, written}
@@ -23,7 +24,7 @@ use Rattle.dnode_tree.proofs.Rewriting.{part_skipped, part_rewritten}
 use Rattle.dnode_tree.proofs.Steps.{steps_on, true_sooner, true_later, few_later}
 
 -- the parts before the k-th are written
-pub record IsWritingParts (start now : Store) (missing : List ℕ) (node : ObjectNode) (level first bound birth from : ℕ) (origin pointers : List BlockPtr) (writes rest : List BlockWrite) (k : ℕ)
+pub record IsWritingParts (copies : CopyCounts) (start now : Store) (missing : List ℕ) (node : ObjectNode) (level first bound birth from : ℕ) (origin pointers : List BlockPtr) (writes rest : List BlockWrite) (k : ℕ)
     (noted_first noted_now : List Block) : Type 0 where
   pub steps : OnlyReadsAndPlans start now missing
   pub between : AreBetween (first + k * 128 ^ level) (first + 128 * 128 ^ level) rest
@@ -32,11 +33,11 @@ pub record IsWritingParts (start now : Store) (missing : List ℕ) (node : Objec
   pub filled : (0 < length rest) ⊎ (0 < total_fill pointers)
   pub count : length pointers ≡ 128
   pub rewriting : (stored planned begun : Contents) (array new_array : ℕ → Option (List ℕ)) (before after : List (List Block)) (noted : List Block) → Plans start stored begun
-      → AreRewrittenTo stored planned begun (property_of node) level first bound birth origin array new_array before after from noted noted_first
+      → AreRewrittenTo copies stored planned begun (property_of node) level first bound birth origin array new_array before after from noted noted_first
       → HasWrites new_array array writes (first + from * 128 ^ level) (first + 128 * 128 ^ level)
       → AnswersAreTrue start now
       → (present : Contents) × (done : List (List Block)) × Plans now stored present
-      × AreRewrittenTo stored planned present (property_of node) level first bound birth pointers array new_array before done k noted noted_now
+      × AreRewrittenTo copies stored planned present (property_of node) level first bound birth pointers array new_array before done k noted noted_now
       × HasWrites new_array array rest (first + k * 128 ^ level) (first + 128 * 128 ^ level)
 
 -- those writes at the front that belong to the k-th part
@@ -68,8 +69,8 @@ module _ (level first k n middle : ℕ) (rest : List BlockWrite) (middle_is : mi
       subst (λ from. HasWrites new_array array (drop n rest) from (first + 128 * 128 ^ level)) next
       (has_behind new_array array rest n (first + k * 128 ^ level) middle (first + 128 * 128 ^ level) has sooner (behind_all rest n middle order later) (omega (arith, middle_is)))
 
-module _ (start now : Store) (missing : List ℕ) (node : ObjectNode) (level first bound birth from : ℕ) (origin pointers : List BlockPtr) (writes rest : List BlockWrite) (k : ℕ) (noted_first noted_now : List Block)
-    (so_far : IsWritingParts start now missing node level first bound birth from origin pointers writes rest k noted_first noted_now) (low : k < 128) (le : bound ≤ birth)
+module _ {copies : CopyCounts} (start now : Store) (missing : List ℕ) (node : ObjectNode) (level first bound birth from : ℕ) (origin pointers : List BlockPtr) (writes rest : List BlockWrite) (k : ℕ) (noted_first noted_now : List Block)
+    (so_far : IsWritingParts copies start now missing node level first bound birth from origin pointers writes rest k noted_first noted_now) (low : k < 128) (le : bound ≤ birth)
     (n middle : ℕ) (middle_is : middle ≡ (first + k * 128 ^ level) + 128 ^ level)
     (sooner : All (λ write. write.id < middle) (take n rest)) (later : (other : BlockWrite) → n < length rest → middle ≤ (get_or rest n other).id) where
   within : middle ≤ first + 128 * 128 ^ level
@@ -77,7 +78,7 @@ module _ (start now : Store) (missing : List ℕ) (node : ObjectNode) (level fir
 
   -- the part as it was
   part_left : (stored planned present : Contents) (array new_array : ℕ → Option (List ℕ)) (before done : List (List Block)) (noted : List Block) (begin : ℕ) (child : BlockPtr)
-      → AreRewrittenTo stored planned present (property_of node) level first bound birth pointers array new_array before done k noted noted_now
+      → AreRewrittenTo copies stored planned present (property_of node) level first bound birth pointers array new_array before done k noted noted_now
       → begin ≡ first + k * 128 ^ level → child ≡ get_or pointers k child → IsSubtree stored (property_of node) level begin bound child array (get_or before k [])
   part_left stored planned present array new_array before done noted begin child rewritten begin_is child_is =
       subst (λ n. IsSubtree stored (property_of node) level n bound child array (get_or before k [])) (sym begin_is)
@@ -86,9 +87,9 @@ module _ (start now : Store) (missing : List ℕ) (node : ObjectNode) (level fir
 
   -- no write belongs to the part
   pub writing_skips : (run others : List BlockWrite) → n ≤ length rest → run ≡ take n rest → others ≡ drop n rest → length run ≡ 0
-      → IsWritingParts start now missing node level first bound birth from origin pointers writes others (k + 1) noted_first noted_now
+      → IsWritingParts copies start now missing node level first bound birth from origin pointers writes others (k + 1) noted_first noted_now
   writing_skips run others fits run_is others_is none =
-      subst (λ ws. IsWritingParts start now missing node level first bound birth from origin pointers writes ws (k + 1) noted_first noted_now) (sym others_is) (record {
+      subst (λ ws. IsWritingParts copies start now missing node level first bound birth from origin pointers writes ws (k + 1) noted_first noted_now) (sym others_is) (record {
         steps = so_far.steps;
         between = rest_between level first k n middle rest middle_is so_far.between so_far.order sooner later;
         order = order_dropped rest n so_far.order;
@@ -118,11 +119,11 @@ module _ (start now : Store) (missing : List ℕ) (node : ObjectNode) (level fir
         → ((stored planned : Contents) (array : ℕ → Option (List ℕ)) (blocks : List Block) → Plans now stored planned
         → IsSubtree stored (property_of node) level begin bound child array blocks → AnswersAreTrue now after_write
         → (later : Contents) × Plans after_write stored later
-        × IsPartRewritten planned later (property_of node) level begin birth (At block) (written run array) blocks noted_now noted_later)
-        → IsWritingParts start after_write missing node level first bound birth from origin new_pointers writes others (k + 1) noted_first noted_later
+        × IsPartRewritten copies planned later (property_of node) level begin birth (At block) (written run array) blocks noted_now noted_later)
+        → IsWritingParts copies start after_write missing node level first bound birth from origin new_pointers writes others (k + 1) noted_first noted_later
     writing_goes_on block new_pointers others noted_later new_is others_is some step =
-        subst (λ ps. IsWritingParts start after_write missing node level first bound birth from origin ps writes others (k + 1) noted_first noted_later) (sym new_is)
-        (subst (λ ws. IsWritingParts start after_write missing node level first bound birth from origin (set pointers k (At block)) writes ws (k + 1) noted_first noted_later) (sym others_is) (record {
+        subst (λ ps. IsWritingParts copies start after_write missing node level first bound birth from origin ps writes others (k + 1) noted_first noted_later) (sym new_is)
+        (subst (λ ws. IsWritingParts copies start after_write missing node level first bound birth from origin (set pointers k (At block)) writes ws (k + 1) noted_first noted_later) (sym others_is) (record {
           steps = steps_on start now after_write missing so_far.steps steps;
           between = rest_between level first k n middle rest middle_is so_far.between so_far.order sooner later;
           order = order_dropped rest n so_far.order;
@@ -133,8 +134,8 @@ module _ (start now : Store) (missing : List ℕ) (node : ObjectNode) (level fir
               let there = so_far.rewriting stored planned begun array new_array before after noted plans rewritten has (true_sooner start now after_write missing so_far.steps steps honest) in
               let part = part_left stored planned there.0 array new_array before there.1 noted begin child there.3 begin_is child_is in
               let made = step stored there.0 array (get_or before k []) there.2 part (true_later start now after_write missing so_far.steps steps honest) in
-              let made_there : IsPartRewritten there.0 made.0 (property_of node) level (first + k * 128 ^ level) birth (At block) (written run array) (get_or before k []) noted_now noted_later =
-              subst (λ m. IsPartRewritten there.0 made.0 (property_of node) level m birth (At block) (written run array) (get_or before k []) noted_now noted_later) begin_is made.2 in (
+              let made_there : IsPartRewritten copies there.0 made.0 (property_of node) level (first + k * 128 ^ level) birth (At block) (written run array) (get_or before k []) noted_now noted_later =
+              subst (λ m. IsPartRewritten copies there.0 made.0 (property_of node) level m birth (At block) (written run array) (get_or before k []) noted_now noted_later) begin_is made.2 in (
                 made.0,
                 there.1 ++ made_there.blocks ∷ [],
                 made.1,
@@ -150,7 +151,7 @@ module _ (start now : Store) (missing : List ℕ) (node : ObjectNode) (level fir
         → ((stored planned : Contents) (array : ℕ → Option (List ℕ)) (blocks : List Block) → Plans now stored planned
         → IsSubtree stored (property_of node) level begin bound child array blocks → AnswersAreTrue now after_write → LossIsTolerable now after_write missing → Refused)
         → (stored planned begun : Contents) (array new_array : ℕ → Option (List ℕ)) (before after : List (List Block)) (noted : List Block) → Plans start stored begun
-        → AreRewrittenTo stored planned begun (property_of node) level first bound birth origin array new_array before after from noted noted_first
+        → AreRewrittenTo copies stored planned begun (property_of node) level first bound birth origin array new_array before after from noted noted_first
         → HasWrites new_array array writes (first + from * 128 ^ level) (first + 128 * 128 ^ level)
         → AnswersAreTrue start after_write → LossIsTolerable start after_write missing → Refused
     writing_fails Refused step stored planned begun array new_array before after noted plans rewritten has honest few =
@@ -172,8 +173,8 @@ none_between : (n : ℕ) (writes : List BlockWrite) → AreBetween n n writes �
 none_between n [] between = refl
 none_between n (write ∷ writes) between = absurd (let one = between 0 write (omega arith) in omega (arith, one.0, one.1))
 
-pub root_filled : (start now : Store) (missing : List ℕ) (node : ObjectNode) (level first bound birth from : ℕ) (origin pointers : List BlockPtr) (writes rest : List BlockWrite) (k : ℕ) (noted_first noted_now : List Block)
-    → IsWritingParts start now missing node level first bound birth from origin pointers writes rest k noted_first noted_now → k ≡ 128 → 0 < total_fill pointers
+pub root_filled : {copies : CopyCounts} (start now : Store) (missing : List ℕ) (node : ObjectNode) (level first bound birth from : ℕ) (origin pointers : List BlockPtr) (writes rest : List BlockWrite) (k : ℕ) (noted_first noted_now : List Block)
+    → IsWritingParts copies start now missing node level first bound birth from origin pointers writes rest k noted_first noted_now → k ≡ 128 → 0 < total_fill pointers
 root_filled start now missing node level first bound birth from origin pointers writes rest k noted_first noted_now so_far all =
     elim so_far.filled [
       | inl some ↦

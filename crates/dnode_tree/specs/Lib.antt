@@ -1,4 +1,6 @@
+pub mod Freeing
 pub mod Laws
+pub mod PartsRewritten
 pub mod Reading
 pub mod Rewriting
 pub mod Subtree

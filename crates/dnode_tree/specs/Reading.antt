@@ -1,7 +1,7 @@
 -- Reads of several blocks.
-use Rattle.std.specs.Prelude.{ℕ, ◌≡◌, List, ◌++◌}
+use Rattle.std.specs.Prelude.{ℕ, ◌≡◌, List, ◌++◌, map}
 use Rattle.raidz_io.specs.Reads.{OnlyReads, AreUntouched, IsHonestSince, absent_since}
-use Rattle.block_store.specs.Places.{shapes_of}
+use Rattle.block_store.specs.Places.{shapes_of, filled as filled_marks}
 use Rattle.block_store.specs.Plans.{KeepsPlans}
 use Rattle.block_store.specs.Reading.{AreTolerable}
 use Rattle.block_store.specs.Store.{Store, Keeps, outs}
@@ -14,10 +14,11 @@ pub record OnlyReadsBlocks (old new : Store) (missing : List ℕ) : Type 0 where
   pub keeps : Keeps old new
   pub plans : KeepsPlans old new
 
--- nothing was done but such reads, and new blocks were planned
+-- nothing was done but such reads, and new blocks were planned: what stored blocks fill is the same
 pub record OnlyReadsAndPlans (old new : Store) (missing : List ℕ) : Type 0 where
   pub out : new.out ≡ old.out
   pub shapes : shapes_of new.spaces ≡ shapes_of old.spaces
+  pub filled : map filled_marks new.spaces ≡ map filled_marks old.spaces
   pub reads : OnlyReads old.disks new.disks
   pub untouched : AreUntouched (outs old ++ missing) old.disks new.disks
   pub keeps : Keeps old new

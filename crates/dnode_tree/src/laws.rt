@@ -1,4 +1,5 @@
 //! Laws of trees, as functions with no body: what each ensures follows from the definitions alone.
+ghost use Rattle.dnode_tree.specs.Freeing.{ReplacedAreFreed};
 ghost use Rattle.dnode_tree.specs.Laws.{TreesStandOnTheirBlocks, BlocksOfTreesAreKnown, HolesAreTrees};
 
 /// A tree keeps its array and its blocks whatever becomes of other blocks.
@@ -14,4 +15,10 @@ pub fn blocks_of_trees_are_known()
 /// An object of holes is a tree.
 pub fn holes_are_trees()
     ensures { HolesAreTrees }
+{}
+
+/// The blocks that `put_many` names as replaced are those that `free_blocks` finds: of an object that has each block once,
+/// as one of holes, and so has the object that `put_many` makes of it.
+pub fn replaced_blocks_are_freed()
+    ensures { ReplacedAreFreed }
 {}

@@ -3,6 +3,7 @@
 #![tactic(auto)]
 
 mod descent;
+mod freeing;
 mod laws;
 mod planning;
 mod putting;
@@ -13,7 +14,11 @@ mod writes;
 mod writing;
 
 pub use block_store::Refusal;
-pub use laws::{blocks_of_trees_are_known, holes_are_trees, trees_stand_on_their_blocks};
+pub use freeing::free_blocks;
+pub use laws::{
+    blocks_of_trees_are_known, holes_are_trees, replaced_blocks_are_freed,
+    trees_stand_on_their_blocks,
+};
 pub use putting::put_many;
 pub use reading::get;
 pub use walking::walk;

@@ -1,17 +1,17 @@
 //! One block of an object that is planned.
-ghost use Rattle.std.specs.Prelude.{◌≡◌, ◌≢◌, ◌*◌, ◌^◌, ◌<◌, length, cond, ◌==◌, IfOk, IfErr};
+ghost use Rattle.std.specs.Prelude.{◌≡◌, ◌≢◌, ◌*◌, ◌^◌, ◌<◌, length, cond, ◌==◌, map, IfOk, IfErr};
 ghost use Rattle.std.specs.List.{AllByRecursion};
 ghost use Rattle.block_pointer.specs.Block.{FitsBlock};
 ghost use Rattle.block_pointer.specs.Copies.{dvas};
 ghost use Rattle.dnode.specs.Node.{IsNode};
 ghost use Rattle.block_store.specs.Blocks.{Contents, Adds, FitsNew};
-ghost use Rattle.block_store.specs.Places.{shapes_of};
+ghost use Rattle.block_store.specs.Places.{shapes_of, filled};
 ghost use Rattle.block_store.specs.Plans.{Plans};
 ghost use Rattle.block_store.specs.Reading.{Asks};
 ghost use Rattle.block_store.specs.Store.{Keeps};
 ghost use Rattle.dnode_tree.specs.Subtree.{asked_of};
 ghost use Rattle.dnode_tree.specs.Tree.{property_of};
-ghost use Rattle.dnode_tree.specs.Writes.{HasNoRoom, IsForRoom};
+ghost use Rattle.dnode_tree.specs.Writes.{copies_at, HasNoRoom, IsForRoom};
 
 use crate::descent::property_at;
 use crate::writes::CopyCounts;
@@ -41,12 +41,14 @@ pub(crate) fn plan_block<D: Disk + Drop>(
     ensures disks { store.new.disks ≡ store.old.disks }
     ensures out { store.new.out ≡ store.old.out }
     ensures shapes { shapes_of store.new.spaces ≡ shapes_of store.old.spaces }
+    ensures filled { map filled store.new.spaces ≡ map filled store.old.spaces }
     ensures keeps { Keeps store.old store.new }
     ensures fits { IfOk result FitsBlock }
     ensures property { IfOk result (λ block. block.property ≡ property_of node.now level) }
     ensures asks { IfOk result (Asks (asked_of (property_of node.now level) birth)) }
     ensures birth { IfOk result (λ block. block.birth ≡ birth) }
     ensures fill { IfOk result (λ block. block.fill ≡ fill) }
+    ensures copies { IfOk result (λ block. length (dvas block.copies) ≡ copies_at copies block.property.level) }
     ensures planned { IfOk result (λ block. (stored planned : Contents) → Plans store.old stored planned
         → (later : Contents) × Plans store.new stored later × Adds planned later block bytes.now) }
     ensures refused { IfErr result IsForRoom }

@@ -7,7 +7,8 @@ ghost use Rattle.dnode.specs.Node.{FitsNode};
 ghost use Rattle.block_store.specs.Blocks.{Contents};
 ghost use Rattle.block_store.specs.Plans.{Plans};
 ghost use Rattle.dnode_tree.specs.Reading.{OnlyReadsAndPlans, AnswersAreTrue, LossIsTolerable};
-ghost use Rattle.dnode_tree.specs.Rewriting.{IsPartRewritten, HasWrites, IsGrown, IsRewritten};
+ghost use Rattle.dnode_tree.specs.PartsRewritten.{IsPartRewritten, HasWrites};
+ghost use Rattle.dnode_tree.specs.Rewriting.{IsGrown, IsRewritten};
 ghost use Rattle.dnode_tree.specs.Subtree.{IsSubtree, HasProperty};
 ghost use Rattle.dnode_tree.specs.Tree.{property_of, IsTree};
 ghost use Rattle.dnode_tree.specs.Writes.{AreInOrder, AreBetween, AreWholeBlocks, written, HasNoRoom, IsForRoom};
@@ -46,7 +47,7 @@ pub fn put_many<D: Disk + Drop>(
     ensures grown { IfOk result (λ done. IsGrown node.now done.node writes.now) }
     ensures rewritten { IfOk result (λ done. (stored planned : Contents) (bound : ℕ) (array : ℕ → Option (List ℕ)) (blocks : List Block) → Plans store.old stored planned
         → IsTree stored bound node.now array blocks → bound ≤ birth → AnswersAreTrue store.old store.new
-        → (later : Contents) × Plans store.new stored later × IsRewritten planned later birth done (written writes.now array) blocks) }
+        → (later : Contents) × Plans store.new stored later × IsRewritten copies planned later birth done (written writes.now array) blocks) }
     ensures no_room { IfErr result (λ refusal. refusal ≡ Refusal.NoSpace → HasNoRoom store.old store.new node.now copies) }
     ensures known { IfErr result (λ refusal. (stored planned : Contents) (bound : ℕ) (array : ℕ → Option (List ℕ)) (blocks : List Block) → Plans store.old stored planned
         → IsTree stored bound node.now array blocks → bound ≤ birth → AnswersAreTrue store.old store.new → LossIsTolerable store.old store.new missing.now
@@ -114,7 +115,7 @@ fn write_root<D: Disk + Drop>(
     ensures rewritten { IfOk result (λ pointer. (stored planned : Contents) (array : ℕ → Option (List ℕ)) (blocks : List Block) → Plans store.old stored planned
         → IsSubtree stored (property_of node.now) (the_levels_of node.now.highest - 1) 0 birth node.now.pointer array blocks → AnswersAreTrue store.old store.new
         → (later : Contents) × Plans store.new stored later
-        × IsPartRewritten planned later (property_of node.now) (the_levels_of node.now.highest - 1) 0 birth pointer (written writes.now array) blocks replaced.old.items replaced.new.items) }
+        × IsPartRewritten copies planned later (property_of node.now) (the_levels_of node.now.highest - 1) 0 birth pointer (written writes.now array) blocks replaced.old.items replaced.new.items) }
     ensures no_room { IfErr result (λ refusal. refusal ≡ Refusal.NoSpace → HasNoRoom store.old store.new node.now copies) }
     ensures known { IfErr result (λ refusal. (stored planned : Contents) (array : ℕ → Option (List ℕ)) (blocks : List Block) → Plans store.old stored planned
         → IsSubtree stored (property_of node.now) (the_levels_of node.now.highest - 1) 0 birth node.now.pointer array blocks → AnswersAreTrue store.old store.new
@@ -158,14 +159,14 @@ fn raise<D: Disk + Drop>(
     ensures fits { IfOk result Fits }
     ensures property { IfOk result (HasProperty (property_of node.now (level + 1))) }
     ensures rewritten { IfOk result (λ pointer. (stored planned now : Contents) (array new_array : ℕ → Option (List ℕ)) (before noted : List Block) → Plans store.old stored now
-        → IsPartRewritten planned now (property_of node.now) level 0 birth root new_array before noted replaced.old.items
+        → IsPartRewritten copies planned now (property_of node.now) level 0 birth root new_array before noted replaced.old.items
         → ((id : ℕ) → 128 ^ level ≤ id → array id ≡ None) → HasWrites new_array array writes.now (128 ^ level) (128 * 128 ^ level)
         → AnswersAreTrue store.old store.new
         → (later : Contents) × Plans store.new stored later
-        × IsPartRewritten planned later (property_of node.now) (level + 1) 0 birth pointer new_array before noted replaced.new.items) }
+        × IsPartRewritten copies planned later (property_of node.now) (level + 1) 0 birth pointer new_array before noted replaced.new.items) }
     ensures no_room { IfErr result (λ refusal. refusal ≡ Refusal.NoSpace → HasNoRoom store.old store.new node.now copies) }
     ensures known { IfErr result (λ refusal. (stored planned now : Contents) (array new_array : ℕ → Option (List ℕ)) (before noted : List Block) → Plans store.old stored now
-        → IsPartRewritten planned now (property_of node.now) level 0 birth root new_array before noted replaced.old.items
+        → IsPartRewritten copies planned now (property_of node.now) level 0 birth root new_array before noted replaced.old.items
         → ((id : ℕ) → 128 ^ level ≤ id → array id ≡ None) → HasWrites new_array array writes.now (128 ^ level) (128 * 128 ^ level)
         → AnswersAreTrue store.old store.new → LossIsTolerable store.old store.new missing.now → IsForRoom refusal) }
 {

@@ -2,7 +2,7 @@
 ghost use Rattle.std.specs.Prelude.{◌≡◌, ◌<◌, ◌^◌, IfOk};
 ghost use Rattle.dnode.specs.Node.{FitsNode};
 
-use crate::{BlockWrite, CopyCounts, Refusal, Rewrite, get, put_many, walk};
+use crate::{BlockWrite, CopyCounts, Refusal, Rewrite, free_blocks, get, put_many, walk};
 use block_pointer::BlockPtr;
 use block_store::{BlockStore, CopyCount, VdevConfig};
 use dnode::ObjectNode;
@@ -114,6 +114,8 @@ fn the_object_before_stays(rt: HostRuntime) -> Result<(), Fail> {
     let two = put_two(&one.node, &mut store, alloc, (2, 129), 4, 2)?;
     // The block 129, the two indirect blocks above the blocks written, and the root gave way.
     assert_eq!(rt; two.replaced.len(), 4);
+    let freed = free_blocks(&one.node, &two.node, &mut store, alloc, 2, &[])?;
+    assert_eq!(rt; freed.as_slice(), two.replaced.as_slice());
     let before = get(&one.node, &mut store, alloc, 129, 1, &[])?.ok_or("before")?;
     assert_eq!(rt; before.as_slice(), [3; 512].as_slice());
     let after = get(&two.node, &mut store, alloc, 129, 2, &[])?.ok_or("after")?;

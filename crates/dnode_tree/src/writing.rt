@@ -9,7 +9,7 @@ ghost use Rattle.block_store.specs.Blocks.{Contents};
 ghost use Rattle.block_store.specs.Plans.{Plans};
 ghost use Rattle.dnode_tree.specs.declared.writes.BlockWrite.{BlockWrite};
 ghost use Rattle.dnode_tree.specs.Reading.{OnlyReadsAndPlans, AnswersAreTrue, LossIsTolerable};
-ghost use Rattle.dnode_tree.specs.Rewriting.{IsPartRewritten, AreRewrittenTo, AreRewritten, HasWrites};
+ghost use Rattle.dnode_tree.specs.PartsRewritten.{IsPartRewritten, AreRewrittenTo, AreRewritten, HasWrites};
 ghost use Rattle.dnode_tree.specs.Subtree.{blocks_at};
 ghost use Rattle.dnode_tree.specs.Tree.{property_of, IsPart};
 ghost use Rattle.dnode_tree.specs.Writes.{AreInOrder, AreBetween, AreWholeBlocks, written, HasNoRoom, IsForRoom};
@@ -55,7 +55,7 @@ pub(crate) fn write_part<D: Disk + Drop>(
     ensures rewritten { IfOk result (λ block. (stored planned : Contents) (array : ℕ → Option (List ℕ)) (blocks : List Block) → Plans store.old stored planned
         → IsPart stored node.now first part array blocks → AnswersAreTrue store.old store.new
         → (later : Contents) × Plans store.new stored later
-        × IsPartRewritten planned later (property_of node.now) part.level first birth (BlockPtr.Block block) (written writes.now array) blocks replaced.old.items replaced.new.items) }
+        × IsPartRewritten copies planned later (property_of node.now) part.level first birth (BlockPtr.Block block) (written writes.now array) blocks replaced.old.items replaced.new.items) }
     ensures no_room { IfErr result (λ refusal. refusal ≡ Refusal.NoSpace → HasNoRoom store.old store.new node.now copies) }
     ensures known { IfErr result (λ refusal. (stored planned : Contents) (array : ℕ → Option (List ℕ)) (blocks : List Block) → Plans store.old stored planned
         → IsPart stored node.now first part array blocks → AnswersAreTrue store.old store.new → LossIsTolerable store.old store.new missing.now
@@ -102,15 +102,15 @@ pub(crate) fn write_parts<D: Disk + Drop>(
     ensures property { IfOk result (λ block. block.property ≡ property_of node.now (parts.level + 1)) }
     ensures rewritten { IfOk result (λ block. (stored planned now : Contents) (array new_array : ℕ → Option (List ℕ)) (before after : List (List Block)) (noted : List Block)
         → Plans store.old stored now
-        → AreRewrittenTo stored planned now (property_of node.now) parts.level first parts.birth birth parts.pointers array new_array before after from noted replaced.old.items
+        → AreRewrittenTo copies stored planned now (property_of node.now) parts.level first parts.birth birth parts.pointers array new_array before after from noted replaced.old.items
         → HasWrites new_array array writes.now (first + from * 128 ^ parts.level) (first + 128 * 128 ^ parts.level)
         → AnswersAreTrue store.old store.new
         → (later : Contents) × Plans store.new stored later
-        × AreRewritten planned later (property_of node.now) parts.level first birth block new_array before noted replaced.new.items) }
+        × AreRewritten copies planned later (property_of node.now) parts.level first birth block new_array before noted replaced.new.items) }
     ensures no_room { IfErr result (λ refusal. refusal ≡ Refusal.NoSpace → HasNoRoom store.old store.new node.now copies) }
     ensures known { IfErr result (λ refusal. (stored planned now : Contents) (array new_array : ℕ → Option (List ℕ)) (before after : List (List Block)) (noted : List Block)
         → Plans store.old stored now
-        → AreRewrittenTo stored planned now (property_of node.now) parts.level first parts.birth birth parts.pointers array new_array before after from noted replaced.old.items
+        → AreRewrittenTo copies stored planned now (property_of node.now) parts.level first parts.birth birth parts.pointers array new_array before after from noted replaced.old.items
         → HasWrites new_array array writes.now (first + from * 128 ^ parts.level) (first + 128 * 128 ^ parts.level)
         → AnswersAreTrue store.old store.new → LossIsTolerable store.old store.new missing.now → IsForRoom refusal) }
 {

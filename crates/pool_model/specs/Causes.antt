@@ -1,7 +1,7 @@
 -- The numbers and names of refusals.
 use Rattle.std.specs.Prelude.{ℕ, List, codes}
 use Rattle.pool_model.specs.declared.refusal.Refusal.{Refusal}
-use Rattle.pool_model.specs.declared.refusal.Refusal.TheVariants.{NoMemory, DiskFault, NoSpace, Suspended, AlreadyHeld, NoHold, OutOfOrder, NoSuchName, NotYet, Exists, OutOfRange, Misaligned, NotNow, BadName, GroupGone}
+use Rattle.pool_model.specs.declared.refusal.Refusal.TheVariants.{NoMemory, DiskFault, NoSpace, Suspended, AlreadyHeld, NoHold, OutOfOrder, NoSuchName, NotYet, Exists, OutOfRange, Misaligned, NotNow, BadName, GroupGone, BadConfig}
 
 abbrev pub number_of_cause : Refusal → ℕ
 number_of_cause NoMemory = 1
@@ -19,6 +19,7 @@ number_of_cause Misaligned = 12
 number_of_cause NotNow = 13
 number_of_cause BadName = 16
 number_of_cause GroupGone = 17
+number_of_cause BadConfig = 24
 
 abbrev pub name_of_cause : Refusal → List ℕ
 name_of_cause NoMemory = codes "NoMemory"
@@ -36,3 +37,4 @@ name_of_cause Misaligned = codes "Misaligned"
 name_of_cause NotNow = codes "NotNow"
 name_of_cause BadName = codes "BadName"
 name_of_cause GroupGone = codes "GroupGone"
+name_of_cause BadConfig = codes "BadConfig"

@@ -28,6 +28,8 @@ pub enum Refusal {
     BadName,
     /// The group is not kept.
     GroupGone,
+    /// A pool of this shape, or over these disks, can't be made.
+    BadConfig,
 }
 
 impl Refusal {
@@ -53,6 +55,7 @@ impl Refusal {
             Refusal::NotNow => 13,
             Refusal::BadName => 16,
             Refusal::GroupGone => 17,
+            Refusal::BadConfig => 24,
         }
     }
 
@@ -76,6 +79,7 @@ impl Refusal {
             Refusal::NotNow => "NotNow",
             Refusal::BadName => "BadName",
             Refusal::GroupGone => "GroupGone",
+            Refusal::BadConfig => "BadConfig",
         }
     }
 }

@@ -1,4 +1,5 @@
 pub mod Shapes
+pub mod GoodChanges
 pub mod Index
 pub mod NowMoves
 pub mod Overlay

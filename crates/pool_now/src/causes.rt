@@ -7,6 +7,7 @@ ghost use Rattle.pool_model.specs.Names.{is_name_letter, is_name, is_block_size}
 ghost use Rattle.pool_model.specs.Pools.{PlainPool};
 ghost use Rattle.pool_model.specs.Refusals.{is_aligned, is_in_range, place_refusal, change_refusal, read_refusal};
 ghost use Rattle.txg_pipeline.specs.Calls.{cause_of};
+ghost use Rattle.pool_now.specs.GoodChanges.{is_good_size};
 ghost use Rattle.pool_now.specs.Index.{Knows};
 ghost use Rattle.pool_now.specs.Shapes.{shape_of};
 
@@ -63,6 +64,16 @@ fn is_size_of_block(size: u64) -> bool
         size,
         512 | 1024 | 2048 | 4096 | 8192 | 16384 | 32768 | 65536 | 131072
     )
+}
+
+/// Whether a volume may have this size and this block size, in bytes.
+pub fn is_good_shape(size: u64, block_size: u64) -> bool
+    ensures { result ≡ is_good_size size block_size }
+{
+    is_size_of_block(block_size)
+        && size % block_size == 0
+        && block_size <= size
+        && size <= LARGEST_VOLUME
 }
 
 fn is_in_sectors(offset: u64, len: u64) -> bool

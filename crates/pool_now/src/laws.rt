@@ -1,6 +1,7 @@
 //! How the machine's steps move NOW, and what of it is committed: functions with no code, whose contracts are proved of
 //! the definitions.
 ghost use Rattle.std.specs.Prelude.{◌≡◌, ◌<◌, ◌≤◌, ◌↔◌, ℕ, suc, List, replicate, length, true, false, Some, None};
+ghost use Rattle.pool_model.specs.declared.item.Change.{Change as ChangeValue};
 ghost use Rattle.pool_model.specs.declared.group.Stage.TheVariants.{Quiescing, Quiesced};
 ghost use Rattle.pool_model.specs.declared.item.Action.{Action as ActionValue};
 ghost use Rattle.pool_model.specs.declared.item.Item.TheVariants.{Write as WriteItem, Action as ActionItem};
@@ -10,7 +11,8 @@ ghost use Rattle.pool_model.specs.declared.step.Reply.{Reply};
 ghost use Rattle.pool_model.specs.declared.volume.PlainVolume.{PlainVolume};
 ghost use Rattle.pool_model.specs.Pools.{PlainPool, Entry, volume_at, changed, applied};
 ghost use Rattle.pool_model.specs.View.{View, Given, Sync, Vdev, started, is_syncing, open_group, now_of};
-ghost use Rattle.pool_model.specs.Refusals.{may_plan};
+ghost use Rattle.pool_model.specs.Refusals.{may_plan, change_refusal};
+ghost use Rattle.pool_now.specs.GoodChanges.{is_good_change};
 ghost use Rattle.pool_model.specs.Machine.{with_hold, without_hold, took, taken, dropped, committed_next, StepOf};
 ghost use Rattle.pool_model.specs.Sound.{IsSound};
 ghost use Rattle.pool_now.specs.declared.index.NameIndex.{NameIndex};
@@ -60,4 +62,9 @@ pub fn creation_groups_tell_what_is_committed()
     ensures bytes { (v : View) (name : List ℕ) (volume base : PlainVolume) → volume_at name (v.pools v.committed) ≡ Some base → base_of v name volume ≡ base.bytes }
     ensures zeros { (v : View) (name : List ℕ) (volume : PlainVolume) → GroupsAreBelow v → volume_at name (now_of v) ≡ Some volume → v.committed < volume.group →
         base_of v name volume ≡ replicate (length volume.bytes) 0 }
+{}
+
+/// A change that is not refused makes a volume that may be made.
+pub fn changes_that_are_not_refused_are_good()
+    ensures { (change : ChangeValue) (pool : PlainPool) → change_refusal change pool ≡ None → is_good_change change ≡ true }
 {}

@@ -10,11 +10,11 @@ mod shape;
 #[cfg(test)]
 mod tests;
 
-pub use causes::{against_change, against_read, against_write, named};
+pub use causes::{against_change, against_read, against_write, is_good_shape, named};
 pub use index::NameIndex;
 pub use laws::{
-    changes_move_now, creation_groups_tell_what_is_committed, groups_stay_below,
-    indexes_follow_now, steps_move_now,
+    changes_move_now, changes_that_are_not_refused_are_good,
+    creation_groups_tell_what_is_committed, groups_stay_below, indexes_follow_now, steps_move_now,
 };
 pub use overlay::{lay_over, read_pending};
 pub use shape::VolumeShape;

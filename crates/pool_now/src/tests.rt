@@ -1,7 +1,7 @@
 //! An index, refusals by it, and pending writes over a range.
 use crate::{
-    NameIndex, VolumeShape, against_change, against_read, against_write, lay_over, named,
-    read_pending,
+    NameIndex, VolumeShape, against_change, against_read, against_write, is_good_shape, lay_over,
+    named, read_pending,
 };
 use pool_model::{Action, Bytes, Change, Item, Name, Refusal, Write};
 use std::alloc::{AllocError, Global};
@@ -106,6 +106,8 @@ fn changes_are_refused(rt: HostRuntime) -> Result<(), Fail> {
     assert_eq!(rt; against_change(&odd, &index), Some(Refusal::Misaligned));
     let empty = create(alloc, b"w", 0, 512)?;
     assert_eq!(rt; against_change(&empty, &index), Some(Refusal::OutOfRange));
+    assert_eq!(rt; is_good_shape(1024, 512), true);
+    assert_eq!(rt; is_good_shape(1024, 2048), false);
     let cause = txg_pipeline::Refusal::OutOfOrder { expected: 7 };
     assert_eq!(rt; named(cause), Refusal::OutOfOrder { expected: 7 });
     Ok(())

@@ -1,12 +1,12 @@
 mod Changed
 mod Dividing
-mod Further
-mod FurtherReads
+pub mod Further
+pub mod FurtherReads
 mod Laying
 mod Planning
 mod Ranges
 mod Rewriting
-mod Refusing
+pub mod Refusing
 mod Sizes
-mod Spelled
+pub mod Spelled
 mod Untouched

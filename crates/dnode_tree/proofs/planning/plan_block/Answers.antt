@@ -4,6 +4,7 @@ use Rattle.block_store.specs.Places.{RanOut}
 use Rattle.block_pointer.specs.Property.{FitsProperty}
 use Rattle.dnode_tree.proofs.Fitting.{chosen_fit, property_fits}
 use Rattle.dnode_tree.proofs.Refusing.{passed_on, only_no_space}
+use Rattle.dnode_tree.proofs.Steps.{chosen_fills_nothing}
 use Rattle.dnode_tree.specs.Tree.{property_of}
 use Rattle.dnode_tree.proofs.planning.plan_block.Goals as goal
 
@@ -34,3 +35,9 @@ returns-in_err-planned-clause-no_room g c =
           (subst (λ p. RanOut c.args.store.now.spaces p.sectors (count_of c.at.result) c.plan_write.new.self.spaces) c.property_at.ensures
           (only_no_space _ _ c.in_err-planned.ensures.refused is));
     })
+
+pub returns-in_err-planned-clause-filled : goal.returns-in_err-planned-clause-filled
+returns-in_err-planned-clause-filled g c = let (places, few, chosen) = c.in_err-planned.ensures.err_spaces in chosen_fills_nothing _ _ _ _ _ chosen
+
+pub returns-clause-filled : goal.returns-clause-filled
+returns-clause-filled g c = chosen_fills_nothing _ _ _ _ _ c.in_ok-planned.ensures.places

@@ -1,5 +1,4 @@
-use Rattle.std.proofs.Common.{rules, ℕ, zero, suc, ◌≡◌, ◌+◌, ◌*◌, ◌^◌, ◌<◌, List, [], ◌∷◌, length, All, slice_index_or, arith}
-use Rattle.std.specs.List.{AllPairs}
+use Rattle.std.proofs.Common.{rules, ℕ, zero, suc, ◌≡◌, ◌*◌, ◌^◌, ◌<◌, [], ◌∷◌, length, All, slice_index_or, arith}
 use Rattle.dnode_tree.specs.declared.writes.BlockWrite.{BlockWrite}
 use Rattle.dnode_tree.proofs.tests.put_two.Goals as goal
 

@@ -26,11 +26,11 @@ write_part-returns-then-part-eq0-clause-rewritten g t c =
       added.0,
       added.1,
       leaf_rewritten stored planned added.0 (property_of c.args.node.now) c.args.part.level c.args.first c.args.part.birth c.args.birth c.args.part.pointer array (written c.args.writes.now array) blocks _ _
-          block c.deref.result.now e part c.in_ok-note.ensures.ok added.2 made.1.0 made.1.1.0 made.1.1.1
+          block c.deref.result.now e part c.in_ok-note.ensures.ok added.2 made.1.0 made.1.1.0 made.1.1.1.0 made.1.1.1.1
           (written_first c.args.writes.now array c.args.first c.index-writes-0.result c.requires.some here ∙ ap (λ bytes. Some bytes) (sym c.deref.ensures.value)),
     ))
     (ok_both c.plan_block.result _ _ c.plan_block.ensures.planned
-    (ok_both c.plan_block.result _ _ c.plan_block.ensures.asks (ok_both c.plan_block.result _ _ c.plan_block.ensures.fill c.plan_block.ensures.birth)))
+    (ok_both c.plan_block.result _ _ c.plan_block.ensures.asks (ok_both c.plan_block.result _ _ c.plan_block.ensures.fill (ok_both c.plan_block.result _ _ c.plan_block.ensures.birth c.plan_block.ensures.copies))))
 
 pub write_part-returns-in_err-parts-clause-known : goal.write_part-returns-in_err-parts-clause-known
 write_part-returns-in_err-parts-clause-known g t c =
@@ -143,16 +143,16 @@ write_parts-returns-clause-rewritten g t c =
     let all : c.loop-place.place ≡ 128 = omega (arith, c.loop-place-test.false, c.loop-place.auto.place-end, c.requires.from) in
     IfOk-weaker c.plan_block.result _ _
     (λ block made stored planned now array new_array before after noted plans rewritten has honest.
-    let planned_step = steps_plan c.loop-place.store c.plan_block.new.store c.args.missing.now c.plan_block.ensures.disks c.plan_block.ensures.out c.plan_block.ensures.shapes c.plan_block.ensures.keeps in
+    let planned_step = steps_plan c.loop-place.store c.plan_block.new.store c.args.missing.now c.plan_block.ensures.disks c.plan_block.ensures.out c.plan_block.ensures.shapes c.plan_block.ensures.filled c.plan_block.ensures.keeps in
     let there = c.loop-place.invariant.rewriting stored planned now array new_array before after noted plans rewritten has (true_sooner _ _ _ _ c.loop-place.invariant.steps planned_step honest) in
     let added = made.0.0 stored there.0 there.2 in
     let asks : Asks (asked_of (property_of c.args.node.now (suc c.args.parts.level)) c.args.birth) block = rw add-one at made.0.1 in (
       added.0,
       added.1,
       root_rewritten _ _ _ _ _ _ _ _ _ _ _ _ _ _ _ _ there.3 added.0 block _ all added.2 (subst (λ bytes. SpellsIndirect bytes c.loop-place.pointers) (sym c.deref.ensures.value) c.in_ok-bytes.ensures)
-          asks made.1.0 (made.1.1 ∙ c.in-Some.ensures.some),
+          asks made.1.0 (made.1.1.0 ∙ c.in-Some.ensures.some) made.1.1.1,
     ))
-    (ok_both c.plan_block.result _ _ (ok_both c.plan_block.result _ _ c.plan_block.ensures.planned c.plan_block.ensures.asks) (ok_both c.plan_block.result _ _ c.plan_block.ensures.birth c.plan_block.ensures.fill))
+    (ok_both c.plan_block.result _ _ (ok_both c.plan_block.result _ _ c.plan_block.ensures.planned c.plan_block.ensures.asks) (ok_both c.plan_block.result _ _ c.plan_block.ensures.birth (ok_both c.plan_block.result _ _ c.plan_block.ensures.fill c.plan_block.ensures.copies)))
 
 pub write_parts-returns-clause-no_room : goal.write_parts-returns-clause-no_room
 write_parts-returns-clause-no_room g t c =

@@ -10,4 +10,4 @@ decreases-write_parts g l = 2 * l.parts.level + 1
 
 abbrev pub invariant-write_parts-loop-place : goal.invariant-write_parts-loop-place
 invariant-write_parts-loop-place g l =
-    IsWritingParts l.initial.store l.store l.missing l.node l.level l.first l.bound l.birth l.from l.initial.pointers l.pointers l.writes l.rest l.place l.initial.replaced.items l.replaced.items
+    IsWritingParts l.copies l.initial.store l.store l.missing l.node l.level l.first l.bound l.birth l.from l.initial.pointers l.pointers l.writes l.rest l.place l.initial.replaced.items l.replaced.items

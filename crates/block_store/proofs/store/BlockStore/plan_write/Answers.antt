@@ -122,6 +122,28 @@ returns-clause-keeps g c =
     let inside = subst (λ (s : Store). OnlyTook c.args.self.now s c.args.new.property.sectors c.in_ok-places.places.items) (sym c.self.view_is) took in
     chosen_keeps c.args.self.now _ c.args.new.property.sectors c.in_ok-places.places.items inside.disks inside.out inside.chosen
 
+pub returns-clause-fits : goal.returns-clause-fits
+returns-clause-fits g c =
+    let took : OnlyTook c.args.self.now c.choose_places.new.self c.args.new.property.sectors c.in_ok-places.places.items = record {
+      disks = c.in_ok-places.ensures.disks;
+      out = c.in_ok-places.ensures.out;
+      due = c.in_ok-places.ensures.due;
+      chosen = c.in_ok-places.ensures.chosen;
+    } in
+    let store : IsStore c.choose_places.new.self = subst IsStore c.self.view_is c.self.invariant in
+    let copies : dvas c.copies_at.result ≡ c.in_ok-places.places.items = c.copies_at.ensures ∙ c.as_slice-2.ensures.value in
+    record {
+      copies = fits_copies c.choose_places.new.self.spaces c.choose_places.new.self.disks.starts c.args.new.property.sectors c.in_ok-places.places.items c.copies_at.result
+          c.requires.fits.property.not_empty store.laid_out
+          (places_in c.args.self.now c.choose_places.new.self c.args.new.property.sectors c.in_ok-places.places.items took) copies;
+      property = c.requires.fits.property;
+      born = c.requires.fits.born;
+      birth = search rules;
+      filled = c.requires.fits.filled;
+      fill = search rules;
+      fill_of_data = c.requires.fits.fill_of_data;
+    }
+
 pub returns-clause-planned : goal.returns-clause-planned
 returns-clause-planned g c stored planned plans =
     let took : OnlyTook c.args.self.now c.choose_places.new.self c.args.new.property.sectors c.in_ok-places.places.items = record {
@@ -142,17 +164,7 @@ returns-clause-planned g c stored planned plans =
       chosen = inside.chosen;
       copies_at = copies;
       written = record {
-        fits = record {
-          copies = fits_copies c.choose_places.new.self.spaces c.choose_places.new.self.disks.starts c.args.new.property.sectors c.in_ok-places.places.items c.copies_at.result
-              c.requires.fits.property.not_empty store.laid_out
-              (places_in c.args.self.now c.choose_places.new.self c.args.new.property.sectors c.in_ok-places.places.items took) copies;
-          property = c.requires.fits.property;
-          born = c.requires.fits.born;
-          birth = search rules;
-          filled = c.requires.fits.filled;
-          fill = search rules;
-          fill_of_data = c.requires.fits.fill_of_data;
-        };
+        fits = returns-clause-fits g c;
         size = c.requires.size;
         are_bytes = bytes_fit c.args.bytes.now c.type_inv.bytes;
         digest = sym c.digest.ensures;

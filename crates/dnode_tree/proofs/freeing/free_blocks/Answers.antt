@@ -1,0 +1,36 @@
+use Rattle.std.proofs.Common.{◌∙◌, subst}
+use Rattle.dnode_tree.proofs.FurtherReads.{reads_on, true_before, true_after, few_after}
+use Rattle.dnode_tree.proofs.Refusing.{passed_on}
+use Rattle.dnode_tree.proofs.WholeTree.{tree_later}
+use Rattle.dnode_tree.specs.Freeing.{AreOnlyIn}
+use Rattle.dnode_tree.proofs.freeing.free_blocks.Goals as goal
+
+pub returns-in_err-others-clause-known : goal.returns-in_err-others-clause-known
+returns-in_err-others-clause-known g c =
+    passed_on _ _ _ c.from_residual.ensures.1
+    (λ stored bound array later blocks others held tree le after honest few. c.in_err-others.ensures.known stored later others held after honest few)
+
+pub returns-in_err-blocks-clause-reads : goal.returns-in_err-blocks-clause-reads
+returns-in_err-blocks-clause-reads g c = reads_on _ _ _ _ c.in_ok-others.ensures.reads c.in_err-blocks.ensures.reads
+
+pub returns-in_err-blocks-clause-known : goal.returns-in_err-blocks-clause-known
+returns-in_err-blocks-clause-known g c =
+    passed_on _ _ _ c.from_residual-in_err-blocks.ensures.1
+    (λ stored bound array later blocks others held tree le after honest few.
+    c.in_err-blocks.ensures.known stored array blocks (c.in_ok-others.ensures.reads.keeps stored held) (tree_later stored bound c.args.birth c.args.before.now array blocks le tree)
+    (true_after _ _ _ _ c.in_ok-others.ensures.reads c.in_err-blocks.ensures.reads honest)
+    (few_after _ _ _ _ c.in_ok-others.ensures.reads c.in_err-blocks.ensures.reads few))
+
+pub returns-in_err-blocks_without-clause-reads : goal.returns-in_err-blocks_without-clause-reads
+returns-in_err-blocks_without-clause-reads g c = reads_on _ _ _ _ c.in_ok-others.ensures.reads c.in_ok-blocks.ensures.reads
+
+pub returns-clause-reads : goal.returns-clause-reads
+returns-clause-reads g c = reads_on _ _ _ _ c.in_ok-others.ensures.reads c.in_ok-blocks.ensures.reads
+
+pub returns-clause-freed : goal.returns-clause-freed
+returns-clause-freed g c = λ stored bound array later blocks others held tree le after honest.
+    let first = c.in_ok-others.ensures.blocks stored later others held after (true_before _ _ _ _ c.in_ok-others.ensures.reads c.in_ok-blocks.ensures.reads honest) in
+    let second = c.in_ok-blocks.ensures.blocks stored array blocks (c.in_ok-others.ensures.reads.keeps stored held) (tree_later stored bound c.args.birth c.args.before.now array blocks le tree)
+    (true_after _ _ _ _ c.in_ok-others.ensures.reads c.in_ok-blocks.ensures.reads honest) in
+    subst (λ bs. AreOnlyIn bs others c.in_ok-blocks_without.field-0.items) (c.deref.ensures.value ∙ second)
+    (subst (λ os. AreOnlyIn c.deref.result.now os c.in_ok-blocks_without.field-0.items) (c.deref-2.ensures.value ∙ first) c.in_ok-blocks_without.ensures)

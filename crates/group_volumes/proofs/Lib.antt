@@ -1,0 +1,4 @@
+mod Finding
+mod Sharing
+pub mod Spelling
+mod Writing

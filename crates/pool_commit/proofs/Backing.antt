@@ -1,0 +1,87 @@
+-- A state that backs a view: its kept groups, and what reads leave.
+use Rattle.std.proofs.Common.{ℕ, suc, ◌≡◌, ◌==◌, if◌then◌else◌, Bool, true, false, List, Option, Some, None, refl, sym, ap, ◌∙◌, subst}
+use Rattle.std.specs.Prelude.{cond}
+use Rattle.std.proofs.lemmas.Bool.{eq-eqb}
+use Rattle.raidz_io.specs.declared.writes.ColumnWrite.{ColumnWrite}
+use Rattle.block_store.specs.Blocks.{Contents}
+use Rattle.block_store.specs.Store.{Store, is_out}
+use Rattle.group_volumes.specs.declared.volumes.GroupVolumes.{GroupVolumes}
+use Rattle.group_volumes.specs.Volumes.{SpellsPool}
+use Rattle.pool_model.specs.Pools.{PlainPool}
+use Rattle.pool_model.specs.View.{View, Left, is_kept}
+use Rattle.volume_blocks.specs.Reading.{OnlyReadsBlocks}
+use Rattle.pool_commit.specs.declared.kept.Kept.{Kept}
+use Rattle.pool_commit.specs.declared.kept.Planned.{Planned}
+use Rattle.pool_commit.specs.Backs.{Backs, SpellsKept, IsPlanOf, left_calls}
+use Rattle.pool_commit.specs.Config.{vdevs_of}
+use Rattle.pool_commit.specs.Reading.{OnlyReadsPool}
+use Rattle.pool_commit.specs.State.{State, volumes_at}
+
+-- ---- kept groups
+
+kept_cases : (stored : Contents) (group : ℕ) (found : Option GroupVolumes) (volumes : GroupVolumes) (kept : Bool) (pool : PlainPool) → found ≡ Some volumes
+    → SpellsKept stored group found (if kept then Some pool else None) → (kept ≡ true) × SpellsPool stored group volumes pool
+kept_cases stored group found volumes kept pool is spells =
+    at kept (subst (λ (o : Option GroupVolumes). SpellsKept stored group o (if kept then Some pool else None)) is spells)
+  where
+    at : (kept : Bool) → SpellsKept stored group (Some volumes) (if kept then Some pool else None) → (kept ≡ true) × SpellsPool stored group volumes pool
+    at true spells = (refl, spells)
+    at false spells = absurd spells
+
+gone_cases : (stored : Contents) (group : ℕ) (found : Option GroupVolumes) (kept : Bool) (pool : PlainPool) → found ≡ None
+    → SpellsKept stored group found (if kept then Some pool else None) → kept ≡ false
+gone_cases stored group found kept pool is spells =
+    at kept (subst (λ (o : Option GroupVolumes). SpellsKept stored group o (if kept then Some pool else None)) is spells)
+  where
+    at : (kept : Bool) → SpellsKept stored group None (if kept then Some pool else None) → kept ≡ false
+    at true spells = absurd spells
+    at false spells = refl
+
+-- a group that has volumes is kept, and they spell its pool
+pub kept_spelled : (s : State) (v : View) (group : ℕ) (volumes : GroupVolumes) (backs : Backs s v) → volumes_at s.kept group ≡ Some volumes
+    → (is_kept v group ≡ true) × SpellsPool backs.blocks.stored group volumes (v.pools group)
+kept_spelled s v group volumes backs is =
+    kept_cases backs.blocks.stored group (volumes_at s.kept group) volumes (is_kept v group) (v.pools group) is (backs.blocks.kept group)
+
+pub not_kept : (s : State) (v : View) (group : ℕ) → Backs s v → volumes_at s.kept group ≡ None → is_kept v group ≡ false
+not_kept s v group backs is =
+    gone_cases backs.blocks.stored group (volumes_at s.kept group) (is_kept v group) (v.pools group) is (backs.blocks.kept group)
+
+last_at : (kept : Kept) → volumes_at kept kept.committed ≡ Some kept.last
+last_at kept =
+    ap (λ (b : Bool). cond b (Some kept.last) (if suc kept.committed == kept.committed then kept.before else (if suc (suc kept.committed) == kept.committed then kept.earliest else None)))
+    (eq-eqb kept.committed kept.committed refl)
+
+-- the committed group has the last ones
+pub last_spelled : (s : State) (v : View) (backs : Backs s v) → SpellsPool backs.blocks.stored v.committed s.kept.last (v.pools v.committed)
+last_spelled s v backs =
+    (kept_spelled s v v.committed s.kept.last backs (ap (volumes_at s.kept) (sym backs.committed) ∙ last_at s.kept)).1
+
+-- ---- reads
+
+plan_stays : (s : State) (store : Store) (planned : Contents) (plan : Option Planned) (v : View) → store.due ≡ s.store.due
+    → IsPlanOf s planned plan v → IsPlanOf (record s { store = store }) planned plan v
+plan_stays s store planned None v due is = is
+plan_stays s store planned (Some plan) v due is =
+    (is.0 ∙ ap (λ (writes : List ColumnWrite). Left (left_calls writes plan.flushes.items)) (sym due), is.1)
+
+backs_after : (s : State) (store : Store) (missing : List ℕ) (v : View) → OnlyReadsBlocks s.store store missing → Backs s v → Backs (record s { store = store }) v
+backs_after s store missing v reads backs = record {
+  vdevs = backs.vdevs ∙ sym (ap (λ (t : Store). vdevs_of t.spaces) reads.rest);
+  out = λ disk. backs.out disk ∙ sym (ap (λ (t : Store). is_out t.out disk) reads.rest);
+  committed = backs.committed;
+  blocks = record {
+    stored = backs.blocks.stored;
+    planned = backs.blocks.planned;
+    plans = reads.plans backs.blocks.stored backs.blocks.planned backs.blocks.plans;
+    kept = backs.blocks.kept;
+    plan = plan_stays s store backs.blocks.planned s.planned v (ap (λ (t : Store). t.due) reads.rest) backs.blocks.plan;
+  };
+}
+
+pub only_reads : (s : State) (store : Store) (missing : List ℕ) → OnlyReadsBlocks s.store store missing → OnlyReadsPool s (record s { store = store }) missing
+only_reads s store missing reads = record {
+  reads = reads.reads;
+  untouched = reads.untouched;
+  backs = λ v backs. backs_after s store missing v reads backs;
+}

@@ -1,0 +1,10 @@
+pub mod Backing
+pub mod Disks
+pub mod Keeping
+pub mod Made
+pub mod Planning
+pub mod Progressing
+pub mod ReadCauses
+pub mod ReadingBase
+pub mod Starting
+pub mod Tolerating

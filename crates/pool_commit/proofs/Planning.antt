@@ -1,0 +1,202 @@
+-- A plan that is begun, and what it has once it is made.
+use Rattle.std.proofs.Common.{ℕ, zero, suc, ◌≡◌, ◌⊎◌, ⊎_elim, ◌+◌, ◌-◌, ◌<◌, if◌then◌else◌, Bool, true, false, List, [], ◌∷◌, ◌++◌, map, Option, Some, None, Result, Ok, Err, OnErr, Contains, refl, sym, ap, ◌∙◌, subst, inl, inr, arith}
+use Rattle.std.specs.Prelude.{not, filter, slice_get}
+use Rattle.std.specs.List.{AllByRecursion}
+use Rattle.std.proofs.lemmas.Bool.{cases_lt}
+use Rattle.std.proofs.lemmas.List.Elements.{All-contains, Contains-append_left, Contains-append_right}
+use Rattle.raidz_io.specs.declared.vdev.Vdev.{Vdev as VdevOnDisks}
+use Rattle.raidz_io.specs.declared.writes.ColumnWrite.{ColumnWrite}
+use Rattle.raidz_io.proofs.Calls.{Contains-front, Contains-later, Contains-cases}
+use Rattle.raidz_io.proofs.Placed.{placed_at}
+use Rattle.block_store.specs.declared.shape.VdevShape.{VdevShape}
+use Rattle.block_store.specs.declared.space.VdevSpace.{VdevSpace}
+use Rattle.block_store.specs.Blocks.{Contents}
+use Rattle.block_store.specs.Places.{shapes_of}
+use Rattle.block_store.specs.Plans.{Plans}
+use Rattle.block_store.specs.Store.{Store, Holds, is_out}
+use Rattle.block_store.proofs.Writing.{found_at}
+use Rattle.group_volumes.specs.declared.volumes.GroupVolumes.{GroupVolumes}
+use Rattle.group_volumes.specs.Volumes.{SpellsPool, IsPlannedAs}
+use Rattle.pool_model.specs.declared.step.Phase.TheVariants.{Blocks, BlocksFlush}
+use Rattle.pool_model.specs.Machine.{due, IsPlan}
+use Rattle.pool_model.specs.Pools.{PlainPool, Entry, applied}
+use Rattle.pool_model.specs.View.{View, Vdev, DueCall, Sync, Left, is_planned, counted, disks_of, disks_in_use}
+use Rattle.volume_blocks.specs.Reading.{AnswersAreTrue}
+use Rattle.volume_blocks.specs.Writing.{OnlyReadsAndPlans}
+use Rattle.pool_commit.specs.declared.kept.Planned.{Planned}
+use Rattle.pool_commit.specs.Backs.{Backs, IsPlanOf, left_calls}
+use Rattle.pool_commit.specs.Config.{shown, vdevs_of}
+use Rattle.pool_commit.specs.State.{State}
+use Rattle.pool_commit.proofs.Backing.{last_spelled}
+use Rattle.pool_commit.proofs.Tolerating.{vdev_at}
+
+-- ---- disks in lists
+
+in_front : (keeps : Bool) (y x : ℕ) (kept : List ℕ) → (x ≡ y → keeps ≡ true) → (x ≡ y) ⊎ Contains kept x → Contains (if keeps then y ∷ kept else kept) x
+in_front true y x kept first held = ⊎_elim (λ same. rw same (Contains-front y kept)) (λ later. Contains-later y kept x later) held
+in_front false y x kept first held = ⊎_elim (λ same. absurd (let e : false ≡ true = first same in cc)) (λ later. later) held
+
+in_filter : (test : ℕ → Bool) (xs : List ℕ) (x : ℕ) → test x ≡ true → Contains xs x → Contains (filter test xs) x
+in_filter test [] x is held = held
+in_filter test (y ∷ xs) x is held =
+    in_front (test y) y x (filter test xs) (λ same. subst (λ (z : ℕ). test z ≡ true) same is)
+    (⊎_elim inl (λ later. inr (in_filter test xs x is later)) (Contains-cases y xs x held))
+
+in_counted : (first n child : ℕ) → child < n → Contains (counted first n) (first + child)
+in_counted first zero child below = absurd (omega arith)
+in_counted first (suc n) child below =
+    ⊎_elim (λ less. Contains-append_left (counted first n) ((first + n) ∷ []) (first + child) (in_counted first n child less))
+    (λ at_least. let last : child ≡ n = omega arith in
+    Contains-append_right (counted first n) ((first + n) ∷ []) (first + child)
+    (subst (λ (k : ℕ). Contains ((first + k) ∷ []) (first + child)) last (Contains-front (first + child) [])))
+    (cases_lt child n)
+
+in_disks : (vdevs : List Vdev) (v : ℕ) (vdev : Vdev) (disk : ℕ) → slice_get vdevs v ≡ Some vdev → Contains (counted vdev.first vdev.children) disk
+    → Contains (disks_of vdevs) disk
+in_disks [] v vdev disk found held = absurd (cc)
+in_disks (first ∷ vdevs) zero vdev disk found held =
+    let same : first ≡ vdev = cc in
+    Contains-append_left (counted first.first first.children) (disks_of vdevs) disk
+    (subst (λ (there : Vdev). Contains (counted there.first there.children) disk) (sym same) held)
+in_disks (first ∷ vdevs) (suc v) vdev disk found held =
+    Contains-append_right (counted first.first first.children) (disks_of vdevs) disk (in_disks vdevs v vdev disk found held)
+
+-- ---- the writes that are due
+
+-- each is to a disk of a vdev
+write_on_disk : (store : Store) (stored planned : Contents) (write : ColumnWrite) → Plans store stored planned → Contains store.due write
+    → Contains (disks_of (vdevs_of store.spaces)) write.disk
+write_on_disk store stored planned write plans held =
+    let one = plans.due write held in
+    let way = plans.on_the_way one.block one.bytes one.i one.extent one.is_planned one.is_new one.is_copy in
+    let at = found_at (plans.writes_of one.block one.i) write one.is_of_copy in
+    let is = way.columns at.0 write at.1 in
+    let placed = placed_at one.extent at.0 is.column is.below is.is_column in
+    let there = one.is_copy.extent_is in
+    let among : Contains (counted one.extent.vdev.first one.extent.vdev.geometry.children) write.disk =
+    subst (λ (disk : ℕ). Contains (counted one.extent.vdev.first one.extent.vdev.geometry.children) disk) (sym is.disk)
+    (in_counted one.extent.vdev.first one.extent.vdev.geometry.children is.column.child placed.child) in
+    in_disks (vdevs_of store.spaces) one.is_copy.place.vdev (shown there.space.shape.vdev) write.disk
+    (vdev_at store.spaces one.is_copy.place.vdev there.space there.found)
+    (subst (λ (vdev : VdevOnDisks). Contains (counted vdev.first vdev.geometry.children) write.disk) there.vdev among)
+
+here : {A : Type 0} (x : A) (xs : List A) → Contains (x ∷ xs) x
+here x xs = (0, omega arith, refl)
+
+behind : {A : Type 0} (x : A) (xs : List A) (y : A) → Contains xs y → Contains (x ∷ xs) y
+behind x xs y (k, within, is) = (suc k, omega arith, is)
+
+all_disks : (P : ℕ → Type 0) (writes : List ColumnWrite) → ((write : ColumnWrite) → Contains writes write → P write.disk)
+    → AllByRecursion P (map (λ write. write.disk) writes)
+all_disks P [] each = tt
+all_disks P (write ∷ writes) each = (each write (here write writes), all_disks P writes (λ other held. each other (behind write writes other held)))
+
+calls_of_disks : (writes : List ColumnWrite) → map (λ write. due Blocks write.disk) writes ≡ map (due Blocks) (map (λ write. write.disk) writes)
+calls_of_disks [] = refl
+calls_of_disks (write ∷ writes) = ap (λ (calls : List DueCall). due Blocks write.disk ∷ calls) (calls_of_disks writes)
+
+same_vdevs : (spaces others : List VdevSpace) → shapes_of others ≡ shapes_of spaces → vdevs_of others ≡ vdevs_of spaces
+same_vdevs spaces others same = ap (λ (shapes : List VdevShape). map (λ shape. shown shape.vdev) shapes) same
+
+-- writes to disks in use, and then their flushes
+is_plan : (old new : Store) (v : View) (flushes : List ℕ) (stored planned : Contents) → v.vdevs ≡ vdevs_of old.spaces → ((disk : ℕ) → v.out disk ≡ is_out old.out disk)
+    → old.due ≡ [] → OnlyReadsAndPlans old new → Plans new stored planned
+    → flushes ≡ filter (λ disk. not (is_out old.out disk)) (disks_of (vdevs_of old.spaces)) → IsPlan v (left_calls new.due flushes)
+is_plan old new v flushes stored planned vdevs out none kept plans are =
+    let all : disks_in_use v ≡ filter (λ disk. not (is_out old.out disk)) (disks_of (vdevs_of old.spaces)) = λ i. filter (λ disk. not (out disk i)) (disks_of (vdevs i)) in
+    let only : new.due ≡ kept.added = kept.due ∙ ap (λ (writes : List ColumnWrite). writes ++ kept.added) none in
+    record {
+      writes = map (λ write. write.disk) new.due;
+      in_use = all_disks (Contains (disks_in_use v)) new.due (λ write held.
+          in_filter (λ disk. not (v.out disk)) (disks_of v.vdevs) write.disk
+          (ap not (out write.disk ∙ All-contains (λ (w : ColumnWrite). is_out old.out w.disk ≡ false) kept.added write kept.in_use
+          (subst (λ (writes : List ColumnWrite). Contains writes write) only held)))
+          (subst (λ (list : List Vdev). Contains (disks_of list) write.disk) (same_vdevs old.spaces new.spaces kept.shapes ∙ sym vdevs)
+          (write_on_disk new stored planned write plans held)));
+      order = ap (λ (calls : List DueCall). calls ++ map (due BlocksFlush) flushes) (calls_of_disks new.due)
+          ∙ ap (λ (disks : List ℕ). map (due Blocks) (map (λ write. write.disk) new.due) ++ map (due BlocksFlush) disks) (are ∙ sym all);
+    }
+
+-- ---- states
+
+-- what holds, holds at an error
+pub at_error : {T E : Type 0} (result : Result T E) (P : Type 0) → P → OnErr result P
+at_error (Ok x) P h = tt
+at_error (Err e) P h = h
+
+-- where a plan was begun, the one before it is dropped
+pub backs_begun : (s : State) (store : Store) (v : View) → store.out ≡ s.store.out → shapes_of store.spaces ≡ shapes_of s.store.spaces
+    → ((stored : Contents) → Holds s.store stored → Plans store stored stored) → (sync : Sync) → is_planned sync ≡ false → Backs s v
+    → Backs (record { store = store; kept = s.kept; planned = None }) (record v { sync = sync })
+backs_begun s store v out shapes plans sync none backs = record {
+  vdevs = backs.vdevs ∙ sym (same_vdevs s.store.spaces store.spaces shapes);
+  out = λ disk. backs.out disk ∙ sym (ap (λ (list : List Bool). is_out list disk) out);
+  committed = backs.committed;
+  blocks = record {
+    stored = backs.blocks.stored;
+    planned = backs.blocks.stored;
+    plans = plans backs.blocks.stored backs.blocks.plans.held;
+    kept = backs.blocks.kept;
+    plan = none;
+  };
+}
+
+-- and where more was planned since, but no plan was made
+pub backs_still : (s : State) (new : Store) (v : View) → s.planned ≡ None → OnlyReadsAndPlans s.store new → Backs s v
+    → Backs (record s { store = new }) v
+backs_still s new v no_plan kept backs =
+    let there = kept.plans backs.blocks.stored backs.blocks.planned backs.blocks.plans in
+    record {
+      vdevs = backs.vdevs ∙ sym (same_vdevs s.store.spaces new.spaces kept.shapes);
+      out = λ disk. backs.out disk ∙ sym (ap (λ (list : List Bool). is_out list disk) kept.out);
+      committed = backs.committed;
+      blocks = record {
+        stored = backs.blocks.stored;
+        planned = there.0;
+        plans = there.1;
+        kept = backs.blocks.kept;
+        plan = none_is_left s new backs.blocks.planned there.0 s.planned v no_plan backs.blocks.plan;
+      };
+    }
+  where
+    none_is_left : (s : State) (new : Store) (planned later : Contents) (plan : Option Planned) (v : View) → plan ≡ None → IsPlanOf s planned plan v
+        → IsPlanOf (record s { store = new }) later plan v
+    none_is_left s new planned later None v no_plan is = is
+    none_is_left s new planned later (Some plan) v no_plan is = absurd (cc)
+
+-- a group's volumes, once its writes were planned
+abbrev pub IsAfter : Store → Store → ℕ → GroupVolumes → Entry → GroupVolumes → Type 0
+IsAfter old new group last items after =
+    (stored planned : Contents) (pool : PlainPool) → Plans old stored planned → SpellsPool stored (group - 1) last pool → AnswersAreTrue old new
+    → IsPlannedAs new stored planned group after (applied group pool items)
+
+pub plan_is_backed : (s : State) (new : Store) (group : ℕ) (last : GroupVolumes) (plan : Planned) (items : Entry) (v : View) → Backs s v → s.store.due ≡ []
+    → group ≡ suc v.committed → last ≡ s.kept.last → items ≡ v.ledger (suc v.committed)
+    → plan.flushes.items ≡ filter (λ disk. not (is_out s.store.out disk)) (disks_of (vdevs_of s.store.spaces))
+    → OnlyReadsAndPlans s.store new → AnswersAreTrue s.store new → IsAfter s.store new group last items plan.volumes
+    → (calls : List DueCall) × IsPlan v calls × Backs (record { store = new; kept = s.kept; planned = Some plan }) (record v { sync = Left calls })
+plan_is_backed s new group last plan items v backs none next is_last are flushes kept honest after =
+    let before : group - 1 ≡ v.committed = omega arith in
+    let pool : PlainPool = v.pools v.committed in
+    let spelled : SpellsPool backs.blocks.stored (group - 1) last pool =
+    subst (λ (n : ℕ). SpellsPool backs.blocks.stored n last pool) (sym before)
+    (subst (λ (volumes : GroupVolumes). SpellsPool backs.blocks.stored v.committed volumes pool) (sym is_last) (last_spelled s v backs)) in
+    let there = after backs.blocks.stored backs.blocks.planned pool backs.blocks.plans spelled honest in
+    let spells : SpellsPool there.later (suc v.committed) plan.volumes (applied (suc v.committed) pool (v.ledger (suc v.committed))) =
+    subst (λ (entry : Entry). SpellsPool there.later (suc v.committed) plan.volumes (applied (suc v.committed) pool entry)) are
+    (subst (λ (n : ℕ). SpellsPool there.later n plan.volumes (applied n pool items)) next there.spells) in (
+      left_calls new.due plan.flushes.items,
+      is_plan s.store new v plan.flushes.items backs.blocks.stored there.later backs.vdevs backs.out none kept there.plans flushes,
+      record {
+        vdevs = backs.vdevs ∙ sym (same_vdevs s.store.spaces new.spaces kept.shapes);
+        out = λ disk. backs.out disk ∙ sym (ap (λ (list : List Bool). is_out list disk) kept.out);
+        committed = backs.committed;
+        blocks = record {
+          stored = backs.blocks.stored;
+          planned = there.later;
+          plans = there.plans;
+          kept = backs.blocks.kept;
+          plan = (refl, spells);
+        };
+      },
+    )

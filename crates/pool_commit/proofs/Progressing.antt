@@ -1,0 +1,180 @@
+-- What backs the view after device calls of a plan.
+use Rattle.std.proofs.Common.{rules, ◌≡◌, ◌⊎◌, ℕ, suc, ◌≤◌, ◌<◌, ◌^◌, Bool, true, false, List, [], ◌∷◌, ◌++◌, length, Option, Some, None, refl, sym, ap, ◌∙◌, subst, arith, inl, inr, append_assoc}
+use Rattle.std.specs.Prelude.{◌||◌, ◌==◌, map, min}
+use Rattle.std.specs.List.{AllByRecursion}
+use Rattle.std.proofs.lemmas.Bool.Decides.{nat_tests}
+use Rattle.std.proofs.lemmas.List.{append-nil, length-append}
+use Rattle.model_disk.specs.Joint.{Disks}
+use Rattle.block_store.specs.Places.{shapes_of}
+use Rattle.block_store.specs.declared.shape.VdevShape.{VdevShape}
+use Rattle.block_store.specs.declared.space.VdevSpace.{VdevSpace}
+use Rattle.block_store.specs.Store.{Store, is_out}
+use Rattle.group_volumes.specs.declared.volumes.GroupVolumes.{GroupVolumes}
+use Rattle.group_volumes.specs.Volumes.{SpellsPool}
+use Rattle.pool_model.specs.declared.step.Phase.{Phase}
+use Rattle.pool_model.specs.View.{View, DueCall, Left}
+use Rattle.pool_model.specs.Machine.{due, MakesAll, committed_next, dropped}
+use Rattle.pool_commit.specs.declared.device.Progress.{Progress}
+use Rattle.pool_commit.specs.declared.device.Progress.TheVariants.{Moved, Done, Dropped}
+use Rattle.pool_commit.specs.declared.kept.Kept.{Kept}
+use Rattle.pool_commit.specs.declared.kept.Planned.{Planned}
+use Rattle.pool_commit.specs.Backs.{Backs, IsPlanOf, SpellsKept, kept_pool, left_calls, pool_after}
+use Rattle.pool_commit.specs.Calls.{made_between, faults_between}
+use Rattle.pool_commit.specs.Config.{shown, vdevs_of}
+use Rattle.pool_commit.specs.HasDisks.{AreBelow, HasDisks}
+use Rattle.pool_commit.specs.Making.{MadeCalls, FailedCall}
+use Rattle.pool_commit.specs.Progress.{Progresses, GoesOn, DropsPlan, with_plan}
+use Rattle.pool_commit.specs.State.{State, volumes_at}
+use Rattle.pool_commit.proofs.Keeping.{kept_next}
+
+-- only the shapes of the vdevs matter
+pub vdevs_by_shapes : (spaces others : List VdevSpace) → shapes_of others ≡ shapes_of spaces → vdevs_of others ≡ vdevs_of spaces
+vdevs_by_shapes spaces others e = ap (λ (shapes : List VdevShape). map (λ (shape : VdevShape). shown shape.vdev) shapes) e
+
+-- more is left behind the calls that are looked at
+pub with_tail : (old mid : Store) (left rest tail : List DueCall) (phase : Phase) (n : ℕ) → MadeCalls old mid left rest phase n → MadeCalls old mid (left ++ tail) (rest ++ tail) phase n
+with_tail old mid left rest tail phase n made = record {
+  same = made.same;
+  out = made.out;
+  order = ap (λ xs. xs ++ tail) made.order ∙ append_assoc (made_between old.disks mid.disks) rest tail;
+  count = made.count;
+  in_phase = made.in_phase;
+  faults = made.faults;
+}
+
+pub failed_tail : (old mid : Store) (left tail : List DueCall) (phase : Phase) (disk : ℕ) → FailedCall old mid left phase disk → FailedCall old mid (left ++ tail) phase disk
+failed_tail old mid left tail phase disk failed = record {
+  same = failed.same;
+  out = failed.out;
+  before = failed.before;
+  rest = failed.rest ++ tail;
+  made = failed.made;
+  order = ap (λ xs. xs ++ tail) failed.order ∙ append_assoc (made_between old.disks mid.disks) failed.rest tail;
+  few = failed.few;
+  in_phase = failed.in_phase;
+  faults = failed.faults;
+}
+
+-- calls were made, and the plan goes on or is done
+pub goes_on : (old : State) (mid : Store) (plan later : Planned) (v : View) (phase : Phase) (n : ℕ) (progress : Progress) (new : State)
+    → Backs (with_plan old plan) v → v.committed < 2 ^ 62 → (0 < n) ⊎ (left_calls old.store.due plan.flushes.items ≡ []) → n ≤ 4
+    → MadeCalls old.store mid (left_calls old.store.due plan.flushes.items) (left_calls mid.due later.flushes.items) phase n → later.volumes ≡ plan.volumes
+    → GoesOn (record { store = mid; kept = old.kept; planned = None }) later phase progress new → Progresses old progress new v
+goes_on old mid plan later v phase n (Moved moved) new backs low some few made volumes goes =
+    let rest : List DueCall = left_calls mid.due later.flushes.items in
+    let calls : List DueCall = made_between old.store.disks mid.disks in
+    let next : State = record { store = mid; kept = old.kept; planned = Some later } in
+    subst (λ (s : State). Progresses old (Moved moved) s v) (sym goes.2) (
+      rest,
+      backs.blocks.plan.0 ∙ ap Left made.order,
+      record { order = refl; some = made_some some; few = omega (arith, made.count, few); same = subst (λ (p : Phase). AllByRecursion (λ (call : DueCall). call.phase ≡ p) calls) (sym goes.0) made.in_phase },
+      goes.1,
+      made.faults,
+      record {
+        vdevs = backs.vdevs ∙ ap (λ (spaces : List VdevSpace). vdevs_of spaces) (sym made.same.spaces);
+        out = λ disk. backs.out disk ∙ ap (λ (out : List Bool). is_out out disk) (sym made.out);
+        committed = backs.committed;
+        blocks = record {
+          stored = backs.blocks.stored;
+          planned = backs.blocks.planned;
+          plans = made.same.plans backs.blocks.stored backs.blocks.planned backs.blocks.plans;
+          kept = backs.blocks.kept;
+          plan = (refl, subst (λ (g : GroupVolumes). SpellsPool backs.blocks.planned (suc v.committed) g (pool_after v)) (sym volumes) backs.blocks.plan.1);
+        };
+      },
+    )
+  where
+    made_some : (0 < n) ⊎ (left_calls old.store.due plan.flushes.items ≡ []) → 0 < length (made_between old.store.disks mid.disks)
+    made_some (inl above) = omega (arith, made.count, above)
+    made_some (inr none) = absurd (omega (arith, goes.1, ap length made.order, ap length none, length-append (made_between old.store.disks mid.disks) (left_calls mid.due later.flushes.items)))
+goes_on old mid plan later v phase n Done new backs low some few made volumes goes =
+    let calls : List DueCall = made_between old.store.disks mid.disks in
+    let same : calls ≡ made_between old.store.disks new.store.disks = ap (λ (d : Disks). made_between old.store.disks d) (sym goes.2.disks) in
+    let order : left_calls old.store.due plan.flushes.items ≡ calls = made.order ∙ ap (λ xs. calls ++ xs) goes.0 ∙ append-nil calls in
+    let all : MakesAll calls = makes_all some in (
+      backs.blocks.plan.0 ∙ ap Left (order ∙ same),
+      subst MakesAll same all,
+      ap (λ (d : Disks). faults_between old.store.disks d) goes.2.disks ∙ made.faults,
+      record {
+        vdevs = backs.vdevs ∙ ap (λ (spaces : List VdevSpace). vdevs_of spaces) (sym made.same.spaces) ∙ sym (vdevs_by_shapes mid.spaces new.store.spaces goes.2.shapes);
+        out = λ disk. backs.out disk ∙ ap (λ (out : List Bool). is_out out disk) (sym (goes.2.out ∙ made.out));
+        committed = goes.3.committed (subst (λ c. c < 2 ^ 62) (sym backs.committed) low) ∙ ap suc backs.committed;
+        blocks = record {
+          stored = backs.blocks.planned;
+          planned = backs.blocks.planned;
+          plans = goes.2.plans backs.blocks.stored backs.blocks.planned (made.same.plans backs.blocks.stored backs.blocks.planned backs.blocks.plans);
+          kept = kept_next v old.kept new.kept backs.blocks.stored backs.blocks.planned backs.committed
+              (goes.3.committed (subst (λ c. c < 2 ^ 62) (sym backs.committed) low) ∙ ap suc backs.committed) goes.3.before goes.3.earliest backs.blocks.plans.kept
+              (subst (λ (g : GroupVolumes). SpellsPool backs.blocks.planned (suc v.committed) g (pool_after v)) (sym (goes.3.last ∙ volumes)) backs.blocks.plan.1) backs.blocks.kept;
+          plan = subst (λ (o : Option Planned). IsPlanOf new backs.blocks.planned o (committed_next v)) (sym goes.4) refl;
+        };
+      },
+    )
+  where
+    makes_all : (0 < n) ⊎ (left_calls old.store.due plan.flushes.items ≡ []) → MakesAll (made_between old.store.disks mid.disks)
+    makes_all (inl above) = inr (phase, record { order = sym (append-nil (made_between old.store.disks mid.disks)); some = omega (arith, made.count, above); few = omega (arith, made.count, few); same = made.in_phase })
+    makes_all (inr none) = inl (sym (append-nil (made_between old.store.disks mid.disks)) ∙ ap (λ xs. made_between old.store.disks mid.disks ++ xs) (sym goes.0) ∙ sym made.order ∙ none)
+goes_on old mid plan later v phase n (Dropped disk) new backs low some few made volumes goes = absurd goes
+
+-- a call failed, and the plan is dropped
+pub drops : (old : State) (mid : Store) (plan : Planned) (v : View) (phase : Phase) (disk : ℕ) (new : State)
+    → Backs (with_plan old plan) v → FailedCall old.store mid (left_calls old.store.due plan.flushes.items) phase disk
+    → DropsPlan mid new.store → new.kept ≡ old.kept → new.planned ≡ None → Progresses old (Dropped disk) new v
+drops old mid plan v phase disk new backs failed drop kept none =
+    let made : made_between old.store.disks new.store.disks ≡ failed.before ++ due phase disk ∷ [] = ap (λ (d : Disks). made_between old.store.disks d) drop.disks ∙ failed.made in
+    let order : left_calls old.store.due plan.flushes.items ≡ made_between old.store.disks new.store.disks ++ failed.rest =
+    failed.order ∙ ap (λ (d : Disks). made_between old.store.disks d ++ failed.rest) (sym drop.disks) in (
+      failed.rest,
+      backs.blocks.plan.0 ∙ ap Left order,
+      λ full. record {
+        left = left_calls old.store.due plan.flushes.items;
+        planned = backs.blocks.plan.0;
+        before = failed.before;
+        rest = failed.rest;
+        phase = phase;
+        makes = record {
+          order = order ∙ ap (λ xs. xs ++ failed.rest) made;
+          some = subst (λ (xs : List DueCall). 0 < length xs) failed.made (one_some old.store mid failed);
+          few = subst (λ (xs : List DueCall). length xs ≤ 4) failed.made failed.few;
+          same = subst (λ (xs : List DueCall). AllByRecursion (λ (call : DueCall). call.phase ≡ phase) xs) failed.made failed.in_phase;
+        };
+        failed = ap (λ (d : Disks). faults_between old.store.disks d) drop.disks ∙ failed.faults;
+      },
+      record {
+        vdevs = backs.vdevs ∙ ap (λ (spaces : List VdevSpace). vdevs_of spaces) (sym failed.same.spaces) ∙ sym (vdevs_by_shapes mid.spaces new.store.spaces drop.shapes);
+        out = λ other. out_too (v.out other) (is_out old.store.out other) (is_out mid.out other) (other == disk) (is_out new.store.out other) (backs.out other) (failed.out.disks other)
+            (ap (λ (out : List Bool). is_out out other) drop.out);
+        committed = ap (λ (k : Kept). k.committed) kept ∙ backs.committed;
+        blocks = record {
+          stored = backs.blocks.stored;
+          planned = backs.blocks.stored;
+          plans = drop.plans backs.blocks.stored backs.blocks.planned (failed.same.plans backs.blocks.stored backs.blocks.planned backs.blocks.plans);
+          kept = subst (λ (k : Kept). (group : ℕ) → SpellsKept backs.blocks.stored group (volumes_at k group) (kept_pool v group)) (sym kept) backs.blocks.kept;
+          plan = subst (λ (o : Option Planned). IsPlanOf new backs.blocks.stored o (dropped v disk)) (sym none) refl;
+        };
+      },
+    )
+  where
+    one_some : (old mid : Store) → FailedCall old mid (left_calls old.due plan.flushes.items) phase disk → 0 < length (made_between old.disks mid.disks)
+    one_some old mid f = subst (λ (xs : List DueCall). 0 < length xs) (sym f.made) (omega (arith, length-append f.before (due phase disk ∷ [])))
+
+    out_too : (a b m e n : Bool) → a ≡ b → m ≡ (b || e) → n ≡ m → (e || a) ≡ n
+    out_too true true true true true p q r = refl
+    out_too true true true false true p q r = refl
+    out_too false false true true true p q r = refl
+    out_too false false false false false p q r = refl
+    out_too a b m e n p q r = search rules
+
+pub some_few : (n : ℕ) → 0 < n → (0 < min n 4) × (min n 4 ≤ 4)
+some_few n some = (grind (arith, nat_tests, some), grind (arith, nat_tests, some))
+
+pub there_still : (count : ℕ) (p : Planned) → AreBelow count p.flushes.items → HasDisks count (Some p)
+there_still count p below plan is = let same : p ≡ plan = cc in subst (λ (q : Planned). AreBelow count q.flushes.items) same below
+
+-- some flushes, or none are left
+pub some_or_none : (flushes : List ℕ) → (0 < min (length flushes) 4) ⊎ (left_calls [] flushes ≡ [])
+some_or_none [] = inr refl
+some_or_none (disk ∷ flushes) = inl (some_few (length (disk ∷ flushes)) (omega arith)).0
+
+pub few_of : (n : ℕ) → min n 4 ≤ 4
+few_of n = grind (arith, nat_tests)

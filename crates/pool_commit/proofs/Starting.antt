@@ -1,0 +1,77 @@
+-- The empty pool, as it is made.
+use Rattle.std.proofs.Common.{◌≡◌, ◌≢◌, ℕ, ◌+◌, List, [], ◌∷◌, Option, Some, None, false, refl, sym, ap, subst, arith, inl, inr}
+use Rattle.std.specs.Prelude.{map}
+use Rattle.std.proofs.lemmas.Bool.{cases_eq}
+use Rattle.std.proofs.lemmas.Bool.Decides.{nat_tests}
+use Rattle.raidz_map.specs.declared.geometry.Geometry.{Geometry}
+use Rattle.raidz_io.specs.declared.vdev.Vdev.{Vdev as VdevOnDisks}
+use Rattle.block_store.specs.declared.create.VdevConfig.{VdevConfig}
+use Rattle.block_store.specs.declared.shape.VdevShape.{VdevShape}
+use Rattle.block_store.specs.Config.{AreShapes}
+use Rattle.block_store.specs.Places.{shapes_of}
+use Rattle.block_store.specs.Blocks.{Contents, nothing_stored}
+use Rattle.block_store.specs.Plans.{Plans}
+use Rattle.block_store.specs.Store.{Store, is_out}
+use Rattle.group_volumes.specs.declared.volumes.GroupVolumes.{GroupVolumes}
+use Rattle.group_volumes.specs.Volumes.{SpellsPool}
+use Rattle.pool_model.specs.Pools.{PlainPool}
+use Rattle.pool_model.specs.View.{Vdev, started}
+use Rattle.pool_commit.specs.declared.kept.Kept.{Kept}
+use Rattle.pool_commit.specs.Backs.{Backs, SpellsKept, kept_pool}
+use Rattle.pool_commit.specs.Config.{shown, vdevs_from}
+use Rattle.pool_commit.specs.State.{volumes_at}
+
+vdev_is : (first : ℕ) (config : Geometry) (vdev : VdevOnDisks) → vdev.first ≡ first → vdev.geometry ≡ config
+    → record { first = first; children = config.children; parity = config.parity } ≡ shown vdev
+vdev_is first config vdev f e =
+    (λ i. record { first = sym f i; children = (ap (λ (g : Geometry). g.children) (sym e)) i; parity = (ap (λ (g : Geometry). g.parity) (sym e)) i })
+
+vdevs_made : (starts : List (List ℕ)) (first : ℕ) (configs : List VdevConfig) (shapes : List VdevShape) → AreShapes starts first configs shapes
+    → vdevs_from first configs ≡ map (λ (shape : VdevShape). shown shape.vdev) shapes
+vdevs_made starts first [] [] are = refl
+vdevs_made starts first [] (shape ∷ shapes) are = absurd are
+vdevs_made starts first (config ∷ configs) [] are = absurd are
+vdevs_made starts first (config ∷ configs) (shape ∷ shapes) are =
+    (λ i. vdev_is first config.geometry shape.vdev are.0.first_is are.0.geometry i ∷ vdevs_made starts (first + config.geometry.children) configs shapes are.1 i)
+
+-- group 3 is kept, and no other
+kept_first : (kept : Kept) (vdevs : List Vdev) → kept.committed ≡ 3 → kept.before ≡ None → kept.earliest ≡ None
+    → ((stored : Contents) (birth : ℕ) → SpellsPool stored birth kept.last []) → (group : ℕ)
+    → SpellsKept nothing_stored group (volumes_at kept group) (kept_pool (started vdevs) group)
+kept_first kept vdevs c b e empty group = elim (cases_eq group 3) [
+  | inl at ↦
+      subst (λ (o : Option GroupVolumes). SpellsKept nothing_stored group o (kept_pool (started vdevs) group)) (sym (there at))
+      (subst (λ (o : Option PlainPool). SpellsKept nothing_stored group (Some kept.last) o) (sym (pool_there at)) (empty nothing_stored group))
+  | inr other ↦
+      subst (λ (o : Option GroupVolumes). SpellsKept nothing_stored group o (kept_pool (started vdevs) group)) (sym (gone other))
+      (subst (λ (o : Option PlainPool). SpellsKept nothing_stored group None o) (sym (pool_gone other)) tt)
+]
+  where
+    there : group ≡ 3 → volumes_at kept group ≡ Some kept.last
+    there at = grind (arith, nat_tests, c, at)
+
+    pool_there : group ≡ 3 → kept_pool (started vdevs) group ≡ Some []
+    pool_there at = grind (arith, nat_tests, at)
+
+    gone : group ≢ 3 → volumes_at kept group ≡ None
+    gone other = grind (arith, nat_tests, c, b, e, other)
+
+    pool_gone : group ≢ 3 → kept_pool (started vdevs) group ≡ None
+    pool_gone other = grind (arith, nat_tests, other)
+
+pub starts : (store : Store) (kept : Kept) (configs : List VdevConfig) → AreShapes store.disks.starts 0 configs (shapes_of store.spaces)
+    → ((disk : ℕ) → is_out store.out disk ≡ false) → Plans store nothing_stored nothing_stored → kept.committed ≡ 3 → kept.before ≡ None → kept.earliest ≡ None
+    → ((stored : Contents) (birth : ℕ) → SpellsPool stored birth kept.last [])
+    → Backs (record { store = store; kept = kept; planned = None }) (started (vdevs_from 0 configs))
+starts store kept configs shapes out plans c b e empty = record {
+  vdevs = vdevs_made store.disks.starts 0 configs (shapes_of store.spaces) shapes;
+  out = λ disk. sym (out disk);
+  committed = c;
+  blocks = record {
+    stored = nothing_stored;
+    planned = nothing_stored;
+    plans = plans;
+    kept = kept_first kept (vdevs_from 0 configs) c b e empty;
+    plan = refl;
+  };
+}

@@ -1,0 +1,160 @@
+-- Disks that are lost, and disks that are absent.
+use Rattle.std.proofs.Common.{ℕ, zero, suc, ◌≡◌, ◌⊎◌, ⊎_elim, ◌+◌, ◌≤◌, ◌<◌, ◌==◌, ◌&&◌, ◌||◌, nat_le, if◌then◌else◌, Bool, true, false, List, [], ◌∷◌, ◌++◌, length, Some, Contains, refl, sym, ap, ◌∙◌, subst, inl, inr, arith}
+use Rattle.std.specs.Prelude.{slice_get}
+use Rattle.std.specs.List.{list_any, list_all}
+use Rattle.std.specs.Option.{option_map}
+use Rattle.std.proofs.lemmas.Bool.{eq-eqb, cases_lt}
+use Rattle.std.proofs.lemmas.Bool.Decides.{nat_tests}
+use Rattle.std.proofs.lemmas.List.{length-append}
+use Rattle.std.proofs.lemmas.List.Elements.{Contains-append_left, Contains-append_right, Contains-append_cases}
+use Rattle.std.proofs.lemmas.Option.{slice_get-map}
+use Rattle.model_disk.specs.Call.{is_failed}
+use Rattle.model_disk.specs.Joint.{JointCall, failed_since}
+use Rattle.raidz_io.proofs.Calls.{Contains-front, Contains-cases, Contains-none}
+use Rattle.block_store.specs.declared.shape.VdevShape.{VdevShape}
+use Rattle.block_store.specs.declared.space.VdevSpace.{VdevSpace}
+use Rattle.block_store.specs.Places.{shapes_of}
+use Rattle.block_store.specs.Reading.{AreTolerable}
+use Rattle.block_store.specs.Store.{Store, outs, is_out}
+use Rattle.block_store.proofs.Outs.{in_is_out}
+use Rattle.pool_model.specs.View.{View, Vdev, lost_in, is_tolerable}
+use Rattle.volume_blocks.specs.Reading.{FewAreAbsent as FewAreAbsentSince}
+use Rattle.pool_commit.specs.Calls.{faults_since, faults_between}
+use Rattle.pool_commit.specs.Config.{shown, vdevs_of}
+use Rattle.pool_commit.specs.Reading.{is_lost, TooManyAreLost}
+use Rattle.pool_commit.specs.State.{State}
+
+-- ---- the lost disks of a vdev
+
+abbrev one_if : Bool → ℕ → List ℕ
+one_if lost disk = if lost then disk ∷ [] else []
+
+abbrev lost_disks : (ℕ → Bool) → ℕ → ℕ → List ℕ
+lost_disks lost first zero = []
+lost_disks lost first (suc n) = lost_disks lost first n ++ one_if (lost (first + n)) (first + n)
+
+length_one : (lost : Bool) (disk : ℕ) → length (one_if lost disk) ≡ (if lost then 1 else 0)
+length_one true disk = refl
+length_one false disk = refl
+
+length_lost : (lost : ℕ → Bool) (first n : ℕ) → length (lost_disks lost first n) ≡ lost_in lost first n
+length_lost lost first zero = refl
+length_lost lost first (suc n) =
+    length-append (lost_disks lost first n) (one_if (lost (first + n)) (first + n))
+    ∙ ap (λ k. k + length (one_if (lost (first + n)) (first + n))) (length_lost lost first n)
+    ∙ ap (λ k. lost_in lost first n + k) (length_one (lost (first + n)) (first + n))
+
+in_one : (lost : Bool) (disk : ℕ) → lost ≡ true → Contains (one_if lost disk) disk
+in_one true disk is = Contains-front disk []
+in_one false disk is = absurd (cc)
+
+among_lost : (lost : ℕ → Bool) (first n child : ℕ) → child < n → lost (first + child) ≡ true → Contains (lost_disks lost first n) (first + child)
+among_lost lost first zero child below is = absurd (omega arith)
+among_lost lost first (suc n) child below is =
+    ⊎_elim
+    (λ less. Contains-append_left (lost_disks lost first n) (one_if (lost (first + n)) (first + n)) (first + child) (among_lost lost first n child less is))
+    (λ at_least. let last : child ≡ n = omega arith in
+    Contains-append_right (lost_disks lost first n) (one_if (lost (first + n)) (first + n)) (first + child)
+    (subst (λ (k : ℕ). Contains (one_if (lost (first + k)) (first + k)) (first + child)) last (in_one (lost (first + child)) (first + child) is)))
+    (cases_lt child n)
+
+-- ---- the vdevs of a tolerable pool
+
+both_left : (a b : Bool) → (a && b) ≡ true → a ≡ true
+both_left true b is = refl
+both_left false b is = is
+
+both_right : (a b : Bool) → (a && b) ≡ true → b ≡ true
+both_right true b is = is
+both_right false b is = absurd (cc)
+
+all_at : {A : Type 0} (test : A → Bool) (xs : List A) (i : ℕ) (x : A) → list_all test xs ≡ true → slice_get xs i ≡ Some x → test x ≡ true
+all_at test [] i x all found = absurd (cc)
+all_at test (first ∷ xs) zero x all found =
+    let same : first ≡ x = cc in
+    subst (λ y. test y ≡ true) same (both_left (test first) (list_all test xs) all)
+all_at test (first ∷ xs) (suc i) x all found = all_at test xs i x (both_right (test first) (list_all test xs) all) found
+
+pub vdev_at : (spaces : List VdevSpace) (v : ℕ) (space : VdevSpace) → slice_get spaces v ≡ Some space → slice_get (vdevs_of spaces) v ≡ Some (shown space.shape.vdev)
+vdev_at spaces v space found =
+    slice_get-map (λ (shape : VdevShape). shown shape.vdev) (shapes_of spaces) v
+    ∙ ap (option_map (λ (shape : VdevShape). shown shape.vdev)) (slice_get-map (λ (s : VdevSpace). s.shape) spaces v ∙ ap (option_map (λ (s : VdevSpace). s.shape)) found)
+
+at_most : (a b : ℕ) → nat_le a b ≡ true → a ≤ b
+at_most a b is = grind (arith, nat_tests, is)
+
+-- where the lost disks are tolerable, so are absent disks that are all lost
+pub few_where_tolerable : (spaces : List VdevSpace) (lost : ℕ → Bool) (absent : List ℕ) → is_tolerable (vdevs_of spaces) lost ≡ true
+    → ((disk : ℕ) → Contains absent disk → lost disk ≡ true) → AreTolerable spaces absent
+few_where_tolerable spaces lost absent tolerable all v space found =
+    let first : ℕ = space.shape.vdev.first in
+    let children : ℕ = space.shape.vdev.geometry.children in
+    let few : lost_in lost first children ≤ space.shape.vdev.geometry.parity =
+    at_most (lost_in lost first children) space.shape.vdev.geometry.parity
+    (all_at (λ (vdev : Vdev). nat_le (lost_in lost vdev.first vdev.children) vdev.parity) (vdevs_of spaces) v (shown space.shape.vdev) tolerable (vdev_at spaces v space found)) in
+    let count : length (lost_disks lost first children) ≡ lost_in lost first children = length_lost lost first children in
+    record {
+      disks = lost_disks lost first children;
+      few = omega arith;
+      all = λ child below held. among_lost lost first children child below (all (first + child) held);
+    }
+
+-- ---- absent disks are lost
+
+or_left : (a b : Bool) → a ≡ true → (a || b) ≡ true
+or_left true b is = refl
+or_left false b is = absurd (cc)
+
+or_right : (a b : Bool) → b ≡ true → (a || b) ≡ true
+or_right true b is = refl
+or_right false b is = is
+
+any_of : (disks : List ℕ) (disk : ℕ) → Contains disks disk → list_any (λ d. d == disk) disks ≡ true
+any_of [] disk held = absurd (Contains-none disk held)
+any_of (first ∷ disks) disk held =
+    ⊎_elim (λ same. or_left (first == disk) (list_any (λ d. d == disk) disks) (eq-eqb first disk (sym same)))
+    (λ later. or_right (first == disk) (list_any (λ d. d == disk) disks) (any_of disks disk later)) (Contains-cases first disks disk held)
+
+-- the fault of a call, where it is one
+abbrev fault_if : Bool → Bool → ℕ → List ℕ
+fault_if late failed disk = if late then (if failed then disk ∷ [] else []) else []
+
+fault_is_in : (late failed : Bool) (which disk : ℕ) (failures faults : List ℕ) → (Contains failures disk → Contains faults disk)
+    → Contains (if late && failed then which ∷ failures else failures) disk → Contains (faults ++ fault_if late failed which) disk
+fault_is_in true true which disk failures faults before held =
+    ⊎_elim (λ same. Contains-append_right faults (which ∷ []) disk (rw same (Contains-front which [])))
+    (λ later. Contains-append_left faults (which ∷ []) disk (before later)) (Contains-cases which failures disk held)
+fault_is_in true false which disk failures faults before held = Contains-append_left faults [] disk (before held)
+fault_is_in false failed which disk failures faults before held = Contains-append_left faults [] disk (before held)
+
+failed_is_fault : (n : ℕ) (calls : List JointCall) (disk : ℕ) → Contains (failed_since n calls) disk → Contains (faults_since n calls) disk
+failed_is_fault n [] disk held = held
+failed_is_fault n (made ∷ calls) disk held =
+    fault_is_in (nat_le n (length calls)) (is_failed made.call) made.which disk (failed_since n calls) (faults_since n calls) (failed_is_fault n calls disk) held
+
+absent_is_lost : (old : Store) (v : View) (missing : List ℕ) (calls : List JointCall) → ((disk : ℕ) → v.out disk ≡ is_out old.out disk)
+    → (disk : ℕ) → Contains ((outs old ++ missing) ++ failed_since (length old.disks.calls) calls) disk
+    → is_lost v missing (faults_since (length old.disks.calls) calls) disk ≡ true
+absent_is_lost old v missing calls out disk held =
+    let faults : List ℕ = faults_since (length old.disks.calls) calls in
+    let named : Bool = list_any (λ d. d == disk) missing in
+    let failed : Bool = list_any (λ d. d == disk) faults in
+    ⊎_elim
+    (λ before. ⊎_elim (λ is. or_left (v.out disk) (named || failed) (out disk ∙ in_is_out old disk is))
+    (λ is. or_right (v.out disk) (named || failed) (or_left named failed (any_of missing disk is))) (Contains-append_cases (outs old) missing disk before))
+    (λ since. or_right (v.out disk) (named || failed) (or_right named failed (any_of faults disk (failed_is_fault (length old.disks.calls) calls disk since))))
+    (Contains-append_cases (outs old ++ missing) (failed_since (length old.disks.calls) calls) disk held)
+
+true_or_false : (b : Bool) → (b ≡ true) ⊎ (b ≡ false)
+true_or_false true = inl refl
+true_or_false false = inr refl
+
+-- what is read where not few disks are absent is read where too many are lost
+pub too_many_are_lost : (old new : State) (v : View) (missing : List ℕ) → v.vdevs ≡ vdevs_of old.store.spaces → ((disk : ℕ) → v.out disk ≡ is_out old.store.out disk)
+    → ¬ FewAreAbsentSince old.store new.store missing → TooManyAreLost v missing old new
+too_many_are_lost old new v missing vdevs out not_few =
+    let lost : ℕ → Bool = is_lost v missing (faults_between old.store.disks new.store.disks) in
+    ⊎_elim
+    (λ tolerable. absurd (not_few (few_where_tolerable old.store.spaces lost ((outs old.store ++ missing) ++ failed_since (length old.store.disks.calls) new.store.disks.calls)
+    (subst (λ (vdevs : List Vdev). is_tolerable vdevs lost ≡ true) vdevs tolerable) (absent_is_lost old.store v missing new.store.disks.calls out))))
+    (λ many. many) (true_or_false (is_tolerable v.vdevs lost))

@@ -1,0 +1,27 @@
+use Rattle.std.proofs.Common.{◌≡◌, Option, Some, sym, ap, ◌∙◌, subst}
+use Rattle.pool_model.specs.View.{View, is_planned}
+use Rattle.pool_commit.specs.declared.kept.Planned.{Planned}
+use Rattle.pool_commit.specs.Backs.{Backs}
+use Rattle.pool_commit.specs.Progress.{with_plan}
+use Rattle.pool_commit.specs.State.{State}
+use Rattle.pool_commit.specs.StateOf.{state_of}
+use Rattle.pool_commit.proofs.commit.Commit.device.Goals as goal
+
+pub write-requires-clause-there : goal.write-requires-clause-there
+write-requires-clause-there g c plan is = c.args.self.now.disks plan (sym c.in_ok-planned.ensures.value ∙ is)
+
+pub flush-requires-clause-there : goal.flush-requires-clause-there
+flush-requires-clause-there g c plan is = c.args.self.now.disks plan (sym c.in_ok-planned.ensures.value ∙ is)
+
+with_it : (s : State) (plan : Planned) (v : View) → Some plan ≡ s.planned → Backs s v → Backs (with_plan s plan) v
+with_it s plan v is backs = subst (λ (o : Option Planned). Backs (record s { planned = o }) v) (sym is) backs
+
+pub returns-then-due_count-gt0-clause-some : goal.returns-then-due_count-gt0-clause-some
+returns-then-due_count-gt0-clause-some g c v backs low =
+    let with_one = with_it (state_of c.args.self.now) c.in_ok-planned.planned v c.in_ok-planned.ensures.value backs in
+    (ap is_planned with_one.blocks.plan.0, c.write.ensures.goes v with_one low)
+
+pub returns-else-due_count-gt0-clause-some : goal.returns-else-due_count-gt0-clause-some
+returns-else-due_count-gt0-clause-some g c v backs low =
+    let with_one = with_it (state_of c.args.self.now) c.in_ok-planned.planned v c.in_ok-planned.ensures.value backs in
+    (ap is_planned with_one.blocks.plan.0, c.flush.ensures.goes v with_one low)

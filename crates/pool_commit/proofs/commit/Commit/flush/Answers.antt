@@ -1,0 +1,44 @@
+use Rattle.std.proofs.Common.{◌⊎◌, ◌≡◌, ◌<◌, List, [], ℕ, Option, min, refl, sym, ◌∙◌, subst, length}
+use Rattle.raidz_io.specs.declared.writes.ColumnWrite.{ColumnWrite}
+use Rattle.pool_commit.specs.declared.device.Progress.{Progress}
+use Rattle.pool_commit.specs.declared.kept.Planned.{Planned}
+use Rattle.pool_commit.specs.HasDisks.{AreBelow}
+use Rattle.pool_commit.specs.Making.{flushes_left, MadeCalls, FailedCall}
+use Rattle.pool_commit.specs.Backs.{left_calls}
+use Rattle.pool_commit.specs.Progress.{Progresses, GoesOn}
+use Rattle.pool_commit.specs.StateOf.{state_of}
+use Rattle.pool_model.specs.declared.step.Phase.TheVariants as phases
+use Rattle.pool_commit.proofs.Progressing.{goes_on, drops, there_still, some_or_none, few_of}
+use Rattle.pool_commit.proofs.commit.Commit.flush.Goals as goal
+
+pub make_flushes-requires : goal.make_flushes-requires
+make_flushes-requires g c = c.requires.there c.args.planned refl
+
+pub go_on-requires-clause-there : goal.go_on-requires-clause-there
+go_on-requires-clause-there g c =
+    there_still (length c.make_flushes.new.store.disks.starts) (record { volumes = c.args.planned.volumes; flushes = c.make_flushes.new.flushes })
+    (subst (λ (starts : List (List ℕ)). AreBelow (length starts) c.make_flushes.new.flushes.items) (sym c.in-Ok.ensures.made.same.grew.starts) c.in-Ok.ensures.there)
+
+pub returns-in-Ok-clause-goes : goal.returns-in-Ok-clause-goes
+returns-in-Ok-clause-goes g c v backs low =
+    let later : Planned = record { volumes = c.args.planned.volumes; flushes = c.make_flushes.new.flushes } in
+    let none : c.make_flushes.new.store.due ≡ [] = c.in-Ok.ensures.due ∙ c.requires.written in
+    let made : MadeCalls c.args.self.now.store c.make_flushes.new.store (left_calls c.args.self.now.store.due c.args.planned.flushes.items) (left_calls c.make_flushes.new.store.due later.flushes.items) phases.BlocksFlush (min (length c.args.planned.flushes.items) 4) =
+    subst (λ (due : List ColumnWrite). MadeCalls c.args.self.now.store c.make_flushes.new.store (left_calls due c.args.planned.flushes.items) (left_calls c.make_flushes.new.store.due later.flushes.items) phases.BlocksFlush (min (length c.args.planned.flushes.items) 4))
+    (sym c.requires.written)
+    (subst (λ (due : List ColumnWrite). MadeCalls c.args.self.now.store c.make_flushes.new.store (flushes_left c.args.planned.flushes.items) (left_calls due later.flushes.items) phases.BlocksFlush (min (length c.args.planned.flushes.items) 4))
+    (sym none) c.in-Ok.ensures.made) in
+    goes_on (state_of c.args.self.now) c.make_flushes.new.store c.args.planned later v phases.BlocksFlush (min (length c.args.planned.flushes.items) 4) c.go_on.result (state_of c.go_on.new.self)
+    backs low
+    (subst (λ (due : List ColumnWrite). (0 < min (length c.args.planned.flushes.items) 4) ⊎ (left_calls due c.args.planned.flushes.items ≡ [])) (sym c.requires.written) (some_or_none c.args.planned.flushes.items))
+    (few_of (length c.args.planned.flushes.items)) made refl
+    (subst (λ (o : Option Planned). GoesOn (record { store = c.make_flushes.new.store; kept = c.args.self.now.kept; planned = o }) later phases.BlocksFlush c.go_on.result (state_of c.go_on.new.self))
+    c.requires.none c.go_on.ensures)
+
+pub returns-in-Err-clause-goes : goal.returns-in-Err-clause-goes
+returns-in-Err-clause-goes g c v backs low =
+    subst (λ (p : Progress). Progresses (state_of c.args.self.now) p (state_of c.drop_plan.new.self) v) (sym c.drop_plan.ensures.result)
+    (drops (state_of c.args.self.now) c.make_flushes.new.store c.args.planned v phases.BlocksFlush c.in-Err.failed.disk (state_of c.drop_plan.new.self) backs
+    (subst (λ (due : List ColumnWrite). FailedCall c.args.self.now.store c.make_flushes.new.store (left_calls due c.args.planned.flushes.items) phases.BlocksFlush c.in-Err.failed.disk)
+    (sym c.requires.written) c.in-Err.ensures.failed)
+    c.drop_plan.ensures.store c.drop_plan.ensures.kept (c.drop_plan.ensures.planned ∙ c.requires.none))

@@ -1,0 +1,52 @@
+use Rattle.std.proofs.Common.{◌≡◌, ⊎_elim, inl, inr, sym, ap, ◌∙◌, subst, rules, arith, ℕ, List, [], length}
+use Rattle.std.specs.Prelude.{replicate}
+use Rattle.std.proofs.lemmas.Result.{IfErr-weaker}
+use Rattle.pool_now.specs.Overlay.{base_of, HasRange}
+use Rattle.raidz_io.proofs.Written.{IfOk-both}
+use Rattle.group_volumes.specs.declared.volumes.GroupVolumes.{GroupVolumes}
+use Rattle.group_volumes.specs.Volumes.{SpellsPool}
+use Rattle.pool_commit.specs.HasDisks.{HasDisks}
+use Rattle.pool_commit.specs.StateOf.{state_of}
+use Rattle.pool_commit.proofs.Backing.{last_spelled, only_reads}
+use Rattle.pool_commit.proofs.ReadCauses.{no_read_cause}
+use Rattle.pool_commit.proofs.ReadingBase.{zeros_lie_under, base_lies_under, no_base_cause}
+use Rattle.pool_commit.proofs.Tolerating.{too_many_are_lost}
+use Rattle.pool_commit.proofs.commit.Commit.read_committed.Goals as goal
+
+pub invariant_of-self-2 : goal.invariant_of-self-2
+invariant_of-self-2 g c = record {
+  disks = subst (λ (count : ℕ). HasDisks count c.args.self.now.planned) (sym (ap (λ (starts : List (List ℕ)). length starts) c.read_of.ensures.reads.reads.starts)) c.args.self.now.disks;
+}
+
+pub returns-then-shape-committed-clause-bytes : goal.returns-then-shape-committed-clause-bytes
+returns-then-shape-committed-clause-bytes g c = λ v volume backs below honest at shape.
+    let items : c.in_ok-vec.field-0.items ≡ replicate {A = ℕ} c.args.len 0 = search rules in
+    let group = c.committed-committed.ensures ∙ backs.committed in
+    subst (λ (bytes : List ℕ). HasRange bytes (base_of v c.args.name.now volume) c.args.offset) (sym items)
+    (zeros_lie_under v c.args.name.now volume c.args.shape c.args.offset c.args.len below at shape (omega arith) c.requires.within)
+
+pub returns-clause-reads : goal.returns-clause-reads
+returns-clause-reads g c = only_reads (state_of c.args.self.now) c.read_of.new.store [] c.read_of.ensures.reads
+
+pub returns-clause-bytes : goal.returns-clause-bytes
+returns-clause-bytes g c = IfOk-both c.read_of.result _ _ _ (λ bytes count known v volume backs below honest at shape.
+    let there = known backs.blocks.stored (v.pools v.committed) backs.blocks.plans.held
+    (subst (λ (volumes : GroupVolumes). SpellsPool backs.blocks.stored c.committed-committed.result volumes (v.pools v.committed)) (sym c.last.ensures)
+    (subst (λ (group : ℕ). SpellsPool backs.blocks.stored group c.args.self.now.kept.last (v.pools v.committed)) (sym (c.committed-committed.ensures ∙ backs.committed))
+    (last_spelled (state_of c.args.self.now) v backs))) honest in
+    base_lies_under v c.args.name.now volume c.args.offset c.args.len bytes.items count there.1) c.read_of.ensures.len c.read_of.ensures.bytes
+
+pub returns-clause-refused : goal.returns-clause-refused
+returns-clause-refused g c = IfErr-weaker c.read_of.result _ _ (λ refusal known v volume backs below honest at shape.
+    let group = c.committed-committed.ensures ∙ backs.committed in
+    let none = no_base_cause v c.args.name.now volume c.args.shape c.args.offset c.args.len below at shape (omega arith) c.requires.within c.requires.few in
+    ⊎_elim inl (λ other. inr (⊎_elim
+    (λ cause. absurd (no_read_cause _ refusal none cause))
+    (λ fault. (
+      fault.1,
+      too_many_are_lost (state_of c.args.self.now) (record (state_of c.args.self.now) { store = c.read_of.new.store }) v [] backs.vdevs backs.out fault.2,
+    )) other))
+    (known backs.blocks.stored (v.pools v.committed) backs.blocks.plans.held
+    (subst (λ (volumes : GroupVolumes). SpellsPool backs.blocks.stored c.committed-committed.result volumes (v.pools v.committed)) (sym c.last.ensures)
+    (subst (λ (group : ℕ). SpellsPool backs.blocks.stored group c.args.self.now.kept.last (v.pools v.committed)) (sym group)
+    (last_spelled (state_of c.args.self.now) v backs))) honest)) c.read_of.ensures.refused

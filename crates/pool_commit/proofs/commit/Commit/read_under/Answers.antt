@@ -1,0 +1,34 @@
+use Rattle.std.proofs.Common.{⊎_elim, inl, inr, sym, ap, ◌∙◌, subst, rules, ℕ, List, length}
+use Rattle.std.proofs.lemmas.Result.{IfOk-weaker, IfErr-weaker}
+use Rattle.pool_commit.specs.HasDisks.{HasDisks}
+use Rattle.pool_commit.specs.StateOf.{state_of}
+use Rattle.pool_commit.proofs.Backing.{kept_spelled, only_reads}
+use Rattle.pool_commit.proofs.ReadCauses.{under_kept, under_cause}
+use Rattle.pool_commit.proofs.Tolerating.{too_many_are_lost}
+use Rattle.pool_commit.proofs.commit.Commit.read_under.Goals as goal
+
+pub invariant_of-self-2 : goal.invariant_of-self-2
+invariant_of-self-2 g c = record {
+  disks = subst (λ (count : ℕ). HasDisks count c.args.self.now.planned) (sym (ap (λ (starts : List (List ℕ)). length starts) c.read_of.ensures.reads.reads.starts)) c.args.self.now.disks;
+}
+
+pub returns-clause-reads : goal.returns-clause-reads
+returns-clause-reads g c = only_reads (state_of c.args.self.now) c.read_of.new.store c.args.missing.now c.read_of.ensures.reads
+
+pub returns-clause-bytes : goal.returns-clause-bytes
+returns-clause-bytes g c = IfOk-weaker c.read_of.result _ _ (λ bytes known v backs honest.
+    let kept = kept_spelled (state_of c.args.self.now) v c.args.group c.in-Some.volumes.now backs (search rules) in
+    let there = known backs.blocks.stored (v.pools c.args.group) backs.blocks.plans.held kept.1 honest in
+    (under_kept v c.args.group c.args.name.now c.args.offset c.args.len kept.0 ∙ there.0, there.1)) c.read_of.ensures.bytes
+
+pub returns-clause-refused : goal.returns-clause-refused
+returns-clause-refused g c = IfErr-weaker c.read_of.result _ _ (λ refusal known v backs honest.
+    let kept = kept_spelled (state_of c.args.self.now) v c.args.group c.in-Some.volumes.now backs (search rules) in
+    ⊎_elim inl (λ other. inr (⊎_elim
+    (λ cause. inl (under_cause v c.args.group c.args.name.now c.args.offset c.args.len refusal kept.0 cause))
+    (λ fault. inr (
+      under_kept v c.args.group c.args.name.now c.args.offset c.args.len kept.0 ∙ fault.0,
+      fault.1,
+      too_many_are_lost (state_of c.args.self.now) (record (state_of c.args.self.now) { store = c.read_of.new.store }) v c.args.missing.now backs.vdevs backs.out fault.2,
+    )) other))
+    (known backs.blocks.stored (v.pools c.args.group) backs.blocks.plans.held kept.1 honest)) c.read_of.ensures.refused

@@ -1,0 +1,53 @@
+-- When the committed half of a core backs a view: what the view says of disks, of kept groups and of the group that is synced.
+use Rattle.std.specs.Prelude.{ℕ, suc, ◌≡◌, ◌++◌, List, map, false, Option, Some, None, if◌then◌else◌}
+use Rattle.raidz_io.specs.declared.writes.ColumnWrite.{ColumnWrite}
+use Rattle.block_store.specs.Blocks.{Contents}
+use Rattle.block_store.specs.Plans.{Plans}
+use Rattle.block_store.specs.Store.{is_out}
+use Rattle.group_volumes.specs.declared.volumes.GroupVolumes.{GroupVolumes}
+use Rattle.group_volumes.specs.Volumes.{SpellsPool}
+use Rattle.pool_model.specs.declared.step.Phase.TheVariants.{Blocks, BlocksFlush}
+use Rattle.pool_model.specs.Pools.{PlainPool, applied}
+use Rattle.pool_model.specs.View.{View, DueCall, Left, is_planned, is_kept}
+use Rattle.pool_model.specs.Machine.{due}
+use Rattle.pool_commit.specs.declared.kept.Planned.{Planned}
+use Rattle.pool_commit.specs.Config.{vdevs_of}
+use Rattle.pool_commit.specs.State.{State, volumes_at}
+
+-- a kept group has volumes, which spell its pool; another has none
+abbrev pub SpellsKept : Contents → ℕ → Option GroupVolumes → Option PlainPool → Type 0
+SpellsKept stored group (Some volumes) (Some pool) = SpellsPool stored group volumes pool
+SpellsKept stored group None None = Unit {0}
+SpellsKept stored group (Some volumes) None = ⊥
+SpellsKept stored group None (Some pool) = ⊥
+
+abbrev pub kept_pool : View → ℕ → Option PlainPool
+kept_pool v group = if is_kept v group then Some (v.pools group) else None
+
+-- the device calls that are left of a plan: its writes, and then its flushes
+abbrev pub left_calls : List ColumnWrite → List ℕ → List DueCall
+left_calls writes flushes = map (λ write. due Blocks write.disk) writes ++ map (due BlocksFlush) flushes
+
+-- what the group after the committed one makes
+abbrev pub pool_after : View → PlainPool
+pool_after v = applied (suc v.committed) (v.pools v.committed) (v.ledger (suc v.committed))
+
+-- a plan has these device calls left, and its volumes spell what the group makes, once its blocks are stored
+abbrev pub IsPlanOf : State → Contents → Option Planned → View → Type 0
+IsPlanOf s planned None v = is_planned v.sync ≡ false
+IsPlanOf s planned (Some plan) v =
+    (v.sync ≡ Left (left_calls s.store.due plan.flushes.items)) × SpellsPool planned (suc v.committed) plan.volumes (pool_after v)
+
+-- each block taken with the bytes that it was written with
+pub record HasBlocks (s : State) (v : View) : Type 0 where
+  pub stored : Contents
+  pub planned : Contents
+  pub plans : Plans s.store stored planned
+  pub kept : (group : ℕ) → SpellsKept stored group (volumes_at s.kept group) (kept_pool v group)
+  pub plan : IsPlanOf s planned s.planned v
+
+pub record Backs (s : State) (v : View) : Type 0 where
+  pub vdevs : v.vdevs ≡ vdevs_of s.store.spaces
+  pub out : (disk : ℕ) → v.out disk ≡ is_out s.store.out disk
+  pub committed : s.kept.committed ≡ v.committed
+  pub blocks : HasBlocks s v

@@ -1,0 +1,9 @@
+pub mod Config
+pub mod HasDisks
+pub mod State
+pub mod StateOf
+pub mod Backs
+pub mod Calls
+pub mod Making
+pub mod Progress
+pub mod Reading

@@ -1,0 +1,134 @@
+//! The committed half of a core.
+ghost use Rattle.std.specs.Prelude.{ℕ, List, ◌≡◌, ◌⊎◌, ◌<◌, ◌≤◌, ◌+◌, ◌-◌, ◌^◌, ◌++◌, not, filter, length, map, slice_get, Some, OnOk, IfOk, IfErr, IsTrue, nat_le};
+ghost use Rattle.model_disk.specs.Joint.{calls_on, log_of};
+ghost use Rattle.block_store.specs.declared.shape.VdevShape.{VdevShape as ShapeOf};
+ghost use Rattle.block_store.specs.Config.{AreShapes, IsFewVdevs};
+ghost use Rattle.block_store.specs.Store.{is_out};
+ghost use Rattle.pool_model.specs.View.{View, counted, disks_of, lost_in, is_tolerable, started};
+ghost use Rattle.pool_commit.specs.HasDisks.{AreBelow, HasDisks};
+ghost use Rattle.pool_commit.specs.Config.{shown, vdevs_of, vdevs_from};
+
+use crate::kept::{Kept, Planned};
+use crate::refusal::Refusal;
+use block_store::{BlockStore, VdevConfig};
+use group_volumes::GroupVolumes;
+use model_disk::Disk;
+use raidz_io::Vdev;
+use std::alloc::{AllocError, Global};
+use std::collections::VecDeque;
+
+/// The group that `create` commits.
+const FIRST_GROUP: u64 = 3;
+
+/// The blocks of a pool over its disks, the volumes of the last three committed groups, and the plan of the next one.
+#[derive(Drop)]
+pub struct Commit<D: Disk + Drop> {
+    pub(crate) store: BlockStore<D>,
+    pub(crate) kept: Kept,
+    pub(crate) planned: Option<Planned>,
+    ghost disks: { HasDisks (length store.disks.starts) planned },
+}
+
+impl<D: Disk + Drop> Commit<D> {
+    ghost use Rattle.pool_model.specs.View.{is_suspended, is_planned};
+    ghost use Rattle.pool_commit.specs.Backs.{Backs};
+    ghost use Rattle.pool_commit.specs.StateOf.{state_of};
+
+    /// The empty pool, committed as group 3. The vdevs take the disks in order, each as many as it has children.
+    pub fn new(alloc: Global, disks: Vec<D>, vdevs: &[VdevConfig]) -> Result<Self, Refusal>
+        ensures starts { IfOk result (λ commit. commit.store.disks.starts ≡ map D.start disks.items) }
+        ensures calls { IfOk result (λ commit. (which : ℕ) → calls_on which commit.store.disks.calls ≡ log_of (map D.calls disks.items) which) }
+        ensures backs { IfOk result (λ commit. Backs (state_of commit) (started (vdevs_from 0 vdevs.now))) }
+        ensures refused { IfErr result (λ refusal. (refusal ≡ Refusal.NoMemory)
+            ⊎ ((refusal ≡ Refusal.BadConfig) × ((shapes : List ShapeOf) → ¬ (IsFewVdevs vdevs.now × AreShapes (map D.start disks.items) 0 vdevs.now shapes)))) }
+    {
+        let store = match BlockStore::new(alloc, disks, vdevs) {
+            Ok(store) => store,
+            Err(block_store::Refusal::BadConfig) => return Err(Refusal::BadConfig),
+            Err(_) => return Err(Refusal::NoMemory),
+        };
+        Ok(Commit {
+            store,
+            kept: Kept::new(FIRST_GROUP, GroupVolumes::new(alloc)),
+            planned: None,
+        })
+    }
+
+    /// Whether more disks of a vdev are out than it has parities.
+    pub fn is_suspended(&self) -> bool
+        ensures { (v : View) → Backs (state_of self.now) v → result ≡ is_suspended v }
+    {
+        !self.is_tolerable()
+    }
+
+    /// Whether the group that is synced has a plan.
+    pub fn is_planned(&self) -> bool
+        ensures { (v : View) → Backs (state_of self.now) v → result ≡ is_planned v.sync }
+    {
+        self.planned.is_some()
+    }
+
+    fn is_tolerable(&self) -> bool
+        ensures { result ≡ is_tolerable (vdevs_of self.now.store.spaces) (is_out self.now.store.out) }
+    {
+        for index in 0..self.store.vdev_count() {
+            let vdev = self.vdev(index);
+            if self.count_out(vdev) > vdev.geometry.parity {
+                return false;
+            }
+        }
+        true
+    }
+
+    /// A vdev of the pool. Its disks are in the array.
+    fn vdev(&self, index: usize) -> Vdev
+        requires { index < length self.now.store.spaces }
+        ensures there { slice_get (vdevs_of self.now.store.spaces) index ≡ Some (shown result) }
+        ensures few { result.first + result.geometry.children ≤ 2 ^ 64 - 1 }
+        ensures disks { result.first + result.geometry.children ≤ length self.now.store.disks.starts }
+    {
+        // Numbers of disks are below their count, which a usize holds.
+        let _count = self.store.disk_count();
+        self.store.shape(index).vdev
+    }
+
+    /// How many disks of a vdev are out.
+    fn count_out(&self, vdev: Vdev) -> u32
+        requires { vdev.first + vdev.geometry.children ≤ 2 ^ 64 - 1 }
+        ensures { result ≡ lost_in (is_out self.now.store.out) vdev.first vdev.geometry.children }
+    {
+        let mut count = 0;
+        for child in 0..vdev.geometry.children {
+            if self.store.is_out(vdev.first + child as usize) {
+                count += 1;
+            }
+        }
+        count
+    }
+
+    /// The disks that are not out, in order.
+    pub(crate) fn disks_in_use(&self, alloc: Global) -> Result<VecDeque<usize>, AllocError>
+        ensures disks { IfOk result (λ disks. disks.items ≡ filter (λ disk. not (is_out self.now.store.out disk)) (disks_of (vdevs_of self.now.store.spaces))) }
+        ensures there { IfOk result (λ disks. AreBelow (length self.now.store.disks.starts) disks.items) }
+    {
+        let mut disks = VecDeque::new(alloc);
+        for index in 0..self.store.vdev_count() {
+            self.add_in_use(self.vdev(index), &mut disks)?;
+        }
+        Ok(disks)
+    }
+
+    /// Adds the disks of a vdev that are not out.
+    fn add_in_use(&self, vdev: Vdev, disks: &mut VecDeque<usize>) -> Result<(), AllocError>
+        requires few { vdev.first + vdev.geometry.children ≤ 2 ^ 64 - 1 }
+        ensures { OnOk result (disks.new.items ≡ disks.old.items ++ filter (λ disk. not (is_out self.now.store.out disk)) (counted vdev.first vdev.geometry.children)) }
+    {
+        for child in 0..vdev.geometry.children {
+            let disk = vdev.first + child as usize;
+            if !self.store.is_out(disk) {
+                disks.push_back(disk)?;
+            }
+        }
+        Ok(())
+    }
+}

@@ -1,0 +1,17 @@
+//! The committed half of a pool's core: the blocks of kept groups over disks, the plan of the group that is synced, and
+//! the device calls that commit it. It knows nothing of writers, holds and pending items.
+#![tactic(auto)]
+
+mod commit;
+mod device;
+mod kept;
+mod plan;
+mod reading;
+mod refusal;
+#[cfg(test)]
+mod tests;
+
+pub use commit::Commit;
+pub use device::Progress;
+pub use kept::{Kept, Planned};
+pub use refusal::Refusal;

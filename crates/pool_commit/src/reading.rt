@@ -1,0 +1,141 @@
+//! Reads of volumes.
+ghost use Rattle.std.specs.Prelude.{◌≡◌, ◌⊎◌, ◌↔◌, ◌+◌, ◌≤◌, ◌<◌, ◌^◌, ℕ, [], Some, None, IfOk, IfErr, length};
+ghost use Rattle.pool_model.specs.declared.volume.PlainVolume.{PlainVolume};
+ghost use Rattle.pool_model.specs.Machine.{AreBytesOf};
+ghost use Rattle.pool_model.specs.Pools.{volume_at};
+ghost use Rattle.pool_model.specs.View.{View, now_of};
+ghost use Rattle.pool_now.specs.NowMoves.{GroupsAreBelow};
+ghost use Rattle.pool_now.specs.Overlay.{base_of, HasRange};
+ghost use Rattle.pool_now.specs.Shapes.{shape_of};
+ghost use Rattle.block_store.specs.Blocks.{Contents};
+ghost use Rattle.block_store.specs.declared.refusal.Refusal.TheVariants as store;
+ghost use Rattle.block_store.specs.Store.{Holds};
+ghost use Rattle.group_volumes.specs.Volumes.{SpellsPool};
+ghost use Rattle.pool_model.specs.Pools.{PlainPool};
+ghost use Rattle.pool_model.specs.Refusals.{read_refusal};
+ghost use Rattle.volume_blocks.specs.Reading.{OnlyReadsBlocks, AnswersAreTrue, FewAreAbsent};
+ghost use Rattle.pool_commit.specs.Backs.{Backs};
+ghost use Rattle.pool_commit.specs.StateOf.{state_of};
+ghost use Rattle.pool_commit.specs.Reading.{AreTrue, OnlyReadsPool, TooManyAreLost, HasNoCause, IsUnderCause, IsReadCause};
+
+use crate::commit::Commit;
+use crate::refusal::Refusal;
+use block_store::BlockStore;
+use group_volumes::GroupVolumes;
+use model_disk::Disk;
+use pool_model::Name;
+use pool_now::{VolumeShape, against_read};
+use std::alloc::Global;
+
+/// What a read that a volume refuses is answered.
+fn unread(refusal: block_store::Refusal) -> Refusal
+    ensures fault { (result ≡ Refusal.NoMemory) ⊎ (result ≡ Refusal.DiskFault) }
+    ensures memory { (result ≡ Refusal.NoMemory) ↔ (refusal ≡ store.NoMemory) }
+{
+    match refusal {
+        block_store::Refusal::NoMemory => Refusal::NoMemory,
+        _ => Refusal::DiskFault,
+    }
+}
+
+/// A range of one of these volumes, whose blocks were born in the group `birth` or before.
+fn read_of<D: Disk + Drop>(
+    volumes: &GroupVolumes,
+    store: &mut BlockStore<D>,
+    alloc: Global,
+    birth: u64,
+    name: &Name,
+    offset: u64,
+    len: u64,
+    missing: &[usize],
+) -> Result<Vec<u8>, Refusal>
+    ensures reads { OnlyReadsBlocks store.old store.new missing.now }
+    ensures bytes { IfOk result (λ bytes. (stored : Contents) (pool : PlainPool) → Holds store.old stored → SpellsPool stored birth volumes.now pool → AnswersAreTrue store.old store.new
+        → (read_refusal offset len (volume_at name.now pool) ≡ None) × AreBytesOf pool name.now offset len bytes.items) }
+    ensures len { IfOk result (λ bytes. length bytes.items ≡ len) }
+    ensures refused { IfErr result (λ refusal. (stored : Contents) (pool : PlainPool) → Holds store.old stored → SpellsPool stored birth volumes.now pool → AnswersAreTrue store.old store.new
+        → (refusal ≡ Refusal.NoMemory) ⊎ (IsReadCause (read_refusal offset len (volume_at name.now pool)) refusal
+        ⊎ ((read_refusal offset len (volume_at name.now pool) ≡ None) × (refusal ≡ Refusal.DiskFault) × ¬ FewAreAbsent store.old store.new missing.now))) }
+{
+    let Some(volume) = volumes.find(name) else {
+        return Err(Refusal::NoSuchName);
+    };
+    if against_read(offset, len, Some(volume.shape())).is_some() {
+        return Err(Refusal::OutOfRange);
+    }
+    let blocks = volume.blocks();
+    match blocks.read(store, alloc, birth, offset, len, missing) {
+        Ok(bytes) => Ok(bytes),
+        Err(refusal) => Err(unread(refusal)),
+    }
+}
+
+impl<D: Disk + Drop> Commit<D> {
+    /// A range of a volume's bytes under a kept group. The disks that are named are taken as missing.
+    pub fn read_under(
+        &mut self,
+        alloc: Global,
+        group: u64,
+        name: &Name,
+        offset: u64,
+        len: u64,
+        missing: &[usize],
+    ) -> Result<Vec<u8>, Refusal>
+        ensures reads { OnlyReadsPool (state_of self.old) (state_of self.new) missing.now }
+        ensures bytes { IfOk result (λ bytes. (v : View) → Backs (state_of self.old) v → AreTrue (state_of self.old) (state_of self.new)
+            → HasNoCause v group name.now offset len × AreBytesOf (v.pools group) name.now offset len bytes.items) }
+        ensures refused { IfErr result (λ refusal. (v : View) → Backs (state_of self.old) v → AreTrue (state_of self.old) (state_of self.new)
+            → (refusal ≡ Refusal.NoMemory) ⊎ (IsUnderCause v group name.now offset len refusal
+            ⊎ (HasNoCause v group name.now offset len × (refusal ≡ Refusal.DiskFault) × TooManyAreLost v missing.now (state_of self.old) (state_of self.new)))) }
+    {
+        let Some(volumes) = self.kept.volumes(group) else {
+            return Err(Refusal::GroupGone);
+        };
+        read_of(
+            volumes,
+            &mut self.store,
+            alloc,
+            group,
+            name,
+            offset,
+            len,
+            missing,
+        )
+    }
+
+    /// A range of the bytes that lie under the pending writes to a volume of NOW, which has this shape: those of the
+    /// committed volume, or zeros where a pending group makes it.
+    pub fn read_committed(
+        &mut self,
+        alloc: Global,
+        name: &Name,
+        shape: VolumeShape,
+        offset: u64,
+        len: u64,
+    ) -> Result<Vec<u8>, Refusal>
+        requires within { offset + len ≤ shape.size }
+        requires few { len ≤ 2 ^ 20 }
+        ensures reads { OnlyReadsPool (state_of self.old) (state_of self.new) [] }
+        ensures len { IfOk result (λ bytes. length bytes.items ≡ len) }
+        ensures bytes { IfOk result (λ bytes. (v : View) (volume : PlainVolume) → Backs (state_of self.old) v → GroupsAreBelow v → AreTrue (state_of self.old) (state_of self.new)
+            → volume_at name.now (now_of v) ≡ Some volume → shape_of volume ≡ shape → HasRange bytes.items (base_of v name.now volume) offset) }
+        ensures refused { IfErr result (λ refusal. (v : View) (volume : PlainVolume) → Backs (state_of self.old) v → GroupsAreBelow v → AreTrue (state_of self.old) (state_of self.new)
+            → volume_at name.now (now_of v) ≡ Some volume → shape_of volume ≡ shape
+            → (refusal ≡ Refusal.NoMemory) ⊎ ((refusal ≡ Refusal.DiskFault) × TooManyAreLost v [] (state_of self.old) (state_of self.new))) }
+    {
+        let committed = self.kept.committed();
+        if shape.group > committed {
+            return Ok(vec![in alloc; 0; len as usize]?);
+        }
+        read_of(
+            self.kept.last(),
+            &mut self.store,
+            alloc,
+            committed,
+            name,
+            offset,
+            len,
+            &[],
+        )
+    }
+}

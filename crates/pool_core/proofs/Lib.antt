@@ -1,0 +1,4 @@
+pub mod Fronting
+pub mod Phases
+pub mod ReadSteps
+pub mod Running

@@ -1,0 +1,6 @@
+pub mod Causes
+pub mod State
+pub mod StateOf
+pub mod Represents
+pub mod Steps
+pub mod Runs

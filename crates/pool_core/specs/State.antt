@@ -1,0 +1,11 @@
+-- What a pool's core shows.
+use Rattle.model_disk.specs.Joint.{Disks}
+use Rattle.pool_commit.specs.State.{State}
+use Rattle.pool_intake.specs.declared.intake.Intake.{Intake}
+
+pub record CoreState : Type 0 where
+  pub intake : Intake  -- what the pool accepts
+  pub commit : State  -- what is committed, and being committed
+
+abbrev pub disks_of : CoreState → Disks
+disks_of s = s.commit.store.disks

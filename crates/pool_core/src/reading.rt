@@ -1,0 +1,83 @@
+//! Reads.
+ghost use Rattle.std.specs.Prelude.{◌≡◌, ◌⊎◌, Some, None, IfOk, IfErr};
+ghost use Rattle.pool_model.specs.declared.step.Step.TheVariants as steps;
+ghost use Rattle.pool_model.specs.Machine.{AreBytesOf};
+ghost use Rattle.pool_model.specs.Refusals.{refusal_of};
+ghost use Rattle.pool_model.specs.View.{View};
+ghost use Rattle.pool_commit.specs.Calls.{GrewTo};
+ghost use Rattle.pool_commit.specs.Reading.{OnlyReadsPool, TooManyAreLost};
+ghost use Rattle.pool_commit.specs.StateOf.{state_of as commit_state};
+ghost use Rattle.pool_core.specs.Represents.{Represents};
+ghost use Rattle.pool_core.specs.StateOf.{state_of};
+ghost use Rattle.pool_core.specs.Steps.{AreTrue, Steps};
+
+use crate::core::{Core, named};
+use model_disk::Disk;
+use pool_model::{Bytes, Name, Refusal, Reply};
+use pool_now::against_read;
+
+impl<D: Disk + Drop> Core<D> {
+    /// Reads what all accepted groups make.
+    pub(crate) fn read(&mut self, name: &Name, offset: u64, len: u64) -> Reply
+        ensures grew { GrewTo self.old.commit.store.disks self.new.commit.store.disks }
+        ensures goes { Steps (state_of self.old) (steps.Read name.now offset len) result (state_of self.new) }
+    {
+        let found = self.intake.find(name);
+        match against_read(offset, len, found) {
+            Some(cause) => return Reply::Refused(cause),
+            None => {}
+        }
+        let Some(shape) = found else {
+            return Reply::Refused(Refusal::NoSuchName);
+        };
+        match self
+            .commit
+            .read_committed(self.alloc, name, shape, offset, len)
+        {
+            Ok(mut bytes) => {
+                self.intake
+                    .read_pending(shape, name, offset, bytes.as_mut_slice());
+                Reply::Bytes(Bytes::new(bytes))
+            }
+            Err(refusal) => Reply::Refused(named(refusal)),
+        }
+    }
+
+    /// Reads what a kept group contains.
+    pub(crate) fn reply_under(&mut self, group: u64, name: &Name, offset: u64, len: u64) -> Reply
+        ensures grew { GrewTo self.old.commit.store.disks self.new.commit.store.disks }
+        ensures goes { Steps (state_of self.old) (steps.ReadUnder group name.now offset len) result (state_of self.new) }
+    {
+        match self.read_under(group, name, offset, len, &[]) {
+            Ok(bytes) => Reply::Bytes(bytes),
+            Err(refusal) => Reply::Refused(refusal),
+        }
+    }
+
+    /// A range of a volume's bytes under a kept group, with the disks that are named taken as missing.
+    pub fn read_under(
+        &mut self,
+        group: u64,
+        name: &Name,
+        offset: u64,
+        len: u64,
+        missing: &[usize],
+    ) -> Result<Bytes, Refusal>
+        ensures intake { self.new.intake ≡ self.old.intake }
+        ensures reads { OnlyReadsPool (commit_state self.old.commit) (commit_state self.new.commit) missing.now }
+        ensures bytes { IfOk result (λ bytes. (v : View) → Represents (state_of self.old) v → AreTrue (state_of self.old) (state_of self.new)
+            → (refusal_of v (steps.ReadUnder group name.now offset len) ≡ None) × AreBytesOf (v.pools group) name.now offset len bytes) }
+        ensures refused { IfErr result (λ refusal. (v : View) → Represents (state_of self.old) v → AreTrue (state_of self.old) (state_of self.new)
+            → (refusal ≡ Refusal.NoMemory) ⊎ ((refusal_of v (steps.ReadUnder group name.now offset len) ≡ Some refusal)
+            ⊎ ((refusal_of v (steps.ReadUnder group name.now offset len) ≡ None) × (refusal ≡ Refusal.DiskFault)
+            × TooManyAreLost v missing.now (commit_state self.old.commit) (commit_state self.new.commit)))) }
+    {
+        let read = self
+            .commit
+            .read_under(self.alloc, group, name, offset, len, missing);
+        match read {
+            Ok(bytes) => Ok(Bytes::new(bytes)),
+            Err(refusal) => Err(named(refusal)),
+        }
+    }
+}

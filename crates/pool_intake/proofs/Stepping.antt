@@ -1,0 +1,285 @@
+-- Steps of the intake, and the view that it follows after each.
+use Rattle.std.proofs.Common.{◌≡◌, ◌⊎◌, ⊎_elim, inl, inr, ℕ, suc, ◌≤◌, true, false, true≢false, List, Option, Some, None, refl, sym, ap, ◌∙◌, subst, arith}
+use Rattle.std.specs.Prelude.{cond, is_some, IsTrue, not, ◌==◌, ◌&&◌, ◌||◌}
+use Rattle.pool_model.specs.declared.group.Holder.{Holder}
+use Rattle.pool_model.specs.declared.group.Stage.{Stage}
+use Rattle.pool_model.specs.declared.group.Stage.TheVariants.{Quiescing, Quiesced as QuiescedStage}
+use Rattle.pool_model.specs.declared.item.Action.{Action}
+use Rattle.pool_model.specs.declared.item.Change.{Change}
+use Rattle.pool_model.specs.declared.item.Change.TheVariants.{Create}
+use Rattle.pool_model.specs.declared.item.Item.{Item}
+use Rattle.pool_model.specs.declared.item.Item.TheVariants.{Write as WriteItem, Action as ActionItem}
+use Rattle.pool_model.specs.declared.item.Write.{Write}
+use Rattle.pool_model.specs.declared.refusal.Refusal.TheVariants as causes
+use Rattle.pool_model.specs.declared.refusal.Refusal.{Refusal as Cause}
+use Rattle.pool_model.specs.declared.step.Step.{Step}
+use Rattle.pool_model.specs.declared.step.Step.TheVariants.{Hold, Write as WriteStep, Act, Release, Close, Quiesce, Plan, Device}
+use Rattle.pool_model.specs.declared.step.Reply.{Reply}
+use Rattle.pool_model.specs.declared.step.Reply.TheVariants.{Held, Receipt, Released, Closed, Quiesced, Planned, Committed, Refused}
+use Rattle.pool_model.specs.Pools.{upto, PlainPool, Ledger, Entry, volume_at, changed, applied}
+use Rattle.pool_model.specs.View.{View, Given, Sync, Idle, Unplanned, Left, is_syncing, is_planned, is_quiescing, is_quiesced, is_suspended, hold_group, is_held, now_of, open_group, waiting_group}
+use Rattle.pool_model.specs.Flow.{Flow, flow_of, opened, added, counted_on, ledger_took}
+use Rattle.pool_model.specs.Refusals.{greatest, change_refusal, refusal_of, takes_memory}
+use Rattle.pool_model.specs.Machine.{StepOf, Granted, took, taken, left_waiting, committed_next, without_memory}
+use Rattle.pool_model.proofs.SoundFlows.{all_snoc, taken_hold}
+use Rattle.pool_model.proofs.Sounds.{sound_step}
+use Rattle.pool_model.proofs.Uptos.{itself}
+use Rattle.txg_pipeline.specs.declared.pipeline.Pipeline.{Pipeline}
+use Rattle.txg_pipeline.specs.declared.refusal.Refusal.{Refusal}
+use Rattle.txg_pipeline.specs.declared.refusal.Refusal.TheVariants.{NoMemory, AlreadyHeld, NoHold, OutOfOrder, NotNow}
+use Rattle.txg_pipeline.specs.Carries.{Carries, Does, IsUnchanged, IsNotAccepted}
+use Rattle.txg_pipeline.specs.Calls.{cause_of}
+use Rattle.txg_pipeline.proofs.Carrying.{kept_synced}
+use Rattle.pool_now.specs.declared.index.NameIndex.{NameIndex}
+use Rattle.pool_now.specs.declared.shape.VolumeShape.{VolumeShape}
+use Rattle.pool_now.specs.GoodChanges.{is_good_change, MakesGoodVolumes}
+use Rattle.pool_now.specs.Index.{Knows}
+use Rattle.pool_now.specs.NowMoves.{IsMadeBy, is_action_taken}
+use Rattle.pool_now.proofs.NowMoves.{knows_step, moves_now, now_taken, now_committed}
+use Rattle.pool_now.proofs.Overlays.{made_by_applied}
+use Rattle.pool_now.proofs.Pending.{below_step}
+use Rattle.pool_intake.specs.declared.intake.Intake.{Intake}
+use Rattle.pool_intake.specs.Follows.{Follows, KeepsCommitted}
+use Rattle.pool_intake.proofs.Judging.{hold_free, hold_held, release_free, close_free, close_early, quiesce_free, quiesce_early, plan_free, plan_early, write_barred, act_barred, act_late, change_free, name_free, is_good}
+
+-- some view after the step, which the intake follows
+abbrev pub Goes : View → Given → Step → Reply → Intake → Type 0
+Goes v given step reply new = (w : View) × StepOf v given step reply w × Follows new w × KeepsCommitted v w
+
+-- ---- nothing changes
+
+kept : (v : View) → KeepsCommitted v v
+kept v = record { vdevs = refl; first = refl; committed = refl; sync = refl; pools = refl; out = refl; synced = λ s. refl }
+
+-- the pipeline carries the same flow, and the index knows the same pool
+pub stays : (pipeline other : Pipeline) (index : NameIndex) (v : View) → Follows (record { pipeline = pipeline; index = index }) v → IsUnchanged pipeline other → Follows (record { pipeline = other; index = index }) v
+stays pipeline other index v r u = record { sound = r.sound; flow = u (flow_of v) r.flow; names = r.names; made = r.made; good = r.good }
+
+pub knows_on : (pipeline : Pipeline) (index other : NameIndex) (v : View) → Follows (record { pipeline = pipeline; index = index }) v → (Knows index (now_of v) → Knows other (now_of v)) → Follows (record { pipeline = pipeline; index = other }) v
+knows_on pipeline index other v r f = record { sound = r.sound; flow = r.flow; names = f r.names; made = r.made; good = r.good }
+
+pub refuses : (new : Intake) (v : View) (given : Given) (step : Step) (cause : Cause) → Follows new v → refusal_of v step ≡ Some cause → Goes v given step (Refused cause) new
+refuses new v given step cause r e = (v, inl (record { cause = cause; first = e; answer = refl; unchanged = refl }), r, kept v)
+
+pub lacks : (new : Intake) (v : View) (given : Given) (step : Step) → Follows new v → IsTrue (takes_memory step) → v ≡ without_memory v step → Goes v given step (Refused causes.NoMemory) new
+lacks new v given step r t e = (v, inr (inl (record { takes = t; answer = refl; leaves = e })), r, kept v)
+
+-- a cause by the name that the machine gives it
+pub as_named : (new : Intake) (v : View) (given : Given) (step : Step) (cause : Refusal) (named : Cause) → named ≡ cause_of cause → Goes v given step (Refused (cause_of cause)) new → Goes v given step (Refused named) new
+as_named new v given step cause named e g = subst (λ (x : Cause). Goes v given step (Refused x) new) (sym e) g
+
+-- ---- refusals by the pipeline
+
+along : (new : Intake) (v : View) (given : Given) (step : Step) (cause is : Refusal) → cause ≡ is → Goes v given step (Refused (cause_of is)) new → Goes v given step (Refused (cause_of cause)) new
+along new v given step cause is e g = subst (λ (x : Refusal). Goes v given step (Refused (cause_of x)) new) (sym e) g
+
+pub hold_refused : (new : Intake) (v : View) (given : Given) (writer : ℕ) (cause : Refusal) → Follows new v → is_suspended v ≡ false → (cause ≡ NoMemory) ⊎ ((cause ≡ AlreadyHeld) × (is_some (hold_group writer v.holds) ≡ true)) → Goes v given (Hold writer) (Refused (cause_of cause)) new
+hold_refused new v given writer cause r u h =
+    ⊎_elim
+    (λ e. along new v given (Hold writer) cause NoMemory e (lacks new v given (Hold writer) r refl refl))
+    (λ x. along new v given (Hold writer) cause AlreadyHeld x.0 (refuses new v given (Hold writer) causes.AlreadyHeld r (hold_held v writer u x.1)))
+    h
+
+pub release_refused : (new : Intake) (v : View) (given : Given) (writer : ℕ) (cause : Refusal) → Follows new v → cause ≡ NoHold → hold_group writer v.holds ≡ None → Goes v given (Release writer) (Refused (cause_of cause)) new
+release_refused new v given writer cause r e n = along new v given (Release writer) cause NoHold e (refuses new v given (Release writer) causes.NoHold r (release_free v writer n))
+
+pub close_refused : (new : Intake) (v : View) (given : Given) (cause : Refusal) → Follows new v → is_suspended v ≡ false → cause ≡ NotNow → (is_some v.waiting ≡ true) ⊎ (greatest ≤ open_group v) → Goes v given Close (Refused (cause_of cause)) new
+close_refused new v given cause r u e h = along new v given Close cause NotNow e (refuses new v given Close causes.NotNow r (close_early v u h))
+
+pub quiesce_refused : (new : Intake) (v : View) (given : Given) (cause : Refusal) → Follows new v → is_suspended v ≡ false → cause ≡ NotNow → (is_quiescing v.waiting ≡ false) ⊎ (is_held (waiting_group v) v.holds ≡ true) → Goes v given Quiesce (Refused (cause_of cause)) new
+quiesce_refused new v given cause r u e h = along new v given Quiesce cause NotNow e (refuses new v given Quiesce causes.NotNow r (quiesce_early v u h))
+
+pub write_refused : (new : Intake) (v : View) (given : Given) (w : Write) (cause : Refusal) → Follows new v → is_suspended v ≡ false → IsNotAccepted (flow_of v) (WriteItem w) cause → Goes v given (WriteStep w) (Refused (cause_of cause)) new
+write_refused new v given w NoMemory r u n = lacks new v given (WriteStep w) r refl refl
+write_refused new v given w NoHold r u n = refuses new v given (WriteStep w) causes.NoHold r (write_barred v w NoHold u n)
+write_refused new v given w (OutOfOrder expected) r u n = refuses new v given (WriteStep w) (causes.OutOfOrder expected) r (write_barred v w (OutOfOrder expected) u n)
+write_refused new v given w AlreadyHeld r u n = absurd n
+write_refused new v given w NotNow r u n = absurd n
+
+pub act_refused : (new : Intake) (v : View) (given : Given) (a : Action) (cause : Refusal) → Follows new v → is_suspended v ≡ false → IsNotAccepted (flow_of v) (ActionItem a) cause → Goes v given (Act a) (Refused (cause_of cause)) new
+act_refused new v given a NoMemory r u n = lacks new v given (Act a) r refl refl
+act_refused new v given a NoHold r u n = refuses new v given (Act a) causes.NoHold r (act_barred v a NoHold u n)
+act_refused new v given a (OutOfOrder expected) r u n = refuses new v given (Act a) (causes.OutOfOrder expected) r (act_barred v a (OutOfOrder expected) u n)
+act_refused new v given a AlreadyHeld r u n = absurd n
+act_refused new v given a NotNow r u n = refuses new v given (Act a) causes.NotNow r (act_late v a n.0 u n.1 n.2)
+
+-- ---- groups, holds and items go on
+
+-- the view with other groups above the committed one, other holds and other items
+abbrev moved : View → Option Stage → List Holder → (ℕ → ℕ) → Ledger → View
+moved v waiting holds next ledger = record v { waiting = waiting; holds = holds; next = next; ledger = ledger }
+
+-- a granted step that leaves what is committed
+goes : (old new : Intake) (v : View) (given : Given) (step : Step) (reply : Reply) (waiting : Option Stage) (holds : List Holder) (next : ℕ → ℕ) (ledger : Ledger) → Follows old v
+    → StepOf v given step reply (moved v waiting holds next ledger)
+    → Carries new.pipeline (flow_of (moved v waiting holds next ledger))
+    → Knows new.index (now_of (moved v waiting holds next ledger))
+    → ((group : ℕ) → MakesGoodVolumes (ledger group))
+    → (is_syncing v.sync ≡ true → ledger (suc v.committed) ≡ v.ledger (suc v.committed))
+    → Goes v given step reply new
+goes old new v given step reply waiting holds next ledger r s k n g same = (
+  moved v waiting holds next ledger,
+  s,
+  record {
+    sound = sound_step v given step reply (moved v waiting holds next ledger) r.sound s;
+    flow = k;
+    names = n;
+    made = below_step v given step reply (moved v waiting holds next ledger) s r.made;
+    good = g;
+  },
+  record { vdevs = refl; first = refl; committed = refl; sync = refl; pools = refl; out = refl; synced = same },
+)
+
+-- one that takes no action: the index stays
+goes_on : (pipeline other : Pipeline) (index : NameIndex) (v : View) (given : Given) (step : Step) (reply : Reply) (waiting : Option Stage) (holds : List Holder) (next : ℕ → ℕ) (ledger : Ledger) → Follows (record { pipeline = pipeline; index = index }) v
+    → refusal_of v step ≡ None
+    → Granted v given step reply (moved v waiting holds next ledger)
+    → is_action_taken step reply ≡ false
+    → Carries other (flow_of (moved v waiting holds next ledger))
+    → ((group : ℕ) → MakesGoodVolumes (ledger group))
+    → (is_syncing v.sync ≡ true → ledger (suc v.committed) ≡ v.ledger (suc v.committed))
+    → Goes v given step reply (record { pipeline = other; index = index })
+goes_on pipeline other index v given step reply waiting holds next ledger r none granted a k g same =
+    let s : StepOf v given step reply (moved v waiting holds next ledger) = inr (inr (record { none = none; granted = granted })) in
+    goes (record { pipeline = pipeline; index = index }) (record { pipeline = other; index = index }) v given step reply waiting holds next ledger r s k (knows_step v given step reply (moved v waiting holds next ledger) index r.sound s a r.names) g same
+
+pub held : (pipeline other : Pipeline) (index : NameIndex) (v : View) (given : Given) (writer group : ℕ) → Follows (record { pipeline = pipeline; index = index }) v → is_suspended v ≡ false → Does pipeline (Hold writer) (Held group) other → Goes v given (Hold writer) (Held group) (record { pipeline = other; index = index })
+held pipeline other index v given writer group r u d =
+    let g = d (flow_of v) r.flow in
+    goes_on pipeline other index v given (Hold writer) (Held group) v.waiting _ v.next v.ledger r (hold_free v writer u g.1.0) (g.1.1, refl) refl (subst (Carries other) g.1.2 g.2) r.good (λ s. refl)
+
+pub released : (pipeline other : Pipeline) (index : NameIndex) (v : View) (given : Given) (writer : ℕ) → Follows (record { pipeline = pipeline; index = index }) v → refusal_of v (Release writer) ≡ None → Does pipeline (Release writer) Released other → Goes v given (Release writer) Released (record { pipeline = other; index = index })
+released pipeline other index v given writer r none d =
+    let g = d (flow_of v) r.flow in
+    goes_on pipeline other index v given (Release writer) Released v.waiting _ v.next v.ledger r none refl refl (subst (Carries other) g.1 g.2) r.good (λ s. refl)
+
+pub closed : (pipeline other : Pipeline) (index : NameIndex) (v : View) (given : Given) (group : ℕ) → Follows (record { pipeline = pipeline; index = index }) v → is_suspended v ≡ false → Does pipeline Close (Closed group) other → Goes v given Close (Closed group) (record { pipeline = other; index = index })
+closed pipeline other index v given group r u d =
+    let g = d (flow_of v) r.flow in
+    goes_on pipeline other index v given Close (Closed group) (Some Quiescing) v.holds v.next v.ledger r (close_free v u g.1.0 g.1.1) (g.1.2, refl) refl (subst (Carries other) g.1.3 g.2) r.good (λ s. refl)
+
+pub quiesced : (pipeline other : Pipeline) (index : NameIndex) (v : View) (given : Given) (group : ℕ) → Follows (record { pipeline = pipeline; index = index }) v → is_suspended v ≡ false → Does pipeline Quiesce (Quiesced group) other → Goes v given Quiesce (Quiesced group) (record { pipeline = other; index = index })
+quiesced pipeline other index v given group r u d =
+    let g = d (flow_of v) r.flow in
+    goes_on pipeline other index v given Quiesce (Quiesced group) (Some QuiescedStage) v.holds v.next v.ledger r (quiesce_free v u g.1.0 g.1.1) (g.1.2, refl) refl (subst (Carries other) g.1.3 g.2) r.good (λ s. refl)
+
+-- ---- items
+
+-- what an item adds to the volumes that a group is to make
+abbrev IsGoodItem : Item → Type 0
+IsGoodItem (WriteItem w) = Unit {0}
+IsGoodItem (ActionItem a) = is_good_change a.change ≡ true
+
+good_added : (entry : Entry) (item : Item) → IsGoodItem item → MakesGoodVolumes entry → MakesGoodVolumes (added entry item)
+good_added entry (WriteItem w) i g = g
+good_added entry (ActionItem a) i g = all_snoc (λ (x : Action). is_good_change x.change ≡ true) entry.actions a g i
+
+good_took : (ledger : Ledger) (group : ℕ) (item : Item) → IsGoodItem item → ((g : ℕ) → MakesGoodVolumes (ledger g)) → (g : ℕ) → MakesGoodVolumes (ledger_took ledger group item g)
+good_took ledger group item i good g = elim (g == group) as (λ b. MakesGoodVolumes (cond b (added (ledger g) item) (ledger g))) [ true ↦ good_added (ledger g) item i (good g) | false ↦ good g ]
+
+pub wrote : (pipeline other : Pipeline) (index : NameIndex) (v : View) (given : Given) (w : Write) (group : ℕ) → Follows (record { pipeline = pipeline; index = index }) v → refusal_of v (WriteStep w) ≡ None → Does pipeline (WriteStep w) (Receipt group) other → Goes v given (WriteStep w) (Receipt group) (record { pipeline = other; index = index })
+wrote pipeline other index v given w group r none d =
+    let g = d (flow_of v) r.flow in
+    let takes = taken_hold (flow_of v) w.writer group v.holds r.sound.flow.holds g.1.0 in
+    goes_on pipeline other index v given (WriteStep w) (Receipt group) v.waiting v.holds (counted_on v.next w.writer) (ledger_took v.ledger group (WriteItem w)) r none (g.1.0, refl) refl (subst (Carries other) g.1.3 g.2) (good_took v.ledger group (WriteItem w) tt r.good) (λ s. sym (kept_synced (flow_of v) group (WriteItem w) _ takes s refl))
+
+-- the index knows the name that the action makes
+pub acted : (pipeline other : Pipeline) (index added_to : NameIndex) (v : View) (given : Given) (a : Action) (group : ℕ) (name : List ℕ) (shape : VolumeShape) → Follows (record { pipeline = pipeline; index = index }) v → is_suspended v ≡ false → refusal_of v (Act a) ≡ None → Does pipeline (Act a) (Receipt group) other
+    → a.change ≡ Create name shape.size shape.block_size → shape.group ≡ open_group v
+    → ((pool : PlainPool) → Knows index pool → volume_at name pool ≡ None → Knows added_to (changed shape.group pool (Create name shape.size shape.block_size)))
+    → Goes v given (Act a) (Receipt group) (record { pipeline = other; index = added_to })
+acted pipeline other index added_to v given a group name shape r u none d is opened add =
+    let g = d (flow_of v) r.flow in
+    let takes = taken_hold (flow_of v) a.writer group v.holds r.sound.flow.holds g.1.0 in
+    let s : StepOf v given (Act a) (Receipt group) (took v a.writer group (ActionItem a)) = inr (inr (record { none = none; granted = (g.1.0, refl) })) in
+    let moves = moves_now v given (Act a) (Receipt group) (took v a.writer group (ActionItem a)) r.sound s in
+    let free = change_free v a u none in
+    let named : volume_at name (now_of v) ≡ None = name_free name shape.size shape.block_size (now_of v) (ap (λ (x : Change). change_refusal x (now_of v)) (sym is) ∙ free) in
+    let now : now_of (took v a.writer group (ActionItem a)) ≡ changed shape.group (now_of v) (Create name shape.size shape.block_size) = moves.1 ∙ (λ i. changed ((moves.0 ∙ sym opened) i) (now_of v) (is i)) in
+    goes (record { pipeline = pipeline; index = index }) (record { pipeline = other; index = added_to }) v given (Act a) (Receipt group) v.waiting v.holds (counted_on v.next a.writer) (ledger_took v.ledger group (ActionItem a)) r s (subst (Carries other) g.1.4 g.2) (subst (Knows added_to) (sym now) (add (now_of v) r.names named)) (good_took v.ledger group (ActionItem a) (is_good a.change (now_of v) free) r.good) (λ s. sym (kept_synced (flow_of v) group (ActionItem a) _ takes s refl))
+
+-- ---- the group that is synced
+
+idle_is : (sync : Sync) → is_syncing sync ≡ false → sync ≡ Idle
+idle_is Idle e = refl
+idle_is Unplanned e = absurd (true≢false e)
+idle_is (Left calls) e = absurd (true≢false e)
+
+unplanned_is : (sync : Sync) → is_syncing sync ≡ true → is_planned sync ≡ false → sync ≡ Unplanned
+unplanned_is Idle e p = absurd (true≢false (sym e))
+unplanned_is Unplanned e p = refl
+unplanned_is (Left calls) e p = absurd (true≢false p)
+
+-- a group that is synced already, and has no plan, is taken as it is
+taken_already : (v : View) → v.sync ≡ Unplanned → taken v Unplanned ≡ v
+taken_already v e = λ i. record v { sync = sym e i; waiting = left e i }
+  where
+    left : (e : v.sync ≡ Unplanned) → left_waiting v.sync v.waiting ≡ v.waiting
+    left e = ap (λ s. left_waiting s v.waiting) e
+
+pub takes_again : (new : Intake) (v : View) (timestamp : ℕ) → Follows new v → is_suspended v ≡ false → is_planned v.sync ≡ false → is_syncing v.sync ≡ true → (refusal_of v (Plan timestamp) ≡ None) × Follows new (taken v Unplanned)
+takes_again new v timestamp r u p s = (plan_free v timestamp u p (inl s), subst (Follows new) (sym (taken_already v (unplanned_is v.sync s p))) r)
+
+-- the quiesced group begins to be synced
+pub takes_group : (pipeline other : Pipeline) (index : NameIndex) (v : View) (timestamp group : ℕ) → Follows (record { pipeline = pipeline; index = index }) v → is_suspended v ≡ false → is_planned v.sync ≡ false → is_syncing v.sync ≡ false → Does pipeline (Plan 0) (Planned group) other → (refusal_of v (Plan timestamp) ≡ None) × Follows (record { pipeline = other; index = index }) (taken v Unplanned)
+takes_group pipeline other index v timestamp group r u p idle d =
+    let g = d (flow_of v) r.flow in
+    ⊎_elim
+    (λ x. absurd (true≢false (sym x.0 ∙ idle)))
+    (λ x. (
+      plan_free v timestamp u p (inr (ap is_quiesced x.1)),
+      begun (subst (Carries other) x.2 g.2) (ap is_quiesced x.1),
+    ))
+    g.1.1
+  where
+    begun : Carries other (record (flow_of v) { syncing = true; waiting = None }) → is_quiesced v.waiting ≡ true → Follows (record { pipeline = other; index = index }) (taken v Unplanned)
+    begun k q =
+        let none : left_waiting v.sync v.waiting ≡ None = ap (λ s. left_waiting s v.waiting) (idle_is v.sync idle) in
+        let flow : Carries other (flow_of (taken v Unplanned)) = subst (λ (w : Option Stage). Carries other (record (flow_of v) { syncing = true; waiting = w })) (sym none) k in
+        record {
+          sound = record { first = r.sound.first; flow = flow.sound };
+          flow = flow;
+          names = subst (Knows index) (sym (now_taken v Unplanned (λ i. not (p i) && (idle i || q i)) refl)) r.names;
+          made = r.made;
+          good = r.good;
+        }
+
+-- there was none to take
+pub takes_none : (v : View) (timestamp : ℕ) (cause : Refusal) (named : Cause) → is_suspended v ≡ false → is_planned v.sync ≡ false → is_syncing v.sync ≡ false → named ≡ cause_of cause → cause ≡ NotNow → (is_syncing v.sync ≡ true) ⊎ (is_quiesced v.waiting ≡ false) → refusal_of v (Plan timestamp) ≡ Some named
+takes_none v timestamp cause named u p idle n c h =
+    plan_early v timestamp u p idle (⊎_elim (λ s. absurd (true≢false (sym s ∙ idle))) (λ q. q) h)
+    ∙ ap Some (sym (n ∙ ap cause_of c))
+
+-- the group that is synced is committed
+pub commits : (pipeline other : Pipeline) (index : NameIndex) (v : View) (group : ℕ) → Follows (record { pipeline = pipeline; index = index }) v → Does pipeline Device (Committed group) other → (group ≡ suc v.committed) × Follows (record { pipeline = other; index = index }) (committed_next v)
+commits pipeline other index v group r d =
+    let g = d (flow_of v) r.flow in
+    let flow : Carries other (flow_of (committed_next v)) = subst (Carries other) g.1.2 g.2 in (
+      g.1.1,
+      record {
+        sound = record { first = let f = r.sound.first in omega arith; flow = flow.sound };
+        flow = flow;
+        names = subst (Knows index) (sym (now_committed v g.1.0)) r.names;
+        made = subst (λ b. IsMadeBy (suc v.committed) (cond b (applied (suc v.committed) (v.pools v.committed) (v.ledger (suc v.committed))) (v.pools (suc v.committed)))) (sym (itself (suc v.committed))) (made_by_applied v.committed (v.pools v.committed) (v.ledger (suc v.committed)) r.made);
+        good = r.good;
+      },
+    )
+
+-- ---- other views
+
+-- what is followed are the groups, the pools and the first group: nothing of disks
+pub followed : (intake : Intake) (v w : View) → Follows intake v → flow_of w ≡ flow_of v → w.pools ≡ v.pools → w.first ≡ v.first → Follows intake w
+followed intake v w r e p f =
+    let flow = subst (Carries intake.pipeline) (sym e) r.flow in record {
+      sound = record { first = let low = r.sound.first in omega arith; flow = flow.sound };
+      flow = flow;
+      names = subst (Knows intake.index) (sym now) r.names;
+      made = subst (λ group. IsMadeBy group (w.pools w.committed)) (sym same) (subst (IsMadeBy v.committed) (sym (λ i. p i (same i))) r.made);
+      good = λ group. subst MakesGoodVolumes (ap (λ (x : Flow). x.ledger group) (sym e)) (r.good group);
+    }
+  where
+    same : w.committed ≡ v.committed
+    same = ap (λ (x : Flow). x.committed) e
+
+    now : now_of w ≡ now_of v
+    now = λ i. upto (e i).committed (p i (e i).committed) (e i).ledger (opened (e i))

@@ -1,0 +1,40 @@
+-- When an intake follows a view, and what its steps are.
+use Rattle.std.specs.Prelude.{◌≡◌, ℕ, suc, true, false}
+use Rattle.pool_model.specs.declared.step.Step.{Step}
+use Rattle.pool_model.specs.declared.step.Reply.{Reply}
+use Rattle.pool_model.specs.View.{View, Given, is_syncing, is_suspended, now_of}
+use Rattle.pool_model.specs.Flow.{flow_of}
+use Rattle.pool_model.specs.Machine.{StepOf}
+use Rattle.pool_model.specs.Sound.{IsSound}
+use Rattle.txg_pipeline.specs.Carries.{Carries}
+use Rattle.pool_now.specs.GoodChanges.{MakesGoodVolumes}
+use Rattle.pool_now.specs.Index.{Knows}
+use Rattle.pool_now.specs.NowMoves.{GroupsAreBelow}
+use Rattle.pool_intake.specs.declared.intake.Intake.{Intake}
+
+-- the intake is in a state that the view describes
+pub record Follows (intake : Intake) (v : View) : Type 0 where
+  pub sound : IsSound v
+  pub flow : Carries intake.pipeline (flow_of v)
+  pub names : Knows intake.index (now_of v)
+  pub made : GroupsAreBelow v
+  -- each volume that a group is to make may be made
+  pub good : (group : ℕ) → MakesGoodVolumes (v.ledger group)
+
+-- what is committed, and what the group that is synced has accepted, stays
+pub record KeepsCommitted (v w : View) : Type 0 where
+  pub vdevs : w.vdevs ≡ v.vdevs
+  pub first : w.first ≡ v.first
+  pub committed : w.committed ≡ v.committed
+  pub sync : w.sync ≡ v.sync
+  pub pools : w.pools ≡ v.pools
+  pub out : w.out ≡ v.out
+  pub synced : is_syncing v.sync ≡ true → w.ledger (suc v.committed) ≡ v.ledger (suc v.committed)
+
+-- in each view that old follows this is a step of the machine, whatever is given, to a view that new follows
+abbrev pub Steps : Intake → Step → Reply → Intake → Type 0
+Steps old step reply new = (v : View) (given : Given) → Follows old v → (w : View) × StepOf v given step reply w × Follows new w × KeepsCommitted v w
+
+-- the same where the pool is not suspended
+abbrev pub StepsUnlessSuspended : Intake → Step → Reply → Intake → Type 0
+StepsUnlessSuspended old step reply new = (v : View) (given : Given) → Follows old v → is_suspended v ≡ false → (w : View) × StepOf v given step reply w × Follows new w × KeepsCommitted v w

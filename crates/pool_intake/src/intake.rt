@@ -1,0 +1,214 @@
+//! The intake of a pool.
+ghost use Rattle.std.specs.Prelude.{◌≡◌, IfOk};
+ghost use Rattle.pool_model.specs.declared.item.Change.TheVariants.{Create};
+
+use pool_model::{Action, Change, Item, Name, Refusal, Reply, Write};
+use pool_now::{NameIndex, VolumeShape, against_change, against_write, named, read_pending};
+use std::alloc::{AllocError, Global};
+use txg_pipeline::{Pending, Pipeline};
+
+/// What a pool accepts: its groups, the holds of writers, the pending items, and the names of NOW.
+///
+/// A refused call leaves what was accepted as it was. Whether the pool is suspended is for the caller to judge first.
+#[derive(Drop)]
+pub struct Intake {
+    pipeline: Pipeline,
+    index: NameIndex,
+}
+
+impl Intake {
+    ghost use Rattle.std.specs.Prelude.{ℕ, suc, List, length, ◌+◌, ◌≤◌, None, Some, false, is_some, IfSome, IfErr, OnOk};
+    ghost use Rattle.pool_model.specs.declared.step.Step.TheVariants as steps;
+    ghost use Rattle.pool_model.specs.declared.volume.PlainVolume.{PlainVolume};
+    ghost use Rattle.pool_model.specs.Pools.{volume_at};
+    ghost use Rattle.pool_model.specs.View.{View, Vdev, Unplanned, started, is_syncing, is_planned, is_suspended, now_of};
+    ghost use Rattle.pool_model.specs.Refusals.{refusal_of};
+    ghost use Rattle.pool_model.specs.Machine.{taken, committed_next};
+    ghost use Rattle.pool_now.specs.Shapes.{shape_of, shape_at};
+    ghost use Rattle.pool_now.specs.Overlay.{base_of, HasRange};
+    ghost use Rattle.pool_intake.specs.Follows.{Follows, Steps, StepsUnlessSuspended};
+
+    /// An intake over an empty pool that is committed as group 3.
+    pub fn new(alloc: Global) -> Intake
+        ensures { (vdevs : List Vdev) → Follows result (started vdevs) }
+    {
+        Intake {
+            pipeline: Pipeline::new(alloc, 3),
+            index: NameIndex::new(alloc),
+        }
+    }
+
+    /// The writer takes a hold of the open group.
+    pub fn hold(&mut self, writer: u32) -> Reply
+        ensures { StepsUnlessSuspended self.old (steps.Hold writer) result self.new }
+    {
+        match self.pipeline.hold(writer) {
+            Ok(group) => Reply::Held(group),
+            Err(cause) => Reply::Refused(named(cause)),
+        }
+    }
+
+    /// A write joins the group of its writer's hold.
+    pub fn write(&mut self, write: Write) -> Reply
+        ensures { StepsUnlessSuspended self.old (steps.Write write) result self.new }
+    {
+        if let Some(cause) = self.write_refusal(&write) {
+            return Reply::Refused(cause);
+        }
+        match self.pipeline.accept(Item::Write(write)) {
+            Ok(group) => Reply::Receipt(group),
+            Err(cause) => Reply::Refused(named(cause)),
+        }
+    }
+
+    /// An action joins the open group, and takes effect in NOW at once.
+    pub fn act(&mut self, alloc: Global, action: Action) -> Reply
+        ensures { StepsUnlessSuspended self.old (steps.Act action) result self.new }
+    {
+        if let Some(cause) = self.action_refusal(&action) {
+            return Reply::Refused(cause);
+        }
+        let Ok(()) = self.index.reserve() else {
+            return Reply::Refused(Refusal::NoMemory);
+        };
+        let Ok((name, shape)) = new_volume(alloc, &action.change, self.pipeline.open_group()) else {
+            return Reply::Refused(Refusal::NoMemory);
+        };
+        match self.pipeline.accept(Item::Action(action)) {
+            Ok(group) => {
+                self.index.add(name, shape);
+                Reply::Receipt(group)
+            }
+            Err(cause) => Reply::Refused(named(cause)),
+        }
+    }
+
+    /// The writer gives its hold back, of a suspended pool too.
+    pub fn release(&mut self, writer: u32) -> Reply
+        ensures { Steps self.old (steps.Release writer) result self.new }
+    {
+        match self.pipeline.release(writer) {
+            Ok(()) => Reply::Released,
+            Err(cause) => Reply::Refused(named(cause)),
+        }
+    }
+
+    /// The open group begins to wait, and the next one opens.
+    pub fn close(&mut self) -> Reply
+        ensures { StepsUnlessSuspended self.old steps.Close result self.new }
+    {
+        match self.pipeline.close_open() {
+            Ok(group) => Reply::Closed(group),
+            Err(cause) => Reply::Refused(named(cause)),
+        }
+    }
+
+    /// The waiting group takes nothing more, where no hold is left in it.
+    pub fn quiesce(&mut self) -> Reply
+        ensures { StepsUnlessSuspended self.old steps.Quiesce result self.new }
+    {
+        match self.pipeline.mark_quiesced() {
+            Ok(group) => Reply::Quiesced(group),
+            Err(cause) => Reply::Refused(named(cause)),
+        }
+    }
+
+    /// Takes the quiesced group to be synced, if none is synced. `NotNow` where none is quiesced either.
+    pub fn begin_sync(&mut self) -> Result<(), Refusal>
+        ensures begun { OnOk result ((v : View) (timestamp : ℕ) → Follows self.old v → is_suspended v ≡ false → is_planned v.sync ≡ false → (refusal_of v (steps.Plan timestamp) ≡ None) × Follows self.new (taken v Unplanned)) }
+        ensures refused { IfErr result (λ cause. (v : View) (timestamp : ℕ) → Follows self.old v → is_suspended v ≡ false → is_planned v.sync ≡ false → (refusal_of v (steps.Plan timestamp) ≡ Some cause) × Follows self.new v) }
+    {
+        if self.pipeline.is_syncing() {
+            return Ok(());
+        }
+        match self.pipeline.take() {
+            Ok(_) => Ok(()),
+            Err(cause) => Err(named(cause)),
+        }
+    }
+
+    /// What the group that is synced has accepted.
+    pub fn syncing_items(&self) -> Option<&Pending>
+        ensures some { (v : View) → Follows self.now v → is_some result ≡ is_syncing v.sync }
+        ensures items { IfSome result (λ items. (v : View) → Follows self.now v → items.now ≡ v.ledger (suc v.committed)) }
+    {
+        self.pipeline.syncing_items()
+    }
+
+    /// The group that was committed last.
+    pub fn committed_group(&self) -> u64
+        ensures { (v : View) → Follows self.now v → result ≡ v.committed }
+    {
+        self.pipeline.committed_group()
+    }
+
+    /// The group that is synced is committed, and its items are let go.
+    pub fn commit(&mut self) -> Result<u64, Refusal>
+        ensures committed { IfOk result (λ group. (v : View) → Follows self.old v → (group ≡ suc v.committed) × Follows self.new (committed_next v)) }
+        ensures refused { IfErr result (λ cause. (cause ≡ Refusal.NotNow) × ((v : View) → Follows self.old v → (is_syncing v.sync ≡ false) × Follows self.new v)) }
+    {
+        match self.pipeline.committed() {
+            Ok(group) => Ok(group),
+            Err(cause) => Err(named(cause)),
+        }
+    }
+
+    /// The shape of the volume of that name, in NOW.
+    pub fn find(&self, name: &Name) -> Option<VolumeShape>
+        ensures { (v : View) → Follows self.now v → result ≡ shape_at name.now (now_of v) }
+    {
+        self.index.find(name)
+    }
+
+    /// Lays all pending writes over a range of the volume of this name, which has this shape in NOW: the buffer holds the
+    /// range of the bytes that lie under them (those of the committed volume, or zeros where a pending group makes the
+    /// volume), and then has the range of the volume's bytes.
+    pub fn read_pending(&self, shape: VolumeShape, name: &Name, offset: u64, buffer: &mut [u8])
+        requires { offset + length buffer.old ≤ shape.size }
+        ensures { (v : View) (volume : PlainVolume) → Follows self.now v → volume_at name.now (now_of v) ≡ Some volume → shape_of volume ≡ shape →
+            HasRange buffer.old (base_of v name.now volume) offset → HasRange buffer.new volume.bytes offset }
+    {
+        read_pending(&self.pipeline, shape, name, offset, buffer);
+    }
+
+    // Why a write is refused, by its writer's hold and number and by its volume in NOW.
+    fn write_refusal(&self, write: &Write) -> Option<Refusal>
+        ensures { (v : View) → Follows self.now v → is_suspended v ≡ false → result ≡ refusal_of v (steps.Write write.now) }
+    {
+        match self.pipeline.admitted(write.writer, write.number) {
+            Ok(group) => against_write(write, group, self.index.find(&write.volume)),
+            Err(cause) => Some(named(cause)),
+        }
+    }
+
+    // Why an action is refused, by its writer's hold and number and by the names of NOW.
+    fn action_refusal(&self, action: &Action) -> Option<Refusal>
+        ensures { (v : View) → Follows self.now v → is_suspended v ≡ false → result ≡ refusal_of v (steps.Act action.now) }
+    {
+        match self.pipeline.admitted(action.writer, action.number) {
+            Ok(group) if group != self.pipeline.open_group() => Some(Refusal::NotNow),
+            Ok(_) => against_change(&action.change, &self.index),
+            Err(cause) => Some(named(cause)),
+        }
+    }
+}
+
+// The name and the shape of the volume that a change makes in this group.
+fn new_volume(alloc: Global, change: &Change, group: u64) -> Result<(Name, VolumeShape), AllocError>
+    ensures { IfOk result (λ volume. (change.now ≡ Create volume.0 volume.1.size volume.1.block_size) × (volume.1.group ≡ group)) }
+{
+    match change {
+        Change::Create {
+            name,
+            size,
+            block_size,
+        } => {
+            let shape = VolumeShape {
+                size: *size,
+                block_size: *block_size,
+                group,
+            };
+            Ok((name.copied(alloc)?, shape))
+        }
+    }
+}

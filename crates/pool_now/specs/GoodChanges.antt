@@ -1,0 +1,18 @@
+-- Changes that a pool may make.
+use Rattle.std.specs.Prelude.{◌≡◌, ℕ, ◌%◌, ◌^◌, Bool, true, nat_le, ◌==◌, ◌&&◌}
+use Rattle.std.specs.List.{AllByRecursion}
+use Rattle.pool_model.specs.declared.item.Change.{Change}
+use Rattle.pool_model.specs.declared.item.Change.TheVariants.{Create}
+use Rattle.pool_model.specs.Names.{is_block_size}
+use Rattle.pool_model.specs.Pools.{Entry}
+
+-- a volume may have this size and this block size
+abbrev pub is_good_size : ℕ → ℕ → Bool
+is_good_size size block_size = is_block_size block_size && ((size % block_size == 0) && (nat_le block_size size && nat_le size (2 ^ 40)))
+
+abbrev pub is_good_change : Change → Bool
+is_good_change (Create name size block_size) = is_good_size size block_size
+
+-- each volume that the group makes may be made
+abbrev pub MakesGoodVolumes : Entry → Type 0
+MakesGoodVolumes entry = AllByRecursion (λ a. is_good_change a.change ≡ true) entry.actions

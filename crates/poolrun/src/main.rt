@@ -1,0 +1,48 @@
+//! `poolrun` runs a schedule from standard input and prints a reply a line. It takes no words but `--help` and
+//! `--version`. Its status is 0 where the whole schedule was run, and else 2.
+#![tactic(auto)]
+
+use clap::Command;
+use model_disk::MemDisk;
+use pool_core::Core;
+use programs::schedule;
+use std::io::{BufReader, BufWriter, ErrorKind};
+use std::process::ExitCode;
+use std::{env, io};
+
+/// The pools that schedules are run against.
+type Pool = Core<MemDisk>;
+
+const ABOUT: &str =
+    "Runs a schedule from standard input against a storage pool, and prints a reply a line";
+
+fn run(rt: &HostRuntime) -> io::Result<u8> {
+    let alloc = rt.alloc();
+    let words: Vec<String> = env::args(rt)?.collect(alloc)?;
+    let command = Command::new(alloc, "poolrun").version("1.0").about(ABOUT);
+    if let Err(error) = command.try_get_matches_from(words.as_slice()) {
+        error.print(rt)?;
+        return Ok(if error.use_stderr() { 2 } else { 0 });
+    }
+    let input = BufReader::new(alloc, rt.reader())?;
+    let mut output = BufWriter::new(alloc, io::writer(rt))?;
+    let status = schedule::<Pool, _, _, _>(alloc, input, &mut output, &mut rt.stderr());
+    Ok(status.number())
+}
+
+fn main(rt: HostRuntime) -> ExitCode {
+    let status = match run(&rt) {
+        Ok(status) => status,
+        Err(error) => {
+            let fault = if error.kind() == ErrorKind::OutOfMemory {
+                "memory"
+            } else {
+                "output"
+            };
+            // Where this can't be told either, the status still says it.
+            let _ = eprintln!(rt; "poolrun: {fault}");
+            2
+        }
+    };
+    ExitCode::from(status)
+}

@@ -1,0 +1,75 @@
+-- What a command asks of a pool, and what it is answered.
+use Rattle.std.specs.Prelude.{◌≡◌, ◌⊎◌, ℕ, ◌-◌, ◌^◌, ◌≤◌, List, [], ◌∷◌, length, replicate, Bool, true, false, Option, Some, None}
+use Rattle.pool_model.specs.declared.item.Write.{Write}
+use Rattle.pool_model.specs.declared.item.Action.{Action}
+use Rattle.pool_model.specs.declared.item.Change.TheVariants.{Create as CreateChange}
+use Rattle.pool_model.specs.declared.step.Step.{Step}
+use Rattle.pool_model.specs.declared.step.Step.TheVariants as step
+use Rattle.pool_model.specs.declared.step.Reply.{Reply}
+use Rattle.pool_model.specs.declared.step.Reply.TheVariants as reply
+use Rattle.schedule_lines.specs.declared.command.Command.{Command}
+use Rattle.schedule_lines.specs.declared.command.Command.TheVariants.{Pool, Hold, Release, Write as WriteCommand, Create, Close, Quiesced, Plan, Device, Commit, Sync, Read, Under}
+use Rattle.schedule_lines.specs.declared.command.WriteLine.{WriteLine}
+use Rattle.schedule_lines.specs.declared.command.CreateLine.{CreateLine}
+use Rattle.programs.specs.Lengths.{StandsFor}
+
+-- the write of n bytes that a line asks for
+abbrev pub write_of : WriteLine → ℕ → Write
+write_of line n = record { writer = line.writer; number = line.number; volume = line.volume; offset = line.offset; bytes = replicate n line.byte }
+
+-- the creation that a line asks for
+abbrev pub action_of : CreateLine → Action
+action_of line = record { writer = line.writer; number = line.number; change = CreateChange line.volume line.size line.block_size }
+
+-- the first step of a command. A schedule tells no time.
+abbrev pub Begins : Command → Step → Type 0
+Begins (Pool line) s = ⊥
+Begins (Hold writer) s = s ≡ step.Hold writer
+Begins (Release writer) s = s ≡ step.Release writer
+Begins (WriteCommand line) s = (n : ℕ) × StandsFor line.len n × (s ≡ step.Write (write_of line n))
+Begins (Create line) s = s ≡ step.Act (action_of line)
+Begins Close s = s ≡ step.Close
+Begins Quiesced s = s ≡ step.Quiesce
+Begins Plan s = s ≡ step.Plan 0
+Begins Device s = s ≡ step.Device
+Begins Commit s = s ≡ step.Plan 0
+Begins Sync s = s ≡ step.Close
+Begins (Read line) s = s ≡ step.Read line.name line.offset line.len
+Begins (Under line) s = s ≡ step.ReadUnder line.group line.name line.offset line.len
+
+-- the step that brings a group on after this reply, unless it is committed or refused
+abbrev pub next_of : Reply → Option Step
+next_of (reply.Closed group) = Some step.Quiesce
+next_of (reply.Quiesced group) = Some (step.Plan 0)
+next_of (reply.Planned group) = Some step.Device
+next_of (reply.Moved phase) = Some step.Device
+next_of (reply.Replan disk) = Some (step.Plan 0)
+next_of _ = None
+
+-- a pool takes a step, and after each of these replies the one that follows from it; then comes the last reply
+abbrev pub Leads : {M : Type 0} → (M → Step → Reply → M → Type 0) → M → Step → List Reply → Reply → M → Type 0
+Leads {M = M} Steps old s [] last new = Steps old s last new
+Leads {M = M} Steps old s (r ∷ replies) last new = (between : M) × (next : Step) × Steps old s r between × (next_of r ≡ Some next) × Leads Steps between next replies last new
+
+-- steps are taken until none follows, or 2^64 are taken
+abbrev pub RunsOn : {M : Type 0} → (M → Step → Reply → M → Type 0) → M → Step → Reply → M → Type 0
+RunsOn Steps old s last new = (replies : List Reply) × Leads Steps old s replies last new × ((next_of last ≡ None) ⊎ (2 ^ 64 - 1 ≤ length replies))
+
+-- whether a command goes on from its first step
+abbrev pub runs_on : Command → Bool
+runs_on Commit = true
+runs_on Sync = true
+runs_on _ = false
+
+abbrev pub Goes : {M : Type 0} → (M → Step → Reply → M → Type 0) → Bool → M → Step → Reply → M → Type 0
+Goes Steps true old s last new = RunsOn Steps old s last new
+Goes Steps false old s last new = Steps old s last new
+
+-- a command has this reply, the last one of its steps
+abbrev pub Answers : {M : Type 0} → (M → Step → Reply → M → Type 0) → M → Command → Reply → M → Type 0
+Answers Steps old command last new = (s : Step) × Begins command s × Goes Steps (runs_on command) old s last new
+
+-- a command that only a first line may be
+abbrev pub IsFirst : Command → Type 0
+IsFirst (Pool line) = Unit {0}
+IsFirst _ = ⊥

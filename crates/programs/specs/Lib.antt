@@ -1,0 +1,6 @@
+pub mod Answers
+pub mod Lengths
+pub mod Plays
+pub mod Reads
+pub mod Statuses
+pub mod Vdevs

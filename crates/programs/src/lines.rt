@@ -1,0 +1,82 @@
+//! The lines of a schedule, read one by one.
+ghost use Rattle.std.specs.Prelude.{◌≡◌, [], ◌∷◌, MatchOption, IfOk};
+ghost use Rattle.std.specs.Io.BufRead.{strip_last};
+ghost use Rattle.std.specs.Io.KnownBytes.{IsAtEnd};
+ghost use Rattle.programs.specs.Reads.{IsSchedule, Reads, ReadsLines};
+
+use crate::refusal::Refusal;
+use schedule_lines::{Command, Line, parse};
+use std::alloc::Global;
+use std::io::{BufRead, ErrorKind};
+
+fn without_line_feed(line: &[u8]) -> &[u8]
+    ensures { result.now ≡ strip_last 10 line.now }
+{
+    match line {
+        [front @ .., b'\n'] => front,
+        _ => line,
+    }
+}
+
+/// The lines of an input, of which one is kept at a time.
+#[derive(Drop)]
+pub struct Lines<R> {
+    input: R,
+    line: Vec<u8>,
+    /// How many lines were read.
+    count: u64,
+}
+
+impl<R: BufRead + Drop> Lines<R> {
+    pub fn new(alloc: Global, input: R) -> Lines<R>
+        ensures { result.input ≡ input }
+    {
+        Lines {
+            input,
+            line: Vec::new(alloc),
+            count: 0,
+        }
+    }
+
+    /// The refusal of the line that was read last.
+    pub fn fault(&self) -> Refusal {
+        Refusal::Line(self.count)
+    }
+
+    /// The command of the next line that isn't skipped, or none at the end of the input.
+    pub fn next_command(&mut self, alloc: Global) -> Result<Option<Command>, Refusal>
+        ensures { IfOk result (λ found. MatchOption found
+            (IsSchedule (R.remaining self.old.input) [])
+            (λ command. Reads (R.remaining self.old.input) (command ∷ []) (R.remaining self.new.input))) }
+    {
+        for _ in 0..u64::MAX {
+            match self.next_line(alloc)? {
+                None => return Ok(None),
+                Some(Line::Skipped) => {}
+                Some(Line::Command(command)) => return Ok(Some(command)),
+            }
+        }
+        Err(Refusal::Input)
+    }
+
+    /// What the next line says, or none at the end of the input.
+    fn next_line(&mut self, alloc: Global) -> Result<Option<Line>, Refusal>
+        ensures { IfOk result (λ found. MatchOption found
+            (IsAtEnd (R.remaining self.old.input))
+            (λ line. ReadsLines (R.remaining self.old.input) (line ∷ []) (R.remaining self.new.input))) }
+    {
+        self.line.clear();
+        match self.input.read_until(b'\n', &mut self.line) {
+            Ok(0) => return Ok(None),
+            Ok(_) => {}
+            Err(error) if error.kind() == ErrorKind::OutOfMemory => return Err(Refusal::Memory),
+            Err(_) => return Err(Refusal::Input),
+        }
+        self.count = self.count.saturating_add(1);
+        match parse(alloc, without_line_feed(self.line.as_slice())) {
+            Ok(line) => Ok(Some(line)),
+            Err(schedule_lines::Refusal::Fault) => Err(self.fault()),
+            Err(schedule_lines::Refusal::NoMemory) => Err(Refusal::Memory),
+        }
+    }
+}

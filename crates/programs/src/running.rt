@@ -1,0 +1,106 @@
+//! Running a schedule.
+ghost use Rattle.std.specs.Prelude.{◌≡◌, ℕ, List, [], ◌∷◌, ◌++◌, OnOk};
+ghost use Rattle.std.specs.Io.KnownBytes.{Appends};
+ghost use Rattle.schedule_lines.specs.Replies.{IsReplyText};
+ghost use Rattle.programs.specs.Plays.{AnswersAll, RunsSchedule};
+
+use crate::answer::answer;
+use crate::lines::Lines;
+use crate::machine::StepMachine;
+use crate::refusal::Refusal;
+use crate::status::ExitStatus;
+use pool_model::Reply;
+use schedule_lines::{Command, reply_text};
+use std::alloc::Global;
+use std::io::{BufRead, Write};
+
+fn print<W: Write>(output: &mut W, text: &str) -> Result<(), Refusal>
+    ensures { OnOk result (Appends (W.contents output.old) (W.contents output.new) (text.now ++ (10 ∷ []))) }
+{
+    output
+        .write_all(text.as_bytes())
+        .map_err(|_| Refusal::Output)?;
+    output.write_all(b"\n").map_err(|_| Refusal::Output)?;
+    output.flush().map_err(|_| Refusal::Output)
+}
+
+fn print_reply<W: Write>(alloc: Global, output: &mut W, reply: &Reply) -> Result<(), Refusal>
+    ensures { OnOk result ((line : List ℕ) × IsReplyText reply.now line × Appends (W.contents output.old) (W.contents output.new) (line ++ (10 ∷ []))) }
+{
+    let text = reply_text(alloc, reply)?;
+    print(output, text.as_str())
+}
+
+/// Runs the lines behind the first against a pool.
+fn run_lines<P: StepMachine, R: BufRead + Drop, W: Write>(
+    alloc: Global,
+    mut pool: P,
+    lines: &mut Lines<R>,
+    output: &mut W,
+) -> Result<(), Refusal>
+    ensures { OnOk result (AnswersAll P.steps pool (R.remaining lines.old.input) (W.contents output.old) (W.contents output.new)) }
+{
+    for _ in 0..u64::MAX {
+        let Some(command) = lines.next_command(alloc)? else {
+            return Ok(());
+        };
+        let Some(reply) = answer(alloc, &mut pool, command)? else {
+            return Err(lines.fault());
+        };
+        print_reply(alloc, output, &reply)?;
+    }
+    Err(Refusal::Input)
+}
+
+fn run_schedule<P: StepMachine, R: BufRead + Drop, W: Write>(
+    alloc: Global,
+    input: R,
+    output: &mut W,
+) -> Result<(), Refusal>
+    ensures { OnOk result (RunsSchedule P.creates P.refuses P.steps (R.remaining input) (W.contents output.old) (W.contents output.new)) }
+{
+    let mut lines = Lines::new(alloc, input);
+    let line = match lines.next_command(alloc)? {
+        None => return Ok(()),
+        Some(Command::Pool(line)) => line,
+        Some(_) => return Err(lines.fault()),
+    };
+    match P::create(alloc, &line) {
+        Ok(pool) => {
+            print(output, "pool 3 claim 1")?;
+            run_lines(alloc, pool, &mut lines, output)
+        }
+        Err(refusal) => {
+            print_reply(alloc, output, &Reply::Refused(refusal))?;
+            match lines.next_command(alloc)? {
+                None => Ok(()),
+                Some(_) => Err(lines.fault()),
+            }
+        }
+    }
+}
+
+/// Runs the schedule of an input against a pool of its own: a reply a line on the output, which is flushed after each.
+///
+/// It ends at the first fault, which is told on `errors` as `poolrun: line N`, where lines are counted from 1, or as
+/// `poolrun: input`, `poolrun: output` or `poolrun: memory`; what stands on the output by then stays. Where the pool
+/// can't be made, its refusal is printed, and each later line that isn't skipped is a fault.
+pub fn schedule<P: StepMachine, R: BufRead + Drop, W: Write, E: Write>(
+    alloc: Global,
+    input: R,
+    output: &mut W,
+    errors: &mut E,
+) -> ExitStatus
+    // The lines were read to their end, and what was printed is what the pool answers to them.
+    ensures done { result ≡ ExitStatus.Done → RunsSchedule P.creates P.refuses P.steps (R.remaining input) (W.contents output.old) (W.contents output.new) }
+{
+    match run_schedule::<P, R, W>(alloc, input, output) {
+        Ok(()) => ExitStatus::Done,
+        Err(refusal) => {
+            // Where this can't be told either, the status still says it.
+            let _ = writeln!(errors, "poolrun: {refusal}");
+            let _ = errors.flush();
+            ExitStatus::Fault
+        }
+    }
+}
