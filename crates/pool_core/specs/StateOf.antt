@@ -1,7 +1,7 @@
 -- What a `Core` shows, whatever its disks are.
 use Rattle.model_disk.specs.declared.disk.Disk as disk
 use Rattle.pool_commit.specs.StateOf.{state_of as commit_state}
-use Rattle.pool_core.specs.declared.core.Core.{Core}
+use Rattle.pool_core.specs.declared.pool.Core.{Core}
 use Rattle.pool_core.specs.State.{CoreState}
 
 module _ {D : Type 0} {g : disk.Ghosts D} where

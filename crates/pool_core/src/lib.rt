@@ -2,12 +2,13 @@
 //! headline.
 #![tactic(auto)]
 
-mod core;
+mod pool;
 mod reading;
 mod runs;
 mod syncing;
 #[cfg(test)]
 mod tests;
 
-pub use core::Core;
+pub use pool::Core;
+pub use pool_model::{Action, Bytes, Change, Name, Phase, Refusal, Reply, Step, Write};
 pub use runs::run;

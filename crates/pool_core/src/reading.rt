@@ -11,7 +11,7 @@ ghost use Rattle.pool_core.specs.Represents.{Represents};
 ghost use Rattle.pool_core.specs.StateOf.{state_of};
 ghost use Rattle.pool_core.specs.Steps.{AreTrue, Steps};
 
-use crate::core::{Core, named};
+use crate::pool::{Core, named};
 use model_disk::Disk;
 use pool_model::{Bytes, Name, Refusal, Reply};
 use pool_now::against_read;

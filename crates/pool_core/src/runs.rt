@@ -4,7 +4,7 @@ ghost use Rattle.pool_model.specs.declared.step.Step.{Step};
 ghost use Rattle.pool_core.specs.Runs.{Ran};
 ghost use Rattle.pool_core.specs.StateOf.{state_of};
 
-use crate::core::Core;
+use crate::pool::Core;
 use model_disk::Disk;
 use pool_model::{Refusal, Reply, Step};
 use std::collections::VecDeque;

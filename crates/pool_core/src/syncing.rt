@@ -12,7 +12,7 @@ ghost use Rattle.pool_intake.specs.Follows.{Follows};
 ghost use Rattle.pool_core.specs.StateOf.{state_of};
 ghost use Rattle.pool_core.specs.Steps.{Steps};
 
-use crate::core::{Core, named};
+use crate::pool::{Core, named};
 use model_disk::Disk;
 use pool_commit::Progress;
 use pool_model::{Refusal, Reply};

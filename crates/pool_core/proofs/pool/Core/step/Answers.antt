@@ -6,7 +6,7 @@ use Rattle.pool_core.specs.StateOf.{state_of}
 use Rattle.pool_core.specs.State.{disks_of}
 use Rattle.pool_core.specs.Steps.{Goes}
 use Rattle.pool_core.proofs.Fronting.{front}
-use Rattle.pool_core.proofs.core.Core.step.Goals as goal
+use Rattle.pool_core.proofs.pool.Core.step.Goals as goal
 
 pub returns-in-Release-clause-goes : goal.returns-in-Release-clause-goes
 returns-in-Release-clause-goes g c v r honest =

@@ -2,7 +2,7 @@ use Rattle.std.proofs.Common.{List, ℕ, sym, subst}
 use Rattle.pool_model.specs.Machine.{AreBytesOf}
 use Rattle.pool_commit.specs.StateOf.{state_of as commit_state}
 use Rattle.pool_core.proofs.ReadSteps.{under_refused}
-use Rattle.pool_core.proofs.core.Core.read_under.Goals as goal
+use Rattle.pool_core.proofs.pool.Core.read_under.Goals as goal
 
 pub returns-in-Ok-clause-bytes : goal.returns-in-Ok-clause-bytes
 returns-in-Ok-clause-bytes g c v r honest =

@@ -10,7 +10,7 @@ use Rattle.pool_core.specs.StateOf.{state_of}
 use Rattle.pool_core.specs.Steps.{Goes}
 use Rattle.pool_core.proofs.Fronting.{refused, device_suspended}
 use Rattle.pool_core.proofs.Phases.{device_early, idles, moves, commits, drops, group_low}
-use Rattle.pool_core.proofs.core.Core.device.Goals as goal
+use Rattle.pool_core.proofs.pool.Core.device.Goals as goal
 
 pub returns-then-is_suspended-clause-goes : goal.returns-then-is_suspended-clause-goes
 returns-then-is_suspended-clause-goes g c v r honest =

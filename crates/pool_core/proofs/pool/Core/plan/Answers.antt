@@ -13,7 +13,7 @@ use Rattle.pool_core.specs.StateOf.{state_of}
 use Rattle.pool_core.specs.Steps.{Goes}
 use Rattle.pool_core.proofs.Fronting.{refused, plan_suspended, front}
 use Rattle.pool_core.proofs.Phases.{plan_planned, backs_taken, plans, plan_refused, group_after, group_low, takes_none}
-use Rattle.pool_core.proofs.core.Core.plan.Goals as goal
+use Rattle.pool_core.proofs.pool.Core.plan.Goals as goal
 
 pub returns-then-is_suspended-clause-goes : goal.returns-then-is_suspended-clause-goes
 returns-then-is_suspended-clause-goes g c timestamp v r honest =

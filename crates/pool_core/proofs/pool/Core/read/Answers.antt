@@ -13,7 +13,7 @@ use Rattle.pool_model.specs.declared.step.Reply.TheVariants as replies
 use Rattle.pool_core.specs.Steps.{Goes}
 use Rattle.pool_core.proofs.Fronting.{refused}
 use Rattle.pool_core.proofs.ReadSteps.{shape_there, reads_now, refuses_now}
-use Rattle.pool_core.proofs.core.Core.read.Goals as goal
+use Rattle.pool_core.proofs.pool.Core.read.Goals as goal
 
 pub returns-in-Some-clause-goes : goal.returns-in-Some-clause-goes
 returns-in-Some-clause-goes g c v r honest =

@@ -6,7 +6,7 @@ use Rattle.pool_core.specs.State.{disks_of}
 use Rattle.pool_commit.specs.Calls.{given_between}
 use Rattle.std.proofs.Common.{false}
 use Rattle.pool_core.proofs.Fronting.{front, refused, close_suspended}
-use Rattle.pool_core.proofs.core.Core.close.Goals as goal
+use Rattle.pool_core.proofs.pool.Core.close.Goals as goal
 
 pub returns-then-is_suspended-clause-goes : goal.returns-then-is_suspended-clause-goes
 returns-then-is_suspended-clause-goes g c v r honest =

@@ -6,7 +6,7 @@ use Rattle.pool_commit.specs.StateOf.{state_of as commit_state}
 use Rattle.pool_core.specs.StateOf.{state_of}
 use Rattle.pool_core.specs.Steps.{Goes}
 use Rattle.pool_core.proofs.ReadSteps.{reads_under, refuses_under}
-use Rattle.pool_core.proofs.core.Core.reply_under.Goals as goal
+use Rattle.pool_core.proofs.pool.Core.reply_under.Goals as goal
 
 pub returns-in-Ok-clause-goes : goal.returns-in-Ok-clause-goes
 returns-in-Ok-clause-goes g c v r honest =
