@@ -16,13 +16,13 @@ two_in_order a b less (suc i) (suc zero) d before within = absurd (omega arith)
 two_in_order a b less (suc i) (suc (suc j)) d before within = absurd (omega arith)
 
 -- src/tests.rt:70:16
-pub put_many-requires-clause-ids : goal.put_many-requires-clause-ids
-put_many-requires-clause-ids c = all_two (λ write. write.id < 128 ^ 5) _ _ (omega (arith, c.requires.order, c.requires.small)) c.requires.small
+pub put_all-requires-clause-ids : goal.put_all-requires-clause-ids
+put_all-requires-clause-ids c = all_two (λ write. write.id < 128 ^ 5) _ _ (omega (arith, c.requires.order, c.requires.small)) c.requires.small
 
 -- src/tests.rt:70:16
-pub put_many-requires-clause-order : goal.put_many-requires-clause-order
-put_many-requires-clause-order c = two_in_order _ _ c.requires.order
+pub put_all-requires-clause-order : goal.put_all-requires-clause-order
+put_all-requires-clause-order c = two_in_order _ _ c.requires.order
 
 -- src/tests.rt:70:16
-pub put_many-requires-clause-whole : goal.put_many-requires-clause-whole
-put_many-requires-clause-whole c = all_two (λ write. length write.bytes.items ≡ c.args.node.now.data_sectors * 512) _ _ (search rules) (search rules)
+pub put_all-requires-clause-whole : goal.put_all-requires-clause-whole
+put_all-requires-clause-whole c = all_two (λ write. length write.bytes.items ≡ c.args.node.now.data_sectors * 512) _ _ (search rules) (search rules)

@@ -1,0 +1,8 @@
+mod BlockLists
+mod ChangedBlocks
+mod NodeLists
+mod Outcomes
+mod PutNodes
+mod SlotBytes
+mod TreeSizes
+mod PlannedSets

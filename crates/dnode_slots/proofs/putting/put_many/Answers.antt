@@ -1,0 +1,76 @@
+use Rattle.std.proofs.Common.{List, inl, refl, subst}
+use Rattle.dnode.specs.declared.object_set.ObjectSet.{ObjectSet}
+use Rattle.dnode_tree.specs.declared.writes.BlockWrite.{BlockWrite}
+use Rattle.dnode_tree.specs.Reading.{OnlyReadsAndPlans}
+use Rattle.dnode_tree.specs.Rewriting.{IsGrown, IsRewritten}
+use Rattle.dnode_tree.specs.Writes.{written}
+use Rattle.dnode_tree.proofs.Refusing.{passed_on}
+use Rattle.dnode_tree.proofs.Steps.{steps_read, steps_on, no_room_on, true_sooner, true_later, few_later}
+use Rattle.dnode_tree.proofs.WholeTree.{tree_later}
+use Rattle.dnode_slots.specs.declared.writes.SetRewrite.{SetRewrite}
+use Rattle.dnode_slots.proofs.PutNodes.{set_fits, highest_least, nodes_rewritten}
+use Rattle.dnode_slots.proofs.putting.put_many.Goals as goal
+
+pub returns-in_err-changed-clause-known : goal.returns-in_err-changed-clause-known
+returns-in_err-changed-clause-known g c =
+    passed_on _ _ _ c.from_residual.ensures.1
+    (λ stored planned bound nodes blocks plans has le honest few.
+    inl (c.in_err-changed.ensures.known stored has.array blocks plans.held (tree_later stored bound c.args.birth c.args.set.now.dnodes has.array blocks le has.tree) honest few))
+
+pub returns-in_err-done-clause-steps : goal.returns-in_err-done-clause-steps
+returns-in_err-done-clause-steps g c = steps_on _ _ _ _ (steps_read _ _ _ c.in_ok-changed.ensures.reads) c.in_err-done.ensures.steps
+
+pub returns-in_err-done-clause-no_room : goal.returns-in_err-done-clause-no_room
+returns-in_err-done-clause-no_room g c =
+    let first : OnlyReadsAndPlans c.args.store.now c.block_writes.new.store c.args.missing.now = steps_read _ _ _ c.in_ok-changed.ensures.reads in
+    passed_on _ _ _ c.from_residual-in_err-done.ensures.1 (λ none. no_room_on _ _ _ _ _ first.shapes (c.in_err-done.ensures.no_room none))
+
+pub returns-in_err-done-clause-known : goal.returns-in_err-done-clause-known
+returns-in_err-done-clause-known g c =
+    let first : OnlyReadsAndPlans c.args.store.now c.block_writes.new.store c.args.missing.now = steps_read _ _ _ c.in_ok-changed.ensures.reads in
+    passed_on _ _ _ c.from_residual-in_err-done.ensures.1
+    (λ stored planned bound nodes blocks plans has le honest few.
+    c.in_err-done.ensures.known stored planned bound has.array blocks (c.in_ok-changed.ensures.reads.plans stored planned plans) has.tree le
+    (true_later _ _ _ _ first c.in_err-done.ensures.steps honest) (few_later _ _ _ _ first c.in_err-done.ensures.steps few))
+
+pub returns-clause-steps : goal.returns-clause-steps
+returns-clause-steps g c = steps_on _ _ _ _ (steps_read _ _ _ c.in_ok-changed.ensures.reads) c.in_ok-done.ensures.steps
+
+pub returns-clause-set : goal.returns-clause-set
+returns-clause-set g c =
+    let new : ObjectSet = record { dnodes = c.in_ok-done.done.node; kind = c.args.set.now.kind; objects = c.objects_after.result } in
+    set_fits c.args.set.now new c.args.writes.now c.in_ok-changed.changed.items c.requires.set c.in_ok-done.ensures.node
+    (subst (λ (changed : List BlockWrite). IsGrown c.args.set.now.dnodes c.in_ok-done.done.node changed) c.deref.ensures.value c.in_ok-done.ensures.grown)
+    c.in_ok-changed.ensures.reached c.objects_after.ensures.from c.objects_after.ensures.least
+
+pub returns-clause-grown : goal.returns-clause-grown
+returns-clause-grown g c =
+    let grown : IsGrown c.args.set.now.dnodes c.in_ok-done.done.node c.in_ok-changed.changed.items =
+    subst (λ (changed : List BlockWrite). IsGrown c.args.set.now.dnodes c.in_ok-done.done.node changed) c.deref.ensures.value c.in_ok-done.ensures.grown in
+    record {
+      kind = refl;
+      from = c.objects_after.ensures.from;
+      room = c.objects_after.ensures.room;
+      least = c.objects_after.ensures.least;
+      highest_from = grown.from;
+      highest_least = highest_least c.args.set.now.dnodes c.in_ok-done.done.node c.args.writes.now c.in_ok-changed.changed.items grown c.in_ok-changed.ensures.only;
+    }
+
+pub returns-clause-rewritten : goal.returns-clause-rewritten
+returns-clause-rewritten g c = λ stored planned bound nodes blocks plans has le honest.
+    let first : OnlyReadsAndPlans c.args.store.now c.block_writes.new.store c.args.missing.now = steps_read _ _ _ c.in_ok-changed.ensures.reads in
+    let before = true_sooner _ _ _ _ first c.in_ok-done.ensures.steps honest in
+    let after = true_later _ _ _ _ first c.in_ok-done.ensures.steps honest in
+    let rewritten = c.in_ok-done.ensures.rewritten stored planned bound has.array blocks (c.in_ok-changed.ensures.reads.plans stored planned plans) has.tree le after in
+    let done : SetRewrite = record {
+      set = record { dnodes = c.in_ok-done.done.node; kind = c.args.set.now.kind; objects = c.objects_after.result };
+      replaced = c.in_ok-done.done.replaced;
+    } in (
+      rewritten.0,
+      rewritten.1,
+      nodes_rewritten c.args.set.now stored planned rewritten.0 bound c.args.birth nodes blocks c.args.writes.now c.in_ok-changed.changed.items c.in_ok-done.done done
+          c.requires.writes has refl refl c.objects_after.ensures.from c.objects_after.ensures.room
+          (subst (λ (changed : List BlockWrite). IsRewritten c.args.copies planned rewritten.0 c.args.birth c.in_ok-done.done (written changed has.array) blocks) c.deref.ensures.value rewritten.2)
+          (c.in_ok-changed.ensures.value stored has.array nodes blocks plans.held
+          (tree_later stored bound c.args.birth c.args.set.now.dnodes has.array blocks le has.tree) has.each before),
+    )

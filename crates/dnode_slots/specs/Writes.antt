@@ -1,0 +1,44 @@
+-- Writes of dnodes.
+use Rattle.std.specs.Prelude.{ℕ, ◌≡◌, ◌==◌, ◌*◌, ◌/◌, ◌^◌, ◌<◌, ◌≤◌, List, [], ◌∷◌, All, AllPairs, if◌then◌else◌}
+use Rattle.block_pointer.specs.declared.block.Block.{Block}
+use Rattle.dnode.specs.declared.dnode.Dnode.{Dnode}
+use Rattle.dnode.specs.declared.object_set.ObjectSet.{ObjectSet}
+use Rattle.dnode.specs.Dnode.{FitsDnode}
+use Rattle.block_store.specs.Blocks.{Contents, Extends}
+use Rattle.dnode_tree.specs.declared.writes.CopyCounts.{CopyCounts}
+use Rattle.dnode_tree.specs.Rewriting.{IsExchanged}
+use Rattle.dnode_slots.specs.declared.writes.NodeWrite.{NodeWrite}
+use Rattle.dnode_slots.specs.declared.writes.SetRewrite.{SetRewrite}
+use Rattle.dnode_slots.specs.Nodes.{HasNodes}
+
+-- the dnodes after writes
+abbrev pub written_nodes : List NodeWrite → (ℕ → Dnode) → ℕ → Dnode
+written_nodes [] nodes number = nodes number
+written_nodes (write ∷ writes) nodes number = if write.number == number then write.node else written_nodes writes nodes number
+
+-- a dnode that may be written, with its number
+pub record FitsWrite (write : NodeWrite) : Type 0 where
+  pub some : 0 < write.number
+  pub number : write.number < 32 * 128 ^ 5
+  pub node : FitsDnode write.node
+
+-- each number is written once, in ascending order, and none is 0
+pub record AreNodeWrites (writes : List NodeWrite) : Type 0 where
+  pub order : AllPairs (λ write later. write.number < later.number) writes
+  pub each : All FitsWrite writes
+
+-- The set has the kind that it had, as many dnodes as it needs, and no more blocks of dnodes.
+pub record IsGrownSet (old new : ObjectSet) (writes : List NodeWrite) : Type 0 where
+  pub kind : new.kind ≡ old.kind
+  pub from : old.objects ≤ new.objects
+  pub room : All (λ write. write.number < new.objects) writes
+  pub least : (objects : ℕ) → old.objects ≤ objects → All (λ write. write.number < objects) writes → new.objects ≤ objects
+  pub highest_from : old.dnodes.highest ≤ new.dnodes.highest
+  pub highest_least : (highest : ℕ) → old.dnodes.highest ≤ highest → All (λ write. write.number / 32 ≤ highest) writes → new.dnodes.highest ≤ highest
+
+-- The dnodes of the set are these now. Of the blocks that they stood in some stayed, those that are replaced gave way, and all others are new.
+pub record AreNodesRewritten (copies : CopyCounts) (planned later : Contents) (birth : ℕ) (done : SetRewrite) (nodes : ℕ → Dnode) (before : List Block) : Type 0 where
+  pub kept : Extends planned later
+  pub blocks : List Block
+  pub dnodes : HasNodes later birth done.set nodes blocks
+  pub exchanged : IsExchanged copies birth planned later before blocks done.replaced.items

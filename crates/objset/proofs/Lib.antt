@@ -1,0 +1,6 @@
+pub mod Kept
+pub mod Numbers
+pub mod Exchanged
+pub mod Room
+pub mod Trees
+pub mod Underway

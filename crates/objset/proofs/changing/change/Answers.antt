@@ -1,0 +1,58 @@
+use Rattle.std.proofs.Common.{List, inl, refl, subst}
+use Rattle.block_pointer.specs.declared.block.Block.{Block}
+use Rattle.dnode_slots.specs.declared.writes.NodeWrite.{NodeWrite}
+use Rattle.dnode_slots.specs.Writes.{AreNodesRewritten, IsGrownSet, written_nodes}
+use Rattle.dnode_tree.proofs.Refusing.{passed_on}
+use Rattle.dnode_tree.proofs.Steps.{steps_on, true_sooner, true_later, few_later}
+use Rattle.dnode_tree.specs.Writes.{HasNoRoom}
+use Rattle.objset.proofs.Exchanged.{appended}
+use Rattle.objset.proofs.Room.{no_room_for_dnodes, no_room_sooner}
+use Rattle.objset.proofs.Underway.{set_changed, set_grown}
+use Rattle.objset.specs.Changes.{object_copies}
+use Rattle.objset.specs.Changing.{AreObjectsChanged}
+use Rattle.objset.proofs.changing.change.Goals as goal
+
+pub returns-in_err-rewrite-clause-steps : goal.returns-in_err-rewrite-clause-steps
+returns-in_err-rewrite-clause-steps g c = steps_on _ _ _ _ c.in_ok-writes.ensures.steps c.in_err-rewrite.ensures.steps
+
+pub returns-in_err-rewrite-clause-no_room : goal.returns-in_err-rewrite-clause-no_room
+returns-in_err-rewrite-clause-no_room g c =
+    passed_on _ _ _ c.from_residual-in_err-rewrite.ensures.1
+    (λ is. no_room_sooner _ _ _ _ c.in_ok-writes.ensures.steps.shapes
+    (no_room_for_dnodes c.change_each.new.store c.put_many.new.store c.args.set.now.dnodes c.args.copies c.requires.set.1.sectors
+    (subst (λ counts. HasNoRoom c.change_each.new.store c.put_many.new.store c.args.set.now.dnodes counts) c.of_dnodes.ensures (c.in_err-rewrite.ensures.no_room is))))
+
+pub returns-in_err-rewrite-clause-known : goal.returns-in_err-rewrite-clause-known
+returns-in_err-rewrite-clause-known g c =
+    passed_on _ _ _ c.from_residual-in_err-rewrite.ensures.1
+    (λ stored planned bound objects own before plans are le honest few.
+    let there = c.in_ok-writes.ensures.changed stored planned bound objects own before plans are le (true_sooner _ _ _ _ c.in_ok-writes.ensures.steps c.in_err-rewrite.ensures.steps honest) in
+    inl (c.in_err-rewrite.ensures.known stored there.1 bound are.nodes own there.2 are.dnodes le (true_later _ _ _ _ c.in_ok-writes.ensures.steps c.in_err-rewrite.ensures.steps honest)
+    (few_later _ _ _ _ c.in_ok-writes.ensures.steps c.in_err-rewrite.ensures.steps few)))
+
+pub returns-in_err-extend_from_slice-clause-steps : goal.returns-in_err-extend_from_slice-clause-steps
+returns-in_err-extend_from_slice-clause-steps g c = steps_on _ _ _ _ c.in_ok-writes.ensures.steps c.in_ok-rewrite.ensures.steps
+
+pub returns-clause-steps : goal.returns-clause-steps
+returns-clause-steps g c = steps_on _ _ _ _ c.in_ok-writes.ensures.steps c.in_ok-rewrite.ensures.steps
+
+pub returns-clause-grown : goal.returns-clause-grown
+returns-clause-grown g c =
+    set_grown c.args.set.now c.in_ok-rewrite.rewrite.set c.args.changes.now c.in_ok-writes.writes.items c.in_ok-writes.ensures.numbers
+    (subst (λ (ws : List NodeWrite). IsGrownSet c.args.set.now c.in_ok-rewrite.rewrite.set ws) c.deref.ensures.value c.in_ok-rewrite.ensures.grown)
+
+pub returns-clause-changed : goal.returns-clause-changed
+returns-clause-changed g c = λ stored planned bound objects own before plans are le honest.
+    let there = c.in_ok-writes.ensures.changed stored planned bound objects own before plans are le (true_sooner _ _ _ _ c.in_ok-writes.ensures.steps c.in_ok-rewrite.ensures.steps honest) in
+    let next = c.in_ok-rewrite.ensures.rewritten stored there.1 bound are.nodes own there.2 are.dnodes le (true_later _ _ _ _ c.in_ok-writes.ensures.steps c.in_ok-rewrite.ensures.steps honest) in (
+      there.0,
+      next.0,
+      next.1,
+      set_changed c.args.copies planned there.1 next.0 c.args.birth c.in_ok-rewrite.rewrite _ c.args.changes.now c.in_ok-writes.writes.items are.nodes objects own before c.change_each.new.replaced.items
+          (subst
+          (λ (noted : List Block). AreObjectsChanged (object_copies c.args.copies) planned there.1 c.args.birth c.args.changes.now c.in_ok-writes.writes.items are.nodes objects before noted c.change_each.new.replaced.items)
+          c.new-replaced.ensures.items there.3)
+          (subst (λ counts. AreNodesRewritten counts there.1 next.0 c.args.birth c.in_ok-rewrite.rewrite (written_nodes c.in_ok-writes.writes.items are.nodes) own) c.of_dnodes.ensures
+          (subst (λ (ws : List NodeWrite). AreNodesRewritten c.of_dnodes.result there.1 next.0 c.args.birth c.in_ok-rewrite.rewrite (written_nodes ws are.nodes) own) c.deref.ensures.value next.2))
+          refl (appended c.change_each.new.replaced.items _ _ _ c.in_ok-extend_from_slice.ensures.items c.deref-2.ensures.value),
+    )

@@ -1,0 +1,45 @@
+use Rattle.std.proofs.Common.{inl, sym, subst}
+use Rattle.dnode_tree.proofs.Refusing.{passed_on}
+use Rattle.dnode_tree.proofs.Steps.{steps_on, steps_read, true_sooner, true_later, few_later}
+use Rattle.objset.proofs.Kept.{nodes_later}
+use Rattle.objset.proofs.Room.{no_room_sooner}
+use Rattle.objset.specs.Objects.{IsObject}
+use Rattle.objset.proofs.changing.change_one.Goals as goal
+
+pub returns-in_err-dnode-clause-known : goal.returns-in_err-dnode-clause-known
+returns-in_err-dnode-clause-known g c =
+    passed_on _ _ _ c.from_residual.ensures.1
+    (λ stored planned bound objects own before plans are le honest few.
+    inl (inl (c.in_err-dnode.ensures.known stored are.nodes own plans.held (nodes_later stored bound c.args.birth c.args.set.now are.nodes own le are.dnodes) honest few)))
+
+pub returns-in_err-node-clause-steps : goal.returns-in_err-node-clause-steps
+returns-in_err-node-clause-steps g c = steps_on _ _ _ _ (steps_read _ _ _ c.in_ok-dnode.ensures.reads) c.in_err-node.ensures.steps
+
+pub returns-in_err-node-clause-no_room : goal.returns-in_err-node-clause-no_room
+returns-in_err-node-clause-no_room g c =
+    let read = steps_read _ _ _ c.in_ok-dnode.ensures.reads in
+    passed_on _ _ _ c.from_residual-in_err-node.ensures.1 (λ is. no_room_sooner _ _ _ _ read.shapes (c.in_err-node.ensures.no_room is))
+
+pub returns-in_err-node-clause-known : goal.returns-in_err-node-clause-known
+returns-in_err-node-clause-known g c =
+    let read = steps_read _ _ _ c.in_ok-dnode.ensures.reads in
+    passed_on _ _ _ c.from_residual-in_err-node.ensures.1
+    (λ stored planned bound objects own before plans are le honest few.
+    let same = c.in_ok-dnode.ensures.value stored are.nodes own plans.held (nodes_later stored bound c.args.birth c.args.set.now are.nodes own le are.dnodes)
+    (true_sooner _ _ _ _ read c.in_err-node.ensures.steps honest) in
+    c.in_err-node.ensures.known stored planned bound (objects c.args.change.now.number) (before c.args.change.now.number) (c.in_ok-dnode.ensures.reads.plans stored planned plans)
+    (subst (λ dnode. IsObject stored bound dnode (objects c.args.change.now.number) (before c.args.change.now.number)) (sym same) (are.each c.args.change.now.number)) le
+    (true_later _ _ _ _ read c.in_err-node.ensures.steps honest) (few_later _ _ _ _ read c.in_err-node.ensures.steps few))
+
+pub returns-clause-steps : goal.returns-clause-steps
+returns-clause-steps g c = steps_on _ _ _ _ (steps_read _ _ _ c.in_ok-dnode.ensures.reads) c.in_ok-node.ensures.steps
+
+pub returns-clause-changed : goal.returns-clause-changed
+returns-clause-changed g c =
+    let read = steps_read _ _ _ c.in_ok-dnode.ensures.reads in
+    λ stored planned bound objects own before plans are le honest.
+    let same = c.in_ok-dnode.ensures.value stored are.nodes own plans.held (nodes_later stored bound c.args.birth c.args.set.now are.nodes own le are.dnodes)
+    (true_sooner _ _ _ _ read c.in_ok-node.ensures.steps honest) in
+    c.in_ok-node.ensures.changed stored planned bound (objects c.args.change.now.number) (before c.args.change.now.number) (c.in_ok-dnode.ensures.reads.plans stored planned plans)
+    (subst (λ dnode. IsObject stored bound dnode (objects c.args.change.now.number) (before c.args.change.now.number)) (sym same) (are.each c.args.change.now.number)) le
+    (true_later _ _ _ _ read c.in_ok-node.ensures.steps honest)

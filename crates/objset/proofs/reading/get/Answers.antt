@@ -1,0 +1,39 @@
+use Rattle.std.proofs.Common.{inl, inr, refl}
+use Rattle.std.proofs.lemmas.Result.{IfOk-weaker, IfErr-weaker}
+use Rattle.dnode_tree.proofs.FurtherReads.{reads_on, true_before, true_after, few_after}
+use Rattle.dnode_tree.proofs.Refusing.{passed_on}
+use Rattle.objset.proofs.Kept.{no_object, object_there, some_and}
+use Rattle.objset.proofs.reading.get.Goals as goal
+
+pub returns-in_err-node-clause-known : goal.returns-in_err-node-clause-known
+returns-in_err-node-clause-known g c =
+    passed_on _ _ _ c.from_residual.ensures.1 (λ stored objects own blocks held are honest few. inl (c.in_err-node.ensures.known stored are.nodes own held are.dnodes honest few))
+
+pub returns-in_default-clause-known : goal.returns-in_default-clause-known
+returns-in_default-clause-known g c = λ stored objects own blocks held are honest few.
+    let none = no_object stored c.args.birth c.in_ok-node.field-0 (are.nodes c.args.number) (objects c.args.number) (blocks c.args.number)
+    (c.in_ok-node.ensures.value stored are.nodes own held are.dnodes honest) c.in_default.is (are.each c.args.number) in
+    inr (refl, none.0)
+
+pub returns-clause-reads : goal.returns-clause-reads
+returns-clause-reads g c = reads_on _ _ _ _ c.in_ok-node.ensures.reads c.get-2.ensures.reads
+
+pub returns-clause-value : goal.returns-clause-value
+returns-clause-value g c =
+    IfOk-weaker c.get-2.result _ _
+    (λ found is stored objects own blocks held are honest.
+    let there = object_there stored c.args.birth c.in_ok-node.field-0 (are.nodes c.args.number) c.in-Object.node (objects c.args.number) (blocks c.args.number)
+    (c.in_ok-node.ensures.value stored are.nodes own held are.dnodes (true_before _ _ _ _ c.in_ok-node.ensures.reads c.get-2.ensures.reads honest)) c.in-Object.is (are.each c.args.number) in
+    some_and (objects c.args.number) there.there _ there.is
+    (is stored there.there.array (blocks c.args.number) (c.in_ok-node.ensures.reads.keeps stored held) there.tree (true_after _ _ _ _ c.in_ok-node.ensures.reads c.get-2.ensures.reads honest)))
+    c.get-2.ensures.value
+
+pub returns-clause-known : goal.returns-clause-known
+returns-clause-known g c =
+    IfErr-weaker c.get-2.result _ _
+    (λ refusal is stored objects own blocks held are honest few.
+    let there = object_there stored c.args.birth c.in_ok-node.field-0 (are.nodes c.args.number) c.in-Object.node (objects c.args.number) (blocks c.args.number)
+    (c.in_ok-node.ensures.value stored are.nodes own held are.dnodes (true_before _ _ _ _ c.in_ok-node.ensures.reads c.get-2.ensures.reads honest)) c.in-Object.is (are.each c.args.number) in
+    inl (is stored there.there.array (blocks c.args.number) (c.in_ok-node.ensures.reads.keeps stored held) there.tree (true_after _ _ _ _ c.in_ok-node.ensures.reads c.get-2.ensures.reads honest)
+    (few_after _ _ _ _ c.in_ok-node.ensures.reads c.get-2.ensures.reads few)))
+    c.get-2.ensures.known

@@ -1,0 +1,66 @@
+//! What is changed in an object set.
+use block_store::CopyCount;
+use dnode_tree::{BlockWrite, CopyCounts};
+
+/// What becomes of an object.
+#[derive(Debug, Drop)]
+pub enum Change {
+    /// An object is made where there is none.
+    Create {
+        /// Above 0.
+        object_type: u8,
+        /// The size of a data block in sectors of 512 bytes: from 1 to 256.
+        data_sectors: u32,
+        /// Its first data, as those of `Put`.
+        writes: Vec<BlockWrite>,
+    },
+    /// Data blocks of an object are written, whole, in the order of their ids, which are below 128^5.
+    Put {
+        writes: Vec<BlockWrite>,
+    },
+    /// An object goes, with all its blocks.
+    Free,
+}
+
+/// A change of one object.
+#[derive(Debug, Drop)]
+pub struct ObjectChange {
+    /// Above 0, below 32 * 128^5.
+    pub number: u64,
+    pub change: Change,
+}
+
+/// How many copies the blocks of a set have.
+#[derive(Debug, Clone, Copy)]
+pub struct SetCopies {
+    /// Of the data blocks of objects.
+    pub data: CopyCount,
+    /// Of the indirect blocks of objects, and of all blocks of the dnodes.
+    pub other: CopyCount,
+}
+
+impl SetCopies {
+    ghost use Rattle.std.specs.Prelude.{◌≡◌};
+    ghost use Rattle.objset.specs.Changes.{object_copies, dnode_copies};
+
+    /// Those of an object's blocks.
+    pub(crate) fn of_objects(self) -> CopyCounts
+        ensures { result ≡ object_copies self }
+    {
+        CopyCounts {
+            data: self.data,
+            indirect: self.other,
+        }
+    }
+
+    /// Those of the blocks of the dnodes.
+    pub(crate) fn of_dnodes(self) -> CopyCounts
+        ensures { result ≡ dnode_copies self }
+    {
+        let SetCopies { other, .. } = self;
+        CopyCounts {
+            data: other,
+            indirect: other,
+        }
+    }
+}

@@ -1,0 +1,18 @@
+//! The objects of an object set as a map from number to array: read block by block, and changed together in a transaction group.
+#![tactic(auto)]
+
+mod changes;
+mod changing;
+mod laws;
+mod reading;
+
+pub use block_store::Refusal;
+pub use changes::{Change, ObjectChange, SetCopies};
+pub use changing::change;
+pub use dnode_slots::SetRewrite;
+pub use dnode_tree::BlockWrite;
+pub use laws::objects_stand_on_their_blocks;
+pub use reading::{get, walk};
+
+#[cfg(test)]
+mod tests;

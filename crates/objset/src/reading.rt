@@ -1,0 +1,69 @@
+//! What is read of an object.
+ghost use Rattle.std.specs.Prelude.{◌≡◌, ◌≢◌, ◌⊎◌, ℕ, List, Option, None, IsSomeAnd, IfOk, IfErr};
+ghost use Rattle.std.specs.Option.{option_map};
+ghost use Rattle.block_pointer.specs.declared.block.Block.{Block};
+ghost use Rattle.block_store.specs.Blocks.{Contents};
+ghost use Rattle.block_store.specs.Store.{Holds};
+ghost use Rattle.dnode.specs.ObjectSet.{FitsObjectSet};
+ghost use Rattle.dnode_tree.specs.Reading.{OnlyReadsBlocks, AnswersAreTrue, LossIsTolerable};
+ghost use Rattle.objset.specs.Objects.{Object, AreObjects};
+
+use block_pointer::Block;
+use block_store::{BlockStore, Refusal};
+use dnode::{Dnode, ObjectSet};
+use model_disk::Disk;
+use std::alloc::Global;
+
+/// The bytes of a data block of an object, or nothing at a hole. `BadPointer` where there is no such object. One block is
+/// read a level of the object of the dnodes, and one a level of the object. The set's blocks were born in the transaction
+/// group `birth` or before. The disks that are named are taken as missing.
+pub fn get<D: Disk + Drop>(
+    set: &ObjectSet,
+    store: &mut BlockStore<D>,
+    alloc: Global,
+    number: u64,
+    id: u64,
+    birth: u64,
+    missing: &[usize],
+) -> Result<Option<Vec<u8>>, Refusal>
+    requires { FitsObjectSet set.now }
+    ensures reads { OnlyReadsBlocks store.old store.new missing.now }
+    ensures value { IfOk result (λ found. (stored : Contents) (objects : ℕ → Option Object) (own : List Block) (blocks : ℕ → List Block) → Holds store.old stored
+        → AreObjects stored birth set.now objects own blocks → AnswersAreTrue store.old store.new
+        → IsSomeAnd (objects number) (λ object. option_map (λ bytes. bytes.items) found ≡ object.array id)) }
+    ensures cause { IfErr result (λ refusal. refusal ≢ Refusal.NoSpace) }
+    ensures known { IfErr result (λ refusal. (stored : Contents) (objects : ℕ → Option Object) (own : List Block) (blocks : ℕ → List Block) → Holds store.old stored
+        → AreObjects stored birth set.now objects own blocks → AnswersAreTrue store.old store.new → LossIsTolerable store.old store.new missing.now
+        → (refusal ≡ Refusal.NoMemory) ⊎ ((refusal ≡ Refusal.BadPointer) × (objects number ≡ None))) }
+{
+    let Dnode::Object(node) = dnode_slots::get(set, store, alloc, number, birth, missing)? else {
+        return Err(Refusal::BadPointer);
+    };
+    dnode_tree::get(&node, store, alloc, id, birth, missing)
+}
+
+/// All blocks of an object, each before those below it, and otherwise in the order of their data; none where there is no
+/// such object. Of the object's blocks only indirect ones are read. The set's blocks were born in the transaction group
+/// `birth` or before. The disks that are named are taken as missing.
+pub fn walk<D: Disk + Drop>(
+    set: &ObjectSet,
+    store: &mut BlockStore<D>,
+    alloc: Global,
+    number: u64,
+    birth: u64,
+    missing: &[usize],
+) -> Result<Vec<Block>, Refusal>
+    requires { FitsObjectSet set.now }
+    ensures reads { OnlyReadsBlocks store.old store.new missing.now }
+    ensures blocks { IfOk result (λ found. (stored : Contents) (objects : ℕ → Option Object) (own : List Block) (blocks : ℕ → List Block) → Holds store.old stored
+        → AreObjects stored birth set.now objects own blocks → AnswersAreTrue store.old store.new → found.items ≡ blocks number) }
+    ensures cause { IfErr result (λ refusal. refusal ≢ Refusal.NoSpace) }
+    ensures known { IfErr result (λ refusal. (stored : Contents) (objects : ℕ → Option Object) (own : List Block) (blocks : ℕ → List Block) → Holds store.old stored
+        → AreObjects stored birth set.now objects own blocks → AnswersAreTrue store.old store.new → LossIsTolerable store.old store.new missing.now
+        → refusal ≡ Refusal.NoMemory) }
+{
+    let Dnode::Object(node) = dnode_slots::get(set, store, alloc, number, birth, missing)? else {
+        return Ok(Vec::new(alloc));
+    };
+    dnode_tree::walk(&node, store, alloc, birth, missing)
+}
