@@ -19,8 +19,9 @@ use model_disk::Disk;
 use std::alloc::Global;
 
 /// Plans the object of the dnodes with these dnodes in it, in the transaction group `birth`: each block of dnodes that has
-/// one of them is read and planned once. The writes are in the order of their numbers, and the set grows to the highest of
-/// them. The set before stays as it was: its blocks were born in the group `birth` or before.
+/// one of them is read and planned once, and the bytes at its other places are kept as they are. The writes are in the
+/// order of their numbers, and the set grows to the highest of them. The set before stays as it was: its blocks were born
+/// in the group `birth` or before.
 ///
 /// After an error blocks may be planned that no set has: begin another plan.
 pub fn put_many<D: Disk + Drop>(

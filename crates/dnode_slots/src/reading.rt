@@ -18,7 +18,8 @@ use std::alloc::Global;
 
 /// The dnode with that number; a free one where there is none. One block is read a level of the object of the dnodes,
 /// and none for a number behind the last dnode. The blocks of the dnodes were born in the transaction group `birth` or
-/// before. The disks that are named are taken as missing. A block that isn't one of dnodes is `BadPointer`.
+/// before. The disks that are named are taken as missing. Where the bytes at its place spell no dnode, or the block has
+/// another size than 16,384 bytes, the answer is `BadPointer`.
 pub fn get<D: Disk + Drop>(
     set: &ObjectSet,
     store: &mut BlockStore<D>,
