@@ -45,11 +45,12 @@ KeepsPools v given step reply w = (ledger : Ledger) → ((group : ℕ) → IsShu
 
 pool_moves : EachMove KeepsPools
 pool_moves = record {
-  stays = λ v given step cause ledger f s n. refl;
-  begun = λ v given t cause ledger f s n. refl;
-  failed = λ v given cause disk left e ledger f s n. refl;
-  replanned = λ v given disk left e ledger f s n. refl;
-  moved = λ v given phase left rest ledger f s n. refl;
+  stays = λ v given step cause may e ledger f s n. refl;
+  begun = λ v given t cause is ledger f s n. refl;
+  again = λ v given t cause is ledger f s n. refl;
+  failed = λ v given disk left phase e ledger f s n. refl;
+  replanned = λ v given disk left phase e ledger f s n. refl;
+  moved = λ v given phase left rest e ledger f s n. refl;
   read = λ v given name offset len bytes a ledger f s n. refl;
   read_under = λ v given g name offset len bytes k a ledger f s n. refl;
   held = λ v given by h ledger f s n. refl;
@@ -60,7 +61,7 @@ pool_moves = record {
   quiesced = λ v given e ledger f s n. refl;
   planned = λ v given t calls ledger f s n. refl;
   replanned_group = λ v given t calls ledger f s n. refl;
-  committed = λ v given left ledger f s n. next_cases v ledger n (nat_le n v.committed) (nat_le n (suc v.committed)) refl refl (f (suc v.committed) (shut_next v left s));
+  committed = λ v given left e ledger f s n. next_cases v ledger n (nat_le n v.committed) (nat_le n (suc v.committed)) refl refl (f (suc v.committed) (shut_next v left s));
 }
 
 pool_step : (v : View) (given : Given) (step : Step) (reply : Reply) (mid : View) (steps : List Step) (givens : List Given) (replies : List Reply) (w : View) → StepOf v given step reply mid → Run mid steps givens replies w → IsSound v → (n : ℕ) → pool_by mid w.ledger n ≡ pool_by v w.ledger n
@@ -80,38 +81,41 @@ told_pools v steps givens replies w r s n le = absurd r
 kept_below : (v : View) (group : ℕ) → is_kept v group ≡ true → nat_le group v.committed ≡ true
 kept_below v group e = grind (arith, nat_tests, e)
 
-reads_refused : (pool : ℕ → PlainPool) (step : Step) (cause : Refusal) (steps : List Step) (replies : List Reply) → ReadsUnder pool steps replies → ReadsUnder pool (step ∷ steps) (Refused cause ∷ replies)
-reads_refused pool (ReadUnder group name offset len) cause steps replies h = h
-reads_refused pool step cause steps replies h = h
+reads_refused : (pool : ℕ → PlainPool) (step : Step) (given : Given) (cause : Refusal) (steps : List Step) (givens : List Given) (replies : List Reply) → ReadsUnder pool steps givens replies
+    → ReadsUnder pool (step ∷ steps) (given ∷ givens) (Refused cause ∷ replies)
+reads_refused pool (ReadUnder group name offset len) given cause steps givens replies h = h
+reads_refused pool step given cause steps givens replies h = h
 
 abbrev ReadsOn : View → Given → Step → Reply → View → Type 0
-ReadsOn v given step reply w = (pool : ℕ → PlainPool) (steps : List Step) (replies : List Reply) → ((n : ℕ) → nat_le n v.committed ≡ true → pool n ≡ v.pools n) → ReadsUnder pool steps replies → ReadsUnder pool (step ∷ steps) (reply ∷ replies)
+ReadsOn v given step reply w = (pool : ℕ → PlainPool) (steps : List Step) (givens : List Given) (replies : List Reply) → ((n : ℕ) → nat_le n v.committed ≡ true → pool n ≡ v.pools n)
+    → ReadsUnder pool steps givens replies → ReadsUnder pool (step ∷ steps) (given ∷ givens) (reply ∷ replies)
 
 read_moves : EachMove ReadsOn
 read_moves = record {
-  stays = λ v given step cause pool steps replies f h. reads_refused pool step cause steps replies h;
-  begun = λ v given t cause pool steps replies f h. h;
-  failed = λ v given cause disk left e pool steps replies f h. h;
-  replanned = λ v given disk left e pool steps replies f h. h;
-  moved = λ v given phase left rest pool steps replies f h. h;
-  read = λ v given name offset len bytes a pool steps replies f h. h;
-  read_under = λ v given g name offset len bytes kept a pool steps replies f h.
-      ((a.0, ap (volume_at name) (f g (kept_below v g kept)) ∙ a.1, a.2), h);
-  held = λ v given by o pool steps replies f h. h;
-  wrote = λ v given x g m o le pool steps replies f h. h;
-  acted = λ v given a g m o le op pool steps replies f h. h;
-  released = λ v given by pool steps replies f h. h;
-  closed = λ v given b pool steps replies f h. h;
-  quiesced = λ v given e pool steps replies f h. h;
-  planned = λ v given t calls pool steps replies f h. h;
-  replanned_group = λ v given t calls pool steps replies f h. h;
-  committed = λ v given left pool steps replies f h. h;
+  stays = λ v given step cause may e pool steps givens replies f h. reads_refused pool step given cause steps givens replies h;
+  begun = λ v given t cause is pool steps givens replies f h. h;
+  again = λ v given t cause is pool steps givens replies f h. h;
+  failed = λ v given disk left phase e pool steps givens replies f h. h;
+  replanned = λ v given disk left phase e pool steps givens replies f h. h;
+  moved = λ v given phase left rest e pool steps givens replies f h. h;
+  read = λ v given name offset len bytes a pool steps givens replies f h. h;
+  read_under = λ v given g name offset len bytes kept a pool steps givens replies f h.
+      ((λ trusted. let b = a trusted in (b.0, ap (volume_at name) (f g (kept_below v g kept)) ∙ b.1, b.2)), h);
+  held = λ v given by o pool steps givens replies f h. h;
+  wrote = λ v given x g m o le pool steps givens replies f h. h;
+  acted = λ v given a g m o le op pool steps givens replies f h. h;
+  released = λ v given by pool steps givens replies f h. h;
+  closed = λ v given b pool steps givens replies f h. h;
+  quiesced = λ v given e pool steps givens replies f h. h;
+  planned = λ v given t calls pool steps givens replies f h. h;
+  replanned_group = λ v given t calls pool steps givens replies f h. h;
+  committed = λ v given left e pool steps givens replies f h. h;
 }
 
-pub told_reads : (v : View) (steps : List Step) (givens : List Given) (replies : List Reply) (w : View) → Run v steps givens replies w → IsSound v → (pool : ℕ → PlainPool) → ((n : ℕ) → pool n ≡ pool_by v w.ledger n) → ReadsUnder pool steps replies
+pub told_reads : (v : View) (steps : List Step) (givens : List Given) (replies : List Reply) (w : View) → Run v steps givens replies w → IsSound v → (pool : ℕ → PlainPool) → ((n : ℕ) → pool n ≡ pool_by v w.ledger n) → ReadsUnder pool steps givens replies
 told_reads v [] [] [] w r s pool e = tt
 told_reads v (step ∷ steps) (given ∷ givens) (reply ∷ replies) w r s pool e =
-    by_move ReadsOn read_moves v given step reply r.0 r.1 pool steps replies
+    by_move ReadsOn read_moves v given step reply r.0 r.1 pool steps givens replies
     (λ n low. e n ∙ ap (λ b. cond b (v.pools n) (upto v.committed (v.pools v.committed) w.ledger n)) low)
     (told_reads r.0 steps givens replies w r.2 (sound_step v given step reply r.0 s r.1) pool (λ n. e n ∙ sym (pool_step v given step reply r.0 steps givens replies w r.1 r.2 s n)))
 told_reads v steps givens replies w r s pool e = absurd r

@@ -1,21 +1,30 @@
 -- How a run moves groups, and how many it commits.
-use Rattle.std.proofs.Common.{◌≡◌, inl, inr, ℕ, suc, ◌+◌, ◌≤◌, List, [], ◌∷◌, Bool, true, false, true≢false, Some, None, refl, sym, ap, arith}
+use Rattle.std.proofs.Common.{◌≡◌, ⊎_elim, inl, inr, subst, ℕ, suc, ◌+◌, ◌≤◌, List, [], ◌∷◌, Bool, true, false, true≢false, Some, None, refl, sym, ap, arith}
 use Rattle.std.specs.Prelude.{cond, is_some, length}
-use Rattle.pool_model.specs.declared.group.Stage.TheVariants.{Quiescing}
+use Rattle.pool_model.specs.declared.group.Stage.TheVariants.{Quiescing, Quiesced as QuiescedStage}
+use Rattle.pool_model.specs.declared.refusal.Refusal.{Refusal}
+use Rattle.pool_model.specs.declared.refusal.Refusal.TheVariants.{Suspended, NotNow}
 use Rattle.pool_model.specs.declared.step.Step.{Step}
 use Rattle.pool_model.specs.declared.step.Step.TheVariants.{Hold, Plan, Device}
 use Rattle.pool_model.specs.declared.step.Reply.{Reply}
-use Rattle.pool_model.specs.View.{View, Given, Unplanned, is_syncing, is_quiesced, waiting_group, open_group}
+use Rattle.pool_model.specs.View.{View, Given, Idle, Unplanned, is_syncing, is_quiesced, waiting_group, open_group}
 use Rattle.pool_model.specs.Machine.{Run}
 use Rattle.pool_model.specs.Accepted.{CountsFrom}
-use Rattle.pool_model.specs.Groups.{Counters, taken_in, counters_of, AreInOrder, MovesRefused, MovesBy, GroupsMove, commits}
-use Rattle.pool_model.proofs.Moves.{EachMove, by_move}
+use Rattle.pool_model.specs.Groups.{Counters, taken_in, counters_of, AreInOrder, TakesNext, MovesRefused, MovesBy, GroupsMove, commits}
+use Rattle.pool_model.proofs.Moves.{IsPlanFault, MayStay, EachMove, by_move}
 
-refused_moves : (c : Counters) (step : Step) → MovesRefused c step c
-refused_moves c (Plan timestamp) = inl refl
-refused_moves c Device = inl refl
-refused_moves c (Hold writer) = refl
-refused_moves c step = refl
+refused_moves : (c : Counters) (step : Step) (cause : Refusal) → MayStay step cause → MovesRefused c step cause c
+refused_moves c (Plan timestamp) cause may = ⊎_elim (λ e. subst (λ x. MovesRefused c (Plan timestamp) x c) (sym e) refl) (λ e. subst (λ x. MovesRefused c (Plan timestamp) x c) (sym e) refl) may
+refused_moves c Device Suspended may = inl refl
+refused_moves c Device cause may = refl
+refused_moves c (Hold writer) cause may = refl
+refused_moves c step cause may = refl
+
+-- a plan that is refused for another cause takes its group
+plan_takes : (c : Counters) (timestamp : ℕ) (cause : Refusal) (d : Counters) → IsPlanFault cause → TakesNext c d → MovesRefused c (Plan timestamp) cause d
+plan_takes c timestamp Suspended d is t = absurd is
+plan_takes c timestamp NotNow d is t = absurd is
+plan_takes c timestamp cause d is t = t
 
 -- the waiting group is the one after those that were taken
 waiting_taken : (v : View) → waiting_group v ≡ suc (taken_in v)
@@ -30,11 +39,12 @@ unplanned_low v = elim (is_quiesced v.waiting) as (λ b. suc v.committed ≤ con
 
 move_moves : EachMove (λ v given step reply w. MovesBy (counters_of v) step reply (counters_of w))
 move_moves = record {
-  stays = λ v given step cause. refused_moves (counters_of v) step;
-  begun = λ v given t cause. inr (omega arith, refl, refl);
-  failed = λ v given cause disk left e. inr (refl, refl);
-  replanned = λ v given disk left e. (refl, refl);
-  moved = λ v given phase left rest. (refl, refl);
+  stays = λ v given step cause may e. refused_moves (counters_of v) step cause may;
+  begun = λ v given t cause is. plan_takes (counters_of (record v { sync = Idle; waiting = Some QuiescedStage })) t cause (counters_of (record v { sync = Unplanned; waiting = None })) is (record { quiesced = omega arith; unplanned = refl; taken = refl });
+  again = λ v given t cause is. plan_takes (counters_of (record v { sync = Unplanned })) t cause (counters_of (record v { sync = Unplanned })) is (record { quiesced = unplanned_low v; unplanned = refl; taken = refl });
+  failed = λ v given disk left phase e. inr (refl, refl);
+  replanned = λ v given disk left phase e. (refl, refl);
+  moved = λ v given phase left rest e. (refl, refl);
   read = λ v given name offset len bytes a. refl;
   read_under = λ v given g name offset len bytes k a. refl;
   held = λ v given by n. (open_closed v, refl);
@@ -45,7 +55,7 @@ move_moves = record {
   quiesced = λ v given e. (waiting_taken v, waiting_taken v, ap (λ n. record (counters_of (record v { waiting = Some Quiescing })) { quiesced = n }) (sym (waiting_taken v)));
   planned = λ v given t calls. (refl, omega arith, refl, refl);
   replanned_group = λ v given t calls. (refl, unplanned_low v, refl, refl);
-  committed = λ v given left. (refl, refl, refl, refl);
+  committed = λ v given left e. (refl, refl, refl, refl);
 }
 
 pub told_moves : (v : View) (steps : List Step) (givens : List Given) (replies : List Reply) (w : View) → Run v steps givens replies w → GroupsMove (counters_of v) steps replies (counters_of w)
@@ -83,11 +93,12 @@ CommitsOn v given step reply w = (replies : List Reply) (last : ℕ) → CountsF
 
 commit_moves : EachMove CommitsOn
 commit_moves = record {
-  stays = λ v given step cause replies last h k. (h, k);
-  begun = λ v given t cause replies last h k. (h, k);
-  failed = λ v given cause disk left e replies last h k. (h, k);
-  replanned = λ v given disk left e replies last h k. (h, k);
-  moved = λ v given phase left rest replies last h k. (h, k);
+  stays = λ v given step cause may e replies last h k. (h, k);
+  begun = λ v given t cause is replies last h k. (h, k);
+  again = λ v given t cause is replies last h k. (h, k);
+  failed = λ v given disk left phase e replies last h k. (h, k);
+  replanned = λ v given disk left phase e replies last h k. (h, k);
+  moved = λ v given phase left rest e replies last h k. (h, k);
   read = λ v given name offset len bytes a replies last h k. (h, k);
   read_under = λ v given g name offset len bytes e a replies last h k. (h, k);
   held = λ v given by n replies last h k. (h, k);
@@ -98,7 +109,7 @@ commit_moves = record {
   quiesced = λ v given e replies last h k. (h, k);
   planned = λ v given t calls replies last h k. (h, k);
   replanned_group = λ v given t calls replies last h k. (h, k);
-  committed = λ v given left replies last h k. ((refl, h), omega arith);
+  committed = λ v given left e replies last h k. ((refl, h), omega arith);
 }
 
 pub told_commits : (v : View) (steps : List Step) (givens : List Given) (replies : List Reply) (w : View) → Run v steps givens replies w → CountsFrom (suc v.committed) (commits replies) × (w.committed ≡ v.committed + length (commits replies))

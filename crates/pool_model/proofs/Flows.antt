@@ -11,6 +11,7 @@ use Rattle.pool_model.specs.declared.step.Step.TheVariants.{Hold, Write as Write
 use Rattle.pool_model.specs.declared.step.Reply.{Reply}
 use Rattle.pool_model.specs.declared.step.Reply.TheVariants.{Held, Receipt, Released, Closed, Quiesced, Planned, Moved, Replan, Committed, Bytes, Refused}
 use Rattle.pool_model.specs.declared.refusal.Refusal.{Refusal}
+use Rattle.pool_model.specs.declared.refusal.Refusal.TheVariants.{Suspended, NotNow}
 use Rattle.pool_model.specs.View.{hold_group, is_held}
 use Rattle.pool_model.specs.Refusals.{greatest}
 use Rattle.pool_model.specs.Flow.{Flow, waits, opened, held_by, released_by, flow_took, TakesGroup, FlowStep}
@@ -57,10 +58,9 @@ by_flow P m f Quiesce (Quiesced group) g s =
     subst (P f Quiesce (Quiesced group)) (sym s.3) (subst (λ k. P f Quiesce (Quiesced k) (record f { waiting = Some QuiescedStage })) (sym s.2) (at_waiting P f Quiesce (Quiesced (waits f)) (record f { waiting = Some QuiescedStage }) (Some Quiescing) s.0 (m.quiesced f s.1)))
 by_flow P m f (Plan timestamp) (Planned group) g s =
     subst (λ k. P f (Plan timestamp) (Planned k) g) (sym s.0) (takes P f (Plan timestamp) (Planned (suc f.committed)) g (m.replanned_group f timestamp) (m.planned f timestamp) s.1)
-by_flow P m f (Plan timestamp) (Refused cause) g s = ⊎_elim
-    (λ e. subst (P f (Plan timestamp) (Refused cause)) (sym e) (m.stays f (Plan timestamp) cause))
-    (λ t. takes P f (Plan timestamp) (Refused cause) g (m.stays f (Plan timestamp) cause) (m.begun f timestamp cause) t)
-    s
+by_flow P m f (Plan timestamp) (Refused Suspended) g s = subst (P f (Plan timestamp) (Refused Suspended)) (sym s) (m.stays f (Plan timestamp) Suspended)
+by_flow P m f (Plan timestamp) (Refused NotNow) g s = subst (P f (Plan timestamp) (Refused NotNow)) (sym s) (m.stays f (Plan timestamp) NotNow)
+by_flow P m f (Plan timestamp) (Refused cause) g s = takes P f (Plan timestamp) (Refused cause) g (m.stays f (Plan timestamp) cause) (m.begun f timestamp cause) s
 by_flow P m f Device (Committed group) g s =
     subst (P f Device (Committed group)) (sym s.2) (subst (λ k. P f Device (Committed k) (record f { committed = suc f.committed; syncing = false })) (sym s.1) (subst (λ b. P (record f { syncing = b }) Device (Committed (suc f.committed)) (record f { committed = suc f.committed; syncing = false })) (sym s.0) (m.committed f)))
 by_flow P m f Device (Moved phase) g s = subst (P f Device (Moved phase)) (sym s) (m.moved f phase)

@@ -1,6 +1,6 @@
 -- The ways in which the machine may go on, each from a view that shows what it needs.
-use Rattle.std.proofs.Common.{◌≡◌, ⊎_elim, ◌≤◌, ◌<◌, ℕ, suc, List, [], ◌∷◌, true, false, true≢false, Option, Some, None, refl, sym, ap, ◌∙◌, subst}
-use Rattle.std.specs.Prelude.{cond, is_some, nat_le, not, ◌&&◌, ◌||◌}
+use Rattle.std.proofs.Common.{◌≡◌, ◌⊎◌, ⊎_elim, inl, inr, ◌≤◌, ◌<◌, ℕ, suc, List, [], ◌∷◌, Bool, true, false, true≢false, Option, Some, None, refl, sym, ap, ◌∙◌, subst}
+use Rattle.std.specs.Prelude.{is_some, nat_le, not, ◌&&◌, ◌||◌}
 use Rattle.pool_model.specs.declared.group.Stage.{Stage}
 use Rattle.pool_model.specs.declared.group.Stage.TheVariants.{Quiescing, Quiesced as QuiescedStage}
 use Rattle.pool_model.specs.declared.item.Action.{Action}
@@ -12,21 +12,38 @@ use Rattle.pool_model.specs.declared.step.Step.TheVariants.{Hold, Write as Write
 use Rattle.pool_model.specs.declared.step.Reply.{Reply}
 use Rattle.pool_model.specs.declared.step.Reply.TheVariants.{Held, Receipt, Released, Closed, Quiesced, Planned, Moved, Replan, Committed, Bytes, Refused}
 use Rattle.pool_model.specs.declared.refusal.Refusal.{Refusal}
-use Rattle.pool_model.specs.declared.refusal.Refusal.TheVariants.{NoMemory}
-use Rattle.pool_model.specs.View.{View, Given, DueCall, Sync, Idle, Unplanned, Left, is_syncing, is_planned, is_quiesced, waiting_group, open_group, is_kept, hold_group, is_held, now_of}
-use Rattle.pool_model.specs.Refusals.{greatest, may_plan, refusal_of}
-use Rattle.pool_model.specs.Machine.{with_hold, without_hold, took, taken, left_waiting, dropped, committed_next, without_memory, AreBytesOf, Granted, StepOf}
+use Rattle.pool_model.specs.declared.refusal.Refusal.TheVariants.{NoMemory, NoSpace, Suspended, NotNow}
+use Rattle.pool_model.specs.View.{View, Given, DueCall, Sync, Idle, Unplanned, Left, is_syncing, is_planned, is_quiesced, is_suspended, waiting_group, open_group, is_kept, hold_group, is_held, now_of}
+use Rattle.pool_model.specs.Refusals.{greatest, first_cause, may_plan, refusal_of}
+use Rattle.pool_model.specs.Machine.{with_hold, without_hold, took, taken, left_waiting, dropped, committed_next, due, IsQuiet, IsUnreadable, MayLack, without_memory, AreBytesOf, Granted, StepOf}
 use Rattle.pool_model.proofs.Causes.{or_none, none_of, first_none, not_false, write_none, act_none, act_open, closed_below, quiescing}
+
+-- a Plan that is refused leaves its group taken, unless the pool is suspended or no group is due
+abbrev pub IsPlanFault : Refusal → Type 0
+IsPlanFault Suspended = ⊥
+IsPlanFault NotNow = ⊥
+IsPlanFault cause = Unit {0}
+
+-- a refusal of this cause may change nothing
+abbrev pub MayStay : Step → Refusal → Type 0
+MayStay (Plan timestamp) cause = (cause ≡ Suspended) ⊎ (cause ≡ NotNow)
+MayStay step cause = Unit {0}
+
+-- a Device step without a fault
+abbrev pub NoFault : Step → Given → Type 0
+NoFault Device given = given.fault ≡ None
+NoFault step given = Unit {0}
 
 -- a property of steps, proved of each way to go on
 pub record EachMove (P : View → Given → Step → Reply → View → Type 0) : Type 0 where
-  pub stays : (v : View) (given : Given) (step : Step) (cause : Refusal) → P v given step (Refused cause) v
-  pub begun : (v : View) (given : Given) (timestamp : ℕ) (cause : Refusal) → P (record v { sync = Idle; waiting = Some QuiescedStage }) given (Plan timestamp) (Refused cause) (record v { sync = Unplanned; waiting = None })
-  pub failed : (v : View) (given : Given) (cause : Refusal) (disk : ℕ) (left : List DueCall) → given.failed ≡ disk ∷ [] → P (record v { sync = Left left }) given Device (Refused cause) (dropped v disk)
-  pub replanned : (v : View) (given : Given) (disk : ℕ) (left : List DueCall) → given.failed ≡ disk ∷ [] → P (record v { sync = Left left }) given Device (Replan disk) (dropped v disk)
-  pub moved : (v : View) (given : Given) (phase : Phase) (left rest : List DueCall) → P (record v { sync = Left left }) given Device (Moved phase) (record v { sync = Left rest })
-  pub read : (v : View) (given : Given) (name : List ℕ) (offset len : ℕ) (bytes : List ℕ) → AreBytesOf (now_of v) name offset len bytes → P v given (Read name offset len) (Bytes bytes) v
-  pub read_under : (v : View) (given : Given) (group : ℕ) (name : List ℕ) (offset len : ℕ) (bytes : List ℕ) → is_kept v group ≡ true → AreBytesOf (v.pools group) name offset len bytes → P v given (ReadUnder group name offset len) (Bytes bytes) v
+  pub stays : (v : View) (given : Given) (step : Step) (cause : Refusal) → MayStay step cause → NoFault step given → P v given step (Refused cause) v
+  pub begun : (v : View) (given : Given) (timestamp : ℕ) (cause : Refusal) → IsPlanFault cause → P (record v { sync = Idle; waiting = Some QuiescedStage }) given (Plan timestamp) (Refused cause) (record v { sync = Unplanned; waiting = None })
+  pub again : (v : View) (given : Given) (timestamp : ℕ) (cause : Refusal) → IsPlanFault cause → P (record v { sync = Unplanned }) given (Plan timestamp) (Refused cause) (record v { sync = Unplanned })
+  pub failed : (v : View) (given : Given) (disk : ℕ) (left : List DueCall) (phase : Phase) → given.fault ≡ Some (due phase disk) → P (record v { sync = Left left }) given Device (Refused Suspended) (dropped v disk)
+  pub replanned : (v : View) (given : Given) (disk : ℕ) (left : List DueCall) (phase : Phase) → given.fault ≡ Some (due phase disk) → P (record v { sync = Left left }) given Device (Replan disk) (dropped v disk)
+  pub moved : (v : View) (given : Given) (phase : Phase) (left rest : List DueCall) → given.fault ≡ None → P (record v { sync = Left left }) given Device (Moved phase) (record v { sync = Left rest })
+  pub read : (v : View) (given : Given) (name : List ℕ) (offset len : ℕ) (bytes : List ℕ) → (given.trusted ≡ true → AreBytesOf (now_of v) name offset len bytes) → P v given (Read name offset len) (Bytes bytes) v
+  pub read_under : (v : View) (given : Given) (group : ℕ) (name : List ℕ) (offset len : ℕ) (bytes : List ℕ) → is_kept v group ≡ true → (given.trusted ≡ true → AreBytesOf (v.pools group) name offset len bytes) → P v given (ReadUnder group name offset len) (Bytes bytes) v
   pub held : (v : View) (given : Given) (writer : ℕ) → hold_group writer v.holds ≡ None → P v given (Hold writer) (Held (open_group v)) (with_hold v writer (open_group v))
   pub wrote : (v : View) (given : Given) (w : Write) (group : ℕ) → hold_group w.writer v.holds ≡ Some group → w.number ≡ v.next w.writer → w.number ≤ greatest → P v given (WriteStep w) (Receipt group) (took v w.writer group (WriteItem w))
   pub acted : (v : View) (given : Given) (a : Action) (group : ℕ) → hold_group a.writer v.holds ≡ Some group → a.number ≡ v.next a.writer → a.number ≤ greatest → group ≡ open_group v → P v given (Act a) (Receipt group) (took v a.writer group (ActionItem a))
@@ -35,7 +52,7 @@ pub record EachMove (P : View → Given → Step → Reply → View → Type 0) 
   pub quiesced : (v : View) (given : Given) → is_held (waiting_group v) v.holds ≡ false → P (record v { waiting = Some Quiescing }) given Quiesce (Quiesced (waiting_group v)) (record v { waiting = Some QuiescedStage })
   pub planned : (v : View) (given : Given) (timestamp : ℕ) (calls : List DueCall) → P (record v { sync = Idle; waiting = Some QuiescedStage }) given (Plan timestamp) (Planned (suc v.committed)) (record v { sync = Left calls; waiting = None })
   pub replanned_group : (v : View) (given : Given) (timestamp : ℕ) (calls : List DueCall) → P (record v { sync = Unplanned }) given (Plan timestamp) (Planned (suc v.committed)) (record v { sync = Left calls })
-  pub committed : (v : View) (given : Given) (left : List DueCall) → P (record v { sync = Left left }) given Device (Committed (suc v.committed)) (committed_next v)
+  pub committed : (v : View) (given : Given) (left : List DueCall) → given.fault ≡ None → P (record v { sync = Left left }) given Device (Committed (suc v.committed)) (committed_next v)
 
 -- where nothing speaks against planning, there is a group to be planned
 plan_none : (v : View) (timestamp : ℕ) → refusal_of v (Plan timestamp) ≡ None → may_plan v ≡ true
@@ -57,10 +74,10 @@ takes_group P v given timestamp reply sync next again Unplanned o es eo t =
     subst (λ (s : Sync). P (record v { sync = s }) given (Plan timestamp) reply (record v { sync = sync; waiting = left_waiting s v.waiting })) (sym es) (again v refl)
 takes_group P v given timestamp reply sync next again (Left calls) o es eo t = absurd (true≢false (sym t))
 
-begins : (P : View → Given → Step → Reply → View → Type 0) → EachMove P → (v : View) (given : Given) (timestamp : ℕ) (cause : Refusal) → may_plan v ≡ true → P v given (Plan timestamp) (Refused cause) (taken v Unplanned)
-begins P m v given timestamp cause t =
+begins : (P : View → Given → Step → Reply → View → Type 0) → EachMove P → (v : View) (given : Given) (timestamp : ℕ) (cause : Refusal) → IsPlanFault cause → may_plan v ≡ true → P v given (Plan timestamp) (Refused cause) (taken v Unplanned)
+begins P m v given timestamp cause is t =
     takes_group P v given timestamp (Refused cause) Unplanned
-    (λ u e. m.begun u given timestamp cause) (λ u e. m.stays (record u { sync = Unplanned }) given (Plan timestamp) cause)
+    (λ u e. m.begun u given timestamp cause is) (λ u e. m.again u given timestamp cause is)
     v.sync v.waiting refl refl t
 
 plans : (P : View → Given → Step → Reply → View → Type 0) → EachMove P → (v : View) (given : Given) (timestamp : ℕ) (calls : List DueCall) → may_plan v ≡ true → P v given (Plan timestamp) (Planned (suc v.committed)) (taken v (Left calls))
@@ -70,14 +87,39 @@ plans P m v given timestamp calls t =
     (λ u e. subst (λ c. P (record u { sync = Unplanned }) given (Plan timestamp) (Planned (suc c)) (record u { sync = Left calls })) e (m.replanned_group u given timestamp calls))
     v.sync v.waiting refl refl t
 
-lacks : (P : View → Given → Step → Reply → View → Type 0) → EachMove P → (v : View) (given : Given) (step : Step) (cause : Refusal) → P v given step (Refused cause) (without_memory v step)
-lacks P m v given (Plan timestamp) cause = cases (refusal_of v (Plan timestamp)) refl
-  where
-    cases : (o : Option Refusal) → refusal_of v (Plan timestamp) ≡ o → P v given (Plan timestamp) (Refused cause) (cond (is_some o) v (taken v Unplanned))
-    cases None e = begins P m v given timestamp cause (plan_none v timestamp e)
-    cases (Some c) e = m.stays v given (Plan timestamp) cause
-lacks P m v given (Hold writer) cause = m.stays v given (Hold writer) cause
-lacks P m v given step cause = m.stays v given step cause
+-- a Device step takes no memory
+lacks : (P : View → Given → Step → Reply → View → Type 0) → EachMove P → (v : View) (given : Given) (step : Step) → MayLack v step → P v given step (Refused NoMemory) (without_memory v step)
+lacks P m v given (Plan timestamp) may = begins P m v given timestamp NoMemory tt (plan_none v timestamp may)
+lacks P m v given Device may = absurd (true≢false (sym may))
+lacks P m v given (Hold writer) may = m.stays v given (Hold writer) NoMemory tt tt
+lacks P m v given step may = m.stays v given step NoMemory tt tt
+
+-- a plan is refused by the view for these causes alone
+plan_causes : (a b : Bool) (cause : Refusal) → first_cause ((a, Suspended) ∷ (b, NotNow) ∷ []) ≡ Some cause → (cause ≡ Suspended) ⊎ (cause ≡ NotNow)
+plan_causes true b cause e = inl (cc)
+plan_causes false true cause e = inr (cc)
+plan_causes false false cause e = absurd (cc)
+
+may_stay : (v : View) (step : Step) (cause : Refusal) → refusal_of v step ≡ Some cause → MayStay step cause
+may_stay v (Plan timestamp) cause e = plan_causes (is_suspended v) (not (may_plan v)) cause e
+may_stay v (Hold writer) cause e = tt
+may_stay v step cause e = tt
+
+no_fault : (step : Step) (given : Given) → IsQuiet given → NoFault step given
+no_fault Device given quiet = quiet.fault
+no_fault (Hold writer) given quiet = tt
+no_fault step given quiet = tt
+
+-- a plan that can't read what it needs, or finds no room
+plan_fault : (v : View) (given : Given) (cause : Refusal) → IsUnreadable v given cause ⊎ ((cause ≡ NoSpace) × (given.full ≡ true)) → IsPlanFault cause
+plan_fault v given cause h =
+    ⊎_elim
+    (λ r. ⊎_elim
+    (λ d. subst IsPlanFault (sym d.0) tt)
+    (λ d. ⊎_elim (λ e. subst IsPlanFault (sym e) tt) (λ d. ⊎_elim (λ e. subst IsPlanFault (sym e) tt) (λ e. subst IsPlanFault (sym e) tt) d) d.0)
+    r)
+    (λ r. subst IsPlanFault (sym r.0) tt)
+    h
 
 -- at a plan of which these calls are left
 at_left : (P : View → Given → Step → Reply → View → Type 0) (v : View) (given : Given) (step : Step) (reply : Reply) (w : View) (left : List DueCall) → v.sync ≡ Left left → P (record v { sync = Left left }) given step reply w → P v given step reply w
@@ -120,30 +162,31 @@ grants P m v given Quiesce (Quiesced group) w n g =
 grants P m v given (Plan timestamp) (Planned group) w n g =
     subst (P v given (Plan timestamp) (Planned group)) (sym g.3) (subst (λ k. P v given (Plan timestamp) (Planned k) (taken v (Left g.1))) (sym g.0) (plans P m v given timestamp g.1 (plan_none v timestamp n)))
 grants P m v given (Plan timestamp) (Refused cause) w n g =
-    subst (P v given (Plan timestamp) (Refused cause)) (sym g.1) (begins P m v given timestamp cause (plan_none v timestamp n))
+    subst (P v given (Plan timestamp) (Refused cause)) (sym g.1) (begins P m v given timestamp cause (plan_fault v given cause g.0) (plan_none v timestamp n))
 grants P m v given Device (Moved phase) w n g =
-    subst (P v given Device (Moved phase)) (sym g.7) (at_left P v given Device (Moved phase) (record v { sync = Left g.2 }) g.0 g.3 (m.moved v given phase g.0 g.2))
+    subst (P v given Device (Moved phase)) (sym g.6) (at_left P v given Device (Moved phase) (record v { sync = Left g.1 }) g.0 g.2 (m.moved v given phase g.0 g.1 g.5))
 grants P m v given Device (Committed group) w n g =
-    subst (P v given Device (Committed group)) (sym g.5) (subst (λ k. P v given Device (Committed k) (committed_next v)) (sym g.0) (at_left P v given Device (Committed (suc v.committed)) (committed_next v) g.1 g.2 (m.committed v given g.1)))
+    subst (P v given Device (Committed group)) (sym g.5) (subst (λ k. P v given Device (Committed k) (committed_next v)) (sym g.0) (at_left P v given Device (Committed (suc v.committed)) (committed_next v) g.1 g.2 (m.committed v given g.1 g.4)))
 grants P m v given Device (Replan disk) w n g =
-    subst (P v given Device (Replan disk)) (sym g.2) (at_left P v given Device (Replan disk) (dropped v disk) g.0.left g.0.planned (m.replanned v given disk g.0.left g.0.failed))
+    subst (P v given Device (Replan disk)) (sym g.2) (at_left P v given Device (Replan disk) (dropped v disk) g.0.left g.0.planned (m.replanned v given disk g.0.left g.0.phase g.0.fault))
 grants P m v given Device (Refused cause) w n g =
-    subst (P v given Device (Refused cause)) (sym g.4) (at_left P v given Device (Refused cause) (dropped v g.1) g.2.left g.2.planned (m.failed v given cause g.1 g.2.left g.2.failed))
+    subst (λ c. P v given Device (Refused c) w) (sym g.0)
+    (subst (P v given Device (Refused Suspended)) (sym g.4) (at_left P v given Device (Refused Suspended) (dropped v g.1) g.2.left g.2.planned (m.failed v given g.1 g.2.left g.2.phase g.2.fault)))
 grants P m v given (Read name offset len) (Bytes bytes) w n g = subst (P v given (Read name offset len) (Bytes bytes)) (sym g.1) (m.read v given name offset len bytes g.0)
-grants P m v given (Read name offset len) (Refused cause) w n g = subst (P v given (Read name offset len) (Refused cause)) (sym g.1) (m.stays v given (Read name offset len) cause)
+grants P m v given (Read name offset len) (Refused cause) w n g = subst (P v given (Read name offset len) (Refused cause)) (sym g.1) (m.stays v given (Read name offset len) cause tt tt)
 grants P m v given (ReadUnder group name offset len) (Bytes bytes) w n g =
     let one = or_none _ _ n in
     let two = first_none _ _ _ one.0 in
     subst (P v given (ReadUnder group name offset len) (Bytes bytes)) (sym g.1) (m.read_under v given group name offset len bytes (not_false _ two.0) g.0)
-grants P m v given (ReadUnder group name offset len) (Refused cause) w n g = subst (P v given (ReadUnder group name offset len) (Refused cause)) (sym g.1) (m.stays v given (ReadUnder group name offset len) cause)
+grants P m v given (ReadUnder group name offset len) (Refused cause) w n g = subst (P v given (ReadUnder group name offset len) (Refused cause)) (sym g.1) (m.stays v given (ReadUnder group name offset len) cause tt tt)
 grants P m v given step reply w n g = absurd g
 
 pub by_move : (P : View → Given → Step → Reply → View → Type 0) → EachMove P → (v : View) (given : Given) (step : Step) (reply : Reply) (w : View) → StepOf v given step reply w → P v given step reply w
 by_move P m v given step reply w s =
     ⊎_elim
-    (λ r. subst (λ x. P v given step x w) (sym r.answer) (subst (P v given step (Refused r.cause)) (sym r.unchanged) (m.stays v given step r.cause)))
+    (λ r. subst (λ x. P v given step x w) (sym r.answer) (subst (P v given step (Refused r.cause)) (sym r.unchanged) (m.stays v given step r.cause (may_stay v step r.cause r.first) (no_fault step given r.quiet))))
     (λ s. ⊎_elim
-    (λ l. subst (λ x. P v given step x w) (sym l.answer) (subst (P v given step (Refused NoMemory)) (sym l.leaves) (lacks P m v given step NoMemory)))
+    (λ l. subst (λ x. P v given step x w) (sym l.answer) (subst (P v given step (Refused NoMemory)) (sym l.leaves) (lacks P m v given step l.may)))
     (λ g. grants P m v given step reply w g.none g.granted)
     s)
     s

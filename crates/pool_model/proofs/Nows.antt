@@ -63,36 +63,39 @@ based_next v c pool ledger b = record {
   made = upto_above c v.committed pool ledger b.below ∙ ((λ i. applied (suc v.committed) (b.made i) (b.same (suc v.committed) i)) ∙ sym (ap (λ t. cond t (applied (suc v.committed) (v.pools v.committed) (v.ledger (suc v.committed))) (v.pools (suc v.committed))) (itself (suc v.committed))));
 }
 
-now_refused : (c : ℕ) (pool : PlainPool) (ledger : Ledger) (opened : ℕ) (step : Step) (cause : Refusal) (steps : List Step) (replies : List Reply) → ReadsNow c pool (ledger_with ledger []) opened steps replies → ReadsNow c pool ledger opened (step ∷ steps) (Refused cause ∷ replies)
-now_refused c pool ledger opened (Hold writer) cause steps replies h = h
-now_refused c pool ledger opened (Read name offset len) cause steps replies h = h
-now_refused c pool ledger opened step cause steps replies h = h
+now_refused : (c : ℕ) (pool : PlainPool) (ledger : Ledger) (opened : ℕ) (step : Step) (given : Given) (cause : Refusal) (steps : List Step) (givens : List Given) (replies : List Reply)
+    → ReadsNow c pool (ledger_with ledger []) opened steps givens replies → ReadsNow c pool ledger opened (step ∷ steps) (given ∷ givens) (Refused cause ∷ replies)
+now_refused c pool ledger opened (Hold writer) given cause steps givens replies h = h
+now_refused c pool ledger opened (Read name offset len) given cause steps givens replies h = h
+now_refused c pool ledger opened step given cause steps givens replies h = h
 
 abbrev NowsOn : View → Given → Step → Reply → View → Type 0
-NowsOn v given step reply w = (c : ℕ) (pool : PlainPool) (ledger : Ledger) (steps : List Step) (replies : List Reply) → IsSound v → IsBased v c pool ledger → ((ledger : Ledger) → IsBased w c pool ledger → ReadsNow c pool ledger (open_group w) steps replies) → ReadsNow c pool ledger (open_group v) (step ∷ steps) (reply ∷ replies)
+NowsOn v given step reply w = (c : ℕ) (pool : PlainPool) (ledger : Ledger) (steps : List Step) (givens : List Given) (replies : List Reply) → IsSound v → IsBased v c pool ledger
+    → ((ledger : Ledger) → IsBased w c pool ledger → ReadsNow c pool ledger (open_group w) steps givens replies) → ReadsNow c pool ledger (open_group v) (step ∷ steps) (given ∷ givens) (reply ∷ replies)
 
 now_moves : EachMove NowsOn
 now_moves = record {
-  stays = λ v given step cause c pool ledger steps replies s b f. now_refused c pool ledger (open_group v) step cause steps replies (f (ledger_with ledger []) (based_on v c pool ledger b));
-  begun = λ v given t cause c pool ledger steps replies s b f. let d = based_on _ c pool ledger b in f (ledger_with ledger []) (record { below = d.below; same = d.same; made = d.made });
-  failed = λ v given cause disk left e c pool ledger steps replies s b f. let d = based_on _ c pool ledger b in f (ledger_with ledger []) (record { below = d.below; same = d.same; made = d.made });
-  replanned = λ v given disk left e c pool ledger steps replies s b f. let d = based_on _ c pool ledger b in f (ledger_with ledger []) (record { below = d.below; same = d.same; made = d.made });
-  moved = λ v given phase left rest c pool ledger steps replies s b f. let d = based_on _ c pool ledger b in f (ledger_with ledger []) (record { below = d.below; same = d.same; made = d.made });
-  read = λ v given name offset len bytes a c pool ledger steps replies s b f. ((a.0, ap (volume_at name) (now_from v c pool ledger b) ∙ a.1, a.2), f ledger b);
-  read_under = λ v given g name offset len bytes k a c pool ledger steps replies s b f. f (ledger_with ledger []) (based_on v c pool ledger b);
-  held = λ v given by n c pool ledger steps replies s b f. let d = based_on v c pool ledger b in f (ledger_with ledger []) (record { below = d.below; same = d.same; made = d.made });
-  wrote = λ v given x g h n le c pool ledger steps replies s b f. f (ledger_with ledger (record { item = WriteItem x; group = g } ∷ [])) (based_took v c pool ledger x.writer g (WriteItem x) (λ group. ledger_moves.wrote (flow_of v) x g h n le [] group) (takes_above v g (taken_hold (flow_of v) x.writer g v.holds s.flow.holds h)) b);
-  acted = λ v given a g h n le op c pool ledger steps replies s b f. f (ledger_with ledger (record { item = ActionItem a; group = g } ∷ [])) (based_took v c pool ledger a.writer g (ActionItem a) (λ group. ledger_moves.acted (flow_of v) a g h n le [] group) (takes_above v g (taken_hold (flow_of v) a.writer g v.holds s.flow.holds h)) b);
-  released = λ v given by c pool ledger steps replies s b f. let d = based_on v c pool ledger b in f (ledger_with ledger []) (record { below = d.below; same = d.same; made = d.made });
-  closed = λ v given lt c pool ledger steps replies s b f. let d = based_on _ c pool ledger b in f (ledger_with ledger []) (record { below = d.below; same = d.same; made = d.made });
-  quiesced = λ v given e c pool ledger steps replies s b f. let d = based_on _ c pool ledger b in f (ledger_with ledger []) (record { below = d.below; same = d.same; made = d.made });
-  planned = λ v given t calls c pool ledger steps replies s b f. let d = based_on _ c pool ledger b in f (ledger_with ledger []) (record { below = d.below; same = d.same; made = d.made });
-  replanned_group = λ v given t calls c pool ledger steps replies s b f. let d = based_on _ c pool ledger b in f (ledger_with ledger []) (record { below = d.below; same = d.same; made = d.made });
-  committed = λ v given left c pool ledger steps replies s k f. let d = based_on _ c pool ledger k in f (ledger_with ledger []) (based_next v c pool (ledger_with ledger []) (record { below = d.below; same = d.same; made = d.made }));
+  stays = λ v given step cause may e c pool ledger steps givens replies s b f. now_refused c pool ledger (open_group v) step given cause steps givens replies (f (ledger_with ledger []) (based_on v c pool ledger b));
+  begun = λ v given t cause is c pool ledger steps givens replies s b f. let d = based_on _ c pool ledger b in f (ledger_with ledger []) (record { below = d.below; same = d.same; made = d.made });
+  again = λ v given t cause is c pool ledger steps givens replies s b f. let d = based_on _ c pool ledger b in f (ledger_with ledger []) (record { below = d.below; same = d.same; made = d.made });
+  failed = λ v given disk left phase e c pool ledger steps givens replies s b f. let d = based_on _ c pool ledger b in f (ledger_with ledger []) (record { below = d.below; same = d.same; made = d.made });
+  replanned = λ v given disk left phase e c pool ledger steps givens replies s b f. let d = based_on _ c pool ledger b in f (ledger_with ledger []) (record { below = d.below; same = d.same; made = d.made });
+  moved = λ v given phase left rest e c pool ledger steps givens replies s b f. let d = based_on _ c pool ledger b in f (ledger_with ledger []) (record { below = d.below; same = d.same; made = d.made });
+  read = λ v given name offset len bytes a c pool ledger steps givens replies s b f. ((λ trusted. let x = a trusted in (x.0, ap (volume_at name) (now_from v c pool ledger b) ∙ x.1, x.2)), f ledger b);
+  read_under = λ v given g name offset len bytes k a c pool ledger steps givens replies s b f. f (ledger_with ledger []) (based_on v c pool ledger b);
+  held = λ v given by n c pool ledger steps givens replies s b f. let d = based_on v c pool ledger b in f (ledger_with ledger []) (record { below = d.below; same = d.same; made = d.made });
+  wrote = λ v given x g h n le c pool ledger steps givens replies s b f. f (ledger_with ledger (record { item = WriteItem x; group = g } ∷ [])) (based_took v c pool ledger x.writer g (WriteItem x) (λ group. ledger_moves.wrote (flow_of v) x g h n le [] group) (takes_above v g (taken_hold (flow_of v) x.writer g v.holds s.flow.holds h)) b);
+  acted = λ v given a g h n le op c pool ledger steps givens replies s b f. f (ledger_with ledger (record { item = ActionItem a; group = g } ∷ [])) (based_took v c pool ledger a.writer g (ActionItem a) (λ group. ledger_moves.acted (flow_of v) a g h n le [] group) (takes_above v g (taken_hold (flow_of v) a.writer g v.holds s.flow.holds h)) b);
+  released = λ v given by c pool ledger steps givens replies s b f. let d = based_on v c pool ledger b in f (ledger_with ledger []) (record { below = d.below; same = d.same; made = d.made });
+  closed = λ v given lt c pool ledger steps givens replies s b f. let d = based_on _ c pool ledger b in f (ledger_with ledger []) (record { below = d.below; same = d.same; made = d.made });
+  quiesced = λ v given e c pool ledger steps givens replies s b f. let d = based_on _ c pool ledger b in f (ledger_with ledger []) (record { below = d.below; same = d.same; made = d.made });
+  planned = λ v given t calls c pool ledger steps givens replies s b f. let d = based_on _ c pool ledger b in f (ledger_with ledger []) (record { below = d.below; same = d.same; made = d.made });
+  replanned_group = λ v given t calls c pool ledger steps givens replies s b f. let d = based_on _ c pool ledger b in f (ledger_with ledger []) (record { below = d.below; same = d.same; made = d.made });
+  committed = λ v given left e c pool ledger steps givens replies s k f. let d = based_on _ c pool ledger k in f (ledger_with ledger []) (based_next v c pool (ledger_with ledger []) (record { below = d.below; same = d.same; made = d.made }));
 }
 
-pub told_now : (v : View) (steps : List Step) (givens : List Given) (replies : List Reply) (w : View) → Run v steps givens replies w → IsSound v → (c : ℕ) (pool : PlainPool) (ledger : Ledger) → IsBased v c pool ledger → ReadsNow c pool ledger (open_group v) steps replies
+pub told_now : (v : View) (steps : List Step) (givens : List Given) (replies : List Reply) (w : View) → Run v steps givens replies w → IsSound v → (c : ℕ) (pool : PlainPool) (ledger : Ledger) → IsBased v c pool ledger → ReadsNow c pool ledger (open_group v) steps givens replies
 told_now v [] [] [] w r s c pool ledger b = tt
 told_now v (step ∷ steps) (given ∷ givens) (reply ∷ replies) w r s c pool ledger b =
-    by_move NowsOn now_moves v given step reply r.0 r.1 c pool ledger steps replies s b (told_now r.0 steps givens replies w r.2 (sound_step v given step reply r.0 s r.1) c pool)
+    by_move NowsOn now_moves v given step reply r.0 r.1 c pool ledger steps givens replies s b (told_now r.0 steps givens replies w r.2 (sound_step v given step reply r.0 s r.1) c pool)
 told_now v steps givens replies w r s c pool ledger b = absurd r

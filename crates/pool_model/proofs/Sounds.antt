@@ -1,30 +1,39 @@
 -- A step of the machine is a step of its groups, holds and items, and keeps a view sound.
-use Rattle.std.proofs.Common.{inl, inr, ◌≤◌, List, [], ◌∷◌, refl, ap, arith, lit≤}
+use Rattle.std.proofs.Common.{⊎_elim, inl, inr, ℕ, ◌≤◌, List, [], ◌∷◌, Some, None, refl, sym, ap, subst, arith, lit≤}
+use Rattle.pool_model.specs.declared.group.Stage.TheVariants.{Quiesced as QuiescedStage}
 use Rattle.pool_model.specs.declared.step.Step.{Step}
 use Rattle.pool_model.specs.declared.step.Step.TheVariants.{Hold, Plan}
 use Rattle.pool_model.specs.declared.step.Reply.{Reply}
 use Rattle.pool_model.specs.declared.step.Reply.TheVariants.{Refused}
 use Rattle.pool_model.specs.declared.refusal.Refusal.{Refusal}
-use Rattle.pool_model.specs.Flow.{Flow, FlowStep, FlowRun}
-use Rattle.pool_model.specs.View.{View, Vdev, Given, started}
+use Rattle.pool_model.specs.declared.refusal.Refusal.TheVariants.{Suspended, NotNow}
+use Rattle.pool_model.specs.Flow.{Flow, TakesGroup, FlowStep, FlowRun}
+use Rattle.pool_model.specs.View.{View, Vdev, Given, Idle, Unplanned, started}
 use Rattle.pool_model.specs.Flow.{flow_of}
 use Rattle.pool_model.specs.Machine.{StepOf, Run}
 use Rattle.pool_model.specs.Sound.{IsSound}
-use Rattle.pool_model.proofs.Moves.{EachMove, by_move}
+use Rattle.pool_model.proofs.Moves.{IsPlanFault, MayStay, EachMove, by_move}
 use Rattle.pool_model.proofs.SoundFlows.{sound_flow}
 
-refused_flow : (f : Flow) (step : Step) (cause : Refusal) → FlowStep f step (Refused cause) f
-refused_flow f (Plan timestamp) cause = inl refl
-refused_flow f (Hold writer) cause = refl
-refused_flow f step cause = refl
+refused_flow : (f : Flow) (step : Step) (cause : Refusal) → MayStay step cause → FlowStep f step (Refused cause) f
+refused_flow f (Plan timestamp) cause may = ⊎_elim (λ e. subst (λ c. FlowStep f (Plan timestamp) (Refused c) f) (sym e) refl) (λ e. subst (λ c. FlowStep f (Plan timestamp) (Refused c) f) (sym e) refl) may
+refused_flow f (Hold writer) cause may = refl
+refused_flow f step cause may = refl
+
+-- a plan that is refused for another cause takes its group
+plan_takes : (f : Flow) (timestamp : ℕ) (cause : Refusal) (g : Flow) → IsPlanFault cause → TakesGroup f g → FlowStep f (Plan timestamp) (Refused cause) g
+plan_takes f timestamp Suspended g is t = absurd is
+plan_takes f timestamp NotNow g is t = absurd is
+plan_takes f timestamp cause g is t = t
 
 flow_moves : EachMove (λ v given step reply w. FlowStep (flow_of v) step reply (flow_of w))
 flow_moves = record {
-  stays = λ v given step cause. refused_flow (flow_of v) step cause;
-  begun = λ v given t cause. inr (inr (refl, refl, refl));
-  failed = λ v given cause disk left e. refl;
-  replanned = λ v given disk left e. refl;
-  moved = λ v given phase left rest. refl;
+  stays = λ v given step cause may e. refused_flow (flow_of v) step cause may;
+  begun = λ v given t cause is. plan_takes (flow_of (record v { sync = Idle; waiting = Some QuiescedStage })) t cause (flow_of (record v { sync = Unplanned; waiting = None })) is (inr (refl, refl, refl));
+  again = λ v given t cause is. plan_takes (flow_of (record v { sync = Unplanned })) t cause (flow_of (record v { sync = Unplanned })) is (inl (refl, refl));
+  failed = λ v given disk left phase e. refl;
+  replanned = λ v given disk left phase e. refl;
+  moved = λ v given phase left rest e. refl;
   read = λ v given name offset len bytes a. refl;
   read_under = λ v given g name offset len bytes k a. refl;
   held = λ v given by n. (n, refl, refl);
@@ -35,7 +44,7 @@ flow_moves = record {
   quiesced = λ v given e. (refl, e, refl, refl);
   planned = λ v given t calls. (refl, inr (refl, refl, refl));
   replanned_group = λ v given t calls. (refl, inl (refl, refl));
-  committed = λ v given left. (refl, refl, refl);
+  committed = λ v given left e. (refl, refl, refl);
 }
 
 pub flow_step : (v : View) (given : Given) (step : Step) (reply : Reply) (w : View) → StepOf v given step reply w → FlowStep (flow_of v) step reply (flow_of w)
@@ -48,11 +57,12 @@ flow_run v steps givens replies w r = absurd r
 
 first_moves : EachMove (λ v given step reply w. v.first ≤ v.committed → w.first ≤ w.committed)
 first_moves = record {
-  stays = λ v given step cause s. s;
-  begun = λ v given t cause s. s;
-  failed = λ v given cause disk left e s. s;
-  replanned = λ v given disk left e s. s;
-  moved = λ v given phase left rest s. s;
+  stays = λ v given step cause may e s. s;
+  begun = λ v given t cause is s. s;
+  again = λ v given t cause is s. s;
+  failed = λ v given disk left phase e s. s;
+  replanned = λ v given disk left phase e s. s;
+  moved = λ v given phase left rest e s. s;
   read = λ v given name offset len bytes a s. s;
   read_under = λ v given g name offset len bytes k a s. s;
   held = λ v given by n s. s;
@@ -63,7 +73,7 @@ first_moves = record {
   quiesced = λ v given e s. s;
   planned = λ v given t calls s. s;
   replanned_group = λ v given t calls s. s;
-  committed = λ v given left s. omega arith;
+  committed = λ v given left e s. omega arith;
 }
 
 pub sound_step : (v : View) (given : Given) (step : Step) (reply : Reply) (w : View) → IsSound v → StepOf v given step reply w → IsSound w

@@ -31,8 +31,7 @@ headline v steps givens replies w s r = record {
   reads_under = told_reads v steps givens replies w r s (pool_by v w.ledger) (λ n. refl);
   reads_now = told_now v steps givens replies w r s v.committed (v.pools v.committed) v.ledger (record { below = omega arith; same = λ group. refl; made = upto_base v.committed (v.pools v.committed) v.ledger });
   refusals = told_refusals v steps givens replies w r;
-  outs = (told_outs v steps givens replies w r).0;
-  stay_out = (told_outs v steps givens replies w r).1;
+  outs = told_outs v steps givens replies w r;
   sound = sound_run v steps givens replies w r s;
 }
 

@@ -1,7 +1,7 @@
 -- The numbers and names of refusals.
 use Rattle.std.specs.Prelude.{ℕ, List, codes}
 use Rattle.pool_model.specs.declared.refusal.Refusal.{Refusal}
-use Rattle.pool_model.specs.declared.refusal.Refusal.TheVariants.{NoMemory, DiskFault, NoSpace, Suspended, AlreadyHeld, NoHold, OutOfOrder, NoSuchName, NotYet, Exists, OutOfRange, Misaligned, NotNow, BadName, GroupGone, BadConfig}
+use Rattle.pool_model.specs.declared.refusal.Refusal.TheVariants.{NoMemory, DiskFault, NoSpace, Suspended, AlreadyHeld, NoHold, OutOfOrder, NoSuchName, NotYet, Exists, OutOfRange, Misaligned, NotNow, BadName, GroupGone, BadPointer, BadDigest, BadConfig, BadMap}
 
 abbrev pub number_of_cause : Refusal → ℕ
 number_of_cause NoMemory = 1
@@ -19,7 +19,10 @@ number_of_cause Misaligned = 12
 number_of_cause NotNow = 13
 number_of_cause BadName = 16
 number_of_cause GroupGone = 17
+number_of_cause BadPointer = 20
+number_of_cause BadDigest = 21
 number_of_cause BadConfig = 24
+number_of_cause BadMap = 27
 
 abbrev pub name_of_cause : Refusal → List ℕ
 name_of_cause NoMemory = codes "NoMemory"
@@ -37,4 +40,7 @@ name_of_cause Misaligned = codes "Misaligned"
 name_of_cause NotNow = codes "NotNow"
 name_of_cause BadName = codes "BadName"
 name_of_cause GroupGone = codes "GroupGone"
+name_of_cause BadPointer = codes "BadPointer"
+name_of_cause BadDigest = codes "BadDigest"
 name_of_cause BadConfig = codes "BadConfig"
+name_of_cause BadMap = codes "BadMap"

@@ -6,6 +6,7 @@ use Rattle.pool_model.specs.declared.group.Stage.{Stage}
 use Rattle.pool_model.specs.declared.group.Stage.TheVariants.{Quiescing, Quiesced as QuiescedStage}
 use Rattle.pool_model.specs.declared.item.Item.{Item}
 use Rattle.pool_model.specs.declared.item.Item.TheVariants.{Write as WriteItem, Action as ActionItem}
+use Rattle.pool_model.specs.declared.refusal.Refusal.TheVariants.{Suspended, NotNow}
 use Rattle.pool_model.specs.declared.step.Step.{Step}
 use Rattle.pool_model.specs.declared.step.Step.TheVariants.{Hold, Write as WriteStep, Act, Release, Close, Quiesce, Plan, Device, Read, ReadUnder}
 use Rattle.pool_model.specs.declared.step.Reply.{Reply}
@@ -70,7 +71,9 @@ FlowStep f (Release writer) Released g = g ≡ record f { holds = released_by f.
 FlowStep f Close (Closed group) g = (f.waiting ≡ None) × (opened f < greatest) × (group ≡ opened f) × (g ≡ record f { waiting = Some Quiescing })
 FlowStep f Quiesce (Quiesced group) g = (f.waiting ≡ Some Quiescing) × (is_held (waits f) f.holds ≡ false) × (group ≡ waits f) × (g ≡ record f { waiting = Some QuiescedStage })
 FlowStep f (Plan timestamp) (Planned group) g = (group ≡ suc f.committed) × TakesGroup f g
-FlowStep f (Plan timestamp) (Refused cause) g = (g ≡ f) ⊎ TakesGroup f g
+FlowStep f (Plan timestamp) (Refused Suspended) g = g ≡ f
+FlowStep f (Plan timestamp) (Refused NotNow) g = g ≡ f
+FlowStep f (Plan timestamp) (Refused cause) g = TakesGroup f g
 FlowStep f Device (Committed group) g = (f.syncing ≡ true) × (group ≡ suc f.committed) × (g ≡ record f { committed = suc f.committed; syncing = false })
 FlowStep f Device (Moved phase) g = g ≡ f
 FlowStep f Device (Replan disk) g = g ≡ f

@@ -2,6 +2,8 @@
 use Rattle.std.specs.Prelude.{◌≡◌, ◌⊎◌, ℕ, suc, ◌≤◌, List, [], ◌∷◌, Bool, true, false, is_some, if◌then◌else◌}
 use Rattle.pool_model.specs.declared.step.Step.{Step}
 use Rattle.pool_model.specs.declared.step.Step.TheVariants.{Plan, Device}
+use Rattle.pool_model.specs.declared.refusal.Refusal.{Refusal}
+use Rattle.pool_model.specs.declared.refusal.Refusal.TheVariants.{Suspended, NotNow}
 use Rattle.pool_model.specs.declared.step.Reply.{Reply}
 use Rattle.pool_model.specs.declared.step.Reply.TheVariants.{Held, Closed, Quiesced, Planned, Moved, Replan, Committed, Refused}
 use Rattle.pool_model.specs.View.{View, is_syncing, is_planned, is_quiesced}
@@ -33,11 +35,20 @@ pub record AreInOrder (c : Counters) : Type 0 where
   pub one_waits : (c.taken ≤ c.closed) × (c.closed ≤ suc c.taken)
   pub quiesced_first : (c.taken ≤ c.quiesced) × (c.quiesced ≤ c.closed)
 
--- a refused Plan may leave the next group taken, and a Device step whose fault suspends the pool drops the plan
-abbrev pub MovesRefused : Counters → Step → Counters → Type 0
-MovesRefused c (Plan timestamp) d = (d ≡ c) ⊎ ((suc c.committed ≤ c.quiesced) × (c.planned ≡ false) × (d ≡ record c { taken = suc c.committed }))
-MovesRefused c Device d = (d ≡ c) ⊎ ((c.planned ≡ true) × (d ≡ record c { planned = false }))
-MovesRefused c step d = d ≡ c
+-- the next group, which is quiesced, is taken and has no plan; or it was taken before
+pub record TakesNext (c d : Counters) : Type 0 where
+  pub quiesced : suc c.committed ≤ c.quiesced
+  pub unplanned : c.planned ≡ false
+  pub taken : d ≡ record c { taken = suc c.committed }
+
+-- A Plan that is refused for another cause than a suspended pool, or a group that is not due, leaves its group taken and
+-- without a plan. A Device step whose fault suspends the pool drops the plan.
+abbrev pub MovesRefused : Counters → Step → Refusal → Counters → Type 0
+MovesRefused c (Plan timestamp) Suspended d = d ≡ c
+MovesRefused c (Plan timestamp) NotNow d = d ≡ c
+MovesRefused c (Plan timestamp) cause d = TakesNext c d
+MovesRefused c Device Suspended d = (d ≡ c) ⊎ ((c.planned ≡ true) × (d ≡ record c { planned = false }))
+MovesRefused c step cause d = d ≡ c
 
 -- what a reply says of the groups, and how it moves them
 abbrev pub MovesBy : Counters → Step → Reply → Counters → Type 0
@@ -48,7 +59,7 @@ MovesBy c step (Planned group) d = (group ≡ suc c.committed) × (group ≤ c.q
 MovesBy c step (Moved phase) d = (c.planned ≡ true) × (d ≡ c)
 MovesBy c step (Replan disk) d = (c.planned ≡ true) × (d ≡ record c { planned = false })
 MovesBy c step (Committed group) d = (group ≡ suc c.committed) × (group ≡ c.taken) × (c.planned ≡ true) × (d ≡ record c { committed = group; planned = false })
-MovesBy c step (Refused cause) d = MovesRefused c step d
+MovesBy c step (Refused cause) d = MovesRefused c step cause d
 MovesBy c step reply d = d ≡ c
 
 abbrev pub GroupsMove : Counters → List Step → List Reply → Counters → Type 0

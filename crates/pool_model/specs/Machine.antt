@@ -1,5 +1,5 @@
 -- The machine: what each step is answered, and what it changes.
-use Rattle.std.specs.Prelude.{◌≡◌, ◌⊎◌, ℕ, suc, ◌+◌, ◌≤◌, ◌<◌, List, [], ◌∷◌, ◌++◌, length, map, slice_range, Contains, true, false, IsTrue, Option, Some, None, is_some, ◌==◌, ◌||◌, if◌then◌else◌}
+use Rattle.std.specs.Prelude.{◌≡◌, ◌⊎◌, ℕ, suc, ◌+◌, ◌≤◌, ◌<◌, List, [], ◌∷◌, ◌++◌, length, map, slice_range, Contains, Bool, true, false, IsTrue, Option, Some, None, filter, IsPermutation, ◌==◌, ◌||◌, if◌then◌else◌}
 use Rattle.std.specs.List.{AllByRecursion}
 use Rattle.pool_model.specs.declared.group.Stage.{Stage}
 use Rattle.pool_model.specs.declared.group.Stage.TheVariants.{Quiescing, Quiesced as QuiescedStage}
@@ -12,7 +12,7 @@ use Rattle.pool_model.specs.declared.step.Step.TheVariants.{Hold, Write as Write
 use Rattle.pool_model.specs.declared.step.Reply.{Reply}
 use Rattle.pool_model.specs.declared.step.Reply.TheVariants.{Held, Receipt, Released, Closed, Quiesced, Planned, Moved, Replan, Committed, Bytes, Refused}
 use Rattle.pool_model.specs.declared.refusal.Refusal.{Refusal}
-use Rattle.pool_model.specs.declared.refusal.Refusal.TheVariants.{NoMemory, DiskFault, NoSpace, Suspended}
+use Rattle.pool_model.specs.declared.refusal.Refusal.TheVariants.{NoMemory, DiskFault, NoSpace, Suspended, BadPointer, BadDigest, BadMap}
 use Rattle.pool_model.specs.declared.volume.PlainVolume.{PlainVolume}
 use Rattle.pool_model.specs.Pools.{PlainPool, volume_at, applied}
 use Rattle.pool_model.specs.View.{View, Given, DueCall, Sync, Idle, Unplanned, Left, waiting_group, open_group, hold_group, now_of, is_suspended, is_readable, disks_in_use}
@@ -59,32 +59,54 @@ committed_next v = record v {
 abbrev pub due : Phase → ℕ → DueCall
 due phase disk = record { disk = disk; phase = phase }
 
--- a plan: some writes to disks in use, and then a flush of each of these disks
-pub record IsPlan (v : View) (calls : List DueCall) : Type 0 where
-  pub writes : List ℕ
-  pub in_use : AllByRecursion (Contains (disks_in_use v)) writes
-  pub order : calls ≡ map (due Blocks) writes ++ map (due BlocksFlush) (disks_in_use v)
+-- phases follow one another
+abbrev pub rank : Phase → ℕ
+rank Blocks = 0
+rank BlocksFlush = 1
 
--- one to four calls of those left, in one phase
+abbrev pub is_flush : DueCall → Bool
+is_flush call = rank call.phase == 1
+
+-- a plan: writes to disks in use, and one flush of each disk in use
+pub record IsPlan (v : View) (calls : List DueCall) : Type 0 where
+  pub in_use : AllByRecursion (λ call. Contains (disks_in_use v) call.disk) calls
+  pub flushes : IsPermutation (map (λ call. call.disk) (filter is_flush calls)) (disks_in_use v)
+
+-- one to four calls of those left, in one phase, and none of an earlier phase was left
 pub record Makes (left made rest : List DueCall) (phase : Phase) : Type 0 where
-  pub order : left ≡ made ++ rest
+  pub parts : IsPermutation left (made ++ rest)
   pub some : 0 < length made
   pub few : length made ≤ 4
   pub same : AllByRecursion (λ call. call.phase ≡ phase) made
+  pub next : AllByRecursion (λ call. rank phase ≤ rank call.phase) left
 
 -- all that is left, if anything is
-abbrev pub MakesAll : List DueCall → Type 0
-MakesAll left = (left ≡ []) ⊎ ((phase : Phase) × Makes left left [] phase)
+abbrev pub MakesAll : List DueCall → List DueCall → Type 0
+MakesAll left made = ((left ≡ []) × (made ≡ [])) ⊎ ((phase : Phase) × Makes left made [] phase)
 
--- a device call on this disk failed, and no other: the last one that was made
+-- a write or flush of the plan failed on this disk: the last call that the step made
 pub record FailsOn (v : View) (given : Given) (disk : ℕ) : Type 0 where
   pub left : List DueCall
-  pub planned : v.sync ≡ Left left
-  pub before : List DueCall
   pub rest : List DueCall
+  pub before : List DueCall
   pub phase : Phase
-  pub makes : Makes left (before ++ due phase disk ∷ []) rest phase
-  pub failed : given.failed ≡ disk ∷ []
+  pub planned : v.sync ≡ Left left
+  pub last : given.made ≡ before ++ due phase disk ∷ []
+  pub makes : Makes left given.made rest phase
+  pub fault : given.fault ≡ Some (due phase disk)
+
+-- nothing was written or flushed
+pub record IsQuiet (given : Given) : Type 0 where
+  pub made : given.made ≡ []
+  pub fault : given.fault ≡ None
+
+-- only a Device step writes and flushes, and it reads nothing; only a plan and the reads read
+abbrev pub MayCall : Step → Given → Type 0
+MayCall Device given = given.unread ≡ []
+MayCall (Plan timestamp) given = IsQuiet given
+MayCall (Read name offset len) given = IsQuiet given
+MayCall (ReadUnder group name offset len) given = IsQuiet given
+MayCall step given = IsQuiet given × (given.unread ≡ [])
 
 -- ---- replies
 
@@ -92,9 +114,14 @@ pub record FailsOn (v : View) (given : Given) (disk : ℕ) : Type 0 where
 abbrev pub AreBytesOf : PlainPool → List ℕ → ℕ → ℕ → List ℕ → Type 0
 AreBytesOf pool name offset len bytes = (volume : PlainVolume) × (volume_at name pool ≡ Some volume) × (bytes ≡ slice_range volume.bytes offset (offset + len))
 
--- what was written can't be read
+-- a block is not what its pointer tells
+abbrev pub IsBadBlock : Refusal → Type 0
+IsBadBlock cause = (cause ≡ BadPointer) ⊎ ((cause ≡ BadDigest) ⊎ (cause ≡ BadMap))
+
+-- what was written can't be read: a vdev misses more disks than it has parities; or a disk's answer may be false
 abbrev pub IsUnreadable : View → Given → Refusal → Type 0
-IsUnreadable v given cause = (cause ≡ DiskFault) × (is_readable v given ≡ false)
+IsUnreadable v given cause = ((cause ≡ DiskFault) × (is_readable v given ≡ false))
+    ⊎ (IsBadBlock cause × ((is_readable v given ≡ false) ⊎ (given.trusted ≡ false)))
 
 -- what a step against which the view has nothing may be answered, and what it then changes
 abbrev pub Granted : View → Given → Step → Reply → View → Type 0
@@ -106,41 +133,50 @@ Granted v given Close (Closed group) w = (group ≡ open_group v) × (w ≡ reco
 Granted v given Quiesce (Quiesced group) w = (group ≡ waiting_group v) × (w ≡ record v { waiting = Some QuiescedStage })
 Granted v given (Plan timestamp) (Planned group) w = (group ≡ suc v.committed) × (calls : List DueCall) × IsPlan v calls × (w ≡ taken v (Left calls))
 Granted v given (Plan timestamp) (Refused cause) w = (IsUnreadable v given cause ⊎ ((cause ≡ NoSpace) × (given.full ≡ true))) × (w ≡ taken v Unplanned)
-Granted v given Device (Moved phase) w = (left made rest : List DueCall) × (v.sync ≡ Left left) × Makes left made rest phase × (0 < length rest) × (given.failed ≡ []) × (w ≡ record v { sync = Left rest })
-Granted v given Device (Committed group) w = (group ≡ suc v.committed) × (left : List DueCall) × (v.sync ≡ Left left) × MakesAll left × (given.failed ≡ []) × (w ≡ committed_next v)
+Granted v given Device (Moved phase) w = (left rest : List DueCall) × (v.sync ≡ Left left) × Makes left given.made rest phase × (0 < length rest) × (given.fault ≡ None) × (w ≡ record v { sync = Left rest })
+Granted v given Device (Committed group) w = (group ≡ suc v.committed) × (left : List DueCall) × (v.sync ≡ Left left) × MakesAll left given.made × (given.fault ≡ None) × (w ≡ committed_next v)
 Granted v given Device (Replan disk) w = FailsOn v given disk × (is_suspended (dropped v disk) ≡ false) × (w ≡ dropped v disk)
 Granted v given Device (Refused cause) w = (cause ≡ Suspended) × (disk : ℕ) × FailsOn v given disk × (is_suspended (dropped v disk) ≡ true) × (w ≡ dropped v disk)
-Granted v given (Read name offset len) (Bytes bytes) w = AreBytesOf (now_of v) name offset len bytes × (w ≡ v)
+Granted v given (Read name offset len) (Bytes bytes) w = (given.trusted ≡ true → AreBytesOf (now_of v) name offset len bytes) × (w ≡ v)
 Granted v given (Read name offset len) (Refused cause) w = IsUnreadable v given cause × (w ≡ v)
-Granted v given (ReadUnder group name offset len) (Bytes bytes) w = AreBytesOf (v.pools group) name offset len bytes × (w ≡ v)
+Granted v given (ReadUnder group name offset len) (Bytes bytes) w = (given.trusted ≡ true → AreBytesOf (v.pools group) name offset len bytes) × (w ≡ v)
 Granted v given (ReadUnder group name offset len) (Refused cause) w = IsUnreadable v given cause × (w ≡ v)
 Granted v given step reply w = ⊥
 
+-- memory may run out in a step that takes some; in a plan, only where the view has nothing against it
+abbrev pub MayLack : View → Step → Type 0
+MayLack v (Plan timestamp) = refusal_of v (Plan timestamp) ≡ None
+MayLack v step = IsTrue (takes_memory step)
+
 -- what is left where memory ran out: a group that was to be planned is taken, and has no plan
 abbrev pub without_memory : View → Step → View
-without_memory v (Plan timestamp) = if is_some (refusal_of v (Plan timestamp)) then v else taken v Unplanned
+without_memory v (Plan timestamp) = taken v Unplanned
 without_memory v step = v
 
--- the step is refused for its first cause, and changes nothing
-pub record Refuses (v : View) (step : Step) (reply : Reply) (w : View) : Type 0 where
+-- the step is refused for its first cause: it writes nothing, and changes nothing
+pub record Refuses (v : View) (given : Given) (step : Step) (reply : Reply) (w : View) : Type 0 where
   pub cause : Refusal
   pub first : refusal_of v step ≡ Some cause
   pub answer : reply ≡ Refused cause
   pub unchanged : w ≡ v
+  pub quiet : IsQuiet given
+  pub calls : MayCall step given
 
-pub record LacksMemory (v : View) (step : Step) (reply : Reply) (w : View) : Type 0 where
-  pub takes : IsTrue (takes_memory step)
+pub record LacksMemory (v : View) (given : Given) (step : Step) (reply : Reply) (w : View) : Type 0 where
+  pub may : MayLack v step
   pub answer : reply ≡ Refused NoMemory
   pub leaves : w ≡ without_memory v step
+  pub calls : MayCall step given
 
 -- nothing that the view tells speaks against the step
 pub record Grants (v : View) (given : Given) (step : Step) (reply : Reply) (w : View) : Type 0 where
   pub none : refusal_of v step ≡ None
   pub granted : Granted v given step reply w
+  pub calls : MayCall step given
 
 -- from v, with this given, the machine may answer the step so, and go on to w
 abbrev pub StepOf : View → Given → Step → Reply → View → Type 0
-StepOf v given step reply w = Refuses v step reply w ⊎ (LacksMemory v step reply w ⊎ Grants v given step reply w)
+StepOf v given step reply w = Refuses v given step reply w ⊎ (LacksMemory v given step reply w ⊎ Grants v given step reply w)
 
 -- the machine may give these replies to these steps, one after another
 abbrev pub Run : View → List Step → List Given → List Reply → View → Type 0

@@ -111,22 +111,38 @@ lost_in lost first (suc n) = lost_in lost first n + (if lost (first + n) then 1 
 abbrev pub is_tolerable : List Vdev → (ℕ → Bool) → Bool
 is_tolerable vdevs lost = list_all (λ vdev. nat_le (lost_in lost vdev.first vdev.children) vdev.parity) vdevs
 
+-- a disk is away that is out
+abbrev pub is_away : View → ℕ → Bool
+is_away v disk = v.out disk
+
+-- a vdev has more disks away than parities
 abbrev pub is_suspended : View → Bool
-is_suspended v = not (is_tolerable v.vdevs v.out)
+is_suspended v = not (is_tolerable v.vdevs (is_away v))
 
--- What is not the machine's to choose in a step: the disks on which a device call of the step failed, in order,
--- and whether some block of a plan found no free run of its size where it may go.
+-- What is not the machine's to choose in a step.
 pub record Given : Type 0 where
-  pub failed : List ℕ
-  pub full : Bool
+  pub made : List DueCall  -- the writes and flushes that were made, in order
+  pub fault : Option DueCall  -- the last of them, where it failed
+  pub unread : List ℕ  -- the disks that failed a read, in order
+  pub trusted : Bool  -- whether what the disks answered is known to be true
+  pub full : Bool  -- whether some block of a plan found no free run of its size where it may go
 
--- the disks that are missing for a step: out, or failing in it
+-- no disk was called
+abbrev pub nothing_given : Given
+nothing_given = record { made = []; fault = None; unread = []; trusted = true; full = false }
+
+-- the disks that are missing for a step: away, or failing a read in it
 abbrev pub is_missing : View → Given → ℕ → Bool
-is_missing v given disk = v.out disk || list_any (λ d. d == disk) given.failed
+is_missing v given disk = is_away v disk || list_any (λ d. d == disk) given.unread
+
+-- a write or a flush failed on the disk
+abbrev pub is_fault_on : Option DueCall → ℕ → Bool
+is_fault_on None disk = false
+is_fault_on (Some call) disk = disk == call.disk
 
 -- what was written can be read in this step, as each vdev has no more missing disks than parities
 abbrev pub is_readable : View → Given → Bool
 is_readable v given = is_tolerable v.vdevs (is_missing v given)
 
 abbrev pub disks_in_use : View → List ℕ
-disks_in_use v = filter (λ disk. not (v.out disk)) (disks_of v.vdevs)
+disks_in_use v = filter (λ disk. not (is_away v disk)) (disks_of v.vdevs)

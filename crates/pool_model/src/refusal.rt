@@ -28,8 +28,14 @@ pub enum Refusal {
     BadName,
     /// The group is not kept.
     GroupGone,
+    /// A block pointer, or what it leads to, is not what its parent asks.
+    BadPointer,
+    /// Enough columns of a block were read, and no choice of them has its SHA-256.
+    BadDigest,
     /// A pool of this shape, or over these disks, can't be made.
     BadConfig,
+    /// A space map has an entry that has no meaning.
+    BadMap,
 }
 
 impl Refusal {
@@ -55,7 +61,10 @@ impl Refusal {
             Refusal::NotNow => 13,
             Refusal::BadName => 16,
             Refusal::GroupGone => 17,
+            Refusal::BadPointer => 20,
+            Refusal::BadDigest => 21,
             Refusal::BadConfig => 24,
+            Refusal::BadMap => 27,
         }
     }
 
@@ -79,7 +88,10 @@ impl Refusal {
             Refusal::NotNow => "NotNow",
             Refusal::BadName => "BadName",
             Refusal::GroupGone => "GroupGone",
+            Refusal::BadPointer => "BadPointer",
+            Refusal::BadDigest => "BadDigest",
             Refusal::BadConfig => "BadConfig",
+            Refusal::BadMap => "BadMap",
         }
     }
 }
