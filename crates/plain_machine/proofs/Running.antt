@@ -3,12 +3,12 @@ use Rattle.std.proofs.Common.{◌++◌, List, [], ◌∷◌, sym, ap, ◌∙◌,
 use Rattle.std.specs.Prelude.{map}
 use Rattle.pool_model.specs.declared.step.Step.{Step}
 use Rattle.pool_model.specs.declared.step.Reply.{Reply}
-use Rattle.pool_model.specs.View.{Given}
+use Rattle.pool_model.specs.View.{Given, nothing_given}
 use Rattle.pool_model.specs.Machine.{Run}
 use Rattle.pool_model.proofs.Whole.{headline, run_snoc}
 use Rattle.txg_pipeline.proofs.Running.{map_snoc, append_none}
 use Rattle.plain_machine.specs.declared.machine.Machine.{Machine}
-use Rattle.plain_machine.specs.Represents.{Steps, nothing_given}
+use Rattle.plain_machine.specs.Represents.{Steps}
 use Rattle.plain_machine.specs.Runs.{Runs, Ran}
 
 pub runs_none : (old : Machine) (before : List Reply) → Runs old [] before old before
@@ -28,4 +28,4 @@ runs_on old steps before mid now step reply new r s = (
 )
 
 pub ran : (old : Machine) (steps : List Step) (before : List Reply) (new : Machine) (now : List Reply) → Runs old steps before new now → Ran old steps before new now
-ran old steps before new now r = (r.0, r.1, λ v p. let g = r.2 v p in (map (λ (x : Step). nothing_given) steps, g.0, g.1, g.2, headline v steps (map (λ (x : Step). nothing_given) steps) r.0 g.0 p.sound g.2))
+ran old steps before new now r = (r.0, r.1, λ v p. let g = r.2 v p in (g.0, g.1, g.2, headline v steps (map (λ (x : Step). nothing_given) steps) r.0 g.0 p.sound g.2))

@@ -16,10 +16,11 @@ use Rattle.pool_model.specs.declared.step.Reply.{Reply}
 use Rattle.pool_model.specs.declared.step.Reply.TheVariants.{Held, Receipt, Released, Closed, Quiesced, Planned, Committed, Bytes, Refused}
 use Rattle.pool_model.specs.declared.step.Phase.TheVariants.{Blocks, BlocksFlush}
 use Rattle.pool_model.specs.Pools.{PlainPool, Ledger, applied, upto, volume_at}
-use Rattle.pool_model.specs.View.{View, Vdev, DueCall, Sync, Idle, Unplanned, Left, is_syncing, is_planned, is_kept, is_held, is_quiescing, is_quiesced, hold_group, now_of, open_group, waiting_group, disks_of}
+use Rattle.pool_model.specs.View.{View, Vdev, DueCall, Sync, Idle, Unplanned, Left, is_syncing, is_planned, is_kept, is_held, is_quiescing, is_quiesced, hold_group, now_of, open_group, waiting_group, disks_of, is_away, disks_in_use, nothing_given}
 use Rattle.pool_model.specs.Flow.{flow_of}
 use Rattle.pool_model.specs.Refusals.{greatest, or_else, first_cause, read_refusal, refusal_of, takes_memory}
-use Rattle.pool_model.specs.Machine.{StepOf, due, IsPlan, with_hold, without_hold, took, taken, left_waiting, committed_next, without_memory}
+use Rattle.pool_model.specs.Machine.{StepOf, IsPlan, MayLack, with_hold, without_hold, took, taken, left_waiting, committed_next, without_memory}
+use Rattle.pool_model.proofs.Plans.{nothing_quiet, may_nothing, same_elements}
 use Rattle.pool_model.proofs.SoundFlows.{taken_hold}
 use Rattle.pool_model.proofs.Uptos.{upto_one}
 use Rattle.txg_pipeline.specs.declared.pipeline.Pipeline.{Pipeline}
@@ -30,7 +31,7 @@ use Rattle.txg_pipeline.specs.Calls.{cause_of}
 use Rattle.txg_pipeline.proofs.Carrying.{kept_synced}
 use Rattle.plain_machine.specs.declared.machine.Machine.{Machine}
 use Rattle.plain_machine.specs.Reading.{IsReadOf}
-use Rattle.plain_machine.specs.Represents.{Represents, IsPlanned, pool_of, nothing_given}
+use Rattle.plain_machine.specs.Represents.{Represents, IsPlanned, pool_of}
 use Rattle.plain_machine.proofs.Judging.{hold_free, hold_held, close_free, close_tests, quiesce_tests, either_caused, past_suspended, at_most_test, quiesce_free, plan_free, plan_early, device_free, release_barred, write_barred, act_barred, act_late}
 
 -- some view after the step, which the machine represents
@@ -38,10 +39,10 @@ abbrev pub Goes : View → Step → Reply → Machine → Type 0
 Goes v step reply new = (w : View) × StepOf v nothing_given step reply w × Represents new w
 
 pub refuses : (v : View) (step : Step) (cause : Cause) → refusal_of v step ≡ Some cause → StepOf v nothing_given step (Refused cause) v
-refuses v step cause e = inl (record { cause = cause; first = e; answer = refl; unchanged = refl })
+refuses v step cause e = inl (record { cause = cause; first = e; answer = refl; unchanged = refl; quiet = nothing_quiet; calls = may_nothing step })
 
-pub lacks : (v : View) (step : Step) → IsTrue (takes_memory step) → StepOf v nothing_given step (Refused causes.NoMemory) (without_memory v step)
-lacks v step t = inr (inl (record { takes = t; answer = refl; leaves = refl }))
+pub lacks : (v : View) (step : Step) → MayLack v step → StepOf v nothing_given step (Refused causes.NoMemory) (without_memory v step)
+lacks v step t = inr (inl (record { may = t; answer = refl; leaves = refl; calls = may_nothing step }))
 
 -- ---- groups, holds and items go on
 
@@ -66,7 +67,7 @@ pub held : (m : Machine) (pipeline : Pipeline) (v : View) (writer group : ℕ) �
 held m pipeline v writer group r d =
     let g = d (flow_of v) r.flow in (
       with_hold v writer group,
-      inr (inr (record { none = hold_free v writer r.vdevs g.1.0; granted = (g.1.1, refl) })),
+      inr (inr (record { none = hold_free v writer r.vdevs g.1.0; granted = (g.1.1, refl); calls = may_nothing (Hold writer) })),
       goes_on m pipeline v v.waiting _ v.next v.ledger r (λ s. refl) (subst (Carries pipeline) g.1.2 g.2),
     )
 
@@ -74,7 +75,7 @@ pub released : (m : Machine) (pipeline : Pipeline) (v : View) (writer : ℕ) →
 released m pipeline v writer r none d =
     let g = d (flow_of v) r.flow in (
       without_hold v writer,
-      inr (inr (record { none = none; granted = refl })),
+      inr (inr (record { none = none; granted = refl; calls = may_nothing (Release writer) })),
       goes_on m pipeline v v.waiting _ v.next v.ledger r (λ s. refl) (subst (Carries pipeline) g.1 g.2),
     )
 
@@ -82,7 +83,7 @@ pub closed : (m : Machine) (pipeline : Pipeline) (v : View) (group : ℕ) → Re
 closed m pipeline v group r d =
     let g = d (flow_of v) r.flow in (
       record v { waiting = Some Quiescing },
-      inr (inr (record { none = close_free v r.vdevs g.1.0 g.1.1; granted = (g.1.2, refl) })),
+      inr (inr (record { none = close_free v r.vdevs g.1.0 g.1.1; granted = (g.1.2, refl); calls = may_nothing Close })),
       goes_on m pipeline v (Some Quiescing) v.holds v.next v.ledger r (λ s. refl) (subst (Carries pipeline) g.1.3 g.2),
     )
 
@@ -90,7 +91,7 @@ pub quiesced : (m : Machine) (pipeline : Pipeline) (v : View) (group : ℕ) → 
 quiesced m pipeline v group r d =
     let g = d (flow_of v) r.flow in (
       record v { waiting = Some QuiescedStage },
-      inr (inr (record { none = quiesce_free v r.vdevs g.1.0 g.1.1; granted = (g.1.2, refl) })),
+      inr (inr (record { none = quiesce_free v r.vdevs g.1.0 g.1.1; granted = (g.1.2, refl); calls = may_nothing Quiesce })),
       goes_on m pipeline v (Some QuiescedStage) v.holds v.next v.ledger r (λ s. refl) (subst (Carries pipeline) g.1.3 g.2),
     )
 
@@ -99,7 +100,7 @@ wrote m pipeline v w group r none d =
     let g = d (flow_of v) r.flow in
     let takes = taken_hold (flow_of v) w.writer group v.holds r.sound.flow.holds g.1.0 in (
       took v w.writer group (WriteItem w),
-      inr (inr (record { none = none; granted = (g.1.0, refl) })),
+      inr (inr (record { none = none; granted = (g.1.0, refl); calls = may_nothing (WriteStep w) })),
       goes_on m pipeline v v.waiting v.holds _ _ r (λ s. sym (kept_synced (flow_of v) group (WriteItem w) _ takes s refl)) (subst (Carries pipeline) g.1.3 g.2),
     )
 
@@ -108,7 +109,7 @@ acted m pipeline v a group r none d =
     let g = d (flow_of v) r.flow in
     let takes = taken_hold (flow_of v) a.writer group v.holds r.sound.flow.holds g.1.0 in (
       took v a.writer group (ActionItem a),
-      inr (inr (record { none = none; granted = (g.1.0, refl) })),
+      inr (inr (record { none = none; granted = (g.1.0, refl); calls = may_nothing (Act a) })),
       goes_on m pipeline v v.waiting v.holds _ _ r (λ s. sym (kept_synced (flow_of v) group (ActionItem a) _ takes s refl)) (subst (Carries pipeline) g.1.4 g.2),
     )
 
@@ -118,7 +119,7 @@ acted m pipeline v a group r none d =
 pub refused : (m : Machine) (pipeline : Pipeline) (v : View) (step : Step) (cause : Refusal) (named : Cause) → Represents m v → IsUnchanged m.pipeline pipeline → named ≡ cause_of cause → StepOf v nothing_given step (Refused (cause_of cause)) v → Goes v step (Refused named) (record m { pipeline = pipeline })
 refused m pipeline v step cause named r u e s = (v, subst (λ (x : Cause). StepOf v nothing_given step (Refused x) v) (sym e) s, stays m pipeline v r u)
 
-no_memory : (v : View) (step : Step) (cause : Refusal) → IsTrue (takes_memory step) → without_memory v step ≡ v → cause ≡ NoMemory → StepOf v nothing_given step (Refused (cause_of cause)) v
+no_memory : (v : View) (step : Step) (cause : Refusal) → MayLack v step → without_memory v step ≡ v → cause ≡ NoMemory → StepOf v nothing_given step (Refused (cause_of cause)) v
 no_memory v step cause t w e = subst (λ (x : Refusal). StepOf v nothing_given step (Refused (cause_of x)) v) (sym e) (subst (StepOf v nothing_given step (Refused causes.NoMemory)) w (lacks v step t))
 
 not_now : (v : View) (step : Step) (cause : Refusal) → refusal_of v step ≡ Some causes.NotNow → cause ≡ NotNow → StepOf v nothing_given step (Refused (cause_of cause)) v
@@ -183,16 +184,12 @@ begun m pipeline v r p idle k =
       kept = r.kept;
     }
 
--- the flushes that a plan ends in
-abbrev flushes : View → List Vdev → List DueCall
-flushes v vdevs = map (due Blocks) [] ++ map (due BlocksFlush) (filter (λ disk. not (v.out disk)) (disks_of vdevs))
-
 -- the group that is synced gets a plan, which has no device calls
 pub planned_step : (v : View) (timestamp group : ℕ) → v.vdevs ≡ [] → refusal_of v (Plan timestamp) ≡ None → group ≡ suc v.committed → StepOf v nothing_given (Plan timestamp) (Planned group) (taken v (Left []))
-planned_step v timestamp group e none g = inr (inr (record { none = none; granted = (g, [], empty, refl) }))
+planned_step v timestamp group e none g = inr (inr (record { none = none; granted = (g, [], empty, refl); calls = may_nothing (Plan timestamp) }))
   where
     empty : IsPlan v []
-    empty = record { writes = []; in_use = tt; order = sym (ap (flushes v) e) }
+    empty = record { in_use = tt; flushes = same_elements [] (disks_in_use v) (sym (ap (λ (vdevs : List Vdev). filter (λ disk. not (is_away v disk)) (disks_of vdevs)) e)) }
 
 pub with_plan : (m : Machine) (v : View) (pool : PlainPool) → Represents m (taken v Unplanned) → pool ≡ upto v.committed (v.pools v.committed) v.ledger (suc v.committed) → Represents (record m { planned = Some pool }) (taken v (Left []))
 with_plan m v pool r e = record {
@@ -205,7 +202,7 @@ with_plan m v pool r e = record {
 
 -- memory ran out for the plan of a group that is synced
 pub lacks_plan : (v : View) (timestamp : ℕ) → refusal_of v (Plan timestamp) ≡ None → StepOf v nothing_given (Plan timestamp) (Refused causes.NoMemory) (taken v Unplanned)
-lacks_plan v timestamp none = subst (StepOf v nothing_given (Plan timestamp) (Refused causes.NoMemory)) (ap (λ o. if is_some o then v else taken v Unplanned) none) (lacks v (Plan timestamp) refl)
+lacks_plan v timestamp none = lacks v (Plan timestamp) none
 
 -- after a commit the last three are the new one and two of the old
 kept_next : (v : View) (last : PlainPool) (before earliest : Option PlainPool) (new : PlainPool) (new_before new_earliest : Option PlainPool) → v.first ≤ v.committed → new ≡ applied (suc v.committed) (v.pools v.committed) (v.ledger (suc v.committed)) → new_before ≡ Some last → new_earliest ≡ before → ((group : ℕ) → pool_of v.committed last before earliest group ≡ (if is_kept v group then Some (v.pools group) else None)) → (group : ℕ) → pool_of (suc v.committed) new new_before new_earliest group ≡ (if is_kept (committed_next v) group then Some ((committed_next v).pools group) else None)
@@ -217,7 +214,7 @@ commits m pipeline v group pool none last before earliest r was n l b e d =
     let p : IsPlanned v (Some pool) = subst (IsPlanned v) was r.planned in
     let flow : Carries pipeline (flow_of (committed_next v)) = subst (Carries pipeline) g.1.2 g.2 in (
       committed_next v,
-      inr (inr (record { none = device_free v r.vdevs (ap is_planned p.0); granted = (g.1.1, [], p.0, inl refl, refl, refl) })),
+      inr (inr (record { none = device_free v r.vdevs (ap is_planned p.0); granted = (g.1.1, [], p.0, inl (refl, refl), refl, refl); calls = may_nothing Device })),
       record {
         sound = record { first = let f = r.sound.first in omega arith; flow = flow.sound };
         vdevs = r.vdevs;
@@ -234,7 +231,7 @@ planned_syncs v planned pool p e = let q : IsPlanned v (Some pool) = subst (IsPl
 -- ---- reads
 
 pub read_now : (v : View) (name : List ℕ) (offset len : ℕ) (reply : Reply) → IsReadOf (now_of v) name offset len reply → StepOf v nothing_given (Read name offset len) reply v
-read_now v name offset len (Bytes bytes) h = inr (inr (record { none = h.0; granted = (h.1, refl) }))
+read_now v name offset len (Bytes bytes) h = inr (inr (record { none = h.0; granted = ((λ trusted. h.1), refl); calls = may_nothing (Read name offset len) }))
 read_now v name offset len (Refused cause) h = ⊎_elim (λ e. subst (λ (x : Cause). StepOf v nothing_given (Read name offset len) (Refused x) v) (sym e) (lacks v (Read name offset len) refl)) (refuses v (Read name offset len) cause) h
 read_now v name offset len reply h = absurd h
 
@@ -242,7 +239,7 @@ kept_cause : (v : View) (group : ℕ) (name : List ℕ) (offset len : ℕ) → i
 kept_cause v group name offset len k = ap (λ b. or_else (first_cause ((not b, causes.GroupGone) ∷ [])) (read_refusal offset len (volume_at name (v.pools group)))) k
 
 pub read_kept : (v : View) (group : ℕ) (name : List ℕ) (offset len : ℕ) (reply : Reply) → is_kept v group ≡ true → IsReadOf (v.pools group) name offset len reply → StepOf v nothing_given (ReadUnder group name offset len) reply v
-read_kept v group name offset len (Bytes bytes) k h = inr (inr (record { none = kept_cause v group name offset len k ∙ h.0; granted = (h.1, refl) }))
+read_kept v group name offset len (Bytes bytes) k h = inr (inr (record { none = kept_cause v group name offset len k ∙ h.0; granted = ((λ trusted. h.1), refl); calls = may_nothing (ReadUnder group name offset len) }))
 read_kept v group name offset len (Refused cause) k h = ⊎_elim (λ e. subst (λ (x : Cause). StepOf v nothing_given (ReadUnder group name offset len) (Refused x) v) (sym e) (lacks v (ReadUnder group name offset len) refl)) (λ e. refuses v (ReadUnder group name offset len) cause (kept_cause v group name offset len k ∙ e)) h
 read_kept v group name offset len reply k h = absurd h
 

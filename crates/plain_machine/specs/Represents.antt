@@ -3,7 +3,7 @@ use Rattle.std.specs.Prelude.{◌≡◌, ℕ, suc, [], Option, Some, None, false
 use Rattle.pool_model.specs.declared.step.Step.{Step}
 use Rattle.pool_model.specs.declared.step.Reply.{Reply}
 use Rattle.pool_model.specs.Pools.{PlainPool, applied}
-use Rattle.pool_model.specs.View.{View, Given, Left, is_planned, is_kept}
+use Rattle.pool_model.specs.View.{View, Left, is_planned, is_kept, nothing_given}
 use Rattle.pool_model.specs.Flow.{flow_of}
 use Rattle.pool_model.specs.Groups.{counters_of}
 use Rattle.pool_model.specs.Machine.{StepOf}
@@ -30,10 +30,6 @@ pub record Represents (machine : Machine) (v : View) : Type 0 where
   pub flow : Carries machine.pipeline (flow_of v)
   pub planned : IsPlanned v machine.planned
   pub kept : (group : ℕ) → kept_pool machine v.committed group ≡ (if is_kept v group then Some (v.pools group) else None)
-
--- no disk fails where there is none, and no block needs room
-abbrev pub nothing_given : Given
-nothing_given = record { failed = []; full = false }
 
 -- in each view that old represents, this is a step of the machine, to a view that new represents
 abbrev pub Steps : Machine → Step → Reply → Machine → Type 0

@@ -17,10 +17,11 @@ use Rattle.pool_model.specs.declared.step.Step.TheVariants.{Hold, Write as Write
 use Rattle.pool_model.specs.declared.step.Reply.{Reply}
 use Rattle.pool_model.specs.declared.step.Reply.TheVariants.{Held, Receipt, Released, Closed, Quiesced, Planned, Committed, Refused}
 use Rattle.pool_model.specs.Pools.{upto, PlainPool, Ledger, Entry, volume_at, changed, applied}
-use Rattle.pool_model.specs.View.{View, Given, Sync, Idle, Unplanned, Left, is_syncing, is_planned, is_quiescing, is_quiesced, is_suspended, hold_group, is_held, now_of, open_group, waiting_group}
+use Rattle.pool_model.specs.View.{View, nothing_given, Sync, Idle, Unplanned, Left, is_syncing, is_planned, is_quiescing, is_quiesced, is_suspended, hold_group, is_held, now_of, open_group, waiting_group}
 use Rattle.pool_model.specs.Flow.{Flow, flow_of, opened, added, counted_on, ledger_took}
-use Rattle.pool_model.specs.Refusals.{greatest, change_refusal, refusal_of, takes_memory}
-use Rattle.pool_model.specs.Machine.{StepOf, Granted, took, taken, left_waiting, committed_next, without_memory}
+use Rattle.pool_model.specs.Refusals.{greatest, change_refusal, refusal_of}
+use Rattle.pool_model.specs.Machine.{StepOf, Granted, MayLack, took, taken, left_waiting, committed_next, without_memory}
+use Rattle.pool_model.proofs.Plans.{nothing_quiet, may_nothing}
 use Rattle.pool_model.proofs.SoundFlows.{all_snoc, taken_hold}
 use Rattle.pool_model.proofs.Sounds.{sound_step}
 use Rattle.pool_model.proofs.Uptos.{itself}
@@ -43,8 +44,8 @@ use Rattle.pool_intake.specs.Follows.{Follows, KeepsCommitted}
 use Rattle.pool_intake.proofs.Judging.{hold_free, hold_held, release_free, close_free, close_early, quiesce_free, quiesce_early, plan_free, plan_early, write_barred, act_barred, act_late, change_free, name_free, is_good}
 
 -- some view after the step, which the intake follows
-abbrev pub Goes : View → Given → Step → Reply → Intake → Type 0
-Goes v given step reply new = (w : View) × StepOf v given step reply w × Follows new w × KeepsCommitted v w
+abbrev pub Goes : View → Step → Reply → Intake → Type 0
+Goes v step reply new = (w : View) × StepOf v nothing_given step reply w × Follows new w × KeepsCommitted v w
 
 -- ---- nothing changes
 
@@ -58,50 +59,50 @@ stays pipeline other index v r u = record { sound = r.sound; flow = u (flow_of v
 pub knows_on : (pipeline : Pipeline) (index other : NameIndex) (v : View) → Follows (record { pipeline = pipeline; index = index }) v → (Knows index (now_of v) → Knows other (now_of v)) → Follows (record { pipeline = pipeline; index = other }) v
 knows_on pipeline index other v r f = record { sound = r.sound; flow = r.flow; names = f r.names; made = r.made; good = r.good }
 
-pub refuses : (new : Intake) (v : View) (given : Given) (step : Step) (cause : Cause) → Follows new v → refusal_of v step ≡ Some cause → Goes v given step (Refused cause) new
-refuses new v given step cause r e = (v, inl (record { cause = cause; first = e; answer = refl; unchanged = refl }), r, kept v)
+pub refuses : (new : Intake) (v : View) (step : Step) (cause : Cause) → Follows new v → refusal_of v step ≡ Some cause → Goes v step (Refused cause) new
+refuses new v step cause r e = (v, inl (record { cause = cause; first = e; answer = refl; unchanged = refl; quiet = nothing_quiet; calls = may_nothing step }), r, kept v)
 
-pub lacks : (new : Intake) (v : View) (given : Given) (step : Step) → Follows new v → IsTrue (takes_memory step) → v ≡ without_memory v step → Goes v given step (Refused causes.NoMemory) new
-lacks new v given step r t e = (v, inr (inl (record { takes = t; answer = refl; leaves = e })), r, kept v)
+pub lacks : (new : Intake) (v : View) (step : Step) → Follows new v → MayLack v step → v ≡ without_memory v step → Goes v step (Refused causes.NoMemory) new
+lacks new v step r t e = (v, inr (inl (record { may = t; answer = refl; leaves = e; calls = may_nothing step })), r, kept v)
 
 -- a cause by the name that the machine gives it
-pub as_named : (new : Intake) (v : View) (given : Given) (step : Step) (cause : Refusal) (named : Cause) → named ≡ cause_of cause → Goes v given step (Refused (cause_of cause)) new → Goes v given step (Refused named) new
-as_named new v given step cause named e g = subst (λ (x : Cause). Goes v given step (Refused x) new) (sym e) g
+pub as_named : (new : Intake) (v : View) (step : Step) (cause : Refusal) (named : Cause) → named ≡ cause_of cause → Goes v step (Refused (cause_of cause)) new → Goes v step (Refused named) new
+as_named new v step cause named e g = subst (λ (x : Cause). Goes v step (Refused x) new) (sym e) g
 
 -- ---- refusals by the pipeline
 
-along : (new : Intake) (v : View) (given : Given) (step : Step) (cause is : Refusal) → cause ≡ is → Goes v given step (Refused (cause_of is)) new → Goes v given step (Refused (cause_of cause)) new
-along new v given step cause is e g = subst (λ (x : Refusal). Goes v given step (Refused (cause_of x)) new) (sym e) g
+along : (new : Intake) (v : View) (step : Step) (cause is : Refusal) → cause ≡ is → Goes v step (Refused (cause_of is)) new → Goes v step (Refused (cause_of cause)) new
+along new v step cause is e g = subst (λ (x : Refusal). Goes v step (Refused (cause_of x)) new) (sym e) g
 
-pub hold_refused : (new : Intake) (v : View) (given : Given) (writer : ℕ) (cause : Refusal) → Follows new v → is_suspended v ≡ false → (cause ≡ NoMemory) ⊎ ((cause ≡ AlreadyHeld) × (is_some (hold_group writer v.holds) ≡ true)) → Goes v given (Hold writer) (Refused (cause_of cause)) new
-hold_refused new v given writer cause r u h =
+pub hold_refused : (new : Intake) (v : View) (writer : ℕ) (cause : Refusal) → Follows new v → is_suspended v ≡ false → (cause ≡ NoMemory) ⊎ ((cause ≡ AlreadyHeld) × (is_some (hold_group writer v.holds) ≡ true)) → Goes v (Hold writer) (Refused (cause_of cause)) new
+hold_refused new v writer cause r u h =
     ⊎_elim
-    (λ e. along new v given (Hold writer) cause NoMemory e (lacks new v given (Hold writer) r refl refl))
-    (λ x. along new v given (Hold writer) cause AlreadyHeld x.0 (refuses new v given (Hold writer) causes.AlreadyHeld r (hold_held v writer u x.1)))
+    (λ e. along new v (Hold writer) cause NoMemory e (lacks new v (Hold writer) r refl refl))
+    (λ x. along new v (Hold writer) cause AlreadyHeld x.0 (refuses new v (Hold writer) causes.AlreadyHeld r (hold_held v writer u x.1)))
     h
 
-pub release_refused : (new : Intake) (v : View) (given : Given) (writer : ℕ) (cause : Refusal) → Follows new v → cause ≡ NoHold → hold_group writer v.holds ≡ None → Goes v given (Release writer) (Refused (cause_of cause)) new
-release_refused new v given writer cause r e n = along new v given (Release writer) cause NoHold e (refuses new v given (Release writer) causes.NoHold r (release_free v writer n))
+pub release_refused : (new : Intake) (v : View) (writer : ℕ) (cause : Refusal) → Follows new v → cause ≡ NoHold → hold_group writer v.holds ≡ None → Goes v (Release writer) (Refused (cause_of cause)) new
+release_refused new v writer cause r e n = along new v (Release writer) cause NoHold e (refuses new v (Release writer) causes.NoHold r (release_free v writer n))
 
-pub close_refused : (new : Intake) (v : View) (given : Given) (cause : Refusal) → Follows new v → is_suspended v ≡ false → cause ≡ NotNow → (is_some v.waiting ≡ true) ⊎ (greatest ≤ open_group v) → Goes v given Close (Refused (cause_of cause)) new
-close_refused new v given cause r u e h = along new v given Close cause NotNow e (refuses new v given Close causes.NotNow r (close_early v u h))
+pub close_refused : (new : Intake) (v : View) (cause : Refusal) → Follows new v → is_suspended v ≡ false → cause ≡ NotNow → (is_some v.waiting ≡ true) ⊎ (greatest ≤ open_group v) → Goes v Close (Refused (cause_of cause)) new
+close_refused new v cause r u e h = along new v Close cause NotNow e (refuses new v Close causes.NotNow r (close_early v u h))
 
-pub quiesce_refused : (new : Intake) (v : View) (given : Given) (cause : Refusal) → Follows new v → is_suspended v ≡ false → cause ≡ NotNow → (is_quiescing v.waiting ≡ false) ⊎ (is_held (waiting_group v) v.holds ≡ true) → Goes v given Quiesce (Refused (cause_of cause)) new
-quiesce_refused new v given cause r u e h = along new v given Quiesce cause NotNow e (refuses new v given Quiesce causes.NotNow r (quiesce_early v u h))
+pub quiesce_refused : (new : Intake) (v : View) (cause : Refusal) → Follows new v → is_suspended v ≡ false → cause ≡ NotNow → (is_quiescing v.waiting ≡ false) ⊎ (is_held (waiting_group v) v.holds ≡ true) → Goes v Quiesce (Refused (cause_of cause)) new
+quiesce_refused new v cause r u e h = along new v Quiesce cause NotNow e (refuses new v Quiesce causes.NotNow r (quiesce_early v u h))
 
-pub write_refused : (new : Intake) (v : View) (given : Given) (w : Write) (cause : Refusal) → Follows new v → is_suspended v ≡ false → IsNotAccepted (flow_of v) (WriteItem w) cause → Goes v given (WriteStep w) (Refused (cause_of cause)) new
-write_refused new v given w NoMemory r u n = lacks new v given (WriteStep w) r refl refl
-write_refused new v given w NoHold r u n = refuses new v given (WriteStep w) causes.NoHold r (write_barred v w NoHold u n)
-write_refused new v given w (OutOfOrder expected) r u n = refuses new v given (WriteStep w) (causes.OutOfOrder expected) r (write_barred v w (OutOfOrder expected) u n)
-write_refused new v given w AlreadyHeld r u n = absurd n
-write_refused new v given w NotNow r u n = absurd n
+pub write_refused : (new : Intake) (v : View) (w : Write) (cause : Refusal) → Follows new v → is_suspended v ≡ false → IsNotAccepted (flow_of v) (WriteItem w) cause → Goes v (WriteStep w) (Refused (cause_of cause)) new
+write_refused new v w NoMemory r u n = lacks new v (WriteStep w) r refl refl
+write_refused new v w NoHold r u n = refuses new v (WriteStep w) causes.NoHold r (write_barred v w NoHold u n)
+write_refused new v w (OutOfOrder expected) r u n = refuses new v (WriteStep w) (causes.OutOfOrder expected) r (write_barred v w (OutOfOrder expected) u n)
+write_refused new v w AlreadyHeld r u n = absurd n
+write_refused new v w NotNow r u n = absurd n
 
-pub act_refused : (new : Intake) (v : View) (given : Given) (a : Action) (cause : Refusal) → Follows new v → is_suspended v ≡ false → IsNotAccepted (flow_of v) (ActionItem a) cause → Goes v given (Act a) (Refused (cause_of cause)) new
-act_refused new v given a NoMemory r u n = lacks new v given (Act a) r refl refl
-act_refused new v given a NoHold r u n = refuses new v given (Act a) causes.NoHold r (act_barred v a NoHold u n)
-act_refused new v given a (OutOfOrder expected) r u n = refuses new v given (Act a) (causes.OutOfOrder expected) r (act_barred v a (OutOfOrder expected) u n)
-act_refused new v given a AlreadyHeld r u n = absurd n
-act_refused new v given a NotNow r u n = refuses new v given (Act a) causes.NotNow r (act_late v a n.0 u n.1 n.2)
+pub act_refused : (new : Intake) (v : View) (a : Action) (cause : Refusal) → Follows new v → is_suspended v ≡ false → IsNotAccepted (flow_of v) (ActionItem a) cause → Goes v (Act a) (Refused (cause_of cause)) new
+act_refused new v a NoMemory r u n = lacks new v (Act a) r refl refl
+act_refused new v a NoHold r u n = refuses new v (Act a) causes.NoHold r (act_barred v a NoHold u n)
+act_refused new v a (OutOfOrder expected) r u n = refuses new v (Act a) (causes.OutOfOrder expected) r (act_barred v a (OutOfOrder expected) u n)
+act_refused new v a AlreadyHeld r u n = absurd n
+act_refused new v a NotNow r u n = refuses new v (Act a) causes.NotNow r (act_late v a n.0 u n.1 n.2)
 
 -- ---- groups, holds and items go on
 
@@ -110,58 +111,58 @@ abbrev moved : View → Option Stage → List Holder → (ℕ → ℕ) → Ledge
 moved v waiting holds next ledger = record v { waiting = waiting; holds = holds; next = next; ledger = ledger }
 
 -- a granted step that leaves what is committed
-goes : (old new : Intake) (v : View) (given : Given) (step : Step) (reply : Reply) (waiting : Option Stage) (holds : List Holder) (next : ℕ → ℕ) (ledger : Ledger) → Follows old v
-    → StepOf v given step reply (moved v waiting holds next ledger)
+goes : (old new : Intake) (v : View) (step : Step) (reply : Reply) (waiting : Option Stage) (holds : List Holder) (next : ℕ → ℕ) (ledger : Ledger) → Follows old v
+    → StepOf v nothing_given step reply (moved v waiting holds next ledger)
     → Carries new.pipeline (flow_of (moved v waiting holds next ledger))
     → Knows new.index (now_of (moved v waiting holds next ledger))
     → ((group : ℕ) → MakesGoodVolumes (ledger group))
     → (is_syncing v.sync ≡ true → ledger (suc v.committed) ≡ v.ledger (suc v.committed))
-    → Goes v given step reply new
-goes old new v given step reply waiting holds next ledger r s k n g same = (
+    → Goes v step reply new
+goes old new v step reply waiting holds next ledger r s k n g same = (
   moved v waiting holds next ledger,
   s,
   record {
-    sound = sound_step v given step reply (moved v waiting holds next ledger) r.sound s;
+    sound = sound_step v nothing_given step reply (moved v waiting holds next ledger) r.sound s;
     flow = k;
     names = n;
-    made = below_step v given step reply (moved v waiting holds next ledger) s r.made;
+    made = below_step v nothing_given step reply (moved v waiting holds next ledger) s r.made;
     good = g;
   },
   record { vdevs = refl; first = refl; committed = refl; sync = refl; pools = refl; out = refl; synced = same },
 )
 
 -- one that takes no action: the index stays
-goes_on : (pipeline other : Pipeline) (index : NameIndex) (v : View) (given : Given) (step : Step) (reply : Reply) (waiting : Option Stage) (holds : List Holder) (next : ℕ → ℕ) (ledger : Ledger) → Follows (record { pipeline = pipeline; index = index }) v
+goes_on : (pipeline other : Pipeline) (index : NameIndex) (v : View) (step : Step) (reply : Reply) (waiting : Option Stage) (holds : List Holder) (next : ℕ → ℕ) (ledger : Ledger) → Follows (record { pipeline = pipeline; index = index }) v
     → refusal_of v step ≡ None
-    → Granted v given step reply (moved v waiting holds next ledger)
+    → Granted v nothing_given step reply (moved v waiting holds next ledger)
     → is_action_taken step reply ≡ false
     → Carries other (flow_of (moved v waiting holds next ledger))
     → ((group : ℕ) → MakesGoodVolumes (ledger group))
     → (is_syncing v.sync ≡ true → ledger (suc v.committed) ≡ v.ledger (suc v.committed))
-    → Goes v given step reply (record { pipeline = other; index = index })
-goes_on pipeline other index v given step reply waiting holds next ledger r none granted a k g same =
-    let s : StepOf v given step reply (moved v waiting holds next ledger) = inr (inr (record { none = none; granted = granted })) in
-    goes (record { pipeline = pipeline; index = index }) (record { pipeline = other; index = index }) v given step reply waiting holds next ledger r s k (knows_step v given step reply (moved v waiting holds next ledger) index r.sound s a r.names) g same
+    → Goes v step reply (record { pipeline = other; index = index })
+goes_on pipeline other index v step reply waiting holds next ledger r none granted a k g same =
+    let s : StepOf v nothing_given step reply (moved v waiting holds next ledger) = inr (inr (record { none = none; granted = granted; calls = may_nothing step })) in
+    goes (record { pipeline = pipeline; index = index }) (record { pipeline = other; index = index }) v step reply waiting holds next ledger r s k (knows_step v nothing_given step reply (moved v waiting holds next ledger) index r.sound s a r.names) g same
 
-pub held : (pipeline other : Pipeline) (index : NameIndex) (v : View) (given : Given) (writer group : ℕ) → Follows (record { pipeline = pipeline; index = index }) v → is_suspended v ≡ false → Does pipeline (Hold writer) (Held group) other → Goes v given (Hold writer) (Held group) (record { pipeline = other; index = index })
-held pipeline other index v given writer group r u d =
+pub held : (pipeline other : Pipeline) (index : NameIndex) (v : View) (writer group : ℕ) → Follows (record { pipeline = pipeline; index = index }) v → is_suspended v ≡ false → Does pipeline (Hold writer) (Held group) other → Goes v (Hold writer) (Held group) (record { pipeline = other; index = index })
+held pipeline other index v writer group r u d =
     let g = d (flow_of v) r.flow in
-    goes_on pipeline other index v given (Hold writer) (Held group) v.waiting _ v.next v.ledger r (hold_free v writer u g.1.0) (g.1.1, refl) refl (subst (Carries other) g.1.2 g.2) r.good (λ s. refl)
+    goes_on pipeline other index v (Hold writer) (Held group) v.waiting _ v.next v.ledger r (hold_free v writer u g.1.0) (g.1.1, refl) refl (subst (Carries other) g.1.2 g.2) r.good (λ s. refl)
 
-pub released : (pipeline other : Pipeline) (index : NameIndex) (v : View) (given : Given) (writer : ℕ) → Follows (record { pipeline = pipeline; index = index }) v → refusal_of v (Release writer) ≡ None → Does pipeline (Release writer) Released other → Goes v given (Release writer) Released (record { pipeline = other; index = index })
-released pipeline other index v given writer r none d =
+pub released : (pipeline other : Pipeline) (index : NameIndex) (v : View) (writer : ℕ) → Follows (record { pipeline = pipeline; index = index }) v → refusal_of v (Release writer) ≡ None → Does pipeline (Release writer) Released other → Goes v (Release writer) Released (record { pipeline = other; index = index })
+released pipeline other index v writer r none d =
     let g = d (flow_of v) r.flow in
-    goes_on pipeline other index v given (Release writer) Released v.waiting _ v.next v.ledger r none refl refl (subst (Carries other) g.1 g.2) r.good (λ s. refl)
+    goes_on pipeline other index v (Release writer) Released v.waiting _ v.next v.ledger r none refl refl (subst (Carries other) g.1 g.2) r.good (λ s. refl)
 
-pub closed : (pipeline other : Pipeline) (index : NameIndex) (v : View) (given : Given) (group : ℕ) → Follows (record { pipeline = pipeline; index = index }) v → is_suspended v ≡ false → Does pipeline Close (Closed group) other → Goes v given Close (Closed group) (record { pipeline = other; index = index })
-closed pipeline other index v given group r u d =
+pub closed : (pipeline other : Pipeline) (index : NameIndex) (v : View) (group : ℕ) → Follows (record { pipeline = pipeline; index = index }) v → is_suspended v ≡ false → Does pipeline Close (Closed group) other → Goes v Close (Closed group) (record { pipeline = other; index = index })
+closed pipeline other index v group r u d =
     let g = d (flow_of v) r.flow in
-    goes_on pipeline other index v given Close (Closed group) (Some Quiescing) v.holds v.next v.ledger r (close_free v u g.1.0 g.1.1) (g.1.2, refl) refl (subst (Carries other) g.1.3 g.2) r.good (λ s. refl)
+    goes_on pipeline other index v Close (Closed group) (Some Quiescing) v.holds v.next v.ledger r (close_free v u g.1.0 g.1.1) (g.1.2, refl) refl (subst (Carries other) g.1.3 g.2) r.good (λ s. refl)
 
-pub quiesced : (pipeline other : Pipeline) (index : NameIndex) (v : View) (given : Given) (group : ℕ) → Follows (record { pipeline = pipeline; index = index }) v → is_suspended v ≡ false → Does pipeline Quiesce (Quiesced group) other → Goes v given Quiesce (Quiesced group) (record { pipeline = other; index = index })
-quiesced pipeline other index v given group r u d =
+pub quiesced : (pipeline other : Pipeline) (index : NameIndex) (v : View) (group : ℕ) → Follows (record { pipeline = pipeline; index = index }) v → is_suspended v ≡ false → Does pipeline Quiesce (Quiesced group) other → Goes v Quiesce (Quiesced group) (record { pipeline = other; index = index })
+quiesced pipeline other index v group r u d =
     let g = d (flow_of v) r.flow in
-    goes_on pipeline other index v given Quiesce (Quiesced group) (Some QuiescedStage) v.holds v.next v.ledger r (quiesce_free v u g.1.0 g.1.1) (g.1.2, refl) refl (subst (Carries other) g.1.3 g.2) r.good (λ s. refl)
+    goes_on pipeline other index v Quiesce (Quiesced group) (Some QuiescedStage) v.holds v.next v.ledger r (quiesce_free v u g.1.0 g.1.1) (g.1.2, refl) refl (subst (Carries other) g.1.3 g.2) r.good (λ s. refl)
 
 -- ---- items
 
@@ -177,26 +178,26 @@ good_added entry (ActionItem a) i g = all_snoc (λ (x : Action). is_good_change 
 good_took : (ledger : Ledger) (group : ℕ) (item : Item) → IsGoodItem item → ((g : ℕ) → MakesGoodVolumes (ledger g)) → (g : ℕ) → MakesGoodVolumes (ledger_took ledger group item g)
 good_took ledger group item i good g = elim (g == group) as (λ b. MakesGoodVolumes (cond b (added (ledger g) item) (ledger g))) [ true ↦ good_added (ledger g) item i (good g) | false ↦ good g ]
 
-pub wrote : (pipeline other : Pipeline) (index : NameIndex) (v : View) (given : Given) (w : Write) (group : ℕ) → Follows (record { pipeline = pipeline; index = index }) v → refusal_of v (WriteStep w) ≡ None → Does pipeline (WriteStep w) (Receipt group) other → Goes v given (WriteStep w) (Receipt group) (record { pipeline = other; index = index })
-wrote pipeline other index v given w group r none d =
+pub wrote : (pipeline other : Pipeline) (index : NameIndex) (v : View) (w : Write) (group : ℕ) → Follows (record { pipeline = pipeline; index = index }) v → refusal_of v (WriteStep w) ≡ None → Does pipeline (WriteStep w) (Receipt group) other → Goes v (WriteStep w) (Receipt group) (record { pipeline = other; index = index })
+wrote pipeline other index v w group r none d =
     let g = d (flow_of v) r.flow in
     let takes = taken_hold (flow_of v) w.writer group v.holds r.sound.flow.holds g.1.0 in
-    goes_on pipeline other index v given (WriteStep w) (Receipt group) v.waiting v.holds (counted_on v.next w.writer) (ledger_took v.ledger group (WriteItem w)) r none (g.1.0, refl) refl (subst (Carries other) g.1.3 g.2) (good_took v.ledger group (WriteItem w) tt r.good) (λ s. sym (kept_synced (flow_of v) group (WriteItem w) _ takes s refl))
+    goes_on pipeline other index v (WriteStep w) (Receipt group) v.waiting v.holds (counted_on v.next w.writer) (ledger_took v.ledger group (WriteItem w)) r none (g.1.0, refl) refl (subst (Carries other) g.1.3 g.2) (good_took v.ledger group (WriteItem w) tt r.good) (λ s. sym (kept_synced (flow_of v) group (WriteItem w) _ takes s refl))
 
 -- the index knows the name that the action makes
-pub acted : (pipeline other : Pipeline) (index added_to : NameIndex) (v : View) (given : Given) (a : Action) (group : ℕ) (name : List ℕ) (shape : VolumeShape) → Follows (record { pipeline = pipeline; index = index }) v → is_suspended v ≡ false → refusal_of v (Act a) ≡ None → Does pipeline (Act a) (Receipt group) other
+pub acted : (pipeline other : Pipeline) (index added_to : NameIndex) (v : View) (a : Action) (group : ℕ) (name : List ℕ) (shape : VolumeShape) → Follows (record { pipeline = pipeline; index = index }) v → is_suspended v ≡ false → refusal_of v (Act a) ≡ None → Does pipeline (Act a) (Receipt group) other
     → a.change ≡ Create name shape.size shape.block_size → shape.group ≡ open_group v
     → ((pool : PlainPool) → Knows index pool → volume_at name pool ≡ None → Knows added_to (changed shape.group pool (Create name shape.size shape.block_size)))
-    → Goes v given (Act a) (Receipt group) (record { pipeline = other; index = added_to })
-acted pipeline other index added_to v given a group name shape r u none d is opened add =
+    → Goes v (Act a) (Receipt group) (record { pipeline = other; index = added_to })
+acted pipeline other index added_to v a group name shape r u none d is opened add =
     let g = d (flow_of v) r.flow in
     let takes = taken_hold (flow_of v) a.writer group v.holds r.sound.flow.holds g.1.0 in
-    let s : StepOf v given (Act a) (Receipt group) (took v a.writer group (ActionItem a)) = inr (inr (record { none = none; granted = (g.1.0, refl) })) in
-    let moves = moves_now v given (Act a) (Receipt group) (took v a.writer group (ActionItem a)) r.sound s in
+    let s : StepOf v nothing_given (Act a) (Receipt group) (took v a.writer group (ActionItem a)) = inr (inr (record { none = none; granted = (g.1.0, refl); calls = may_nothing (Act a) })) in
+    let moves = moves_now v nothing_given (Act a) (Receipt group) (took v a.writer group (ActionItem a)) r.sound s in
     let free = change_free v a u none in
     let named : volume_at name (now_of v) ≡ None = name_free name shape.size shape.block_size (now_of v) (ap (λ (x : Change). change_refusal x (now_of v)) (sym is) ∙ free) in
     let now : now_of (took v a.writer group (ActionItem a)) ≡ changed shape.group (now_of v) (Create name shape.size shape.block_size) = moves.1 ∙ (λ i. changed ((moves.0 ∙ sym opened) i) (now_of v) (is i)) in
-    goes (record { pipeline = pipeline; index = index }) (record { pipeline = other; index = added_to }) v given (Act a) (Receipt group) v.waiting v.holds (counted_on v.next a.writer) (ledger_took v.ledger group (ActionItem a)) r s (subst (Carries other) g.1.4 g.2) (subst (Knows added_to) (sym now) (add (now_of v) r.names named)) (good_took v.ledger group (ActionItem a) (is_good a.change (now_of v) free) r.good) (λ s. sym (kept_synced (flow_of v) group (ActionItem a) _ takes s refl))
+    goes (record { pipeline = pipeline; index = index }) (record { pipeline = other; index = added_to }) v (Act a) (Receipt group) v.waiting v.holds (counted_on v.next a.writer) (ledger_took v.ledger group (ActionItem a)) r s (subst (Carries other) g.1.4 g.2) (subst (Knows added_to) (sym now) (add (now_of v) r.names named)) (good_took v.ledger group (ActionItem a) (is_good a.change (now_of v) free) r.good) (λ s. sym (kept_synced (flow_of v) group (ActionItem a) _ takes s refl))
 
 -- ---- the group that is synced
 

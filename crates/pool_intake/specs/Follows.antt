@@ -2,7 +2,7 @@
 use Rattle.std.specs.Prelude.{◌≡◌, ℕ, suc, true, false}
 use Rattle.pool_model.specs.declared.step.Step.{Step}
 use Rattle.pool_model.specs.declared.step.Reply.{Reply}
-use Rattle.pool_model.specs.View.{View, Given, is_syncing, is_suspended, now_of}
+use Rattle.pool_model.specs.View.{View, nothing_given, is_syncing, is_suspended, now_of}
 use Rattle.pool_model.specs.Flow.{flow_of}
 use Rattle.pool_model.specs.Machine.{StepOf}
 use Rattle.pool_model.specs.Sound.{IsSound}
@@ -31,10 +31,10 @@ pub record KeepsCommitted (v w : View) : Type 0 where
   pub out : w.out ≡ v.out
   pub synced : is_syncing v.sync ≡ true → w.ledger (suc v.committed) ≡ v.ledger (suc v.committed)
 
--- in each view that old follows this is a step of the machine, whatever is given, to a view that new follows
+-- in each view that old follows this is a step of the machine, with no call of a disk, to a view that new follows
 abbrev pub Steps : Intake → Step → Reply → Intake → Type 0
-Steps old step reply new = (v : View) (given : Given) → Follows old v → (w : View) × StepOf v given step reply w × Follows new w × KeepsCommitted v w
+Steps old step reply new = (v : View) → Follows old v → (w : View) × StepOf v nothing_given step reply w × Follows new w × KeepsCommitted v w
 
 -- the same where the pool is not suspended
 abbrev pub StepsUnlessSuspended : Intake → Step → Reply → Intake → Type 0
-StepsUnlessSuspended old step reply new = (v : View) (given : Given) → Follows old v → is_suspended v ≡ false → (w : View) × StepOf v given step reply w × Follows new w × KeepsCommitted v w
+StepsUnlessSuspended old step reply new = (v : View) → Follows old v → is_suspended v ≡ false → (w : View) × StepOf v nothing_given step reply w × Follows new w × KeepsCommitted v w

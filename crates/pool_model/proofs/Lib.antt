@@ -1,5 +1,6 @@
 pub mod Causes
 pub mod Moves
+pub mod Plans
 pub mod Flows
 pub mod SoundFlows
 pub mod Sounds

@@ -140,11 +140,12 @@ Moves v given step reply w = IsSound v → MovesNow v step reply w
 
 now_moves : EachMove Moves
 now_moves = record {
-  stays = λ v given step cause s. refused_now v step cause;
-  begun = λ v given t cause s. refl;
-  failed = λ v given cause disk left e s. refl;
-  replanned = λ v given disk left e s. refl;
-  moved = λ v given phase left rest s. refl;
+  stays = λ v given step cause may e s. refused_now v step cause;
+  begun = λ v given t cause is s. refl;
+  again = λ v given t cause is s. refl;
+  failed = λ v given disk left phase e s. refl;
+  replanned = λ v given disk left phase e s. refl;
+  moved = λ v given phase left rest e s. refl;
   read = λ v given name offset len bytes a s. refl;
   read_under = λ v given g name offset len bytes k a s. refl;
   held = λ v given by n s. refl;
@@ -155,7 +156,7 @@ now_moves = record {
   quiesced = λ v given e s. refl;
   planned = λ v given t calls s. refl;
   replanned_group = λ v given t calls s. refl;
-  committed = λ v given left s. now_committed (record v { sync = Left left }) refl;
+  committed = λ v given left e s. now_committed (record v { sync = Left left }) refl;
 }
 
 pub moves_now : (v : View) (given : Given) (step : Step) (reply : Reply) (w : View) → IsSound v → StepOf v given step reply w → MovesNow v step reply w

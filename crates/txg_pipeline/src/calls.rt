@@ -40,24 +40,34 @@ impl Pipeline {
         ensures { IsCall self.old call result self.new }
     {
         match call {
-            Call::Hold(writer) => self.hold(writer).map_or_else(Answer::Refused, Answer::Held),
-            Call::Accept(item) => self
-                .accept(item)
-                .map_or_else(Answer::Refused, Answer::Receipt),
+            Call::Hold(writer) => match self.hold(writer) {
+                Ok(group) => Answer::Held(group),
+                Err(cause) => Answer::Refused(cause),
+            },
+            Call::Accept(item) => match self.accept(item) {
+                Ok(group) => Answer::Receipt(group),
+                Err(cause) => Answer::Refused(cause),
+            },
             Call::Release(writer) => match self.release(writer) {
                 Ok(()) => Answer::Released,
                 Err(cause) => Answer::Refused(cause),
             },
-            Call::Close => self
-                .close_open()
-                .map_or_else(Answer::Refused, Answer::Closed),
-            Call::Quiesce => self
-                .mark_quiesced()
-                .map_or_else(Answer::Refused, Answer::Quiesced),
-            Call::Take => self.take().map_or_else(Answer::Refused, Answer::Taken),
-            Call::Commit => self
-                .committed()
-                .map_or_else(Answer::Refused, Answer::Committed),
+            Call::Close => match self.close_open() {
+                Ok(group) => Answer::Closed(group),
+                Err(cause) => Answer::Refused(cause),
+            },
+            Call::Quiesce => match self.mark_quiesced() {
+                Ok(group) => Answer::Quiesced(group),
+                Err(cause) => Answer::Refused(cause),
+            },
+            Call::Take => match self.take() {
+                Ok(group) => Answer::Taken(group),
+                Err(cause) => Answer::Refused(cause),
+            },
+            Call::Commit => match self.committed() {
+                Ok(group) => Answer::Committed(group),
+                Err(cause) => Answer::Refused(cause),
+            },
         }
     }
 }

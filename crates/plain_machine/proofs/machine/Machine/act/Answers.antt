@@ -4,9 +4,9 @@ use Rattle.pool_model.specs.declared.step.Step.TheVariants.{Act}
 use Rattle.pool_model.specs.declared.step.Reply.TheVariants.{Refused}
 use Rattle.pool_model.specs.Flow.{flow_of}
 use Rattle.pool_model.specs.Machine.{StepOf}
-use Rattle.plain_machine.specs.Represents.{nothing_given}
 use Rattle.plain_machine.proofs.Judging.{act_barred, act_late, act_placed}
 use Rattle.plain_machine.proofs.Stepping.{refuses, lacks, acted, refused, act_refused}
+use Rattle.pool_model.specs.View.{nothing_given}
 use Rattle.plain_machine.proofs.machine.Machine.act.Goals as goal
 
 pub returns-in-Err : goal.returns-in-Err

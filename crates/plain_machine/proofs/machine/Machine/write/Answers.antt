@@ -5,9 +5,9 @@ use Rattle.pool_model.specs.declared.step.Reply.TheVariants.{Refused}
 use Rattle.pool_model.specs.Flow.{flow_of}
 use Rattle.pool_model.specs.Refusals.{place_refusal}
 use Rattle.pool_model.specs.Machine.{StepOf}
-use Rattle.plain_machine.specs.Represents.{nothing_given}
 use Rattle.plain_machine.proofs.Judging.{write_barred, write_placed}
 use Rattle.plain_machine.proofs.Stepping.{refuses, lacks, wrote, refused, write_refused}
+use Rattle.pool_model.specs.View.{nothing_given}
 use Rattle.plain_machine.proofs.machine.Machine.write.Goals as goal
 
 pub returns-in-Err : goal.returns-in-Err

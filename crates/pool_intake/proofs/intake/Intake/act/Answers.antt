@@ -5,12 +5,12 @@ use Rattle.pool_intake.proofs.Stepping.{as_named, stays, knows_on, acted, act_re
 use Rattle.pool_intake.proofs.intake.Intake.act.Goals as goal
 
 pub returns-in-Ok-accept : goal.returns-in-Ok-accept
-returns-in-Ok-accept c = λ v given r u.
+returns-in-Ok-accept c = λ v r u.
     let made = c.in-Ok-new_volume.ensures in
     let knows = knows_on _ _ _ v r (c.in-Ok.ensures.same (now_of v)).0 in
-    acted _ _ _ _ v given c.args.action _ c.in-Ok-new_volume.name c.in-Ok-new_volume.shape knows u (sym (c.action_refusal.ensures v r u) ∙ c.in_default.is) c.in-Ok-accept.ensures.accepted made.0 (made.1 ∙ c.open_group.ensures (flow_of v) r.flow) c.add.ensures.created
+    acted _ _ _ _ v c.args.action _ c.in-Ok-new_volume.name c.in-Ok-new_volume.shape knows u (sym (c.action_refusal.ensures v r u) ∙ c.in_default.is) c.in-Ok-accept.ensures.accepted made.0 (made.1 ∙ c.open_group.ensures (flow_of v) r.flow) c.add.ensures.created
 
 pub returns-in-Err : goal.returns-in-Err
-returns-in-Err c = λ v given r u.
+returns-in-Err c = λ v r u.
     let knows = knows_on _ _ _ v r (c.in-Ok.ensures.same (now_of v)).0 in
-    as_named _ v given _ c.in-Err.cause _ c.named.ensures (act_refused _ v given c.args.action c.in-Err.cause (stays _ _ _ v knows c.in-Err.ensures.err) u (c.in-Err.ensures.refused (flow_of v) r.flow))
+    as_named _ v _ c.in-Err.cause _ c.named.ensures (act_refused _ v c.args.action c.in-Err.cause (stays _ _ _ v knows c.in-Err.ensures.err) u (c.in-Err.ensures.refused (flow_of v) r.flow))

@@ -4,7 +4,7 @@ use Rattle.pool_intake.proofs.Stepping.{as_named, stays, held, hold_refused}
 use Rattle.pool_intake.proofs.intake.Intake.hold.Goals as goal
 
 pub returns-in-Ok : goal.returns-in-Ok
-returns-in-Ok c = λ v given r u. held _ _ _ v given _ _ r u c.in-Ok.ensures.held
+returns-in-Ok c = λ v r u. held _ _ _ v _ _ r u c.in-Ok.ensures.held
 
 pub returns-in-Err : goal.returns-in-Err
-returns-in-Err c = λ v given r u. as_named _ v given _ c.in-Err.cause _ c.named.ensures (hold_refused _ v given c.args.writer c.in-Err.cause (stays _ _ _ v r c.in-Err.ensures.err) u (⊎_elim inl (λ h. inr (h.0, h.1 (flow_of v) r.flow)) c.in-Err.ensures.refused))
+returns-in-Err c = λ v r u. as_named _ v _ c.in-Err.cause _ c.named.ensures (hold_refused _ v c.args.writer c.in-Err.cause (stays _ _ _ v r c.in-Err.ensures.err) u (⊎_elim inl (λ h. inr (h.0, h.1 (flow_of v) r.flow)) c.in-Err.ensures.refused))
