@@ -1,5 +1,9 @@
 -- A state that backs a view: its kept groups, and what reads leave.
-use Rattle.std.proofs.Common.{ℕ, suc, ◌≡◌, ◌==◌, if◌then◌else◌, Bool, true, false, List, Option, Some, None, refl, sym, ap, ◌∙◌, subst}
+use Rattle.std.proofs.Common.{ℕ, suc, ◌≡◌, ◌==◌, if◌then◌else◌, Bool, true, false, List, Option, Some, None, refl, sym, ap, ◌∙◌, subst, [], ◌∷◌, ◌++◌, inl, inr, ⊎_elim, append_assoc}
+use Rattle.std.specs.List.{AllByRecursion}
+use Rattle.model_disk.specs.Call.{Call, Read, FailedRead, Wrote, FailedWrite, Flushed, FailedFlush}
+use Rattle.model_disk.specs.Joint.{Disks, JointCall, on}
+use Rattle.raidz_io.specs.Reads.{IsRead, AreReads, OnlyReads}
 use Rattle.std.specs.Prelude.{cond}
 use Rattle.std.proofs.lemmas.Bool.{eq-eqb}
 use Rattle.raidz_io.specs.declared.writes.ColumnWrite.{ColumnWrite}
@@ -13,6 +17,7 @@ use Rattle.volume_blocks.specs.Reading.{OnlyReadsBlocks}
 use Rattle.pool_commit.specs.declared.kept.Kept.{Kept}
 use Rattle.pool_commit.specs.declared.kept.Planned.{Planned}
 use Rattle.pool_commit.specs.Backs.{Backs, SpellsKept, IsPlanOf, left_calls}
+use Rattle.pool_commit.specs.Calls.{IsWrite, IsFlushed}
 use Rattle.pool_commit.specs.Config.{vdevs_of}
 use Rattle.pool_commit.specs.Reading.{OnlyReadsPool}
 use Rattle.pool_commit.specs.State.{State, volumes_at}
@@ -59,11 +64,39 @@ last_spelled s v backs =
 
 -- ---- reads
 
-plan_stays : (s : State) (store : Store) (planned : Contents) (plan : Option Planned) (v : View) → store.due ≡ s.store.due
+-- reads leave a disk flushed
+reads_leave : (newer : List JointCall) (disk : ℕ) → AreReads newer → AllByRecursion (λ (made : JointCall). made.which ≡ disk → ¬ IsWrite made.call) newer
+reads_leave [] disk are = tt
+reads_leave (made ∷ newer) disk are = ((λ same. no_write made.call are.0), reads_leave newer disk are.1)
+  where
+    no_write : (call : Call) → IsRead call → ¬ IsWrite call
+    no_write (Read at bytes) is = λ write. write
+    no_write (FailedRead at n) is = λ write. write
+    no_write (Wrote at bytes) is = absurd is
+    no_write (FailedWrite at bytes) is = absurd is
+    no_write Flushed is = absurd is
+    no_write FailedFlush is = absurd is
+
+all_joined : {A : Type 0} (P : A → Type 0) (xs ys : List A) → AllByRecursion P xs → AllByRecursion P ys → AllByRecursion P (xs ++ ys)
+all_joined P [] ys h k = k
+all_joined P (x ∷ xs) ys h k = (h.0, all_joined P xs ys h.1 k)
+
+flushed_still : (old new : Disks) (disk : ℕ) → OnlyReads old new → IsFlushed old disk → IsFlushed new disk
+flushed_still old new disk reads is = record {
+  newer = reads.newer ++ is.newer;
+  older = is.older;
+  calls = reads.calls ∙ ap (λ log. reads.newer ++ log) is.calls ∙ sym (append_assoc reads.newer is.newer (on disk Flushed ∷ is.older));
+  none = all_joined (λ (made : JointCall). made.which ≡ disk → ¬ IsWrite made.call) reads.newer is.newer (reads_leave reads.newer disk reads.are_reads) is.none;
+}
+
+plan_stays : (s : State) (store : Store) (planned : Contents) (plan : Option Planned) (v : View) → store.due ≡ s.store.due → OnlyReads s.store.disks store.disks
     → IsPlanOf s planned plan v → IsPlanOf (record s { store = store }) planned plan v
-plan_stays s store planned None v due is = is
-plan_stays s store planned (Some plan) v due is =
-    (is.0 ∙ ap (λ (writes : List ColumnWrite). Left (left_calls writes plan.flushes.items)) (sym due), is.1)
+plan_stays s store planned None v due reads is = is
+plan_stays s store planned (Some plan) v due reads is = (
+  is.0 ∙ ap (λ (writes : List ColumnWrite). Left (left_calls writes plan.flushes.items)) (sym due),
+  is.1,
+  λ disk in_use. ⊎_elim inl (λ flushed. inr (due ∙ flushed.0, flushed_still s.store.disks store.disks disk reads flushed.1)) (is.2 disk in_use),
+)
 
 backs_after : (s : State) (store : Store) (missing : List ℕ) (v : View) → OnlyReadsBlocks s.store store missing → Backs s v → Backs (record s { store = store }) v
 backs_after s store missing v reads backs = record {
@@ -75,7 +108,7 @@ backs_after s store missing v reads backs = record {
     planned = backs.blocks.planned;
     plans = reads.plans backs.blocks.stored backs.blocks.planned backs.blocks.plans;
     kept = backs.blocks.kept;
-    plan = plan_stays s store backs.blocks.planned s.planned v (ap (λ (t : Store). t.due) reads.rest) backs.blocks.plan;
+    plan = plan_stays s store backs.blocks.planned s.planned v (ap (λ (t : Store). t.due) reads.rest) reads.reads backs.blocks.plan;
   };
 }
 

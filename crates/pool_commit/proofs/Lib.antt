@@ -8,3 +8,4 @@ pub mod ReadCauses
 pub mod ReadingBase
 pub mod Starting
 pub mod Tolerating
+pub mod Refusing

@@ -1,11 +1,12 @@
 -- Device calls that are made one after another.
-use Rattle.std.proofs.Common.{◌≡◌, ℕ, suc, ◌+◌, ◌<◌, ◌≤◌, Bool, true, false, List, [], ◌∷◌, ◌++◌, length, refl, sym, ap, ◌∙◌, subst, arith, append_assoc}
+use Rattle.std.proofs.Common.{◌≡◌, ⊎_elim, inl, inr, ℕ, suc, ◌+◌, ◌<◌, ◌≤◌, Bool, true, false, List, [], ◌∷◌, ◌++◌, length, refl, sym, ap, ◌∙◌, subst, arith, append_assoc}
 use Rattle.std.specs.Prelude.{IfErr, nat_le, min, if◌then◌else◌}
 use Rattle.std.specs.List.{AllByRecursion}
 use Rattle.std.proofs.lemmas.Bool.Decides.{nat_tests}
 use Rattle.std.proofs.lemmas.List.{append-nil, length-append}
 use Rattle.std.proofs.Common.{Result, Ok, Err, is_ok}
 use Rattle.model_disk.specs.Call.{Call, is_failed, write_call, flush_call}
+use Rattle.raidz_io.proofs.Calls.{Contains-cases}
 use Rattle.raidz_io.specs.declared.writes.ColumnWrite.{ColumnWrite}
 use Rattle.pool_model.specs.declared.step.Phase.TheVariants as phases
 use Rattle.model_disk.specs.Joint.{Disks, JointCall, on}
@@ -14,8 +15,8 @@ use Rattle.block_store.specs.Store.{Store, IsOutToo}
 use Rattle.pool_model.specs.declared.step.Phase.{Phase}
 use Rattle.pool_model.specs.View.{DueCall}
 use Rattle.pool_model.specs.Machine.{due}
-use Rattle.pool_commit.specs.Calls.{due_call, made_since, faults_since, made_between, faults_between, GrewTo}
-use Rattle.pool_commit.specs.Making.{writes_left, IsSameStore, MadeCalls, FailedCall}
+use Rattle.pool_commit.specs.Calls.{due_call, fault_call, unread_call, told_since, made_between, faults_between, unread_between, GrewTo, IsWrite, IsFlushed}
+use Rattle.pool_commit.specs.Making.{writes_left, IsSameStore, MadeCalls, FailedCall, FlushesMove}
 
 late : (m n : ℕ) → m ≤ n → nat_le m n ≡ true
 late m n h = grind (arith, nat_tests)
@@ -37,36 +38,24 @@ GrewTo-more old mid new made grew starts calls = record {
 }
 
 -- nothing was made since now
-made_none : (n : ℕ) (calls : List JointCall) → length calls ≤ n → made_since n calls ≡ []
-made_none n [] le = refl
-made_none n (made ∷ earlier) le =
-    ap (λ xs. xs ++ (if nat_le n (length earlier) then due_call made.which made.call else [])) (made_none n earlier (omega arith))
-    ∙ ap (λ b. if b then due_call made.which made.call else []) (early n (length earlier) (omega arith))
+told_none : {A : Type 0} (tells : ℕ → Call → List A) (n : ℕ) (calls : List JointCall) → length calls ≤ n → told_since tells n calls ≡ []
+told_none tells n [] le = refl
+told_none tells n (made ∷ earlier) le =
+    ap (λ xs. xs ++ (if nat_le n (length earlier) then tells made.which made.call else [])) (told_none tells n earlier (omega arith))
+    ∙ ap (λ b. if b then tells made.which made.call else []) (early n (length earlier) (omega arith))
 
-faults_none : (n : ℕ) (calls : List JointCall) → length calls ≤ n → faults_since n calls ≡ []
-faults_none n [] le = refl
-faults_none n (made ∷ earlier) le =
-    ap (λ xs. xs ++ (if nat_le n (length earlier) then (if is_failed made.call then made.which ∷ [] else []) else [])) (faults_none n earlier (omega arith))
-    ∙ ap (λ b. if b then (if is_failed made.call then made.which ∷ [] else []) else []) (early n (length earlier) (omega arith))
+pub told_by_none : {A : Type 0} (tells : ℕ → Call → List A) (disks : Disks) → told_since tells (length disks.calls) disks.calls ≡ []
+told_by_none tells disks = told_none tells (length disks.calls) disks.calls (omega arith)
 
 pub made_by_none : (disks : Disks) → made_between disks disks ≡ []
-made_by_none disks = made_none (length disks.calls) disks.calls (omega arith)
-
-pub faults_by_none : (disks : Disks) → faults_between disks disks ≡ []
-faults_by_none disks = faults_none (length disks.calls) disks.calls (omega arith)
+made_by_none disks = told_by_none due_call disks
 
 -- one call more
-pub made_more : (old mid new : Disks) (disk : ℕ) (call : Call) → GrewTo old mid → new.calls ≡ on disk call ∷ mid.calls
-    → made_between old new ≡ made_between old mid ++ due_call disk call
-made_more old mid new disk call grew calls =
-    ap (made_since (length old.calls)) calls
-    ∙ ap (λ b. made_between old mid ++ (if b then due_call disk call else [])) (late (length old.calls) (length mid.calls) (GrewTo-length old mid grew))
-
-pub faults_more : (old mid new : Disks) (disk : ℕ) (call : Call) → GrewTo old mid → new.calls ≡ on disk call ∷ mid.calls
-    → faults_between old new ≡ faults_between old mid ++ (if is_failed call then disk ∷ [] else [])
-faults_more old mid new disk call grew calls =
-    ap (faults_since (length old.calls)) calls
-    ∙ ap (λ b. faults_between old mid ++ (if b then (if is_failed call then disk ∷ [] else []) else [])) (late (length old.calls) (length mid.calls) (GrewTo-length old mid grew))
+told_more : {A : Type 0} (tells : ℕ → Call → List A) (old mid new : Disks) (disk : ℕ) (call : Call) → GrewTo old mid → new.calls ≡ on disk call ∷ mid.calls
+    → told_since tells (length old.calls) new.calls ≡ told_since tells (length old.calls) mid.calls ++ tells disk call
+told_more tells old mid new disk call grew calls =
+    ap (told_since tells (length old.calls)) calls
+    ∙ ap (λ b. told_since tells (length old.calls) mid.calls ++ (if b then tells disk call else [])) (late (length old.calls) (length mid.calls) (GrewTo-length old mid grew))
 
 -- one call was made, which is due
 pub record MadeOne (mid new : Store) (phase : Phase) (disk : ℕ) (call : Call) : Type 0 where
@@ -75,6 +64,8 @@ pub record MadeOne (mid new : Store) (phase : Phase) (disk : ℕ) (call : Call) 
   pub spaces : new.spaces ≡ mid.spaces
   pub plans : KeepsPlans mid new
   pub is_due : due_call disk call ≡ due phase disk ∷ []
+  pub fault : fault_call disk call ≡ (if is_failed call then due phase disk ∷ [] else [])
+  pub no_read : unread_call disk call ≡ []
 
 same_more : (old mid new : Store) (phase : Phase) (disk : ℕ) (call : Call) → IsSameStore old mid → MadeOne mid new phase disk call → IsSameStore old new
 same_more old mid new phase disk call same made = record {
@@ -86,7 +77,13 @@ same_more old mid new phase disk call same made = record {
 made_so : (old mid new : Store) (phase : Phase) (disk : ℕ) (call : Call) → IsSameStore old mid → MadeOne mid new phase disk call
     → made_between old.disks new.disks ≡ made_between old.disks mid.disks ++ due phase disk ∷ []
 made_so old mid new phase disk call same made =
-    made_more old.disks mid.disks new.disks disk call same.grew made.calls ∙ ap (λ xs. made_between old.disks mid.disks ++ xs) made.is_due
+    told_more due_call old.disks mid.disks new.disks disk call same.grew made.calls ∙ ap (λ xs. made_between old.disks mid.disks ++ xs) made.is_due
+
+unread_so : (old mid new : Store) (phase : Phase) (disk : ℕ) (call : Call) → IsSameStore old mid → MadeOne mid new phase disk call
+    → unread_between old.disks mid.disks ≡ [] → unread_between old.disks new.disks ≡ []
+unread_so old mid new phase disk call same made none =
+    told_more unread_call old.disks mid.disks new.disks disk call same.grew made.calls
+    ∙ ap (λ xs. unread_between old.disks mid.disks ++ xs) made.no_read ∙ append-nil (unread_between old.disks mid.disks) ∙ none
 
 pub none_made : (store : Store) (left : List DueCall) (phase : Phase) → MadeCalls store store left left phase 0
 none_made store left phase =
@@ -97,7 +94,8 @@ none_made store left phase =
       order = ap (λ xs. xs ++ left) (sym none);
       count = ap length none;
       in_phase = subst (AllByRecursion (λ (call : DueCall). call.phase ≡ phase)) (sym none) tt;
-      faults = faults_by_none store.disks;
+      faults = told_by_none fault_call store.disks;
+      unread = told_by_none unread_call store.disks;
     }
 
 all_more : (P : DueCall → Type 0) (xs : List DueCall) (x : DueCall) → AllByRecursion P xs → P x → AllByRecursion P (xs ++ x ∷ [])
@@ -116,8 +114,9 @@ one_made old mid new left rest phase n disk call so made ok out =
       count = ap length is ∙ length-append (made_between old.disks mid.disks) (due phase disk ∷ []) ∙ ap (λ k. k + 1) so.count;
       in_phase = subst (AllByRecursion (λ (c : DueCall). c.phase ≡ phase)) (sym is)
           (all_more (λ (c : DueCall). c.phase ≡ phase) (made_between old.disks mid.disks) (due phase disk) so.in_phase refl);
-      faults = faults_more old.disks mid.disks new.disks disk call so.same.grew made.calls
-          ∙ ap (λ b. faults_between old.disks mid.disks ++ (if b then disk ∷ [] else [])) ok ∙ append-nil (faults_between old.disks mid.disks) ∙ so.faults;
+      faults = told_more fault_call old.disks mid.disks new.disks disk call so.same.grew made.calls
+          ∙ ap (λ xs. faults_between old.disks mid.disks ++ xs) (made.fault ∙ ap (λ b. if b then due phase disk ∷ [] else []) ok) ∙ append-nil (faults_between old.disks mid.disks) ∙ so.faults;
+      unread = unread_so old mid new phase disk call so.same made so.unread;
     }
 
 pub one_failed : (old mid new : Store) (left rest : List DueCall) (phase : Phase) (n disk : ℕ) (call : Call)
@@ -135,8 +134,9 @@ one_failed old mid new left rest phase n disk call so few made failed out =
       few = let count : length (made_between old.disks new.disks) ≡ n + 1 = ap length is ∙ length-append (made_between old.disks mid.disks) (due phase disk ∷ []) ∙ ap (λ k. k + 1) so.count in omega (arith, count, few);
       in_phase = subst (AllByRecursion (λ (c : DueCall). c.phase ≡ phase)) (sym is)
           (all_more (λ (c : DueCall). c.phase ≡ phase) (made_between old.disks mid.disks) (due phase disk) so.in_phase refl);
-      faults = faults_more old.disks mid.disks new.disks disk call so.same.grew made.calls
-          ∙ ap (λ b. faults_between old.disks mid.disks ++ (if b then disk ∷ [] else [])) failed ∙ ap (λ xs. xs ++ disk ∷ []) so.faults;
+      faults = told_more fault_call old.disks mid.disks new.disks disk call so.same.grew made.calls
+          ∙ ap (λ xs. faults_between old.disks mid.disks ++ xs) (made.fault ∙ ap (λ b. if b then due phase disk ∷ [] else []) failed) ∙ ap (λ xs. xs ++ due phase disk ∷ []) so.faults;
+      unread = unread_so old mid new phase disk call so.same made so.unread;
     }
 
 -- ---- a write and a flush
@@ -145,28 +145,28 @@ pub write_made : {T E : Type 0} (result : Result T E) (mid new : Store) (write :
     → new.disks.starts ≡ mid.disks.starts → new.spaces ≡ mid.spaces → KeepsPlans mid new
     → new.disks.calls ≡ on write.disk (write_call result write.offset write.bytes.items) ∷ mid.disks.calls
     → MadeOne mid new phases.Blocks write.disk (write_call result write.offset write.bytes.items) × (is_failed (write_call result write.offset write.bytes.items) ≡ false)
-write_made (Ok x) mid new write ok starts spaces plans calls = (record { starts = starts; calls = calls; spaces = spaces; plans = plans; is_due = refl }, refl)
+write_made (Ok x) mid new write ok starts spaces plans calls = (record { starts = starts; calls = calls; spaces = spaces; plans = plans; is_due = refl; fault = refl; no_read = refl }, refl)
 write_made (Err x) mid new write ok starts spaces plans calls = absurd (cc)
 
 pub write_lost : {T E : Type 0} (result : Result T E) (mid new : Store) (write : ColumnWrite) → is_ok result ≡ false
     → new.disks.starts ≡ mid.disks.starts → new.spaces ≡ mid.spaces → KeepsPlans mid new
     → new.disks.calls ≡ on write.disk (write_call result write.offset write.bytes.items) ∷ mid.disks.calls
     → MadeOne mid new phases.Blocks write.disk (write_call result write.offset write.bytes.items) × (is_failed (write_call result write.offset write.bytes.items) ≡ true)
-write_lost (Err x) mid new write ok starts spaces plans calls = (record { starts = starts; calls = calls; spaces = spaces; plans = plans; is_due = refl }, refl)
+write_lost (Err x) mid new write ok starts spaces plans calls = (record { starts = starts; calls = calls; spaces = spaces; plans = plans; is_due = refl; fault = refl; no_read = refl }, refl)
 write_lost (Ok x) mid new write ok starts spaces plans calls = absurd (cc)
 
 pub flush_made : {T E : Type 0} (result : Result T E) (mid new : Store) (disk : ℕ) → is_ok result ≡ true
     → new.disks.starts ≡ mid.disks.starts → new.spaces ≡ mid.spaces → KeepsPlans mid new
     → new.disks.calls ≡ on disk (flush_call result) ∷ mid.disks.calls
     → MadeOne mid new phases.BlocksFlush disk (flush_call result) × (is_failed (flush_call result) ≡ false)
-flush_made (Ok x) mid new disk ok starts spaces plans calls = (record { starts = starts; calls = calls; spaces = spaces; plans = plans; is_due = refl }, refl)
+flush_made (Ok x) mid new disk ok starts spaces plans calls = (record { starts = starts; calls = calls; spaces = spaces; plans = plans; is_due = refl; fault = refl; no_read = refl }, refl)
 flush_made (Err x) mid new disk ok starts spaces plans calls = absurd (cc)
 
 pub flush_lost : {T E : Type 0} (result : Result T E) (mid new : Store) (disk : ℕ) → is_ok result ≡ false
     → new.disks.starts ≡ mid.disks.starts → new.spaces ≡ mid.spaces → KeepsPlans mid new
     → new.disks.calls ≡ on disk (flush_call result) ∷ mid.disks.calls
     → MadeOne mid new phases.BlocksFlush disk (flush_call result) × (is_failed (flush_call result) ≡ true)
-flush_lost (Err x) mid new disk ok starts spaces plans calls = (record { starts = starts; calls = calls; spaces = spaces; plans = plans; is_due = refl }, refl)
+flush_lost (Err x) mid new disk ok starts spaces plans calls = (record { starts = starts; calls = calls; spaces = spaces; plans = plans; is_due = refl; fault = refl; no_read = refl }, refl)
 flush_lost (Ok x) mid new disk ok starts spaces plans calls = absurd (cc)
 
 -- ---- how many
@@ -184,3 +184,35 @@ err_is result failed P is there = subst (λ r. IfErr r P) is there
 pub writes_count : (writes : List ColumnWrite) → length (writes_left writes) ≡ length writes
 writes_count [] = refl
 writes_count (write ∷ writes) = ap suc (writes_count writes)
+
+-- ---- disks that are flushed
+
+-- a call that is no write to the disk leaves it flushed
+pub flushed_more : (mid new : Disks) (which disk : ℕ) (call : Call) → new.calls ≡ on which call ∷ mid.calls → ¬ IsWrite call → IsFlushed mid disk → IsFlushed new disk
+flushed_more mid new which disk call calls no_write is = record {
+  newer = on which call ∷ is.newer;
+  older = is.older;
+  calls = calls ∙ ap (λ log. on which call ∷ log) is.calls;
+  none = (λ same. no_write, is.none);
+}
+
+pub flush_is_no_write : {T E : Type 0} (result : Result T E) → ¬ IsWrite (flush_call result)
+flush_is_no_write (Ok x) is = is
+flush_is_no_write (Err e) is = is
+
+pub flushed_now : {T E : Type 0} (result : Result T E) (mid new : Disks) (disk : ℕ) → is_ok result ≡ true → new.calls ≡ on disk (flush_call result) ∷ mid.calls → IsFlushed new disk
+flushed_now (Ok x) mid new disk ok calls = record { newer = []; older = mid.calls; calls = calls; none = tt }
+flushed_now (Err e) mid new disk ok calls = absurd (cc)
+
+pub no_flushes : (store : Store) (flushes : List ℕ) → FlushesMove store store flushes flushes
+no_flushes store flushes = record { flushed = λ disk held. inl held; stays = λ disk is. is }
+
+-- one of the disks is flushed
+pub one_flushed : {T E : Type 0} (result : Result T E) (old mid new : Store) (flushes rest : List ℕ) (disk : ℕ) → is_ok result ≡ true
+    → new.disks.calls ≡ on disk (flush_call result) ∷ mid.disks.calls → FlushesMove old mid flushes (disk ∷ rest) → FlushesMove old new flushes rest
+one_flushed result old mid new flushes rest disk ok calls move = record {
+  flushed = λ other held. ⊎_elim
+      (λ left. ⊎_elim (λ same. inr (subst (λ d. IsFlushed new.disks d) (sym same) (flushed_now result mid.disks new.disks disk ok calls))) inl (Contains-cases disk rest other left))
+      (λ is. inr (flushed_more mid.disks new.disks disk other (flush_call result) calls (flush_is_no_write result) is)) (move.flushed other held);
+  stays = λ other is. flushed_more mid.disks new.disks disk other (flush_call result) calls (flush_is_no_write result) (move.stays other is);
+}

@@ -19,6 +19,7 @@ use Rattle.group_volumes.specs.declared.volumes.GroupVolumes.{GroupVolumes}
 use Rattle.group_volumes.specs.Volumes.{SpellsPool, IsPlannedAs}
 use Rattle.pool_model.specs.declared.step.Phase.TheVariants.{Blocks, BlocksFlush}
 use Rattle.pool_model.specs.Machine.{due, IsPlan}
+use Rattle.pool_model.proofs.Plans.{is_plan as plan_of}
 use Rattle.pool_model.specs.Pools.{PlainPool, Entry, applied}
 use Rattle.pool_model.specs.View.{View, Vdev, DueCall, Sync, Left, is_planned, counted, disks_of, disks_in_use}
 use Rattle.volume_blocks.specs.Reading.{AnswersAreTrue}
@@ -100,22 +101,18 @@ same_vdevs spaces others same = ap (λ (shapes : List VdevShape). map (λ shape.
 
 -- writes to disks in use, and then their flushes
 is_plan : (old new : Store) (v : View) (flushes : List ℕ) (stored planned : Contents) → v.vdevs ≡ vdevs_of old.spaces → ((disk : ℕ) → v.out disk ≡ is_out old.out disk)
-    → old.due ≡ [] → OnlyReadsAndPlans old new → Plans new stored planned
-    → flushes ≡ filter (λ disk. not (is_out old.out disk)) (disks_of (vdevs_of old.spaces)) → IsPlan v (left_calls new.due flushes)
+    → old.due ≡ [] → OnlyReadsAndPlans old new → Plans new stored planned → flushes ≡ disks_in_use v → IsPlan v (left_calls new.due flushes)
 is_plan old new v flushes stored planned vdevs out none kept plans are =
-    let all : disks_in_use v ≡ filter (λ disk. not (is_out old.out disk)) (disks_of (vdevs_of old.spaces)) = λ i. filter (λ disk. not (out disk i)) (disks_of (vdevs i)) in
     let only : new.due ≡ kept.added = kept.due ∙ ap (λ (writes : List ColumnWrite). writes ++ kept.added) none in
-    record {
-      writes = map (λ write. write.disk) new.due;
-      in_use = all_disks (Contains (disks_in_use v)) new.due (λ write held.
-          in_filter (λ disk. not (v.out disk)) (disks_of v.vdevs) write.disk
-          (ap not (out write.disk ∙ All-contains (λ (w : ColumnWrite). is_out old.out w.disk ≡ false) kept.added write kept.in_use
-          (subst (λ (writes : List ColumnWrite). Contains writes write) only held)))
-          (subst (λ (list : List Vdev). Contains (disks_of list) write.disk) (same_vdevs old.spaces new.spaces kept.shapes ∙ sym vdevs)
-          (write_on_disk new stored planned write plans held)));
-      order = ap (λ (calls : List DueCall). calls ++ map (due BlocksFlush) flushes) (calls_of_disks new.due)
-          ∙ ap (λ (disks : List ℕ). map (due Blocks) (map (λ write. write.disk) new.due) ++ map (due BlocksFlush) disks) (are ∙ sym all);
-    }
+    subst (IsPlan v) (sym (ap (λ (calls : List DueCall). calls ++ map (due BlocksFlush) flushes) (calls_of_disks new.due)
+    ∙ ap (λ (disks : List ℕ). map (due Blocks) (map (λ write. write.disk) new.due) ++ map (due BlocksFlush) disks) are))
+    (plan_of v (map (λ write. write.disk) new.due)
+    (all_disks (Contains (disks_in_use v)) new.due (λ write held.
+    in_filter (λ disk. not (v.out disk)) (disks_of v.vdevs) write.disk
+    (ap not (out write.disk ∙ All-contains (λ (w : ColumnWrite). is_out old.out w.disk ≡ false) kept.added write kept.in_use
+    (subst (λ (writes : List ColumnWrite). Contains writes write) only held)))
+    (subst (λ (list : List Vdev). Contains (disks_of list) write.disk) (same_vdevs old.spaces new.spaces kept.shapes ∙ sym vdevs)
+    (write_on_disk new stored planned write plans held)))))
 
 -- ---- states
 
@@ -164,6 +161,10 @@ backs_still s new v no_plan kept backs =
     none_is_left s new planned later None v no_plan is = is
     none_is_left s new planned later (Some plan) v no_plan is = absurd (cc)
 
+-- no plan is there still
+pub unplanned_still : (s : State) (planned : Option Planned) (v : View) → planned ≡ None → Backs (record s { planned = None }) v → Backs (record s { planned = planned }) v
+unplanned_still s planned v none backs = subst (λ (o : Option Planned). Backs (record s { planned = o }) v) (sym none) backs
+
 -- a group's volumes, once its writes were planned
 abbrev pub IsAfter : Store → Store → ℕ → GroupVolumes → Entry → GroupVolumes → Type 0
 IsAfter old new group last items after =
@@ -182,11 +183,13 @@ plan_is_backed s new group last plan items v backs none next is_last are flushes
     subst (λ (n : ℕ). SpellsPool backs.blocks.stored n last pool) (sym before)
     (subst (λ (volumes : GroupVolumes). SpellsPool backs.blocks.stored v.committed volumes pool) (sym is_last) (last_spelled s v backs)) in
     let there = after backs.blocks.stored backs.blocks.planned pool backs.blocks.plans spelled honest in
+    let all : plan.flushes.items ≡ disks_in_use v =
+    flushes ∙ (λ i. filter (λ disk. not (sym (backs.out disk) i)) (disks_of (sym backs.vdevs i))) in
     let spells : SpellsPool there.later (suc v.committed) plan.volumes (applied (suc v.committed) pool (v.ledger (suc v.committed))) =
     subst (λ (entry : Entry). SpellsPool there.later (suc v.committed) plan.volumes (applied (suc v.committed) pool entry)) are
     (subst (λ (n : ℕ). SpellsPool there.later n plan.volumes (applied n pool items)) next there.spells) in (
       left_calls new.due plan.flushes.items,
-      is_plan s.store new v plan.flushes.items backs.blocks.stored there.later backs.vdevs backs.out none kept there.plans flushes,
+      is_plan s.store new v plan.flushes.items backs.blocks.stored there.later backs.vdevs backs.out none kept there.plans all,
       record {
         vdevs = backs.vdevs ∙ sym (same_vdevs s.store.spaces new.spaces kept.shapes);
         out = λ disk. backs.out disk ∙ sym (ap (λ (list : List Bool). is_out list disk) kept.out);
@@ -196,7 +199,7 @@ plan_is_backed s new group last plan items v backs none next is_last are flushes
           planned = there.later;
           plans = there.plans;
           kept = backs.blocks.kept;
-          plan = (refl, spells);
+          plan = (refl, spells, λ disk in_use. inl (subst (λ (xs : List ℕ). Contains xs disk) (sym all) in_use));
         };
       },
     )

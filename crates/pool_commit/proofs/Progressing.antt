@@ -1,5 +1,5 @@
 -- What backs the view after device calls of a plan.
-use Rattle.std.proofs.Common.{rules, ◌≡◌, ◌⊎◌, ℕ, suc, ◌≤◌, ◌<◌, ◌^◌, Bool, true, false, List, [], ◌∷◌, ◌++◌, length, Option, Some, None, refl, sym, ap, ◌∙◌, subst, arith, inl, inr, append_assoc}
+use Rattle.std.proofs.Common.{rules, ◌≡◌, ◌⊎◌, ℕ, suc, ◌≤◌, ◌<◌, ◌^◌, Bool, true, false, List, [], ◌∷◌, ◌++◌, length, Option, Some, None, refl, sym, ap, ◌∙◌, subst, arith, inl, inr, ⊎_elim, Contains, append_assoc}
 use Rattle.std.specs.Prelude.{◌||◌, ◌==◌, map, min}
 use Rattle.std.specs.List.{AllByRecursion}
 use Rattle.std.proofs.lemmas.Bool.Decides.{nat_tests}
@@ -12,17 +12,21 @@ use Rattle.block_store.specs.Store.{Store, is_out}
 use Rattle.group_volumes.specs.declared.volumes.GroupVolumes.{GroupVolumes}
 use Rattle.group_volumes.specs.Volumes.{SpellsPool}
 use Rattle.pool_model.specs.declared.step.Phase.{Phase}
-use Rattle.pool_model.specs.View.{View, DueCall, Left}
-use Rattle.pool_model.specs.Machine.{due, MakesAll, committed_next, dropped}
+use Rattle.pool_model.specs.declared.step.Phase.TheVariants.{Blocks, BlocksFlush}
+use Rattle.raidz_io.proofs.Calls.{Contains-none}
+use Rattle.raidz_io.specs.declared.writes.ColumnWrite.{ColumnWrite}
+use Rattle.pool_model.specs.View.{View, DueCall, Left, disks_in_use}
+use Rattle.pool_model.specs.Machine.{due, Makes, MakesAll, committed_next, dropped}
+use Rattle.pool_model.proofs.Plans.{makes_writes, makes_flushes}
 use Rattle.pool_commit.specs.declared.device.Progress.{Progress}
 use Rattle.pool_commit.specs.declared.device.Progress.TheVariants.{Moved, Done, Dropped}
 use Rattle.pool_commit.specs.declared.kept.Kept.{Kept}
 use Rattle.pool_commit.specs.declared.kept.Planned.{Planned}
-use Rattle.pool_commit.specs.Backs.{Backs, IsPlanOf, SpellsKept, kept_pool, left_calls, pool_after}
-use Rattle.pool_commit.specs.Calls.{made_between, faults_between}
+use Rattle.pool_commit.specs.Backs.{Backs, IsPlanOf, IsToFlush, SpellsKept, kept_pool, left_calls, pool_after}
+use Rattle.pool_commit.specs.Calls.{made_between, faults_between, unread_between, IsFlushed}
 use Rattle.pool_commit.specs.Config.{shown, vdevs_of}
 use Rattle.pool_commit.specs.HasDisks.{AreBelow, HasDisks}
-use Rattle.pool_commit.specs.Making.{MadeCalls, FailedCall}
+use Rattle.pool_commit.specs.Making.{MadeCalls, FailedCall, FlushesMove}
 use Rattle.pool_commit.specs.Progress.{Progresses, GoesOn, DropsPlan, with_plan}
 use Rattle.pool_commit.specs.State.{State, volumes_at}
 use Rattle.pool_commit.proofs.Keeping.{kept_next}
@@ -40,6 +44,7 @@ with_tail old mid left rest tail phase n made = record {
   count = made.count;
   in_phase = made.in_phase;
   faults = made.faults;
+  unread = made.unread;
 }
 
 pub failed_tail : (old mid : Store) (left tail : List DueCall) (phase : Phase) (disk : ℕ) → FailedCall old mid left phase disk → FailedCall old mid (left ++ tail) phase disk
@@ -53,23 +58,61 @@ failed_tail old mid left tail phase disk failed = record {
   few = failed.few;
   in_phase = failed.in_phase;
   faults = failed.faults;
+  unread = failed.unread;
 }
+
+-- calls of the front of what is left: writes, or flushes where no write is left
+pub record MakesNext (old : State) (plan : Planned) (phase : Phase) : Type 0 where
+  pub makes : (made rest : List DueCall) → left_calls old.store.due plan.flushes.items ≡ made ++ rest → 0 < length made → length made ≤ 4
+      → AllByRecursion (λ (call : DueCall). call.phase ≡ phase) made → Makes (left_calls old.store.due plan.flushes.items) made rest phase
+
+-- a disk that was flushed, or is to be, is so still
+abbrev pub StaysToFlush : State → Planned → Planned → Store → Type 0
+StaysToFlush old plan later mid = (disk : ℕ) → IsToFlush old.store plan.flushes.items disk → IsToFlush mid later.flushes.items disk
+
+not_empty : (writes : List ColumnWrite) → 0 < length writes → ¬ (writes ≡ [])
+not_empty writes some none = let count = ap length none in absurd (omega arith)
+
+pub next_writes : (old : State) (plan : Planned) → MakesNext old plan Blocks
+next_writes old plan = record { makes = λ made rest order above few same. makes_writes (left_calls old.store.due plan.flushes.items) made rest order above few same }
+
+pub writes_stay : (old : State) (plan : Planned) (mid : Store) → 0 < length old.store.due → StaysToFlush old plan plan mid
+writes_stay old plan mid some disk before = ⊎_elim inl (λ flushed. absurd (not_empty old.store.due some flushed.0)) before
+
+pub next_flushes : (old : State) (plan : Planned) → old.store.due ≡ [] → MakesNext old plan BlocksFlush
+next_flushes old plan none = record {
+  makes = λ made rest order above few same. makes_flushes (left_calls old.store.due plan.flushes.items) made rest plan.flushes.items
+      (ap (λ (writes : List ColumnWrite). left_calls writes plan.flushes.items) none) order above few same;
+}
+
+pub flushes_stay : (old : State) (plan later : Planned) (mid : Store) → mid.due ≡ [] → FlushesMove old.store mid plan.flushes.items later.flushes.items → StaysToFlush old plan later mid
+flushes_stay old plan later mid still move disk before = ⊎_elim
+    (λ left. ⊎_elim inl (λ is. inr (still, is)) (move.flushed disk left))
+    (λ flushed. inr (still, move.stays disk flushed.1)) before
+
+flushes_none : (writes : List ColumnWrite) (flushes : List ℕ) (disk : ℕ) → left_calls writes flushes ≡ [] → ¬ Contains flushes disk
+flushes_none [] [] disk e held = Contains-none disk held
+flushes_none [] (first ∷ flushes) disk e held = let count = ap length e in absurd (omega arith)
+flushes_none (write ∷ writes) flushes disk e held = let count = ap length e in absurd (omega arith)
 
 -- calls were made, and the plan goes on or is done
 pub goes_on : (old : State) (mid : Store) (plan later : Planned) (v : View) (phase : Phase) (n : ℕ) (progress : Progress) (new : State)
     → Backs (with_plan old plan) v → v.committed < 2 ^ 62 → (0 < n) ⊎ (left_calls old.store.due plan.flushes.items ≡ []) → n ≤ 4
-    → MadeCalls old.store mid (left_calls old.store.due plan.flushes.items) (left_calls mid.due later.flushes.items) phase n → later.volumes ≡ plan.volumes
+    → MadeCalls old.store mid (left_calls old.store.due plan.flushes.items) (left_calls mid.due later.flushes.items) phase n → MakesNext old plan phase → StaysToFlush old plan later mid → later.volumes ≡ plan.volumes
     → GoesOn (record { store = mid; kept = old.kept; planned = None }) later phase progress new → Progresses old progress new v
-goes_on old mid plan later v phase n (Moved moved) new backs low some few made volumes goes =
+goes_on old mid plan later v phase n (Moved moved) new backs low some few made next stays volumes goes =
     let rest : List DueCall = left_calls mid.due later.flushes.items in
     let calls : List DueCall = made_between old.store.disks mid.disks in
-    let next : State = record { store = mid; kept = old.kept; planned = Some later } in
+    let after : State = record { store = mid; kept = old.kept; planned = Some later } in
     subst (λ (s : State). Progresses old (Moved moved) s v) (sym goes.2) (
+      left_calls old.store.due plan.flushes.items,
       rest,
-      backs.blocks.plan.0 ∙ ap Left made.order,
-      record { order = refl; some = made_some some; few = omega (arith, made.count, few); same = subst (λ (p : Phase). AllByRecursion (λ (call : DueCall). call.phase ≡ p) calls) (sym goes.0) made.in_phase },
+      backs.blocks.plan.0,
+      subst (λ (p : Phase). Makes (left_calls old.store.due plan.flushes.items) calls rest p) (sym goes.0)
+          (next.makes calls rest made.order (made_some some) (omega (arith, made.count, few)) made.in_phase),
       goes.1,
       made.faults,
+      made.unread,
       record {
         vdevs = backs.vdevs ∙ ap (λ (spaces : List VdevSpace). vdevs_of spaces) (sym made.same.spaces);
         out = λ disk. backs.out disk ∙ ap (λ (out : List Bool). is_out out disk) (sym made.out);
@@ -79,7 +122,11 @@ goes_on old mid plan later v phase n (Moved moved) new backs low some few made v
           planned = backs.blocks.planned;
           plans = made.same.plans backs.blocks.stored backs.blocks.planned backs.blocks.plans;
           kept = backs.blocks.kept;
-          plan = (refl, subst (λ (g : GroupVolumes). SpellsPool backs.blocks.planned (suc v.committed) g (pool_after v)) (sym volumes) backs.blocks.plan.1);
+          plan = (
+            refl,
+            subst (λ (g : GroupVolumes). SpellsPool backs.blocks.planned (suc v.committed) g (pool_after v)) (sym volumes) backs.blocks.plan.1,
+            λ disk in_use. stays disk (backs.blocks.plan.2 disk in_use),
+          );
         };
       },
     )
@@ -87,14 +134,16 @@ goes_on old mid plan later v phase n (Moved moved) new backs low some few made v
     made_some : (0 < n) ⊎ (left_calls old.store.due plan.flushes.items ≡ []) → 0 < length (made_between old.store.disks mid.disks)
     made_some (inl above) = omega (arith, made.count, above)
     made_some (inr none) = absurd (omega (arith, goes.1, ap length made.order, ap length none, length-append (made_between old.store.disks mid.disks) (left_calls mid.due later.flushes.items)))
-goes_on old mid plan later v phase n Done new backs low some few made volumes goes =
+goes_on old mid plan later v phase n Done new backs low some few made next stays volumes goes =
     let calls : List DueCall = made_between old.store.disks mid.disks in
-    let same : calls ≡ made_between old.store.disks new.store.disks = ap (λ (d : Disks). made_between old.store.disks d) (sym goes.2.disks) in
-    let order : left_calls old.store.due plan.flushes.items ≡ calls = made.order ∙ ap (λ xs. calls ++ xs) goes.0 ∙ append-nil calls in
-    let all : MakesAll calls = makes_all some in (
-      backs.blocks.plan.0 ∙ ap Left (order ∙ same),
-      subst MakesAll same all,
+    let same : calls ≡ made_between old.store.disks new.store.disks = ap (λ (d : Disks). made_between old.store.disks d) (sym goes.2.disks) in (
+      left_calls old.store.due plan.flushes.items,
+      backs.blocks.plan.0,
+      subst (MakesAll (left_calls old.store.due plan.flushes.items)) same (makes_all some),
       ap (λ (d : Disks). faults_between old.store.disks d) goes.2.disks ∙ made.faults,
+      ap (λ (d : Disks). unread_between old.store.disks d) goes.2.disks ∙ made.unread,
+      λ disk in_use. subst (λ (d : Disks). IsFlushed d disk) (sym goes.2.disks)
+          (⊎_elim (λ left. absurd (none_left disk left)) (λ flushed. flushed.1) (stays disk (backs.blocks.plan.2 disk in_use))),
       record {
         vdevs = backs.vdevs ∙ ap (λ (spaces : List VdevSpace). vdevs_of spaces) (sym made.same.spaces) ∙ sym (vdevs_by_shapes mid.spaces new.store.spaces goes.2.shapes);
         out = λ disk. backs.out disk ∙ ap (λ (out : List Bool). is_out out disk) (sym (goes.2.out ∙ made.out));
@@ -111,35 +160,37 @@ goes_on old mid plan later v phase n Done new backs low some few made volumes go
       },
     )
   where
-    makes_all : (0 < n) ⊎ (left_calls old.store.due plan.flushes.items ≡ []) → MakesAll (made_between old.store.disks mid.disks)
-    makes_all (inl above) = inr (phase, record { order = sym (append-nil (made_between old.store.disks mid.disks)); some = omega (arith, made.count, above); few = omega (arith, made.count, few); same = made.in_phase })
-    makes_all (inr none) = inl (sym (append-nil (made_between old.store.disks mid.disks)) ∙ ap (λ xs. made_between old.store.disks mid.disks ++ xs) (sym goes.0) ∙ sym made.order ∙ none)
-goes_on old mid plan later v phase n (Dropped disk) new backs low some few made volumes goes = absurd goes
+    rest_none : left_calls old.store.due plan.flushes.items ≡ made_between old.store.disks mid.disks
+    rest_none = made.order ∙ ap (λ xs. made_between old.store.disks mid.disks ++ xs) goes.0 ∙ append-nil (made_between old.store.disks mid.disks)
+
+    none_left : (disk : ℕ) → ¬ Contains later.flushes.items disk
+    none_left disk held = flushes_none mid.due later.flushes.items disk goes.0 held
+
+    makes_all : (0 < n) ⊎ (left_calls old.store.due plan.flushes.items ≡ []) → MakesAll (left_calls old.store.due plan.flushes.items) (made_between old.store.disks mid.disks)
+    makes_all (inl above) = inr (phase, next.makes (made_between old.store.disks mid.disks) [] (rest_none ∙ sym (append-nil (made_between old.store.disks mid.disks)))
+        (omega (arith, made.count, above)) (omega (arith, made.count, few)) made.in_phase)
+    makes_all (inr none) = inl (none, sym rest_none ∙ none)
+goes_on old mid plan later v phase n (Dropped disk) new backs low some few made next stays volumes goes = absurd goes
 
 -- a call failed, and the plan is dropped
 pub drops : (old : State) (mid : Store) (plan : Planned) (v : View) (phase : Phase) (disk : ℕ) (new : State)
-    → Backs (with_plan old plan) v → FailedCall old.store mid (left_calls old.store.due plan.flushes.items) phase disk
+    → Backs (with_plan old plan) v → FailedCall old.store mid (left_calls old.store.due plan.flushes.items) phase disk → MakesNext old plan phase
     → DropsPlan mid new.store → new.kept ≡ old.kept → new.planned ≡ None → Progresses old (Dropped disk) new v
-drops old mid plan v phase disk new backs failed drop kept none =
-    let made : made_between old.store.disks new.store.disks ≡ failed.before ++ due phase disk ∷ [] = ap (λ (d : Disks). made_between old.store.disks d) drop.disks ∙ failed.made in
-    let order : left_calls old.store.due plan.flushes.items ≡ made_between old.store.disks new.store.disks ++ failed.rest =
-    failed.order ∙ ap (λ (d : Disks). made_between old.store.disks d ++ failed.rest) (sym drop.disks) in (
-      failed.rest,
-      backs.blocks.plan.0 ∙ ap Left order,
-      λ full. record {
+drops old mid plan v phase disk new backs failed next drop kept none =
+    let calls : List DueCall = made_between old.store.disks mid.disks in
+    let same : calls ≡ made_between old.store.disks new.store.disks = ap (λ (d : Disks). made_between old.store.disks d) (sym drop.disks) in (
+      record {
         left = left_calls old.store.due plan.flushes.items;
-        planned = backs.blocks.plan.0;
-        before = failed.before;
         rest = failed.rest;
+        before = failed.before;
         phase = phase;
-        makes = record {
-          order = order ∙ ap (λ xs. xs ++ failed.rest) made;
-          some = subst (λ (xs : List DueCall). 0 < length xs) failed.made (one_some old.store mid failed);
-          few = subst (λ (xs : List DueCall). length xs ≤ 4) failed.made failed.few;
-          same = subst (λ (xs : List DueCall). AllByRecursion (λ (call : DueCall). call.phase ≡ phase) xs) failed.made failed.in_phase;
-        };
-        failed = ap (λ (d : Disks). faults_between old.store.disks d) drop.disks ∙ failed.faults;
+        planned = backs.blocks.plan.0;
+        last = sym same ∙ failed.made;
+        makes = subst (λ xs. Makes (left_calls old.store.due plan.flushes.items) xs failed.rest phase) same
+            (next.makes calls failed.rest failed.order (one_some old.store mid failed) failed.few failed.in_phase);
+        fault = ap (λ (d : Disks). faults_between old.store.disks d) drop.disks ∙ failed.faults;
       },
+      ap (λ (d : Disks). unread_between old.store.disks d) drop.disks ∙ failed.unread,
       record {
         vdevs = backs.vdevs ∙ ap (λ (spaces : List VdevSpace). vdevs_of spaces) (sym failed.same.spaces) ∙ sym (vdevs_by_shapes mid.spaces new.store.spaces drop.shapes);
         out = λ other. out_too (v.out other) (is_out old.store.out other) (is_out mid.out other) (other == disk) (is_out new.store.out other) (backs.out other) (failed.out.disks other)

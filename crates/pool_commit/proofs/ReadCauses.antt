@@ -14,7 +14,7 @@ use Rattle.pool_model.specs.View.{View, is_kept}
 use Rattle.pool_now.specs.declared.shape.VolumeShape.{VolumeShape}
 use Rattle.pool_now.specs.Shapes.{shape_of}
 use Rattle.pool_commit.specs.declared.refusal.Refusal.{Refusal}
-use Rattle.pool_commit.specs.declared.refusal.Refusal.TheVariants.{NoMemory, DiskFault, NoSpace, NoSuchName, OutOfRange, GroupGone, BadConfig}
+use Rattle.pool_commit.specs.declared.refusal.Refusal.TheVariants.{NoSuchName, OutOfRange}
 use Rattle.pool_commit.specs.Reading.{IsReadCause, IsUnderCause}
 
 -- ---- what a shape has against a read
@@ -100,22 +100,14 @@ pub under_cause : (v : View) (group : ℕ) (name : List ℕ) (offset len : ℕ) 
     → IsReadCause (read_refusal offset len (volume_at name (v.pools group))) refusal → IsUnderCause v group name offset len refusal
 under_cause v group name offset len NoSuchName kept is = under_kept v group name offset len kept ∙ is
 under_cause v group name offset len OutOfRange kept is = under_kept v group name offset len kept ∙ is
-under_cause v group name offset len GroupGone kept is = absurd is
-under_cause v group name offset len NoMemory kept is = absurd is
-under_cause v group name offset len DiskFault kept is = absurd is
-under_cause v group name offset len NoSpace kept is = absurd is
-under_cause v group name offset len BadConfig kept is = absurd is
+under_cause v group name offset len refusal kept is = absurd is
 
 -- ---- reads within a volume
 
 pub no_read_cause : (cause : Option Cause) (refusal : Refusal) → cause ≡ None → ¬ IsReadCause cause refusal
 no_read_cause cause NoSuchName none is = absurd (cc)
 no_read_cause cause OutOfRange none is = absurd (cc)
-no_read_cause cause GroupGone none is = is
-no_read_cause cause NoMemory none is = is
-no_read_cause cause DiskFault none is = is
-no_read_cause cause NoSpace none is = is
-no_read_cause cause BadConfig none is = is
+no_read_cause cause refusal none is = is
 
 fits_range : (offset len size : ℕ) → offset + len ≤ size → len ≤ 2 ^ 20 → (nat_le (offset + len) size && nat_le len (2 ^ 20)) ≡ true
 fits_range offset len size within few = grind (arith, nat_tests, within, few)

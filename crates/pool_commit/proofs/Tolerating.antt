@@ -8,8 +8,9 @@ use Rattle.std.proofs.lemmas.Bool.Decides.{nat_tests}
 use Rattle.std.proofs.lemmas.List.{length-append}
 use Rattle.std.proofs.lemmas.List.Elements.{Contains-append_left, Contains-append_right, Contains-append_cases}
 use Rattle.std.proofs.lemmas.Option.{slice_get-map}
-use Rattle.model_disk.specs.Call.{is_failed}
-use Rattle.model_disk.specs.Joint.{JointCall, failed_since}
+use Rattle.model_disk.specs.Call.{Call, Read, FailedRead, Wrote, FailedWrite, Flushed, FailedFlush, is_failed}
+use Rattle.model_disk.specs.Joint.{Disks, JointCall, failed_since}
+use Rattle.raidz_io.specs.Reads.{IsRead, AreReads, OnlyReads}
 use Rattle.raidz_io.proofs.Calls.{Contains-front, Contains-cases, Contains-none}
 use Rattle.block_store.specs.declared.shape.VdevShape.{VdevShape}
 use Rattle.block_store.specs.declared.space.VdevSpace.{VdevSpace}
@@ -19,7 +20,7 @@ use Rattle.block_store.specs.Store.{Store, outs, is_out}
 use Rattle.block_store.proofs.Outs.{in_is_out}
 use Rattle.pool_model.specs.View.{View, Vdev, lost_in, is_tolerable}
 use Rattle.volume_blocks.specs.Reading.{FewAreAbsent as FewAreAbsentSince}
-use Rattle.pool_commit.specs.Calls.{faults_since, faults_between}
+use Rattle.pool_commit.specs.Calls.{unread_call, told_since, unread_between}
 use Rattle.pool_commit.specs.Config.{shown, vdevs_of}
 use Rattle.pool_commit.specs.Reading.{is_lost, TooManyAreLost}
 use Rattle.pool_commit.specs.State.{State}
@@ -115,35 +116,50 @@ any_of (first ∷ disks) disk held =
     ⊎_elim (λ same. or_left (first == disk) (list_any (λ d. d == disk) disks) (eq-eqb first disk (sym same)))
     (λ later. or_right (first == disk) (list_any (λ d. d == disk) disks) (any_of disks disk later)) (Contains-cases first disks disk held)
 
--- the fault of a call, where it is one
-abbrev fault_if : Bool → Bool → ℕ → List ℕ
-fault_if late failed disk = if late then (if failed then disk ∷ [] else []) else []
+-- a read that failed
+read_is_in : (late : Bool) (call : Call) (which disk : ℕ) (failures unread : List ℕ) → IsRead call → (Contains failures disk → Contains unread disk)
+    → Contains (if late && is_failed call then which ∷ failures else failures) disk → Contains (unread ++ (if late then unread_call which call else [])) disk
+read_is_in true (FailedRead at n) which disk failures unread is before held =
+    ⊎_elim (λ same. Contains-append_right unread (which ∷ []) disk (rw same (Contains-front which [])))
+    (λ later. Contains-append_left unread (which ∷ []) disk (before later)) (Contains-cases which failures disk held)
+read_is_in true (Read at bytes) which disk failures unread is before held = Contains-append_left unread [] disk (before held)
+read_is_in true (Wrote at bytes) which disk failures unread is before held = absurd is
+read_is_in true (FailedWrite at bytes) which disk failures unread is before held = absurd is
+read_is_in true Flushed which disk failures unread is before held = absurd is
+read_is_in true FailedFlush which disk failures unread is before held = absurd is
+read_is_in false call which disk failures unread is before held = Contains-append_left unread [] disk (before held)
 
-fault_is_in : (late failed : Bool) (which disk : ℕ) (failures faults : List ℕ) → (Contains failures disk → Contains faults disk)
-    → Contains (if late && failed then which ∷ failures else failures) disk → Contains (faults ++ fault_if late failed which) disk
-fault_is_in true true which disk failures faults before held =
-    ⊎_elim (λ same. Contains-append_right faults (which ∷ []) disk (rw same (Contains-front which [])))
-    (λ later. Contains-append_left faults (which ∷ []) disk (before later)) (Contains-cases which failures disk held)
-fault_is_in true false which disk failures faults before held = Contains-append_left faults [] disk (before held)
-fault_is_in false failed which disk failures faults before held = Contains-append_left faults [] disk (before held)
+none_failed : (n : ℕ) (calls : List JointCall) (disk : ℕ) → length calls ≤ n → ¬ Contains (failed_since n calls) disk
+none_failed n [] disk le held = Contains-none disk held
+none_failed n (made ∷ calls) disk le held =
+    none_failed n calls disk (omega arith)
+    (subst (λ (b : Bool). Contains (if b && is_failed made.call then made.which ∷ failed_since n calls else failed_since n calls) disk) (early n (length calls) (omega arith)) held)
+  where
+    early : (m k : ℕ) → k < m → nat_le m k ≡ false
+    early m k lt = grind (arith, nat_tests)
 
-failed_is_fault : (n : ℕ) (calls : List JointCall) (disk : ℕ) → Contains (failed_since n calls) disk → Contains (faults_since n calls) disk
-failed_is_fault n [] disk held = held
-failed_is_fault n (made ∷ calls) disk held =
-    fault_is_in (nat_le n (length calls)) (is_failed made.call) made.which disk (failed_since n calls) (faults_since n calls) (failed_is_fault n calls disk) held
+failed_is_unread : (n : ℕ) (newer calls : List JointCall) (disk : ℕ) → length calls ≤ n → AreReads newer → Contains (failed_since n (newer ++ calls)) disk
+    → Contains (told_since unread_call n (newer ++ calls)) disk
+failed_is_unread n [] calls disk le are held = absurd (none_failed n calls disk le held)
+failed_is_unread n (made ∷ newer) calls disk le are held =
+    read_is_in (nat_le n (length (newer ++ calls))) made.call made.which disk (failed_since n (newer ++ calls)) (told_since unread_call n (newer ++ calls)) are.0
+    (failed_is_unread n newer calls disk le are.1) held
 
-absent_is_lost : (old : Store) (v : View) (missing : List ℕ) (calls : List JointCall) → ((disk : ℕ) → v.out disk ≡ is_out old.out disk)
-    → (disk : ℕ) → Contains ((outs old ++ missing) ++ failed_since (length old.disks.calls) calls) disk
-    → is_lost v missing (faults_since (length old.disks.calls) calls) disk ≡ true
-absent_is_lost old v missing calls out disk held =
-    let faults : List ℕ = faults_since (length old.disks.calls) calls in
+absent_is_lost : (old : Store) (v : View) (missing : List ℕ) (new : Disks) → OnlyReads old.disks new → ((disk : ℕ) → v.out disk ≡ is_out old.out disk)
+    → (disk : ℕ) → Contains ((outs old ++ missing) ++ failed_since (length old.disks.calls) new.calls) disk
+    → is_lost v missing (unread_between old.disks new) disk ≡ true
+absent_is_lost old v missing new reads out disk held =
+    let unread : List ℕ = unread_between old.disks new in
     let named : Bool = list_any (λ d. d == disk) missing in
-    let failed : Bool = list_any (λ d. d == disk) faults in
+    let failed : Bool = list_any (λ d. d == disk) unread in
     ⊎_elim
     (λ before. ⊎_elim (λ is. or_left (v.out disk) (named || failed) (out disk ∙ in_is_out old disk is))
     (λ is. or_right (v.out disk) (named || failed) (or_left named failed (any_of missing disk is))) (Contains-append_cases (outs old) missing disk before))
-    (λ since. or_right (v.out disk) (named || failed) (or_right named failed (any_of faults disk (failed_is_fault (length old.disks.calls) calls disk since))))
-    (Contains-append_cases (outs old ++ missing) (failed_since (length old.disks.calls) calls) disk held)
+    (λ since. or_right (v.out disk) (named || failed) (or_right named failed (any_of unread disk
+    (subst (λ (calls : List JointCall). Contains (told_since unread_call (length old.disks.calls) calls) disk) (sym reads.calls)
+    (failed_is_unread (length old.disks.calls) reads.newer old.disks.calls disk (omega arith) reads.are_reads
+    (subst (λ (calls : List JointCall). Contains (failed_since (length old.disks.calls) calls) disk) reads.calls since))))))
+    (Contains-append_cases (outs old ++ missing) (failed_since (length old.disks.calls) new.calls) disk held)
 
 true_or_false : (b : Bool) → (b ≡ true) ⊎ (b ≡ false)
 true_or_false true = inl refl
@@ -151,10 +167,10 @@ true_or_false false = inr refl
 
 -- what is read where not few disks are absent is read where too many are lost
 pub too_many_are_lost : (old new : State) (v : View) (missing : List ℕ) → v.vdevs ≡ vdevs_of old.store.spaces → ((disk : ℕ) → v.out disk ≡ is_out old.store.out disk)
-    → ¬ FewAreAbsentSince old.store new.store missing → TooManyAreLost v missing old new
-too_many_are_lost old new v missing vdevs out not_few =
-    let lost : ℕ → Bool = is_lost v missing (faults_between old.store.disks new.store.disks) in
+    → OnlyReads old.store.disks new.store.disks → ¬ FewAreAbsentSince old.store new.store missing → TooManyAreLost v missing old new
+too_many_are_lost old new v missing vdevs out reads not_few =
+    let lost : ℕ → Bool = is_lost v missing (unread_between old.store.disks new.store.disks) in
     ⊎_elim
     (λ tolerable. absurd (not_few (few_where_tolerable old.store.spaces lost ((outs old.store ++ missing) ++ failed_since (length old.store.disks.calls) new.store.disks.calls)
-    (subst (λ (vdevs : List Vdev). is_tolerable vdevs lost ≡ true) vdevs tolerable) (absent_is_lost old.store v missing new.store.disks.calls out))))
+    (subst (λ (vdevs : List Vdev). is_tolerable vdevs lost ≡ true) vdevs tolerable) (absent_is_lost old.store v missing new.store.disks reads out))))
     (λ many. many) (true_or_false (is_tolerable v.vdevs lost))

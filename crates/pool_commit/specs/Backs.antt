@@ -1,16 +1,17 @@
 -- When the committed half of a core backs a view: what the view says of disks, of kept groups and of the group that is synced.
-use Rattle.std.specs.Prelude.{ℕ, suc, ◌≡◌, ◌++◌, List, map, false, Option, Some, None, if◌then◌else◌}
+use Rattle.std.specs.Prelude.{ℕ, suc, ◌≡◌, ◌⊎◌, ◌++◌, Contains, List, [], map, false, Option, Some, None, if◌then◌else◌}
 use Rattle.raidz_io.specs.declared.writes.ColumnWrite.{ColumnWrite}
 use Rattle.block_store.specs.Blocks.{Contents}
 use Rattle.block_store.specs.Plans.{Plans}
-use Rattle.block_store.specs.Store.{is_out}
+use Rattle.block_store.specs.Store.{Store, is_out}
 use Rattle.group_volumes.specs.declared.volumes.GroupVolumes.{GroupVolumes}
 use Rattle.group_volumes.specs.Volumes.{SpellsPool}
 use Rattle.pool_model.specs.declared.step.Phase.TheVariants.{Blocks, BlocksFlush}
 use Rattle.pool_model.specs.Pools.{PlainPool, applied}
-use Rattle.pool_model.specs.View.{View, DueCall, Left, is_planned, is_kept}
+use Rattle.pool_model.specs.View.{View, DueCall, Left, is_planned, is_kept, disks_in_use}
 use Rattle.pool_model.specs.Machine.{due}
 use Rattle.pool_commit.specs.declared.kept.Planned.{Planned}
+use Rattle.pool_commit.specs.Calls.{IsFlushed}
 use Rattle.pool_commit.specs.Config.{vdevs_of}
 use Rattle.pool_commit.specs.State.{State, volumes_at}
 
@@ -32,11 +33,17 @@ left_calls writes flushes = map (λ write. due Blocks write.disk) writes ++ map 
 abbrev pub pool_after : View → PlainPool
 pool_after v = applied (suc v.committed) (v.pools v.committed) (v.ledger (suc v.committed))
 
--- a plan has these device calls left, and its volumes spell what the group makes, once its blocks are stored
+-- the disk is to be flushed, or no write is due and it was flushed behind its last one
+abbrev pub IsToFlush : Store → List ℕ → ℕ → Type 0
+IsToFlush store flushes disk = Contains flushes disk ⊎ ((store.due ≡ []) × IsFlushed store.disks disk)
+
+-- a plan has these device calls left, its volumes spell what the group makes, once its blocks are stored, and each disk in
+-- use is flushed behind its last write or has its flush left
 abbrev pub IsPlanOf : State → Contents → Option Planned → View → Type 0
 IsPlanOf s planned None v = is_planned v.sync ≡ false
 IsPlanOf s planned (Some plan) v =
     (v.sync ≡ Left (left_calls s.store.due plan.flushes.items)) × SpellsPool planned (suc v.committed) plan.volumes (pool_after v)
+    × ((disk : ℕ) → Contains (disks_in_use v) disk → IsToFlush s.store plan.flushes.items disk)
 
 -- each block taken with the bytes that it was written with
 pub record HasBlocks (s : State) (v : View) : Type 0 where

@@ -1,9 +1,10 @@
 -- The device calls of a step, as the record of calls tells them.
-use Rattle.std.specs.Prelude.{ℕ, ◌≡◌, List, [], ◌∷◌, ◌++◌, length, Bool, nat_le, if◌then◌else◌}
-use Rattle.model_disk.specs.Call.{Call, Read, FailedRead, Wrote, FailedWrite, Flushed, FailedFlush, is_failed}
-use Rattle.model_disk.specs.Joint.{Disks, JointCall}
+use Rattle.std.specs.Prelude.{ℕ, ◌≡◌, List, [], ◌∷◌, ◌++◌, length, nat_le, if◌then◌else◌}
+use Rattle.std.specs.List.{AllByRecursion}
+use Rattle.model_disk.specs.Call.{Call, Read, FailedRead, Wrote, FailedWrite, Flushed, FailedFlush}
+use Rattle.model_disk.specs.Joint.{Disks, JointCall, on}
 use Rattle.pool_model.specs.declared.step.Phase.TheVariants.{Blocks, BlocksFlush}
-use Rattle.pool_model.specs.View.{DueCall, Given}
+use Rattle.pool_model.specs.View.{DueCall}
 use Rattle.pool_model.specs.Machine.{due}
 
 -- a write or a flush; a read is no call of a plan
@@ -12,31 +13,50 @@ due_call disk (Wrote at bytes) = due Blocks disk ∷ []
 due_call disk (FailedWrite at bytes) = due Blocks disk ∷ []
 due_call disk Flushed = due BlocksFlush disk ∷ []
 due_call disk FailedFlush = due BlocksFlush disk ∷ []
-due_call disk (Read at bytes) = []
-due_call disk (FailedRead at n) = []
+due_call disk call = []
 
--- the writes and flushes since there were n calls, in order
-abbrev pub made_since : ℕ → List JointCall → List DueCall
-made_since n [] = []
-made_since n (made ∷ earlier) = made_since n earlier ++ (if nat_le n (length earlier) then due_call made.which made.call else [])
+-- one that failed
+abbrev pub fault_call : ℕ → Call → List DueCall
+fault_call disk (FailedWrite at bytes) = due Blocks disk ∷ []
+fault_call disk FailedFlush = due BlocksFlush disk ∷ []
+fault_call disk call = []
 
--- the disks of the calls that failed since there were n calls, in order
-abbrev pub faults_since : ℕ → List JointCall → List ℕ
-faults_since n [] = []
-faults_since n (made ∷ earlier) = faults_since n earlier ++ (if nat_le n (length earlier) then (if is_failed made.call then made.which ∷ [] else []) else [])
+-- a read that failed
+abbrev pub unread_call : ℕ → Call → List ℕ
+unread_call disk (FailedRead at n) = disk ∷ []
+unread_call disk call = []
 
+-- what the calls since there were n tell, in order
+abbrev pub told_since : {A : Type 0} → (ℕ → Call → List A) → ℕ → List JointCall → List A
+told_since tells n [] = []
+told_since tells n (made ∷ earlier) = told_since tells n earlier ++ (if nat_le n (length earlier) then tells made.which made.call else [])
+
+-- the writes and flushes that were made, those of them that failed, and the disks that failed a read
 abbrev pub made_between : Disks → Disks → List DueCall
-made_between old new = made_since (length old.calls) new.calls
+made_between old new = told_since due_call (length old.calls) new.calls
 
-abbrev pub faults_between : Disks → Disks → List ℕ
-faults_between old new = faults_since (length old.calls) new.calls
+abbrev pub faults_between : Disks → Disks → List DueCall
+faults_between old new = told_since fault_call (length old.calls) new.calls
 
--- what the disks gave to a step, and whether it found no room
-abbrev pub given_between : Disks → Disks → Bool → Given
-given_between old new full = record { failed = faults_between old new; full = full }
+abbrev pub unread_between : Disks → Disks → List ℕ
+unread_between old new = told_since unread_call (length old.calls) new.calls
 
 -- the record of calls only grew
 pub record GrewTo (old new : Disks) : Type 0 where
   pub starts : new.starts ≡ old.starts
   pub newer : List JointCall
   pub calls : new.calls ≡ newer ++ old.calls
+
+-- ---- flushes
+
+abbrev pub IsWrite : Call → Type 0
+IsWrite (Wrote at bytes) = Unit {0}
+IsWrite (FailedWrite at bytes) = Unit {0}
+IsWrite call = ⊥
+
+-- a flush of the disk succeeded, and nothing was written to it since
+pub record IsFlushed (disks : Disks) (disk : ℕ) : Type 0 where
+  pub newer : List JointCall
+  pub older : List JointCall
+  pub calls : disks.calls ≡ newer ++ on disk Flushed ∷ older
+  pub none : AllByRecursion (λ made. made.which ≡ disk → ¬ IsWrite made.call) newer

@@ -7,3 +7,4 @@ pub mod Calls
 pub mod Making
 pub mod Progress
 pub mod Reading
+pub mod Causes

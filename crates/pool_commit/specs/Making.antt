@@ -1,5 +1,5 @@
 -- Device calls that a store makes for a plan.
-use Rattle.std.specs.Prelude.{ℕ, ◌≡◌, ◌≤◌, List, [], ◌∷◌, ◌++◌, length, map}
+use Rattle.std.specs.Prelude.{ℕ, ◌≡◌, ◌⊎◌, ◌≤◌, Contains, List, [], ◌∷◌, ◌++◌, length, map}
 use Rattle.std.specs.List.{AllByRecursion}
 use Rattle.raidz_io.specs.declared.writes.ColumnWrite.{ColumnWrite}
 use Rattle.block_store.specs.Plans.{KeepsPlans}
@@ -8,7 +8,7 @@ use Rattle.pool_model.specs.declared.step.Phase.{Phase}
 use Rattle.pool_model.specs.declared.step.Phase.TheVariants.{Blocks, BlocksFlush}
 use Rattle.pool_model.specs.View.{DueCall}
 use Rattle.pool_model.specs.Machine.{due}
-use Rattle.pool_commit.specs.Calls.{made_between, faults_between, GrewTo}
+use Rattle.pool_commit.specs.Calls.{made_between, faults_between, unread_between, GrewTo, IsFlushed}
 
 abbrev pub writes_left : List ColumnWrite → List DueCall
 writes_left writes = map (λ write. due Blocks write.disk) writes
@@ -30,6 +30,7 @@ pub record MadeCalls (old new : Store) (left rest : List DueCall) (phase : Phase
   pub count : length (made_between old.disks new.disks) ≡ n
   pub in_phase : AllByRecursion (λ call. call.phase ≡ phase) (made_between old.disks new.disks)
   pub faults : faults_between old.disks new.disks ≡ []
+  pub unread : unread_between old.disks new.disks ≡ []
 
 -- of those that were left one to four were made, and the last one failed on this disk
 pub record FailedCall (old new : Store) (left : List DueCall) (phase : Phase) (disk : ℕ) : Type 0 where
@@ -41,4 +42,11 @@ pub record FailedCall (old new : Store) (left : List DueCall) (phase : Phase) (d
   pub order : left ≡ made_between old.disks new.disks ++ rest
   pub few : length (made_between old.disks new.disks) ≤ 4
   pub in_phase : AllByRecursion (λ call. call.phase ≡ phase) (made_between old.disks new.disks)
-  pub faults : faults_between old.disks new.disks ≡ disk ∷ []
+  pub faults : faults_between old.disks new.disks ≡ due phase disk ∷ []
+  pub unread : unread_between old.disks new.disks ≡ []
+
+-- each of the disks is to be flushed still, or nothing was written to it since its last flush; and one of which that was
+-- true before is as it was
+pub record FlushesMove (old new : Store) (flushes rest : List ℕ) : Type 0 where
+  pub flushed : (disk : ℕ) → Contains flushes disk → Contains rest disk ⊎ IsFlushed new.disks disk
+  pub stays : (disk : ℕ) → IsFlushed old.disks disk → IsFlushed new.disks disk

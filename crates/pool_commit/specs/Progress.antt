@@ -1,30 +1,45 @@
 -- How far device calls bring a plan.
-use Rattle.std.specs.Prelude.{suc, ◌≡◌, ◌<◌, ◌^◌, List, [], ◌++◌, length, Bool, Some, None}
+use Rattle.std.specs.Prelude.{ℕ, suc, ◌≡◌, ◌<◌, ◌^◌, Contains, List, [], ◌∷◌, ◌++◌, length, Some, None}
+use Rattle.model_disk.specs.Joint.{Disks}
 use Rattle.block_store.specs.Blocks.{Contents}
 use Rattle.block_store.specs.Places.{shapes_of}
 use Rattle.block_store.specs.Plans.{Plans}
 use Rattle.block_store.specs.Store.{Store}
 use Rattle.group_volumes.specs.declared.volumes.GroupVolumes.{GroupVolumes}
 use Rattle.pool_model.specs.declared.step.Phase.{Phase}
-use Rattle.pool_model.specs.View.{View, DueCall, Left}
-use Rattle.pool_model.specs.Machine.{Makes, MakesAll, FailsOn, committed_next, dropped}
+use Rattle.pool_model.specs.View.{View, DueCall, Left, disks_in_use}
+use Rattle.pool_model.specs.Machine.{due, Makes, MakesAll, committed_next, dropped}
 use Rattle.pool_commit.specs.declared.device.Progress.{Progress}
 use Rattle.pool_commit.specs.declared.device.Progress.TheVariants.{Moved, Done, Dropped}
 use Rattle.pool_commit.specs.declared.kept.Kept.{Kept}
 use Rattle.pool_commit.specs.declared.kept.Planned.{Planned}
 use Rattle.pool_commit.specs.Backs.{Backs, left_calls}
-use Rattle.pool_commit.specs.Calls.{made_between, faults_between, given_between}
+use Rattle.pool_commit.specs.Calls.{made_between, faults_between, unread_between, IsFlushed}
 use Rattle.pool_commit.specs.State.{State}
 
--- From v the calls that were made, and no others, are the next ones of the plan. Where one failed the plan is dropped.
+-- the last of the calls that were made, a write or a flush of the plan, failed on this disk, and no other did
+pub record FailsAt (old new : Disks) (v : View) (disk : ℕ) : Type 0 where
+  pub left : List DueCall
+  pub rest : List DueCall
+  pub before : List DueCall
+  pub phase : Phase
+  pub planned : v.sync ≡ Left left
+  pub last : made_between old new ≡ before ++ due phase disk ∷ []
+  pub makes : Makes left (made_between old new) rest phase
+  pub fault : faults_between old new ≡ due phase disk ∷ []
+
+-- From v the calls that were made, and no others, are calls of the plan, and nothing was read. Where one failed the plan is
+-- dropped; where none is left each disk in use is flushed behind its last write.
 abbrev pub Progresses : State → Progress → State → View → Type 0
-Progresses old (Moved phase) new v = (rest : List DueCall) × (v.sync ≡ Left (made_between old.store.disks new.store.disks ++ rest))
-    × Makes (made_between old.store.disks new.store.disks ++ rest) (made_between old.store.disks new.store.disks) rest phase
-    × (0 < length rest) × (faults_between old.store.disks new.store.disks ≡ []) × Backs new (record v { sync = Left rest })
-Progresses old Done new v = (v.sync ≡ Left (made_between old.store.disks new.store.disks)) × MakesAll (made_between old.store.disks new.store.disks)
-    × (faults_between old.store.disks new.store.disks ≡ []) × Backs new (committed_next v)
-Progresses old (Dropped disk) new v = (rest : List DueCall) × (v.sync ≡ Left (made_between old.store.disks new.store.disks ++ rest))
-    × ((full : Bool) → FailsOn v (given_between old.store.disks new.store.disks full) disk) × Backs new (dropped v disk)
+Progresses old (Moved phase) new v = (left rest : List DueCall) × (v.sync ≡ Left left)
+    × Makes left (made_between old.store.disks new.store.disks) rest phase
+    × (0 < length rest) × (faults_between old.store.disks new.store.disks ≡ []) × (unread_between old.store.disks new.store.disks ≡ [])
+    × Backs new (record v { sync = Left rest })
+Progresses old Done new v = (left : List DueCall) × (v.sync ≡ Left left) × MakesAll left (made_between old.store.disks new.store.disks)
+    × (faults_between old.store.disks new.store.disks ≡ []) × (unread_between old.store.disks new.store.disks ≡ [])
+    × ((disk : ℕ) → Contains (disks_in_use v) disk → IsFlushed new.store.disks disk) × Backs new (committed_next v)
+Progresses old (Dropped disk) new v = FailsAt old.store.disks new.store.disks v disk × (unread_between old.store.disks new.store.disks ≡ [])
+    × Backs new (dropped v disk)
 
 -- the state with this plan
 abbrev pub with_plan : State → Planned → State

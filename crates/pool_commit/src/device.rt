@@ -5,7 +5,7 @@ ghost use Rattle.pool_model.specs.View.{View, is_planned};
 ghost use Rattle.pool_commit.specs.Backs.{Backs};
 ghost use Rattle.pool_commit.specs.StateOf.{state_of};
 ghost use Rattle.pool_commit.specs.Calls.{GrewTo};
-ghost use Rattle.pool_commit.specs.Making.{writes_left, flushes_left, MadeCalls, FailedCall};
+ghost use Rattle.pool_commit.specs.Making.{writes_left, flushes_left, MadeCalls, FailedCall, FlushesMove};
 ghost use Rattle.pool_commit.specs.declared.device.Progress.TheVariants as progress;
 ghost use Rattle.pool_commit.specs.Progress.{Progresses, DropsPlan, GoesOn, with_plan};
 ghost use Rattle.pool_commit.specs.HasDisks.{AreBelow, HasDisks};
@@ -52,6 +52,7 @@ fn make_flushes<D: Disk + Drop>(
     requires { AreBelow (length store.old.disks.starts) flushes.old.items }
     ensures made { OnOk result (MadeCalls store.old store.new (flushes_left flushes.old.items) (flushes_left flushes.new.items) phases.BlocksFlush (min (length flushes.old.items) 4)) }
     ensures due { store.new.due ≡ store.old.due }
+    ensures flushed { OnOk result (FlushesMove store.old store.new flushes.old.items flushes.new.items) }
     ensures there { OnOk result (AreBelow (length store.old.disks.starts) flushes.new.items) }
     ensures failed { IfErr result (λ failed. FailedCall store.old store.new (flushes_left flushes.old.items) phases.BlocksFlush failed.disk) }
 {

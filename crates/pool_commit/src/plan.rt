@@ -1,8 +1,7 @@
 //! The plan of a group.
-ghost use Rattle.std.specs.Prelude.{[], ◌≡◌, ◌⊎◌, ◌↔◌, ◌<◌, ◌/◌, ◌^◌, ℕ, suc, List, false, Contains, OnOk, OnErr, IfErr};
+ghost use Rattle.std.specs.Prelude.{[], ◌≡◌, ◌⊎◌, ◌<◌, ◌/◌, ◌^◌, ℕ, suc, List, None, false, Contains, OnOk, OnErr, IfErr};
 ghost use Rattle.raidz_io.specs.Reads.{OnlyReads, AreUntouched};
 ghost use Rattle.block_store.specs.Store.{outs};
-ghost use Rattle.group_volumes.specs.declared.refusal.Refusal.TheVariants as volumes;
 ghost use Rattle.group_volumes.specs.declared.volumes.NamedVolume.{NamedVolume};
 ghost use Rattle.pool_model.specs.View.{View, DueCall, Unplanned, Left, is_planned};
 ghost use Rattle.pool_model.specs.Machine.{IsPlan};
@@ -11,7 +10,7 @@ ghost use Rattle.volume_blocks.specs.Volume.{block_size_of};
 ghost use Rattle.volume_blocks.specs.Writing.{HasNoRoom};
 ghost use Rattle.pool_commit.specs.Backs.{Backs};
 ghost use Rattle.pool_commit.specs.StateOf.{state_of};
-ghost use Rattle.pool_commit.specs.Reading.{AreTrue, TooManyAreLost};
+ghost use Rattle.pool_commit.specs.Reading.{AreTrue, IsLost};
 
 use crate::commit::Commit;
 use crate::kept::Planned;
@@ -20,26 +19,11 @@ use model_disk::Disk;
 use std::alloc::Global;
 use txg_pipeline::Pending;
 
-/// What a refused plan is answered.
-fn named(refusal: group_volumes::Refusal) -> Refusal
-    ensures few { (result ≡ Refusal.NoMemory) ⊎ ((result ≡ Refusal.NoSpace) ⊎ ((result ≡ Refusal.DiskFault) ⊎ (result ≡ Refusal.BadConfig))) }
-    ensures memory { (result ≡ Refusal.NoMemory) ↔ (refusal ≡ volumes.NoMemory) }
-    ensures space { (result ≡ Refusal.NoSpace) ↔ (refusal ≡ volumes.NoSpace) }
-    ensures config { (result ≡ Refusal.BadConfig) ↔ (refusal ≡ volumes.BadConfig) }
-{
-    match refusal {
-        group_volumes::Refusal::NoMemory => Refusal::NoMemory,
-        group_volumes::Refusal::NoSpace => Refusal::NoSpace,
-        group_volumes::Refusal::BadConfig => Refusal::BadConfig,
-        _ => Refusal::DiskFault,
-    }
-}
-
 impl<D: Disk + Drop> Commit<D> {
     /// Plans the group after the committed one, which accepted these items. It reads what it must of the committed
-    /// volumes, and names the writes of the new blocks, none of them in place of a block that is kept. A plan that was
-    /// there is dropped.
+    /// volumes, and names the writes of the new blocks, none of them in place of a block that is kept.
     pub fn plan(&mut self, alloc: Global, items: &Pending) -> Result<(), Refusal>
+        requires unplanned { self.old.planned ≡ None }
         ensures reads { OnlyReads self.old.store.disks self.new.store.disks }
         ensures untouched { AreUntouched (outs self.old.store) self.old.store.disks self.new.store.disks }
         ensures unplanned { OnErr result ((v : View) → Backs (state_of self.old) v → is_planned v.sync ≡ false → Backs (state_of self.new) v) }
@@ -47,10 +31,10 @@ impl<D: Disk + Drop> Commit<D> {
         ensures planned { OnOk result ((v : View) → Backs (state_of self.old) v → is_planned v.sync ≡ false → v.committed < 2 ^ 62 → items.now ≡ v.ledger (suc v.committed) → AreTrue (state_of self.old) (state_of self.new)
             → (calls : List DueCall) × IsPlan v calls × Backs (state_of self.new) (record v { sync = Left calls })) }
         ensures full { IfErr result (λ refusal. refusal ≡ Refusal.NoSpace → (named : NamedVolume) × Contains self.new.kept.last.volumes.items named × HasNoRoom self.new.store.spaces (block_size_of named.blocks / 512)) }
-        ensures refused { IfErr result (λ refusal. (v : View) → Backs (state_of self.old) v → is_planned v.sync ≡ false → v.committed < 2 ^ 62 → items.now ≡ v.ledger (suc v.committed) → MakesGoodVolumes items.now → AreTrue (state_of self.old) (state_of self.new)
-            → (refusal ≡ Refusal.NoMemory) ⊎ ((refusal ≡ Refusal.NoSpace) ⊎ ((refusal ≡ Refusal.DiskFault) × TooManyAreLost v [] (state_of self.old) (state_of self.new)))) }
+        ensures refused { IfErr result (λ refusal. (v : View) → Backs (state_of self.old) v → is_planned v.sync ≡ false → v.committed < 2 ^ 62
+            → items.now ≡ v.ledger (suc v.committed) → MakesGoodVolumes items.now
+            → (refusal ≡ Refusal.NoMemory) ⊎ (IsLost v [] (state_of self.old) (state_of self.new) refusal ⊎ (refusal ≡ Refusal.NoSpace))) }
     {
-        self.planned = None;
         self.store.begin_plan();
         let flushes = self.disks_in_use(alloc)?;
         let group = self.kept.committed().saturating_add(1);
@@ -63,7 +47,7 @@ impl<D: Disk + Drop> Commit<D> {
                 self.planned = Some(Planned { volumes, flushes });
                 Ok(())
             }
-            Err(refusal) => Err(named(refusal)),
+            Err(refusal) => Err(Refusal::from(refusal)),
         }
     }
 }

@@ -1,5 +1,5 @@
 //! Reads of volumes.
-ghost use Rattle.std.specs.Prelude.{◌≡◌, ◌⊎◌, ◌↔◌, ◌+◌, ◌≤◌, ◌<◌, ◌^◌, ℕ, [], Some, None, IfOk, IfErr, length};
+ghost use Rattle.std.specs.Prelude.{◌≡◌, ◌⊎◌, ◌+◌, ◌≤◌, ◌<◌, ◌^◌, ℕ, [], Some, None, IfOk, IfErr, length};
 ghost use Rattle.pool_model.specs.declared.volume.PlainVolume.{PlainVolume};
 ghost use Rattle.pool_model.specs.Machine.{AreBytesOf};
 ghost use Rattle.pool_model.specs.Pools.{volume_at};
@@ -8,7 +8,6 @@ ghost use Rattle.pool_now.specs.NowMoves.{GroupsAreBelow};
 ghost use Rattle.pool_now.specs.Overlay.{base_of, HasRange};
 ghost use Rattle.pool_now.specs.Shapes.{shape_of};
 ghost use Rattle.block_store.specs.Blocks.{Contents};
-ghost use Rattle.block_store.specs.declared.refusal.Refusal.TheVariants as store;
 ghost use Rattle.block_store.specs.Store.{Holds};
 ghost use Rattle.group_volumes.specs.Volumes.{SpellsPool};
 ghost use Rattle.pool_model.specs.Pools.{PlainPool};
@@ -16,7 +15,7 @@ ghost use Rattle.pool_model.specs.Refusals.{read_refusal};
 ghost use Rattle.volume_blocks.specs.Reading.{OnlyReadsBlocks, AnswersAreTrue, FewAreAbsent};
 ghost use Rattle.pool_commit.specs.Backs.{Backs};
 ghost use Rattle.pool_commit.specs.StateOf.{state_of};
-ghost use Rattle.pool_commit.specs.Reading.{AreTrue, OnlyReadsPool, TooManyAreLost, HasNoCause, IsUnderCause, IsReadCause};
+ghost use Rattle.pool_commit.specs.Reading.{AreTrue, OnlyReadsPool, IsReadFault, IsLost, HasNoCause, IsUnderCause, IsReadCause};
 
 use crate::commit::Commit;
 use crate::refusal::Refusal;
@@ -26,17 +25,6 @@ use model_disk::Disk;
 use pool_model::Name;
 use pool_now::{VolumeShape, against_read};
 use std::alloc::Global;
-
-/// What a read that a volume refuses is answered.
-fn unread(refusal: block_store::Refusal) -> Refusal
-    ensures fault { (result ≡ Refusal.NoMemory) ⊎ (result ≡ Refusal.DiskFault) }
-    ensures memory { (result ≡ Refusal.NoMemory) ↔ (refusal ≡ store.NoMemory) }
-{
-    match refusal {
-        block_store::Refusal::NoMemory => Refusal::NoMemory,
-        _ => Refusal::DiskFault,
-    }
-}
 
 /// A range of one of these volumes, whose blocks were born in the group `birth` or before.
 fn read_of<D: Disk + Drop>(
@@ -50,12 +38,13 @@ fn read_of<D: Disk + Drop>(
     missing: &[usize],
 ) -> Result<Vec<u8>, Refusal>
     ensures reads { OnlyReadsBlocks store.old store.new missing.now }
-    ensures bytes { IfOk result (λ bytes. (stored : Contents) (pool : PlainPool) → Holds store.old stored → SpellsPool stored birth volumes.now pool → AnswersAreTrue store.old store.new
-        → (read_refusal offset len (volume_at name.now pool) ≡ None) × AreBytesOf pool name.now offset len bytes.items) }
+    ensures bytes { IfOk result (λ bytes. (stored : Contents) (pool : PlainPool) → Holds store.old stored → SpellsPool stored birth volumes.now pool
+        → (read_refusal offset len (volume_at name.now pool) ≡ None) × (AnswersAreTrue store.old store.new → AreBytesOf pool name.now offset len bytes.items)) }
     ensures len { IfOk result (λ bytes. length bytes.items ≡ len) }
-    ensures refused { IfErr result (λ refusal. (stored : Contents) (pool : PlainPool) → Holds store.old stored → SpellsPool stored birth volumes.now pool → AnswersAreTrue store.old store.new
+    ensures refused { IfErr result (λ refusal. (stored : Contents) (pool : PlainPool) → Holds store.old stored → SpellsPool stored birth volumes.now pool
         → (refusal ≡ Refusal.NoMemory) ⊎ (IsReadCause (read_refusal offset len (volume_at name.now pool)) refusal
-        ⊎ ((read_refusal offset len (volume_at name.now pool) ≡ None) × (refusal ≡ Refusal.DiskFault) × ¬ FewAreAbsent store.old store.new missing.now))) }
+        ⊎ ((read_refusal offset len (volume_at name.now pool) ≡ None) × IsReadFault refusal
+        × (AnswersAreTrue store.old store.new → ¬ FewAreAbsent store.old store.new missing.now)))) }
 {
     let Some(volume) = volumes.find(name) else {
         return Err(Refusal::NoSuchName);
@@ -66,7 +55,7 @@ fn read_of<D: Disk + Drop>(
     let blocks = volume.blocks();
     match blocks.read(store, alloc, birth, offset, len, missing) {
         Ok(bytes) => Ok(bytes),
-        Err(refusal) => Err(unread(refusal)),
+        Err(refusal) => Err(Refusal::from(refusal)),
     }
 }
 
@@ -82,11 +71,11 @@ impl<D: Disk + Drop> Commit<D> {
         missing: &[usize],
     ) -> Result<Vec<u8>, Refusal>
         ensures reads { OnlyReadsPool (state_of self.old) (state_of self.new) missing.now }
-        ensures bytes { IfOk result (λ bytes. (v : View) → Backs (state_of self.old) v → AreTrue (state_of self.old) (state_of self.new)
-            → HasNoCause v group name.now offset len × AreBytesOf (v.pools group) name.now offset len bytes.items) }
-        ensures refused { IfErr result (λ refusal. (v : View) → Backs (state_of self.old) v → AreTrue (state_of self.old) (state_of self.new)
+        ensures bytes { IfOk result (λ bytes. (v : View) → Backs (state_of self.old) v → HasNoCause v group name.now offset len
+            × (AreTrue (state_of self.old) (state_of self.new) → AreBytesOf (v.pools group) name.now offset len bytes.items)) }
+        ensures refused { IfErr result (λ refusal. (v : View) → Backs (state_of self.old) v
             → (refusal ≡ Refusal.NoMemory) ⊎ (IsUnderCause v group name.now offset len refusal
-            ⊎ (HasNoCause v group name.now offset len × (refusal ≡ Refusal.DiskFault) × TooManyAreLost v missing.now (state_of self.old) (state_of self.new)))) }
+            ⊎ (HasNoCause v group name.now offset len × IsLost v missing.now (state_of self.old) (state_of self.new) refusal))) }
     {
         let Some(volumes) = self.kept.volumes(group) else {
             return Err(Refusal::GroupGone);
@@ -119,9 +108,9 @@ impl<D: Disk + Drop> Commit<D> {
         ensures len { IfOk result (λ bytes. length bytes.items ≡ len) }
         ensures bytes { IfOk result (λ bytes. (v : View) (volume : PlainVolume) → Backs (state_of self.old) v → GroupsAreBelow v → AreTrue (state_of self.old) (state_of self.new)
             → volume_at name.now (now_of v) ≡ Some volume → shape_of volume ≡ shape → HasRange bytes.items (base_of v name.now volume) offset) }
-        ensures refused { IfErr result (λ refusal. (v : View) (volume : PlainVolume) → Backs (state_of self.old) v → GroupsAreBelow v → AreTrue (state_of self.old) (state_of self.new)
+        ensures refused { IfErr result (λ refusal. (v : View) (volume : PlainVolume) → Backs (state_of self.old) v → GroupsAreBelow v
             → volume_at name.now (now_of v) ≡ Some volume → shape_of volume ≡ shape
-            → (refusal ≡ Refusal.NoMemory) ⊎ ((refusal ≡ Refusal.DiskFault) × TooManyAreLost v [] (state_of self.old) (state_of self.new))) }
+            → (refusal ≡ Refusal.NoMemory) ⊎ IsLost v [] (state_of self.old) (state_of self.new) refusal) }
     {
         let committed = self.kept.committed();
         if shape.group > committed {

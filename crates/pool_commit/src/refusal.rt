@@ -5,14 +5,20 @@ use std::alloc::AllocError;
 
 #[derive(Debug, Clone, Copy, PartialEq, Eq, Drop, thiserror::Error)]
 pub enum Refusal {
-    #[error("not enough memory")]
+    #[error("out of memory")]
     NoMemory,
-    /// A block can't be read: too many columns of it are lost, or none of its copies is what was written.
-    #[error("a block of the pool is lost")]
+    /// No copy of a block could be read: of the last one more columns are lost than its vdev has parities.
+    #[error("more columns of a block are lost than it has parities")]
     DiskFault,
     /// No free run of the size that a block needs is left.
     #[error("no room for a block")]
     NoSpace,
+    /// A block is not what its volume asks.
+    #[error("a block pointer is bad")]
+    BadPointer,
+    /// No copy of a block could be read: no choice of the last one's columns has the digest.
+    #[error("a block has another digest")]
+    BadDigest,
     #[error("no volume of that name")]
     NoSuchName,
     /// The range is not within the volume, or has more than 1 MiB.
@@ -33,5 +39,39 @@ impl From<AllocError> for Refusal {
 
     fn from(_error: AllocError) -> Refusal {
         Refusal::NoMemory
+    }
+}
+
+impl From<block_store::Refusal> for Refusal {
+    ghost use Rattle.pool_commit.specs.Causes.{of_store};
+
+    ghost from_gives = { λ cause refusal. refusal ≡ of_store cause };
+
+    fn from(cause: block_store::Refusal) -> Refusal {
+        match cause {
+            block_store::Refusal::NoMemory => Refusal::NoMemory,
+            block_store::Refusal::DiskFault => Refusal::DiskFault,
+            block_store::Refusal::NoSpace => Refusal::NoSpace,
+            block_store::Refusal::BadPointer => Refusal::BadPointer,
+            block_store::Refusal::BadDigest => Refusal::BadDigest,
+            block_store::Refusal::BadConfig => Refusal::BadConfig,
+        }
+    }
+}
+
+impl From<group_volumes::Refusal> for Refusal {
+    ghost use Rattle.pool_commit.specs.Causes.{of_volumes};
+
+    ghost from_gives = { λ cause refusal. refusal ≡ of_volumes cause };
+
+    fn from(cause: group_volumes::Refusal) -> Refusal {
+        match cause {
+            group_volumes::Refusal::NoMemory => Refusal::NoMemory,
+            group_volumes::Refusal::DiskFault => Refusal::DiskFault,
+            group_volumes::Refusal::NoSpace => Refusal::NoSpace,
+            group_volumes::Refusal::BadPointer => Refusal::BadPointer,
+            group_volumes::Refusal::BadDigest => Refusal::BadDigest,
+            group_volumes::Refusal::BadConfig => Refusal::BadConfig,
+        }
     }
 }

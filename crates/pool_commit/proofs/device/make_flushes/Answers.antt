@@ -5,12 +5,12 @@ use Rattle.model_disk.specs.Call.{flush_call}
 use Rattle.block_store.specs.declared.device.FailedDisk.{FailedDisk}
 use Rattle.block_store.specs.Store.{IsOutToo}
 use Rattle.pool_model.specs.declared.step.Phase.TheVariants as phases
-use Rattle.pool_commit.specs.Making.{flushes_left, MadeCalls, FailedCall}
-use Rattle.pool_commit.proofs.Made.{none_made, one_made, one_failed, flush_made, flush_lost, below_four, err_is}
+use Rattle.pool_commit.specs.Making.{flushes_left, MadeCalls, FailedCall, FlushesMove}
+use Rattle.pool_commit.proofs.Made.{none_made, one_made, one_failed, flush_made, flush_lost, below_four, err_is, no_flushes, one_flushed}
 use Rattle.pool_commit.proofs.device.make_flushes.Goals as goal
 
 pub loop-init : goal.loop-init
-loop-init g c = (none_made c.args.store.now (flushes_left c.args.flushes.now.items) phases.BlocksFlush, refl, c.requires)
+loop-init g c = (none_made c.args.store.now (flushes_left c.args.flushes.now.items) phases.BlocksFlush, refl, c.requires, no_flushes c.args.store.now c.args.flushes.now.items)
 
 pub flush-requires : goal.flush-requires
 flush-requires g c =
@@ -39,4 +39,6 @@ loop-preserved g c =
           made.0 made.1 c.in_default-flush.ensures.out,
       c.flush.ensures.due ∙ c.loop.invariant.1,
       λ disk held. c.loop.invariant.2 disk (subst (λ (xs : List ℕ). Contains xs disk) (sym c.in-Some.ensures.items) (Contains-later c.in-Some.disk c.pop_front.new.self.items disk held)),
+      one_flushed c.flush.result c.args.store.now c.loop.store c.flush.new.self c.args.flushes.now.items c.pop_front.new.self.items c.in-Some.disk (ap is_ok c.in_default-flush.is) c.flush.ensures.call
+          (subst (λ (flushes : List ℕ). FlushesMove c.args.store.now c.loop.store c.args.flushes.now.items flushes) c.in-Some.ensures.items c.loop.invariant.3),
     )

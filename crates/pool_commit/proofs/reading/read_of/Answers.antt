@@ -1,11 +1,14 @@
-use Rattle.std.proofs.Common.{⊎_elim, inl, inr, sym, subst, rules}
+use Rattle.std.proofs.Common.{⊎_elim, inl, inr, sym, subst, rules, ◌∙◌}
+use Rattle.pool_commit.specs.declared.refusal.Refusal.{Refusal}
+use Rattle.pool_commit.specs.Reading.{IsReadFault}
+use Rattle.pool_commit.proofs.Refusing.{IsUnreadCause, unread_cause, read_fault, not_memory, is_memory}
 use Rattle.volume_blocks.specs.declared.volume.VolumeBlocks.{VolumeBlocks}
 use Rattle.volume_blocks.specs.Volume.{Spells}
 use Rattle.pool_commit.proofs.ReadCauses.{in_range, is_out_of_range, has_no_cause}
 use Rattle.pool_commit.proofs.reading.read_of.Goals as goal
 
 pub returns-then-is_some-clause-refused : goal.returns-then-is_some-clause-refused
-returns-then-is_some-clause-refused g c = λ stored pool held spells honest.
+returns-then-is_some-clause-refused g c = λ stored pool held spells.
     let there = c.in-Some.ensures.some stored c.args.birth pool spells in
     inr (inl (is_out_of_range c.args.offset c.args.len c.args.name.now pool c.shape.result c.against_read.result there.0 c.against_read.ensures there.1
     (c.shape.ensures.shape stored c.args.birth there.0 there.2) (search rules)))
@@ -19,11 +22,11 @@ pub read-requires-clause-few : goal.read-requires-clause-few
 read-requires-clause-few g c = (in_range c.args.offset c.args.len c.shape.result c.against_read.result c.against_read.ensures (search rules)).1
 
 pub returns-in-Ok-clause-bytes : goal.returns-in-Ok-clause-bytes
-returns-in-Ok-clause-bytes g c = λ stored pool held spells honest.
+returns-in-Ok-clause-bytes g c = λ stored pool held spells.
     let there = c.in-Some.ensures.some stored c.args.birth pool spells in (
       has_no_cause c.args.offset c.args.len c.args.name.now pool c.shape.result c.against_read.result there.0 c.against_read.ensures there.1
           (c.shape.ensures.shape stored c.args.birth there.0 there.2) (search rules),
-      (
+      λ honest. (
         there.0,
         there.1,
         c.in-Ok.ensures.value stored there.0.bytes held
@@ -32,14 +35,17 @@ returns-in-Ok-clause-bytes g c = λ stored pool held spells honest.
     )
 
 pub returns-in-Err-clause-refused : goal.returns-in-Err-clause-refused
-returns-in-Err-clause-refused g c = λ stored pool held spells honest.
+returns-in-Err-clause-refused g c = λ stored pool held spells.
     let there = c.in-Some.ensures.some stored c.args.birth pool spells in
     let spelled : Spells stored c.args.birth c.blocks-blocks.result.now there.0.bytes =
     subst (λ (b : VolumeBlocks). Spells stored c.args.birth b there.0.bytes) (sym c.blocks-blocks.ensures) there.2.bytes in
-    ⊎_elim inl
-    (λ fault. inr (inr (
-      has_no_cause c.args.offset c.args.len c.args.name.now pool c.shape.result c.against_read.result there.0 c.against_read.ensures there.1
-          (c.shape.ensures.shape stored c.args.birth there.0 there.2) (search rules),
-      fault,
-      λ few. let memory = c.unread.ensures.memory.1 (c.in-Err.ensures.known stored there.0.bytes held spelled honest few) in absurd (cc),
-    ))) c.unread.ensures.fault
+    let none = has_no_cause c.args.offset c.args.len c.args.name.now pool c.shape.result c.against_read.result there.0 c.against_read.ensures there.1
+    (c.shape.ensures.shape stored c.args.birth there.0 there.2) (search rules) in
+    ⊎_elim (λ memory. inl (c.from.ensures ∙ is_memory c.in-Err.refusal memory))
+    (λ unread.
+    let cause : IsUnreadCause c.in-Err.refusal = unread_cause unread in
+    inr (inr (
+      none,
+      subst (λ (r : Refusal). IsReadFault r) (sym c.from.ensures) (read_fault c.in-Err.refusal cause),
+      λ honest few. not_memory c.in-Err.refusal cause (c.in-Err.ensures.known stored there.0.bytes held spelled honest few),
+    ))) c.in-Err.ensures.refused

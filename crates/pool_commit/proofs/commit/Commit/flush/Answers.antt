@@ -8,7 +8,7 @@ use Rattle.pool_commit.specs.Backs.{left_calls}
 use Rattle.pool_commit.specs.Progress.{Progresses, GoesOn}
 use Rattle.pool_commit.specs.StateOf.{state_of}
 use Rattle.pool_model.specs.declared.step.Phase.TheVariants as phases
-use Rattle.pool_commit.proofs.Progressing.{goes_on, drops, there_still, some_or_none, few_of}
+use Rattle.pool_commit.proofs.Progressing.{goes_on, drops, next_flushes, flushes_stay, there_still, some_or_none, few_of}
 use Rattle.pool_commit.proofs.commit.Commit.flush.Goals as goal
 
 pub make_flushes-requires : goal.make_flushes-requires
@@ -31,7 +31,8 @@ returns-in-Ok-clause-goes g c v backs low =
     goes_on (state_of c.args.self.now) c.make_flushes.new.store c.args.planned later v phases.BlocksFlush (min (length c.args.planned.flushes.items) 4) c.go_on.result (state_of c.go_on.new.self)
     backs low
     (subst (λ (due : List ColumnWrite). (0 < min (length c.args.planned.flushes.items) 4) ⊎ (left_calls due c.args.planned.flushes.items ≡ [])) (sym c.requires.written) (some_or_none c.args.planned.flushes.items))
-    (few_of (length c.args.planned.flushes.items)) made refl
+    (few_of (length c.args.planned.flushes.items)) made (next_flushes (state_of c.args.self.now) c.args.planned c.requires.written)
+    (flushes_stay (state_of c.args.self.now) c.args.planned later c.make_flushes.new.store none c.in-Ok.ensures.flushed) refl
     (subst (λ (o : Option Planned). GoesOn (record { store = c.make_flushes.new.store; kept = c.args.self.now.kept; planned = o }) later phases.BlocksFlush c.go_on.result (state_of c.go_on.new.self))
     c.requires.none c.go_on.ensures)
 
@@ -41,4 +42,5 @@ returns-in-Err-clause-goes g c v backs low =
     (drops (state_of c.args.self.now) c.make_flushes.new.store c.args.planned v phases.BlocksFlush c.in-Err.failed.disk (state_of c.drop_plan.new.self) backs
     (subst (λ (due : List ColumnWrite). FailedCall c.args.self.now.store c.make_flushes.new.store (left_calls due c.args.planned.flushes.items) phases.BlocksFlush c.in-Err.failed.disk)
     (sym c.requires.written) c.in-Err.ensures.failed)
+    (next_flushes (state_of c.args.self.now) c.args.planned c.requires.written)
     c.drop_plan.ensures.store c.drop_plan.ensures.kept (c.drop_plan.ensures.planned ∙ c.requires.none))

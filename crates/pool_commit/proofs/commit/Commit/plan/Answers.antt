@@ -1,15 +1,18 @@
-use Rattle.std.proofs.Common.{ℕ, suc, ◌≡◌, ⊎_elim, inl, inr, ◌-◌, List, [], length, None, Contains, refl, sym, ap, ◌∙◌, subst, arith}
+use Rattle.std.proofs.Common.{ℕ, suc, ◌≡◌, ◌⊎◌, ⊎_elim, inl, inr, ◌-◌, List, [], length, None, Contains, refl, sym, ap, ◌∙◌, subst, arith}
 use Rattle.model_disk.specs.Joint.{Disks}
 use Rattle.raidz_io.specs.Reads.{IsHonestSince}
 use Rattle.group_volumes.specs.declared.volumes.GroupVolumes.{GroupVolumes}
 use Rattle.group_volumes.specs.Volumes.{SpellsPool}
 use Rattle.pool_model.specs.View.{Unplanned}
 use Rattle.pool_commit.specs.declared.kept.Planned.{Planned}
-use Rattle.pool_commit.specs.Reading.{TooManyAreLost}
+use Rattle.pool_commit.specs.declared.refusal.Refusal.{Refusal}
+use Rattle.pool_commit.specs.declared.refusal.Refusal.TheVariants as causes
+use Rattle.pool_commit.specs.Reading.{IsLost, TooManyAreLost}
 use Rattle.pool_commit.specs.State.{State}
 use Rattle.pool_commit.specs.StateOf.{state_of}
 use Rattle.pool_commit.proofs.Backing.{last_spelled}
-use Rattle.pool_commit.proofs.Planning.{at_error, backs_begun, backs_still, plan_is_backed}
+use Rattle.pool_commit.proofs.Planning.{at_error, backs_begun, backs_still, unplanned_still, plan_is_backed}
+use Rattle.pool_commit.proofs.Refusing.{plan_refused, no_space as is_no_space}
 use Rattle.pool_commit.proofs.Tolerating.{too_many_are_lost}
 use Rattle.pool_commit.proofs.commit.Commit.plan.Goals as goal
 
@@ -34,46 +37,45 @@ returns-in-Ok-clause-planned g c = λ v backs none few items honest.
 
 pub returns-in_err-flushes-clause-unplanned : goal.returns-in_err-flushes-clause-unplanned
 returns-in_err-flushes-clause-unplanned g c = at_error c.from_residual.result _ (λ v backs none.
-    backs_begun (state_of c.args.self.now) c.begin_plan.new.self v c.begin_plan.ensures.out c.begin_plan.ensures.shapes c.begin_plan.ensures.plans v.sync none backs)
+    unplanned_still (record { store = c.begin_plan.new.self; kept = c.args.self.now.kept; planned = None }) c.args.self.now.planned v c.requires.unplanned
+    (backs_begun (state_of c.args.self.now) c.begin_plan.new.self v c.begin_plan.ensures.out c.begin_plan.ensures.shapes c.begin_plan.ensures.plans v.sync none backs))
 
 pub returns-in-Err-clause-unplanned : goal.returns-in-Err-clause-unplanned
 returns-in-Err-clause-unplanned g c = λ v backs none.
     let begun = backs_begun (state_of c.args.self.now) c.begin_plan.new.self v c.begin_plan.ensures.out c.begin_plan.ensures.shapes c.begin_plan.ensures.plans v.sync none backs in
     let s : State = record { store = c.begin_plan.new.self; kept = c.args.self.now.kept; planned = None } in
-    backs_still s c.after_group.new.store v refl c.in-Err.ensures.kept begun
+    unplanned_still (record s { store = c.after_group.new.store }) c.args.self.now.planned v c.requires.unplanned (backs_still s c.after_group.new.store v refl c.in-Err.ensures.kept begun)
 
 pub returns-in_err-flushes-clause-dropped : goal.returns-in_err-flushes-clause-dropped
 returns-in_err-flushes-clause-dropped g c = at_error c.from_residual.result _ (λ v backs.
-    backs_begun (state_of c.args.self.now) c.begin_plan.new.self v c.begin_plan.ensures.out c.begin_plan.ensures.shapes c.begin_plan.ensures.plans Unplanned refl backs)
+    unplanned_still (record { store = c.begin_plan.new.self; kept = c.args.self.now.kept; planned = None }) c.args.self.now.planned (record v { sync = Unplanned }) c.requires.unplanned
+    (backs_begun (state_of c.args.self.now) c.begin_plan.new.self v c.begin_plan.ensures.out c.begin_plan.ensures.shapes c.begin_plan.ensures.plans Unplanned refl backs))
 
 pub returns-in-Err-clause-dropped : goal.returns-in-Err-clause-dropped
 returns-in-Err-clause-dropped g c = λ v backs.
     let begun = backs_begun (state_of c.args.self.now) c.begin_plan.new.self v c.begin_plan.ensures.out c.begin_plan.ensures.shapes c.begin_plan.ensures.plans Unplanned refl backs in
     let s : State = record { store = c.begin_plan.new.self; kept = c.args.self.now.kept; planned = None } in
-    backs_still s c.after_group.new.store (record v { sync = Unplanned }) refl c.in-Err.ensures.kept begun
+    unplanned_still (record s { store = c.after_group.new.store }) c.args.self.now.planned (record v { sync = Unplanned }) c.requires.unplanned
+    (backs_still s c.after_group.new.store (record v { sync = Unplanned }) refl c.in-Err.ensures.kept begun)
 
 pub returns-in-Err-clause-full : goal.returns-in-Err-clause-full
 returns-in-Err-clause-full g c = λ no_space.
-    let there = c.in-Err.ensures.full (c.named.ensures.space.0 no_space) in
+    let there = c.in-Err.ensures.full (is_no_space c.in-Err.refusal (sym c.from.ensures ∙ no_space)) in
     (there.0, subst (λ (volumes : GroupVolumes). Contains volumes.volumes.items there.0) c.last.ensures there.1, there.2)
 
 pub returns-in-Err-clause-refused : goal.returns-in-Err-clause-refused
-returns-in-Err-clause-refused g c = λ v backs none few items good honest.
+returns-in-Err-clause-refused g c = λ v backs none few items good.
     let begun = backs_begun (state_of c.args.self.now) c.begin_plan.new.self v c.begin_plan.ensures.out c.begin_plan.ensures.shapes c.begin_plan.ensures.plans v.sync none backs in
     let s : State = record { store = c.begin_plan.new.self; kept = c.args.self.now.kept; planned = None } in
-    let new : State = record { store = c.after_group.new.store; kept = c.args.self.now.kept; planned = None } in
+    let new : State = record { store = c.after_group.new.store; kept = c.args.self.now.kept; planned = c.args.self.now.planned } in
     let before : c.saturating_add-group.result - 1 ≡ v.committed = let same = c.committed.ensures ∙ backs.committed in omega arith in
     let spelled : SpellsPool begun.blocks.stored (c.saturating_add-group.result - 1) c.last.result.now (v.pools v.committed) =
     subst (λ (n : ℕ). SpellsPool begun.blocks.stored n c.last.result.now (v.pools v.committed)) (sym before)
     (subst (λ (volumes : GroupVolumes). SpellsPool begun.blocks.stored v.committed volumes (v.pools v.committed)) (sym c.last.ensures) (last_spelled s v begun)) in
-    let known = c.in-Err.ensures.known begun.blocks.stored (v.pools v.committed) begun.blocks.plans.held spelled good
-    (subst (λ (disks : Disks). IsHonestSince disks c.after_group.new.store.disks) (sym c.begin_plan.ensures.disks) honest) in
-    ⊎_elim inl (λ others. inr (⊎_elim inl (λ rest. inr (⊎_elim
-    (λ fault. (
-      fault,
-      subst (λ (disks : Disks). TooManyAreLost v [] (record s { store = record c.begin_plan.new.self { disks = disks } }) new) c.begin_plan.ensures.disks
-          (too_many_are_lost s new v [] begun.vdevs begun.out (λ few_absent. ⊎_elim
-          (λ memory. let e = c.named.ensures.memory.1 memory in absurd (cc))
-          (λ space. let e = c.named.ensures.space.1 space in absurd (cc)) (known few_absent))),
-    ))
-    (λ config. absurd (c.in-Err.ensures.config (c.named.ensures.config.0 config) good)) rest)) others)) c.named.ensures.few
+    subst (λ (refusal : Refusal). (refusal ≡ causes.NoMemory) ⊎ (IsLost v [] (state_of c.args.self.now) new refusal ⊎ (refusal ≡ causes.NoSpace))) (sym c.from.ensures)
+    (plan_refused v (state_of c.args.self.now) new c.in-Err.refusal (λ config. c.in-Err.ensures.config config good)
+    (λ honest not_known.
+    let honest_since = subst (λ (disks : Disks). IsHonestSince disks c.after_group.new.store.disks) (sym c.begin_plan.ensures.disks) honest in
+    subst (λ (disks : Disks). TooManyAreLost v [] (record s { store = record c.begin_plan.new.self { disks = disks } }) new) c.begin_plan.ensures.disks
+    (too_many_are_lost s new v [] begun.vdevs begun.out c.in-Err.ensures.kept.reads
+    (λ few_absent. not_known (c.in-Err.ensures.known begun.blocks.stored (v.pools v.committed) begun.blocks.plans.held spelled good honest_since few_absent)))))

@@ -33,20 +33,20 @@ returns-clause-bytes g c = IfOk-both c.read_of.result _ _ _ (λ bytes count know
     let there = known backs.blocks.stored (v.pools v.committed) backs.blocks.plans.held
     (subst (λ (volumes : GroupVolumes). SpellsPool backs.blocks.stored c.committed-committed.result volumes (v.pools v.committed)) (sym c.last.ensures)
     (subst (λ (group : ℕ). SpellsPool backs.blocks.stored group c.args.self.now.kept.last (v.pools v.committed)) (sym (c.committed-committed.ensures ∙ backs.committed))
-    (last_spelled (state_of c.args.self.now) v backs))) honest in
-    base_lies_under v c.args.name.now volume c.args.offset c.args.len bytes.items count there.1) c.read_of.ensures.len c.read_of.ensures.bytes
+    (last_spelled (state_of c.args.self.now) v backs))) in
+    base_lies_under v c.args.name.now volume c.args.offset c.args.len bytes.items count (there.1 honest)) c.read_of.ensures.len c.read_of.ensures.bytes
 
 pub returns-clause-refused : goal.returns-clause-refused
-returns-clause-refused g c = IfErr-weaker c.read_of.result _ _ (λ refusal known v volume backs below honest at shape.
+returns-clause-refused g c = IfErr-weaker c.read_of.result _ _ (λ refusal known v volume backs below at shape.
     let group = c.committed-committed.ensures ∙ backs.committed in
     let none = no_base_cause v c.args.name.now volume c.args.shape c.args.offset c.args.len below at shape (omega arith) c.requires.within c.requires.few in
     ⊎_elim inl (λ other. inr (⊎_elim
     (λ cause. absurd (no_read_cause _ refusal none cause))
     (λ fault. (
       fault.1,
-      too_many_are_lost (state_of c.args.self.now) (record (state_of c.args.self.now) { store = c.read_of.new.store }) v [] backs.vdevs backs.out fault.2,
+      λ honest. too_many_are_lost (state_of c.args.self.now) (record (state_of c.args.self.now) { store = c.read_of.new.store }) v [] backs.vdevs backs.out c.read_of.ensures.reads.reads (fault.2 honest),
     )) other))
     (known backs.blocks.stored (v.pools v.committed) backs.blocks.plans.held
     (subst (λ (volumes : GroupVolumes). SpellsPool backs.blocks.stored c.committed-committed.result volumes (v.pools v.committed)) (sym c.last.ensures)
     (subst (λ (group : ℕ). SpellsPool backs.blocks.stored group c.args.self.now.kept.last (v.pools v.committed)) (sym group)
-    (last_spelled (state_of c.args.self.now) v backs))) honest)) c.read_of.ensures.refused
+    (last_spelled (state_of c.args.self.now) v backs))))) c.read_of.ensures.refused

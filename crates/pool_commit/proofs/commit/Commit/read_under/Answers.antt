@@ -16,19 +16,22 @@ pub returns-clause-reads : goal.returns-clause-reads
 returns-clause-reads g c = only_reads (state_of c.args.self.now) c.read_of.new.store c.args.missing.now c.read_of.ensures.reads
 
 pub returns-clause-bytes : goal.returns-clause-bytes
-returns-clause-bytes g c = IfOk-weaker c.read_of.result _ _ (λ bytes known v backs honest.
+returns-clause-bytes g c = IfOk-weaker c.read_of.result _ _ (λ bytes known v backs.
     let kept = kept_spelled (state_of c.args.self.now) v c.args.group c.in-Some.volumes.now backs (search rules) in
-    let there = known backs.blocks.stored (v.pools c.args.group) backs.blocks.plans.held kept.1 honest in
+    let there = known backs.blocks.stored (v.pools c.args.group) backs.blocks.plans.held kept.1 in
     (under_kept v c.args.group c.args.name.now c.args.offset c.args.len kept.0 ∙ there.0, there.1)) c.read_of.ensures.bytes
 
 pub returns-clause-refused : goal.returns-clause-refused
-returns-clause-refused g c = IfErr-weaker c.read_of.result _ _ (λ refusal known v backs honest.
+returns-clause-refused g c = IfErr-weaker c.read_of.result _ _ (λ refusal known v backs.
     let kept = kept_spelled (state_of c.args.self.now) v c.args.group c.in-Some.volumes.now backs (search rules) in
     ⊎_elim inl (λ other. inr (⊎_elim
     (λ cause. inl (under_cause v c.args.group c.args.name.now c.args.offset c.args.len refusal kept.0 cause))
     (λ fault. inr (
       under_kept v c.args.group c.args.name.now c.args.offset c.args.len kept.0 ∙ fault.0,
-      fault.1,
-      too_many_are_lost (state_of c.args.self.now) (record (state_of c.args.self.now) { store = c.read_of.new.store }) v c.args.missing.now backs.vdevs backs.out fault.2,
+      (
+        fault.1,
+        λ honest. too_many_are_lost (state_of c.args.self.now) (record (state_of c.args.self.now) { store = c.read_of.new.store }) v c.args.missing.now backs.vdevs backs.out
+            c.read_of.ensures.reads.reads (fault.2 honest),
+      ),
     )) other))
-    (known backs.blocks.stored (v.pools c.args.group) backs.blocks.plans.held kept.1 honest)) c.read_of.ensures.refused
+    (known backs.blocks.stored (v.pools c.args.group) backs.blocks.plans.held kept.1)) c.read_of.ensures.refused
