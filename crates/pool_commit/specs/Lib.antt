@@ -8,3 +8,4 @@ pub mod Making
 pub mod Progress
 pub mod Reading
 pub mod Causes
+pub mod Room

@@ -1,16 +1,14 @@
 //! The plan of a group.
-ghost use Rattle.std.specs.Prelude.{[], ◌≡◌, ◌⊎◌, ◌<◌, ◌/◌, ◌^◌, ℕ, suc, List, None, false, Contains, OnOk, OnErr, IfErr};
+ghost use Rattle.std.specs.Prelude.{[], ◌≡◌, ◌⊎◌, ◌<◌, ◌^◌, ℕ, suc, List, None, false, OnOk, OnErr, IfErr};
 ghost use Rattle.raidz_io.specs.Reads.{OnlyReads, AreUntouched};
 ghost use Rattle.block_store.specs.Store.{outs};
-ghost use Rattle.group_volumes.specs.declared.volumes.NamedVolume.{NamedVolume};
 ghost use Rattle.pool_model.specs.View.{View, DueCall, Unplanned, Left, is_planned};
 ghost use Rattle.pool_model.specs.Machine.{IsPlan};
 ghost use Rattle.pool_now.specs.GoodChanges.{MakesGoodVolumes};
-ghost use Rattle.volume_blocks.specs.Volume.{block_size_of};
-ghost use Rattle.volume_blocks.specs.Writing.{HasNoRoom};
 ghost use Rattle.pool_commit.specs.Backs.{Backs};
 ghost use Rattle.pool_commit.specs.StateOf.{state_of};
 ghost use Rattle.pool_commit.specs.Reading.{AreTrue, IsLost};
+ghost use Rattle.pool_commit.specs.Room.{LacksRoom};
 
 use crate::commit::Commit;
 use crate::kept::Planned;
@@ -30,7 +28,7 @@ impl<D: Disk + Drop> Commit<D> {
         ensures dropped { OnErr result ((v : View) → Backs (state_of self.old) v → Backs (state_of self.new) (record v { sync = Unplanned })) }
         ensures planned { OnOk result ((v : View) → Backs (state_of self.old) v → is_planned v.sync ≡ false → v.committed < 2 ^ 62 → items.now ≡ v.ledger (suc v.committed) → AreTrue (state_of self.old) (state_of self.new)
             → (calls : List DueCall) × IsPlan v calls × Backs (state_of self.new) (record v { sync = Left calls })) }
-        ensures full { IfErr result (λ refusal. refusal ≡ Refusal.NoSpace → (named : NamedVolume) × Contains self.new.kept.last.volumes.items named × HasNoRoom self.new.store.spaces (block_size_of named.blocks / 512)) }
+        ensures full { IfErr result (λ refusal. refusal ≡ Refusal.NoSpace → LacksRoom (state_of self.new)) }
         ensures refused { IfErr result (λ refusal. (v : View) → Backs (state_of self.old) v → is_planned v.sync ≡ false → v.committed < 2 ^ 62
             → items.now ≡ v.ledger (suc v.committed) → MakesGoodVolumes items.now
             → (refusal ≡ Refusal.NoMemory) ⊎ (IsLost v [] (state_of self.old) (state_of self.new) refusal ⊎ (refusal ≡ Refusal.NoSpace))) }

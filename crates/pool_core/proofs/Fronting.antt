@@ -1,28 +1,29 @@
 -- Steps that touch no disk.
-use Rattle.std.proofs.Common.{◌≡◌, ◌⊎◌, ℕ, suc, Bool, true, false, true≢false, List, [], ◌∷◌, Option, Some, None, refl, sym, ap, ◌∙◌, subst, inl, inr}
-use Rattle.std.specs.Prelude.{is_some, not, nat_le, nat_lt, ◌&&◌, if◌then◌else◌}
+use Rattle.std.proofs.Common.{◌≡◌, ◌⊎◌, ⊎_elim, ℕ, suc, Bool, true, false, true≢false, List, [], ◌∷◌, Option, Some, None, refl, sym, ap, ◌∙◌, subst, inl, inr}
+use Rattle.std.specs.Prelude.{Contains, filter, is_some, not, nat_le, nat_lt, ◌&&◌, if◌then◌else◌}
 use Rattle.block_store.specs.Blocks.{Contents}
 use Rattle.group_volumes.specs.Volumes.{SpellsPool}
 use Rattle.pool_model.specs.declared.refusal.Refusal.TheVariants as causes
 use Rattle.pool_model.specs.declared.refusal.Refusal.{Refusal as Cause}
 use Rattle.pool_model.specs.declared.step.Step.{Step}
-use Rattle.pool_model.specs.declared.step.Step.TheVariants.{Hold, Close, Quiesce, Plan, Device}
+use Rattle.pool_model.specs.declared.step.Step.TheVariants.{Hold, Write, Act, Release, Close, Quiesce, Plan, Device, Read, ReadUnder}
 use Rattle.pool_model.specs.declared.step.Reply.{Reply}
-use Rattle.pool_model.specs.declared.step.Reply.TheVariants.{Refused}
+use Rattle.pool_model.specs.declared.step.Reply.TheVariants.{Held, Committed, Refused}
 use Rattle.pool_model.specs.Pools.{PlainPool, applied}
-use Rattle.pool_model.specs.View.{View, Given, DueCall, Sync, is_syncing, is_planned, is_kept, is_suspended, is_quiescing, is_held, hold_group, open_group, waiting_group}
+use Rattle.pool_model.specs.View.{View, Given, DueCall, nothing_given, disks_of, disks_in_use, Sync, is_syncing, is_planned, is_kept, is_suspended, is_quiescing, is_held, hold_group, open_group, waiting_group}
 use Rattle.pool_model.specs.Refusals.{greatest, first_cause, or_else, may_plan, refusal_of}
-use Rattle.pool_model.specs.Machine.{StepOf}
+use Rattle.pool_model.specs.Machine.{StepOf, Granted}
+use Rattle.pool_model.proofs.Plans.{nothing_quiet, may_nothing}
 use Rattle.pool_intake.specs.declared.intake.Intake.{Intake}
 use Rattle.pool_intake.specs.Follows.{Follows, KeepsCommitted, Steps as IntakeSteps, StepsUnlessSuspended}
 use Rattle.pool_commit.specs.declared.kept.Planned.{Planned}
 use Rattle.pool_commit.specs.Backs.{Backs, IsPlanOf, SpellsKept, kept_pool, pool_after}
-use Rattle.pool_commit.specs.Calls.{made_between, faults_between, given_between}
+use Rattle.pool_commit.specs.Calls.{fault_call, unread_call, made_between, unread_between}
 use Rattle.pool_commit.specs.State.{State, volumes_at}
-use Rattle.pool_commit.proofs.Made.{made_by_none}
+use Rattle.pool_commit.proofs.Made.{made_by_none, told_by_none}
 use Rattle.pool_core.specs.Represents.{Represents}
-use Rattle.pool_core.specs.State.{CoreState, disks_of}
-use Rattle.pool_core.specs.Steps.{IsGiven, TellsCalls, Goes}
+use Rattle.pool_core.specs.State.{CoreState, disks_of as core_disks}
+use Rattle.pool_core.specs.Steps.{IsGiven, AreFlushed, is_barred, Goes}
 
 -- ---- what backs a view backs one with the same disks and groups
 
@@ -34,12 +35,16 @@ made_kept : (v w : View) → KeepsCommitted v w → is_syncing v.sync ≡ true �
 made_kept v w k syncs =
     (λ i. applied (suc (k.committed i)) (k.pools i (k.committed i)) ((ap w.ledger (ap suc k.committed) ∙ k.synced syncs) i))
 
+in_use_kept : (v w : View) → KeepsCommitted v w → disks_in_use w ≡ disks_in_use v
+in_use_kept v w k = λ i. filter (λ disk. not (k.out i disk)) (disks_of (k.vdevs i))
+
 plan_kept : (s : State) (planned : Contents) (plan : Option Planned) (v w : View) → KeepsCommitted v w → IsPlanOf s planned plan v → IsPlanOf s planned plan w
 plan_kept s planned None v w k is = ap is_planned k.sync ∙ is
 plan_kept s planned (Some plan) v w k is = (
   k.sync ∙ is.0,
   subst (λ (p : PlainPool). SpellsPool planned (suc w.committed) plan.volumes p) (sym (made_kept v w k (ap is_syncing is.0)))
       (subst (λ c. SpellsPool planned (suc c) plan.volumes (pool_after v)) (sym k.committed) is.1),
+  λ disk in_use. is.2 disk (subst (λ (disks : List ℕ). Contains disks disk) (in_use_kept v w k) in_use),
 )
 
 pub backs_kept : (s : State) (v w : View) → KeepsCommitted v w → Backs s v → Backs s w
@@ -58,33 +63,58 @@ backs_kept s v w k backs = record {
 
 -- ---- nothing was called
 
-pub none_given : (s : CoreState) (intake : Intake) → IsGiven s (record s { intake = intake }) (given_between (disks_of s) (disks_of s) false)
-none_given s intake = record { failed = refl; full = λ e. absurd (true≢false (sym e)) }
+pub nothing_is_given : (s : CoreState) (intake : Intake) → IsGiven s (record s { intake = intake }) nothing_given
+nothing_is_given s intake = record {
+  made = sym (made_by_none (core_disks s));
+  fault = sym (told_by_none fault_call (core_disks s));
+  unread = sym (told_by_none unread_call (core_disks s));
+  full = λ e. absurd (true≢false (sym e));
+}
+
+-- a step that no disk is called for
+abbrev pub IsFrontStep : Step → Type 0
+IsFrontStep Device = ⊥
+IsFrontStep step = Unit {0}
+
+-- only a Device step commits
+granted_commits_none : (v : View) (given : Given) (step : Step) (group : ℕ) (w : View) → IsFrontStep step → Granted v given step (Committed group) w → ⊥
+granted_commits_none v given Device group w is g = is
+granted_commits_none v given (Hold writer) group w is g = g
+granted_commits_none v given step group w is g = g
+
+pub front_commits_none : (v : View) (given : Given) (step : Step) (reply : Reply) (w : View) (new : CoreState) → IsFrontStep step → StepOf v given step reply w → AreFlushed reply w new
+front_commits_none v given step (Committed group) w new is s = absurd (⊎_elim (λ r. let e = r.answer in cc) (λ o. ⊎_elim (λ l. let e = l.answer in cc) (λ g. granted_commits_none v given step group w is g.granted) o) s)
+front_commits_none v given step (Held group) w new is s = tt
+front_commits_none v given step reply w new is s = tt
 
 -- a step of the intake
-pub front : (s : CoreState) (intake : Intake) (v : View) (step : Step) (reply : Reply) → Represents s v
-    → ((w : View) (made : List DueCall) → made ≡ [] → TellsCalls v step reply w made)
-    → (w : View) × StepOf v (given_between (disks_of s) (disks_of s) false) step reply w × Follows intake w × KeepsCommitted v w
-    → Goes s v step reply (record s { intake = intake })
-front s intake v step reply r tells goes = record {
-  given = given_between (disks_of s) (disks_of s) false;
-  is_given = none_given s intake;
+pub front : (s : CoreState) (intake : Intake) (v : View) (trusted : Bool) (step : Step) (reply : Reply) → Represents s v → IsFrontStep step
+    → (w : View) × StepOf v nothing_given step reply w × Follows intake w × KeepsCommitted v w
+    → Goes s v trusted step reply (record s { intake = intake })
+front s intake v trusted step reply r is_front goes = record {
+  given = nothing_given;
+  trust = λ e. refl;
   after = goes.0;
-  is_step = goes.1;
-  calls = tells goes.0 (made_between (disks_of s) (disks_of s)) (made_by_none (disks_of s));
-  represents = record { follows = goes.2; backs = backs_kept s.commit v goes.0 goes.3 r.backs };
+  link = record {
+    is_given = nothing_is_given s intake;
+    is_step = goes.1;
+    represents = record { follows = goes.2; backs = backs_kept s.commit v goes.0 goes.3 r.backs };
+    flushed = front_commits_none v nothing_given step reply goes.0 (record s { intake = intake }) is_front goes.1;
+  };
 }
 
 -- a step that is refused for its first cause
-pub refused : (s : CoreState) (v : View) (step : Step) (cause : Cause) → Represents s v → refusal_of v step ≡ Some cause
-    → ((made : List DueCall) → made ≡ [] → TellsCalls v step (Refused cause) v made) → Goes s v step (Refused cause) s
-refused s v step cause r first tells = record {
-  given = given_between (disks_of s) (disks_of s) false;
-  is_given = none_given s s.intake;
+pub refused : (s : CoreState) (v : View) (trusted : Bool) (step : Step) (cause : Cause) → Represents s v → refusal_of v step ≡ Some cause → Goes s v trusted step (Refused cause) s
+refused s v trusted step cause r first = record {
+  given = nothing_given;
+  trust = λ e. refl;
   after = v;
-  is_step = inl (record { cause = cause; first = first; answer = refl; unchanged = refl });
-  calls = tells (made_between (disks_of s) (disks_of s)) (made_by_none (disks_of s));
-  represents = r;
+  link = record {
+    is_given = nothing_is_given s s.intake;
+    is_step = inl (record { cause = cause; first = first; answer = refl; unchanged = refl; quiet = nothing_quiet; calls = may_nothing step });
+    represents = r;
+    flushed = tt;
+  };
 }
 
 -- the pool is suspended: the first of the tests
@@ -96,17 +126,24 @@ suspended_else v rest e = ap (λ o. or_else o rest) (suspended v [] e)
 
 -- ---- the pool is suspended, step by step
 
-pub hold_suspended : (v : View) (writer : ℕ) → is_suspended v ≡ true → refusal_of v (Hold writer) ≡ Some causes.Suspended
-hold_suspended v writer e = suspended v ((is_some (hold_group writer v.holds), causes.AlreadyHeld) ∷ []) e
+pub barred : (v : View) (step : Step) → is_barred step ≡ true → is_suspended v ≡ true → refusal_of v step ≡ Some causes.Suspended
+barred v (Hold writer) b e = suspended v ((is_some (hold_group writer v.holds), causes.AlreadyHeld) ∷ []) e
+barred v (Write write) b e = suspended_else v _ e
+barred v (Act action) b e = suspended_else v _ e
+barred v Close b e = suspended v ((is_some v.waiting, causes.NotNow) ∷ (nat_le greatest (open_group v), causes.NotNow) ∷ []) e
+barred v Quiesce b e = suspended v ((not (is_quiescing v.waiting), causes.NotNow) ∷ (is_held (waiting_group v) v.holds, causes.NotNow) ∷ []) e
+barred v (Plan timestamp) b e = suspended v ((not (may_plan v), causes.NotNow) ∷ []) e
+barred v Device b e = suspended v ((not (is_planned v.sync), causes.NotNow) ∷ []) e
+barred v (Release writer) b e = absurd (true≢false (sym b))
+barred v (Read name offset len) b e = absurd (true≢false (sym b))
+barred v (ReadUnder group name offset len) b e = absurd (true≢false (sym b))
 
-pub close_suspended : (v : View) → is_suspended v ≡ true → refusal_of v Close ≡ Some causes.Suspended
-close_suspended v e = suspended v ((is_some v.waiting, causes.NotNow) ∷ (nat_le greatest (open_group v), causes.NotNow) ∷ []) e
+-- the pool is not suspended, where a step that would be barred is taken
+pub not_barred : (barred suspended : Bool) → barred ≡ true → (barred && suspended) ≡ false → suspended ≡ false
+not_barred true suspended b e = e
+not_barred false suspended b e = absurd (true≢false (sym b))
 
-pub quiesce_suspended : (v : View) → is_suspended v ≡ true → refusal_of v Quiesce ≡ Some causes.Suspended
-quiesce_suspended v e = suspended v ((not (is_quiescing v.waiting), causes.NotNow) ∷ (is_held (waiting_group v) v.holds, causes.NotNow) ∷ []) e
-
-pub plan_suspended : (v : View) (timestamp : ℕ) → is_suspended v ≡ true → refusal_of v (Plan timestamp) ≡ Some causes.Suspended
-plan_suspended v timestamp e = suspended v ((not (may_plan v), causes.NotNow) ∷ []) e
-
-pub device_suspended : (v : View) → is_suspended v ≡ true → refusal_of v Device ≡ Some causes.Suspended
-device_suspended v e = suspended v ((not (is_planned v.sync), causes.NotNow) ∷ []) e
+pub is_barred_then : (barred suspended : Bool) → (barred && suspended) ≡ true → (barred ≡ true) × (suspended ≡ true)
+is_barred_then true true e = (refl, refl)
+is_barred_then true false e = absurd (true≢false (sym e))
+is_barred_then false suspended e = absurd (true≢false (sym e))

@@ -1,68 +1,107 @@
 -- Plans and device calls as steps of the machine.
-use Rattle.std.proofs.Common.{◌≡◌, ◌⊎◌, ℕ, suc, ◌+◌, ◌≤◌, ◌<◌, ◌^◌, Bool, true, false, true≢false, List, [], ◌∷◌, ◌++◌, length, Option, Some, None, refl, sym, ap, ◌∙◌, subst, arith, inl, inr}
+use Rattle.std.proofs.Common.{◌≡◌, ◌⊎◌, ⊎_elim, ℕ, suc, ◌+◌, ◌≤◌, ◌<◌, ◌^◌, Bool, true, false, true≢false, List, [], ◌∷◌, ◌++◌, length, Option, Some, None, refl, sym, ap, ◌∙◌, subst, arith, inl, inr}
 use Rattle.std.specs.Prelude.{◌&&◌, ◌||◌, min, is_some, not, nat_le, if◌then◌else◌}
 use Rattle.std.proofs.lemmas.List.{append-nil}
 use Rattle.std.proofs.lemmas.Bool.Decides.{nat_tests}
 use Rattle.model_disk.specs.Call.{Call, Read, FailedRead, Wrote, FailedWrite, Flushed, FailedFlush}
 use Rattle.model_disk.specs.Joint.{Disks, JointCall}
 use Rattle.raidz_io.specs.Reads.{IsRead, AreReads, OnlyReads}
-use Rattle.group_volumes.specs.declared.volumes.NamedVolume.{NamedVolume}
 use Rattle.pool_model.specs.declared.refusal.Refusal.TheVariants as causes
 use Rattle.pool_model.specs.declared.refusal.Refusal.{Refusal as Cause}
 use Rattle.pool_model.specs.declared.step.Phase.{Phase}
 use Rattle.pool_model.specs.declared.step.Step.TheVariants.{Plan, Device}
 use Rattle.pool_model.specs.declared.step.Reply.{Reply}
 use Rattle.pool_model.specs.declared.step.Reply.TheVariants.{Planned, Moved, Replan, Committed, Refused}
-use Rattle.pool_model.specs.View.{View, Given, DueCall, Sync, Unplanned, Left, is_syncing, is_planned, is_quiesced, is_suspended, is_tolerable, is_readable, open_after, waiting_after}
+use Rattle.pool_model.specs.View.{View, Given, DueCall, nothing_given, Sync, Unplanned, Left, is_syncing, is_planned, is_quiesced, is_suspended, is_tolerable, is_readable, open_after, waiting_after}
 use Rattle.pool_model.specs.Flow.{flow_of, opened}
 use Rattle.pool_model.specs.Refusals.{greatest, first_cause, refusal_of}
-use Rattle.pool_model.specs.Machine.{StepOf, IsPlan, MakesAll, taken, committed_next, dropped, without_memory}
+use Rattle.pool_model.specs.Machine.{StepOf, IsPlan, IsQuiet, FailsOn, IsReadCause, IsUnreadable, due, taken, committed_next, dropped}
+use Rattle.pool_model.proofs.Plans.{nothing_quiet}
 use Rattle.pool_intake.specs.declared.intake.Intake.{Intake}
 use Rattle.pool_intake.specs.Follows.{Follows}
 use Rattle.pool_intake.proofs.Stepping.{followed}
 use Rattle.pool_commit.specs.declared.device.Progress.TheVariants as progress
 use Rattle.pool_commit.specs.declared.kept.Planned.{Planned as PlannedGroup}
 use Rattle.pool_commit.specs.Backs.{Backs, IsPlanOf}
-use Rattle.pool_commit.specs.Calls.{due_call, made_since, made_between, faults_between, given_between, GrewTo}
+use Rattle.pool_commit.specs.Calls.{due_call, fault_call, unread_call, told_since, made_between, faults_between, unread_between, GrewTo}
 use Rattle.pool_commit.specs.Progress.{Progresses}
-use Rattle.pool_commit.specs.Reading.{TooManyAreLost}
+use Rattle.pool_commit.specs.Reading.{IsReadFault, IsLost}
+use Rattle.pool_commit.specs.Room.{LacksRoom}
 use Rattle.pool_commit.specs.State.{State}
-use Rattle.pool_commit.proofs.Made.{made_by_none}
+use Rattle.pool_commit.proofs.Made.{told_by_none}
 use Rattle.pool_commit.specs.declared.refusal.Refusal.{Refusal}
-use Rattle.pool_commit.specs.declared.refusal.Refusal.TheVariants.{NoMemory, NoSpace, DiskFault}
+use Rattle.pool_commit.specs.declared.refusal.Refusal.TheVariants.{NoMemory, NoSpace}
 use Rattle.pool_core.specs.Causes.{cause_of}
 use Rattle.pool_core.specs.Represents.{Represents}
 use Rattle.pool_core.specs.State.{CoreState, disks_of}
-use Rattle.pool_core.specs.Steps.{IsFull, IsGiven, Goes}
+use Rattle.pool_core.specs.Steps.{AreTrue, fault_list, IsGiven, Goes}
+use Rattle.pool_core.proofs.Fronting.{nothing_is_given}
 
 -- ---- reads are no calls of a plan
 
-none_due : (disk : ℕ) (call : Call) → IsRead call → due_call disk call ≡ []
-none_due disk (Read at bytes) is = refl
-none_due disk (FailedRead at n) is = refl
-none_due disk (Wrote at bytes) is = absurd is
-none_due disk (FailedWrite at bytes) is = absurd is
-none_due disk Flushed is = absurd is
-none_due disk FailedFlush is = absurd is
-
-no_reads : (n : ℕ) (newer calls : List JointCall) → AreReads newer → made_since n (newer ++ calls) ≡ made_since n calls
-no_reads n [] calls are = refl
-no_reads n (made ∷ newer) calls are =
-    ap (λ xs. made_since n (newer ++ calls) ++ (if nat_le n (length (newer ++ calls)) then xs else [])) (none_due made.which made.call are.0)
-    ∙ none_more (nat_le n (length (newer ++ calls))) (made_since n (newer ++ calls)) ∙ no_reads n newer calls are.1
+tells_none : {A : Type 0} (tells : ℕ → Call → List A) (n : ℕ) (newer calls : List JointCall) → ((disk : ℕ) (call : Call) → IsRead call → tells disk call ≡ []) → AreReads newer
+    → told_since tells n (newer ++ calls) ≡ told_since tells n calls
+tells_none tells n [] calls none are = refl
+tells_none tells n (made ∷ newer) calls none are =
+    ap (λ xs. told_since tells n (newer ++ calls) ++ (if nat_le n (length (newer ++ calls)) then xs else [])) (none made.which made.call are.0)
+    ∙ none_more (nat_le n (length (newer ++ calls))) (told_since tells n (newer ++ calls)) ∙ tells_none tells n newer calls none are.1
   where
-    none_more : (b : Bool) (xs : List DueCall) → xs ++ (if b then [] else []) ≡ xs
+    none_more : {A : Type 0} (b : Bool) (xs : List A) → xs ++ (if b then [] else []) ≡ xs
     none_more true xs = append-nil xs
     none_more false xs = append-nil xs
 
-pub only_reads : (old new : Disks) → OnlyReads old new → made_between old new ≡ []
-only_reads old new reads = ap (made_since (length old.calls)) reads.calls ∙ no_reads (length old.calls) reads.newer old.calls reads.are_reads ∙ made_by_none old
+not_due : (disk : ℕ) (call : Call) → IsRead call → due_call disk call ≡ []
+not_due disk (Read at bytes) is = refl
+not_due disk (FailedRead at n) is = refl
+not_due disk (Wrote at bytes) is = absurd is
+not_due disk (FailedWrite at bytes) is = absurd is
+not_due disk Flushed is = absurd is
+not_due disk FailedFlush is = absurd is
+
+no_fault : (disk : ℕ) (call : Call) → IsRead call → fault_call disk call ≡ []
+no_fault disk (Read at bytes) is = refl
+no_fault disk (FailedRead at n) is = refl
+no_fault disk (Wrote at bytes) is = absurd is
+no_fault disk (FailedWrite at bytes) is = absurd is
+no_fault disk Flushed is = absurd is
+no_fault disk FailedFlush is = absurd is
+
+told_by_reads : {A : Type 0} (tells : ℕ → Call → List A) (old new : Disks) → ((disk : ℕ) (call : Call) → IsRead call → tells disk call ≡ []) → OnlyReads old new
+    → told_since tells (length old.calls) new.calls ≡ []
+told_by_reads tells old new none reads =
+    ap (told_since tells (length old.calls)) reads.calls ∙ tells_none tells (length old.calls) reads.newer old.calls none reads.are_reads ∙ told_by_none tells old
 
 pub reads_grow : (old new : Disks) → OnlyReads old new → GrewTo old new
 reads_grow old new reads = record { starts = reads.starts; newer = reads.newer; calls = reads.calls }
 
-pub given_none : (old new : CoreState) → IsGiven old new (given_between (disks_of old) (disks_of new) false)
-given_none old new = record { failed = refl; full = λ e. absurd (true≢false (sym e)) }
+-- where nothing was done but reads
+abbrev pub given_by_reads : CoreState → CoreState → Bool → Bool → Given
+given_by_reads old new trusted full = record { made = []; fault = None; unread = unread_between (disks_of old) (disks_of new); trusted = trusted; full = full }
+
+pub reads_are_given : (old new : CoreState) (trusted full : Bool) → OnlyReads (disks_of old) (disks_of new) → (full ≡ true → LacksRoom new.commit) → IsGiven old new (given_by_reads old new trusted full)
+reads_are_given old new trusted full reads room = record {
+  made = sym (told_by_reads due_call (disks_of old) (disks_of new) not_due reads);
+  fault = sym (told_by_reads fault_call (disks_of old) (disks_of new) no_fault reads);
+  unread = refl;
+  full = room;
+}
+
+pub reads_quiet : (old new : CoreState) (trusted full : Bool) → IsQuiet (given_by_reads old new trusted full)
+reads_quiet old new trusted full = record { made = refl; fault = refl }
+
+-- what could not be read, of a view
+pub unreadable : (v : View) (old new : CoreState) (trusted full : Bool) (refusal : Refusal) → IsLost v [] old.commit new.commit refusal → (trusted ≡ true → AreTrue old new)
+    → IsUnreadable v (given_by_reads old new trusted full) (cause_of refusal)
+unreadable v old new trusted full refusal lost honest = (is_cause refusal lost.0, why trusted honest)
+  where
+    is_cause : (refusal : Refusal) → IsReadFault refusal → IsReadCause (cause_of refusal)
+    is_cause refusal is = ⊎_elim
+        (λ e. inl (ap cause_of e))
+        (λ o. ⊎_elim (λ e. inr (inl (ap cause_of e))) (λ e. inr (inr (inl (ap cause_of e)))) o) is
+
+    why : (t : Bool) → (t ≡ true → AreTrue old new) → (is_readable v (given_by_reads old new t full) ≡ false) ⊎ (t ≡ false)
+    why true honest = inl (lost.1 (honest refl))
+    why false honest = inr refl
 
 -- ---- how far the group that is synced is
 
@@ -99,63 +138,86 @@ device_early v s p = both (is_suspended v) (is_planned v.sync) s p
     both false true x y = absurd (true≢false y)
     both true b x y = absurd (true≢false x)
 
-pub moves : (s : CoreState) (commit : State) (v : View) (phase : Phase) → Represents s v → is_suspended v ≡ false → Progresses s.commit (progress.Moved phase) commit v
-    → Goes s v Device (Moved phase) (record s { commit = commit })
-moves s commit v phase r free p =
+-- the calls of a Device step
+abbrev device_given : CoreState → CoreState → Option DueCall → Bool → Given
+device_given old new fault trusted = record { made = made_between (disks_of old) (disks_of new); fault = fault; unread = []; trusted = trusted; full = false }
+
+device_is_given : (old new : CoreState) (fault : Option DueCall) (trusted : Bool) → faults_between (disks_of old) (disks_of new) ≡ fault_list fault → unread_between (disks_of old) (disks_of new) ≡ []
+    → IsGiven old new (device_given old new fault trusted)
+device_is_given old new fault trusted faults unread = record { made = refl; fault = sym faults; unread = sym unread; full = λ e. absurd (true≢false (sym e)) }
+
+pub moves : (s : CoreState) (commit : State) (v : View) (trusted : Bool) (phase : Phase) → Represents s v → is_suspended v ≡ false → Progresses s.commit (progress.Moved phase) commit v
+    → Goes s v trusted Device (Moved phase) (record s { commit = commit })
+moves s commit v trusted phase r free p =
     let new : CoreState = record s { commit = commit } in
     record {
-      given = given_between (disks_of s) (disks_of new) false;
-      is_given = given_none s new;
-      after = record v { sync = Left p.0 };
-      is_step = inr (inr (record {
-        none = device_free v free (ap is_planned p.1);
-        granted = (made_between (disks_of s) (disks_of new) ++ p.0, made_between (disks_of s) (disks_of new), p.0, p.1, p.2, p.3, p.4, refl);
-      }));
-      calls = (p.0, p.1, refl);
-      represents = record { follows = follows_on s.intake v (Left p.0) v.out r.follows (ap is_syncing p.1) refl; backs = p.5 };
+      given = device_given s new None true;
+      trust = λ e. refl;
+      after = record v { sync = Left p.1 };
+      link = record {
+        is_given = device_is_given s new None true p.5 p.6;
+        is_step = inr (inr (record { none = device_free v free (ap is_planned p.2); granted = (p.0, p.1, p.2, p.3, p.4, refl, refl); calls = refl }));
+        represents = record { follows = follows_on s.intake v (Left p.1) v.out r.follows (ap is_syncing p.2) refl; backs = p.7 };
+        flushed = tt;
+      };
     }
 
-pub commits : (s : CoreState) (intake : Intake) (commit : State) (v : View) (reply : Reply) → Represents s v → is_suspended v ≡ false → Progresses s.commit progress.Done commit v
-    → reply ≡ Committed (suc v.committed) → Follows intake (committed_next v) → Goes s v Device reply (record { intake = intake; commit = commit })
-commits s intake commit v reply r free p is f =
+pub commits : (s : CoreState) (intake : Intake) (commit : State) (v : View) (trusted : Bool) (reply : Reply) → Represents s v → is_suspended v ≡ false → Progresses s.commit progress.Done commit v
+    → reply ≡ Committed (suc v.committed) → Follows intake (committed_next v) → Goes s v trusted Device reply (record { intake = intake; commit = commit })
+commits s intake commit v trusted reply r free p is f =
     let new : CoreState = record { intake = intake; commit = commit } in
-    subst (λ (x : Reply). Goes s v Device x new) (sym is) (record {
-      given = given_between (disks_of s) (disks_of new) false;
-      is_given = given_none s new;
+    subst (λ (x : Reply). Goes s v trusted Device x new) (sym is) (record {
+      given = device_given s new None true;
+      trust = λ e. refl;
       after = committed_next v;
-      is_step = inr (inr (record { none = device_free v free (ap is_planned p.0); granted = (refl, made_between (disks_of s) (disks_of new), p.0, p.1, p.2, refl) }));
-      calls = p.0;
-      represents = record { follows = f; backs = p.3 };
+      link = record {
+        is_given = device_is_given s new None true p.3 p.4;
+        is_step = inr (inr (record { none = device_free v free (ap is_planned p.1); granted = (refl, p.0, p.1, p.2, refl, refl); calls = refl }));
+        represents = record { follows = f; backs = p.6 };
+        flushed = p.5;
+      };
     })
 
-pub drops : (s : CoreState) (commit : State) (v : View) (disk : ℕ) (reply : Reply) → Represents s v → is_suspended v ≡ false → Progresses s.commit (progress.Dropped disk) commit v
-    → ((w : View) → Backs commit w → reply ≡ (if is_suspended w then Refused causes.Suspended else Replan disk)) → Goes s v Device reply (record s { commit = commit })
-drops s commit v disk reply r free p is = go (is_suspended (dropped v disk)) refl (is (dropped v disk) p.3)
+pub drops : (s : CoreState) (commit : State) (v : View) (trusted : Bool) (disk : ℕ) (reply : Reply) → Represents s v → is_suspended v ≡ false → Progresses s.commit (progress.Dropped disk) commit v
+    → ((w : View) → Backs commit w → reply ≡ (if is_suspended w then Refused causes.Suspended else Replan disk)) → Goes s v trusted Device reply (record s { commit = commit })
+drops s commit v trusted disk reply r free p is = go (is_suspended (dropped v disk)) refl (is (dropped v disk) p.2)
   where
     new : CoreState
     new = record s { commit = commit }
 
-    after : Represents new (dropped v disk)
-    after = record { follows = follows_on s.intake v Unplanned (dropped v disk).out r.follows (ap is_syncing p.1) refl; backs = p.3 }
+    given : Given
+    given = device_given s new (Some (due p.0.phase disk)) true
 
-    go : (b : Bool) → is_suspended (dropped v disk) ≡ b → reply ≡ (if is_suspended (dropped v disk) then Refused causes.Suspended else Replan disk) → Goes s v Device reply new
+    fails : FailsOn v given disk
+    fails = record { left = p.0.left; rest = p.0.rest; before = p.0.before; phase = p.0.phase; planned = p.0.planned; last = p.0.last; makes = p.0.makes; fault = refl }
+
+    after : Represents new (dropped v disk)
+    after = record { follows = follows_on s.intake v Unplanned (dropped v disk).out r.follows (ap is_syncing p.0.planned) refl; backs = p.2 }
+
+    go : (b : Bool) → is_suspended (dropped v disk) ≡ b → reply ≡ (if is_suspended (dropped v disk) then Refused causes.Suspended else Replan disk) → Goes s v trusted Device reply new
     go true e x =
-        subst (λ (y : Reply). Goes s v Device y new) (sym (x ∙ ap (λ b. if b then Refused causes.Suspended else Replan disk) e)) (record {
-          given = given_between (disks_of s) (disks_of new) false;
-          is_given = given_none s new;
+        subst (λ (y : Reply). Goes s v trusted Device y new) (sym (x ∙ ap (λ b. if b then Refused causes.Suspended else Replan disk) e)) (record {
+          given = given;
+          trust = λ t. refl;
           after = dropped v disk;
-          is_step = inr (inr (record { none = device_free v free (ap is_planned p.1); granted = (refl, disk, p.2 false, e, refl) }));
-          calls = inr (p.0, p.1);
-          represents = after;
+          link = record {
+            is_given = device_is_given s new (Some (due p.0.phase disk)) true p.0.fault p.1;
+            is_step = inr (inr (record { none = device_free v free (ap is_planned p.0.planned); granted = (refl, disk, fails, e, refl); calls = refl }));
+            represents = after;
+            flushed = tt;
+          };
         })
     go false e x =
-        subst (λ (y : Reply). Goes s v Device y new) (sym (x ∙ ap (λ b. if b then Refused causes.Suspended else Replan disk) e)) (record {
-          given = given_between (disks_of s) (disks_of new) false;
-          is_given = given_none s new;
+        subst (λ (y : Reply). Goes s v trusted Device y new) (sym (x ∙ ap (λ b. if b then Refused causes.Suspended else Replan disk) e)) (record {
+          given = given;
+          trust = λ t. refl;
           after = dropped v disk;
-          is_step = inr (inr (record { none = device_free v free (ap is_planned p.1); granted = (p.2 false, e, refl) }));
-          calls = (p.0, p.1);
-          represents = after;
+          link = record {
+            is_given = device_is_given s new (Some (due p.0.phase disk)) true p.0.fault p.1;
+            is_step = inr (inr (record { none = device_free v free (ap is_planned p.0.planned); granted = (fails, e, refl); calls = refl }));
+            represents = after;
+            flushed = tt;
+          };
         })
 
 -- ---- plans
@@ -182,109 +244,91 @@ backs_taken s v backs none = record {
     still (Some plan) is = absurd (true≢false (sym (ap is_planned is.0) ∙ none))
 
 -- a group is taken, and planned
-pub plans : (s : CoreState) (intake : Intake) (commit : State) (v : View) (timestamp group : ℕ) (calls : List DueCall)
+pub plans : (s : CoreState) (intake : Intake) (commit : State) (v : View) (trusted : Bool) (timestamp group : ℕ) (calls : List DueCall)
     → refusal_of v (Plan timestamp) ≡ None → Follows intake (taken v Unplanned) → group ≡ suc v.committed → IsPlan (taken v Unplanned) calls
     → Backs commit (record (taken v Unplanned) { sync = Left calls }) → OnlyReads (disks_of s) commit.store.disks
-    → Goes s v (Plan timestamp) (Planned group) (record { intake = intake; commit = commit })
-plans s intake commit v timestamp group calls none f is plan backs reads =
+    → Goes s v trusted (Plan timestamp) (Planned group) (record { intake = intake; commit = commit })
+plans s intake commit v trusted timestamp group calls none f is plan backs reads =
     let new : CoreState = record { intake = intake; commit = commit } in
     record {
-      given = given_between (disks_of s) (disks_of new) false;
-      is_given = given_none s new;
+      given = given_by_reads s new trusted false;
+      trust = λ e. e;
       after = taken v (Left calls);
-      is_step = inr (inr (record { none = none; granted = (is, calls, record { writes = plan.writes; in_use = plan.in_use; order = plan.order }, refl) }));
-      calls = only_reads (disks_of s) (disks_of new) reads;
-      represents = record { follows = follows_on intake (taken v Unplanned) (Left calls) v.out f refl refl; backs = backs };
+      link = record {
+        is_given = reads_are_given s new trusted false reads (λ e. absurd (true≢false (sym e)));
+        is_step = inr (inr (record { none = none; granted = (is, calls, record { in_use = plan.in_use; flushes = plan.flushes }, refl); calls = reads_quiet s new trusted false }));
+        represents = record { follows = follows_on intake (taken v Unplanned) (Left calls) v.out f refl refl; backs = backs };
+        flushed = tt;
+      };
     }
 
--- a group is taken, and can't be planned
-pub plan_lacks : (s : CoreState) (intake : Intake) (commit : State) (v : View) (timestamp : ℕ)
+-- a plan that was refused, by its cause: its group is taken
+pub plan_refused : (s : CoreState) (intake : Intake) (commit : State) (v : View) (trusted : Bool) (timestamp : ℕ) (refusal : Refusal) (named : Cause) → named ≡ cause_of refusal
     → refusal_of v (Plan timestamp) ≡ None → Follows intake (taken v Unplanned) → Backs commit (taken v Unplanned) → OnlyReads (disks_of s) commit.store.disks
-    → Goes s v (Plan timestamp) (Refused causes.NoMemory) (record { intake = intake; commit = commit })
-plan_lacks s intake commit v timestamp none f backs reads =
+    → (trusted ≡ true → AreTrue s (record { intake = intake; commit = commit })) → (refusal ≡ NoSpace → LacksRoom commit)
+    → (refusal ≡ NoMemory) ⊎ (IsLost (taken v Unplanned) [] s.commit commit refusal ⊎ (refusal ≡ NoSpace))
+    → Goes s v trusted (Plan timestamp) (Refused named) (record { intake = intake; commit = commit })
+plan_refused s intake commit v trusted timestamp refusal named is none f backs reads honest full why =
     let new : CoreState = record { intake = intake; commit = commit } in
-    record {
-      given = given_between (disks_of s) (disks_of new) false;
-      is_given = given_none s new;
+    subst (λ (c : Cause). Goes s v trusted (Plan timestamp) (Refused c) new) (sym is) (⊎_elim
+    (λ memory. subst (λ (x : Refusal). Goes s v trusted (Plan timestamp) (Refused (cause_of x)) new) (sym memory)
+    (goes false (λ e. absurd (true≢false (sym e))) causes.NoMemory (inr (inl (record { may = none; answer = refl; leaves = refl; calls = reads_quiet s new trusted false })))))
+    (λ other. ⊎_elim
+    (λ lost. goes false (λ e. absurd (true≢false (sym e))) (cause_of refusal)
+    (inr (inr (record { none = none; granted = (inl (unreadable (taken v Unplanned) s new trusted false refusal lost honest), refl); calls = reads_quiet s new trusted false }))))
+    (λ space. subst (λ (x : Refusal). Goes s v trusted (Plan timestamp) (Refused (cause_of x)) new) (sym space)
+    (goes true (λ e. full space) causes.NoSpace (inr (inr (record { none = none; granted = (inr (refl, refl), refl); calls = reads_quiet s new trusted true }))))) other) why)
+  where
+    goes : (full : Bool) → (full ≡ true → LacksRoom commit) → (cause : Cause) → StepOf v (given_by_reads s (record { intake = intake; commit = commit }) trusted full) (Plan timestamp) (Refused cause) (taken v Unplanned)
+        → Goes s v trusted (Plan timestamp) (Refused cause) (record { intake = intake; commit = commit })
+    goes full room cause step = record {
+      given = given_by_reads s (record { intake = intake; commit = commit }) trusted full;
+      trust = λ e. e;
       after = taken v Unplanned;
-      is_step = inr (inl (record { takes = refl; answer = refl; leaves = sym (ap (λ o. if is_some o then v else taken v Unplanned) none) }));
-      calls = only_reads (disks_of s) (disks_of new) reads;
-      represents = record { follows = f; backs = backs };
-    }
-
-pub plan_full : (s : CoreState) (intake : Intake) (commit : State) (v : View) (timestamp : ℕ)
-    → refusal_of v (Plan timestamp) ≡ None → Follows intake (taken v Unplanned) → Backs commit (taken v Unplanned) → OnlyReads (disks_of s) commit.store.disks
-    → IsFull (record { intake = intake; commit = commit })
-    → Goes s v (Plan timestamp) (Refused causes.NoSpace) (record { intake = intake; commit = commit })
-plan_full s intake commit v timestamp none f backs reads full =
-    let new : CoreState = record { intake = intake; commit = commit } in
-    record {
-      given = given_between (disks_of s) (disks_of new) true;
-      is_given = record { failed = refl; full = λ e. full };
-      after = taken v Unplanned;
-      is_step = inr (inr (record { none = none; granted = (inr (refl, refl), refl) }));
-      calls = only_reads (disks_of s) (disks_of new) reads;
-      represents = record { follows = f; backs = backs };
-    }
-
-pub plan_lost : (s : CoreState) (intake : Intake) (commit : State) (v : View) (timestamp : ℕ)
-    → refusal_of v (Plan timestamp) ≡ None → Follows intake (taken v Unplanned) → Backs commit (taken v Unplanned) → OnlyReads (disks_of s) commit.store.disks
-    → TooManyAreLost (taken v Unplanned) [] s.commit commit
-    → Goes s v (Plan timestamp) (Refused causes.DiskFault) (record { intake = intake; commit = commit })
-plan_lost s intake commit v timestamp none f backs reads lost =
-    let new : CoreState = record { intake = intake; commit = commit } in
-    record {
-      given = given_between (disks_of s) (disks_of new) false;
-      is_given = given_none s new;
-      after = taken v Unplanned;
-      is_step = inr (inr (record { none = none; granted = (inl (refl, lost), refl) }));
-      calls = only_reads (disks_of s) (disks_of new) reads;
-      represents = record { follows = f; backs = backs };
+      link = record {
+        is_given = reads_are_given s (record { intake = intake; commit = commit }) trusted full reads room;
+        is_step = step;
+        represents = record { follows = f; backs = backs };
+        flushed = tt;
+      };
     }
 
 -- nothing is planned
-pub idles : (s : CoreState) (commit : State) (v : View) → Represents s v → is_suspended v ≡ false → is_planned v.sync ≡ false → Backs commit v → commit.store.disks ≡ disks_of s
-    → Goes s v Device (Refused causes.NotNow) (record s { commit = commit })
-idles s commit v r free none backs same =
+pub idles : (s : CoreState) (commit : State) (v : View) (trusted : Bool) → Represents s v → is_suspended v ≡ false → is_planned v.sync ≡ false → Backs commit v → commit.store.disks ≡ disks_of s
+    → Goes s v trusted Device (Refused causes.NotNow) (record s { commit = commit })
+idles s commit v trusted r free none backs same =
     let new : CoreState = record s { commit = commit } in
     record {
-      given = given_between (disks_of s) (disks_of new) false;
-      is_given = given_none s new;
+      given = nothing_given;
+      trust = λ e. refl;
       after = v;
-      is_step = inl (record { cause = causes.NotNow; first = device_early v free none; answer = refl; unchanged = refl });
-      calls = ap (λ (d : Disks). made_between (disks_of s) d) same ∙ made_by_none (disks_of s);
-      represents = record { follows = r.follows; backs = backs };
+      link = record {
+        is_given = record {
+          made = sym (ap (λ (d : Disks). made_between (disks_of s) d) same ∙ told_by_none due_call (disks_of s));
+          fault = sym (ap (λ (d : Disks). faults_between (disks_of s) d) same ∙ told_by_none fault_call (disks_of s));
+          unread = sym (ap (λ (d : Disks). unread_between (disks_of s) d) same ∙ told_by_none unread_call (disks_of s));
+          full = λ e. absurd (true≢false (sym e));
+        };
+        is_step = inl (record { cause = causes.NotNow; first = device_early v free none; answer = refl; unchanged = refl; quiet = nothing_quiet; calls = refl });
+        represents = record { follows = r.follows; backs = backs };
+        flushed = tt;
+      };
     }
 
 -- no group can be taken
-pub takes_none : (s : CoreState) (intake : Intake) (v : View) (timestamp : ℕ) (cause : Cause) → Represents s v → refusal_of v (Plan timestamp) ≡ Some cause → Follows intake v
-    → Goes s v (Plan timestamp) (Refused cause) (record s { intake = intake })
-takes_none s intake v timestamp cause r first f =
-    let new : CoreState = record s { intake = intake } in
-    record {
-      given = given_between (disks_of s) (disks_of new) false;
-      is_given = given_none s new;
-      after = v;
-      is_step = inl (record { cause = cause; first = first; answer = refl; unchanged = refl });
-      calls = made_by_none (disks_of s);
-      represents = record { follows = f; backs = r.backs };
-    }
+pub takes_none : (s : CoreState) (intake : Intake) (v : View) (trusted : Bool) (timestamp : ℕ) (cause : Cause) → Represents s v → refusal_of v (Plan timestamp) ≡ Some cause → Follows intake v
+    → Goes s v trusted (Plan timestamp) (Refused cause) (record s { intake = intake })
+takes_none s intake v trusted timestamp cause r first f = record {
+  given = nothing_given;
+  trust = λ e. refl;
+  after = v;
+  link = record {
+    is_given = nothing_is_given s intake;
+    is_step = inl (record { cause = cause; first = first; answer = refl; unchanged = refl; quiet = nothing_quiet; calls = nothing_quiet });
+    represents = record { follows = f; backs = r.backs };
+    flushed = tt;
+  };
+}
 
 pub group_after : (n c sum : ℕ) → n ≡ c → c < 2 ^ 62 → sum ≡ min (n + 1) 18446744073709551615 → sum ≡ suc c
 group_after n c sum e low is = grind (arith, nat_tests, e, low, is)
-
--- a plan that was refused, by its cause
-pub plan_refused : (s : CoreState) (intake : Intake) (commit : State) (v : View) (timestamp : ℕ) (refusal : Refusal) (named : Cause) → named ≡ cause_of refusal
-    → refusal_of v (Plan timestamp) ≡ None → Follows intake (taken v Unplanned) → Backs commit (taken v Unplanned) → OnlyReads (disks_of s) commit.store.disks
-    → (refusal ≡ NoSpace → IsFull (record { intake = intake; commit = commit }))
-    → (refusal ≡ NoMemory) ⊎ ((refusal ≡ NoSpace) ⊎ ((refusal ≡ DiskFault) × TooManyAreLost (taken v Unplanned) [] s.commit commit))
-    → Goes s v (Plan timestamp) (Refused named) (record { intake = intake; commit = commit })
-plan_refused s intake commit v timestamp refusal named is none f backs reads full why =
-    let new : CoreState = record { intake = intake; commit = commit } in
-    elim why [
-      | inl memory ↦ subst (λ (c : Cause). Goes s v (Plan timestamp) (Refused c) new) (sym (is ∙ ap cause_of memory)) (plan_lacks s intake commit v timestamp none f backs reads)
-      | inr other ↦ elim other [
-        | inl space ↦ subst (λ (c : Cause). Goes s v (Plan timestamp) (Refused c) new) (sym (is ∙ ap cause_of space)) (plan_full s intake commit v timestamp none f backs reads (full space))
-        | inr lost ↦ subst (λ (c : Cause). Goes s v (Plan timestamp) (Refused c) new) (sym (is ∙ ap cause_of lost.0)) (plan_lost s intake commit v timestamp none f backs reads lost.1)
-      ]
-    ]

@@ -1,17 +1,14 @@
 -- What a step of a core is.
-use Rattle.std.specs.Prelude.{ℕ, ◌≡◌, ◌⊎◌, ◌/◌, List, [], ◌++◌, Contains, Bool, true}
+use Rattle.std.specs.Prelude.{ℕ, ◌≡◌, List, [], ◌∷◌, Contains, Bool, true, false, Option, Some, None}
 use Rattle.raidz_io.specs.Reads.{IsHonestSince}
-use Rattle.group_volumes.specs.declared.volumes.NamedVolume.{NamedVolume}
-use Rattle.volume_blocks.specs.Volume.{block_size_of}
-use Rattle.volume_blocks.specs.Writing.{HasNoRoom}
-use Rattle.pool_model.specs.declared.refusal.Refusal.TheVariants.{Suspended}
 use Rattle.pool_model.specs.declared.step.Step.{Step}
-use Rattle.pool_model.specs.declared.step.Step.TheVariants.{Device}
+use Rattle.pool_model.specs.declared.step.Step.TheVariants.{Release, Read, ReadUnder}
 use Rattle.pool_model.specs.declared.step.Reply.{Reply}
-use Rattle.pool_model.specs.declared.step.Reply.TheVariants.{Moved, Replan, Committed, Refused}
-use Rattle.pool_model.specs.View.{View, Given, DueCall, Left}
+use Rattle.pool_model.specs.declared.step.Reply.TheVariants.{Planned, Committed}
+use Rattle.pool_model.specs.View.{View, Given, DueCall, disks_in_use, is_suspended}
 use Rattle.pool_model.specs.Machine.{StepOf}
-use Rattle.pool_commit.specs.Calls.{made_between, faults_between}
+use Rattle.pool_commit.specs.Calls.{made_between, faults_between, unread_between, IsFlushed}
+use Rattle.pool_commit.specs.Room.{LacksRoom}
 use Rattle.pool_core.specs.State.{CoreState, disks_of}
 use Rattle.pool_core.specs.Represents.{Represents}
 
@@ -19,37 +16,56 @@ use Rattle.pool_core.specs.Represents.{Represents}
 abbrev pub AreTrue : CoreState → CoreState → Type 0
 AreTrue old new = IsHonestSince (disks_of old) (disks_of new)
 
--- no metaslab has room for a block of one of the committed volumes
-abbrev pub IsFull : CoreState → Type 0
-IsFull s = (named : NamedVolume) × Contains s.commit.kept.last.volumes.items named × HasNoRoom s.commit.store.spaces (block_size_of named.blocks / 512)
+-- the steps that a suspended pool refuses
+abbrev pub is_barred : Step → Bool
+is_barred (Release writer) = false
+is_barred (Read name offset len) = false
+is_barred (ReadUnder group name offset len) = false
+is_barred step = true
 
--- what was given to a step: the disks of its own calls that failed, in order; and it found no room only where there is none
+abbrev pub fault_list : Option DueCall → List DueCall
+fault_list None = []
+fault_list (Some call) = call ∷ []
+
+-- What was given to a step: its own writes and flushes, in order; the one that failed, if any; the disks of its reads that
+-- failed; and that it found no room only where there is none.
 pub record IsGiven (old new : CoreState) (given : Given) : Type 0 where
-  pub failed : given.failed ≡ faults_between (disks_of old) (disks_of new)
-  pub full : given.full ≡ true → IsFull new
+  pub made : given.made ≡ made_between (disks_of old) (disks_of new)
+  pub fault : fault_list given.fault ≡ faults_between (disks_of old) (disks_of new)
+  pub unread : given.unread ≡ unread_between (disks_of old) (disks_of new)
+  pub full : given.full ≡ true → LacksRoom new.commit
 
--- the writes and flushes of a Device step are the next ones of the plan, and all that are left where the group is committed
-abbrev pub MakesDue : View → Reply → View → List DueCall → Type 0
-MakesDue v (Moved phase) w made = (rest : List DueCall) × (v.sync ≡ Left (made ++ rest)) × (w.sync ≡ Left rest)
-MakesDue v (Committed group) w made = v.sync ≡ Left made
-MakesDue v (Replan disk) w made = (rest : List DueCall) × (v.sync ≡ Left (made ++ rest))
-MakesDue v (Refused Suspended) w made = (made ≡ []) ⊎ ((rest : List DueCall) × (v.sync ≡ Left (made ++ rest)))
-MakesDue v reply w made = made ≡ []
+-- where a group is committed, each disk in use was flushed behind its last write
+abbrev pub AreFlushed : Reply → View → CoreState → Type 0
+AreFlushed (Committed group) w new = (disk : ℕ) → Contains (disks_in_use w) disk → IsFlushed (disks_of new) disk
+AreFlushed reply w new = Unit {0}
 
--- another step writes and flushes nothing
-abbrev pub TellsCalls : View → Step → Reply → View → List DueCall → Type 0
-TellsCalls v Device reply w made = MakesDue v reply w made
-TellsCalls v step reply w made = made ≡ []
-
--- from v this is a step of the machine, with what its own device calls gave
-pub record Goes (old : CoreState) (v : View) (step : Step) (reply : Reply) (new : CoreState) : Type 0 where
-  pub given : Given
+-- from core state and view: the step and its reply lead to this core state and this view
+pub record Link (old : CoreState) (v : View) (step : Step) (given : Given) (reply : Reply) (new : CoreState) (w : View) : Type 0 where
   pub is_given : IsGiven old new given
-  pub after : View
-  pub is_step : StepOf v given step reply after
-  pub calls : TellsCalls v step reply after (made_between (disks_of old) (disks_of new))
-  pub represents : Represents new after
+  pub is_step : StepOf v given step reply w
+  pub represents : Represents new w
+  pub flushed : AreFlushed reply w new
 
--- so it is from each view that old represents, where the answers of the disks are true
+-- so it is with some given, which is trusted where the answers of the disks are known to be true
+pub record Goes (old : CoreState) (v : View) (trusted : Bool) (step : Step) (reply : Reply) (new : CoreState) : Type 0 where
+  pub given : Given
+  pub trust : trusted ≡ true → given.trusted ≡ true
+  pub after : View
+  pub link : Link old v step given reply new after
+
+-- a plan was made: what it reads goes into what it writes
+abbrev pub IsPlanned : Reply → Type 0
+IsPlanned (Planned group) = Unit {0}
+IsPlanned reply = ⊥
+
+-- So it is from each view that old represents, whether or not the answers are known to be true; only a plan that is made
+-- asks for that.
 abbrev pub Steps : CoreState → Step → Reply → CoreState → Type 0
-Steps old step reply new = (v : View) → Represents old v → AreTrue old new → Goes old v step reply new
+Steps old step reply new = (v : View) (trusted : Bool) → Represents old v → (trusted ≡ true → AreTrue old new)
+    → (IsPlanned reply → trusted ≡ true) → Goes old v trusted step reply new
+
+-- the same of a pool that is not suspended
+abbrev pub StepsUnlessSuspended : CoreState → Step → Reply → CoreState → Type 0
+StepsUnlessSuspended old step reply new = (v : View) (trusted : Bool) → Represents old v → is_suspended v ≡ false → (trusted ≡ true → AreTrue old new)
+    → (IsPlanned reply → trusted ≡ true) → Goes old v trusted step reply new

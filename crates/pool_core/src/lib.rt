@@ -4,6 +4,7 @@
 
 mod pool;
 mod reading;
+mod refusal;
 mod runs;
 mod syncing;
 #[cfg(test)]

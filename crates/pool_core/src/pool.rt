@@ -1,22 +1,23 @@
 //! The core and its steps.
-ghost use Rattle.std.specs.Prelude.{◌≡◌, ◌⊎◌, ◌<◌, ℕ, List, map, IfOk, IfErr};
+ghost use Rattle.std.specs.Prelude.{◌≡◌, ◌⊎◌, ◌<◌, ◌&&◌, ℕ, List, map, IfOk, IfErr};
 ghost use Rattle.model_disk.specs.Joint.{calls_on, log_of};
-ghost use Rattle.pool_model.specs.declared.step.Step.TheVariants as steps;
-ghost use Rattle.pool_model.specs.View.{started};
+ghost use Rattle.pool_model.specs.View.{View, is_suspended, started};
+ghost use Rattle.pool_commit.specs.Backs.{Backs};
+ghost use Rattle.pool_commit.specs.StateOf.{state_of as commit_state};
 ghost use Rattle.block_store.specs.declared.shape.VdevShape.{VdevShape as ShapeOf};
 ghost use Rattle.block_store.specs.Config.{AreShapes, IsFewVdevs};
 ghost use Rattle.pool_commit.specs.Calls.{GrewTo};
 ghost use Rattle.pool_commit.specs.Config.{vdevs_from};
-ghost use Rattle.pool_core.specs.Causes.{cause_of};
 ghost use Rattle.pool_core.specs.Represents.{Represents};
 ghost use Rattle.pool_core.specs.StateOf.{state_of};
-ghost use Rattle.pool_core.specs.Steps.{Steps};
+ghost use Rattle.pool_core.specs.Steps.{Steps, is_barred as barred_step};
 
+use crate::refusal::named;
 use block_store::VdevConfig;
 use model_disk::Disk;
 use pool_commit::Commit;
 use pool_intake::Intake;
-use pool_model::{Action, Refusal, Reply, Step, Write};
+use pool_model::{Refusal, Reply, Step};
 use std::alloc::Global;
 
 /// A pool over disks: what it accepts, and what is committed.
@@ -27,19 +28,14 @@ pub struct Core<D: Disk + Drop> {
     pub(crate) commit: Commit<D>,
 }
 
-/// What a refusal of the committed half is answered.
-pub(crate) fn named(refusal: pool_commit::Refusal) -> Refusal
-    ensures { result ≡ cause_of refusal }
+/// Whether a suspended pool refuses the step: it refuses all but Release and the reads.
+fn is_barred(step: &Step) -> bool
+    ensures { result ≡ barred_step step.now }
 {
-    match refusal {
-        pool_commit::Refusal::NoMemory => Refusal::NoMemory,
-        pool_commit::Refusal::DiskFault => Refusal::DiskFault,
-        pool_commit::Refusal::NoSpace => Refusal::NoSpace,
-        pool_commit::Refusal::NoSuchName => Refusal::NoSuchName,
-        pool_commit::Refusal::OutOfRange => Refusal::OutOfRange,
-        pool_commit::Refusal::GroupGone => Refusal::GroupGone,
-        pool_commit::Refusal::BadConfig => Refusal::BadConfig,
-    }
+    !matches!(
+        step,
+        Step::Release(_) | Step::Read { .. } | Step::ReadUnder { .. }
+    )
 }
 
 impl<D: Disk + Drop> Core<D> {
@@ -62,18 +58,29 @@ impl<D: Disk + Drop> Core<D> {
         }
     }
 
+    /// Whether the pool is suspended, and refuses the step for that.
+    fn is_refused(&self, step: &Step) -> bool
+        ensures { (v : View) → Backs (commit_state self.now.commit) v → result ≡ (barred_step step.now && is_suspended v) }
+    {
+        let suspended = self.commit.is_suspended();
+        is_barred(step) && suspended
+    }
+
     /// One step of the machine. Release, Close, Quiesce and Device take no memory.
     pub fn step(&mut self, step: Step) -> Reply
         ensures grew { GrewTo self.old.commit.store.disks self.new.commit.store.disks }
         ensures goes { Steps (state_of self.old) step result (state_of self.new) }
     {
+        if self.is_refused(&step) {
+            return Reply::Refused(Refusal::Suspended);
+        }
         match step {
-            Step::Hold(writer) => self.hold(writer),
-            Step::Write(write) => self.write(write),
-            Step::Act(action) => self.act(action),
+            Step::Hold(writer) => self.intake.hold(writer),
+            Step::Write(write) => self.intake.write(write),
+            Step::Act(action) => self.intake.act(self.alloc, action),
             Step::Release(writer) => self.intake.release(writer),
-            Step::Close => self.close(),
-            Step::Quiesce => self.quiesce(),
+            Step::Close => self.intake.close(),
+            Step::Quiesce => self.intake.quiesce(),
             Step::Plan { .. } => self.plan(),
             Step::Device => self.device(),
             Step::Read { name, offset, len } => self.read(&name, offset, len),
@@ -84,55 +91,5 @@ impl<D: Disk + Drop> Core<D> {
                 len,
             } => self.reply_under(group, &name, offset, len),
         }
-    }
-
-    fn hold(&mut self, writer: u32) -> Reply
-        ensures disks { self.new.commit ≡ self.old.commit }
-        ensures goes { Steps (state_of self.old) (steps.Hold writer) result (state_of self.new) }
-    {
-        if self.commit.is_suspended() {
-            return Reply::Refused(Refusal::Suspended);
-        }
-        self.intake.hold(writer)
-    }
-
-    fn write(&mut self, write: Write) -> Reply
-        ensures disks { self.new.commit ≡ self.old.commit }
-        ensures goes { Steps (state_of self.old) (steps.Write write) result (state_of self.new) }
-    {
-        if self.commit.is_suspended() {
-            return Reply::Refused(Refusal::Suspended);
-        }
-        self.intake.write(write)
-    }
-
-    fn act(&mut self, action: Action) -> Reply
-        ensures disks { self.new.commit ≡ self.old.commit }
-        ensures goes { Steps (state_of self.old) (steps.Act action) result (state_of self.new) }
-    {
-        if self.commit.is_suspended() {
-            return Reply::Refused(Refusal::Suspended);
-        }
-        self.intake.act(self.alloc, action)
-    }
-
-    fn close(&mut self) -> Reply
-        ensures disks { self.new.commit ≡ self.old.commit }
-        ensures goes { Steps (state_of self.old) steps.Close result (state_of self.new) }
-    {
-        if self.commit.is_suspended() {
-            return Reply::Refused(Refusal::Suspended);
-        }
-        self.intake.close()
-    }
-
-    fn quiesce(&mut self) -> Reply
-        ensures disks { self.new.commit ≡ self.old.commit }
-        ensures goes { Steps (state_of self.old) steps.Quiesce result (state_of self.new) }
-    {
-        if self.commit.is_suspended() {
-            return Reply::Refused(Refusal::Suspended);
-        }
-        self.intake.quiesce()
     }
 }

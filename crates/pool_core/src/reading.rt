@@ -1,7 +1,7 @@
 //! Reads.
 ghost use Rattle.std.specs.Prelude.{◌≡◌, ◌⊎◌, Some, None, IfOk, IfErr};
 ghost use Rattle.pool_model.specs.declared.step.Step.TheVariants as steps;
-ghost use Rattle.pool_model.specs.Machine.{AreBytesOf};
+ghost use Rattle.pool_model.specs.Machine.{AreBytesOf, IsReadCause};
 ghost use Rattle.pool_model.specs.Refusals.{refusal_of};
 ghost use Rattle.pool_model.specs.View.{View};
 ghost use Rattle.pool_commit.specs.Calls.{GrewTo};
@@ -11,7 +11,8 @@ ghost use Rattle.pool_core.specs.Represents.{Represents};
 ghost use Rattle.pool_core.specs.StateOf.{state_of};
 ghost use Rattle.pool_core.specs.Steps.{AreTrue, Steps};
 
-use crate::pool::{Core, named};
+use crate::pool::Core;
+use crate::refusal::named;
 use model_disk::Disk;
 use pool_model::{Bytes, Name, Refusal, Reply};
 use pool_now::against_read;
@@ -65,12 +66,14 @@ impl<D: Disk + Drop> Core<D> {
     ) -> Result<Bytes, Refusal>
         ensures intake { self.new.intake ≡ self.old.intake }
         ensures reads { OnlyReadsPool (commit_state self.old.commit) (commit_state self.new.commit) missing.now }
-        ensures bytes { IfOk result (λ bytes. (v : View) → Represents (state_of self.old) v → AreTrue (state_of self.old) (state_of self.new)
-            → (refusal_of v (steps.ReadUnder group name.now offset len) ≡ None) × AreBytesOf (v.pools group) name.now offset len bytes) }
-        ensures refused { IfErr result (λ refusal. (v : View) → Represents (state_of self.old) v → AreTrue (state_of self.old) (state_of self.new)
+        ensures bytes { IfOk result (λ bytes. (v : View) → Represents (state_of self.old) v
+            → (refusal_of v (steps.ReadUnder group name.now offset len) ≡ None)
+            × (AreTrue (state_of self.old) (state_of self.new) → AreBytesOf (v.pools group) name.now offset len bytes)) }
+        ensures refused { IfErr result (λ refusal. (v : View) → Represents (state_of self.old) v
             → (refusal ≡ Refusal.NoMemory) ⊎ ((refusal_of v (steps.ReadUnder group name.now offset len) ≡ Some refusal)
-            ⊎ ((refusal_of v (steps.ReadUnder group name.now offset len) ≡ None) × (refusal ≡ Refusal.DiskFault)
-            × TooManyAreLost v missing.now (commit_state self.old.commit) (commit_state self.new.commit)))) }
+            ⊎ ((refusal_of v (steps.ReadUnder group name.now offset len) ≡ None) × IsReadCause refusal
+            × (AreTrue (state_of self.old) (state_of self.new)
+            → TooManyAreLost v missing.now (commit_state self.old.commit) (commit_state self.new.commit))))) }
     {
         let read = self
             .commit

@@ -10,9 +10,10 @@ ghost use Rattle.pool_commit.specs.Calls.{GrewTo};
 ghost use Rattle.pool_commit.specs.StateOf.{state_of as commit_state};
 ghost use Rattle.pool_intake.specs.Follows.{Follows};
 ghost use Rattle.pool_core.specs.StateOf.{state_of};
-ghost use Rattle.pool_core.specs.Steps.{Steps};
+ghost use Rattle.pool_core.specs.Steps.{StepsUnlessSuspended};
 
-use crate::pool::{Core, named};
+use crate::pool::Core;
+use crate::refusal::named;
 use model_disk::Disk;
 use pool_commit::Progress;
 use pool_model::{Refusal, Reply};
@@ -21,11 +22,8 @@ impl<D: Disk + Drop> Core<D> {
     /// Takes the quiesced group to be synced, or the one whose plan was dropped, and plans it.
     pub(crate) fn plan(&mut self) -> Reply
         ensures grew { GrewTo self.old.commit.store.disks self.new.commit.store.disks }
-        ensures goes { (timestamp : ℕ) → Steps (state_of self.old) (steps.Plan timestamp) result (state_of self.new) }
+        ensures goes { (timestamp : ℕ) → StepsUnlessSuspended (state_of self.old) (steps.Plan timestamp) result (state_of self.new) }
     {
-        if self.commit.is_suspended() {
-            return Reply::Refused(Refusal::Suspended);
-        }
         if self.commit.is_planned() {
             return Reply::Refused(Refusal::NotNow);
         }
@@ -45,11 +43,8 @@ impl<D: Disk + Drop> Core<D> {
     /// Makes the next device calls of the plan.
     pub(crate) fn device(&mut self) -> Reply
         ensures grew { GrewTo self.old.commit.store.disks self.new.commit.store.disks }
-        ensures goes { Steps (state_of self.old) steps.Device result (state_of self.new) }
+        ensures goes { StepsUnlessSuspended (state_of self.old) steps.Device result (state_of self.new) }
     {
-        if self.commit.is_suspended() {
-            return Reply::Refused(Refusal::Suspended);
-        }
         match self.commit.device() {
             None => Reply::Refused(Refusal::NotNow),
             Some(Progress::Moved(phase)) => Reply::Moved(phase),

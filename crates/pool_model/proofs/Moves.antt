@@ -15,7 +15,7 @@ use Rattle.pool_model.specs.declared.refusal.Refusal.{Refusal}
 use Rattle.pool_model.specs.declared.refusal.Refusal.TheVariants.{NoMemory, NoSpace, Suspended, NotNow}
 use Rattle.pool_model.specs.View.{View, Given, DueCall, Sync, Idle, Unplanned, Left, is_syncing, is_planned, is_quiesced, is_suspended, waiting_group, open_group, is_kept, hold_group, is_held, now_of}
 use Rattle.pool_model.specs.Refusals.{greatest, first_cause, may_plan, refusal_of}
-use Rattle.pool_model.specs.Machine.{with_hold, without_hold, took, taken, left_waiting, dropped, committed_next, due, IsQuiet, IsUnreadable, MayLack, without_memory, AreBytesOf, Granted, StepOf}
+use Rattle.pool_model.specs.Machine.{with_hold, without_hold, took, taken, left_waiting, dropped, committed_next, due, IsQuiet, IsReadCause, IsUnreadable, MayLack, without_memory, AreBytesOf, Granted, StepOf}
 use Rattle.pool_model.proofs.Causes.{or_none, none_of, first_none, not_false, write_none, act_none, act_open, closed_below, quiescing}
 
 -- a Plan that is refused leaves its group taken, unless the pool is suspended or no group is due
@@ -110,16 +110,14 @@ no_fault Device given quiet = quiet.fault
 no_fault (Hold writer) given quiet = tt
 no_fault step given quiet = tt
 
+read_cause : (cause : Refusal) → IsReadCause cause → IsPlanFault cause
+read_cause cause is =
+    ⊎_elim (λ e. subst IsPlanFault (sym e) tt)
+    (λ d. ⊎_elim (λ e. subst IsPlanFault (sym e) tt) (λ d. ⊎_elim (λ e. subst IsPlanFault (sym e) tt) (λ e. subst IsPlanFault (sym e) tt) d) d) is
+
 -- a plan that can't read what it needs, or finds no room
 plan_fault : (v : View) (given : Given) (cause : Refusal) → IsUnreadable v given cause ⊎ ((cause ≡ NoSpace) × (given.full ≡ true)) → IsPlanFault cause
-plan_fault v given cause h =
-    ⊎_elim
-    (λ r. ⊎_elim
-    (λ d. subst IsPlanFault (sym d.0) tt)
-    (λ d. ⊎_elim (λ e. subst IsPlanFault (sym e) tt) (λ d. ⊎_elim (λ e. subst IsPlanFault (sym e) tt) (λ e. subst IsPlanFault (sym e) tt) d) d.0)
-    r)
-    (λ r. subst IsPlanFault (sym r.0) tt)
-    h
+plan_fault v given cause h = ⊎_elim (λ r. read_cause cause r.0) (λ r. subst IsPlanFault (sym r.0) tt) h
 
 -- at a plan of which these calls are left
 at_left : (P : View → Given → Step → Reply → View → Type 0) (v : View) (given : Given) (step : Step) (reply : Reply) (w : View) (left : List DueCall) → v.sync ≡ Left left → P (record v { sync = Left left }) given step reply w → P v given step reply w

@@ -114,14 +114,13 @@ MayCall step given = IsQuiet given × (given.unread ≡ [])
 abbrev pub AreBytesOf : PlainPool → List ℕ → ℕ → ℕ → List ℕ → Type 0
 AreBytesOf pool name offset len bytes = (volume : PlainVolume) × (volume_at name pool ≡ Some volume) × (bytes ≡ slice_range volume.bytes offset (offset + len))
 
--- a block is not what its pointer tells
-abbrev pub IsBadBlock : Refusal → Type 0
-IsBadBlock cause = (cause ≡ BadPointer) ⊎ ((cause ≡ BadDigest) ⊎ (cause ≡ BadMap))
+-- a block can't be read: its columns are lost, or it is not what its pointer tells
+abbrev pub IsReadCause : Refusal → Type 0
+IsReadCause cause = (cause ≡ DiskFault) ⊎ ((cause ≡ BadPointer) ⊎ ((cause ≡ BadDigest) ⊎ (cause ≡ BadMap)))
 
--- what was written can't be read: a vdev misses more disks than it has parities; or a disk's answer may be false
+-- so it is answered only where a vdev misses more disks than it has parities, or a disk's answer may be false
 abbrev pub IsUnreadable : View → Given → Refusal → Type 0
-IsUnreadable v given cause = ((cause ≡ DiskFault) × (is_readable v given ≡ false))
-    ⊎ (IsBadBlock cause × ((is_readable v given ≡ false) ⊎ (given.trusted ≡ false)))
+IsUnreadable v given cause = IsReadCause cause × ((is_readable v given ≡ false) ⊎ (given.trusted ≡ false))
 
 -- what a step against which the view has nothing may be answered, and what it then changes
 abbrev pub Granted : View → Given → Step → Reply → View → Type 0

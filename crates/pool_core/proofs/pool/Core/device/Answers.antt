@@ -8,36 +8,31 @@ use Rattle.pool_commit.specs.Progress.{Progresses}
 use Rattle.pool_commit.specs.StateOf.{state_of as commit_state}
 use Rattle.pool_core.specs.StateOf.{state_of}
 use Rattle.pool_core.specs.Steps.{Goes}
-use Rattle.pool_core.proofs.Fronting.{refused, device_suspended}
-use Rattle.pool_core.proofs.Phases.{device_early, idles, moves, commits, drops, group_low}
+use Rattle.pool_core.proofs.Phases.{idles, moves, commits, drops, group_low}
 use Rattle.pool_core.proofs.pool.Core.device.Goals as goal
 
-pub returns-then-is_suspended-clause-goes : goal.returns-then-is_suspended-clause-goes
-returns-then-is_suspended-clause-goes g c v r honest =
-    refused (state_of c.args.self.now) v steps.Device causes.Suspended r (device_suspended v (sym (c.is_suspended.ensures v r.backs) ∙ c.if-is_suspended.true)) (λ made none. inl none)
-
 pub returns-in-None-clause-goes : goal.returns-in-None-clause-goes
-returns-in-None-clause-goes g c v r honest =
+returns-in-None-clause-goes g c v trusted r free honest plans =
     let p = c.in-None.ensures.none v r.backs in
-    idles (state_of c.args.self.now) (commit_state c.device.new.self) v r (sym (c.is_suspended.ensures v r.backs) ∙ c.if-is_suspended.false) p.0 p.1 c.in-None.ensures.idle
+    idles (state_of c.args.self.now) (commit_state c.device.new.self) v trusted r free p.0 p.1 c.in-None.ensures.idle
 
 pub returns-in-Some-Moved-clause-goes : goal.returns-in-Some-Moved-clause-goes
-returns-in-Some-Moved-clause-goes g c v r honest =
+returns-in-Some-Moved-clause-goes g c v trusted r free honest plans =
     let p = c.in-Some-Moved.ensures.some v r.backs (group_low c.args.self.now.intake v r.follows) in
-    moves (state_of c.args.self.now) (commit_state c.device.new.self) v c.in-Some-Moved.phase r (sym (c.is_suspended.ensures v r.backs) ∙ c.if-is_suspended.false)
+    moves (state_of c.args.self.now) (commit_state c.device.new.self) v trusted c.in-Some-Moved.phase r free
     (subst (λ (x : Progress). Progresses (commit_state c.args.self.now.commit) x (commit_state c.device.new.self) v) c.in-Some-Moved.field-0-is p.1)
 
 pub returns-in-Some-Done-clause-goes : goal.returns-in-Some-Done-clause-goes
-returns-in-Some-Done-clause-goes g c v r honest =
+returns-in-Some-Done-clause-goes g c v trusted r free honest plans =
     let p = c.in-Some-Done.ensures.some v r.backs (group_low c.args.self.now.intake v r.follows) in
     let done = subst (λ (x : Progress). Progresses (commit_state c.args.self.now.commit) x (commit_state c.device.new.self) v) c.in-Some-Done.field-0-is p.1 in
-    let both = c.commit_group.ensures.committed v r.follows (ap is_syncing done.0) in
-    subst (λ commit. Goes (state_of c.args.self.now) v steps.Device c.commit_group.result (record { intake = c.commit_group.new.self.intake; commit = commit_state commit })) (sym c.commit_group.ensures.commit)
-    (commits (state_of c.args.self.now) c.commit_group.new.self.intake (commit_state c.device.new.self) v c.commit_group.result r
-    (sym (c.is_suspended.ensures v r.backs) ∙ c.if-is_suspended.false) done both.0 both.1)
+    let both = c.commit_group.ensures.committed v r.follows (ap is_syncing done.1) in
+    subst (λ commit. Goes (state_of c.args.self.now) v trusted steps.Device c.commit_group.result (record { intake = c.commit_group.new.self.intake; commit = commit_state commit })) (sym c.commit_group.ensures.commit)
+    (commits (state_of c.args.self.now) c.commit_group.new.self.intake (commit_state c.device.new.self) v trusted c.commit_group.result r
+    free done both.0 both.1)
 
 pub returns-in-Some-Dropped-clause-goes : goal.returns-in-Some-Dropped-clause-goes
-returns-in-Some-Dropped-clause-goes g c v r honest =
+returns-in-Some-Dropped-clause-goes g c v trusted r free honest plans =
     let p = c.in-Some-Dropped.ensures.some v r.backs (group_low c.args.self.now.intake v r.follows) in
-    drops (state_of c.args.self.now) (commit_state c.device.new.self) v c.in-Some-Dropped.disk c.replan.result r (sym (c.is_suspended.ensures v r.backs) ∙ c.if-is_suspended.false)
+    drops (state_of c.args.self.now) (commit_state c.device.new.self) v trusted c.in-Some-Dropped.disk c.replan.result r free
     (subst (λ (x : Progress). Progresses (commit_state c.args.self.now.commit) x (commit_state c.device.new.self) v) c.in-Some-Dropped.field-0-is p.1) c.replan.ensures

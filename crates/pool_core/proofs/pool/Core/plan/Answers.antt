@@ -1,4 +1,4 @@
-use Rattle.std.proofs.Common.{◌≡◌, ◌⊎◌, ⊎_elim, inl, inr, true, false, true≢false, ap, sym, ◌∙◌, subst, suc, ℕ, List, refl, arith, ◌<◌, ◌^◌}
+use Rattle.std.proofs.Common.{◌≡◌, ◌⊎◌, ⊎_elim, inl, inr, Option, Some, None, true, false, true≢false, ap, sym, ◌∙◌, subst, suc, ℕ, List, refl, arith, ◌<◌, ◌^◌}
 use Rattle.pool_model.specs.declared.refusal.Refusal.TheVariants as causes
 use Rattle.pool_model.specs.declared.refusal.Refusal.{Refusal as Cause}
 use Rattle.pool_model.specs.declared.step.Step.TheVariants as steps
@@ -11,50 +11,53 @@ use Rattle.pool_now.specs.GoodChanges.{MakesGoodVolumes}
 use Rattle.pool_commit.specs.StateOf.{state_of as commit_state}
 use Rattle.pool_core.specs.StateOf.{state_of}
 use Rattle.pool_core.specs.Steps.{Goes}
-use Rattle.pool_core.proofs.Fronting.{refused, plan_suspended, front}
+use Rattle.pool_core.proofs.Fronting.{refused}
 use Rattle.pool_core.proofs.Phases.{plan_planned, backs_taken, plans, plan_refused, group_after, group_low, takes_none}
 use Rattle.pool_core.proofs.pool.Core.plan.Goals as goal
 
-pub returns-then-is_suspended-clause-goes : goal.returns-then-is_suspended-clause-goes
-returns-then-is_suspended-clause-goes g c timestamp v r honest =
-    refused (state_of c.args.self.now) v (steps.Plan timestamp) causes.Suspended r (plan_suspended v timestamp (sym (c.is_suspended.ensures v r.backs) ∙ c.if-is_suspended.true)) (λ made none. none)
-
 pub returns-then-is_planned-clause-goes : goal.returns-then-is_planned-clause-goes
-returns-then-is_planned-clause-goes g c timestamp v r honest =
-    refused (state_of c.args.self.now) v (steps.Plan timestamp) causes.NotNow r
-    (plan_planned v timestamp (sym (c.is_suspended.ensures v r.backs) ∙ c.if-is_suspended.false) (sym (c.is_planned.ensures v r.backs) ∙ c.if-is_planned.true)) (λ made none. none)
+returns-then-is_planned-clause-goes g c timestamp v trusted r free honest plans_trust =
+    refused (state_of c.args.self.now) v trusted (steps.Plan timestamp) causes.NotNow r
+    (plan_planned v timestamp free (sym (c.is_planned.ensures.view v r.backs) ∙ c.if-is_planned.true))
 
 pub returns-in-Err-clause-goes : goal.returns-in-Err-clause-goes
-returns-in-Err-clause-goes g c timestamp v r honest =
-    let p = c.in-Err.ensures.refused v timestamp r.follows (sym (c.is_suspended.ensures v r.backs) ∙ c.if-is_suspended.false) (sym (c.is_planned.ensures v r.backs) ∙ c.if-is_planned.false) in
-    takes_none (state_of c.args.self.now) c.begin_sync.new.self v timestamp c.in-Err.cause r p.0 p.1
+returns-in-Err-clause-goes g c timestamp v trusted r free honest plans_trust =
+    let p = c.in-Err.ensures.refused v timestamp r.follows free (sym (c.is_planned.ensures.view v r.backs) ∙ c.if-is_planned.false) in
+    takes_none (state_of c.args.self.now) c.begin_sync.new.self v trusted timestamp c.in-Err.cause r p.0 p.1
 
 pub returns-in_default-clause-goes : goal.returns-in_default-clause-goes
-returns-in_default-clause-goes g c timestamp v r honest =
-    let begun = c.in-Ok.ensures.begun v timestamp r.follows (sym (c.is_suspended.ensures v r.backs) ∙ c.if-is_suspended.false) (sym (c.is_planned.ensures v r.backs) ∙ c.if-is_planned.false) in
+returns-in_default-clause-goes g c timestamp v trusted r free honest plans_trust =
+    let begun = c.in-Ok.ensures.begun v timestamp r.follows free (sym (c.is_planned.ensures.view v r.backs) ∙ c.if-is_planned.false) in
     let some : is_some c.syncing_items.result ≡ true = c.syncing_items.ensures.some (taken v Unplanned) begun.1 in
     absurd (true≢false (sym some ∙ ap is_some c.in_default.is))
 
 pub returns-in-Ok-plan-clause-goes : goal.returns-in-Ok-plan-clause-goes
-returns-in-Ok-plan-clause-goes g c timestamp v r honest =
-    let none = sym (c.is_planned.ensures v r.backs) ∙ c.if-is_planned.false in
-    let begun = c.in-Ok.ensures.begun v timestamp r.follows (sym (c.is_suspended.ensures v r.backs) ∙ c.if-is_suspended.false) none in
+returns-in-Ok-plan-clause-goes g c timestamp v trusted r free honest plans_trust =
+    let none = sym (c.is_planned.ensures.view v r.backs) ∙ c.if-is_planned.false in
+    let begun = c.in-Ok.ensures.begun v timestamp r.follows free none in
     let low : v.committed < 2 ^ 62 = group_low c.args.self.now.intake v r.follows in
     let backed = backs_taken (commit_state c.args.self.now.commit) v r.backs none in
-    let planned = c.in-Ok-plan.ensures.planned (taken v Unplanned) backed refl low (c.in-Some.ensures.items (taken v Unplanned) begun.1) honest in
-    plans (state_of c.args.self.now) c.begin_sync.new.self (commit_state c.plan.new.self) v timestamp c.saturating_add.result planned.0 begun.0 begun.1
+    let planned = c.in-Ok-plan.ensures.planned (taken v Unplanned) backed refl low (c.in-Some.ensures.items (taken v Unplanned) begun.1) (honest (plans_trust tt)) in
+    plans (state_of c.args.self.now) c.begin_sync.new.self (commit_state c.plan.new.self) v trusted timestamp c.saturating_add.result planned.0 begun.0 begun.1
     (let committed = c.committed_group.ensures (taken v Unplanned) begun.1 in let added = c.saturating_add.ensures in group_after c.committed_group.result v.committed c.saturating_add.result committed low added)
     planned.1 planned.2 c.in-Ok-plan.ensures.reads
 
 pub returns-in-Err-plan-clause-goes : goal.returns-in-Err-plan-clause-goes
-returns-in-Err-plan-clause-goes g c timestamp v r honest =
-    let none = sym (c.is_planned.ensures v r.backs) ∙ c.if-is_planned.false in
-    let begun = c.in-Ok.ensures.begun v timestamp r.follows (sym (c.is_suspended.ensures v r.backs) ∙ c.if-is_suspended.false) none in
+returns-in-Err-plan-clause-goes g c timestamp v trusted r free honest plans_trust =
+    let none = sym (c.is_planned.ensures.view v r.backs) ∙ c.if-is_planned.false in
+    let begun = c.in-Ok.ensures.begun v timestamp r.follows free none in
     let low : v.committed < 2 ^ 62 = group_low c.args.self.now.intake v r.follows in
     let backed = backs_taken (commit_state c.args.self.now.commit) v r.backs none in
     let items = c.in-Some.ensures.items (taken v Unplanned) begun.1 in
     let good = subst MakesGoodVolumes (sym items) (begun.1.good (suc v.committed)) in
-    let why = c.in-Err-plan.ensures.refused (taken v Unplanned) backed refl low items good honest in
+    let why = c.in-Err-plan.ensures.refused (taken v Unplanned) backed refl low items good in
     let after = c.in-Err-plan.ensures.unplanned (taken v Unplanned) backed refl in
-    plan_refused (state_of c.args.self.now) c.begin_sync.new.self (commit_state c.plan.new.self) v timestamp c.in-Err-plan.refusal c.named.result c.named.ensures begun.0 begun.1 after c.in-Err-plan.ensures.reads
-    c.in-Err-plan.ensures.full why
+    plan_refused (state_of c.args.self.now) c.begin_sync.new.self (commit_state c.plan.new.self) v trusted timestamp c.in-Err-plan.refusal c.named.result c.named.ensures begun.0 begun.1 after c.in-Err-plan.ensures.reads
+    honest c.in-Err-plan.ensures.full why
+
+pub plan-requires : goal.plan-requires
+plan-requires g c = record { unplanned = not_some c.args.self.now.commit.planned (sym c.is_planned.ensures.planned ∙ c.if-is_planned.false) }
+  where
+    not_some : {A : Type 0} (o : Option A) → is_some o ≡ false → o ≡ None
+    not_some None e = refl
+    not_some (Some x) e = absurd (true≢false e)

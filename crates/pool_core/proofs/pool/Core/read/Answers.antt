@@ -16,12 +16,12 @@ use Rattle.pool_core.proofs.ReadSteps.{shape_there, reads_now, refuses_now}
 use Rattle.pool_core.proofs.pool.Core.read.Goals as goal
 
 pub returns-in-Some-clause-goes : goal.returns-in-Some-clause-goes
-returns-in-Some-clause-goes g c v r honest =
-    refused (state_of c.args.self.now) v (steps.Read c.args.name.now c.args.offset c.args.len) c.in-Some.cause r
-    (sym (c.against_read.ensures (volume_at c.args.name.now (now_of v)) (c.find-found.ensures v r.follows)) ∙ c.in-Some.is) (λ made none. none)
+returns-in-Some-clause-goes g c v trusted r honest plans =
+    refused (state_of c.args.self.now) v trusted (steps.Read c.args.name.now c.args.offset c.args.len) c.in-Some.cause r
+    (sym (c.against_read.ensures (volume_at c.args.name.now (now_of v)) (c.find-found.ensures v r.follows)) ∙ c.in-Some.is)
 
 pub returns-in_default-clause-goes : goal.returns-in_default-clause-goes
-returns-in_default-clause-goes g c v r honest = absurd (let no : None ≡ Some _ = sym c.in-None.is ∙ c.against_read.ensures None c.in_default.is in cc)
+returns-in_default-clause-goes g c v trusted r honest plans = absurd (let no : None ≡ Some _ = sym c.in-None.is ∙ c.against_read.ensures None c.in_default.is in cc)
 
 pub read_committed-requires-clause-within : goal.read_committed-requires-clause-within
 read_committed-requires-clause-within g c =
@@ -38,22 +38,22 @@ read_pending-requires g c =
     omega (arith, range.0, count)
 
 pub returns-in-Ok-clause-goes : goal.returns-in-Ok-clause-goes
-returns-in-Ok-clause-goes g c v r honest =
+returns-in-Ok-clause-goes g c v trusted r honest plans =
     let found = shape_there c.args.name.now (now_of v) c.in-Some-found.shape (sym c.in-Some-found.is ∙ c.find-found.ensures v r.follows) in
     let buffer : List ℕ = c.read_pending.new.buffer in
     let whole : length buffer ≡ length c.as_mut_slice.result.now = c.read_pending.auto.buffer in
-    let base : HasRange c.in-Ok.bytes.items (base_of v c.args.name.now found.0) c.args.offset = c.in-Ok.ensures.bytes v found.0 r.backs r.follows.made honest found.1 found.2 in
-    let range : HasRange buffer found.0.bytes c.args.offset =
+    let range : trusted ≡ true → HasRange buffer found.0.bytes c.args.offset = λ e.
+    let base : HasRange c.in-Ok.bytes.items (base_of v c.args.name.now found.0) c.args.offset = c.in-Ok.ensures.bytes v found.0 r.backs r.follows.made (honest e) found.1 found.2 in
     c.read_pending.ensures v found.0 r.follows found.1 found.2 (subst (λ (xs : List ℕ). HasRange xs (base_of v c.args.name.now found.0) c.args.offset) (sym c.as_mut_slice.ensures.value) base) in
     let count : length buffer ≡ c.args.len = whole ∙ ap length c.as_mut_slice.ensures.value ∙ c.in-Ok.ensures.len in
-    subst (λ (xs : List ℕ). Goes (state_of c.args.self.now) v (steps.Read c.args.name.now c.args.offset c.args.len) (replies.Bytes xs) (record (state_of c.args.self.now) { commit = commit_state c.read_committed.new.self }))
+    subst (λ (xs : List ℕ). Goes (state_of c.args.self.now) v trusted (steps.Read c.args.name.now c.args.offset c.args.len) (replies.Bytes xs) (record (state_of c.args.self.now) { commit = commit_state c.read_committed.new.self }))
     (sym (c.new.ensures ∙ with_items_is c.in-Ok.bytes buffer (whole ∙ c.as_mut_slice.ensures.len)))
-    (reads_now (state_of c.args.self.now) (commit_state c.read_committed.new.self) v c.args.name.now c.args.offset c.args.len buffer found.0 r c.in-Ok.ensures.reads
+    (reads_now (state_of c.args.self.now) (commit_state c.read_committed.new.self) v trusted c.args.name.now c.args.offset c.args.len buffer found.0 r c.in-Ok.ensures.reads
     (sym (c.against_read.ensures (volume_at c.args.name.now (now_of v)) (c.find-found.ensures v r.follows)) ∙ c.in-None.is) found.1 count range)
 
 pub returns-in-Err-clause-goes : goal.returns-in-Err-clause-goes
-returns-in-Err-clause-goes g c v r honest =
+returns-in-Err-clause-goes g c v trusted r honest plans =
     let found = shape_there c.args.name.now (now_of v) c.in-Some-found.shape (sym c.in-Some-found.is ∙ c.find-found.ensures v r.follows) in
-    refuses_now (state_of c.args.self.now) (commit_state c.read_committed.new.self) v c.args.name.now c.args.offset c.args.len c.in-Err.refusal c.named.result c.named.ensures r c.in-Err.ensures.reads
+    refuses_now (state_of c.args.self.now) (commit_state c.read_committed.new.self) v trusted c.args.name.now c.args.offset c.args.len c.in-Err.refusal c.named.result c.named.ensures r c.in-Err.ensures.reads
     (sym (c.against_read.ensures (volume_at c.args.name.now (now_of v)) (c.find-found.ensures v r.follows)) ∙ c.in-None.is)
-    (c.in-Err.ensures.refused v found.0 r.backs r.follows.made honest found.1 found.2)
+    honest (c.in-Err.ensures.refused v found.0 r.backs r.follows.made found.1 found.2)

@@ -9,15 +9,15 @@ use Rattle.pool_core.proofs.ReadSteps.{reads_under, refuses_under}
 use Rattle.pool_core.proofs.pool.Core.reply_under.Goals as goal
 
 pub returns-in-Ok-clause-goes : goal.returns-in-Ok-clause-goes
-returns-in-Ok-clause-goes g c v r honest =
-    let p = c.in-Ok.ensures.bytes v r honest in
-    subst (λ (intake : Intake). Goes (state_of c.args.self.now) v (steps.ReadUnder c.args.group c.args.name.now c.args.offset c.args.len) (replies.Bytes c.in-Ok.bytes)
+returns-in-Ok-clause-goes g c v trusted r honest plans =
+    let p = c.in-Ok.ensures.bytes v r in
+    subst (λ (intake : Intake). Goes (state_of c.args.self.now) v trusted (steps.ReadUnder c.args.group c.args.name.now c.args.offset c.args.len) (replies.Bytes c.in-Ok.bytes)
     (record { intake = intake; commit = commit_state c.read_under.new.self.commit })) (sym c.in-Ok.ensures.intake)
-    (reads_under (state_of c.args.self.now) (commit_state c.read_under.new.self.commit) v c.args.group c.args.name.now c.args.offset c.args.len c.in-Ok.bytes r c.in-Ok.ensures.reads p.0 p.1)
+    (reads_under (state_of c.args.self.now) (commit_state c.read_under.new.self.commit) v trusted c.args.group c.args.name.now c.args.offset c.args.len c.in-Ok.bytes r c.in-Ok.ensures.reads p.0 (λ e. p.1 (honest e)))
 
 pub returns-in-Err-clause-goes : goal.returns-in-Err-clause-goes
-returns-in-Err-clause-goes g c v r honest =
-    subst (λ (intake : Intake). Goes (state_of c.args.self.now) v (steps.ReadUnder c.args.group c.args.name.now c.args.offset c.args.len) (replies.Refused c.in-Err.refusal)
+returns-in-Err-clause-goes g c v trusted r honest plans =
+    subst (λ (intake : Intake). Goes (state_of c.args.self.now) v trusted (steps.ReadUnder c.args.group c.args.name.now c.args.offset c.args.len) (replies.Refused c.in-Err.refusal)
     (record { intake = intake; commit = commit_state c.read_under.new.self.commit })) (sym c.in-Err.ensures.intake)
-    (refuses_under (state_of c.args.self.now) (commit_state c.read_under.new.self.commit) v c.args.group c.args.name.now c.args.offset c.args.len c.in-Err.refusal r c.in-Err.ensures.reads
-    (c.in-Err.ensures.refused v r honest))
+    (refuses_under (state_of c.args.self.now) (commit_state c.read_under.new.self.commit) v trusted c.args.group c.args.name.now c.args.offset c.args.len c.in-Err.refusal r c.in-Err.ensures.reads
+    honest (c.in-Err.ensures.refused v r))
