@@ -1,0 +1,18 @@
+//! Tests of the RAID and of the disks below the blocks: the field and its kernels, the layout and the parity of a block,
+//! disks and arrays of them, and blocks on an array. They stand together, so that what they reach is proved once with them.
+#![tactic(auto)]
+
+#[cfg(test)]
+mod arrays;
+#[cfg(test)]
+mod devices;
+#[cfg(test)]
+mod extents;
+#[cfg(test)]
+mod fields;
+#[cfg(test)]
+mod lanes;
+#[cfg(test)]
+mod layouts;
+#[cfg(test)]
+mod parities;
