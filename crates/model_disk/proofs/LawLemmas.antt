@@ -56,7 +56,7 @@ other_bytes_stay old new which call starts calls other i (inl apart) = on_anothe
 other_bytes_stay old new which call starts calls other i (inr un) = untouched old new which call starts calls other i un (which == other) refl
 
 -- lists that have the same byte at each place
-same_bytes : (xs ys : List ℕ) → length xs ≡ length ys → ((i : ℕ) → i < length ys → slice_get xs i ≡ slice_get ys i) → xs ≡ ys
+pub same_bytes : (xs ys : List ℕ) → length xs ≡ length ys → ((i : ℕ) → i < length ys → slice_get xs i ≡ slice_get ys i) → xs ≡ ys
 same_bytes xs ys same are =
     ext_get_or 0 xs ys same (λ i below.
     let inside : i < length ys = omega (arith, same, below) in
@@ -97,7 +97,7 @@ stays_clean Flushed calls i un clean = refl
 stays_clean FailedFlush calls i un clean = clean
 
 -- bytes that no call touched since are as they were, and clean if they were
-untouched_since : (start : List ℕ) (newer calls : List Call) (i : ℕ) → list_any (λ call. touches call i) newer ≡ false
+pub untouched_since : (start : List ℕ) (newer calls : List Call) (i : ℕ) → list_any (λ call. touches call i) newer ≡ false
     → (byte_at start (newer ++ calls) i ≡ byte_at start calls i) × (is_dirty calls i ≡ false → is_dirty (newer ++ calls) i ≡ false)
 untouched_since start [] calls i none = (refl, λ clean. clean)
 untouched_since start (call ∷ newer) calls i none =

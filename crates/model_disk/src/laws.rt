@@ -1,5 +1,6 @@
 //! Laws of disks, as functions with no body: what each ensures follows from the definitions alone.
 ghost use Rattle.model_disk.specs.Laws.{WrittenBytesStand, OtherBytesStay, HonestReadsGive, PartsAreHonest, PartsOfOneAreHonest, FlushedBytesStay, UnwrittenDisksStay, WritesAddImages};
+ghost use Rattle.model_disk.specs.RunLaws.{UntouchedBytesStay, SettledBytesStay, FlushesSettle, IsHeld, SettledBytesAreHeld, HeldIsOldOrWritten, MomentsAreOfTheRun, CrashesAreAtMoments};
 
 /// What was written stands.
 pub fn written_bytes_stand()
@@ -35,4 +36,29 @@ pub fn unwritten_disks_stay()
 /// A crash while a write runs leaves no more than one after it.
 pub fn writes_add_images()
     ensures { WritesAddImages }
+{}
+
+/// A run of calls changes no byte that none of its writes has in its range, and where it began settled, no crash in it does.
+pub fn untouched_bytes_stay()
+    ensures now { UntouchedBytesStay }
+    ensures after_a_crash { SettledBytesStay }
+{}
+
+/// A disk is settled after a flush that succeeded, until it is written again.
+pub fn flushes_settle()
+    ensures { FlushesSettle }
+{}
+
+/// What stood at a place at some moment since the last flush. On a settled disk it is what stands; in a run that began settled,
+/// and writes the place whole or not at all, it is what stood as the run began, or one of its writes.
+pub fn held_bytes_are_known()
+    ensures held { IsHeld }
+    ensures settled { SettledBytesAreHeld }
+    ensures in_a_run { HeldIsOldOrWritten }
+{}
+
+/// Each moment of a run has the old calls and the first of the newer ones, and each crash in it comes at such a moment.
+pub fn moments_are_of_the_run()
+    ensures moments { MomentsAreOfTheRun }
+    ensures crashes { CrashesAreAtMoments }
 {}
