@@ -1,8 +1,8 @@
 //! The sums of a block's columns, 64 bytes of each column at a time. The sums of all columns are made in lanes, so that
 //! each column is read once and each parity is written once.
-ghost use Rattle.std.specs.Prelude.{◌≡◌, ℕ, ◌+◌, ◌<◌, ◌≤◌, ◌^◌, length, sum, slice_index, All, EachIndex};
+ghost use Rattle.std.specs.Prelude.{◌≡◌, ℕ, ◌+◌, ◌<◌, ◌≤◌, ◌^◌, length, sum, slice_index, All};
 ghost use Rattle.raidz_parity.specs.Layout.{columns_of};
-ghost use Rattle.raidz_parity.specs.Parity.{weighted_sum_at};
+ghost use Rattle.raidz_parity.specs.Parity.{weighted_sum_at, AreSums, AreSumsFrom};
 
 use gf_lanes::doubled_wide;
 use std::simd::prelude::*;
@@ -53,7 +53,8 @@ fn lanes_at(column: &[u8], at: usize) -> u8x64
 fn put_last(target: &mut [u8], at: usize, lanes: u8x64)
     requires { at + 64 < 2 ^ 64 }
     ensures before { (j : ℕ) → j < at → slice_index target.new j ≡ slice_index target.old j }
-    ensures here { (k : ℕ) → k < 64 → at + k < length target.old → slice_index target.new (at + k) ≡ slice_index lanes k }
+    ensures here { (k : ℕ) → k < 64 → at + k < length target.old
+        → slice_index target.new (at + k) ≡ slice_index lanes k }
 {
     let bytes = lanes.to_array();
     for k in 0..64usize {
@@ -68,7 +69,8 @@ fn put_last(target: &mut [u8], at: usize, lanes: u8x64)
 fn put_lanes(target: &mut [u8], at: usize, lanes: u8x64)
     requires { at + 64 < 2 ^ 64 }
     ensures before { (j : ℕ) → j < at → slice_index target.new j ≡ slice_index target.old j }
-    ensures here { (k : ℕ) → k < 64 → at + k < length target.old → slice_index target.new (at + k) ≡ slice_index lanes k }
+    ensures here { (k : ℕ) → k < 64 → at + k < length target.old
+        → slice_index target.new (at + k) ≡ slice_index lanes k }
 {
     if at + 64 <= target.len() {
         lanes.copy_to_slice(&mut target[at..]);
@@ -82,7 +84,7 @@ fn row_sums(row: u8, lengths: &[usize], bytes: &[u8], at: usize) -> u8x64
     requires row { row ≤ 1 }
     requires at { at + 64 < 2 ^ 64 }
     requires fits { sum lengths.now ≤ length bytes.now }
-    ensures { (k : ℕ) → k < 64 → slice_index result k ≡ weighted_sum_at row (columns_of lengths.now bytes.now) (at + k) }
+    ensures { AreSumsFrom row lengths.now bytes.now at result }
 {
     let mut sums = u8x64::splat(0);
     let mut rest = bytes;
@@ -104,8 +106,9 @@ fn fill_ends(row: u8, target: &mut [u8], from: usize, lengths: &[usize], bytes: 
     requires row { row ≤ 1 }
     requires from { from ≤ length target.old }
     requires fits { sum lengths.now ≤ length bytes.now }
-    requires begun { (j : ℕ) → j < from → slice_index target.old j ≡ weighted_sum_at row (columns_of lengths.now bytes.now) j }
-    ensures { EachIndex target.new (λ j. slice_index target.new j ≡ weighted_sum_at row (columns_of lengths.now bytes.now) j) }
+    requires begun { (j : ℕ) → j < from
+        → slice_index target.old j ≡ weighted_sum_at row (columns_of lengths.now bytes.now) j }
+    ensures { AreSums row lengths.now bytes.now target.new }
 {
     let mut at = from;
     while at < target.len() {
@@ -121,7 +124,7 @@ fn first_sums(lengths: &[usize], bytes: &[u8], at: usize) -> u8x64
     requires reach { All (λ n. at + 64 ≤ n) lengths.now }
     requires fits { sum lengths.now ≤ length bytes.now }
     ensures count { length result ≡ 64 }
-    ensures sums { (k : ℕ) → k < 64 → slice_index result k ≡ weighted_sum_at 0 (columns_of lengths.now bytes.now) (at + k) }
+    ensures sums { AreSumsFrom 0 lengths.now bytes.now at result }
 {
     let mut sums = u8x64::splat(0);
     let mut rest = bytes;
@@ -141,8 +144,8 @@ fn both_sums(lengths: &[usize], bytes: &[u8], at: usize) -> (u8x64, u8x64)
     requires fits { sum lengths.now ≤ length bytes.now }
     ensures first_count { length result.0 ≡ 64 }
     ensures second_count { length result.1 ≡ 64 }
-    ensures first { (k : ℕ) → k < 64 → slice_index result.0 k ≡ weighted_sum_at 0 (columns_of lengths.now bytes.now) (at + k) }
-    ensures second { (k : ℕ) → k < 64 → slice_index result.1 k ≡ weighted_sum_at 1 (columns_of lengths.now bytes.now) (at + k) }
+    ensures first { AreSumsFrom 0 lengths.now bytes.now at result.0 }
+    ensures second { AreSumsFrom 1 lengths.now bytes.now at result.1 }
 {
     let mut first = u8x64::splat(0);
     let mut second = u8x64::splat(0);
@@ -172,7 +175,7 @@ fn common_length(lengths: &[usize], rows: usize) -> usize
 /// Makes `first` the first parity of the columns of these lengths, which lie one after the other in `bytes`.
 pub(crate) fn fill_first(first: &mut [u8], lengths: &[usize], bytes: &[u8])
     requires fits { sum lengths.now ≤ length bytes.now }
-    ensures { EachIndex first.new (λ j. slice_index first.new j ≡ weighted_sum_at 0 (columns_of lengths.now bytes.now) j) }
+    ensures { AreSums 0 lengths.now bytes.now first.new }
 {
     let common = common_length(lengths, first.len());
     let mut at = 0;
@@ -187,8 +190,8 @@ pub(crate) fn fill_first(first: &mut [u8], lengths: &[usize], bytes: &[u8])
 pub(crate) fn fill_both(first: &mut [u8], second: &mut [u8], lengths: &[usize], bytes: &[u8])
     requires rows { length second.old ≡ length first.old }
     requires fits { sum lengths.now ≤ length bytes.now }
-    ensures first { EachIndex first.new (λ j. slice_index first.new j ≡ weighted_sum_at 0 (columns_of lengths.now bytes.now) j) }
-    ensures second { EachIndex second.new (λ j. slice_index second.new j ≡ weighted_sum_at 1 (columns_of lengths.now bytes.now) j) }
+    ensures first { AreSums 0 lengths.now bytes.now first.new }
+    ensures second { AreSums 1 lengths.now bytes.now second.new }
 {
     let common = common_length(lengths, first.len());
     let mut at = 0;
