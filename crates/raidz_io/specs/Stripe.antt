@@ -32,6 +32,10 @@ pub record AreParities (count size : ℕ) (bytes : List ℕ) (parities : List (L
   pub read : (row : ℕ) (part : List ℕ) → slice_get (columns_of (replicate count size) bytes) row ≡ Some part → length part ≡ size
       → slice_get parities row ≡ Some part
 
+-- the first n columns of a block with so many parities, in the order in which they are read
+abbrev pub first_read : ℕ → ℕ → List Column → List Column
+first_read n parity layout = take n (drop parity layout ++ take parity layout)
+
 -- the columns have these sizes
 pub record HasSizes (parity : ℕ) (sizes : List ℕ) (columns : Block) : Type 0 where
   pub parity_sizes : map length columns.parity ≡ replicate parity (slice_index sizes 0)

@@ -36,14 +36,16 @@ impl Extent {
 
         // What stands on all disks but those that are absent, is read truly and has the digest, is the answer.
         ensures block { IfOk result (λ bytes. IsHonestSince disks.old disks.new → (block : List ℕ)
-            → ExtentStands (content disks.old) (absent_since disks.old disks.new missing.now) self block → sha256 block ≡ digest.now
-            → bytes.items ≡ block) }
+            → ExtentStands (content disks.old) (absent_since disks.old disks.new missing.now) self block
+            → sha256 block ≡ digest.now → bytes.items ≡ block) }
 
         // The answer's columns are what was read, but for as many as there are parities.
         ensures choice { IfOk result (λ bytes. IsChoice disks.old disks.new self bytes.items) }
         ensures refused { IfErr result (λ refusal. (refusal ≡ Refusal.NoMemory)
-            ⊎ (((refusal ≡ Refusal.DiskFault) × MoreAreLost self (absent_since disks.old disks.new missing.now))
-            ⊎ ((refusal ≡ Refusal.BadDigest) × HasNoChoice disks.old disks.new missing.now digest.now self))) }
+            ⊎ (((refusal ≡ Refusal.DiskFault)
+            × MoreAreLost self (absent_since disks.old disks.new missing.now))
+            ⊎ ((refusal ≡ Refusal.BadDigest)
+            × HasNoChoice disks.old disks.new missing.now digest.now self))) }
     {
         child_holds_one_column();
         let layout = self.layout();

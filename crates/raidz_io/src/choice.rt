@@ -55,7 +55,9 @@ fn with_parity(
 ) -> Result<Vec<u8>, AllocError>
     requires stripe { IsStripe parity (sizes_of data.now) }
     requires size { length block.now ≡ sum (sizes_of data.now) }
-    ensures { IfOk result (λ whole. (columns : Block) × IsWhole parity (sizes_of data.now) block.now columns × (whole.items ≡ joined (read_columns columns))) }
+    ensures { IfOk result (λ whole. (columns : Block)
+        × IsWhole parity (sizes_of data.now) block.now columns
+        × (whole.items ≡ joined (read_columns columns))) }
 {
     let mut whole = Vec::from_slice(alloc, block)?;
     let block = Vec::from_slice(alloc, block)?;
@@ -76,8 +78,10 @@ fn column_agrees(wrong: &[usize], column: usize, whole: &[u8], bytes: &[u8]) -> 
 fn agree(sizes: &[usize], whole: &[u8], bytes: &[u8], wrong: &[usize]) -> bool
     requires whole { sum sizes.now ≡ length whole.now }
     requires bytes { sum sizes.now ≡ length bytes.now }
-    ensures yes { IsTrue result → MatchesBut wrong.now (columns_of sizes.now whole.now) (columns_of sizes.now bytes.now) }
-    ensures no { MatchesBut wrong.now (columns_of sizes.now whole.now) (columns_of sizes.now bytes.now) → IsTrue result }
+    ensures yes { IsTrue result
+        → MatchesBut wrong.now (columns_of sizes.now whole.now) (columns_of sizes.now bytes.now) }
+    ensures no { MatchesBut wrong.now (columns_of sizes.now whole.now)
+        (columns_of sizes.now bytes.now) → IsTrue result }
 {
     let mut whole_rest = whole;
     let mut bytes_rest = bytes;
@@ -107,8 +111,13 @@ fn try_choice(
     requires whole { length bytes.now ≡ sum (stripe_sizes parity (sizes_of data.now)) }
     requires few { length wrong.now ≤ parity }
     requires below { All (λ k. k < length data.now + parity) wrong.now }
-    ensures found { IfOk result (λ found. IfSome found (λ block. IsFound digest.now parity (sizes_of data.now) bytes.now wrong.now block.items)) }
-    ensures none { IfOk result (λ found. IfNone found (HasNone digest.now parity (sizes_of data.now) bytes.now wrong.now)) }
+    ensures found { IfOk result
+        (λ found. IfSome found
+        (λ block. IsFound digest.now parity
+        (sizes_of data.now) bytes.now wrong.now block.items)) }
+    ensures none { IfOk result
+        (λ found. IfNone found
+        (HasNone digest.now parity (sizes_of data.now) bytes.now wrong.now)) }
 {
     let block = rebuilt(alloc, data, parity, bytes, wrong)?;
     let block = block.as_slice();
@@ -160,8 +169,12 @@ fn try_one_more(
     requires whole { length bytes.now ≡ sum (stripe_sizes parity (sizes_of data.now)) }
     requires few { length wrong.now < parity }
     requires below { All (λ k. k < length data.now + parity) wrong.now }
-    ensures found { IfOk result (λ found. IfSome found (λ block. IsFoundChoice digest.now parity (sizes_of data.now) bytes.now wrong.now block.items)) }
-    ensures none { IfOk result (λ found. IfNone found ((k : ℕ) → from ≤ k → k < length data.now + parity
+    ensures found { IfOk result
+        (λ found. IfSome found
+        (λ block. IsFoundChoice digest.now parity
+        (sizes_of data.now) bytes.now wrong.now block.items)) }
+    ensures none { IfOk result (λ found. IfNone found ((k : ℕ) → from ≤ k
+        → k < length data.now + parity
         → HasNone digest.now parity (sizes_of data.now) bytes.now (wrong.now ++ k ∷ []))) }
 {
     for column in from..data.len() + parity {
@@ -187,9 +200,14 @@ fn try_two_more(
     requires whole { length bytes.now ≡ sum (stripe_sizes parity (sizes_of data.now)) }
     requires few { length wrong.now + 1 < parity }
     requires below { All (λ k. k < length data.now + parity) wrong.now }
-    ensures found { IfOk result (λ found. IfSome found (λ block. IsFoundChoice digest.now parity (sizes_of data.now) bytes.now wrong.now block.items)) }
-    ensures none { IfOk result (λ found. IfNone found ((i k : ℕ) → i < k → k < length data.now + parity
-        → HasNone digest.now parity (sizes_of data.now) bytes.now ((wrong.now ++ i ∷ []) ++ k ∷ []))) }
+    ensures found { IfOk result
+        (λ found. IfSome found
+        (λ block. IsFoundChoice digest.now parity
+        (sizes_of data.now) bytes.now wrong.now block.items)) }
+    ensures none { IfOk result (λ found. IfNone found ((i k : ℕ) → i < k
+        → k < length data.now + parity
+        → HasNone digest.now parity (sizes_of data.now) bytes.now ((wrong.now ++ i ∷ []) ++ k
+        ∷ []))) }
 {
     for column in 0..data.len() + parity {
         let choice = with_column(wrong, column);
@@ -223,14 +241,22 @@ pub(crate) fn find_choice(
     requires whole { length bytes.now ≡ sum (stripe_sizes parity (sizes_of data.now)) }
     requires few { length lost.now ≤ parity }
     requires below { All (λ k. k < length data.now + parity) lost.now }
-    ensures found { IfOk result (λ found. IfSome found (λ block. IsFoundChoice digest.now parity (sizes_of data.now) bytes.now lost.now block.items)) }
+    ensures found { IfOk result
+        (λ found. IfSome found
+        (λ block. IsFoundChoice digest.now parity
+        (sizes_of data.now) bytes.now lost.now block.items)) }
 
     // Where nothing but the lost columns is wrong, the answer is that block.
-    ensures first { IfOk result (λ found. IfSome found (λ block. (other : List ℕ) (right : Block) → IsWhole parity (sizes_of data.now) other right
-        → MatchesBut lost.now (read_columns right) (columns_of (stripe_sizes parity (sizes_of data.now)) bytes.now) → sha256 other ≡ digest.now
+    ensures first { IfOk result (λ found. IfSome found (λ block. (other : List ℕ) (right : Block)
+        → IsWhole parity (sizes_of data.now) other right
+        → MatchesBut lost.now (read_columns right)
+        (columns_of (stripe_sizes parity (sizes_of data.now)) bytes.now)
+        → sha256 other ≡ digest.now
         → block.items ≡ other)) }
-    ensures none { IfOk result (λ found. IfNone found ((further : List ℕ) → AreFurther 0 (length data.now + parity) further
-        → length lost.now + length further ≤ parity → HasNone digest.now parity (sizes_of data.now) bytes.now (lost.now ++ further))) }
+    ensures none { IfOk result (λ found. IfNone found ((further : List ℕ)
+        → AreFurther 0 (length data.now + parity) further
+        → length lost.now + length further ≤ parity
+        → HasNone digest.now parity (sizes_of data.now) bytes.now (lost.now ++ further))) }
 {
     if let Some(block) = try_choice(alloc, data, parity, bytes, lost, digest)? {
         return Ok(Some(block));

@@ -56,8 +56,11 @@ fn columns_in(
 ) -> Result<Columns, AllocError>
     requires stripe { IsStripe parity (sizes_of data.now) }
     requires whole { sum (sizes_of data.now) ≤ length bytes.now }
-    ensures parity { IfOk result (λ columns. AreParities parity (slice_index (sizes_of data.now) 0) (drop (sum (sizes_of data.now)) bytes.now) columns.parity) }
-    ensures block { IfOk result (λ columns. columns.data_columns ≡ columns_of (sizes_of data.now) (take (sum (sizes_of data.now)) bytes.now)) }
+    ensures parity { IfOk result
+        (λ columns. AreParities parity (slice_index (sizes_of data.now) 0)
+        (drop (sum (sizes_of data.now)) bytes.now) columns.parity) }
+    ensures block { IfOk result (λ columns. columns.data_columns
+        ≡ columns_of (sizes_of data.now) (take (sum (sizes_of data.now)) bytes.now)) }
 {
     let _len = bytes.len();
     let sizes = sizes(data);
@@ -97,8 +100,11 @@ pub(crate) fn rebuilt(
     requires whole { sum (sizes_of data.now) ≤ length bytes.now }
     requires few { length wrong.now ≤ parity }
     requires below { All (λ k. k < length data.now + parity) wrong.now }
-    ensures { IfOk result (λ block. (right : Block) → AreBytes right.data_columns → IsParity right → HasSizes parity (sizes_of data.now) right
-        → MatchesBut wrong.now (read_columns right) (columns_of (stripe_sizes parity (sizes_of data.now)) bytes.now) → block.items ≡ joined right.data_columns) }
+    ensures { IfOk result (λ block. (right : Block) → AreBytes right.data_columns
+        → IsParity right → HasSizes parity (sizes_of data.now) right
+        → MatchesBut wrong.now (read_columns right)
+        (columns_of (stripe_sizes parity (sizes_of data.now)) bytes.now)
+        → block.items ≡ joined right.data_columns) }
 {
     let mut columns = columns_in(alloc, data, parity, bytes)?;
     columns

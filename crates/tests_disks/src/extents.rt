@@ -1,11 +1,11 @@
 //! Blocks on arrays of disks, written, spoilt and read back. A set of disks is a number, bit k for disk k.
-ghost use Rattle.std.specs.Prelude.{ℕ, ◌≡◌, ◌≤◌, ◌<◌, length, IfOk};
+ghost use Rattle.std.specs.Prelude.{◌≡◌, ◌≤◌, length, IfOk};
 ghost use Rattle.model_disk.specs.FaultDisk.{start_of};
-ghost use Rattle.model_disk.specs.Joint.{bytes_of};
+ghost use Rattle.model_disk.specs.Memory.{HaveSize};
 ghost use Rattle.raidz_io.specs.Places.{CanHold, IsOnDisks};
 
 use model_disk::{DiskArray, DiskError, Fault, FaultDisk, MemDisk};
-use raidz_io::{ColumnWrite, Extent, Refusal, Vdev, extent_fits};
+use raidz_io::{ColumnWrite, DATA_START, Extent, Refusal, Vdev, extent_fits};
 use raidz_map::Geometry;
 use sha2::{Digest, Sha256};
 use std::alloc::{AllocError, Global};
@@ -57,7 +57,7 @@ fn disk(alloc: Global, fails: bool) -> Result<FaultDisk<MemDisk>, AllocError>
 /// So many disks, of which those of this set do one call and no more.
 fn several(alloc: Global, count: usize, failing: u32) -> Result<Disks, AllocError>
     ensures count { IfOk result (λ disks. length disks.starts ≡ count) }
-    ensures sizes { IfOk result (λ disks. (which : ℕ) → which < count → length (bytes_of disks.starts which) ≡ 0x401000) }
+    ensures sizes { IfOk result (λ disks. HaveSize count 0x401000 disks.starts) }
 {
     let mut disks = DiskArray::new(Vec::new(alloc));
     for which in 0..count {
@@ -97,7 +97,7 @@ fn spoil(disks: &mut Disks, wrong: &[usize]) -> Result<(), DiskError>
 {
     for &which in wrong {
         if which < disks.len() && disks.size(which) == SIZE as u64 {
-            disks.write_at(which, 0x400000, &[0xa5; 0x1000])?;
+            disks.write_at(which, DATA_START, &[0xa5; 0x1000])?;
         }
     }
     Ok(())
