@@ -1,9 +1,9 @@
 ghost use Rattle.std.specs.Prelude.{◌≡◌, IfOk, IfErr};
 ghost use Rattle.dnode.specs.Dnode.{FitsDnode, SpellsDnode, dnode_bytes};
 
-use crate::fields::is_zero;
 use crate::node::ObjectNode;
 use crate::refusal::Refusal;
+use words::is_zero;
 
 /// A slot among an object set's dnodes.
 #[derive(Clone, Copy, Debug, PartialEq, Eq)]

@@ -4,7 +4,6 @@
 #![tactic(auto)]
 
 mod dnode;
-mod fields;
 mod indirect;
 mod levels;
 mod node;
@@ -17,6 +16,3 @@ pub use levels::levels_of;
 pub use node::ObjectNode;
 pub use object_set::{ObjectSet, ObjectSetKind};
 pub use refusal::Refusal;
-
-#[cfg(test)]
-mod tests;

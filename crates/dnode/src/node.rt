@@ -2,10 +2,10 @@ ghost use Rattle.std.specs.Prelude.{◌≡◌, ◌↔◌, ◌<◌, ◌^◌, IsTr
 ghost use Rattle.dnode.specs.Levels.{levels_of as the_levels_of};
 ghost use Rattle.dnode.specs.Node.{FitsNode, SpellsNode, IsRead, PointsToRoot, node_bytes, node_words, head_bytes, root_sectors};
 
-use crate::fields::{bytes_at, is_zero, put, put_words, words_at};
 use crate::levels::levels_of;
 use crate::refusal::Refusal;
 use block_pointer::BlockPtr;
+use words::{bytes_at, is_zero, put, put_words, words_at};
 
 /// An object: the tree of its blocks.
 #[derive(Clone, Copy, Debug, PartialEq, Eq)]

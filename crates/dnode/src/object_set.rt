@@ -1,9 +1,9 @@
 ghost use Rattle.std.specs.Prelude.{◌≡◌, ◌↔◌, ◌<◌, ◌^◌, IsTrue, IfOk, IfErr};
 ghost use Rattle.dnode.specs.ObjectSet.{FitsObjectSet, SpellsObjectSet, IsObjectSet, IsSetRead, kind_word, object_set_bytes};
 
-use crate::fields::{bytes_at, is_zero, put, put_words, words_at};
 use crate::node::ObjectNode;
 use crate::refusal::Refusal;
+use words::{bytes_at, is_zero, put, put_words, words_at};
 
 /// What the objects of a set are.
 #[derive(Clone, Copy, Debug, PartialEq, Eq)]

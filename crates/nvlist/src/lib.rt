@@ -12,6 +12,3 @@ pub use list::{NvList, Pair, Value};
 pub use reading::decode;
 pub use refusal::Refusal;
 pub use writing::encode;
-
-#[cfg(test)]
-mod tests;

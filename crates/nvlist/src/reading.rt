@@ -6,8 +6,9 @@ ghost use Rattle.nvlist.specs.View.{GivesFront, list_view, value_view, lists_vie
 
 use crate::list::{LIST, LISTS, MAX_NAME_LEN, NUMBER, NvList, Pair, TEXT, Value, last_name};
 use crate::refusal::Refusal;
-use crate::text::{is_behind, is_printable, is_zero};
+use crate::text::{is_behind, is_printable};
 use std::alloc::Global;
+use words::is_zero;
 
 /// How deep lists may lie in one another, the outermost counted.
 const MAX_DEPTH: u8 = 6;

@@ -1,5 +1,4 @@
-ghost use Rattle.std.specs.Prelude.{◌≡◌, ◌==◌};
-ghost use Rattle.std.specs.List.{list_all};
+ghost use Rattle.std.specs.Prelude.{◌≡◌};
 ghost use Rattle.nvlist.specs.Grammar.{is_printable, is_behind};
 
 use std::cmp::Ordering;
@@ -9,12 +8,6 @@ pub(crate) fn is_printable(bytes: &[u8]) -> bool
     ensures { result ≡ is_printable bytes.now }
 {
     bytes.iter().all(|b| 0x20 <= *b && *b <= 0x7e)
-}
-
-pub(crate) fn is_zero(bytes: &[u8]) -> bool
-    ensures { result ≡ list_all (λ b. b == 0) bytes.now }
-{
-    bytes.iter().all(|b| *b == 0)
 }
 
 /// Whether a name stands behind another in byte order.

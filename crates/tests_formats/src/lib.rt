@@ -2,4 +2,16 @@
 #![tactic(auto)]
 
 #[cfg(test)]
+mod labels;
+#[cfg(test)]
+mod lists;
+#[cfg(test)]
+mod nodes;
+#[cfg(test)]
+mod pointers;
+#[cfg(test)]
+mod seals;
+#[cfg(test)]
+mod slots;
+#[cfg(test)]
 mod space_maps;

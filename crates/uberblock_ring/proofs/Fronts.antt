@@ -1,7 +1,5 @@
 -- The fields of a front and the uberblock that they make.
-use Rattle.std.proofs.Common.{◌≡◌, ◌==◌, ℕ, zero, suc, ◌+◌, ◌-◌, Bool, true, false, ◌&&◌, List, [], ◌∷◌, ◌++◌, length, take, drop, refl, sym, ap, subst, ◌∙◌, append_assoc, arith}
-use Rattle.std.specs.List.{list_all}
-use Rattle.std.proofs.lemmas.Bool.{eqb-true}
+use Rattle.std.proofs.Common.{◌≡◌, ℕ, ◌+◌, ◌-◌, List, [], ◌∷◌, ◌++◌, length, take, drop, refl, sym, ap, subst, ◌∙◌, append_assoc, arith}
 use Rattle.std.specs.Prelude.{replicate}
 use Rattle.std.proofs.lemmas.List.{take_at, drop_at, drop-drop, length-append, length-take, length-drop}
 use Rattle.std.proofs.Math.Seq.{take-append-add}
@@ -68,26 +66,6 @@ front_made front head root root_bytes claim digest u len from is =
 pub AreWords-head : (u : Uberblock) → Fits u → AreWords (head_words u)
 AreWords-head u fits = (omega arith, (omega arith, (omega (arith, fits.group.1), (fits.guid_sum, (fits.timestamp, tt)))))
 
--- ---- zeros
-
-both_pass : (a b : Bool) → (a && b) ≡ true → (a ≡ true) × (b ≡ true)
-both_pass true b e = (refl, e)
-both_pass false b e = absurd cc
-
-pub zeros_are : (n : ℕ) (bytes : List ℕ) → length bytes ≡ n → list_all (λ b. b == 0) bytes ≡ true → bytes ≡ replicate n 0
-zeros_are zero [] len e = refl
-zeros_are zero (b ∷ bytes) len e = absurd (omega arith)
-zeros_are (suc n) [] len e = absurd (omega arith)
-zeros_are (suc n) (b ∷ bytes) len e =
-    let both = both_pass (b == 0) (list_all (λ x. x == 0) bytes) e in
-    let first : b ≡ 0 = eqb-true b 0 both.0 in
-    let others = zeros_are n bytes (omega arith) both.1 in
-    cc
-
-pub zeros_pass : (n : ℕ) → list_all (λ b. b == 0) (replicate n 0) ≡ true
-zeros_pass zero = refl
-zeros_pass (suc n) = zeros_pass n
-
 -- ---- fields that are put one behind another
 
 -- the front is written so far, and zeros stand behind it
@@ -110,10 +88,11 @@ regrouped : (head root claim digest zeros : List ℕ) → (((head ++ root) ++ cl
 regrouped head root claim digest zeros = simp append_assoc
 
 pub front_put : (head root claim digest one two three four : List ℕ) → length head ≡ 40 → length root ≡ 128 → length claim ≡ 8 → length digest ≡ 32
-    → one ≡ take 0 blank ++ (head ++ drop (0 + length head) blank) → two ≡ take 40 one ++ (root ++ drop (40 + length root) one) → three ≡ take 168 two ++ (claim ++ drop (168 + length claim) two)
+    → one ≡ take 0 blank ++ (head ++ drop 40 blank) → two ≡ take 40 one ++ (root ++ drop (40 + length root) one) → three ≡ take 168 two ++ (claim ++ drop (168 + length claim) two)
     → four ≡ take 176 three ++ (digest ++ drop (176 + length digest) three) → take (length four - 40) four ≡ head ++ (root ++ (claim ++ (digest ++ no_bytes)))
 front_put head root claim digest one two three four head_len root_len claim_len digest_len first second third fourth =
-    let p1 = put_more 0 40 [] blank blank head one (refl, refl) head_len first in
+    let place : 40 ≡ 0 + length head = omega (arith, head_len) in
+    let p1 = put_more 0 40 [] blank blank head one (refl, refl) head_len (first ∙ ap (λ (n : ℕ). take 0 blank ++ (head ++ drop n blank)) place) in
     let p2 = put_more 40 128 head blank one root two p1 root_len second in
     let p3 = put_more 168 8 (head ++ root) blank two claim three p2 claim_len third in
     let p4 = put_more 176 32 ((head ++ root) ++ claim) blank three digest four p3 digest_len fourth in

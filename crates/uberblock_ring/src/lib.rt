@@ -3,7 +3,6 @@
 //! seal.
 #![tactic(auto)]
 
-mod fields;
 mod ranking;
 mod refusal;
 mod slot;
@@ -13,6 +12,3 @@ pub use ranking::best;
 pub use refusal::Refusal;
 pub use slot::{SLOT_LEN, decode_slot, encode_slot, slot_of, slot_offset};
 pub use uberblock::Uberblock;
-
-#[cfg(test)]
-mod tests;

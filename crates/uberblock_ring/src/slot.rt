@@ -2,11 +2,10 @@ ghost use Rattle.std.specs.Prelude.{◌≡◌, ◌+◌, ◌*◌, length, IfOk, I
 ghost use Rattle.uberblock_ring.specs.Uberblock.{Fits};
 ghost use Rattle.uberblock_ring.specs.Slot.{front_bytes, slot_bytes, slot_number, SpellsSlot};
 
-use crate::fields::{claim_of, digest_of, ends_in_zeros, head_bytes, head_of, put, root_of};
 use crate::refusal::Refusal;
 use crate::uberblock::Uberblock;
 use block_pointer::BlockPtr;
-use words::{check_seal, seal};
+use words::{bytes_at, check_seal, is_zero, put, put_words, seal, word_at, words_at};
 
 /// How many bytes a slot has.
 pub const SLOT_LEN: usize = 1024;
@@ -37,7 +36,7 @@ pub fn encode_slot(uberblock: &Uberblock) -> [u8; 1024]
     ensures { result ≡ slot_bytes uberblock.now }
 {
     let mut bytes = [0; SLOT_LEN];
-    put(&mut bytes, 0, &head_bytes(uberblock.head_words()));
+    put_words(&mut bytes, 0, &uberblock.head_words());
     put(
         &mut bytes,
         40,
@@ -75,11 +74,14 @@ fn read_front(front: &[u8]) -> Result<Uberblock, Refusal>
     ensures only { (u : Uberblock) → Fits u → front.now ≡ front_bytes u → result ≡ Ok u }
     ensures refused { IfErr result (λ refusal. refusal ≡ Refusal.NoUberblock) }
 {
-    if !ends_in_zeros(front) {
+    let (_, rest) = front.split_at(208);
+    if !is_zero(rest) {
         return Err(Refusal::NoUberblock);
     }
-    let Ok(root) = block_pointer::decode(&root_of(front)) else {
+    let Ok(root) = block_pointer::decode(&bytes_at(front, 40)) else {
         return Err(Refusal::NoUberblock);
     };
-    Uberblock::from_fields(head_of(front), root, claim_of(front), digest_of(front))
+    let head = words_at(front, 0);
+    let claim = word_at(front, 168);
+    Uberblock::from_fields(head, root, claim, bytes_at(front, 176))
 }

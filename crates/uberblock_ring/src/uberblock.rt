@@ -3,6 +3,7 @@ ghost use Rattle.uberblock_ring.specs.Uberblock.{IsRead, head_words};
 
 use crate::refusal::Refusal;
 use block_pointer::{Block, BlockPtr, Copies};
+use words::LAST_COUNT;
 
 /// The root of what one transaction group committed.
 #[derive(Clone, Copy, Debug, PartialEq, Eq)]
@@ -24,9 +25,6 @@ pub struct Uberblock {
 const MAGIC: u64 = 0x00ba_b10c;
 
 const VERSION: u64 = 1;
-
-/// The greatest group, and the greatest claim.
-const MAX_NUMBER: u64 = 1 << 62;
 
 /// The type of the block that an object set stands in.
 const OBJECT_SET: u8 = 11;
@@ -58,7 +56,7 @@ impl Uberblock {
             && root.property.level == 0
             && root.property.object_type == OBJECT_SET
             && root.birth == group;
-        let in_range = 0 < group && group <= MAX_NUMBER && 0 < claim && claim <= MAX_NUMBER;
+        let in_range = 0 < group && group <= LAST_COUNT && 0 < claim && claim <= LAST_COUNT;
         if head[0] != MAGIC || head[1] != VERSION || !is_root || !in_range {
             return Err(Refusal::NoUberblock);
         }

@@ -1,5 +1,5 @@
 //! From the area of a label's list to the label.
-ghost use Rattle.std.specs.Prelude.{◌≡◌, ◌≢◌, ◌≤◌, ℕ, ◌-◌, ◌++◌, List, length, replicate, IfOk, IfErr, IsTrue, ◌↔◌};
+ghost use Rattle.std.specs.Prelude.{◌≡◌, ◌≢◌, ◌≤◌, ℕ, ◌-◌, ◌++◌, List, length, IfOk, IfErr};
 ghost use Rattle.nvlist.specs.Plain.{PlainList};
 ghost use Rattle.nvlist.specs.View.{list_view};
 ghost use Rattle.words.specs.Seal.{sealed};
@@ -14,13 +14,7 @@ use crate::reading::label_of;
 use crate::refusal::{Breach, Refusal};
 use nvlist::NvList;
 use std::alloc::Global;
-use words::{SealFault, check_seal};
-
-fn is_zeros(bytes: &[u8]) -> bool
-    ensures { IsTrue result ↔ (bytes.now ≡ replicate (length bytes.now) 0) }
-{
-    bytes.iter().all(|b| *b == 0)
-}
+use words::{SealFault, check_seal, is_zero};
 
 /// The list in front of an area, with only zeros behind it.
 fn front_list(alloc: Global, front: &[u8]) -> Result<NvList, Refusal>
@@ -35,7 +29,7 @@ fn front_list(alloc: Global, front: &[u8]) -> Result<NvList, Refusal>
         Err(nvlist::Refusal::NoMemory) => return Err(Refusal::NoMemory),
         Err(nvlist::Refusal::BadLabel) => return Err(Refusal::BadLabel(Breach::List)),
     };
-    if !is_zeros(&front[len..]) {
+    if !is_zero(&front[len..]) {
         return Err(Refusal::BadLabel(Breach::List));
     }
     Ok(list)

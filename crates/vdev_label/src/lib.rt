@@ -17,6 +17,3 @@ pub use encoding::encode_area;
 pub use label::{Config, Label, State, Vdev};
 pub use place::{AREA_LEN, LABEL_LEN, LABELS, label_offset, labels_are_apart};
 pub use refusal::{Breach, Refusal};
-
-#[cfg(test)]
-mod tests;

@@ -8,12 +8,10 @@ ghost use Rattle.vdev_label.specs.Refuses.{Refuses};
 
 use crate::refusal::{Breach, Refusal};
 use nvlist::NvList;
+use words::LAST_COUNT;
 
 /// What is answered where a pair is missing, of another type, additional or out of range.
 pub(crate) const BAD_PAIRS: Refusal = Refusal::BadLabel(Breach::Pairs);
-
-/// Counts of claims and of groups end here.
-const COUNT_END: u64 = 0x4000_0000_0000_0000;
 
 #[tactic(auto, using(crate::proofs::Lookups::is_number, crate::proofs::Lookups::no_number))]
 pub(crate) fn number_of(pairs: &NvList, name: &str) -> Result<u64, Refusal>
@@ -33,7 +31,7 @@ pub(crate) fn count_of(pairs: &NvList, name: &str) -> Result<u64, Refusal>
     ensures bad { IfErr result (λ refusal. Refuses refusal ((n : ℕ) → IsCount n → find name.now (list_view pairs.now) ≢ Some (number n))) }
 {
     let n = number_of(pairs, name)?;
-    if n == 0 || COUNT_END < n {
+    if n == 0 || LAST_COUNT < n {
         return Err(BAD_PAIRS);
     }
     Ok(n)

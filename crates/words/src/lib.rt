@@ -1,11 +1,14 @@
-//! What the formats on disk share: words of 64 bits as bytes, and the seal at the end of an area.
+//! What the formats on disk share: fields of bytes, words of 64 bits and zeros, the seal at the end of
+//! an area, and where counts end.
 #![tactic(auto)]
 
+mod fields;
 mod reading;
 mod sealing;
 
-pub use reading::read_words;
+pub use fields::{bytes_at, is_zero, put, put_words, word_at, words_at};
+pub use reading::{read_words, write_words};
 pub use sealing::{SEAL_LEN, SealFault, check_seal, seal};
 
-#[cfg(test)]
-mod tests;
+/// The last group, and the last claim.
+pub const LAST_COUNT: u64 = 1 << 62;

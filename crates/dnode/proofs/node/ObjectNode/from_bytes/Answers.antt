@@ -9,7 +9,7 @@ returns-then-not-is_zero-clause-only c = λ n spells.
     let cut = fields_of c.args.bytes.now n c.told-bytes spells.1 in
     let rest = c.split_at.result.1.now in
     let len : length rest ≡ 320 = omega (arith, c.split_at.ensures.back_len, c.told-bytes) in
-    let test = c.is_zero.ensures.1 (own_zeros 320 rest len (c.split_at.ensures.back ∙ cut.zeros_are)) in
+    let test = c.is_zero.ensures.zeros.1 (own_zeros 320 rest len (c.split_at.ensures.back ∙ cut.zeros_are)) in
     absurd cc
 
 pub returns-in_default-clause-only : goal.returns-in_default-clause-only
@@ -23,7 +23,7 @@ returns-clause-found c =
     let bytes = c.args.bytes.now in
     let rest = c.split_at.result.1.now in
     let len : length rest ≡ 320 = omega (arith, c.split_at.ensures.back_len, c.told-bytes) in
-    let zeros : drop 192 bytes ≡ no_bytes 320 = sym c.split_at.ensures.back ∙ their_zeros 320 rest len (c.is_zero.ensures.0 c.if-not-is_zero.false) in
+    let zeros : drop 192 bytes ≡ no_bytes 320 = sym c.split_at.ensures.back ∙ their_zeros 320 rest len (c.is_zero.ensures.zeros.0 c.if-not-is_zero.false) in
     let from : IsReadFrom bytes c.bytes_at-2.result c.words_at.result c.in-Ok.pointer c.bytes_at.result = record {
       head_at = c.bytes_at-2.ensures;
       words_at = c.words_at.ensures.found;

@@ -9,7 +9,7 @@ returns-then-not-is_zero-clause-only c = λ s spells.
     let cut = parts_of c.args.bytes.now s c.told-bytes spells.1 in
     let rest = c.split_at.result.1.now in
     let len : length rest ≡ 496 = omega (arith, c.split_at.ensures.back_len, c.told-bytes) in
-    let test = c.is_zero.ensures.1 (own_zeros 496 rest len (c.split_at.ensures.back ∙ cut.zeros_are)) in
+    let test = c.is_zero.ensures.zeros.1 (own_zeros 496 rest len (c.split_at.ensures.back ∙ cut.zeros_are)) in
     absurd cc
 
 pub returns-in_err-dnodes-clause-only : goal.returns-in_err-dnodes-clause-only
@@ -23,7 +23,7 @@ returns-clause-found c =
     let bytes = c.args.bytes.now in
     let rest = c.split_at.result.1.now in
     let len : length rest ≡ 496 = omega (arith, c.split_at.ensures.back_len, c.told-bytes) in
-    let zeros : drop 528 bytes ≡ no_bytes 496 = sym c.split_at.ensures.back ∙ their_zeros 496 rest len (c.is_zero.ensures.0 c.if-not-is_zero.false) in
+    let zeros : drop 528 bytes ≡ no_bytes 496 = sym c.split_at.ensures.back ∙ their_zeros 496 rest len (c.is_zero.ensures.zeros.0 c.if-not-is_zero.false) in
     let node = c.bytes_at.result in
     let words = c.words_at.result in
     let dnodes = c.in_ok-dnodes.dnodes in

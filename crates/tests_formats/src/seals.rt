@@ -1,5 +1,5 @@
-use super::*;
 use std::test::*;
+use words::*;
 
 /// Eight zeros and their seal. Its digest is what coreutils' `sha256sum` makes of the eight zeros, the
 /// word and 32 zeros.
@@ -41,4 +41,26 @@ fn words_are_read_lowest_byte_first(rt: HostRuntime) {
     let mut words = [0; 2];
     read_words(&SEALED[..16], &mut words);
     assert_eq!(rt; words, [0, 0x0210_da7a_b10c_7a11]);
+}
+
+#[test]
+fn words_are_written_lowest_byte_first(rt: HostRuntime) {
+    let mut bytes = [0; 16];
+    write_words(&[0, 0x0210_da7a_b10c_7a11], &mut bytes);
+    assert_eq!(rt; bytes.as_slice(), &SEALED[..16]);
+}
+
+#[test]
+fn fields_are_put_and_read(rt: HostRuntime) {
+    let mut block = [9; 20];
+    put(&mut block, 1, &[1, 2]);
+    put_words(&mut block, 3, &[0x0102, 0x0300]);
+    assert_eq!(rt; &block[..6], [9, 1, 2, 2, 1, 0].as_slice());
+    assert_eq!(rt; bytes_at::<2>(&block, 1), [1, 2]);
+    assert_eq!(rt; words_at::<2>(&block, 3), [0x0102, 0x0300]);
+    assert_eq!(rt; word_at(&block, 11), 0x0300);
+    assert_eq!(rt;
+        (is_zero(&block[5..12]), is_zero(&block[5..13])),
+        (true, false)
+    );
 }

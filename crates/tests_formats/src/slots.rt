@@ -1,6 +1,6 @@
-use super::*;
 use block_pointer::{Block, Copies, Dva, Property};
 use std::test::*;
+use uberblock_ring::*;
 use words::seal;
 
 const ROOT: Block = Block {
@@ -48,22 +48,41 @@ fn slots_of_groups(rt: HostRuntime) {
     assert_eq!(rt; slot_offset(130), 133_120);
 }
 
+/// Bytes of the slot, from a place on.
+const FIELDS: [(usize, &[u8]); 6] = [
+    (0, &[0x0c, 0xb1, 0xba, 0, 0, 0, 0, 0]),
+    (16, &[4]),
+    (40, &[12, 0, 0, 0, 0, 0, 0, 0]),
+    (168, &[1]),
+    (207, &[0xdd, 0]),
+    (984, &[0x11, 0x7a, 0x0c, 0xb1, 0x7a, 0xda, 0x10, 0x02]),
+];
+
 #[test]
 fn an_uberblock_is_written_and_read(rt: HostRuntime) {
     let bytes = encode_slot(&UBERBLOCK);
-    assert_eq!(rt; &bytes[..8], [0x0c, 0xb1, 0xba, 0, 0, 0, 0, 0].as_slice());
-    assert_eq!(rt; bytes[16], 4);
-    assert_eq!(rt; &bytes[40..48], [12, 0, 0, 0, 0, 0, 0, 0].as_slice());
-    assert_eq!(rt; bytes[168], 1);
-    assert_eq!(rt; &bytes[207..209], [0xdd, 0].as_slice());
-    assert_eq!(rt;
-        &bytes[984..992],
-        [0x11, 0x7a, 0x0c, 0xb1, 0x7a, 0xda, 0x10, 0x02].as_slice()
-    );
+    for (place, field) in FIELDS {
+        assert!(rt; bytes[place..].starts_with(field), "at {place}");
+    }
     assert_eq!(rt; decode_slot(4, &bytes), Ok(UBERBLOCK));
-    assert_eq!(rt; decode_slot(5, &bytes), Err(Refusal::NoUberblock));
-    assert_eq!(rt; decode_slot(132, &bytes), Err(Refusal::NoUberblock));
-    assert_eq!(rt; decode_slot(0, &[0; 1024]), Err(Refusal::NoUberblock));
+}
+
+fn is_refused(slot: usize, bytes: &[u8; 1024]) -> bool {
+    decode_slot(slot, bytes) == Err(Refusal::NoUberblock)
+}
+
+/// Whether the bytes are refused in slot 4 as they are, and under a seal of their own.
+fn are_refused(bytes: &mut [u8; 1024]) -> (bool, bool) {
+    let unsealed = is_refused(4, bytes);
+    seal(bytes);
+    (unsealed, is_refused(4, bytes))
+}
+
+#[test]
+fn another_slot_is_refused(rt: HostRuntime) {
+    let bytes = encode_slot(&UBERBLOCK);
+    assert!(rt; is_refused(5, &bytes) && is_refused(132, &bytes));
+    assert!(rt; is_refused(0, &[0; 1024]));
 }
 
 /// What a byte must not become, even under a seal of its own, and why.
@@ -89,25 +108,18 @@ fn breaches_are_refused(rt: HostRuntime) {
     for (place, byte, why) in BREACHES {
         let mut bytes = encode_slot(&UBERBLOCK);
         bytes[place] = byte;
-        assert_eq!(rt;
-            decode_slot(4, &bytes),
-            Err(Refusal::NoUberblock),
-            "unsealed: {why}"
-        );
-        seal(&mut bytes);
-        assert_eq!(rt; decode_slot(4, &bytes), Err(Refusal::NoUberblock), "{why}");
+        assert_eq!(rt; are_refused(&mut bytes), (true, true), "{why}");
     }
 }
 
 #[test]
 fn a_hole_and_two_copies_are_no_root(rt: HostRuntime) {
-    let mut bytes = encode_slot(&UBERBLOCK);
-    bytes[72..88].copy_from_slice(&[0; 16]);
-    seal(&mut bytes);
-    assert_eq!(rt; decode_slot(4, &bytes), Err(Refusal::NoUberblock));
-    bytes[40..168].copy_from_slice(&[0; 128]);
-    seal(&mut bytes);
-    assert_eq!(rt; decode_slot(4, &bytes), Err(Refusal::NoUberblock));
+    let mut two = encode_slot(&UBERBLOCK);
+    two[72..88].fill(0);
+    let mut hole = encode_slot(&UBERBLOCK);
+    hole[40..168].fill(0);
+    assert_eq!(rt; are_refused(&mut two), (true, true));
+    assert_eq!(rt; are_refused(&mut hole), (true, true));
 }
 
 #[test]

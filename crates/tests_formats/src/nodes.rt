@@ -1,6 +1,12 @@
-use super::*;
+ghost use Rattle.block_pointer.specs.Block.{FitsBlock};
+ghost use Rattle.dnode.specs.Node.{FitsNode};
+ghost use Rattle.dnode.specs.ObjectSet.{FitsObjectSet};
+
 use block_pointer::{Block, BlockPtr, Copies, Dva, Property};
+use dnode::*;
+use std::alloc::{AllocError, Global};
 use std::test::*;
+use words::is_zero;
 
 /// An 8 KiB data block of type 23, with one copy, on device 3.
 const DATA_BLOCK: Block = Block {
@@ -92,33 +98,40 @@ fn meta_bytes() -> [u8; 1024] {
     bytes
 }
 
+/// The highest blocks, and how many levels there are above them.
+const LEVELS: [(u64, u8); 9] = [
+    (0, 1),
+    (1, 2),
+    (127, 2),
+    (128, 3),
+    (16_383, 3),
+    (16_384, 4),
+    (2_097_152, 5),
+    (268_435_456, 6),
+    (34_359_738_367, 6),
+];
+
 #[test]
 fn levels_are_the_least(rt: HostRuntime) {
-    assert_eq!(rt; levels_of(0), 1);
-    assert_eq!(rt; levels_of(1), 2);
-    assert_eq!(rt; levels_of(127), 2);
-    assert_eq!(rt; levels_of(128), 3);
-    assert_eq!(rt; levels_of(16_383), 3);
-    assert_eq!(rt; levels_of(16_384), 4);
-    assert_eq!(rt; levels_of(2_097_152), 5);
-    assert_eq!(rt; levels_of(268_435_456), 6);
-    assert_eq!(rt; levels_of(34_359_738_367), 6);
+    for (highest, levels) in LEVELS {
+        assert_eq!(rt; levels_of(highest.min(34_359_738_367)), levels);
+    }
     assert_eq!(rt; MANY_HOLES.levels(), 5);
+}
+
+/// Whether the bytes are those of a dnode, and are read as it.
+fn is_spelled(dnode: ObjectNode, bytes: &[u8; 512]) -> bool
+    requires { FitsNode dnode }
+{
+    let dnode = Dnode::Object(dnode);
+    dnode.encode() == *bytes && Dnode::decode(bytes) == Ok(dnode)
 }
 
 #[test]
 fn a_dnode_is_written_and_read(rt: HostRuntime) {
-    let one_block = Dnode::Object(ONE_BLOCK);
-    assert_eq!(rt; one_block.encode(), one_block_bytes());
-    assert_eq!(rt; Dnode::decode(&one_block_bytes()), Ok(one_block));
-    let many_holes = Dnode::Object(MANY_HOLES);
-    assert_eq!(rt; many_holes.encode(), many_holes_bytes());
-    assert_eq!(rt; Dnode::decode(&many_holes_bytes()), Ok(many_holes));
-}
-
-#[test]
-fn a_free_dnode_is_zeros(rt: HostRuntime) {
-    assert_eq!(rt; Dnode::Free.encode(), [0; 512]);
+    assert!(rt; is_spelled(ONE_BLOCK, &one_block_bytes()));
+    assert!(rt; is_spelled(MANY_HOLES, &many_holes_bytes()));
+    assert!(rt; Dnode::Free.encode() == [0; 512]);
     assert_eq!(rt; Dnode::decode(&[0; 512]), Ok(Dnode::Free));
 }
 
@@ -157,61 +170,112 @@ fn breaches_of_a_dnode_are_refused(rt: HostRuntime) {
     }
 }
 
+/// A block with these two pointers at 1 and 127, and holes elsewhere.
+fn two_pointers(alloc: Global, one: Block, other: Block) -> Result<Indirect, AllocError>
+    requires one { FitsBlock one }
+    requires other { FitsBlock other }
+{
+    let mut block = Indirect::holes(alloc)?;
+    block.set(1, BlockPtr::Block(one));
+    block.set(127, BlockPtr::Block(other));
+    Ok(block)
+}
+
+fn has_two_pointers(block: &Indirect) -> bool {
+    block.fill() == Some(6)
+        && block.pointers().len() == 128
+        && block.get(0) == BlockPtr::Hole
+        && block.get(1) == BlockPtr::Block(DATA_BLOCK)
+        && block.get(127) == BlockPtr::Block(INDIRECT_BLOCK)
+}
+
+fn two_pointers_bytes(alloc: Global) -> Result<Vec<u8>, AllocError> {
+    two_pointers(alloc, DATA_BLOCK, INDIRECT_BLOCK)?.encode(alloc)
+}
+
+/// Whether there are zeros around the two pointers, whether the first is as it should be, and the
+/// fill of the last.
+fn parts_of(block: &[u8]) -> Option<(bool, bool, u8)> {
+    if block.len() != 16_384 {
+        return None;
+    }
+    let holes = is_zero(block.get(..128)?) && is_zero(block.get(256..16_256)?);
+    let first = block.get(128..256)?.starts_with(&data_block_bytes());
+    Some((holes, first, *block.get(16_256 + 88)?))
+}
+
 #[test]
-fn an_indirect_block_is_written_and_read(rt: HostRuntime) -> Result<(), Fail> {
-    let mut block = Indirect::holes(rt.alloc())?;
-    assert_eq!(rt; block.fill(), Some(0));
-    block.set(1, BlockPtr::Block(DATA_BLOCK));
-    block.set(127, BlockPtr::Block(INDIRECT_BLOCK));
-    assert_eq!(rt; block.fill(), Some(6));
-    let bytes = block.encode(rt.alloc())?;
-    assert_eq!(rt; bytes.len(), 16_384);
-    assert_eq!(rt; &bytes[..128], [0; 128].as_slice());
-    assert_eq!(rt; &bytes[128..256], data_block_bytes().as_slice());
-    assert_eq!(rt; &bytes[256..384], [0; 128].as_slice());
-    assert_eq!(rt; bytes[16_256 + 88], 5);
-    let again = Indirect::decode(rt.alloc(), &bytes)?;
-    assert_eq!(rt; again.pointers(), block.pointers());
-    assert_eq!(rt; again.get(0), BlockPtr::Hole);
-    assert_eq!(rt; again.get(1), BlockPtr::Block(DATA_BLOCK));
-    assert_eq!(rt; again.get(127), BlockPtr::Block(INDIRECT_BLOCK));
+fn an_indirect_block_is_written(rt: HostRuntime) -> Result<(), Fail> {
+    let parts = parts_of(&two_pointers_bytes(rt.alloc())?);
+    assert_eq!(rt; parts, Some((true, true, 5)));
     Ok(())
+}
+
+#[test]
+fn an_indirect_block_is_read(rt: HostRuntime) -> Result<(), Fail> {
+    let bytes = two_pointers_bytes(rt.alloc())?;
+    let found = has_two_pointers(&Indirect::decode(rt.alloc(), &bytes)?);
+    assert!(rt; found);
+    Ok(())
+}
+
+/// Lengths, a byte of so many zeros that is 1, and why they are no indirect block.
+const NO_BLOCKS: [(usize, usize, &str); 3] = [
+    (16_383, 16_384, "a byte is missing"),
+    (16_385, 16_385, "there is a byte more"),
+    (16_384, 16_383, "the last pointer is none"),
+];
+
+fn refusal(alloc: Global, len: usize, place: usize) -> Result<Option<Refusal>, AllocError> {
+    let mut bytes = vec![in alloc; 0; len]?;
+    if place < bytes.len() {
+        bytes[place] = 1;
+    }
+    Ok(Indirect::decode(alloc, &bytes).err())
 }
 
 #[test]
 fn what_is_no_indirect_block_is_refused(rt: HostRuntime) -> Result<(), Fail> {
-    let bad = Some(Refusal::BadPointer);
-    let short = vec![in rt.alloc(); 0; 16_383]?;
-    let found = Indirect::decode(rt.alloc(), &short);
-    assert_eq!(rt; found.err(), bad, "a byte is missing");
-    let long = vec![in rt.alloc(); 0; 16_385]?;
-    let found = Indirect::decode(rt.alloc(), &long);
-    assert_eq!(rt; found.err(), bad, "there is a byte more");
-    let mut spoiled = vec![in rt.alloc(); 0; 16_384]?;
-    spoiled[16_383] = 1;
-    let found = Indirect::decode(rt.alloc(), &spoiled);
-    assert_eq!(rt; found.err(), bad, "the last pointer is none");
+    for (len, place, why) in NO_BLOCKS {
+        let refusal = refusal(rt.alloc(), len, place)?;
+        assert_eq!(rt; refusal, Some(Refusal::BadPointer), "{why}");
+    }
     Ok(())
+}
+
+/// The fills of an indirect block of holes, of one with one block, and of one with two blocks.
+fn fills(alloc: Global, great: Block) -> Result<[Option<u64>; 3], AllocError>
+    requires { FitsBlock great }
+{
+    let mut block = Indirect::holes(alloc)?;
+    let none = block.fill();
+    block.set(0, BlockPtr::Block(great));
+    let one = block.fill();
+    block.set(5, BlockPtr::Block(DATA_BLOCK));
+    Ok([none, one, block.fill()])
 }
 
 #[test]
 fn a_fill_that_is_too_great_has_no_sum(rt: HostRuntime) -> Result<(), Fail> {
-    let great = BlockPtr::Block(Block {
+    let great = Block {
         fill: u64::MAX,
         ..INDIRECT_BLOCK
-    });
-    let mut block = Indirect::holes(rt.alloc())?;
-    block.set(0, great);
-    assert_eq!(rt; block.fill(), Some(u64::MAX));
-    block.set(5, BlockPtr::Block(DATA_BLOCK));
-    assert_eq!(rt; block.fill(), None);
+    };
+    let fills = fills(rt.alloc(), great)?;
+    assert_eq!(rt; fills, [Some(0), Some(u64::MAX), None]);
     Ok(())
+}
+
+/// Whether the bytes are those of an object set, and are read as it.
+fn is_set_spelled(set: ObjectSet, bytes: &[u8; 1024]) -> bool
+    requires { FitsObjectSet set }
+{
+    set.encode() == *bytes && ObjectSet::decode(bytes) == Ok(set)
 }
 
 #[test]
 fn an_object_set_is_written_and_read(rt: HostRuntime) {
-    assert_eq!(rt; META.encode(), meta_bytes());
-    assert_eq!(rt; ObjectSet::decode(&meta_bytes()), Ok(META));
+    assert!(rt; is_set_spelled(META, &meta_bytes()));
     let volume = ObjectSet {
         kind: ObjectSetKind::Volume,
         objects: 2,
@@ -220,8 +284,7 @@ fn an_object_set_is_written_and_read(rt: HostRuntime) {
     let mut bytes = meta_bytes();
     bytes[512] = 3;
     bytes[520] = 2;
-    assert_eq!(rt; volume.encode(), bytes);
-    assert_eq!(rt; ObjectSet::decode(&bytes), Ok(volume));
+    assert!(rt; is_set_spelled(volume, &bytes));
 }
 
 /// What a byte of the object set's must not become, and why.
