@@ -19,6 +19,3 @@ pub use refusal::Refusal;
 pub use shape::VdevShape;
 pub use space::VdevSpace;
 pub use store::BlockStore;
-
-#[cfg(test)]
-mod tests;

@@ -1,5 +1,5 @@
 //! Tests of the RAID and of the disks below the blocks: the field and its kernels, the layout and the parity of a block,
-//! disks and arrays of them, and blocks on an array. They stand together, so that what they reach is proved once with them.
+//! disks and arrays of them, blocks on an array, and blocks by pointer. They stand together, so that what they reach is proved once with them.
 #![tactic(auto)]
 
 #[cfg(test)]
@@ -16,3 +16,5 @@ mod lanes;
 mod layouts;
 #[cfg(test)]
 mod parities;
+#[cfg(test)]
+mod stored_blocks;
