@@ -1,5 +1,5 @@
 -- What a read of a block gives.
-use Rattle.std.proofs.Common.{ℕ, ◌≡◌, ◌⊎◌, inl, inr, ◌-◌, Some, Ok, Err, Result, IfOk, IfErr, List, Vec, Global, [], ◌++◌, length, append-nil, sym, ap, subst, arith}
+use Rattle.std.proofs.Common.{ℕ, ◌≡◌, ◌⊎◌, inl, inr, ◌-◌, Some, Ok, Err, Result, IfOk, IfErr, OnOk, List, Vec, Global, [], ◌++◌, length, append-nil, sym, ap, subst, arith}
 use Rattle.std.proofs.lemmas.List.Elements.{Contains-append_left}
 use Rattle.model_disk.specs.Joint.{content, failed_since}
 use Rattle.model_disk.specs.Laws.{PartsAreHonest}
@@ -7,20 +7,18 @@ use Rattle.block_pointer.specs.declared.block.Block.{Block}
 use Rattle.block_pointer.specs.declared.dva.Dva.{Dva}
 use Rattle.block_pointer.specs.Copies.{dvas}
 use Rattle.raidz_io.specs.declared.vdev.Extent.{Extent}
-use Rattle.raidz_io.specs.Choices.{HasNoChoice}
 use Rattle.raidz_io.specs.Elsewhere.{StandsWhileKept, StandsWithMoreAbsent}
-use Rattle.raidz_io.specs.Reads.{OnlyReads, AreUntouched, IsHonestSince, absent_since, MoreAreLost, FewAreLost, FewAreNotMore, ReadsKeepContents}
+use Rattle.raidz_io.specs.Reads.{OnlyReads, AreUntouched, IsHonestSince, absent_since, FewAreLost, FewAreNotMore, ReadsKeepContents}
 use Rattle.raidz_io.specs.Stands.{ExtentStands}
 use Rattle.block_store.specs.declared.block.Asked.{Asked}
 use Rattle.block_store.specs.declared.refusal.Refusal.{Refusal}
 use Rattle.block_store.specs.declared.refusal.Refusal.TheVariants.{NoMemory, BadPointer, DiskFault, BadDigest}
 use Rattle.block_store.specs.Blocks.{Contents}
-use Rattle.block_store.specs.Places.{IsCopy}
-use Rattle.block_store.specs.Reading.{Asks, IsReadable, AreTolerable, IsLastFault, IsReadUpTo}
+use Rattle.block_store.specs.Reading.{Asks, IsReadable, AreTolerable, IsLastFault, IsFirstRead, IsFailedCopy, HaveFailed, IsReadUpTo}
 use Rattle.block_store.specs.Store.{Store, outs, Holds}
 use Rattle.block_store.proofs.Kept.{IsKept}
 use Rattle.block_store.proofs.ReadingLost.{absent_earlier, honest_later, stands_later, few_lost}
-use Rattle.block_store.proofs.ReadingSteps.{reads_on, untouched_on}
+use Rattle.block_store.proofs.ReadingSteps.{reads_on, untouched_on, failed_by}
 use Rattle.block_store.proofs.Writing.{found_at}
 
 -- the laws of blocks that are read
@@ -91,24 +89,31 @@ last_fault old new missing block asked (Ok read) is = tt
 last_fault old new missing block asked (Err refusal) is =
     elim is.read.read.refused [
       | inl none ↦ inl none
-      | inr (inl (fault, more)) ↦ inr (inr (fault_of (inl fault) (inl (fault, more))))
-      | inr (inr (digest, none)) ↦ inr (inr (fault_of (inr digest) (inr (digest, none))))
+      | inr (inl (fault, more)) ↦ inr (inr (fault_of (inl fault)))
+      | inr (inr (digest, none)) ↦ inr (inr (fault_of (inr digest)))
     ]
   where
-    fault_of : (refusal ≡ DiskFault) ⊎ (refusal ≡ BadDigest)
-        → ((refusal ≡ DiskFault) × MoreAreLost is.read.read.extent (absent_since is.read.mid new.disks (outs old ++ missing)))
-        ⊎ ((refusal ≡ BadDigest) × HasNoChoice is.read.mid new.disks (outs old ++ missing) block.checksum is.read.read.extent)
-        → IsLastFault old new (outs old ++ missing) block refusal
-    fault_of fault cause =
+    fault_of : (refusal ≡ DiskFault) ⊎ (refusal ≡ BadDigest) → IsLastFault old new (outs old ++ missing) block refusal
+    fault_of fault =
         let last : is.read.i ≡ length (dvas block.copies) - 1 = omega (arith, is.read.last fault) in
+        let failed = failed_by old.spaces (outs old ++ missing) block is.read.i is.read.mid new.disks refusal fault is.read.read in
         record {
-          extent = is.read.read.extent;
-          is_copy = subst (λ n. IsCopy old.spaces block n is.read.read.extent) last is.read.read.is_copy;
           mid = is.read.mid;
-          before = is.read.before;
-          since = is.read.read.reads;
-          cause = cause;
+          earlier = subst (λ n. HaveFailed old.spaces (outs old ++ missing) block n old.disks is.read.mid) last is.read.earlier;
+          last = subst (λ n. IsFailedCopy old.spaces (outs old ++ missing) block n is.read.mid new.disks refusal) last failed;
         }
+
+-- the copies before the one that was read failed
+pub first_read : (old new : Store) (missing : List ℕ) (block : Block) (result : Result (Vec ℕ Global) Refusal) → IsBlockRead old new missing block result
+    → OnOk result (IsFirstRead old new (outs old ++ missing) block)
+first_read old new missing block (Ok read) is = record {
+  i = is.read.i;
+  below = is.read.below;
+  mid = is.read.mid;
+  earlier = is.read.earlier;
+  reads = is.read.read.reads;
+}
+first_read old new missing block (Err refusal) is = tt
 
 -- a block that is stored is read where few disks are absent
 pub is_known : Laws → (old new : Store) (missing : List ℕ) (block : Block) (asked : Asked) (result : Result (Vec ℕ Global) Refusal) → IsBlockRead old new missing block result

@@ -1,5 +1,5 @@
 -- Reads of blocks.
-use Rattle.std.specs.Prelude.{ℕ, suc, ◌≡◌, ◌⊎◌, ◌+◌, ◌-◌, ◌*◌, ◌<◌, ◌≤◌, Some, Result, Ok, Err, IfOk, IfErr, List, Vec, length, slice_get, Contains}
+use Rattle.std.specs.Prelude.{ℕ, zero, suc, ◌≡◌, ◌⊎◌, ◌+◌, ◌-◌, ◌*◌, ◌<◌, ◌≤◌, Some, Result, Ok, Err, IfOk, IfErr, List, Vec, length, slice_get, Contains}
 use Rattle.std.specs.declared.alloc.Global.{Global}
 use Rattle.sha2.specs.Sha256.{sha256}
 use Rattle.model_disk.specs.Joint.{Disks, content}
@@ -39,16 +39,34 @@ pub record FewAreAbsent (vdev : Vdev) (absent : List ℕ) : Type 0 where
 abbrev pub AreTolerable : List VdevSpace → List ℕ → Type 0
 AreTolerable spaces absent = (v : ℕ) (space : VdevSpace) → slice_get spaces v ≡ Some space → FewAreAbsent space.shape.vdev absent
 
--- The last copy was not read, and why: more of its columns are lost than it has parities, or no choice of its columns has the digest.
-pub record IsLastFault (old new : Store) (missing : List ℕ) (block : Block) (refusal : Refusal) : Type 0 where
+-- Copy i could not be read, and why: more of its columns are lost than it has parities, on disks that are absent or failed in this
+-- read, or no choice of its columns has the digest.
+pub record IsFailedCopy (spaces : List VdevSpace) (absent : List ℕ) (block : Block) (i : ℕ) (old new : Disks) (refusal : Refusal) : Type 0 where
   pub extent : Extent
-  pub is_copy : IsCopy old.spaces block (length (dvas block.copies) - 1) extent
-  -- as the reads of the copies before it were done
+  pub is_copy : IsCopy spaces block i extent
+  pub reads : OnlyReads old new
+  pub cause : ((refusal ≡ DiskFault) × MoreAreLost extent (absent_since old new absent))
+      ⊎ ((refusal ≡ BadDigest) × HasNoChoice old new absent block.checksum extent)
+
+-- the first n copies were read one after the other, and each failed
+abbrev pub HaveFailed : List VdevSpace → List ℕ → Block → ℕ → Disks → Disks → Type 0
+HaveFailed spaces absent block zero old new = new ≡ old
+HaveFailed spaces absent block (suc n) old new =
+    (mid : Disks) × HaveFailed spaces absent block n old mid × (refusal : Refusal) × IsFailedCopy spaces absent block n mid new refusal
+
+-- each copy before the last one failed, and this is why the last one could not be read
+pub record IsLastFault (old new : Store) (missing : List ℕ) (block : Block) (refusal : Refusal) : Type 0 where
   pub mid : Disks
-  pub before : OnlyReads old.disks mid
-  pub since : OnlyReads mid new.disks
-  pub cause : ((refusal ≡ DiskFault) × MoreAreLost extent (absent_since mid new.disks missing))
-      ⊎ ((refusal ≡ BadDigest) × HasNoChoice mid new.disks missing block.checksum extent)
+  pub earlier : HaveFailed old.spaces missing block (length (dvas block.copies) - 1) old.disks mid
+  pub last : IsFailedCopy old.spaces missing block (length (dvas block.copies) - 1) mid new.disks refusal
+
+-- a copy was read, once each before it had failed
+pub record IsFirstRead (old new : Store) (missing : List ℕ) (block : Block) : Type 0 where
+  pub i : ℕ
+  pub below : i < length (dvas block.copies)
+  pub mid : Disks
+  pub earlier : HaveFailed old.spaces missing block i old.disks mid
+  pub reads : OnlyReads mid new.disks
 
 -- another copy may still be read
 abbrev pub IsFault : {T : Type 0} → Result T Refusal → Type 0
@@ -76,5 +94,6 @@ pub record IsReadUpTo (spaces : List VdevSpace) (absent : List ℕ) (block : Blo
   pub mid : Disks
   pub before : OnlyReads old mid
   pub untouched : AreUntouched absent old mid
+  pub earlier : HaveFailed spaces absent block i old mid
   pub read : IsCopyRead spaces absent block i mid new result
   pub last : IsFault result → suc i ≡ n

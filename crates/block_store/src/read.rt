@@ -1,12 +1,12 @@
 //! Reads of blocks.
-ghost use Rattle.std.specs.Prelude.{◌≡◌, ◌⊎◌, ◌++◌, ◌*◌, ◌↔◌, ◌<◌, ℕ, List, Some, IsTrue, IfOk, IfErr, OnErr, length, Contains};
+ghost use Rattle.std.specs.Prelude.{◌≡◌, ◌⊎◌, ◌++◌, ◌*◌, ◌↔◌, ◌<◌, ℕ, List, Some, IsTrue, IfOk, IfErr, OnOk, length, Contains};
 ghost use Rattle.sha2.specs.Sha256.{sha256};
 ghost use Rattle.model_disk.specs.Joint.{Disks};
 ghost use Rattle.block_pointer.specs.Copies.{dvas};
 ghost use Rattle.raidz_io.specs.Reads.{OnlyReads, AreUntouched, IsHonestSince, absent_since};
 ghost use Rattle.block_store.specs.Blocks.{Contents};
 ghost use Rattle.block_store.specs.Plans.{KeepsPlans};
-ghost use Rattle.block_store.specs.Reading.{Asks, IsReadable, AreTolerable, IsLastFault, IsFault};
+ghost use Rattle.block_store.specs.Reading.{Asks, IsReadable, AreTolerable, IsLastFault, IsFirstRead, IsFault};
 ghost use Rattle.block_store.specs.Store.{Holds, Keeps, outs};
 
 use crate::block::Asked;
@@ -21,8 +21,10 @@ use std::alloc::{AllocError, Global};
 
 impl<D: Disk + Drop> BlockStore<D> {
     /// The bytes of a block, with the disks that are named taken as missing. The copies are tried in order, each with
-    /// its parity; the last one's refusal is the answer. A pointer that is not what its parent asks, or whose copies
-    /// are in no places of the pool, is `BadPointer`, and nothing is read.
+    /// its parity; where none can be read the last one's refusal is the answer: `DiskFault` where more of its columns
+    /// are lost than its vdev has parities, on disks that are absent or fail in this read, and else `BadDigest`. A
+    /// pointer that is not what its parent asks, or whose copies are in no places of the pool, is `BadPointer`, and
+    /// nothing is read.
     pub fn read(
         &mut self,
         alloc: Global,
@@ -38,6 +40,9 @@ impl<D: Disk + Drop> BlockStore<D> {
         ensures readable { IfOk result (λ read. IsReadable self.old.spaces asked block.now) }
         ensures digest { IfOk result (λ read. sha256 read.items ≡ block.now.checksum) }
         ensures size { IfOk result (λ read. length read.items ≡ block.now.property.sectors * 512) }
+
+        // The bytes are those of the first copy that can be read: each before it was tried, and failed.
+        ensures first { OnOk result (IsFirstRead self.old self.new (outs self.old ++ missing.now) block.now) }
 
         // A block that is stored is read as it was written.
         ensures bytes { IfOk result (λ read. (stored : Contents) (bytes : List ℕ) → Holds self.old stored → stored block.now ≡ Some bytes

@@ -1,7 +1,7 @@
 use Rattle.std.proofs.Common.{◌≡◌, rules, false, true, refl, ◌∙◌}
 use Rattle.block_store.proofs.Kept.{keeps, keeps_plans}
 use Rattle.block_store.proofs.ReadingPointers.{in_places}
-use Rattle.block_store.proofs.ReadingWhole.{Laws, IsBlockRead, block_read, reads, untouched, is_kept, bytes_right, last_fault, is_known, stored_is_readable}
+use Rattle.block_store.proofs.ReadingWhole.{Laws, IsBlockRead, block_read, reads, untouched, is_kept, first_read, bytes_right, last_fault, is_known, stored_is_readable}
 use Rattle.block_store.proofs.store.BlockStore.read.Goals as goal
 
 pub returns-then-not-is_readable-clause-known : goal.returns-then-not-is_readable-clause-known
@@ -37,6 +37,7 @@ returns g c =
       readable = search rules;
       digest = is.read.read.digest;
       size = is.read.read.size;
+      first = first_read c.args.self.now c.read_places.new.self c.args.missing.now c.args.block.now c.read_places.result is;
       bytes = bytes_right laws c.args.self.now c.read_places.new.self c.args.missing.now c.args.block.now c.read_places.result is;
       refused = last_fault c.args.self.now c.read_places.new.self c.args.missing.now c.args.block.now c.args.asked c.read_places.result is;
       known = is_known laws c.args.self.now c.read_places.new.self c.args.missing.now c.args.block.now c.args.asked c.read_places.result is;

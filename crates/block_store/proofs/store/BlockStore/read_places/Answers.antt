@@ -1,4 +1,4 @@
-use Rattle.std.proofs.Common.{◌≡◌, List, Contains, IsTrue, false, sym, ap, subst}
+use Rattle.std.proofs.Common.{◌≡◌, List, Contains, IsTrue, false, refl, sym, ap, subst}
 use Rattle.block_pointer.specs.declared.dva.Dva.{Dva}
 use Rattle.block_store.specs.declared.space.VdevSpace.{VdevSpace}
 use Rattle.block_store.specs.Places.{IsPlaceIn}
@@ -27,7 +27,7 @@ loop-i-preserved g c =
           rw (w.self-is, w.read-is) (record {
             rest = rest_on c.args.self.now before after c.loop-i.invariant.rest w.read_copy-read-then-is_fault.ensures.rest;
             read = next_read c.args.self.now.spaces c.args.absent.now c.args.block.now c.loop-i.i c.args.self.now.disks before.disks after.disks c.loop-i.read
-                w.read_copy-read-then-is_fault.result c.loop-i.invariant.read read;
+                w.read_copy-read-then-is_fault.result (w.if-is_fault.ensures.0 refl) c.loop-i.invariant.read read;
           })
       | else-is_fault w ↦
           rw (w.self-is, w.read-is) (record {
