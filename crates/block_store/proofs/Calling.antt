@@ -82,6 +82,6 @@ pub flushed : (old new : Store) (disk : ℕ) (result : Result (Unit {0}) FailedD
 flushed old new disk result starts spaces due calls ok err = record {
   spaces = spaces;
   due = due;
-  contents = λ other i. other_bytes_stay old.disks new.disks disk (flush_call result) starts calls other i (inr (untouched_by_flush result i));
+  contents = λ other i for. other_bytes_stay old.disks new.disks disk (flush_call result) starts calls other i (inr (untouched_by_flush result i));
   more_out = outs_after old new result disk ok err;
 }

@@ -1,41 +1,76 @@
 -- What is stored and planned stays so where no byte of a disk is another.
-use Rattle.std.proofs.Common.{ℕ, ◌≡◌, inl, inr, ◌+◌, List, Contains, sym, subst, ◌∙◌}
+use Rattle.std.proofs.Common.{ℕ, ◌≡◌, inl, inr, ◌+◌, ◌<◌, Some, List, length, Contains, sym, subst, ◌∙◌, arith}
 use Rattle.model_disk.specs.Joint.{content}
 use Rattle.raidz_io.specs.declared.vdev.Extent.{Extent}
 use Rattle.raidz_io.specs.declared.writes.ColumnWrite.{ColumnWrite}
-use Rattle.raidz_io.specs.Elsewhere.{StandsWhileKept, StandsWithMoreAbsent}
-use Rattle.raidz_io.specs.Stands.{IsDone}
+use Rattle.raidz_io.specs.Elsewhere.{StandsWhileKept, StandsWithMoreAbsent, IsOfExtent}
+use Rattle.raidz_io.specs.Stands.{IsDone, IsColumnWrite}
+use Rattle.block_pointer.specs.declared.block.Block.{Block}
+use Rattle.block_store.specs.declared.space.VdevSpace.{VdevSpace}
+use Rattle.block_store.specs.Blocks.{Contents}
+use Rattle.block_store.specs.Elsewhere.{IsForBlocks}
+use Rattle.block_store.specs.Places.{Marks, filled, IsCopy}
+use Rattle.block_store.specs.Places.{planned as planned_marks}
 use Rattle.block_store.specs.Plans.{IsOnTheWay, IsDueFor, KeepsPlans}
-use Rattle.block_store.specs.Store.{Store, outs, Keeps}
+use Rattle.block_store.specs.Store.{Store, outs, ArePlaced, Keeps}
+use Rattle.block_store.proofs.Sectors.{lie_in_sectors}
+use Rattle.block_store.proofs.Writing.{found_at}
 
--- the disks hold the same bytes, and no disk that was out is in use
+-- the disks hold the same bytes where blocks lie, and no disk that was out is in use
 pub record IsKept (old new : Store) : Type 0 where
   pub spaces : new.spaces ≡ old.spaces
   pub due : new.due ≡ old.due
-  pub contents : (disk i : ℕ) → content new.disks disk i ≡ content old.disks disk i
+  pub contents : (disk i : ℕ) → IsForBlocks old.spaces disk i → content new.disks disk i ≡ content old.disks disk i
   pub more_out : (disk : ℕ) → Contains (outs old) disk → Contains (outs new) disk
+
+-- a byte of a copy that is placed is one for blocks
+for_blocks : (spaces : List VdevSpace) (marks : Marks) (contents : Contents) (block : Block) (bytes : List ℕ) (k : ℕ) (extent : Extent) (disk i : ℕ)
+    → ArePlaced spaces marks contents → contents block ≡ Some bytes → IsCopy spaces block k extent → IsOfExtent extent disk i → IsForBlocks spaces disk i
+for_blocks spaces marks contents block bytes k extent disk i placed known copy of =
+    let taken = placed.places block bytes k copy.place known copy.is_copy in
+    lie_in_sectors spaces block.property.sectors copy.place extent disk i (record { space = taken.space; found = taken.found; is_place = taken.is_place }) copy.extent_is of
 
 pub keeps : StandsWhileKept → StandsWithMoreAbsent → (old new : Store) → IsKept old new → Keeps old new
 keeps kept more old new is stored holds = record {
   placed = rw is.spaces holds.placed;
   stand = λ block bytes i extent known copy.
+      let copy_was : IsCopy old.spaces block i extent = rw (sym is.spaces) copy in
       more (content new.disks) (outs old) (outs new) extent bytes is.more_out
-      (kept (content old.disks) (content new.disks) (outs old) extent bytes (λ disk j of. is.contents disk j)
-      (holds.stand block bytes i extent known (rw (sym is.spaces) copy)));
+      (kept (content old.disks) (content new.disks) (outs old) extent bytes
+      (λ disk j of. is.contents disk j (for_blocks old.spaces filled stored block bytes i extent disk j holds.placed known copy_was of))
+      (holds.stand block bytes i extent known copy_was));
 }
 
-done_still : (old new : Store) (write : ColumnWrite) → IsKept old new → IsDone (content old.disks) write → IsDone (content new.disks) write
-done_still old new write is done i within = is.contents write.disk (write.offset + i) ∙ done i within
+-- a byte of a column's write is one of its extent
+of_write : (extent : Extent) (k : ℕ) (write : ColumnWrite) (i : ℕ) → IsColumnWrite extent k write → i < length write.bytes.items
+    → IsOfExtent extent write.disk (write.offset + i)
+of_write extent k write i is within = record {
+  k = k;
+  column = is.column;
+  is_column = is.is_column;
+  which = is.disk;
+  from_first = omega (arith, is.offset);
+  before_end = omega (arith, is.offset, is.size);
+}
 
-way_still : (old new : Store) (writes : List ColumnWrite) (extent : Extent) (bytes : List ℕ) → IsKept old new → IsOnTheWay old writes extent bytes
+done_still : (old new : Store) (extent : Extent) (k : ℕ) (write : ColumnWrite) → IsKept old new
+    → ((disk i : ℕ) → IsOfExtent extent disk i → IsForBlocks old.spaces disk i) → IsColumnWrite extent k write
+    → IsDone (content old.disks) write → IsDone (content new.disks) write
+done_still old new extent k write is for is_column done i within =
+    is.contents write.disk (write.offset + i) (for write.disk (write.offset + i) (of_write extent k write i is_column within)) ∙ done i within
+
+way_still : (old new : Store) (writes : List ColumnWrite) (extent : Extent) (bytes : List ℕ) → IsKept old new
+    → ((disk i : ℕ) → IsOfExtent extent disk i → IsForBlocks old.spaces disk i) → IsOnTheWay old writes extent bytes
     → IsOnTheWay new writes extent bytes
-way_still old new writes extent bytes is way = record {
+way_still old new writes extent bytes is for way = record {
   would_store = way.would_store;
   columns = way.columns;
-  each = λ write of present. elim (way.each write of (λ out. present (is.more_out write.disk out))) [
-    | inl done ↦ inl (done_still old new write is done)
-    | inr due ↦ inr (subst (λ (writes : List ColumnWrite). Contains writes write) (sym is.due) due)
-  ];
+  each = λ write of present.
+      let at = found_at writes write of in
+      elim (way.each write of (λ out. present (is.more_out write.disk out))) [
+        | inl done ↦ inl (done_still old new extent at.0 write is for (way.columns at.0 write at.1) done)
+        | inr due ↦ inr (subst (λ (writes : List ColumnWrite). Contains writes write) (sym is.due) due)
+      ];
 }
 
 pub keeps_plans : StandsWhileKept → StandsWithMoreAbsent → (old new : Store) → IsKept old new → KeepsPlans old new
@@ -45,7 +80,10 @@ keeps_plans kept more old new is stored planned plans = record {
   placed = rw is.spaces plans.placed;
   writes_of = plans.writes_of;
   on_the_way = λ block bytes i extent known fresh copy.
-      way_still old new (plans.writes_of block i) extent bytes is (plans.on_the_way block bytes i extent known fresh (rw (sym is.spaces) copy));
+      let copy_was : IsCopy old.spaces block i extent = rw (sym is.spaces) copy in
+      way_still old new (plans.writes_of block i) extent bytes is
+      (λ disk j of. for_blocks old.spaces planned_marks planned block bytes i extent disk j plans.placed known copy_was of)
+      (plans.on_the_way block bytes i extent known fresh copy_was);
   due = λ write later.
       let was : IsDueFor old stored planned plans.writes_of write = plans.due write (subst (λ (writes : List ColumnWrite). Contains writes write) is.due later) in
       record {

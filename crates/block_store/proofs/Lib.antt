@@ -4,6 +4,7 @@ pub mod Choosing
 pub mod Copies
 pub mod CopyWrites
 pub mod Extents
+pub mod Fewer
 pub mod Fitting
 pub mod Kept
 pub mod Making
@@ -17,6 +18,7 @@ pub mod ReadingPointers
 pub mod ReadingSteps
 pub mod ReadingWhole
 pub mod SameBlock
+pub mod Sectors
 pub mod Sizes
 pub mod Taking
 pub mod Writing

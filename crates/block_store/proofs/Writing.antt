@@ -32,7 +32,7 @@ found_at (y ∷ ys) x (zero, within, is) = (zero, ap Some is)
 found_at (y ∷ ys) x (suc k, within, is) =
     let there = found_at ys x (k, omega arith, is) in (suc there.0, there.1)
 
-some_is_not_none : {X : Type 0} (x : X) (found : Option X) → found ≡ Some x → ¬ (found ≡ None)
+pub some_is_not_none : {X : Type 0} (x : X) (found : Option X) → found ≡ Some x → ¬ (found ≡ None)
 some_is_not_none x found is none = absurd (let e : Some x ≡ None = sym is ∙ none in cc)
 
 -- the first of those that are due, or one of the others

@@ -1,5 +1,7 @@
 pub mod Blocks
 pub mod Config
+pub mod Elsewhere
+pub mod Forgetting
 pub mod Laws
 pub mod Places
 pub mod Plans

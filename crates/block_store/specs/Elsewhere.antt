@@ -1,0 +1,35 @@
+-- The bytes of disks that are for blocks, and those that are not.
+use Rattle.std.specs.Prelude.{ℕ, ◌≡◌, ◌+◌, ◌<◌, ◌≤◌, Some, List, slice_get, Contains}
+use Rattle.model_disk.specs.Joint.{content}
+use Rattle.block_pointer.specs.declared.dva.Dva.{Dva}
+use Rattle.raidz_io.specs.declared.vdev.Extent.{Extent}
+use Rattle.raidz_io.specs.Elsewhere.{IsOfExtent}
+use Rattle.raidz_io.specs.Places.{offset_of_sector}
+use Rattle.block_store.specs.declared.space.VdevSpace.{VdevSpace}
+use Rattle.block_store.specs.Places.{IsPlaceIn, IsExtentAt}
+use Rattle.block_store.specs.Plans.{KeepsPlans}
+use Rattle.block_store.specs.Store.{Store, Keeps, outs}
+
+-- Byte i of the disk is in one of the sectors of a vdev that hold blocks. Labels and uberblocks stand before these sectors and
+-- behind them.
+pub record IsForBlocks (spaces : List VdevSpace) (disk i : ℕ) : Type 0 where
+  pub v : ℕ
+  pub space : VdevSpace
+  pub found : slice_get spaces v ≡ Some space
+  pub first : space.shape.vdev.first ≤ disk
+  pub last : disk < space.shape.vdev.first + space.shape.vdev.geometry.children
+  pub from : offset_of_sector 0 ≤ i
+  pub before : i < offset_of_sector space.shape.child_sectors
+
+-- an extent has no other bytes
+abbrev pub BlocksLieInSectors : Type 0
+BlocksLieInSectors =
+    (spaces : List VdevSpace) (sectors : ℕ) (place : Dva) (extent : Extent) (disk i : ℕ) → IsPlaceIn spaces sectors place
+    → IsExtentAt spaces sectors place extent → IsOfExtent extent disk i → IsForBlocks spaces disk i
+
+-- so what changes none of them, such as a write of a label, keeps what the store holds and plans
+abbrev pub WritesElsewhereKeep : Type 0
+WritesElsewhereKeep =
+    (old new : Store) → new.spaces ≡ old.spaces → new.due ≡ old.due → ((disk : ℕ) → Contains (outs old) disk → Contains (outs new) disk)
+    → ((disk i : ℕ) → IsForBlocks old.spaces disk i → content new.disks disk i ≡ content old.disks disk i)
+    → Keeps old new × KeepsPlans old new

@@ -1,0 +1,28 @@
+//! Laws of what a store holds, as functions with no body: what each ensures follows from the definitions alone.
+ghost use Rattle.block_store.specs.Elsewhere.{BlocksLieInSectors, WritesElsewhereKeep};
+ghost use Rattle.block_store.specs.Forgetting.{FewerAreHeld, FewerArePlanned};
+
+use raidz_io::{stands_while_kept, stands_with_more_absent};
+
+/// What a store holds, it holds of fewer blocks.
+pub fn fewer_are_held()
+    ensures { FewerAreHeld }
+{}
+
+/// A plan may forget blocks of which nothing is due.
+pub fn fewer_are_planned()
+    ensures { FewerArePlanned }
+{}
+
+/// The bytes of a block lie in those sectors of its vdev's disks that are for blocks.
+pub fn blocks_lie_in_sectors()
+    ensures { BlocksLieInSectors }
+{}
+
+/// What changes no byte of those sectors keeps what a store holds and plans.
+pub fn writes_elsewhere_keep()
+    ensures { WritesElsewhereKeep }
+{
+    stands_while_kept();
+    stands_with_more_absent();
+}
