@@ -10,8 +10,8 @@ use Rattle.raidz_io.proofs.Written.{same_some}
 use Rattle.block_store.specs.declared.choice.Spread.{Spread}
 use Rattle.block_store.specs.declared.choice.Spread.TheVariants.{Vdevs, Metaslabs, Anywhere}
 use Rattle.block_store.specs.declared.space.VdevSpace.{VdevSpace}
-use Rattle.block_store.specs.Places.{planned, HasRoomAt, MayTake, IsFound, IsChosen, IsTakenToo, AreChosen}
-use Rattle.block_store.specs.Shapes.{metaslab_sectors, metaslabs}
+use Rattle.block_store.specs.Places.{planned, HasRoomAt, MayTake, IsFound, IsChosen, IsTakenToo, AreChosen, NoPlaceIsLeft}
+use Rattle.block_store.specs.Shapes.{metaslab_sectors, metaslabs, metaslab_of}
 
 -- an item of a list
 pub at_item : {X : Type 0} (xs : List X) (i : ℕ) (x : X) → i < length xs → x ≡ get_or xs i x → slice_get xs i ≡ Some x
@@ -102,3 +102,12 @@ AreChosen-push spaces taken sectors (first ∷ places) mid place after (chosen',
 pub IfNone-map : {X : Type 0} (found : Option X) (P Q : Type 0) → (P → Q) → IfNone found P → IfNone found Q
 IfNone-map (Some x) P Q f is = tt
 IfNone-map None P Q f is = f is
+
+-- where no metaslab has room behind what is planned, no free place is left
+pub no_place_left : (spaces : List VdevSpace) (sectors : ℕ) → ((v metaslab : ℕ) → ¬ HasRoomAt spaces sectors v metaslab) → NoPlaceIsLeft spaces sectors
+no_place_left spaces sectors none place free = none place.vdev (metaslab_of free.space.shape place) (record {
+  space = free.space;
+  found = free.found;
+  is_there = free.is_place.metaslab;
+  room = omega (arith, free.behind, free.is_place.one, free.is_place.allocated);
+})

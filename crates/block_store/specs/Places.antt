@@ -137,7 +137,18 @@ AreChosen spaces taken sectors (place ∷ places) after =
 abbrev pub TookSome : List VdevSpace → ℕ → ℕ → List VdevSpace → Type 0
 TookSome spaces sectors copies after = (places : List Dva) × (length places ≤ copies) × AreChosen spaces [] sectors places after
 
--- places for some of the copies were chosen, and then no metaslab had room for another
+-- a copy of a block of so many sectors may lie there, and no sector of the place is in use, by what is stored or planned
+pub record IsFreePlace (spaces : List VdevSpace) (sectors : ℕ) (place : Dva) : Type 0 where
+  pub space : VdevSpace
+  pub found : slice_get spaces place.vdev ≡ Some space
+  pub is_place : IsPlace space.shape sectors place
+  pub behind : slice_index (planned space) (metaslab_of space.shape place) ≤ sector_of space.shape place
+
+-- no vdev has a free place for a copy of such a block
+abbrev pub NoPlaceIsLeft : List VdevSpace → ℕ → Type 0
+NoPlaceIsLeft spaces sectors = (place : Dva) → ¬ IsFreePlace spaces sectors place
+
+-- places for some of the copies were chosen, and then no free place was left for another
 abbrev pub RanOut : List VdevSpace → ℕ → ℕ → List VdevSpace → Type 0
 RanOut spaces sectors copies after =
-    (places : List Dva) × (length places < copies) × AreChosen spaces [] sectors places after × ((v metaslab : ℕ) → ¬ HasRoomAt after sectors v metaslab)
+    (places : List Dva) × (length places < copies) × AreChosen spaces [] sectors places after × NoPlaceIsLeft after sectors

@@ -1,6 +1,6 @@
 //! The choice of places for the copies of a block.
 ghost use Rattle.std.specs.Prelude.{◌≡◌, ◌≤◌, ◌<◌, ◌^◌, ◌↔◌, ℕ, Some, IsTrue, IfSome, IfNone, IfOk, IfErr, length, slice_get};
-ghost use Rattle.block_store.specs.Places.{IsInVdev, IsInMetaslab, HasRoomAt, IsBehind, MayTake, IsChosen, IsTakenToo, AreChosen, RanOut};
+ghost use Rattle.block_store.specs.Places.{IsInVdev, IsInMetaslab, HasRoomAt, IsBehind, MayTake, IsChosen, IsTakenToo, AreChosen, NoPlaceIsLeft, RanOut};
 ghost use Rattle.block_store.specs.Shapes.{metaslab_of, metaslabs};
 
 use crate::refusal::Refusal;
@@ -119,7 +119,7 @@ impl<D: Disk + Drop> BlockStore<D> {
     fn choose(&self, sectors: u32, taken: &[Dva]) -> Option<Dva>
         requires { 0 < sectors }
         ensures some { IfSome result (λ place. IsChosen self.now.spaces taken.now sectors place) }
-        ensures none { IfNone result ((v metaslab : ℕ) → ¬ HasRoomAt self.now.spaces sectors v metaslab) }
+        ensures none { IfNone result (NoPlaceIsLeft self.now.spaces sectors) }
     {
         if let Some(place) = self.find_place(sectors, taken, Spread::Vdevs) {
             return Some(place);

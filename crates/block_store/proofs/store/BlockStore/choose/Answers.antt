@@ -1,4 +1,4 @@
-use Rattle.block_store.proofs.Choosing.{chosen_elsewhere, chosen_apart, IfNone-map}
+use Rattle.block_store.proofs.Choosing.{chosen_elsewhere, chosen_apart, no_place_left, IfNone-map}
 use Rattle.block_store.proofs.store.BlockStore.choose.Goals as goal
 
 pub returns-in-Some-clause-some : goal.returns-in-Some-clause-some
@@ -9,4 +9,5 @@ returns-in-Some-find_place-clause-some g c =
     chosen_apart c.args.self.now.spaces c.args.taken.now c.args.sectors c.in-Some-find_place.place c.in-Some-find_place.ensures.some c.in_default.ensures.none
 
 pub returns-clause-none : goal.returns-clause-none
-returns-clause-none g c = IfNone-map c.find_place-3.result _ _ (λ none v metaslab room. none v metaslab room tt) c.find_place-3.ensures.none
+returns-clause-none g c =
+    IfNone-map c.find_place-3.result _ _ (λ none. no_place_left c.args.self.now.spaces c.args.sectors (λ v metaslab room. none v metaslab room tt)) c.find_place-3.ensures.none
