@@ -20,5 +20,6 @@ pub mod ReadingWhole
 pub mod SameBlock
 pub mod Sectors
 pub mod Sizes
+pub mod Steps
 pub mod Taking
 pub mod Writing

@@ -7,4 +7,5 @@ pub mod Places
 pub mod Plans
 pub mod Reading
 pub mod Shapes
+pub mod Steps
 pub mod Store

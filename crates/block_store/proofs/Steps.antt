@@ -1,0 +1,246 @@
+-- Reads and plans one after the other.
+use Rattle.std.proofs.Common.{ℕ, ◌≡◌, ◌+◌, inl, inr, Result, Ok, Err, Option, Some, None, false, List, [], ◌∷◌, ◌++◌, map, length, Contains, refl, sym, ap, ◌∙◌, subst, arith, append_assoc}
+use Rattle.std.proofs.lemmas.List.{append-nil}
+use Rattle.std.specs.List.{slice_get}
+use Rattle.std.specs.Option.{option_map}
+use Rattle.std.specs.Prelude.{All, OnOk, OnErr, IfOk}
+use Rattle.std.proofs.lemmas.List.Elements.{All-append, Contains-append_left, Contains-append_right, Contains-append_cases}
+use Rattle.std.proofs.lemmas.Option.{slice_get-map, same_Some}
+use Rattle.model_disk.specs.Joint.{JointCall, Disks, calls_on, failed_since, AreHonestSince}
+use Rattle.model_disk.proofs.LawLemmas.{parts_are_honest}
+use Rattle.block_pointer.specs.declared.block.Block.{Block}
+use Rattle.block_pointer.specs.declared.dva.Dva.{Dva}
+use Rattle.block_pointer.specs.Copies.{dvas}
+use Rattle.raidz_io.specs.declared.writes.ColumnWrite.{ColumnWrite}
+use Rattle.raidz_io.specs.Reads.{OnlyReads}
+use Rattle.raidz_io.proofs.Calls.{length-OnlyReads, OnlyReads-none, failed_since-more}
+use Rattle.block_store.specs.declared.refusal.Refusal.{Refusal}
+use Rattle.block_store.specs.declared.shape.VdevShape.{VdevShape}
+use Rattle.block_store.specs.declared.space.VdevSpace.{VdevSpace}
+use Rattle.block_store.specs.Blocks.{Contents, Adds}
+use Rattle.block_store.specs.Places.{shapes_of, AreChosen, TookSome, RanOut}
+use Rattle.block_store.specs.Places.{filled as filled_marks}
+use Rattle.block_store.specs.Plans.{Plans, KeepsPlans}
+use Rattle.block_store.specs.Reading.{FewAreAbsent, AreTolerable}
+use Rattle.block_store.specs.Steps.{OnlyReadsBlocks, Taken, HaveTaken, OnlyReadsAndPlans, AnswersAreTrue, LossIsTolerable, HasNoRoomFor}
+use Rattle.block_store.specs.Store.{Store, Keeps, outs, outs_from, is_out}
+use Rattle.block_store.proofs.ReadingLost.{failed_earlier}
+use Rattle.block_store.proofs.ReadingSteps.{reads_on as disk_reads_on, rest_on}
+
+-- ---- reads
+
+same_outs : (old new : Store) → new.out ≡ old.out → outs new ≡ outs old
+same_outs old new out = ap (λ flags. outs_from 0 flags) out
+
+pub reads_none : (store : Store) (missing : List ℕ) → OnlyReadsBlocks store store missing
+reads_none store missing = record {
+  rest = refl;
+  reads = OnlyReads-none store.disks;
+  untouched = λ disk held. refl;
+  keeps = λ stored held. held;
+  plans = λ stored planned held. held;
+}
+
+pub reads_on : (old mid new : Store) (missing : List ℕ) → OnlyReadsBlocks old mid missing → OnlyReadsBlocks mid new missing → OnlyReadsBlocks old new missing
+reads_on old mid new missing first rest = record {
+  rest = rest_on old mid new first.rest rest.rest;
+  reads = disk_reads_on old.disks mid.disks new.disks first.reads rest.reads;
+  untouched = λ disk held.
+      rest.untouched disk (subst (λ disks. Contains (disks ++ missing) disk) (sym (same_outs old mid (ap (λ (s : Store). s.out) first.rest))) held)
+      ∙ first.untouched disk held;
+  keeps = λ stored held. rest.keeps stored (first.keeps stored held);
+  plans = λ stored planned held. rest.plans stored planned (first.plans stored planned held);
+}
+
+-- ---- plans
+
+-- places that are chosen fill nothing
+pub chosen_fills_nothing : (spaces : List VdevSpace) (taken : List Dva) (sectors : ℕ) (places : List Dva) (after : List VdevSpace) → AreChosen spaces taken sectors places after
+    → map filled_marks after ≡ map filled_marks spaces
+chosen_fills_nothing spaces taken sectors [] after is = ap (map filled_marks) is
+chosen_fills_nothing spaces taken sectors (place ∷ places) after (chosen, mid, too, rest) =
+    chosen_fills_nothing mid (taken ++ place ∷ []) sectors places after rest ∙ too.filled_stays
+
+-- places were taken for one block
+taken_once : (spaces : List VdevSpace) (sectors : ℕ) (places : List Dva) (after : List VdevSpace) → AreChosen spaces [] sectors places after
+    → HaveTaken spaces (record { sectors = sectors; places = places } ∷ []) after
+taken_once spaces sectors places after chosen = (after, chosen, refl)
+
+taken_on : (spaces mid after : List VdevSpace) (first rest : List Taken) → HaveTaken spaces first mid → HaveTaken mid rest after → HaveTaken spaces (first ++ rest) after
+taken_on spaces mid after [] rest same later = subst (λ (s : List VdevSpace). HaveTaken s rest after) same later
+taken_on spaces mid after (taken ∷ first) rest (between, chosen, more) later = (between, chosen, taken_on between mid after first rest more later)
+
+pub steps_none : (store : Store) (missing : List ℕ) → OnlyReadsAndPlans store store missing
+steps_none store missing = record {
+  out = refl;
+  shapes = refl;
+  filled = refl;
+  taken = [];
+  took = refl;
+  reads = OnlyReads-none store.disks;
+  untouched = λ disk held. refl;
+  keeps = λ stored held. held;
+  added = [];
+  due = sym (append-nil store.due);
+  in_use = λ k d below. absurd (omega arith);
+  plans = λ stored planned held. (planned, held, λ block bytes is. is);
+}
+
+pub steps_read : (old new : Store) (missing : List ℕ) → OnlyReadsBlocks old new missing → OnlyReadsAndPlans old new missing
+steps_read old new missing reads = record {
+  out = ap (λ (s : Store). s.out) reads.rest;
+  shapes = ap (λ (s : Store). shapes_of s.spaces) reads.rest;
+  filled = ap (λ (s : Store). map filled_marks s.spaces) reads.rest;
+  taken = [];
+  took = ap (λ (s : Store). s.spaces) reads.rest;
+  reads = reads.reads;
+  untouched = reads.untouched;
+  keeps = reads.keeps;
+  added = [];
+  due = ap (λ (s : Store). s.due) reads.rest ∙ sym (append-nil old.due);
+  in_use = λ k d below. absurd (omega arith);
+  plans = λ stored planned held. (planned, reads.plans stored planned held, λ block bytes is. is);
+}
+
+no_reads : (old new : Disks) → new ≡ old → OnlyReads old new
+no_reads old new same = subst (λ (disks : Disks). OnlyReads old disks) (sym same) (OnlyReads-none old)
+
+-- What `plan_write` says, in this form.
+pub steps_plan : (old new : Store) (missing : List ℕ) (sectors copies : ℕ) (result : Result Block Refusal) (bytes : List ℕ)
+    → new.disks ≡ old.disks → new.out ≡ old.out → shapes_of new.spaces ≡ shapes_of old.spaces → Keeps old new
+    → IfOk result (λ block. AreChosen old.spaces [] sectors (dvas block.copies) new.spaces) → OnErr result (TookSome old.spaces sectors copies new.spaces)
+    → OnOk result ((added : List ColumnWrite) × (new.due ≡ old.due ++ added) × All (λ write. is_out old.out write.disk ≡ false) added)
+    → OnErr result (new.due ≡ old.due)
+    → IfOk result (λ block. (stored planned : Contents) → Plans old stored planned → (later : Contents) × Plans new stored later × Adds planned later block bytes)
+    → OnErr result (KeepsPlans old new) → OnlyReadsAndPlans old new missing
+steps_plan old new missing sectors copies (Ok block) bytes disks out shapes keeps places some due err_due planned err = record {
+  out = out;
+  shapes = shapes;
+  filled = chosen_fills_nothing old.spaces [] sectors (dvas block.copies) new.spaces places;
+  taken = record { sectors = sectors; places = dvas block.copies } ∷ [];
+  took = taken_once old.spaces sectors (dvas block.copies) new.spaces places;
+  reads = no_reads old.disks new.disks disks;
+  untouched = λ disk held. ap (λ (d : Disks). calls_on disk d.calls) disks;
+  keeps = keeps;
+  added = due.0;
+  due = due.1;
+  in_use = due.2;
+  plans = λ stored before held. let there = planned stored before held in (there.0, there.1, there.2.kept);
+}
+steps_plan old new missing sectors copies (Err refusal) bytes disks out shapes keeps places some due err_due planned err = record {
+  out = out;
+  shapes = shapes;
+  filled = chosen_fills_nothing old.spaces [] sectors some.0 new.spaces some.2;
+  taken = record { sectors = sectors; places = some.0 } ∷ [];
+  took = taken_once old.spaces sectors some.0 new.spaces some.2;
+  reads = no_reads old.disks new.disks disks;
+  untouched = λ disk held. ap (λ (d : Disks). calls_on disk d.calls) disks;
+  keeps = keeps;
+  added = [];
+  due = let e : old.due ++ [] ≡ old.due = append-nil old.due in err_due ∙ sym e;
+  in_use = λ k d below. absurd (omega arith);
+  plans = λ stored before held. (before, err stored before held, λ block bytes is. is);
+}
+
+pub steps_on : (old mid new : Store) (missing : List ℕ) → OnlyReadsAndPlans old mid missing → OnlyReadsAndPlans mid new missing → OnlyReadsAndPlans old new missing
+steps_on old mid new missing first rest = record {
+  out = rest.out ∙ first.out;
+  shapes = rest.shapes ∙ first.shapes;
+  filled = rest.filled ∙ first.filled;
+  taken = first.taken ++ rest.taken;
+  took = taken_on old.spaces mid.spaces new.spaces first.taken rest.taken first.took rest.took;
+  reads = disk_reads_on old.disks mid.disks new.disks first.reads rest.reads;
+  untouched = λ disk held.
+      rest.untouched disk (subst (λ disks. Contains (disks ++ missing) disk) (sym (same_outs old mid first.out)) held)
+      ∙ first.untouched disk held;
+  keeps = λ stored held. rest.keeps stored (first.keeps stored held);
+  added = first.added ++ rest.added;
+  due = rest.due ∙ ap (λ writes. writes ++ rest.added) first.due ∙ append_assoc old.due first.added rest.added;
+  in_use = All-append (λ write. is_out old.out write.disk ≡ false) first.added rest.added first.in_use
+      (subst (λ out. All (λ write. is_out out write.disk ≡ false) rest.added) first.out rest.in_use);
+  plans = λ stored planned held.
+      let one = first.plans stored planned held in
+      let two = rest.plans stored one.0 one.1 in
+      (two.0, two.1, λ block bytes is. two.2 block bytes (one.2 block bytes is));
+}
+
+-- ---- each part of what is true is true
+
+pub true_before : (old mid new : Store) → OnlyReads mid.disks new.disks → AnswersAreTrue old new → AnswersAreTrue old mid
+true_before old mid new rest honest =
+    let P : List (List ℕ) → Type 0 = λ starts. AreHonestSince (length old.disks.calls) starts new.disks.calls in
+    let Q : List JointCall → Type 0 = AreHonestSince (length old.disks.calls) mid.disks.starts in
+    parts_are_honest mid.disks.starts (length old.disks.calls) (length old.disks.calls) rest.newer mid.disks.calls (omega arith)
+    (subst Q rest.calls (subst P rest.starts honest))
+
+pub true_after : (old mid new : Store) → OnlyReads old.disks mid.disks → AnswersAreTrue old new → AnswersAreTrue mid new
+true_after old mid new first honest =
+    parts_are_honest new.disks.starts (length old.disks.calls) (length mid.disks.calls) [] new.disks.calls
+    (length-OnlyReads old.disks mid.disks first) honest
+
+-- ---- where few disks are absent, few are in each part
+
+failed_since-append : (n : ℕ) (newer calls : List JointCall) (disk : ℕ) → Contains (failed_since n calls) disk → Contains (failed_since n (newer ++ calls)) disk
+failed_since-append n [] calls disk held = held
+failed_since-append n (made ∷ newer) calls disk held = failed_since-more n made (newer ++ calls) disk (failed_since-append n newer calls disk held)
+
+fewer_absent : (spaces : List VdevSpace) (more fewer : List ℕ) → ((disk : ℕ) → Contains fewer disk → Contains more disk) → AreTolerable spaces more → AreTolerable spaces fewer
+fewer_absent spaces more fewer within few v space found =
+    let there = few v space found in
+    record { disks = there.disks; few = there.few; all = λ child below held. there.all child below (within (space.shape.vdev.first + child) held) }
+
+absent_more : (missing others failed fewer : List ℕ) → others ≡ missing → ((disk : ℕ) → Contains fewer disk → Contains failed disk)
+    → (disk : ℕ) → Contains (others ++ fewer) disk → Contains (missing ++ failed) disk
+absent_more missing others failed fewer same within disk held =
+    elim (Contains-append_cases others fewer disk held) [
+      | inl first ↦ Contains-append_left missing failed disk (subst (λ disks. Contains disks disk) same first)
+      | inr later ↦ Contains-append_right missing failed disk (within disk later)
+    ]
+
+-- only the shapes of the vdevs matter
+shape_found : (spaces others : List VdevSpace) (v : ℕ) (space : VdevSpace) → shapes_of others ≡ shapes_of spaces → slice_get others v ≡ Some space
+    → (there : VdevSpace) × (slice_get spaces v ≡ Some there) × (there.shape ≡ space.shape)
+shape_found spaces others v space same found = cases (slice_get spaces v) refl
+    (sym (slice_get-map (λ (s : VdevSpace). s.shape) spaces v) ∙ ap (λ shapes. slice_get shapes v) (sym same)
+    ∙ slice_get-map (λ (s : VdevSpace). s.shape) others v ∙ ap (λ o. option_map (λ (s : VdevSpace). s.shape) o) found)
+  where
+    cases : (o : Option VdevSpace) → slice_get spaces v ≡ o → option_map (λ (s : VdevSpace). s.shape) (slice_get spaces v) ≡ Some space.shape
+        → (there : VdevSpace) × (slice_get spaces v ≡ Some there) × (there.shape ≡ space.shape)
+    cases None e is = let no : None ≡ Some space.shape = ap (λ o. option_map (λ (s : VdevSpace). s.shape) o) (sym e) ∙ is in absurd (cc)
+    cases (Some there) e is =
+        (there, e, same_Some there.shape space.shape (ap (λ o. option_map (λ (s : VdevSpace). s.shape) o) (sym e) ∙ is))
+
+tolerable_shapes : (spaces others : List VdevSpace) (absent : List ℕ) → shapes_of others ≡ shapes_of spaces → AreTolerable spaces absent → AreTolerable others absent
+tolerable_shapes spaces others absent same few v space found =
+    let there = shape_found spaces others v space same found in
+    subst (λ (shape : VdevShape). FewAreAbsent shape.vdev absent) there.2 (few v there.0 there.1)
+
+pub few_before : (old mid new : Store) (missing : List ℕ) → OnlyReads mid.disks new.disks → LossIsTolerable old new missing → LossIsTolerable old mid missing
+few_before old mid new missing rest few =
+    let failed : List ℕ = failed_since (length old.disks.calls) new.disks.calls in
+    let fewer : List ℕ = failed_since (length old.disks.calls) mid.disks.calls in
+    fewer_absent old.spaces ((outs old ++ missing) ++ failed) ((outs old ++ missing) ++ fewer)
+    (absent_more (outs old ++ missing) (outs old ++ missing) failed fewer refl (λ disk held.
+    subst (λ calls. Contains (failed_since (length old.disks.calls) calls) disk) (sym rest.calls)
+    (failed_since-append (length old.disks.calls) rest.newer mid.disks.calls disk held))) few
+
+pub few_after : (old mid new : Store) (missing : List ℕ) → OnlyReads old.disks mid.disks → mid.out ≡ old.out → shapes_of mid.spaces ≡ shapes_of old.spaces
+    → LossIsTolerable old new missing → LossIsTolerable mid new missing
+few_after old mid new missing first out shapes few =
+    let failed : List ℕ = failed_since (length old.disks.calls) new.disks.calls in
+    let fewer : List ℕ = failed_since (length mid.disks.calls) new.disks.calls in
+    tolerable_shapes old.spaces mid.spaces ((outs mid ++ missing) ++ fewer) shapes
+    (fewer_absent old.spaces ((outs old ++ missing) ++ failed) ((outs mid ++ missing) ++ fewer)
+    (absent_more (outs old ++ missing) (outs mid ++ missing) failed fewer (ap (λ disks. disks ++ missing) (same_outs old mid out))
+    (λ disk held. failed_earlier (length old.disks.calls) (length mid.disks.calls) new.disks.calls disk (length-OnlyReads old.disks mid.disks first) held)) few)
+
+-- ---- there is no room
+
+pub no_room_now : (store new : Store) (missing : List ℕ) (sectors copies : ℕ) → RanOut store.spaces sectors copies new.spaces
+    → HasNoRoomFor store new missing sectors copies
+no_room_now store new missing sectors copies out = record { mid = store; before = steps_none store missing; ran_out = out }
+
+pub no_room_on : (old mid new : Store) (missing : List ℕ) (sectors copies : ℕ) → OnlyReadsAndPlans old mid missing → HasNoRoomFor mid new missing sectors copies
+    → HasNoRoomFor old new missing sectors copies
+no_room_on old mid new missing sectors copies steps none =
+    record { mid = none.mid; before = steps_on old mid none.mid missing steps none.before; ran_out = none.ran_out }

@@ -1,0 +1,61 @@
+-- What calls over a store may do to it: reads of blocks, and plans of new ones.
+use Rattle.std.specs.Prelude.{ℕ, ◌≡◌, false, List, [], ◌∷◌, ◌++◌, map, All}
+use Rattle.block_pointer.specs.declared.dva.Dva.{Dva}
+use Rattle.raidz_io.specs.declared.writes.ColumnWrite.{ColumnWrite}
+use Rattle.raidz_io.specs.Reads.{OnlyReads, AreUntouched, IsHonestSince, absent_since}
+use Rattle.block_store.specs.declared.space.VdevSpace.{VdevSpace}
+use Rattle.block_store.specs.Blocks.{Contents, Extends}
+use Rattle.block_store.specs.Places.{shapes_of, AreChosen, RanOut}
+use Rattle.block_store.specs.Places.{filled as filled_marks}
+use Rattle.block_store.specs.Plans.{Plans, KeepsPlans}
+use Rattle.block_store.specs.Reading.{AreTolerable}
+use Rattle.block_store.specs.Store.{Store, Keeps, outs, is_out}
+
+-- nothing was done but reads, none of them on a disk that is out or missing
+pub record OnlyReadsBlocks (old new : Store) (missing : List ℕ) : Type 0 where
+  pub rest : new ≡ record old { disks = new.disks }
+  pub reads : OnlyReads old.disks new.disks
+  pub untouched : AreUntouched (outs old ++ missing) old.disks new.disks
+  pub keeps : Keeps old new
+  pub plans : KeepsPlans old new
+
+-- the places that were taken for copies of one block, of so many sectors
+pub record Taken : Type 0 where
+  pub sectors : ℕ
+  pub places : List Dva
+
+-- for one block after the other places were chosen and taken
+abbrev pub HaveTaken : List VdevSpace → List Taken → List VdevSpace → Type 0
+HaveTaken spaces [] after = after ≡ spaces
+HaveTaken spaces (taken ∷ rest) after =
+    (mid : List VdevSpace) × AreChosen spaces [] taken.sectors taken.places mid × HaveTaken mid rest after
+
+-- Nothing was done but such reads, and new blocks were planned. What stored blocks fill is the same. More writes are due, none of
+-- them to a disk that is out. Each plan goes on, with what it had and perhaps more; so it does where a call was refused.
+pub record OnlyReadsAndPlans (old new : Store) (missing : List ℕ) : Type 0 where
+  pub out : new.out ≡ old.out
+  pub shapes : shapes_of new.spaces ≡ shapes_of old.spaces
+  pub filled : map filled_marks new.spaces ≡ map filled_marks old.spaces
+  pub taken : List Taken
+  pub took : HaveTaken old.spaces taken new.spaces
+  pub reads : OnlyReads old.disks new.disks
+  pub untouched : AreUntouched (outs old ++ missing) old.disks new.disks
+  pub keeps : Keeps old new
+  pub added : List ColumnWrite
+  pub due : new.due ≡ old.due ++ added
+  pub in_use : All (λ write. is_out old.out write.disk ≡ false) added
+  pub plans : (stored planned : Contents) → Plans old stored planned → (later : Contents) × Plans new stored later × Extends planned later
+
+-- what the disks answered since is true
+abbrev pub AnswersAreTrue : Store → Store → Type 0
+AnswersAreTrue old new = IsHonestSince old.disks new.disks
+
+-- no vdev lacks more disks than it has parities: those that are out, that are missing, and that failed since
+abbrev pub LossIsTolerable : Store → Store → List ℕ → Type 0
+LossIsTolerable old new missing = AreTolerable old.spaces (absent_since old.disks new.disks (outs old ++ missing))
+
+-- there is no room: behind such reads and plans no free place was left for a copy of a block of so many sectors
+pub record HasNoRoomFor (old new : Store) (missing : List ℕ) (sectors copies : ℕ) : Type 0 where
+  pub mid : Store
+  pub before : OnlyReadsAndPlans old mid missing
+  pub ran_out : RanOut mid.spaces sectors copies new.spaces
