@@ -14,6 +14,3 @@ pub use putting::put_many;
 pub use reading::get;
 pub use set_blocks::{plan_set, read_set};
 pub use writes::{NodeWrite, SetRewrite};
-
-#[cfg(test)]
-mod tests;

@@ -23,6 +23,3 @@ pub use putting::put_many;
 pub use reading::get;
 pub use walking::walk;
 pub use writes::{BlockWrite, CopyCounts, Rewrite};
-
-#[cfg(test)]
-mod tests;

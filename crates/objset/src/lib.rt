@@ -13,6 +13,3 @@ pub use dnode_slots::SetRewrite;
 pub use dnode_tree::BlockWrite;
 pub use laws::objects_stand_on_their_blocks;
 pub use reading::{get, walk};
-
-#[cfg(test)]
-mod tests;

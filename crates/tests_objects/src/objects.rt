@@ -1,0 +1,308 @@
+//! Objects of a set.
+ghost use Rattle.std.specs.Prelude.{◌≡◌, ◌*◌, ◌^◌, ◌<◌, ◌≤◌, IfOk};
+ghost use Rattle.dnode.specs.ObjectSet.{FitsObjectSet};
+ghost use Rattle.objset.specs.Changes.{AreGoodWrites, AreWhole, IsGoodChange};
+
+use crate::stores::{Store, new_store, store_plan};
+use block_pointer::BlockPtr;
+use block_store::CopyCount;
+use dnode::{ObjectNode, ObjectSet, ObjectSetKind};
+use objset::{BlockWrite, Change, ObjectChange, Refusal, SetCopies, SetRewrite, change, get, walk};
+use std::alloc::{AllocError, Global};
+use std::test::Fail;
+
+const COPIES: SetCopies = SetCopies {
+    data: CopyCount::One,
+    other: CopyCount::Two,
+};
+
+/// A set with no object.
+const EMPTY: ObjectSet = ObjectSet {
+    dnodes: ObjectNode {
+        object_type: 10,
+        data_sectors: 32,
+        highest: 0,
+        pointer: BlockPtr::Hole,
+    },
+    kind: ObjectSetKind::Volume,
+    objects: 1,
+};
+
+/// What stands for a hole, and for `BadPointer`, where a byte is told.
+const HOLE: usize = 256;
+
+const BAD: usize = 257;
+
+const OTHER: usize = 258;
+
+/// A change of an object by the block of one byte's value that it writes.
+#[derive(Clone, Copy)]
+struct Case {
+    number: u64,
+    /// Whether the object is made by it.
+    is_new: bool,
+    id: u64,
+    byte: u8,
+    sectors: u32,
+}
+
+/// One block of one byte's value.
+fn block_of(alloc: Global, id: u64, byte: u8, sectors: u32) -> Result<Vec<BlockWrite>, AllocError>
+    requires id { id < 128 ^ 5 }
+    requires small { sectors ≤ 256 }
+    ensures good { IfOk result (λ writes. AreGoodWrites writes.items) }
+    ensures whole { IfOk result (λ writes. AreWhole sectors writes.items) }
+{
+    let bytes = vec![in alloc; byte; sectors as usize * 512]?;
+    let mut writes = Vec::new(alloc);
+    writes.push(BlockWrite { id, bytes })?;
+    Ok(writes)
+}
+
+fn change_of(alloc: Global, case: Case) -> Result<ObjectChange, AllocError>
+    requires id { case.id < 128 ^ 5 }
+    requires some { 0 < case.sectors }
+    requires small { case.sectors ≤ 256 }
+    ensures number { IfOk result (λ made. made.number ≡ case.number) }
+    ensures good { IfOk result (λ made. IsGoodChange made.change) }
+{
+    let writes = block_of(alloc, case.id, case.byte, case.sectors)?;
+    let change = if case.is_new {
+        Change::Create {
+            object_type: 23,
+            data_sectors: case.sectors,
+            writes,
+        }
+    } else {
+        Change::Put { writes }
+    };
+    Ok(ObjectChange {
+        number: case.number,
+        change,
+    })
+}
+
+/// The set with two changes, once they are stored.
+fn change_both(
+    set: &ObjectSet,
+    store: &mut Store,
+    alloc: Global,
+    first: ObjectChange,
+    second: ObjectChange,
+    birth: u64,
+) -> Result<SetRewrite, Refusal>
+    requires set { FitsObjectSet set.now }
+    requires some { 0 < first.number }
+    requires order { first.number < second.number }
+    requires small { second.number < 32 * 128 ^ 5 }
+    requires first { IsGoodChange first.change }
+    requires second { IsGoodChange second.change }
+    requires born { 0 < birth }
+    ensures { IfOk result (λ done. FitsObjectSet done.set) }
+{
+    let changes = [first, second];
+    store.begin_plan();
+    let done = change(set, store, alloc, &changes, birth, COPIES, &[])?;
+    store_plan(store);
+    Ok(done)
+}
+
+/// Two objects, 3 of blocks of one sector and 40 of blocks of two.
+fn two_objects(store: &mut Store, alloc: Global) -> Result<SetRewrite, Refusal>
+    ensures { IfOk result (λ done. FitsObjectSet done.set) }
+{
+    let first = Case {
+        number: 3,
+        is_new: true,
+        id: 200,
+        byte: 5,
+        sectors: 1,
+    };
+    let second = Case {
+        number: 40,
+        is_new: true,
+        id: 0,
+        byte: 6,
+        sectors: 2,
+    };
+    let first = change_of(alloc, first)?;
+    let second = change_of(alloc, second)?;
+    change_both(&EMPTY, store, alloc, first, second, 1)
+}
+
+/// What all bytes of a block are, if it has so many.
+fn byte_of(block: Option<&[u8]>, sectors: u32) -> usize {
+    match block {
+        None => HOLE,
+        Some([first, rest @ ..])
+            if rest.len() + 1 == 512 * sectors as usize && rest.iter().all(|byte| byte == first) =>
+            { usize::from(*first) }
+        Some(_) => OTHER,
+    }
+}
+
+fn byte_at(
+    set: &ObjectSet,
+    store: &mut Store,
+    alloc: Global,
+    at: (u64, u64),
+    sectors: u32,
+    birth: u64,
+) -> usize
+    requires { FitsObjectSet set.now }
+{
+    match get(set, store, alloc, at.0, at.1, birth, &[]) {
+        Ok(block) => byte_of(block.as_deref(), sectors),
+        Err(Refusal::BadPointer) => BAD,
+        Err(_) => OTHER,
+    }
+}
+
+fn walked(set: &ObjectSet, store: &mut Store, alloc: Global, number: u64) -> Result<usize, Refusal>
+    requires { FitsObjectSet set.now }
+{
+    let blocks = walk(set, store, alloc, number, 1, &[])?;
+    Ok(blocks.len())
+}
+
+/// Of two objects: how many blocks their making replaced, bytes, and how many blocks there are of the first and of none.
+fn made(store: &mut Store, alloc: Global) -> Result<(usize, [usize; 4], [usize; 2]), Refusal> {
+    let SetRewrite { set, replaced } = two_objects(store, alloc)?;
+    let replaced = replaced.len();
+    let bytes = [
+        byte_at(&set, store, alloc, (3, 200), 1, 1),
+        byte_at(&set, store, alloc, (3, 0), 1, 1),
+        byte_at(&set, store, alloc, (40, 0), 2, 1),
+        byte_at(&set, store, alloc, (4, 0), 1, 1),
+    ];
+    let blocks = [
+        walked(&set, store, alloc, 3)?,
+        walked(&set, store, alloc, 4)?,
+    ];
+    Ok((replaced, bytes, blocks))
+}
+
+fn made_in_memory(alloc: Global) -> Result<(usize, [usize; 4], [usize; 2]), Fail> {
+    let mut store = new_store(alloc)?;
+    Ok(made(&mut store, alloc)?)
+}
+
+#[test]
+fn objects_read_as_they_were_written(rt: HostRuntime) -> Result<(), Fail> {
+    let (replaced, bytes, blocks) = made_in_memory(rt.alloc())?;
+    assert_eq!(rt; replaced, 0);
+    assert_eq!(rt; bytes, [5, HOLE, 6, BAD]);
+    // A root, an indirect block and the block itself.
+    assert_eq!(rt; blocks, [3, 0]);
+    Ok(())
+}
+
+/// A block of the object 3 is written, and the object 40 goes.
+fn write_and_free(set: &ObjectSet, store: &mut Store, alloc: Global) -> Result<SetRewrite, Refusal>
+    requires { FitsObjectSet set.now }
+    ensures { IfOk result (λ done. FitsObjectSet done.set) }
+{
+    let case = Case {
+        number: 3,
+        is_new: false,
+        id: 200,
+        byte: 7,
+        sectors: 1,
+    };
+    let first = change_of(alloc, case)?;
+    let second = ObjectChange {
+        number: 40,
+        change: Change::Free,
+    };
+    change_both(set, store, alloc, first, second, 2)
+}
+
+/// Of two objects that are changed: how many blocks gave way, and bytes after and before.
+fn changed(store: &mut Store, alloc: Global) -> Result<(usize, [usize; 4]), Refusal> {
+    let old = two_objects(store, alloc)?.set;
+    let SetRewrite { set, replaced } = write_and_free(&old, store, alloc)?;
+    let replaced = replaced.len();
+    let bytes = [
+        byte_at(&set, store, alloc, (3, 200), 1, 2),
+        byte_at(&set, store, alloc, (40, 0), 2, 2),
+        byte_at(&old, store, alloc, (3, 200), 1, 1),
+        byte_at(&old, store, alloc, (40, 0), 2, 1),
+    ];
+    Ok((replaced, bytes))
+}
+
+fn changed_in_memory(alloc: Global) -> Result<(usize, [usize; 4]), Fail> {
+    let mut store = new_store(alloc)?;
+    Ok(changed(&mut store, alloc)?)
+}
+
+#[test]
+fn the_set_before_stays(rt: HostRuntime) -> Result<(), Fail> {
+    let (replaced, bytes) = changed_in_memory(rt.alloc())?;
+    // Three blocks of 3, the one of 40, and those of the dnodes: two of 32 dnodes each, and the root above them.
+    assert_eq!(rt; replaced, 7);
+    assert_eq!(rt; bytes, [7, BAD, 5, 6]);
+    Ok(())
+}
+
+/// Whether two changes are refused of which one can't be made.
+fn is_refused(
+    set: &ObjectSet,
+    store: &mut Store,
+    alloc: Global,
+    first: Case,
+    second: Case,
+) -> Result<bool, AllocError>
+    requires set { FitsObjectSet set.now }
+    requires order { (0 < first.number) × (first.number < second.number) × (second.number < 32 * 128 ^ 5) }
+    requires first { (first.id < 128 ^ 5) × (0 < first.sectors) × (first.sectors ≤ 256) }
+    requires second { (second.id < 128 ^ 5) × (0 < second.sectors) × (second.sectors ≤ 256) }
+{
+    let first = change_of(alloc, first)?;
+    let second = change_of(alloc, second)?;
+    let done = change_both(set, store, alloc, first, second, 2);
+    Ok(matches!(done, Err(Refusal::BadPointer)))
+}
+
+/// Whether these are refused: a write of no object, an object made where one is, a block of another size.
+fn refusals(store: &mut Store, alloc: Global) -> Result<[bool; 3], Refusal> {
+    let set = two_objects(store, alloc)?.set;
+    let first = Case {
+        number: 3,
+        is_new: false,
+        id: 0,
+        byte: 7,
+        sectors: 1,
+    };
+    let second = Case {
+        number: 40,
+        sectors: 2,
+        ..first
+    };
+    let absent = Case { number: 4, ..first };
+    let made = Case {
+        is_new: true,
+        ..first
+    };
+    let short = Case {
+        number: 40,
+        ..first
+    };
+    Ok([
+        is_refused(&set, store, alloc, first, absent)?,
+        is_refused(&set, store, alloc, made, second)?,
+        is_refused(&set, store, alloc, first, short)?,
+    ])
+}
+
+fn refusals_in_memory(alloc: Global) -> Result<[bool; 3], Fail> {
+    let mut store = new_store(alloc)?;
+    Ok(refusals(&mut store, alloc)?)
+}
+
+#[test]
+fn changes_that_cannot_be_made_are_refused(rt: HostRuntime) -> Result<(), Fail> {
+    let refused = refusals_in_memory(rt.alloc())?;
+    assert_eq!(rt; refused, [true; 3]);
+    Ok(())
+}
