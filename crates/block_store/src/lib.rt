@@ -5,6 +5,7 @@ mod block;
 mod choice;
 mod create;
 mod device;
+mod honest;
 mod laws;
 mod plan;
 mod read;

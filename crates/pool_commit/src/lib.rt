@@ -4,6 +4,7 @@
 
 mod commit;
 mod device;
+mod honest;
 mod kept;
 mod plan;
 mod reading;

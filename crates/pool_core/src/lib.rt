@@ -2,6 +2,7 @@
 //! headline.
 #![tactic(auto)]
 
+mod honest;
 mod pool;
 mod reading;
 mod refusal;
