@@ -1,19 +1,16 @@
 //! The work of the programs, over readers and writers: `schedule` runs a schedule against any machine.
 #![tactic(auto)]
 
-mod answer;
+mod commands;
 mod disk_pool;
 mod lines;
 mod machine;
-#[cfg(test)]
-mod random_tests;
 mod refusal;
 mod running;
 mod status;
-#[cfg(test)]
-mod tests;
 mod written;
 
+pub use commands::answer;
 pub use machine::StepMachine;
 pub use running::schedule;
 pub use status::ExitStatus;

@@ -4,7 +4,7 @@ ghost use Rattle.std.specs.Io.KnownBytes.{Appends};
 ghost use Rattle.schedule_lines.specs.Replies.{IsReplyText};
 ghost use Rattle.programs.specs.Plays.{AnswersAll, RunsSchedule};
 
-use crate::answer::answer;
+use crate::commands::answer;
 use crate::lines::Lines;
 use crate::machine::StepMachine;
 use crate::refusal::Refusal;

@@ -1,7 +1,7 @@
 use Rattle.std.proofs.Common.{◌≡◌, [], ◌∷◌, ◌++◌, Some, length-append, arith}
 use Rattle.programs.specs.Answers.{next_of}
 use Rattle.programs.proofs.Leading.{leads_more}
-use Rattle.programs.proofs.answer.run_on.Goals as goal
+use Rattle.programs.proofs.commands.run_on.Goals as goal
 
 pub loop-preserved : goal.loop-preserved
 loop-preserved g c =

@@ -1,7 +1,7 @@
 use Rattle.std.proofs.Common.{◌≡◌, List, length}
 use Rattle.pool_model.specs.declared.step.Reply.{Reply}
 use Rattle.programs.specs.Answers.{Leads}
-use Rattle.programs.proofs.answer.run_on.Given as goal
+use Rattle.programs.proofs.commands.run_on.Given as goal
 
 abbrev pub invariant-loop : goal.invariant-loop
 invariant-loop g l = (replies : List Reply) × Leads g.P.StepMachine.steps l.fn.pool l.fn.step replies l.reply l.pool × (length replies ≡ l.counter)

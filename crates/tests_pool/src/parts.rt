@@ -1,0 +1,490 @@
+//! Calls of the parts by themselves: what no schedule says.
+use block_store::VdevConfig;
+use model_disk::MemDisk;
+use plain_machine::Machine;
+use pool_commit::{Commit, Progress};
+use pool_core::Core;
+use pool_intake::Intake;
+use pool_model::{Action, Bytes, Change, Item, Name, Refusal, Reply, Step, Write};
+use pool_now::{
+    NameIndex, VolumeShape, against_change, against_read, against_write, is_good_shape, lay_over,
+    named,
+};
+use raidz_map::Geometry;
+use std::alloc::{AllocError, Global};
+use std::test::Fail;
+use txg_pipeline::{Call, Pipeline};
+
+const SHAPE: VolumeShape = VolumeShape {
+    size: 8192,
+    block_size: 512,
+    group: 4,
+};
+
+fn name(alloc: Global, letters: &str) -> Result<Name, AllocError> {
+    Ok(Name::new(Vec::from_slice(alloc, letters.as_bytes())?))
+}
+
+/// Bytes of one value, written by writer 1 to a volume.
+fn filled(
+    alloc: Global,
+    number: u64,
+    volume: &str,
+    range: (u64, usize),
+    value: u8,
+) -> Result<Write, AllocError> {
+    Ok(Write {
+        writer: 1,
+        number,
+        volume: name(alloc, volume)?,
+        offset: range.0,
+        bytes: Bytes::new(vec![in alloc; value; range.1]?),
+    })
+}
+
+fn create(alloc: Global, volume: &str, size: u64, block_size: u64) -> Result<Change, AllocError> {
+    Ok(Change::Create {
+        name: name(alloc, volume)?,
+        size,
+        block_size,
+    })
+}
+
+#[test]
+fn refusals_print_number_name_and_argument(rt: HostRuntime) -> Result<(), Fail> {
+    let causes = [Refusal::OutOfOrder { expected: 2 }, Refusal::GroupGone];
+    let text = format!(in rt.alloc(); "{}, {}", causes[0], causes[1])?;
+    assert_eq!(rt; text.as_str(), "7 OutOfOrder 2, 17 GroupGone");
+    Ok(())
+}
+
+fn stored(alloc: Global) -> Result<Bytes, AllocError> {
+    let mut bytes = Bytes::zeros(alloc, 6)?;
+    bytes.store(2, &Bytes::new(vec![in alloc; 7; 2]?));
+    Ok(bytes)
+}
+
+#[test]
+fn bytes_are_stored_and_read(rt: HostRuntime) -> Result<(), Fail> {
+    let bytes = stored(rt.alloc())?;
+    assert!(rt; bytes.len() == 6 && !bytes.is_empty());
+    assert_eq!(rt; bytes.into_vec().as_slice(), [0, 0, 7, 7, 0, 0].as_slice());
+    Ok(())
+}
+
+fn are_same(alloc: Global, one: &str, other: &str) -> Result<bool, AllocError> {
+    let copy = name(alloc, one)?.copied(alloc)?;
+    Ok(copy.is(&name(alloc, other)?))
+}
+
+#[test]
+fn names_are_compared(rt: HostRuntime) -> Result<(), Fail> {
+    for (one, other, wanted) in [
+        ("tank", "tank", true),
+        ("tank", "tan", false),
+        ("v", "w", false),
+    ] {
+        assert_eq!(rt; are_same(rt.alloc(), one, other)?, wanted);
+    }
+    let letters = name(rt.alloc(), "tank")?.into_vec();
+    assert_eq!(rt; letters.as_slice(), b"tank".as_slice());
+    Ok(())
+}
+
+/// Calls of the pipeline: what is asked, by which writer, with which number.
+const CALLS: [(&str, u32, u64); 14] = [
+    ("hold", 1, 0),
+    ("write", 1, 1),
+    ("write", 1, 1),
+    ("close", 0, 0),
+    ("hold", 2, 0),
+    ("write", 2, 1),
+    ("write", 1, 2),
+    ("create", 1, 3),
+    ("quiesce", 0, 0),
+    ("release", 1, 0),
+    ("quiesce", 0, 0),
+    ("take", 0, 0),
+    ("commit", 0, 0),
+    ("commit", 0, 0),
+];
+
+fn action(
+    alloc: Global,
+    number: u64,
+    volume: &str,
+    size: u64,
+    block_size: u64,
+) -> Result<Action, AllocError> {
+    Ok(Action {
+        writer: 1,
+        number,
+        change: create(alloc, volume, size, block_size)?,
+    })
+}
+
+fn item(alloc: Global, word: &str, writer: u32, number: u64) -> Result<Item, AllocError> {
+    if word == "create" {
+        return Ok(Item::Action(action(alloc, number, "w", 512, 512)?));
+    }
+    let write = filled(alloc, number, "v", (0, 512), 7)?;
+    Ok(Item::Write(Write { writer, ..write }))
+}
+
+fn call(alloc: Global, word: &str, writer: u32, number: u64) -> Result<Call, AllocError> {
+    Ok(match word {
+        "hold" => Call::Hold(writer),
+        "release" => Call::Release(writer),
+        "close" => Call::Close,
+        "quiesce" => Call::Quiesce,
+        "take" => Call::Take,
+        "commit" => Call::Commit,
+        _ => Call::Accept(item(alloc, word, writer, number)?),
+    })
+}
+
+fn calls(alloc: Global) -> Result<Vec<Call>, Fail> {
+    let mut calls = Vec::new(alloc);
+    for (word, writer, number) in CALLS {
+        calls.push(call(alloc, word, writer, number)?)?;
+    }
+    Ok(calls)
+}
+
+/// What the calls are answered, and then what the pipeline tells.
+fn answered(alloc: Global, pipeline: &mut Pipeline, calls: Vec<Call>) -> Result<String, Fail> {
+    let mut answers = Vec::new(alloc);
+    txg_pipeline::run(pipeline, calls, &mut answers)?;
+    Ok(format!(in alloc; "{answers:?}")?)
+}
+
+/// Writes and actions of the open group, whether none is synced, writer 2's hold, and writer 1's next number.
+fn left_of(pipeline: &Pipeline) -> (usize, usize, bool, Option<u64>, u64) {
+    let open = pipeline.open_items();
+    (
+        open.writes().len(),
+        open.actions().len(),
+        pipeline.syncing_items().is_none(),
+        pipeline.hold_of(2),
+        pipeline.expected(1),
+    )
+}
+
+fn one_group(alloc: Global) -> Result<String, Fail> {
+    let calls = calls(alloc)?;
+    let mut pipeline = Pipeline::new(alloc, 3);
+    let answers = answered(alloc, &mut pipeline, calls)?;
+    let left = left_of(&pipeline);
+    Ok(format!(in alloc; "{answers} {left:?}")?)
+}
+
+#[test]
+fn one_group_goes_through_the_pipeline(rt: HostRuntime) -> Result<(), Fail> {
+    assert_eq!(rt;
+        one_group(rt.alloc())?.as_str(),
+        "[Held(4), Receipt(4), Refused(OutOfOrder { expected: 2 }), Closed(4), Held(5), Receipt(5), Receipt(4), Refused(NotNow), Refused(NotNow), Released, Quiesced(4), Taken(4), Committed(4), Refused(NotNow)] (1, 0, true, Some(5), 3)"
+    );
+    Ok(())
+}
+
+fn add(alloc: Global, index: &mut NameIndex, volume: &str, shape: VolumeShape) -> Result<(), Fail> {
+    let volume = name(alloc, volume)?;
+    index.reserve()?;
+    index.add(volume, shape);
+    Ok(())
+}
+
+/// The group in which a volume was made, by an index of two.
+fn group_of(alloc: Global, volume: &str) -> Result<Option<u64>, Fail> {
+    let volume = name(alloc, volume)?;
+    let mut index = NameIndex::new(alloc);
+    add(alloc, &mut index, "v", SHAPE)?;
+    add(alloc, &mut index, "w", VolumeShape { group: 5, ..SHAPE })?;
+    Ok(index.find(&volume).map(|shape| shape.group))
+}
+
+#[test]
+fn names_are_found(rt: HostRuntime) -> Result<(), Fail> {
+    for (volume, wanted) in [("v", Some(4)), ("w", Some(5)), ("vw", None)] {
+        assert_eq!(rt; group_of(rt.alloc(), volume)?, wanted);
+    }
+    Ok(())
+}
+
+fn write_cause(
+    alloc: Global,
+    range: (u64, usize),
+    group: u64,
+    volume: Option<VolumeShape>,
+) -> Result<Option<Refusal>, AllocError> {
+    let write = filled(alloc, 1, "v", range, 1)?;
+    Ok(against_write(&write, group, volume))
+}
+
+#[test]
+fn writes_and_reads_are_refused(rt: HostRuntime) -> Result<(), Fail> {
+    for (range, group, volume, wanted) in [
+        ((512, 512), 5, Some(SHAPE), None),
+        ((512, 512), 5, None, Some(Refusal::NoSuchName)),
+        ((512, 512), 4, Some(SHAPE), Some(Refusal::NotYet)),
+        ((511, 512), 5, Some(SHAPE), Some(Refusal::Misaligned)),
+        ((7680, 1024), 5, Some(SHAPE), Some(Refusal::OutOfRange)),
+    ] {
+        assert_eq!(rt; write_cause(rt.alloc(), range, group, volume)?, wanted);
+    }
+    for (offset, len, volume, wanted) in [
+        (1, 8191, Some(SHAPE), None),
+        (0, 1, None, Some(Refusal::NoSuchName)),
+        (1, 8192, Some(SHAPE), Some(Refusal::OutOfRange)),
+    ] {
+        assert_eq!(rt; against_read(offset, len, volume), wanted);
+    }
+    Ok(())
+}
+
+fn change_cause(
+    alloc: Global,
+    volume: &str,
+    size: u64,
+    block_size: u64,
+) -> Result<Option<Refusal>, Fail> {
+    let change = create(alloc, volume, size, block_size)?;
+    let mut index = NameIndex::new(alloc);
+    add(alloc, &mut index, "v", SHAPE)?;
+    Ok(against_change(&change, &index))
+}
+
+#[test]
+fn changes_are_refused(rt: HostRuntime) -> Result<(), Fail> {
+    for (volume, size, block_size, wanted) in [
+        ("w", 1024, 512, None),
+        ("W", 1024, 512, Some(Refusal::BadName)),
+        ("v", 1024, 512, Some(Refusal::Exists)),
+        ("w", 1024, 513, Some(Refusal::Misaligned)),
+        ("w", 0, 512, Some(Refusal::OutOfRange)),
+    ] {
+        assert_eq!(rt; change_cause(rt.alloc(), volume, size, block_size)?, wanted);
+    }
+    assert!(rt; is_good_shape(1024, 512) && !is_good_shape(1024, 2048));
+    let cause = txg_pipeline::Refusal::OutOfOrder { expected: 7 };
+    assert_eq!(rt; named(cause), Refusal::OutOfOrder { expected: 7 });
+    Ok(())
+}
+
+/// Writes of sizes that no schedule has, over 8 bytes at 10 of a volume of 32.
+fn laid_over(alloc: Global, writes: &[(&str, u64, usize, u8)]) -> Result<[u8; 8], Fail> {
+    let mut all = Vec::new(alloc);
+    for (volume, offset, len, value) in writes {
+        all.push(filled(alloc, 1, volume, (*offset, *len), *value)?)?;
+    }
+    let volume = name(alloc, "v")?;
+    let mut buffer = [9; 8];
+    lay_over(all.as_slice(), &volume, 32, 10, &mut buffer);
+    Ok(buffer)
+}
+
+#[test]
+fn writes_are_laid_over_a_range(rt: HostRuntime) -> Result<(), Fail> {
+    // On the left, on the right, inside, outside, to another volume and past the end.
+    let writes = [
+        ("v", 8, 4, 1),
+        ("v", 16, 8, 2),
+        ("v", 13, 2, 3),
+        ("v", 0, 10, 4),
+        ("w", 0, 32, 5),
+        ("v", 16, 17, 6),
+    ];
+    assert_eq!(rt; laid_over(rt.alloc(), &writes)?, [1, 1, 9, 3, 3, 9, 2, 2]);
+    // Around.
+    assert_eq!(rt; laid_over(rt.alloc(), &[("v", 8, 16, 7)])?, [7; 8]);
+    Ok(())
+}
+
+/// Writer 1 takes a hold, makes the volume v, and the group is closed, quiesced, planned and committed.
+fn step(alloc: Global, number: u32) -> Result<Step, AllocError> {
+    Ok(match number {
+        0 => Step::Hold(1),
+        1 => Step::Act(action(alloc, 1, "v", 1024, 512)?),
+        2 => Step::Release(1),
+        3 => Step::Close,
+        4 => Step::Quiesce,
+        5 => Step::Plan { timestamp: 0 },
+        _ => Step::Device,
+    })
+}
+
+fn steps(alloc: Global) -> Result<Vec<Step>, Fail> {
+    let mut steps = Vec::new(alloc);
+    for number in 0..8 {
+        steps.push(step(alloc, number)?)?;
+    }
+    Ok(steps)
+}
+
+const REPLIES: &str =
+    "[Held(4), Receipt(4), Released, Closed(4), Quiesced(4), Planned(4), Committed(4), Refused(NotNow)]";
+
+fn run_in_memory(alloc: Global) -> Result<String, Fail> {
+    let steps = steps(alloc)?;
+    let mut replies = Vec::new(alloc);
+    let mut machine = Machine::create(alloc);
+    plain_machine::run(&mut machine, steps, &mut replies)?;
+    Ok(format!(in alloc; "{replies:?}")?)
+}
+
+/// A vdev of three disks with one parity.
+fn three_disks() -> Result<VdevConfig, Fail> {
+    Ok(VdevConfig {
+        geometry: Geometry::new(3, 1, 9)?,
+        metaslab_shift: 12,
+    })
+}
+
+fn replies_of(alloc: Global, core: &mut Core<MemDisk>, steps: Vec<Step>) -> Result<String, Fail> {
+    let mut replies = Vec::new(alloc);
+    pool_core::run(core, steps, &mut replies)?;
+    Ok(format!(in alloc; "{replies:?}")?)
+}
+
+fn run_over_disks(alloc: Global) -> Result<String, Fail> {
+    let steps = steps(alloc)?;
+    let vdev = three_disks()?;
+    let disks = MemDisk::several(alloc, 3, 0x800000)?;
+    let mut core = Core::create(alloc, disks, &[vdev])?;
+    replies_of(alloc, &mut core, steps)
+}
+
+#[test]
+fn runs_are_replied_to(rt: HostRuntime) -> Result<(), Fail> {
+    assert_eq!(rt; run_in_memory(rt.alloc())?.as_str(), REPLIES);
+    assert_eq!(rt; run_over_disks(rt.alloc())?.as_str(), REPLIES);
+    Ok(())
+}
+
+fn refusal_over(alloc: Global, count: usize, size: usize) -> Result<Option<Refusal>, Fail> {
+    let vdev = three_disks()?;
+    let disks = MemDisk::several(alloc, count, size)?;
+    Ok(Core::create(alloc, disks, &[vdev]).err())
+}
+
+#[test]
+fn disks_of_other_numbers_and_sizes_are_refused(rt: HostRuntime) -> Result<(), Fail> {
+    for (count, size) in [(2, 0x800000), (4, 0x800000), (3, 0x7fffff)] {
+        assert_eq!(rt;
+            refusal_over(rt.alloc(), count, size)?,
+            Some(Refusal::BadConfig)
+        );
+    }
+    Ok(())
+}
+
+/// Writer 1 makes the volume v, and its group is committed.
+fn take_in(alloc: Global, intake: &mut Intake, action: Action) -> bool {
+    matches!(intake.hold(1), Reply::Held(4))
+        && matches!(intake.act(alloc, action), Reply::Receipt(4))
+        && matches!(intake.release(1), Reply::Released)
+        && matches!(intake.close(), Reply::Closed(4))
+        && matches!(intake.quiesce(), Reply::Quiesced(4))
+        && intake.begin_sync() == Ok(())
+}
+
+/// Whether all that was right, the shape of v before and behind it, and the group that is committed then.
+fn taken_in(alloc: Global) -> Result<(bool, [Option<VolumeShape>; 2], Result<u64, Refusal>), Fail> {
+    let volume = name(alloc, "v")?;
+    let action = action(alloc, 1, "v", 8192, 512)?;
+    let mut intake = Intake::new(alloc);
+    let before = intake.find(&volume);
+    let right = take_in(alloc, &mut intake, action);
+    Ok((right, [before, intake.find(&volume)], intake.commit()))
+}
+
+#[test]
+fn an_intake_takes_a_group_in(rt: HostRuntime) -> Result<(), Fail> {
+    assert_eq!(rt; taken_in(rt.alloc())?, (true, [None, Some(SHAPE)], Ok(4)));
+    Ok(())
+}
+
+/// 128 KiB.
+const LARGE: u64 = 0x20000;
+
+/// A pool of one vdev over two small disks, of which each block can lose one: three metaslabs, for 24 large blocks.
+fn small_commit(alloc: Global) -> Result<Commit<MemDisk>, Fail> {
+    let vdev = VdevConfig {
+        geometry: Geometry::new(2, 1, 9)?,
+        metaslab_shift: 12,
+    };
+    let disks = MemDisk::several(alloc, 2, 0x800000)?;
+    Ok(Commit::new(alloc, disks, &[vdev])?)
+}
+
+/// The items of groups: one makes a volume of no whole number of blocks, one makes v; and then writes into 25 and into 24
+/// large blocks.
+fn item_of(alloc: Global, group: u64, number: u64) -> Result<Item, AllocError> {
+    Ok(match group {
+        0 => Item::Action(action(alloc, number, "v", 1000, 512)?),
+        1 => Item::Action(action(alloc, number, "v", 32 * LARGE, LARGE)?),
+        _ => Item::Write(filled(
+            alloc,
+            number,
+            "v",
+            (number.saturating_sub(1).saturating_mul(LARGE), 512),
+            6,
+        )?),
+    })
+}
+
+fn items_of(alloc: Global, group: u64) -> Result<Pipeline, Fail> {
+    let count = if group < 2 { 1 } else { 27 - group.min(27) };
+    let mut pipeline = Pipeline::new(alloc, 0);
+    pipeline.hold(1)?;
+    for number in 0..count {
+        pipeline.accept(item_of(alloc, group, number + 1)?)?;
+    }
+    Ok(pipeline)
+}
+
+/// Makes the plan's device calls, and says whether the group is committed then.
+fn is_done(commit: &mut Commit<MemDisk>) -> bool {
+    for _ in 0..100 {
+        match commit.device() {
+            Some(Progress::Moved(_)) => {}
+            progress => return progress == Some(Progress::Done),
+        }
+    }
+    false
+}
+
+/// What the plan of a group is refused for; one that isn't is committed.
+fn plan_cause(
+    alloc: Global,
+    commit: &mut Commit<MemDisk>,
+    group: u64,
+) -> Result<(Option<pool_commit::Refusal>, bool), Fail> {
+    let items = items_of(alloc, group)?;
+    let cause = commit.plan(alloc, items.open_items()).err();
+    Ok((cause, is_done(commit)))
+}
+
+fn causes(alloc: Global, commit: &mut Commit<MemDisk>) -> Result<String, Fail> {
+    let mut text = String::new(alloc);
+    for group in 0..4 {
+        let cause = plan_cause(alloc, commit, group)?;
+        text.push_str(format!(in alloc; "{cause:?} ")?.as_str())?;
+    }
+    Ok(text)
+}
+
+fn planned_again(alloc: Global) -> Result<String, Fail> {
+    let mut commit = small_commit(alloc)?;
+    causes(alloc, &mut commit)
+}
+
+// A volume of 1000 bytes has no whole number of blocks; 25 blocks are one too many, and then 24 find room.
+#[test]
+fn a_refused_plan_leaves_its_room(rt: HostRuntime) -> Result<(), Fail> {
+    assert_eq!(rt;
+        planned_again(rt.alloc())?.as_str(),
+        "(Some(BadConfig), false) (None, true) (Some(NoSpace), false) (None, true) "
+    );
+    Ok(())
+}

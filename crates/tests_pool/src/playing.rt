@@ -1,0 +1,112 @@
+//! Schedules with faults, played against a pool over disks.
+//!
+//! A schedule's text has lines `LINE -> REPLY`, where LINE is one of a schedule as `poolrun` runs it. Lines without an
+//! arrow are for the player: `fault DISK KIND NUMBER` is a call that fails (of the kinds `at`, `from`, `read`, `write`
+//! and `flush`), `pool ..` makes the pool behind the faults, and `missing DISK ..` names the disks that are missing for
+//! reads under a group from then on.
+use crate::faulty_pool::{DiskFault, FaultyPool};
+use model_disk::Fault;
+use pool_model::Refusal;
+use programs::answer;
+use schedule_lines::{Command, Line, PoolLine, parse, reply_text};
+use std::alloc::Global;
+use std::test::Fail;
+
+fn number(word: &str) -> u64 {
+    word.parse().unwrap_or(u64::MAX)
+}
+
+fn fault_of(kind: &str, number: u64) -> Fault {
+    match kind {
+        "from" => Fault::From(number),
+        "read" => Fault::Read(number),
+        "write" => Fault::Write(number),
+        "flush" => Fault::Flush(number),
+        _ => Fault::At(number),
+    }
+}
+
+// The faults that the lines of a schedule tell.
+fn faults_in(alloc: Global, text: &str) -> Result<Vec<DiskFault>, Fail> {
+    let mut faults = Vec::new(alloc);
+    for line in text.lines() {
+        let mut words = line.split(' ');
+        if words.next() == Some("fault") {
+            let disk = number(words.next().unwrap_or("")) as usize;
+            let kind = words.next().unwrap_or("");
+            let fault = fault_of(kind, number(words.next().unwrap_or("")));
+            faults.push(DiskFault { disk, fault })?;
+        }
+    }
+    Ok(faults)
+}
+
+// What the first line that makes a pool says.
+fn pool_in(alloc: Global, text: &str) -> Result<Line, Fail> {
+    for line in text.lines() {
+        if line.starts_with("pool ") {
+            return Ok(parse(alloc, line.as_bytes())?);
+        }
+    }
+    Ok(Line::Skipped)
+}
+
+fn made(alloc: Global, text: &str) -> Result<FaultyPool, Fail> {
+    let faults = faults_in(alloc, text)?;
+    let line = pool_in(alloc, text)?;
+    let Line::Command(Command::Pool(pool)) = line else {
+        return Err(Fail::from(Refusal::BadConfig));
+    };
+    Ok(FaultyPool::with_faults(alloc, &pool, faults.as_slice())?)
+}
+
+// A line that is for the player.
+fn note(alloc: Global, pool: &mut FaultyPool, line: &str) -> Result<(), Fail> {
+    let mut words = line.split(' ');
+    if words.next() == Some("missing") {
+        let mut missing = Vec::new(alloc);
+        for word in words {
+            missing.push(number(word) as usize)?;
+        }
+        pool.miss(missing);
+    }
+    Ok(())
+}
+
+// What the pool replies to a line.
+fn reply_to(alloc: Global, pool: &mut FaultyPool, line: &str) -> Result<String, Fail> {
+    let Line::Command(command) = parse(alloc, line.as_bytes())? else {
+        return Ok(format!(in alloc; "skipped")?);
+    };
+    match answer(alloc, pool, command)? {
+        Some(reply) => Ok(reply_text(alloc, &reply)?),
+        None => Ok(format!(in alloc; "no first line")?),
+    }
+}
+
+// The lines again, each with the reply of the pool.
+fn replies_in(alloc: Global, pool: &mut FaultyPool, text: &str) -> Result<String, Fail> {
+    let mut told = String::new(alloc);
+    for line in text.lines() {
+        let (front, reply) = match line.split_once(" -> ") {
+            Some((front, _)) => (
+                front,
+                format!(in alloc; " -> {}", reply_to(alloc, pool, front)?)?,
+            ),
+            None => {
+                note(alloc, pool, line)?;
+                (line, String::new(alloc))
+            }
+        };
+        told.push_str(front)?;
+        told.push_str(reply.as_str())?;
+        told.push_str("\n")?;
+    }
+    Ok(told)
+}
+
+/// A schedule's text as the pool makes it: each line with the reply that the pool gives.
+pub fn played(alloc: Global, text: &str) -> Result<String, Fail> {
+    let mut pool = made(alloc, text)?;
+    replies_in(alloc, &mut pool, text)
+}

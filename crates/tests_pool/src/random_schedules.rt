@@ -1,0 +1,207 @@
+//! Random schedules of several writers: a pool over disks replies as the machine in memory does.
+ghost use Rattle.std.specs.Prelude.{◌<◌};
+
+use crate::telling::ran;
+use model_disk::MemDisk;
+use plain_machine::Machine;
+use pool_core::Core;
+use pool_model::Reply;
+use programs::answer;
+use schedule_lines::{Line, parse, reply_text};
+use std::alloc::Global;
+use std::test::Fail;
+
+const SEEDS: [u64; 6] = [1, 2, 3, 20, 77, 4096];
+
+const LINES: usize = 300;
+
+const POOL: &str = "pool 1 3 8388608 12 2 -> pool 3 claim 1\n";
+
+/// Makes the volumes v, w and x in group 4, and commits it.
+const FIRST_LINES: [&str; 6] = [
+    "hold 1",
+    "create 1 1 v 4096 512",
+    "create 1 2 w 4096 1024",
+    "create 1 3 x 4096 512",
+    "release 1",
+    "sync",
+];
+
+/// Names of volumes, one of them seldom and one that no volume may have.
+const NAMES: [&str; 11] = ["v", "w", "x", "v", "w", "x", "v", "w", "x", "seldom", "A"];
+
+/// Sizes of blocks, two of which no volume may have.
+const BLOCK_SIZES: [u64; 6] = [512, 1024, 512, 1024, 768, 256];
+
+/// A linear congruential generator.
+#[derive(Drop)]
+struct Dice {
+    state: u64,
+}
+
+impl Dice {
+    fn below(&mut self, bound: u64) -> u64
+        requires { 0 < bound }
+        ensures { result < bound }
+    {
+        self.state = self
+            .state
+            .wrapping_mul(6_364_136_223_846_793_005)
+            .wrapping_add(1_442_695_040_888_963_407);
+        (self.state >> 33) % bound
+    }
+
+    /// A whole volume, some sectors, or a place that no volume has.
+    fn range(&mut self) -> (u64, u64) {
+        match self.below(20) {
+            0 => (self.below(4097), 512),
+            1 => (0, self.below(2000)),
+            2 => (u64::MAX - 511, 512),
+            3..=9 => (0, 4096),
+            _ => (512 * self.below(9), 512 * self.below(4)),
+        }
+    }
+}
+
+/// What the writers know, and how often it went well.
+#[derive(Drop)]
+struct Writers {
+    dice: Dice,
+    /// Who sent the last line, counted from 0.
+    writer: usize,
+    /// The next number of each writer.
+    numbers: [u64; 4],
+    committed: u64,
+    receipts: u64,
+    reads: u64,
+}
+
+impl Writers {
+    fn new(seed: u64) -> Writers {
+        Writers {
+            dice: Dice { state: seed },
+            writer: 0,
+            numbers: [1; 4],
+            committed: 3,
+            receipts: 0,
+            reads: 0,
+        }
+    }
+
+    // The next number of the writer, and seldom another one.
+    fn number(&mut self) -> u64 {
+        if self.dice.below(20) == 0 {
+            return self.dice.below(40);
+        }
+        self.numbers.get(self.writer).copied().unwrap_or(0)
+    }
+
+    // A group that is kept, or one that is not.
+    fn group(&mut self) -> u64 {
+        self.committed
+            .saturating_add(1)
+            .saturating_sub(self.dice.below(6))
+    }
+
+    fn line(&mut self, alloc: Global) -> Result<String, Fail> {
+        self.writer = self.dice.below(4) as usize;
+        let writer = self.writer as u32 + 1;
+        let number = self.number();
+        let byte = self.dice.below(256) as u8;
+        let block_size = BLOCK_SIZES[self.dice.below(6) as usize];
+        let group = self.group();
+        let name = NAMES[self.dice.below(11) as usize];
+        let (offset, len) = self.dice.range();
+        Ok(match self.dice.below(39) {
+            0..=4 => format!(in alloc; "hold {writer}")?,
+            5..=10 => format!(in alloc; "release {writer}")?,
+            11..=19 => format!(in alloc;
+                "write {writer} {number} {name} {offset} {len} {byte:02x}"
+            )?,
+            20 => format!(in alloc; "create {writer} {number} {name} 4096 {block_size}")?,
+            21..=23 => format!(in alloc; "close")?,
+            24..=27 => format!(in alloc; "quiesced")?,
+            28..=31 => format!(in alloc; "commit")?,
+            32..=35 => format!(in alloc; "read {name} {offset} {len}")?,
+            _ => format!(in alloc; "under {group} {name} {offset} {len}")?,
+        })
+    }
+
+    fn learn(&mut self, reply: &Reply) {
+        match reply {
+            Reply::Receipt(_) => {
+                self.receipts = self.receipts.saturating_add(1);
+                if let Some(number) = self.numbers.get_mut(self.writer) {
+                    *number = number.saturating_add(1);
+                }
+            }
+            Reply::Committed(group) => self.committed = *group,
+            Reply::Bytes(bytes) => self.reads = self
+                .reads
+                .saturating_add(u64::from(!bytes.is_empty())),
+            _ => {}
+        }
+    }
+
+    fn is_lucky(&self) -> bool {
+        self.committed >= 6 && self.receipts >= 10 && self.reads >= 8
+    }
+}
+
+// What the machine in memory replies to a line.
+fn reply_to(alloc: Global, machine: &mut Machine, line: &str) -> Result<Reply, Fail> {
+    if let Line::Command(command) = parse(alloc, line.as_bytes())? {
+        if let Some(reply) = answer(alloc, machine, command)? {
+            return Ok(reply);
+        }
+    }
+    Ok(Reply::Released)
+}
+
+// The line with its reply.
+fn row(
+    alloc: Global,
+    machine: &mut Machine,
+    writers: &mut Writers,
+    line: &str,
+) -> Result<String, Fail> {
+    let reply = reply_to(alloc, machine, line)?;
+    writers.learn(&reply);
+    Ok(format!(in alloc; "{line} -> {}\n", reply_text(alloc, &reply)?)?)
+}
+
+// The lines that make the volumes, and those that are chosen, with what the machine in memory replies.
+fn rows_of(alloc: Global, machine: &mut Machine, writers: &mut Writers) -> Result<String, Fail> {
+    let mut rows = String::new(alloc);
+    for line in FIRST_LINES {
+        rows.push_str(row(alloc, machine, writers, line)?.as_str())?;
+    }
+    for _ in 0..LINES {
+        let line = writers.line(alloc)?;
+        rows.push_str(row(alloc, machine, writers, line.as_str())?.as_str())?;
+    }
+    Ok(rows)
+}
+
+// The rows of a seed, and whether enough of them went well.
+fn chosen(alloc: Global, seed: u64) -> Result<(String, bool), Fail> {
+    let mut writers = Writers::new(seed);
+    let mut machine = Machine::create(alloc);
+    let rows = rows_of(alloc, &mut machine, &mut writers)?;
+    Ok((rows, writers.is_lucky()))
+}
+
+// Whether enough rows of a seed went well in memory, and the core over disks replies the same.
+fn agrees(alloc: Global, seed: u64) -> Result<bool, Fail> {
+    let (rows, is_lucky) = chosen(alloc, seed)?;
+    let (told, wanted) = ran::<Core<MemDisk>>(alloc, &[POOL, rows.as_str()])?;
+    Ok(is_lucky && told.as_str() == wanted.as_str())
+}
+
+#[test]
+fn disks_reply_as_memory_does(rt: HostRuntime) -> Result<(), Fail> {
+    for seed in SEEDS {
+        assert!(rt; agrees(rt.alloc(), seed)?, "seed {seed}");
+    }
+    Ok(())
+}

@@ -1,0 +1,172 @@
+//! Schedules with their whole output, against the machine in memory and the core over disks.
+use crate::telling::ran;
+use model_disk::MemDisk;
+use plain_machine::Machine;
+use pool_core::Core;
+use std::test::Fail;
+
+/// The pool's core over disks in memory.
+type OverDisks = Core<MemDisk>;
+
+/// A volume v of 1024 bytes, made in group 4, which is committed.
+const FIRST: &str = "pool 1 3 8388608 12 2 -> pool 3 claim 1
+hold 1 -> held 4
+create 1 1 v 1024 512 -> receipt 4
+write 1 2 v 0 512 aa -> refused 9 NotYet
+release 1 -> released
+sync -> committed 4
+read v 0 1024 -> 00x1024
+read v 0 0 -> empty
+";
+
+/// Behind it, two writers in two groups. The writes of the quiescing group land before those of the open one.
+const TWO_GROUPS: &str = "hold 1 -> held 5
+close -> closed 5
+hold 2 -> held 6
+write 2 1 v 0 512 01 -> receipt 6
+write 1 2 v 0 512 02 -> receipt 5
+release 1 -> released
+quiesced -> quiesced 5
+commit -> committed 5
+read v 0 1024 -> 01x512 00x512
+under 5 v 0 1024 -> 02x512 00x512
+";
+
+/// Behind it, the first causes of refusals.
+const REFUSALS: &str = "hold 1 -> held 5
+hold 1 -> refused 5 AlreadyHeld
+write 1 3 v 0 512 01 -> refused 7 OutOfOrder 2
+write 1 2 v 1 512 01 -> refused 12 Misaligned
+write 1 2 v 1024 512 01 -> refused 11 OutOfRange
+write 1 2 v 0 1048577 01 -> refused 12 Misaligned
+write 1 2 v 0 1049088 01 -> refused 11 OutOfRange
+write 1 2 v 0 18446744073709551615 01 -> refused 12 Misaligned
+write 1 2 v 0 18446744073709551104 01 -> refused 11 OutOfRange
+write 2 1 v 0 512 01 -> refused 6 NoHold
+device -> refused 13 NotNow
+close -> closed 5
+close -> refused 13 NotNow
+quiesced -> refused 13 NotNow
+commit -> refused 13 NotNow
+sync -> refused 13 NotNow
+write 1 2 v 512 512 01 -> receipt 5
+release 1 -> released
+quiesced -> quiesced 5
+";
+
+/// Behind those, a commit without disks.
+const AT_ONCE: &str = "plan -> planned 5
+device -> committed 5
+";
+
+/// And one over three disks: a step writes a block's two columns, and a step flushes each disk.
+const IN_PHASES: &str = "plan -> planned 5
+device -> moved Blocks
+device -> committed 5
+";
+
+/// Behind it, groups 5 to 8 each write their number over the first sector.
+const KEPT: &str = "hold 1 -> held 5
+write 1 2 v 0 512 05 -> receipt 5
+release 1 -> released
+sync -> committed 5
+hold 1 -> held 6
+write 1 3 v 0 512 06 -> receipt 6
+release 1 -> released
+sync -> committed 6
+hold 1 -> held 7
+write 1 4 v 0 512 07 -> receipt 7
+release 1 -> released
+sync -> committed 7
+hold 1 -> held 8
+write 1 5 v 0 512 08 -> receipt 8
+release 1 -> released
+sync -> committed 8
+under 8 v 0 512 -> 08x512
+under 7 v 0 512 -> 07x512
+under 6 v 0 512 -> 06x512
+under 5 v 0 512 -> refused 17 GroupGone
+";
+
+/// Names are judged against all that is accepted, and each step by the first cause that applies.
+const CAUSES: &str = "pool 1 3 8388608 12 2 -> pool 3 claim 1
+device -> refused 13 NotNow
+plan -> refused 13 NotNow
+quiesced -> refused 13 NotNow
+release 1 -> refused 6 NoHold
+write 1 9 v 7 512 00 -> refused 6 NoHold
+hold 1 -> held 4
+hold 1 -> refused 5 AlreadyHeld
+write 1 9 v 7 512 00 -> refused 7 OutOfOrder 1
+write 1 1 v 7 512 00 -> refused 8 NoSuchName
+create 1 1 v 1024 512 -> receipt 4
+create 1 2 v 1024 512 -> refused 10 Exists
+create 1 2 V 1024 512 -> refused 16 BadName
+write 1 2 v 7 512 00 -> refused 9 NotYet
+quiesced -> refused 13 NotNow
+close -> closed 4
+close -> refused 13 NotNow
+create 1 2 w 1024 512 -> refused 13 NotNow
+quiesced -> refused 13 NotNow
+plan -> refused 13 NotNow
+hold 2 -> held 5
+create 2 1 v 1024 512 -> refused 10 Exists
+write 2 1 v 7 512 00 -> refused 12 Misaligned
+write 2 1 v 1024 512 00 -> refused 11 OutOfRange
+write 2 1 v 512 512 03 -> receipt 5
+read v 0 1025 -> refused 11 OutOfRange
+read v 0 1024 -> 00x512 03x512
+read v 510 4 -> 00x2 03x2
+under 3 v 0 1 -> refused 8 NoSuchName
+under 4 v 0 1 -> refused 17 GroupGone
+quiesced -> refused 13 NotNow
+release 1 -> released
+release 1 -> refused 6 NoHold
+quiesced -> quiesced 4
+plan -> planned 4
+plan -> refused 13 NotNow
+device -> committed 4
+device -> refused 13 NotNow
+";
+
+/// What the machine in memory replies.
+const IN_MEMORY: [[&str; 3]; 5] = [
+    [FIRST, "", ""],
+    [FIRST, TWO_GROUPS, ""],
+    [FIRST, REFUSALS, AT_ONCE],
+    [FIRST, KEPT, ""],
+    [CAUSES, "", ""],
+];
+
+/// What the core replies.
+const OVER_DISKS: [[&str; 3]; 11] = [
+    [FIRST, "", ""],
+    [FIRST, TWO_GROUPS, ""],
+    [FIRST, REFUSALS, IN_PHASES],
+    [FIRST, KEPT, ""],
+    [CAUSES, "", ""],
+    ["pool 1 2 8388608 12 2 -> pool 3 claim 1\n", "", ""],
+    ["pool 1 1 8388608 12 2 -> refused 24 BadConfig\n", "", ""],
+    ["pool 3 5 8388608 12 2 -> refused 24 BadConfig\n", "", ""],
+    ["pool 1 3 8388607 12 2 -> refused 24 BadConfig\n", "", ""],
+    ["pool 1 3 8388608 12 0 -> refused 24 BadConfig\n", "", ""],
+    ["pool 1 3 8388608 12 5 -> refused 24 BadConfig\n", "", ""],
+];
+
+#[test]
+fn the_machine_in_memory_replies(rt: HostRuntime) -> Result<(), Fail> {
+    for rows in IN_MEMORY {
+        let (told, wanted) = ran::<Machine>(rt.alloc(), &rows)?;
+        assert_eq!(rt; told.as_str(), wanted.as_str());
+    }
+    Ok(())
+}
+
+#[test]
+fn the_core_over_disks_replies(rt: HostRuntime) -> Result<(), Fail> {
+    for rows in OVER_DISKS {
+        let (told, wanted) = ran::<OverDisks>(rt.alloc(), &rows)?;
+        assert_eq!(rt; told.as_str(), wanted.as_str());
+    }
+    Ok(())
+}

@@ -1,0 +1,161 @@
+//! Lines with what they say, faults, and texts.
+use pool_model::{Bytes, Phase, Refusal as Cause, Reply};
+use schedule_lines::{Refusal, Run, parse, reply_text, runs, runs_text};
+use std::alloc::{AllocError, Global};
+use std::test::Fail;
+
+/// Lines, and what each says.
+const LINES: [(&str, &str); 18] = [
+    ("", "Skipped"),
+    ("# a  line of words", "Skipped"),
+    (
+        "pool 2 5 67108864 11 3",
+        "Command(Pool(PoolLine { parities: 2, disks: 5, bytes: 67108864, metaslab_shift: 11, meta_metaslabs: 3 }))",
+    ),
+    ("hold 0", "Command(Hold { writer: 0 })"),
+    ("hold 4294967295", "Command(Hold { writer: 4294967295 })"),
+    ("release 10", "Command(Release { writer: 10 })"),
+    (
+        "write 1 2 vol 512 1024 a5",
+        "Command(Write(WriteLine { writer: 1, number: 2, volume: Name { letters: [118, 111, 108] }, offset: 512, len: 1024, byte: 165 }))",
+    ),
+    (
+        "write 7 18446744073709551615 9 0 18446744073709551615 0f",
+        "Command(Write(WriteLine { writer: 7, number: 18446744073709551615, volume: Name { letters: [57] }, offset: 0, len: 18446744073709551615, byte: 15 }))",
+    ),
+    (
+        "create 3 1 v 8192 512",
+        "Command(Create(CreateLine { writer: 3, number: 1, volume: Name { letters: [118] }, size: 8192, block_size: 512 }))",
+    ),
+    ("close", "Command(Close)"),
+    ("quiesced", "Command(Quiesced)"),
+    ("plan", "Command(Plan)"),
+    ("device", "Command(Device)"),
+    ("commit", "Command(Commit)"),
+    ("sync", "Command(Sync)"),
+    (
+        "read v@s 0 64",
+        "Command(Read(ReadLine { name: Name { letters: [118, 64, 115] }, offset: 0, len: 64 }))",
+    ),
+    (
+        "under 4 v 512 64",
+        "Command(Under(UnderLine { group: 4, name: Name { letters: [118] }, offset: 512, len: 64 }))",
+    ),
+    (
+        "read a\tb 1 2",
+        "Command(Read(ReadLine { name: Name { letters: [97, 9, 98] }, offset: 1, len: 2 }))",
+    ),
+];
+
+/// Lines that say nothing, and why.
+const FAULTS: [(&str, &str); 20] = [
+    (" ", "two empty words"),
+    (" # no comment", "a space before the mark"),
+    ("hold", "a word is missing"),
+    ("hold 1 2", "a word is too many"),
+    ("hold  1", "two spaces"),
+    ("hold 1 ", "a space at the end"),
+    (" hold 1", "a space in front"),
+    ("hold\t1", "a tab in place of the space"),
+    ("hold 01", "a leading zero"),
+    ("hold +1", "a sign"),
+    ("hold 4294967296", "no writer has this number"),
+    ("hold one", "a number in letters"),
+    ("Hold 1", "an upper case letter"),
+    ("holds 1", "no such word"),
+    ("read v 0 18446744073709551616", "no length is this large"),
+    ("read  0 64", "a name with no bytes"),
+    ("write 1 2 v 512 1024 A5", "an upper case digit"),
+    ("write 1 2 v 512 1024 5", "one digit of a byte"),
+    ("write 1 2 v 512 1024 0a5", "three digits of a byte"),
+    ("close now", "a word behind the last"),
+];
+
+fn said(alloc: Global, line: &str) -> Result<String, Fail> {
+    let found = parse(alloc, line.as_bytes())?;
+    Ok(format!(in alloc; "{found:?}")?)
+}
+
+#[test]
+fn lines_are_read(rt: HostRuntime) -> Result<(), Fail> {
+    for (line, wanted) in LINES {
+        assert_eq!(rt; said(rt.alloc(), line)?.as_str(), wanted);
+    }
+    Ok(())
+}
+
+fn fault(alloc: Global, line: &str) -> Option<Refusal> {
+    parse(alloc, line.as_bytes()).err()
+}
+
+#[test]
+fn faults_are_refused(rt: HostRuntime) {
+    for (line, why) in FAULTS {
+        assert_eq!(rt; fault(rt.alloc(), line), Some(Refusal::Fault), "{why}");
+    }
+}
+
+/// Replies, and how each is written.
+fn reply_of(alloc: Global, number: usize) -> Result<Reply, AllocError> {
+    Ok(match number {
+        0 => Reply::Held(4),
+        1 => Reply::Receipt(5),
+        2 => Reply::Released,
+        3 => Reply::Closed(4),
+        4 => Reply::Quiesced(4),
+        5 => Reply::Planned(4),
+        6 => Reply::Moved(Phase::Blocks),
+        7 => Reply::Moved(Phase::BlocksFlush),
+        8 => Reply::Replan(2),
+        9 => Reply::Committed(4),
+        10 => Reply::Refused(Cause::OutOfOrder { expected: 2 }),
+        11 => Reply::Refused(Cause::GroupGone),
+        _ => Reply::Bytes(Bytes::new(Vec::from_slice(alloc, &[255; 3])?)),
+    })
+}
+
+const TEXTS: &str =
+    "held 4, receipt 5, released, closed 4, quiesced 4, planned 4, moved Blocks, moved BlocksFlush, replan 2, committed 4, refused 7 OutOfOrder 2, refused 17 GroupGone, ffx3, ";
+
+fn reply_texts(alloc: Global) -> Result<String, Fail> {
+    let mut texts = String::new(alloc);
+    for number in 0..13 {
+        let reply = reply_of(alloc, number)?;
+        texts.push_str(reply_text(alloc, &reply)?.as_str())?;
+        texts.push_str(", ")?;
+    }
+    Ok(texts)
+}
+
+#[test]
+fn replies_have_texts(rt: HostRuntime) -> Result<(), Fail> {
+    assert_eq!(rt; reply_texts(rt.alloc())?.as_str(), TEXTS);
+    Ok(())
+}
+
+fn text_of(alloc: Global, parts: &[(u8, usize)]) -> Result<String, Fail> {
+    let mut bytes = Vec::new(alloc);
+    for (byte, count) in parts {
+        bytes.extend_from_slice(vec![in alloc; *byte; *count]?.as_slice())?;
+    }
+    Ok(runs_text(alloc, bytes.as_slice())?)
+}
+
+fn is_one_run(alloc: Global) -> Result<bool, Fail> {
+    let found = runs(alloc, &[9, 9])?;
+    Ok(found.as_slice() == [Run { byte: 9, count: 2 }].as_slice())
+}
+
+#[test]
+fn runs_are_found_and_printed(rt: HostRuntime) -> Result<(), Fail> {
+    for (parts, wanted) in [
+        ([(0, 0), (0, 0), (0, 0)], "empty"),
+        ([(0, 1024), (0, 0), (0, 0)], "00x1024"),
+        ([(1, 512), (0, 512), (0, 0)], "01x512 00x512"),
+        ([(1, 1), (2, 2), (1, 1)], "01x1 02x2 01x1"),
+    ] {
+        assert_eq!(rt; text_of(rt.alloc(), &parts)?.as_str(), wanted);
+    }
+    assert!(rt; is_one_run(rt.alloc())?);
+    Ok(())
+}

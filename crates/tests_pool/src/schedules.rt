@@ -1,0 +1,397 @@
+//! Schedules over disks that fail, and what is read with disks missing.
+use crate::playing::played;
+use std::test::Fail;
+
+/// Blocks of two sectors, partly written by two groups, with each disk missing in turn, and with two.
+const PARTS_OF_BLOCKS: &str = "pool 1 3 8388608 12 2
+hold 1 -> held 4
+create 1 1 v 4096 1024 -> receipt 4
+create 1 2 w 4096 1024 -> receipt 4
+release 1 -> released
+sync -> committed 4
+missing 0 1 2
+under 4 v 1020 8 -> 00x8
+missing
+hold 1 -> held 5
+write 1 3 v 512 512 01 -> receipt 5
+write 1 4 v 1024 512 01 -> receipt 5
+write 1 5 w 2048 512 02 -> receipt 5
+write 1 6 v 3584 1024 03 -> refused 11 OutOfRange
+release 1 -> released
+close -> closed 5
+quiesced -> quiesced 5
+plan -> planned 5
+device -> moved Blocks
+device -> moved Blocks
+device -> moved Blocks
+device -> committed 5
+under 5 v 510 4 -> 00x2 01x2
+under 5 v 1534 4 -> 01x2 00x2
+missing 0
+under 5 v 510 4 -> 00x2 01x2
+under 5 v 1022 4 -> 01x4
+under 5 v 1534 4 -> 01x2 00x2
+missing 1
+under 5 v 510 4 -> 00x2 01x2
+under 5 v 1022 4 -> 01x4
+under 5 v 1534 4 -> 01x2 00x2
+missing 2
+under 5 v 510 4 -> 00x2 01x2
+under 5 v 1022 4 -> 01x4
+under 5 v 1534 4 -> 01x2 00x2
+missing 0 1
+under 5 v 512 4 -> refused 2 DiskFault
+under 5 v 2048 4 -> 00x4
+missing
+hold 1 -> held 6
+write 1 6 v 1024 512 04 -> receipt 6
+write 1 7 v 3072 1024 05 -> receipt 6
+write 1 8 v 3072 512 06 -> receipt 6
+release 1 -> released
+close -> closed 6
+quiesced -> quiesced 6
+plan -> planned 6
+device -> moved Blocks
+device -> moved Blocks
+device -> committed 6
+under 6 v 1022 4 -> 01x2 04x2
+under 6 v 1534 4 -> 04x2 00x2
+under 6 v 3582 4 -> 06x2 05x2
+under 5 v 1022 4 -> 01x4
+close -> closed 7
+quiesced -> quiesced 7
+plan -> planned 7
+device -> committed 7
+under 7 v 3582 4 -> 06x2 05x2
+under 7 w 2048 4 -> 02x4
+";
+
+/// Volumes that groups make and write, and volumes under the groups before.
+const VOLUMES_OF_GROUPS: &str = "pool 1 3 8388608 12 2
+hold 1 -> held 4
+write 1 1 v 0 512 07 -> refused 8 NoSuchName
+create 1 1 v 4096 1024 -> receipt 4
+create 1 2 w 2048 512 -> receipt 4
+write 1 3 v 0 512 07 -> refused 9 NotYet
+release 1 -> released
+sync -> committed 4
+under 4 v 0 4 -> 00x4
+under 4 vw 0 4 -> refused 8 NoSuchName
+under 4 w 1536 513 -> refused 11 OutOfRange
+hold 1 -> held 5
+write 1 3 v 512 512 01 -> receipt 5
+write 1 4 w 0 512 02 -> receipt 5
+create 1 5 vw 512 512 -> receipt 5
+release 1 -> released
+sync -> committed 5
+hold 1 -> held 6
+write 1 6 v 1024 512 03 -> receipt 6
+write 1 7 v 1024 512 04 -> receipt 6
+write 1 8 vw 0 512 05 -> receipt 6
+release 1 -> released
+sync -> committed 6
+under 6 v 510 4 -> 00x2 01x2
+under 6 v 1022 4 -> 01x2 04x2
+under 6 w 510 4 -> 02x2 00x2
+under 6 vw 508 4 -> 05x4
+under 5 v 1022 4 -> 01x2 00x2
+under 5 vw 0 4 -> 00x4
+under 4 w 0 4 -> 00x4
+";
+
+/// Two blocks with a column on each of five disks: ten writes, and then five flushes.
+const FIVE_DISKS: &str = "pool 1 5 8388608 12 2
+device -> refused 13 NotNow
+hold 1 -> held 4
+create 1 1 v 8192 2048 -> receipt 4
+release 1 -> released
+sync -> committed 4
+hold 1 -> held 5
+write 1 2 v 512 512 07 -> receipt 5
+write 1 3 v 1024 512 07 -> receipt 5
+write 1 4 v 2048 512 07 -> receipt 5
+release 1 -> released
+close -> closed 5
+quiesced -> quiesced 5
+plan -> planned 5
+plan -> refused 13 NotNow
+device -> moved Blocks
+device -> moved Blocks
+device -> moved Blocks
+device -> moved BlocksFlush
+device -> committed 5
+device -> refused 13 NotNow
+under 5 v 511 2 -> 00x1 07x1
+missing 0
+under 5 v 511 1538 -> 00x1 07x1024 00x512 07x1
+missing 1
+under 5 v 511 1538 -> 00x1 07x1024 00x512 07x1
+missing 2
+under 5 v 511 1538 -> 00x1 07x1024 00x512 07x1
+missing 3
+under 5 v 511 1538 -> 00x1 07x1024 00x512 07x1
+missing 4
+under 5 v 511 1538 -> 00x1 07x1024 00x512 07x1
+missing 1 3
+under 5 v 511 2 -> refused 2 DiskFault
+under 5 v 4096 2 -> 00x2
+under 4 v 511 2 -> 00x2
+missing
+under 3 v 511 2 -> refused 8 NoSuchName
+under 5 v 8191 2 -> refused 11 OutOfRange
+under 6 v 511 2 -> refused 17 GroupGone
+";
+
+/// The last three committed groups are kept.
+const KEPT_GROUPS: &str = "pool 1 3 8388608 12 2
+hold 1 -> held 4
+create 1 1 v 4096 1024 -> receipt 4
+release 1 -> released
+sync -> committed 4
+hold 1 -> held 5
+write 1 2 v 512 512 05 -> receipt 5
+release 1 -> released
+sync -> committed 5
+hold 1 -> held 6
+write 1 3 v 512 512 06 -> receipt 6
+release 1 -> released
+sync -> committed 6
+hold 1 -> held 7
+write 1 4 v 512 512 07 -> receipt 7
+release 1 -> released
+sync -> committed 7
+under 5 v 511 2 -> 00x1 05x1
+under 6 v 511 2 -> 00x1 06x1
+under 7 v 511 2 -> 00x1 07x1
+under 0 v 511 2 -> refused 17 GroupGone
+under 3 v 511 2 -> refused 17 GroupGone
+under 4 v 511 2 -> refused 17 GroupGone
+under 8 v 511 2 -> refused 17 GroupGone
+";
+
+/// Pending writes of the groups that are synced, waiting and open lie over committed bytes, or over zeros.
+const PENDING_WRITES: &str = "pool 1 3 8388608 12 2
+hold 1 -> held 4
+create 1 1 v 8192 1024 -> receipt 4
+read v 1022 4 -> 00x4
+release 1 -> released
+sync -> committed 4
+hold 1 -> held 5
+write 1 2 v 0 8192 03 -> receipt 5
+release 1 -> released
+sync -> committed 5
+hold 1 -> held 6
+write 1 3 v 0 1024 04 -> receipt 6
+create 1 4 w 8192 512 -> receipt 6
+release 1 -> released
+close -> closed 6
+quiesced -> quiesced 6
+plan -> planned 6
+hold 1 -> held 7
+write 1 5 v 1024 1024 05 -> receipt 7
+write 1 6 w 0 512 05 -> receipt 7
+release 1 -> released
+close -> closed 7
+hold 1 -> held 8
+write 1 7 v 512 1024 06 -> receipt 8
+read v 510 4 -> 04x2 06x2
+read v 1534 4 -> 06x2 05x2
+read v 2046 4 -> 05x2 03x2
+read w 510 4 -> 05x2 00x2
+under 5 v 510 4 -> 03x4
+";
+
+/// Disk 1 fails its first write, and disk 2 its flush for group 6: that is one disk too many.
+const LEFT_OUT: &str = "fault 1 write 0
+fault 2 flush 2
+pool 1 3 8388608 12 2
+hold 1 -> held 4
+create 1 1 v 4096 1024 -> receipt 4
+release 1 -> released
+sync -> committed 4
+hold 1 -> held 5
+write 1 2 v 512 512 05 -> receipt 5
+release 1 -> released
+close -> closed 5
+quiesced -> quiesced 5
+plan -> planned 5
+device -> replan 1
+device -> refused 13 NotNow
+under 4 v 511 2 -> 00x2
+plan -> planned 5
+device -> moved Blocks
+device -> committed 5
+under 5 v 511 2 -> 00x1 05x1
+hold 1 -> held 6
+write 1 3 v 512 512 06 -> receipt 6
+release 1 -> released
+close -> closed 6
+quiesced -> quiesced 6
+plan -> planned 6
+device -> moved Blocks
+device -> refused 4 Suspended
+device -> refused 4 Suspended
+under 5 v 511 2 -> refused 2 DiskFault
+under 6 v 511 2 -> refused 17 GroupGone
+";
+
+/// Each disk fails each call: a suspended pool gives holds back, and does nothing else.
+const SUSPENDED: &str = "fault 0 from 0
+fault 1 from 0
+fault 2 from 0
+pool 1 3 8388608 12 2
+close -> closed 4
+quiesced -> quiesced 4
+plan -> planned 4
+device -> replan 0
+plan -> planned 4
+device -> refused 4 Suspended
+hold 1 -> refused 4 Suspended
+release 1 -> refused 6 NoHold
+device -> refused 4 Suspended
+";
+
+/// With their parity 24 blocks fill the three metaslabs, and one is stored.
+const FULL: &str = "pool 1 2 8388608 12 2
+hold 1 -> held 4
+create 1 1 v 4194304 131072 -> receipt 4
+release 1 -> released
+sync -> committed 4
+hold 1 -> held 5
+write 1 2 v 0 512 05 -> receipt 5
+release 1 -> released
+sync -> committed 5
+hold 1 -> held 6
+write 1 3 v 0 1048576 06 -> receipt 6
+write 1 4 v 1048576 1048576 06 -> receipt 6
+write 1 5 v 2097152 1048576 06 -> receipt 6
+release 1 -> released
+sync -> refused 3 NoSpace
+device -> refused 13 NotNow
+commit -> refused 3 NoSpace
+under 5 v 511 2 -> 05x1 00x1
+read v 511 2 -> 06x2
+";
+
+/// With 23 blocks it is full. A write of the plan fails, whose room the next plan uses.
+const JUST_ROOM: &str = "fault 1 write 9
+pool 1 2 8388608 12 2
+hold 1 -> held 4
+create 1 1 v 4194304 131072 -> receipt 4
+release 1 -> released
+sync -> committed 4
+hold 1 -> held 5
+write 1 2 v 0 512 05 -> receipt 5
+release 1 -> released
+sync -> committed 5
+hold 1 -> held 6
+write 1 3 v 131072 1048576 06 -> receipt 6
+write 1 4 v 1179648 1048576 06 -> receipt 6
+write 1 5 v 2228224 917504 06 -> receipt 6
+release 1 -> released
+close -> closed 6
+quiesced -> quiesced 6
+plan -> planned 6
+commit -> refused 13 NotNow
+device -> moved Blocks
+device -> moved Blocks
+device -> moved Blocks
+device -> moved Blocks
+device -> replan 1
+commit -> committed 6
+under 6 v 511 2 -> 05x1 00x1
+under 6 v 3014656 2 -> 06x2
+under 5 v 3014656 2 -> 00x2
+";
+
+/// A volume of 4 MiB is written whole. No room is left to write it once more, and the group before stays as it is.
+const WRITTEN_TWICE: &str = "pool 1 3 8388608 12 2
+hold 1 -> held 4
+create 1 1 v 4194304 131072 -> receipt 4
+release 1 -> released
+sync -> committed 4
+hold 1 -> held 5
+write 1 2 v 0 1048576 aa -> receipt 5
+write 1 3 v 1048576 1048576 aa -> receipt 5
+write 1 4 v 2097152 1048576 aa -> receipt 5
+write 1 5 v 3145728 1048576 aa -> receipt 5
+release 1 -> released
+sync -> committed 5
+read v 0 512 -> aax512
+hold 1 -> held 6
+write 1 6 v 0 1048576 bb -> receipt 6
+write 1 7 v 1048576 1048576 bb -> receipt 6
+write 1 8 v 2097152 1048576 bb -> receipt 6
+write 1 9 v 3145728 1048576 bb -> receipt 6
+release 1 -> released
+sync -> refused 3 NoSpace
+device -> refused 13 NotNow
+commit -> refused 3 NoSpace
+read v 0 512 -> bbx512
+under 5 v 0 512 -> aax512
+under 5 v 4193792 512 -> aax512
+under 6 v 0 512 -> refused 17 GroupGone
+";
+
+const SCHEDULES: [&str; 10] = [
+    PARTS_OF_BLOCKS,
+    VOLUMES_OF_GROUPS,
+    FIVE_DISKS,
+    KEPT_GROUPS,
+    PENDING_WRITES,
+    LEFT_OUT,
+    SUSPENDED,
+    FULL,
+    JUST_ROOM,
+    WRITTEN_TWICE,
+];
+
+#[test]
+fn schedules_have_their_replies(rt: HostRuntime) -> Result<(), Fail> {
+    for text in SCHEDULES {
+        assert_eq!(rt; played(rt.alloc(), text)?.as_str(), text);
+    }
+    Ok(())
+}
+
+/// One call of one disk fails.
+const FAULTS: [&str; 12] = [
+    "fault 0 at 0\n",
+    "fault 0 at 1\n",
+    "fault 0 at 2\n",
+    "fault 0 at 3\n",
+    "fault 1 at 0\n",
+    "fault 1 at 1\n",
+    "fault 1 at 2\n",
+    "fault 1 at 3\n",
+    "fault 2 at 0\n",
+    "fault 2 at 1\n",
+    "fault 2 at 2\n",
+    "fault 2 at 3\n",
+];
+
+/// Behind it, two groups are committed all the same.
+const COMMITTED_IN_SPITE: &str = "pool 1 3 8388608 12 2
+hold 1 -> held 4
+create 1 1 v 1024 512 -> receipt 4
+write 1 2 v 0 512 01 -> refused 9 NotYet
+release 1 -> released
+sync -> committed 4
+hold 1 -> held 5
+write 1 2 v 0 512 07 -> receipt 5
+write 1 3 v 512 512 08 -> receipt 5
+release 1 -> released
+read v 510 4 -> 07x2 08x2
+sync -> committed 5
+under 5 v 510 4 -> 07x2 08x2
+under 4 v 510 4 -> 00x4
+";
+
+#[test]
+fn each_call_of_a_disk_may_fail(rt: HostRuntime) -> Result<(), Fail> {
+    for fault in FAULTS {
+        let text = format!(in rt.alloc(); "{fault}{COMMITTED_IN_SPITE}")?;
+        assert_eq!(rt; played(rt.alloc(), text.as_str())?.as_str(), text.as_str());
+    }
+    Ok(())
+}
