@@ -9,8 +9,6 @@ mod item;
 mod laws;
 mod refusal;
 mod step;
-#[cfg(test)]
-mod tests;
 mod text;
 mod volume;
 
