@@ -7,8 +7,6 @@ mod calls;
 mod pending;
 mod pipeline;
 mod refusal;
-#[cfg(test)]
-mod tests;
 
 pub use calls::{Answer, Call, run};
 pub use pending::Pending;
