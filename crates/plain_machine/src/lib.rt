@@ -6,8 +6,6 @@ mod causes;
 mod machine;
 mod pool;
 mod runs;
-#[cfg(test)]
-mod tests;
 
 pub use machine::Machine;
 pub use runs::run;
