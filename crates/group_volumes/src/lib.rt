@@ -3,8 +3,6 @@
 
 mod laws;
 mod refusal;
-#[cfg(test)]
-mod tests;
 mod volumes;
 
 pub use laws::pools_stay_spelled;
