@@ -7,8 +7,6 @@ mod index;
 mod laws;
 mod overlay;
 mod shape;
-#[cfg(test)]
-mod tests;
 
 pub use causes::{against_change, against_read, against_write, is_good_shape, named};
 pub use index::NameIndex;
