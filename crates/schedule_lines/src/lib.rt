@@ -9,8 +9,6 @@ mod number;
 mod reading;
 mod refusal;
 mod reply;
-#[cfg(test)]
-mod tests;
 mod words;
 
 pub use command::{Command, CreateLine, Line, PoolLine, ReadLine, UnderLine, WriteLine};
