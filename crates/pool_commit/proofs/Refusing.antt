@@ -30,7 +30,7 @@ abbrev pub IsUnreadCause : StoreRefusal → Type 0
 IsUnreadCause refusal = (refusal ≡ store.BadPointer) ⊎ ((refusal ≡ store.DiskFault) ⊎ (refusal ≡ store.BadDigest))
 
 pub unread_cause : {old new : Store} {volume : VolumeBlocks} {birth offset end : ℕ} {missing : List ℕ} {refusal : StoreRefusal} → IsUnreadIn old new volume birth offset end missing refusal → IsUnreadCause refusal
-unread_cause unread = ⊎_elim (λ bad. inl bad.0) (λ last. ⊎_elim (λ lost. inr (inl lost.0)) (λ digest. inr (inr digest.0)) last.cause) unread.unread.cause
+unread_cause unread = ⊎_elim (λ bad. inl bad.0) (λ last. ⊎_elim (λ lost. inr (inl lost.0)) (λ digest. inr (inr digest.0)) last.last.cause) unread.unread.cause
 
 pub read_fault : (refusal : StoreRefusal) → IsUnreadCause refusal → IsReadFault (of_store refusal)
 read_fault refusal cause =

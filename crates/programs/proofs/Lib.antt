@@ -1,3 +1,4 @@
+mod Chains
 mod Leading
 mod Playing
 mod Reading

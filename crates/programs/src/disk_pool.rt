@@ -1,5 +1,11 @@
 //! The pool's core over memory disks, as a machine for schedules.
-ghost use Rattle.std.specs.Prelude.{◌≡◌, ◌⊎◌, [], ◌∷◌};
+ghost use Rattle.std.specs.Prelude.{◌≡◌, ◌⊎◌, ℕ, List, [], ◌∷◌};
+ghost use Rattle.pool_model.specs.View.{View};
+ghost use Rattle.pool_core.specs.Represents.{Represents};
+ghost use Rattle.pool_core.specs.StateOf.{state_of};
+ghost use Rattle.programs.specs.Plays.{Plays};
+ghost use Rattle.programs.specs.Runs.{StepsTruly, IsOneRun};
+ghost use Rattle.schedule_lines.specs.declared.command.Command.{Command};
 
 use crate::machine::StepMachine;
 use block_store::VdevConfig;
@@ -36,14 +42,15 @@ impl StepMachine for Core<MemDisk> {
     ghost use Rattle.pool_model.specs.View.{started};
     ghost use Rattle.pool_core.specs.Represents.{Represents};
     ghost use Rattle.pool_core.specs.StateOf.{state_of};
-    ghost use Rattle.pool_core.specs.Steps.{Steps};
+    ghost use Rattle.programs.specs.Runs.{StepsTruly};
     ghost use Rattle.programs.specs.Vdevs.{vdev_of};
 
     ghost creates = { λ line core. Represents (state_of core) (started (vdev_of line ∷ [])) };
 
     ghost refuses = { λ _ cause. (cause ≡ NoMemory) ⊎ (cause ≡ BadConfig) };
 
-    ghost steps = { λ old step reply new. Steps (state_of old) step reply (state_of new) };
+    // Disks in memory answer truly, so that nothing is asked of them.
+    ghost steps = { λ old step reply new. StepsTruly (state_of old) step reply (state_of new) };
 
     /// At least one metaslab is for the pool's own blocks, and one for others.
     fn create(alloc: Global, line: &PoolLine) -> Result<Core<MemDisk>, Refusal> {
@@ -65,6 +72,18 @@ impl StepMachine for Core<MemDisk> {
     }
 
     fn step(&mut self, step: Step) -> Reply {
-        Core::step(self, step)
+        let reply = Core::step(self, step);
+        self.answers_are_true();
+        reply
     }
+}
+
+/// A law: the commands of a schedule that a pool over disks in memory answers are one run of it, from each view that it
+/// represents, with the whole headline.
+pub fn schedules_are_runs(first: &Core<MemDisk>)
+    ensures { (last : _) (v : View) (commands : List Command) (text : List ℕ) → Represents (state_of first.now) v
+        → Plays (λ old step reply new. StepsTruly (state_of old) step reply (state_of new)) first.now commands text last
+        → IsOneRun (state_of first.now) v commands text (state_of last) }
+{
+    let _ = first;
 }

@@ -11,6 +11,7 @@ mod status;
 mod written;
 
 pub use commands::answer;
+pub use disk_pool::schedules_are_runs;
 pub use machine::StepMachine;
 pub use running::schedule;
 pub use status::ExitStatus;

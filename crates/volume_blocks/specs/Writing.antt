@@ -6,7 +6,7 @@ use Rattle.raidz_io.specs.Reads.{OnlyReads, AreUntouched}
 use Rattle.block_store.specs.declared.refusal.Refusal.{Refusal}
 use Rattle.block_store.specs.declared.space.VdevSpace.{VdevSpace}
 use Rattle.block_store.specs.Blocks.{Contents, Extends}
-use Rattle.block_store.specs.Places.{shapes_of, HasRoomAt}
+use Rattle.block_store.specs.Places.{shapes_of, NoPlaceIsLeft}
 use Rattle.block_store.specs.Plans.{Plans}
 use Rattle.block_store.specs.Store.{Store, Keeps, outs, is_out}
 use Rattle.volume_blocks.specs.declared.volume.VolumeBlocks.{VolumeBlocks}
@@ -30,9 +30,9 @@ pub record ChangesOnly (old : VolumeBlocks) (name : List ℕ) (writes : List Wri
   pub changed : (id : ℕ) → IsChanged old name writes id → IsSomeAnd (block_at new id) (λ block. block.birth ≡ birth)
   pub others : (id : ℕ) → ¬ IsChanged old name writes id → block_at new id ≡ block_at old id
 
--- no metaslab has room for a block of so many sectors
+-- no vdev has a free place for a block of so many sectors
 abbrev pub HasNoRoom : List VdevSpace → ℕ → Type 0
-HasNoRoom spaces sectors = (v metaslab : ℕ) → ¬ HasRoomAt spaces sectors v metaslab
+HasNoRoom spaces sectors = NoPlaceIsLeft spaces sectors
 
 -- nothing was done but reads, none of them on a disk that is out, and a plan that has what it had and perhaps more blocks
 pub record OnlyReadsAndPlans (old new : Store) : Type 0 where
