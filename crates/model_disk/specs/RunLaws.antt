@@ -1,10 +1,10 @@
 -- What follows for runs of calls, from the definitions alone.
-use Rattle.std.specs.Prelude.{◌≡◌, ◌⊎◌, ◌≤◌, ◌<◌, ℕ, false, List, ◌∷◌, ◌++◌, length, slice_get, Some, All, Contains}
+use Rattle.std.specs.Prelude.{◌≡◌, ◌⊎◌, ◌≤◌, ◌<◌, ℕ, true, false, List, ◌∷◌, ◌++◌, length, slice_get, Some, All, Contains}
 use Rattle.std.specs.List.{list_any}
-use Rattle.model_disk.specs.Call.{Call, FailedWrite, Flushed}
+use Rattle.model_disk.specs.Call.{Call, FailedWrite, Flushed, is_failed}
 use Rattle.model_disk.specs.Contents.{touches}
-use Rattle.model_disk.specs.Joint.{JointCall, Disks, bytes_of, calls_on, content, Stands, MayLeaveAll, LeftSinceAll}
-use Rattle.model_disk.specs.Runs.{WritesOnly, IsWholeIn, HasWrite, IsMoment, IsSettled, AreSettled, Holds, HeldSince, HeldOn}
+use Rattle.model_disk.specs.Joint.{JointCall, Disks, on, bytes_of, calls_on, content, Stands, MayLeaveAll, LeftSinceAll}
+use Rattle.model_disk.specs.Runs.{HasFailed, WritesOnly, IsWholeIn, HasWrite, IsMoment, IsSettled, AreSettled, Holds, HeldSince, HeldOn}
 
 -- since the old moment these calls were made
 pub record IsRun (old new : Disks) (newer : List JointCall) : Type 0 where
@@ -28,6 +28,12 @@ SettledBytesStay =
     → (earlier : List JointCall) (images : List (List ℕ)) → IsMoment (length old.calls) new.calls earlier → MayLeaveAll old.starts earlier images
     → (which i value : ℕ) → which < length old.starts → IsUntouched newer which i → content old which i ≡ Some value
     → slice_get (bytes_of images which) i ≡ Some value
+
+-- a call that fails is seen in each run that has it
+pub record FailuresAreSeen : Type 0 where
+  pub now : (old new : Disks) (which : ℕ) (call : Call) → new.calls ≡ on which call ∷ old.calls → is_failed call ≡ true → HasFailed old new
+  pub before : (old mid new : Disks) (newer : List JointCall) → IsRun mid new newer → HasFailed old mid → HasFailed old new
+  pub since : (old mid new : Disks) (newer : List JointCall) → IsRun old mid newer → HasFailed mid new → HasFailed old new
 
 -- a disk is settled after a flush that succeeded, until it is written again
 abbrev pub FlushesSettle : Type 0

@@ -2,7 +2,7 @@
 use Rattle.std.specs.Prelude.{◌≡◌, ◌⊎◌, ◌≤◌, ◌<◌, ℕ, ◌+◌, false, List, ◌∷◌, ◌++◌, length, slice_get, All, Contains}
 use Rattle.model_disk.specs.Call.{Call, Read, FailedRead, Wrote, FailedWrite, Flushed, FailedFlush}
 use Rattle.model_disk.specs.Contents.{covers, byte_at, is_dirty}
-use Rattle.model_disk.specs.Joint.{JointCall, Disks, bytes_of, calls_on}
+use Rattle.model_disk.specs.Joint.{JointCall, Disks, bytes_of, calls_on, failed_since}
 
 -- ---- which writes
 
@@ -22,6 +22,10 @@ pub record Makes (may : ℕ → ℕ → List ℕ → Type 0) (old new : Disks) :
   pub newer : List JointCall
   pub calls : new.calls ≡ newer ++ old.calls
   pub writes : All (λ made. WritesOnly (may made.which) made.call) newer
+
+-- a call failed since the old moment
+abbrev pub HasFailed : Disks → Disks → Type 0
+HasFailed old new = (disk : ℕ) × Contains (failed_since (length old.calls) new.calls) disk
 
 -- nothing may be written
 abbrev pub no_write : ℕ → ℕ → List ℕ → Type 0

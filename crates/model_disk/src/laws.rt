@@ -1,6 +1,6 @@
 //! Laws of disks, as functions with no body: what each ensures follows from the definitions alone.
 ghost use Rattle.model_disk.specs.Laws.{WrittenBytesStand, OtherBytesStay, HonestReadsGive, PartsAreHonest, PartsOfOneAreHonest, FlushedBytesStay, UnwrittenDisksStay, WritesAddImages};
-ghost use Rattle.model_disk.specs.RunLaws.{UntouchedBytesStay, SettledBytesStay, FlushesSettle, IsHeld, SettledBytesAreHeld, HeldIsOldOrWritten, MomentsAreOfTheRun, CrashesAreAtMoments};
+ghost use Rattle.model_disk.specs.RunLaws.{UntouchedBytesStay, SettledBytesStay, FailuresAreSeen, FlushesSettle, IsHeld, SettledBytesAreHeld, HeldIsOldOrWritten, MomentsAreOfTheRun, CrashesAreAtMoments};
 
 /// What was written stands.
 pub fn written_bytes_stand()
@@ -42,6 +42,11 @@ pub fn writes_add_images()
 pub fn untouched_bytes_stay()
     ensures now { UntouchedBytesStay }
     ensures after_a_crash { SettledBytesStay }
+{}
+
+/// A call that failed in a part of a run failed in the run.
+pub fn failures_are_seen()
+    ensures { FailuresAreSeen }
 {}
 
 /// A disk is settled after a flush that succeeded, until it is written again.

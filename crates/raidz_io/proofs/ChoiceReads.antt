@@ -1,9 +1,9 @@
 -- What is read of a block whose digest is known.
-use Rattle.std.proofs.Common.{ℕ, zero, suc, ◌≡◌, ◌≢◌, ◌⊎◌, inl, inr, ◌<◌, ◌≤◌, ◌+◌, ◌-◌, ◌*◌, List, [], ◌∷◌, ◌++◌, length, get_or, slice_index, map, take, drop, sum, Some, All, Contains, refl, sym, ap, subst, ◌∙◌, arith, length-append, length-drop}
+use Rattle.std.proofs.Common.{ℕ, zero, suc, ◌≡◌, ◌⊎◌, inl, inr, ◌<◌, ◌≤◌, ◌+◌, ◌-◌, List, [], ◌∷◌, ◌++◌, length, map, take, drop, sum, Some, All, Contains, refl, sym, ap, subst, ◌∙◌, arith, length-append, length-drop}
 use Rattle.std.specs.List.{slice_get}
-use Rattle.std.proofs.lemmas.List.{length-map, length-take-le, take_all, take-append-drop}
+use Rattle.std.proofs.lemmas.List.{length-map, length-take-le, take_all}
 use Rattle.std.proofs.lemmas.List.Elements.{Contains-append_left, Contains-append_right, Contains-append_cases}
-use Rattle.std.proofs.lemmas.Option.{slice_get_within, get_or_from_slice_get}
+use Rattle.std.proofs.lemmas.Option.{slice_get_within}
 use Rattle.std.proofs.lemmas.Bool.{cases_lt}
 use Rattle.sha2.specs.Sha256.{sha256}
 use Rattle.model_disk.specs.Joint.{Disks, content}
@@ -12,12 +12,12 @@ use Rattle.raidz_map.specs.Extent.{ChildHoldsOneColumn}
 use Rattle.raidz_parity.specs.Layout.{Block, columns_of}
 use Rattle.raidz_io.specs.declared.vdev.Vdev.{Vdev}
 use Rattle.raidz_io.specs.declared.vdev.Extent.{Extent}
-use Rattle.raidz_io.specs.Places.{Stands, disk_of, offset_of, sizes_of}
+use Rattle.raidz_io.specs.Places.{disk_of, offset_of, sizes_of}
 use Rattle.raidz_io.specs.Stands.{parity_of, IsLayout, all_columns, AreBytesOf, ExtentStands}
-use Rattle.raidz_io.specs.Stripe.{IsStripe, stripe_sizes, HasSizes, read_columns, MatchesBut}
+use Rattle.raidz_io.specs.Stripe.{stripe_sizes, HasSizes, read_columns, MatchesBut}
 use Rattle.raidz_io.specs.Reads.{GaveSince, absent_since, IsHonestSince, HoldsColumn, FewAreLost}
 use Rattle.raidz_io.specs.Choices.{IsChoice, HasNoChoice, IsWhole, IsFoundChoice, HasNone, AreFurther}
-use Rattle.raidz_io.proofs.Agree.{IsSoFar, StandsAs, stands_as, has_sizes, matches, present, stripe_of_order, take_front, number, order_apart, disk_at, disk_is, length-order, lost_below, disks_differ, holds_column, Contains-map_cases}
+use Rattle.raidz_io.proofs.Agree.{IsSoFar, stands_as, has_sizes, matches, present, stripe_of_order, take_front, number, order_apart, disk_at, disk_is, length-order, lost_below, disks_differ, holds_column, Contains-map_cases}
 use Rattle.raidz_io.proofs.DataWrites.{made_columns}
 use Rattle.raidz_io.proofs.Further.{contains_or_not, further_with, further_below, further_new, ordered_new, append_new, new_distinct}
 use Rattle.raidz_io.proofs.Layouts.{layouts_agree, same_column}

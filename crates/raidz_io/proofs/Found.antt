@@ -1,5 +1,5 @@
 -- A choice that is tried.
-use Rattle.std.proofs.Common.{ℕ, zero, suc, ◌≡◌, ◌+◌, ◌<◌, ◌≤◌, Bool, true, false, IsTrue, Option, None, IfSome, IfNone, inl, inr, List, [], ◌∷◌, ◌++◌, length, map, take, drop, replicate, slice_index, sum, Some, All, Contains, refl, sym, ap, subst, ◌∙◌, append_assoc, arith, length-append}
+use Rattle.std.proofs.Common.{ℕ, suc, ◌≡◌, ◌+◌, ◌<◌, ◌≤◌, Bool, false, IsTrue, Option, None, IfSome, IfNone, inl, inr, List, [], ◌∷◌, ◌++◌, length, map, take, slice_index, sum, Some, All, Contains, refl, sym, ap, subst, ◌∙◌, append_assoc, arith, length-append}
 use Rattle.std.specs.List.{slice_get}
 use Rattle.std.proofs.lemmas.List.{ext_get_or, take_at, map-append}
 use Rattle.std.proofs.lemmas.Bool.{cases_lt}

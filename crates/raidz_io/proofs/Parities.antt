@@ -7,8 +7,8 @@ use Rattle.std.proofs.lemmas.List.Elements.{All-head, All-tail}
 use Rattle.gf256.specs.Field.{product}
 use Rattle.gf256.proofs.Laws.{product-zero_right}
 use Rattle.raidz_parity.specs.Layout.{Block, columns_of}
-use Rattle.raidz_parity.specs.Parity.{weight, weighted_sum_at, IsParityOf, IsParity}
-use Rattle.raidz_io.specs.Stripe.{IsStripe, HasSizes}
+use Rattle.raidz_parity.specs.Parity.{weight, weighted_sum_at, IsParityOf}
+use Rattle.raidz_io.specs.Stripe.{IsStripe}
 use Rattle.raidz_io.specs.Choices.{IsWhole}
 use Rattle.raidz_io.proofs.Parts.{lengths-columns_of}
 use Rattle.raidz_io.proofs.Written.{same_some}

@@ -1,5 +1,5 @@
 -- A list with more numbers, no two of them equal, than another has one that is not in it.
-use Rattle.std.proofs.Common.{ℕ, zero, suc, ◌≡◌, ◌≢◌, ◌+◌, ◌<◌, ◌≤◌, List, [], ◌∷◌, length, slice_index, slice_index_or, Contains, refl, sym, ◌∙◌, arith}
+use Rattle.std.proofs.Common.{ℕ, zero, suc, ◌≡◌, ◌≢◌, ◌+◌, ◌<◌, ◌≤◌, List, [], ◌∷◌, length, slice_index, slice_index_or, Contains, sym, ◌∙◌, arith}
 use Rattle.raidz_io.specs.Reads.{FewAreNotMore}
 use Rattle.raidz_io.proofs.Calls.{Contains-front, Contains-later}
 

@@ -1,11 +1,11 @@
 -- Columns of which some are wrong, as the parity sees them.
-use Rattle.std.proofs.Common.{ℕ, zero, suc, ◌≡◌, inl, inr, ◌+◌, ◌-◌, ◌*◌, ◌<◌, ◌≤◌, nat_lt, Bool, true, false, if◌then◌else◌, List, [], ◌∷◌, ◌++◌, length, map, take, drop, replicate, sum, slice_index, Some, All, Contains, Result, Ok, Err, IsOk, IsErr, OnOk, IfOk, refl, sym, ap, subst, ◌∙◌, arith}
+use Rattle.std.proofs.Common.{ℕ, zero, suc, ◌≡◌, inl, inr, ◌+◌, ◌<◌, ◌≤◌, List, [], ◌∷◌, ◌++◌, length, map, take, drop, replicate, sum, slice_index, Some, All, Contains, Result, Ok, Err, IsOk, IsErr, OnOk, IfOk, refl, sym, ap, subst, ◌∙◌, arith}
 use Rattle.std.specs.List.{slice_get}
 use Rattle.std.proofs.lemmas.Bool.{cases_lt}
 use Rattle.std.proofs.lemmas.Bool.Decides.{nat_tests}
 use Rattle.std.proofs.lemmas.List.{length-map, length-replicate, length-take-le}
 use Rattle.std.proofs.lemmas.List.Elements.{All-nil, All-cons, All-head, All-tail}
-use Rattle.std.proofs.lemmas.Option.{slice_get_within, slice_get_past}
+use Rattle.std.proofs.lemmas.Option.{slice_get_past}
 use Rattle.raidz_parity.specs.Layout.{Block, columns_of, IsLaidOut, ChangesOnly}
 use Rattle.raidz_io.specs.Stripe.{IsStripe, stripe_sizes, number_of, AreParities, HasSizes, read_columns, MatchesBut}
 use Rattle.raidz_io.proofs.Calls.{Contains-front, Contains-later, Contains-none, Contains-cases}

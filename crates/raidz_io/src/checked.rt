@@ -10,11 +10,9 @@ use raidz_map::{MAX_CHILDREN, child_holds_one_column};
 use std::alloc::Global;
 
 impl Extent {
-    ghost use Rattle.model_disk.specs.Joint.{content};
     ghost use Rattle.raidz_io.specs.Choices.{IsChoice, HasNoChoice};
     ghost use Rattle.raidz_io.specs.Places.{CanHold, IsOnDisks};
-    ghost use Rattle.raidz_io.specs.Reads.{OnlyReads, AreUntouched, IsHonestSince, absent_since, MoreAreLost};
-    ghost use Rattle.raidz_io.specs.Stands.{ExtentStands};
+    ghost use Rattle.raidz_io.specs.Reads.{OnlyReads, AreUntouched, IsHonestSince, StandsOnPresent, absent_since, MoreAreLost};
 
     /// The bytes of the block, which have this SHA-256 (FIPS 180-4). Where those that are read have not, or a
     /// column is lost, the parity is read too, and sets of further columns are tried as wrong, smaller sets
@@ -36,7 +34,7 @@ impl Extent {
 
         // What stands on all disks but those that are absent, is read truly and has the digest, is the answer.
         ensures block { IfOk result (λ bytes. IsHonestSince disks.old disks.new → (block : List ℕ)
-            → ExtentStands (content disks.old) (absent_since disks.old disks.new missing.now) self block
+            → StandsOnPresent disks.old disks.new missing.now self block
             → sha256 block ≡ digest.now → bytes.items ≡ block) }
 
         // The answer's columns are what was read, but for as many as there are parities.

@@ -1,4 +1,4 @@
-use Rattle.std.proofs.Common.{[], refl, arith, ◌∙◌}
+use Rattle.std.proofs.Common.{arith, ◌∙◌}
 use Rattle.raidz_io.proofs.Tries.{joined_more}
 use Rattle.raidz_io.proofs.choice.add_parity.Goals as goal
 

@@ -1,9 +1,6 @@
-use Rattle.std.proofs.Common.{ℕ, ◌≡◌, length, true, false, refl, sym, ap, ◌∙◌, arith}
+use Rattle.std.proofs.Common.{ℕ, length, ap, ◌∙◌}
 use Rattle.std.specs.List.{sum}
 use Rattle.raidz_io.specs.Places.{sizes_of}
-use Rattle.raidz_io.specs.Stripe.{stripe_sizes, MatchesBut}
-use Rattle.raidz_io.specs.Choices.{IsWhole}
-use Rattle.raidz_parity.specs.Layout.{columns_of}
 use Rattle.raidz_io.proofs.Found.{whole_length, none_agrees, found_choice, none_has_digest, none_fits, whole_at, false_not_true}
 use Rattle.raidz_io.proofs.choice.try_choice.Goals as goal
 

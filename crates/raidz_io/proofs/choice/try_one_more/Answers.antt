@@ -1,4 +1,4 @@
-use Rattle.std.proofs.Common.{ℕ, ◌≡◌, ◌+◌, length, sym, ap, subst, ◌∙◌, arith}
+use Rattle.std.proofs.Common.{◌∙◌, arith}
 use Rattle.raidz_io.specs.Places.{sizes_of}
 use Rattle.raidz_io.proofs.Sizes.{length-sizes}
 use Rattle.raidz_io.proofs.Found.{some_at, none_at, one_more, none_more, sized_below}

@@ -1,4 +1,4 @@
-use Rattle.std.proofs.Common.{ℕ, ◌≡◌, ◌+◌, length, sym, ap, subst, ◌∙◌, arith}
+use Rattle.std.proofs.Common.{◌∙◌, arith}
 use Rattle.raidz_io.specs.Places.{sizes_of}
 use Rattle.raidz_io.proofs.Found.{some_at, none_at, two_more, none_two_more}
 use Rattle.raidz_io.proofs.choice.try_two_more.Goals as goal

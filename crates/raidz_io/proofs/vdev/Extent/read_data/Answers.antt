@@ -1,4 +1,4 @@
-use Rattle.std.proofs.Common.{ℕ, ◌≡◌, ◌+◌, [], length, refl, sym, ◌∙◌, arith}
+use Rattle.std.proofs.Common.{◌≡◌, [], length, refl, sym, arith}
 use Rattle.raidz_io.proofs.Order.{all_data, none_read, data_read}
 use Rattle.raidz_io.proofs.Placed.{on_disk_back}
 use Rattle.raidz_io.proofs.vdev.Extent.read_data.Goals as goal

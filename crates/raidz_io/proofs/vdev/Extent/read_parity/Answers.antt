@@ -1,4 +1,4 @@
-use Rattle.std.proofs.Common.{ℕ, ◌≡◌, length, refl, sym, arith, length-drop}
+use Rattle.std.proofs.Common.{refl, arith, length-drop}
 use Rattle.raidz_io.proofs.Order.{data_was_read, some_read}
 use Rattle.raidz_io.proofs.Placed.{on_disk_front}
 use Rattle.raidz_io.proofs.vdev.Extent.read_parity.Goals as goal
