@@ -12,7 +12,7 @@ use Rattle.model_disk.proofs.LawLemmas.{same_bytes, untouched_since}
 use Rattle.model_disk.specs.Call.{Call, Read, FailedRead, Wrote, FailedWrite, Flushed, FailedFlush, read_call, write_call, flush_call}
 use Rattle.model_disk.specs.Contents.{covers, touches, byte_at, is_dirty}
 use Rattle.model_disk.specs.Joint.{JointCall, Disks, bytes_of, calls_on, on, content, Stands, MayLeaveAll}
-use Rattle.model_disk.specs.RunLaws.{IsHeld, IsUntouched, UntouchedBytesStay, SettledBytesStay, FlushesSettle, SettledBytesAreHeld, HeldIsOldOrWritten, MomentsAreOfTheRun, CrashesAreAtMoments}
+use Rattle.model_disk.specs.RunLaws.{IsHeld, CleanIsUntorn, IsUntouched, UntouchedBytesStay, SettledBytesStay, FlushesSettle, SettledBytesAreHeld, HeldIsOldOrWritten, MomentsAreOfTheRun, CrashesAreAtMoments}
 use Rattle.model_disk.specs.Runs.{WritesOnly, Makes, no_write, IsOff, IsWholeIn, HasWrite, IsMoment, EachSince, IsSettled, AreSettledBelow, AreSettled, Holds, last_done, HeldSince, HeldOn}
 
 -- ---- calls of one disk among all
@@ -143,9 +143,16 @@ later_part (call ∷ newer) calls (other ∷ others) earlier same longer =
     let it = later_part newer calls others earlier rest longer in
     (it.0, ap (λ (them : List _). call ∷ them) it.1 ∙ ap (λ one. one ∷ (others ++ it.0)) first, it.2)
 
+-- a moment of a run has all the calls that were made before it
+at_least : (calls newer all earlier : List JointCall) → all ≡ newer ++ calls → IsMoment (length calls) all earlier → length calls ≤ length earlier
+at_least calls newer all earlier is moment = elim moment.since [
+  | inl same ↦ let long : length earlier ≡ length newer + length calls = ap length (same ∙ is) ∙ length-append newer calls in omega (arith, long)
+  | inr longer ↦ omega (arith, longer)
+]
+
 pub moments_are_of_the_run : MomentsAreOfTheRun
 moments_are_of_the_run newer calls earlier moment =
-    let it = later_part newer calls moment.newer earlier moment.is moment.since in
+    let it = later_part newer calls moment.newer earlier moment.is (at_least calls newer (newer ++ calls) earlier refl moment) in
     record { later = moment.newer; made = it.0; newer_is = it.1; earlier_is = it.2 }
 
 All-back : {X : Type 0} (P : X → Type 0) (xs ys : List X) → All P (xs ++ ys) → All P ys
@@ -158,7 +165,7 @@ pub each_of_run : (may : ℕ → ℕ → List ℕ → Type 0) (Q : List JointCal
     → Makes may old new → EachSince (length old.calls) Q new.calls
 each_of_run may Q old new always makes earlier moment =
     let P : JointCall → Type 0 = λ it. WritesOnly (may it.which) it.call in
-    let it = later_part makes.newer old.calls moment.newer earlier (sym makes.calls ∙ moment.is) moment.since in
+    let it = later_part makes.newer old.calls moment.newer earlier (sym makes.calls ∙ moment.is) (at_least old.calls makes.newer new.calls earlier makes.calls moment) in
     let all : All P (moment.newer ++ it.0) = subst (All P) it.1 makes.writes in
     subst Q (sym it.2) (always it.0 (All-back P moment.newer it.0 all))
 
@@ -169,23 +176,30 @@ each_after Q n calls newer before since earlier moment =
     elim (cases_lt (length earlier) (length calls)) [
       | inl shorter ↦
           let it = later_part moment.newer earlier newer calls (sym moment.is) (omega (arith, shorter)) in
-          before earlier (record { newer = it.0; is = it.2; since = moment.since })
-      | inr longer ↦ since earlier (record { newer = moment.newer; is = moment.is; since = omega (arith, longer) })
+          let long : n ≤ length earlier = elim moment.since [
+            | inl same ↦ let count : length earlier ≡ length newer + length calls = ap length same ∙ length-append newer calls in omega (arith, shorter, count)
+            | inr enough ↦ omega (arith, enough)
+          ] in
+          before earlier (record { newer = it.0; is = it.2; since = inr long })
+      | inr longer ↦ since earlier (record { newer = moment.newer; is = moment.is; since = inr (omega (arith, longer)) })
     ]
 
 pub each_weaker : (Q R : List JointCall → Type 0) (n : ℕ) (calls : List JointCall) → ((them : List JointCall) → Q them → R them) → EachSince n Q calls → EachSince n R calls
 each_weaker Q R n calls weaker each earlier moment = weaker earlier (each earlier moment)
 
 pub crashes_are_at_moments : CrashesAreAtMoments
-crashes_are_at_moments starts [] n images le left =
-    record { earlier = []; moment = record { newer = []; is = refl; since = le }; left = left }
-crashes_are_at_moments starts (made ∷ calls) n images le (inl left) =
-    record { earlier = made ∷ calls; moment = record { newer = []; is = refl; since = le }; left = left }
-crashes_are_at_moments starts (made ∷ calls) n images le (inr before) =
-    let it = crashes_are_at_moments starts calls n images before.0 before.1 in
+crashes_are_at_moments starts [] n images left = record { earlier = []; moment = record { newer = []; is = refl; since = inl refl }; left = left }
+crashes_are_at_moments starts (made ∷ calls) n images (inl left) =
+    record { earlier = made ∷ calls; moment = record { newer = []; is = refl; since = inl refl }; left = left }
+crashes_are_at_moments starts (made ∷ calls) n images (inr before) =
+    let it = crashes_are_at_moments starts calls n images before.1 in
+    let enough : n ≤ length it.earlier = elim it.moment.since [
+      | inl same ↦ let count : length it.earlier ≡ length calls = ap length same in omega (arith, before.0, count)
+      | inr longer ↦ omega (arith, longer)
+    ] in
     record {
       earlier = it.earlier;
-      moment = record { newer = made ∷ it.moment.newer; is = ap (λ (rest : List JointCall). made ∷ rest) it.moment.is; since = it.moment.since };
+      moment = record { newer = made ∷ it.moment.newer; is = ap (λ (rest : List JointCall). made ∷ rest) it.moment.is; since = inr enough };
       left = it.left;
     }
 
@@ -203,7 +217,7 @@ untouched_part later made which i untouched =
 
 pub settled_bytes_stay : SettledBytesStay
 settled_bytes_stay old new newer settled run earlier images moment left which i value inside untouched known =
-    let it = later_part newer old.calls moment.newer earlier (sym run.calls ∙ moment.is) moment.since in
+    let it = later_part newer old.calls moment.newer earlier (sym run.calls ∙ moment.is) (at_least old.calls newer new.calls earlier run.calls moment) in
     let P : List JointCall → Type 0 = λ them. IsUntouched them which i in
     let none = untouched_part moment.newer it.0 which i (subst P it.1 untouched) in
     let since = untouched_since (bytes_of old.starts which) (calls_on which it.0) (calls_on which old.calls) i none in
@@ -326,6 +340,12 @@ is_held =
           record { newer = []; earlier = FailedWrite at bytes ∷ calls; is = refl; unflushed = none_of_none Flushed; stood = held_by_failed start calls at bytes };
       until_a_flush = held_longer;
     }
+
+pub clean_is_untorn : CleanIsUntorn
+clean_is_untorn starts calls images left which at bytes inside clean shows =
+    is_held.now (bytes_of starts which) (calls_on which calls) at bytes (λ i below.
+    let here = clean i below in
+    here.known ∙ sym ((left.each which inside).kept (at + i) here.value here.clean here.known) ∙ shows i below)
 
 -- ---- on a settled disk
 
@@ -454,7 +474,7 @@ pub held_in_run : (may : ℕ → ℕ → List ℕ → Type 0) (old new : Disks) 
     → HeldOn old.starts earlier which at bytes → Stands old which at bytes ⊎ may which at bytes
 held_in_run may old new earlier settled makes moment which at bytes inside some whole held =
     let start = bytes_of old.starts which in
-    let it = later_part makes.newer old.calls moment.newer earlier (sym makes.calls ∙ moment.is) moment.since in
+    let it = later_part makes.newer old.calls moment.newer earlier (sym makes.calls ∙ moment.is) (at_least old.calls makes.newer new.calls earlier makes.calls moment) in
     let P : JointCall → Type 0 = λ made. WritesOnly (may made.which) made.call in
     let are : All P it.0 = All-back P moment.newer it.0 (subst (All P) it.1 makes.writes) in
     let is : calls_on which earlier ≡ calls_on which it.0 ++ calls_on which old.calls =

@@ -1,10 +1,10 @@
 -- What follows for runs of calls, from the definitions alone.
-use Rattle.std.specs.Prelude.{◌≡◌, ◌⊎◌, ◌≤◌, ◌<◌, ℕ, true, false, List, ◌∷◌, ◌++◌, length, slice_get, Some, All, Contains}
+use Rattle.std.specs.Prelude.{◌≡◌, ◌⊎◌, ◌≤◌, ◌<◌, ℕ, ◌+◌, true, false, List, ◌∷◌, ◌++◌, length, slice_get, Some, All, Contains}
 use Rattle.std.specs.List.{list_any}
 use Rattle.model_disk.specs.Call.{Call, FailedWrite, Flushed, is_failed}
-use Rattle.model_disk.specs.Contents.{touches}
+use Rattle.model_disk.specs.Contents.{touches, byte_at, is_dirty}
 use Rattle.model_disk.specs.Joint.{JointCall, Disks, on, bytes_of, calls_on, content, Stands, MayLeaveAll, LeftSinceAll}
-use Rattle.model_disk.specs.Runs.{HasFailed, WritesOnly, IsWholeIn, HasWrite, IsMoment, IsSettled, AreSettled, Holds, HeldSince, HeldOn}
+use Rattle.model_disk.specs.Runs.{HasFailed, WritesOnly, IsWholeIn, HasWrite, IsMoment, IsSettled, AreSettled, Holds, HeldSince, HeldOn, IsUntorn}
 
 -- since the old moment these calls were made
 pub record IsRun (old new : Disks) (newer : List JointCall) : Type 0 where
@@ -60,6 +60,19 @@ HeldIsOldOrWritten =
     → (which at : ℕ) (bytes : List ℕ) → which < length old.starts → 0 < length bytes → IsWholeIn (HasWrite (calls_on which newer)) at (length bytes)
     → HeldOn old.starts earlier which at bytes → Stands old which at bytes ⊎ HasWrite (calls_on which newer) at bytes
 
+-- byte i is known, and wasn't written since the last flush
+pub record IsCleanAt (start : List ℕ) (calls : List Call) (i : ℕ) : Type 0 where
+  pub value : ℕ
+  pub known : byte_at start calls i ≡ Some value
+  pub clean : is_dirty calls i ≡ false
+
+-- what is known and wasn't written since the last flush isn't torn
+abbrev pub CleanIsUntorn : Type 0
+CleanIsUntorn =
+    (starts : List (List ℕ)) (calls : List JointCall) (images : List (List ℕ)) → MayLeaveAll starts calls images
+    → (which at : ℕ) (bytes : List ℕ) → which < length starts
+    → ((i : ℕ) → i < length bytes → IsCleanAt (bytes_of starts which) (calls_on which calls) (at + i)) → IsUntorn starts calls images which at bytes
+
 -- a moment of a run comes after the first of its calls, or after none
 pub record IsBegun (newer calls earlier : List JointCall) : Type 0 where
   pub later : List JointCall
@@ -78,5 +91,5 @@ pub record IsLeftAtMoment (starts : List (List ℕ)) (calls : List JointCall) (n
 
 abbrev pub CrashesAreAtMoments : Type 0
 CrashesAreAtMoments =
-    (starts : List (List ℕ)) (calls : List JointCall) (n : ℕ) (images : List (List ℕ)) → n ≤ length calls
-    → LeftSinceAll starts calls n images → IsLeftAtMoment starts calls n images
+    (starts : List (List ℕ)) (calls : List JointCall) (n : ℕ) (images : List (List ℕ)) → LeftSinceAll starts calls n images
+    → IsLeftAtMoment starts calls n images

@@ -47,14 +47,14 @@ HasWrite calls at bytes = Contains calls (Wrote at bytes) ⊎ Contains calls (Fa
 
 -- ---- which moments
 
--- These were the calls when there were n, or at some moment since. While a call runs a crash leaves no more than after it, so there are
--- no other moments.
+-- These are the calls, or were when there were n of them, or at a moment since. While a call runs a crash leaves no more than after it,
+-- so there are no other moments.
 pub record IsMoment (n : ℕ) (calls earlier : List JointCall) : Type 0 where
   pub newer : List JointCall
   pub is : calls ≡ newer ++ earlier
-  pub since : n ≤ length earlier
+  pub since : (earlier ≡ calls) ⊎ (n ≤ length earlier)
 
--- P holds of the calls at each moment since there were n
+-- P holds of the calls at each moment since there were n, and now
 abbrev pub EachSince : ℕ → (List JointCall → Type 0) → List JointCall → Type 0
 EachSince n P calls = (earlier : List JointCall) → IsMoment n calls earlier → P earlier
 
@@ -91,3 +91,12 @@ pub record HeldSince (start : List ℕ) (calls : List Call) (at : ℕ) (bytes : 
 -- the same at a place of that disk
 abbrev pub HeldOn : List (List ℕ) → List JointCall → ℕ → ℕ → List ℕ → Type 0
 HeldOn starts calls which at bytes = HeldSince (bytes_of starts which) (calls_on which calls) at bytes
+
+-- the images have these bytes at a place of that disk
+abbrev pub ShowsAt : List (List ℕ) → ℕ → ℕ → List ℕ → Type 0
+ShowsAt images which at bytes = (i : ℕ) → i < length bytes → slice_get (bytes_of images which) (at + i) ≡ slice_get bytes i
+
+-- What a crash tore at this place doesn't read as these bytes: they show there only if they were held. It is what bytes that carry
+-- their own digest may be trusted with.
+abbrev pub IsUntorn : List (List ℕ) → List JointCall → List (List ℕ) → ℕ → ℕ → List ℕ → Type 0
+IsUntorn starts calls images which at bytes = ShowsAt images which at bytes → HeldOn starts calls which at bytes

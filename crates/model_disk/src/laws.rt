@@ -1,6 +1,6 @@
 //! Laws of disks, as functions with no body: what each ensures follows from the definitions alone.
 ghost use Rattle.model_disk.specs.Laws.{WrittenBytesStand, OtherBytesStay, HonestReadsGive, PartsAreHonest, PartsOfOneAreHonest, FlushedBytesStay, UnwrittenDisksStay, WritesAddImages};
-ghost use Rattle.model_disk.specs.RunLaws.{UntouchedBytesStay, SettledBytesStay, FailuresAreSeen, FlushesSettle, IsHeld, SettledBytesAreHeld, HeldIsOldOrWritten, MomentsAreOfTheRun, CrashesAreAtMoments};
+ghost use Rattle.model_disk.specs.RunLaws.{UntouchedBytesStay, SettledBytesStay, FailuresAreSeen, FlushesSettle, IsHeld, CleanIsUntorn, SettledBytesAreHeld, HeldIsOldOrWritten, MomentsAreOfTheRun, CrashesAreAtMoments};
 
 /// What was written stands.
 pub fn written_bytes_stand()
@@ -58,6 +58,7 @@ pub fn flushes_settle()
 /// and writes the place whole or not at all, it is what stood as the run began, or one of its writes.
 pub fn held_bytes_are_known()
     ensures held { IsHeld }
+    ensures untorn { CleanIsUntorn }
     ensures settled { SettledBytesAreHeld }
     ensures in_a_run { HeldIsOldOrWritten }
 {}
