@@ -216,22 +216,23 @@ untouched_part later made which i untouched =
     ∙ sym (ap (list_any (λ call. touches call i)) (calls_on-append which later made)) ∙ untouched)
 
 pub settled_bytes_stay : SettledBytesStay
-settled_bytes_stay old new newer settled run earlier images moment left which i value inside untouched known =
+settled_bytes_stay old new newer run earlier images moment left which i value inside settled untouched known =
     let it = later_part newer old.calls moment.newer earlier (sym run.calls ∙ moment.is) (at_least old.calls newer new.calls earlier run.calls moment) in
     let P : List JointCall → Type 0 = λ them. IsUntouched them which i in
     let none = untouched_part moment.newer it.0 which i (subst P it.1 untouched) in
     let since = untouched_since (bytes_of old.starts which) (calls_on which it.0) (calls_on which old.calls) i none in
     let is : calls_on which earlier ≡ calls_on which it.0 ++ calls_on which old.calls =
     ap (calls_on which) it.2 ∙ calls_on-append which it.0 old.calls in
-    (left.each which inside).kept i value (ap (λ (them : List Call). is_dirty them i) is ∙ since.1 (settled which inside i))
+    (left.each which inside).kept i value (ap (λ (them : List Call). is_dirty them i) is ∙ since.1 (settled i))
     (ap (λ (them : List Call). byte_at (bytes_of old.starts which) them i) is ∙ since.0 ∙ known)
 
 -- the same of bytes that the run may not write
-pub off_is_left : (may : ℕ → ℕ → List ℕ → Type 0) (old new : Disks) (earlier : List JointCall) (images : List (List ℕ)) → AreSettled old → Makes may old new
+pub off_is_left : (may : ℕ → ℕ → List ℕ → Type 0) (old new : Disks) (earlier : List JointCall) (images : List (List ℕ)) → Makes may old new
     → IsMoment (length old.calls) new.calls earlier → MayLeaveAll old.starts earlier images
-    → (which i value : ℕ) → which < length old.starts → IsOff (may which) i → content old which i ≡ Some value → slice_get (bytes_of images which) i ≡ Some value
-off_is_left may old new earlier images settled makes moment left which i value inside off known =
-    settled_bytes_stay old new makes.newer settled (record { starts = makes.starts; calls = makes.calls }) earlier images moment left which i value inside
+    → (which i value : ℕ) → which < length old.starts → IsSettled (calls_on which old.calls) → IsOff (may which) i → content old which i ≡ Some value
+    → slice_get (bytes_of images which) i ≡ Some value
+off_is_left may old new earlier images makes moment left which i value inside settled off known =
+    settled_bytes_stay old new makes.newer (record { starts = makes.starts; calls = makes.calls }) earlier images moment left which i value inside settled
     (off_untouched (may which) (calls_on which makes.newer) i (writes_on may which makes.newer makes.writes) off) known
 
 -- ---- what was held since the last flush
@@ -468,11 +469,11 @@ was_held_in_run may start (FailedFlush ∷ newer) calls at bytes are whole some 
     was_held_in_run may start newer calls at bytes (All-tail (WritesOnly may) FailedFlush newer are) whole some settled held
 
 -- the same at a moment of a run of all disks, of what the run may write there
-pub held_in_run : (may : ℕ → ℕ → List ℕ → Type 0) (old new : Disks) (earlier : List JointCall) → AreSettled old → Makes may old new
+pub held_in_run : (may : ℕ → ℕ → List ℕ → Type 0) (old new : Disks) (earlier : List JointCall) → Makes may old new
     → IsMoment (length old.calls) new.calls earlier
-    → (which at : ℕ) (bytes : List ℕ) → which < length old.starts → 0 < length bytes → IsWholeIn (may which) at (length bytes)
+    → (which at : ℕ) (bytes : List ℕ) → IsSettled (calls_on which old.calls) → 0 < length bytes → IsWholeIn (may which) at (length bytes)
     → HeldOn old.starts earlier which at bytes → Stands old which at bytes ⊎ may which at bytes
-held_in_run may old new earlier settled makes moment which at bytes inside some whole held =
+held_in_run may old new earlier makes moment which at bytes settled some whole held =
     let start = bytes_of old.starts which in
     let it = later_part makes.newer old.calls moment.newer earlier (sym makes.calls ∙ moment.is) (at_least old.calls makes.newer new.calls earlier makes.calls moment) in
     let P : JointCall → Type 0 = λ made. WritesOnly (may made.which) made.call in
@@ -481,7 +482,7 @@ held_in_run may old new earlier settled makes moment which at bytes inside some 
     ap (calls_on which) it.2 ∙ calls_on-append which it.0 old.calls in
     let Q : List Call → Type 0 = λ them. HeldSince start them at bytes in
     let so : HeldSince start (calls_on which it.0 ++ calls_on which old.calls) at bytes = subst Q is held in
-    was_held_in_run (may which) start (calls_on which it.0) (calls_on which old.calls) at bytes (writes_on may which it.0 are) whole some (settled which inside)
+    was_held_in_run (may which) start (calls_on which it.0) (calls_on which old.calls) at bytes (writes_on may which it.0 are) whole some settled
     (was_held start (calls_on which it.0 ++ calls_on which old.calls) at bytes so)
 
 writes_itself : (calls : List Call) (call : Call) → Contains calls call → WritesOnly (HasWrite calls) call
@@ -511,10 +512,10 @@ all_its_own (made ∷ rest) =
     (λ which at bytes has. has_more_if (made.which == which) made.call (calls_on which rest) at bytes has) (all_its_own rest))
 
 pub held_is_old_or_written : HeldIsOldOrWritten
-held_is_old_or_written old new newer settled run earlier moment which at bytes inside some whole held =
+held_is_old_or_written old new newer run earlier moment which at bytes settled some whole held =
     let makes : Makes (λ disk. HasWrite (calls_on disk newer)) old new =
     record { starts = run.starts; newer = newer; calls = run.calls; writes = all_its_own newer } in
-    held_in_run (λ disk. HasWrite (calls_on disk newer)) old new earlier settled makes moment which at bytes inside some whole held
+    held_in_run (λ disk. HasWrite (calls_on disk newer)) old new earlier makes moment which at bytes settled some whole held
 
 -- ---- runs of one call, and loops of flushes
 

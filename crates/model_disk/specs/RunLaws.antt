@@ -4,7 +4,7 @@ use Rattle.std.specs.List.{list_any}
 use Rattle.model_disk.specs.Call.{Call, FailedWrite, Flushed, is_failed}
 use Rattle.model_disk.specs.Contents.{touches, byte_at, is_dirty}
 use Rattle.model_disk.specs.Joint.{JointCall, Disks, on, bytes_of, calls_on, content, Stands, MayLeaveAll, LeftSinceAll}
-use Rattle.model_disk.specs.Runs.{HasFailed, WritesOnly, IsWholeIn, HasWrite, IsMoment, IsSettled, AreSettled, Holds, HeldSince, HeldOn, IsUntorn}
+use Rattle.model_disk.specs.Runs.{HasFailed, WritesOnly, IsWholeIn, HasWrite, IsMoment, IsSettled, Holds, HeldSince, HeldOn, IsUntorn}
 
 -- since the old moment these calls were made
 pub record IsRun (old new : Disks) (newer : List JointCall) : Type 0 where
@@ -21,13 +21,13 @@ UntouchedBytesStay =
     (old new : Disks) (newer : List JointCall) → IsRun old new newer → (which i : ℕ) → IsUntouched newer which i
     → content new which i ≡ content old which i
 
--- where it began settled, a crash at any moment of it does so too
+-- where the disk was settled as it began, a crash at any moment of it does so too
 abbrev pub SettledBytesStay : Type 0
 SettledBytesStay =
-    (old new : Disks) (newer : List JointCall) → AreSettled old → IsRun old new newer
+    (old new : Disks) (newer : List JointCall) → IsRun old new newer
     → (earlier : List JointCall) (images : List (List ℕ)) → IsMoment (length old.calls) new.calls earlier → MayLeaveAll old.starts earlier images
-    → (which i value : ℕ) → which < length old.starts → IsUntouched newer which i → content old which i ≡ Some value
-    → slice_get (bytes_of images which) i ≡ Some value
+    → (which i value : ℕ) → which < length old.starts → IsSettled (calls_on which old.calls) → IsUntouched newer which i
+    → content old which i ≡ Some value → slice_get (bytes_of images which) i ≡ Some value
 
 -- a call that fails is seen in each run that has it
 pub record FailuresAreSeen : Type 0 where
@@ -51,13 +51,14 @@ abbrev pub SettledBytesAreHeld : Type 0
 SettledBytesAreHeld =
     (start : List ℕ) (calls : List Call) (at : ℕ) (bytes : List ℕ) → IsSettled calls → HeldSince start calls at bytes → Holds start calls at bytes
 
--- At a place that a run writes whole or not at all: where the run began settled, what was held there since the last flush, at any moment
--- of the run, stood there as it began, or is one of its writes.
+-- At a place that a run writes whole or not at all, on a disk that was settled as it began: what was held there since the last flush, at
+-- any moment of the run, stood there as it began, or is one of its writes.
 abbrev pub HeldIsOldOrWritten : Type 0
 HeldIsOldOrWritten =
-    (old new : Disks) (newer : List JointCall) → AreSettled old → IsRun old new newer
+    (old new : Disks) (newer : List JointCall) → IsRun old new newer
     → (earlier : List JointCall) → IsMoment (length old.calls) new.calls earlier
-    → (which at : ℕ) (bytes : List ℕ) → which < length old.starts → 0 < length bytes → IsWholeIn (HasWrite (calls_on which newer)) at (length bytes)
+    → (which at : ℕ) (bytes : List ℕ) → IsSettled (calls_on which old.calls) → 0 < length bytes
+    → IsWholeIn (HasWrite (calls_on which newer)) at (length bytes)
     → HeldOn old.starts earlier which at bytes → Stands old which at bytes ⊎ HasWrite (calls_on which newer) at bytes
 
 -- byte i is known, and wasn't written since the last flush

@@ -38,7 +38,8 @@ pub fn writes_add_images()
     ensures { WritesAddImages }
 {}
 
-/// A run of calls changes no byte that none of its writes has in its range, and where it began settled, no crash in it does.
+/// A run of calls changes no byte that none of its writes has in its range; nor does a crash at any moment of it, on a disk that
+/// was settled as the run began: on which nothing was written since the last flush.
 pub fn untouched_bytes_stay()
     ensures now { UntouchedBytesStay }
     ensures after_a_crash { SettledBytesStay }
@@ -54,8 +55,8 @@ pub fn flushes_settle()
     ensures { FlushesSettle }
 {}
 
-/// What stood at a place at some moment since the last flush. On a settled disk it is what stands; in a run that began settled,
-/// and writes the place whole or not at all, it is what stood as the run began, or one of its writes.
+/// What stood at a place at some moment since the last flush. On a settled disk it is what stands; in a run that began with the
+/// disk settled, and writes the place whole or not at all, it is what stood as the run began, or one of its writes.
 pub fn held_bytes_are_known()
     ensures held { IsHeld }
     ensures untorn { CleanIsUntorn }
