@@ -1,5 +1,5 @@
 -- What follows for runs of calls, from the definitions alone.
-use Rattle.std.specs.Prelude.{◌≡◌, ◌⊎◌, ◌≤◌, ◌<◌, ℕ, ◌+◌, true, false, List, ◌∷◌, ◌++◌, length, slice_get, Some, All, Contains}
+use Rattle.std.specs.Prelude.{◌≡◌, ◌⊎◌, ◌<◌, ℕ, ◌+◌, true, false, List, ◌∷◌, ◌++◌, length, slice_get, Some, All, Contains}
 use Rattle.std.specs.List.{list_any}
 use Rattle.model_disk.specs.Call.{Call, FailedWrite, Flushed, is_failed}
 use Rattle.model_disk.specs.Contents.{touches, byte_at, is_dirty}
