@@ -12,7 +12,7 @@ use Rattle.model_disk.proofs.LawLemmas.{same_bytes, untouched_since}
 use Rattle.model_disk.specs.Call.{Call, Read, FailedRead, Wrote, FailedWrite, Flushed, FailedFlush, read_call, write_call, flush_call}
 use Rattle.model_disk.specs.Contents.{covers, touches, byte_at, is_dirty}
 use Rattle.model_disk.specs.Joint.{JointCall, Disks, bytes_of, calls_on, on, content, Stands, MayLeaveAll}
-use Rattle.model_disk.specs.RunLaws.{IsHeld, CleanIsUntorn, IsUntouched, UntouchedBytesStay, SettledBytesStay, FlushesSettle, SettledBytesAreHeld, HeldIsOldOrWritten, MomentsAreOfTheRun, CrashesAreAtMoments}
+use Rattle.model_disk.specs.RunLaws.{passing, MakesIsKnown, IsHeld, CleanIsUntorn, IsUntouched, UntouchedBytesStay, SettledBytesStay, FlushesSettle, SettledBytesAreHeld, HeldIsOldOrWritten, MomentsAreOfTheRun, CrashesAreAtMoments}
 use Rattle.model_disk.specs.Runs.{WritesOnly, Makes, no_write, IsOff, IsWholeIn, HasWrite, IsMoment, EachSince, IsSettled, AreSettledBelow, AreSettled, Holds, last_done, HeldSince, HeldOn}
 
 -- ---- calls of one disk among all
@@ -570,3 +570,17 @@ AreSettled-kept old new makes settled which below i =
     let none = none_touched (calls_on which makes.newer) i (writes_on no_write which makes.newer makes.writes) in
     let since = untouched_since [] (calls_on which makes.newer) (calls_on which old.calls) i none in
     ap (λ (them : List Call). is_dirty them i) (ap (calls_on which) makes.calls ∙ calls_on-append which makes.newer old.calls) ∙ since.1 (settled which inside i)
+
+-- ---- runs whose writes pass a test
+
+pub makes_is_known : MakesIsKnown
+makes_is_known =
+    record {
+      none = λ test disks. Makes-none (passing test) disks;
+      joined = λ test old mid new first second. Makes-more (passing test) old mid new first second;
+      now = λ test old new which i makes off. off_content (passing test) old new which i makes off;
+      after_a_crash = λ test old new earlier images makes moment left which i value inside settled off known.
+          off_is_left (passing test) old new earlier images makes moment left which i value inside settled off known;
+      held = λ test old new earlier makes moment which at bytes settled some whole held.
+          held_in_run (passing test) old new earlier makes moment which at bytes settled some whole held;
+    }

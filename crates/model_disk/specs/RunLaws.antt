@@ -1,10 +1,10 @@
 -- What follows for runs of calls, from the definitions alone.
-use Rattle.std.specs.Prelude.{◌≡◌, ◌⊎◌, ◌<◌, ℕ, ◌+◌, true, false, List, ◌∷◌, ◌++◌, length, slice_get, Some, All, Contains}
+use Rattle.std.specs.Prelude.{◌≡◌, ◌⊎◌, ◌<◌, ℕ, ◌+◌, Bool, true, false, IsTrue, List, ◌∷◌, ◌++◌, length, slice_get, Some, All, Contains}
 use Rattle.std.specs.List.{list_any}
 use Rattle.model_disk.specs.Call.{Call, FailedWrite, Flushed, is_failed}
 use Rattle.model_disk.specs.Contents.{touches, byte_at, is_dirty}
 use Rattle.model_disk.specs.Joint.{JointCall, Disks, on, bytes_of, calls_on, content, Stands, MayLeaveAll, LeftSinceAll}
-use Rattle.model_disk.specs.Runs.{HasFailed, WritesOnly, IsWholeIn, HasWrite, IsMoment, IsSettled, Holds, HeldSince, HeldOn, IsUntorn}
+use Rattle.model_disk.specs.Runs.{HasFailed, WritesOnly, Makes, IsOff, IsWholeIn, HasWrite, IsMoment, IsSettled, Holds, HeldSince, HeldOn, IsUntorn}
 
 -- since the old moment these calls were made
 pub record IsRun (old new : Disks) (newer : List JointCall) : Type 0 where
@@ -94,3 +94,23 @@ abbrev pub CrashesAreAtMoments : Type 0
 CrashesAreAtMoments =
     (starts : List (List ℕ)) (calls : List JointCall) (n : ℕ) (images : List (List ℕ)) → LeftSinceAll starts calls n images
     → IsLeftAtMoment starts calls n images
+
+-- the writes that pass a test
+abbrev pub passing : (ℕ → ℕ → List ℕ → Bool) → ℕ → ℕ → List ℕ → Type 0
+passing test which at bytes = IsTrue (test which at bytes)
+
+-- What `Makes` says, for any test on writes: runs after one another are a run; bytes off the writes that pass stay, in a crash too; and what
+-- was held at a place stood there or passes.
+pub record MakesIsKnown : Type 0 where
+  pub none : (test : ℕ → ℕ → List ℕ → Bool) (disks : Disks) → Makes (passing test) disks disks
+  pub joined : (test : ℕ → ℕ → List ℕ → Bool) (old mid new : Disks) → Makes (passing test) old mid → Makes (passing test) mid new → Makes (passing test) old new
+  pub now : (test : ℕ → ℕ → List ℕ → Bool) (old new : Disks) (which i : ℕ) → Makes (passing test) old new → IsOff (passing test which) i
+      → content new which i ≡ content old which i
+  pub after_a_crash : (test : ℕ → ℕ → List ℕ → Bool) (old new : Disks) (earlier : List JointCall) (images : List (List ℕ)) → Makes (passing test) old new
+      → IsMoment (length old.calls) new.calls earlier → MayLeaveAll old.starts earlier images
+      → (which i value : ℕ) → which < length old.starts → IsSettled (calls_on which old.calls) → IsOff (passing test which) i
+      → content old which i ≡ Some value → slice_get (bytes_of images which) i ≡ Some value
+  pub held : (test : ℕ → ℕ → List ℕ → Bool) (old new : Disks) (earlier : List JointCall) → Makes (passing test) old new
+      → IsMoment (length old.calls) new.calls earlier
+      → (which at : ℕ) (bytes : List ℕ) → IsSettled (calls_on which old.calls) → 0 < length bytes → IsWholeIn (passing test which) at (length bytes)
+      → HeldOn old.starts earlier which at bytes → Stands old which at bytes ⊎ passing test which at bytes

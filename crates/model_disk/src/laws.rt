@@ -1,6 +1,6 @@
 //! Laws of disks, as functions with no body: what each ensures follows from the definitions alone.
 ghost use Rattle.model_disk.specs.Laws.{WrittenBytesStand, OtherBytesStay, HonestReadsGive, PartsAreHonest, PartsOfOneAreHonest, FlushedBytesStay, UnwrittenDisksStay, WritesAddImages};
-ghost use Rattle.model_disk.specs.RunLaws.{UntouchedBytesStay, SettledBytesStay, FailuresAreSeen, FlushesSettle, IsHeld, CleanIsUntorn, SettledBytesAreHeld, HeldIsOldOrWritten, MomentsAreOfTheRun, CrashesAreAtMoments};
+ghost use Rattle.model_disk.specs.RunLaws.{UntouchedBytesStay, SettledBytesStay, FailuresAreSeen, FlushesSettle, IsHeld, CleanIsUntorn, SettledBytesAreHeld, HeldIsOldOrWritten, MomentsAreOfTheRun, CrashesAreAtMoments, MakesIsKnown};
 
 /// What was written stands.
 pub fn written_bytes_stand()
@@ -68,4 +68,10 @@ pub fn held_bytes_are_known()
 pub fn moments_are_of_the_run()
     ensures moments { MomentsAreOfTheRun }
     ensures crashes { CrashesAreAtMoments }
+{}
+
+/// Of runs that make only writes which pass a test, whatever the test. For relations on writes, over which no clause can range,
+/// proofs/RunLemmas.antt has the same as lemmas.
+pub fn runs_write_what_they_may()
+    ensures { MakesIsKnown }
 {}
