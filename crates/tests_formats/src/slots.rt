@@ -1,4 +1,6 @@
 use block_pointer::{Block, Copies, Dva, Property};
+use model_disk::DiskArray;
+use std::alloc::Global;
 use std::test::*;
 use uberblock_ring::*;
 use words::seal;
@@ -135,4 +137,35 @@ fn the_claim_counts_before_the_group(rt: HostRuntime) {
     assert_eq!(rt; best(&[UBERBLOCK, later]), Some(later));
     assert_eq!(rt; best(&[later, UBERBLOCK, claimed]), Some(claimed));
     assert_eq!(rt; best(&[]), None);
+}
+
+/// The uberblock of the group behind.
+const NEXT: Uberblock = Uberblock {
+    group: 5,
+    root: Block { birth: 5, ..ROOT },
+    ..UBERBLOCK
+};
+
+/// How many slots a disk has, which one has the highest uberblock, and what is one group before, where
+/// the one is in its last label and the next in its second.
+fn two_slots(alloc: Global) -> Result<(usize, Option<usize>, Option<Uberblock>), Fail> {
+    let mut disks = DiskArray::in_memory(alloc, 1, 0x10_0000)?;
+    write_slot(&mut disks, 0, 3, &UBERBLOCK)?;
+    write_slot(&mut disks, 0, 1, &NEXT)?;
+    let slots = read_slots(alloc, &mut disks, 0)?;
+    Ok((slots.len(), highest(&slots), rewound(&slots, &NEXT, 1)))
+}
+
+#[test]
+fn slots_of_a_disk_are_written_and_read(rt: HostRuntime) -> Result<(), Fail> {
+    let found = two_slots(rt.alloc())?;
+    assert_eq!(rt; found, (512, Some(133), Some(UBERBLOCK)));
+    Ok(())
+}
+
+#[test]
+fn what_is_not_there_is_not_gone_back_to(rt: HostRuntime) {
+    let slots = [None, Some(UBERBLOCK)];
+    assert_eq!(rt; rewound(&slots, &NEXT, 2), None);
+    assert_eq!(rt; highest(&slots[..1]), None);
 }

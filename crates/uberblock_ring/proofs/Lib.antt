@@ -1,3 +1,4 @@
 pub mod Seams
 pub mod Fronts
 pub mod Ranks
+pub mod Scans

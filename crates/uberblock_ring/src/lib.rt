@@ -3,12 +3,14 @@
 //! seal.
 #![tactic(auto)]
 
+mod disks;
 mod ranking;
 mod refusal;
 mod slot;
 mod uberblock;
 
-pub use ranking::best;
+pub use disks::{DISK_SLOTS, read_slots, write_slot};
+pub use ranking::{best, highest, rewound};
 pub use refusal::Refusal;
 pub use slot::{SLOT_LEN, decode_slot, encode_slot, slot_of, slot_offset};
 pub use uberblock::Uberblock;

@@ -1,4 +1,4 @@
-ghost use Rattle.std.specs.Prelude.{◌≡◌, ◌+◌, ◌*◌, length, IfOk, IfErr};
+ghost use Rattle.std.specs.Prelude.{◌≡◌, ◌<◌, ◌+◌, ◌*◌, length, IfOk, IfErr};
 ghost use Rattle.uberblock_ring.specs.Uberblock.{Fits};
 ghost use Rattle.uberblock_ring.specs.Slot.{front_bytes, slot_bytes, slot_number, SpellsSlot};
 
@@ -11,7 +11,7 @@ use words::{bytes_at, check_seal, is_zero, put, put_words, seal, word_at, words_
 pub const SLOT_LEN: usize = 1024;
 
 /// How many slots a label has.
-const SLOTS: u64 = 128;
+pub const SLOTS: usize = 128;
 
 /// Where the first slot of a label begins, in bytes from the label's start.
 const RING_OFFSET: u64 = 131_072;
@@ -20,14 +20,22 @@ const RING_OFFSET: u64 = 131_072;
 pub fn slot_of(group: u64) -> usize
     ensures { result ≡ slot_number group }
 {
-    (group % SLOTS) as usize
+    (group % SLOTS as u64) as usize
 }
 
 /// Where the slot of a group begins, in bytes from the label's start.
 pub fn slot_offset(group: u64) -> u64
     ensures { result ≡ 131072 + 1024 * slot_number group }
 {
-    RING_OFFSET + 1024 * (group % SLOTS)
+    nth_offset(slot_of(group))
+}
+
+/// Where a slot begins, in bytes from the label's start.
+pub(crate) fn nth_offset(slot: usize) -> u64
+    requires { slot < 128 }
+    ensures { result ≡ 131072 + 1024 * slot }
+{
+    RING_OFFSET + (SLOT_LEN * slot) as u64
 }
 
 /// The one spelling of an uberblock.
