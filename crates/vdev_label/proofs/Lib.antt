@@ -1,12 +1,16 @@
 mod Adding
+mod Allowed
 mod Areas
 mod Children
+mod Configs
 mod Found
 mod Fronts
+mod GuidSums
 mod Labels
 mod Lookups
 mod Numbered
 mod ReadLabels
+mod Rooms
 mod Unique
 mod Vdevs
 mod WriteLabels

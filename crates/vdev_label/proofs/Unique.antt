@@ -52,7 +52,7 @@ vdev_same id v w same =
     let children : v.children ≡ w.children = numbered_same child_pairs child_same 0 v.children w.children (same_lists _ _ inner) in
     λ i. record { guid = guid i; parity = parity i; child_sectors = child_sectors i; slab_shift = slab_shift i; meta_slabs = meta_slabs i; children = children i }
 
-tree_same : (v w : List PlainVdev) → tree_pairs v ≡ tree_pairs w → v ≡ w
+pub tree_same : (v w : List PlainVdev) → tree_pairs v ≡ tree_pairs w → v ≡ w
 tree_same v w same =
     let inner = same_inners (lists_of (numbered vdev_pairs 0 v)) (lists_of (numbered vdev_pairs 0 w)) (ap (find (codes "children")) same) in
     numbered_same vdev_pairs vdev_same 0 v w (same_lists _ _ inner)

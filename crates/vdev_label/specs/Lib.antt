@@ -1,7 +1,10 @@
 pub mod Place
 pub mod Area
+pub mod Config
 pub mod Finds
+pub mod Limits
 pub mod Pairs
 pub mod Plain
 pub mod Reads
 pub mod Refuses
+pub mod Room

@@ -75,7 +75,7 @@ fn vdevs_lists(alloc: Global, vdevs: &[Vdev]) -> Result<Vec<NvList>, AllocError>
 }
 
 #[tactic(auto, using(crate::proofs::Adding::adding_tree))]
-fn tree_list(alloc: Global, config: &Config) -> Result<NvList, AllocError>
+pub(crate) fn tree_list(alloc: Global, config: &Config) -> Result<NvList, AllocError>
     ensures { IfOk result (λ pairs. list_view pairs ≡ tree_pairs (config_view config.now)) }
 {
     let vdevs = vdevs_lists(alloc, &config.vdevs)?;

@@ -2,10 +2,13 @@
 #![tactic(auto)]
 
 mod area;
+mod config;
 mod decoding;
 mod disks;
 mod encoding;
 mod label;
+mod laws;
+mod limits;
 mod pairs;
 mod place;
 mod reading;
@@ -15,5 +18,6 @@ pub use decoding::decode_area;
 pub use disks::{read_label, write_label};
 pub use encoding::encode_area;
 pub use label::{Config, Label, State, Vdev};
+pub use laws::{config_of_label_fits, relabeled_has_room};
 pub use place::{AREA_LEN, LABEL_LEN, LABELS, label_offset, labels_are_apart};
 pub use refusal::{Breach, Refusal};

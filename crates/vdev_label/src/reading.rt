@@ -80,7 +80,7 @@ fn vdevs_of(alloc: Global, lists: &[NvList]) -> Result<Vec<Vdev>, Refusal>
 
 /// A configuration, by its vdevs.
 #[tactic(auto, using(crate::proofs::Vdevs::tree_causes))]
-fn config_of(alloc: Global, pairs: &NvList) -> Result<Config, Refusal>
+pub(crate) fn config_of(alloc: Global, pairs: &NvList) -> Result<Config, Refusal>
     requires { FitsBehind [] (list_view pairs.now) }
     ensures found { IfOk result (λ config. list_view pairs.now ≡ tree_pairs (config_view config)) }
     ensures bad { IfErr result (λ refusal. Refuses refusal ((vdevs : List PlainVdev) → list_view pairs.now ≢ tree_pairs vdevs)) }

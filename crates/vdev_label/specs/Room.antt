@@ -1,0 +1,30 @@
+-- Which labels have room in their areas, and which configurations have an encoding.
+use Rattle.std.specs.Prelude.{ℕ, ◌≤◌, ◌^◌}
+use Rattle.vdev_label.specs.Area.{HasRoom}
+use Rattle.vdev_label.specs.Config.{FitsConfig}
+use Rattle.vdev_label.specs.Pairs.{label_pairs}
+use Rattle.vdev_label.specs.Plain.{PlainLabel}
+use Rattle.vdev_label.specs.declared.label.State.{State}
+
+-- a label with another claim, group and state
+abbrev pub relabeled : PlainLabel → ℕ → ℕ → State → PlainLabel
+relabeled l claim group state =
+    record {
+      claim = claim;
+      guid = l.guid;
+      name = l.name;
+      pool_guid = l.pool_guid;
+      state = state;
+      top_guid = l.top_guid;
+      group = group;
+      vdevs = l.vdevs;
+    }
+
+-- it has room where the label has
+abbrev pub RelabeledHasRoom : Type 0
+RelabeledHasRoom =
+    (l : PlainLabel) (claim group : ℕ) (state : State) → claim ≤ 2 ^ 62 → group ≤ 2 ^ 62 → HasRoom (label_pairs l) → HasRoom (label_pairs (relabeled l claim group state))
+
+-- the configuration of a label that has room has an encoding
+abbrev pub ConfigOfLabelFits : Type 0
+ConfigOfLabelFits = (l : PlainLabel) → HasRoom (label_pairs l) → FitsConfig l.vdevs

@@ -1,0 +1,15 @@
+//! Laws: which labels have room.
+ghost use Rattle.vdev_label.specs.Room.{RelabeledHasRoom, ConfigOfLabelFits};
+
+/// A law: where a label has room in its area, so has the same label with another claim, group or
+/// state.
+#[tactic(auto, using(crate::proofs::Rooms::relabeled_has_room))]
+pub fn relabeled_has_room()
+    ensures { RelabeledHasRoom }
+{}
+
+/// A law: the configuration of a label that has room has an encoding.
+#[tactic(auto, using(crate::proofs::Rooms::config_of_label_fits))]
+pub fn config_of_label_fits()
+    ensures { ConfigOfLabelFits }
+{}
