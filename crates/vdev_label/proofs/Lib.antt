@@ -1,5 +1,6 @@
 mod Adding
 mod Allowed
+mod Allows
 mod Areas
 mod Children
 mod Configs
@@ -11,6 +12,7 @@ mod Lookups
 mod Numbered
 mod ReadLabels
 mod Rooms
+mod Sizes
 mod Unique
 mod Vdevs
 mod WriteLabels

@@ -12,7 +12,7 @@ use Rattle.vdev_label.specs.Room.{relabeled}
 use Rattle.vdev_label.specs.declared.label.State.{State}
 use Rattle.vdev_label.specs.declared.label.State.TheVariants.{Active, Exported}
 
-number_length : (n : ℕ) → length (value_bytes (number n)) ≡ 12
+pub number_length : (n : ℕ) → length (value_bytes (number n)) ≡ 12
 number_length n = length-append (to_be_bytes w32 8) (to_be_bytes w64 n) ∙ refl
 
 pub pair_length : (name : List ℕ) (value : PlainValue) (others : PlainList)
@@ -37,7 +37,7 @@ same_pair name value others them same = record { same = omega (arith, pair_lengt
 pub spelling_length : (l : PlainList) → length (spelling l) ≡ 4 + length (pairs_bytes l)
 spelling_length l = length-append (to_be_bytes w32 (pair_count l)) (pairs_bytes l)
 
-state_fits : (s : State) → state_number s < 2 ^ 64
+pub state_fits : (s : State) → state_number s < 2 ^ 64
 state_fits Active = omega arith
 state_fits Exported = omega arith
 

@@ -1,8 +1,10 @@
 -- Which labels have room in their areas, and which configurations have an encoding.
-use Rattle.std.specs.Prelude.{ℕ, ◌≤◌, ◌^◌}
+use Rattle.std.specs.Prelude.{ℕ, ◌≤◌, ◌^◌, ◌∷◌}
+use Rattle.words.specs.Words.{AreWords}
 use Rattle.vdev_label.specs.Area.{HasRoom}
-use Rattle.vdev_label.specs.Config.{FitsConfig}
-use Rattle.vdev_label.specs.Pairs.{label_pairs}
+use Rattle.vdev_label.specs.Config.{FitsConfig, guids}
+use Rattle.vdev_label.specs.Limits.{IsAllowed}
+use Rattle.vdev_label.specs.Pairs.{label_pairs, InRange}
 use Rattle.vdev_label.specs.Plain.{PlainLabel}
 use Rattle.vdev_label.specs.declared.label.State.{State}
 
@@ -28,3 +30,8 @@ RelabeledHasRoom =
 -- the configuration of a label that has room has an encoding
 abbrev pub ConfigOfLabelFits : Type 0
 ConfigOfLabelFits = (l : PlainLabel) → HasRoom (label_pairs l) → FitsConfig l.vdevs
+
+-- a label of an allowed configuration, whose guids are words of 64 bits, has room
+abbrev pub AllowedHasRoom : Type 0
+AllowedHasRoom =
+    (l : PlainLabel) → InRange l → IsAllowed l.pool_guid l.vdevs → AreWords (l.guid ∷ l.top_guid ∷ l.pool_guid ∷ guids l.vdevs) → HasRoom (label_pairs l)

@@ -8,7 +8,7 @@ ghost use Rattle.vdev_label.specs.Area.{HasRoom, area_of};
 ghost use Rattle.vdev_label.specs.Pairs.{numbered, child_pairs, vdev_pairs, tree_pairs, label_pairs, state_number};
 ghost use Rattle.vdev_label.specs.Plain.{vdev_view, config_view, label_view};
 
-use crate::label::{Config, Label, State, Vdev};
+use crate::label::{Config, Label, SECTOR_SHIFT, State, Vdev};
 use crate::place::AREA_LEN;
 use nvlist::{NvList, Value};
 use std::alloc::{AllocError, Global};
@@ -52,7 +52,7 @@ fn vdev_list(alloc: Global, id: u64, vdev: &Vdev) -> Result<NvList, AllocError>
     let children = children_lists(alloc, &vdev.children)?;
     let kind = String::from_str(alloc, "raidz")?;
     let mut pairs = NvList::new(alloc);
-    add(&mut pairs, "ashift", Value::Number(9))?;
+    add(&mut pairs, "ashift", Value::Number(SECTOR_SHIFT))?;
     add(&mut pairs, "asize", Value::Number(vdev.child_sectors))?;
     add(&mut pairs, "children", Value::Lists(children))?;
     add(&mut pairs, "guid", Value::Number(vdev.guid))?;

@@ -31,6 +31,9 @@ pub struct Config {
     pub vdevs: Vec<Vdev>,
 }
 
+/// The size of a sector, as a power of two: 512 bytes.
+pub(crate) const SECTOR_SHIFT: u64 = 9;
+
 /// A RAID-Z vdev with sectors of 512 bytes. What its values are is not judged here.
 #[derive(Debug, Drop)]
 pub struct Vdev {

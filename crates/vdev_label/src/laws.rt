@@ -1,5 +1,5 @@
 //! Laws: which labels have room.
-ghost use Rattle.vdev_label.specs.Room.{RelabeledHasRoom, ConfigOfLabelFits};
+ghost use Rattle.vdev_label.specs.Room.{RelabeledHasRoom, ConfigOfLabelFits, AllowedHasRoom};
 
 /// A law: where a label has room in its area, so has the same label with another claim, group or
 /// state.
@@ -12,4 +12,9 @@ pub fn relabeled_has_room()
 #[tactic(auto, using(crate::proofs::Rooms::config_of_label_fits))]
 pub fn config_of_label_fits()
     ensures { ConfigOfLabelFits }
+{}
+
+/// A law: the label of every configuration within the limits has room in its area.
+pub fn allowed_has_room()
+    ensures { AllowedHasRoom }
 {}

@@ -5,27 +5,25 @@ ghost use Rattle.vdev_label.specs.Limits.{IsAllowedVdev, IsAllowed};
 ghost use Rattle.vdev_label.specs.Plain.{vdev_view, config_view};
 
 use crate::label::{Config, Vdev};
+use raidz_map::{MAX_CHILDREN, MAX_PARITY};
 use std::alloc::{AllocError, Global};
 
 /// The most vdevs that a pool may have.
 pub const MAX_VDEVS: usize = 8;
 
-/// The most parities, and the most disks, that a vdev may have.
-pub const MAX_PARITY: u64 = 2;
-
-pub const MAX_CHILDREN: u64 = 32;
-
-/// The sectors of a metaslab, as a power of two, are from the first to the second.
+/// The sectors of a metaslab, as a power of two: from this one on.
 pub const MIN_SLAB_SHIFT: u64 = 12;
 
+/// And up to this one.
 pub const MAX_SLAB_SHIFT: u64 = 20;
 
 /// The most metaslabs that a vdev may have.
 pub const MAX_SLABS: u64 = 1024;
 
-/// The sectors for blocks of the smallest disk, of 8 MiB, and of the largest, of 2^43 bytes.
+/// The sectors for blocks of the smallest disk, of 8 MiB.
 pub const MIN_CHILD_SECTORS: u64 = 7168;
 
+/// And of the largest, of 2^43 bytes.
 pub const MAX_CHILD_SECTORS: u64 = (1 << 34) - 9216;
 
 /// The sectors of a label, of which a disk has a whole number.
@@ -35,12 +33,13 @@ fn is_allowed_vdev(vdev: &Vdev) -> bool
     ensures { IsTrue result ↔ IsAllowedVdev (vdev_view vdev.now) }
 {
     let children = vdev.children.len() as u64;
-    let has_columns = 1 <= vdev.parity && vdev.parity <= MAX_PARITY && vdev.parity < children;
+    let has_parity = 1 <= vdev.parity && vdev.parity <= u64::from(MAX_PARITY);
+    let has_data = vdev.parity < children && children <= u64::from(MAX_CHILDREN);
     let sectors = vdev.child_sectors;
     let has_sectors = MIN_CHILD_SECTORS <= sectors && sectors <= MAX_CHILD_SECTORS;
     let shift = vdev.slab_shift;
     let has_shift = MIN_SLAB_SHIFT <= shift && shift <= MAX_SLAB_SHIFT;
-    if !has_columns || children > MAX_CHILDREN || !has_sectors || !has_shift {
+    if !has_parity || !has_data || !has_sectors || !has_shift {
         return false;
     }
     let slabs = sectors * children / (1 << shift);

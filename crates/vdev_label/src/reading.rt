@@ -10,7 +10,7 @@ ghost use Rattle.vdev_label.specs.Pairs.{numbered, child_pairs, vdev_pairs, tree
 ghost use Rattle.vdev_label.specs.Plain.{PlainVdev, PlainLabel, vdev_view, config_view, label_view};
 ghost use Rattle.vdev_label.specs.Refuses.{Refuses};
 
-use crate::label::{Config, Label, State, Vdev};
+use crate::label::{Config, Label, SECTOR_SHIFT, State, Vdev};
 use crate::pairs::{BAD_PAIRS, count_of, list_of, lists_of, number_of, text_of};
 use crate::refusal::Refusal;
 use nvlist::NvList;
@@ -53,7 +53,7 @@ fn vdev_of(alloc: Global, id: u64, pairs: &NvList) -> Result<Vdev, Refusal>
     let shift = number_of(pairs, "ashift")?;
     let own = number_of(pairs, "id")?;
     let kind = text_of(pairs, "type")?;
-    if shift != 9 || own != id || kind != "raidz" || pairs.len() != 9 {
+    if shift != SECTOR_SHIFT || own != id || kind != "raidz" || pairs.len() != 9 {
         return Err(BAD_PAIRS);
     }
     Ok(Vdev {

@@ -17,7 +17,7 @@ pub returns-clause-found : goal.returns-clause-found
 returns-clause-found c =
     let l = list_view c.args.pairs.now in
     let shift : find (codes "ashift") l ≡ Some (number 9) =
-    let nine : c.in_ok-shift.shift ≡ 9 = grind (arith, c.if-shift-ne9.false) in c.in_ok-shift.ensures.found ∙ ap (λ n. Some (number n)) nine in
+    let nine : c.in_ok-shift.shift ≡ 9 = grind (arith, c.if-shift-ne-SECTOR_SHIFT.false) in c.in_ok-shift.ensures.found ∙ ap (λ n. Some (number n)) nine in
     let own : find (codes "id") l ≡ Some (number c.args.id) =
     let same : c.in_ok-own.own ≡ c.args.id = grind (arith, c.if-own-id.false) in c.in_ok-own.ensures.found ∙ ap (λ n. Some (number n)) same in
     let kind : find (codes "type") l ≡ Some (text (codes "raidz")) =
