@@ -99,8 +99,10 @@ impl Indirect {
         // What is found is spelled so, each byte of it.
         ensures found { IfOk result (SpellsIndirect bytes.now) }
         // What is spelled so is found, while there is memory.
-        ensures only { (pointers : List BlockPtr) → SpellsIndirect bytes.now pointers → IfOk result (λ block. block ≡ pointers) }
-        ensures bad { IsErrOf result Refusal.BadPointer → (pointers : List BlockPtr) → ¬ SpellsIndirect bytes.now pointers }
+        ensures only { (pointers : List BlockPtr) → SpellsIndirect bytes.now pointers
+            → IfOk result (λ block. block ≡ pointers) }
+        ensures bad { IsErrOf result Refusal.BadPointer → (pointers : List BlockPtr)
+            → ¬ SpellsIndirect bytes.now pointers }
     {
         let mut pointers = Vec::with_capacity(alloc, POINTERS)?;
         let mut rest = bytes;
@@ -129,7 +131,8 @@ fn fill_of(pointer: &BlockPtr) -> u64
 fn first_pointer(bytes: &[u8]) -> Result<(BlockPtr, &[u8]), Refusal>
     ensures fits { IfOk result (λ found. FitsPointer found.0) }
     ensures found { IfOk result (λ found. bytes.now ≡ spelling found.0 ++ found.1.now) }
-    ensures only { (pointer : BlockPtr) (rest : List ℕ) → FitsPointer pointer → bytes.now ≡ spelling pointer ++ rest
+    ensures only { (pointer : BlockPtr) (rest : List ℕ) → FitsPointer pointer
+        → bytes.now ≡ spelling pointer ++ rest
         → IsOkAnd result (λ found. (found.0 ≡ pointer) × (found.1.now ≡ rest)) }
     ensures refused { IfErr result (λ refusal. refusal ≡ Refusal.BadPointer) }
 {

@@ -93,7 +93,8 @@ impl NvList {
 
     /// The list of that name, where there is one.
     pub fn list(&self, name: &str) -> Option<&NvList>
-        ensures { option_map (λ l. list_view l.now) result ≡ list_in (find name.now (list_view self.now)) }
+        ensures { option_map (λ l. list_view l.now) result
+            ≡ list_in (find name.now (list_view self.now)) }
     {
         match value_of(&self.pairs, name)? {
             Value::List(list) => Some(list),
@@ -103,7 +104,8 @@ impl NvList {
 
     /// The lists of that name, where there are any.
     pub fn lists(&self, name: &str) -> Option<&[NvList]>
-        ensures { option_map (λ ls. lists_view ls.now) result ≡ lists_in (find name.now (list_view self.now)) }
+        ensures { option_map (λ ls. lists_view ls.now) result
+            ≡ lists_in (find name.now (list_view self.now)) }
     {
         match value_of(&self.pairs, name)? {
             Value::Lists(lists) => Some(lists.as_slice()),
@@ -115,9 +117,11 @@ impl NvList {
     /// or that does not stand behind the last one in byte order, is refused with `BadLabel`. A refusal
     /// leaves the list as it was.
     pub fn push(&mut self, name: &str, value: Value) -> Result<(), Refusal>
-        ensures ok { OnOk result (list_view self.new ≡ with_pair (list_view self.old) name.now (value_view value)) }
+        ensures ok { OnOk result (list_view self.new
+            ≡ with_pair (list_view self.old) name.now (value_view value)) }
         ensures named { OnOk result (IsNameBehind (last_name (list_view self.old)) name.now) }
-        ensures bad { IsErrOf result Refusal.BadLabel → ¬ IsNameBehind (last_name (list_view self.old)) name.now }
+        ensures bad { IsErrOf result Refusal.BadLabel
+            → ¬ IsNameBehind (last_name (list_view self.old)) name.now }
         ensures err { OnErr result (list_view self.new ≡ list_view self.old) }
     {
         if name.len() > MAX_NAME_LEN

@@ -30,7 +30,8 @@ pub fn write_slot<D: Disk + Drop>(
     requires fits { Fits uberblock.now }
     ensures starts { disks.new.starts ≡ disks.old.starts }
     ensures call { let at = slot_at (size_of disks.old which) label (slot_number uberblock.now.group) in
-        disks.new.calls ≡ on which (write_call result at (slot_bytes uberblock.now)) ∷ disks.old.calls }
+        disks.new.calls ≡ on which (write_call result at (slot_bytes uberblock.now))
+        ∷ disks.old.calls }
 {
     let at = label_offset(disks.size(which), label) + slot_offset(uberblock.group);
     disks.write_at(which, at, &encode_slot(uberblock))

@@ -45,7 +45,8 @@ pub fn highest(slots: &[Option<Uberblock>]) -> Option<usize>
 pub fn rewound(slots: &[Option<Uberblock>], from: &Uberblock, groups: u64) -> Option<Uberblock>
     ensures some { IfSome result (IsRewound from.now groups) }
     ensures there { IfSome result (λ u. (i : ℕ) × Has slots.now i u) }
-    ensures none { IfNone result ((i : ℕ) (u : Uberblock) → Has slots.now i u → ¬ IsRewound from.now groups u) }
+    ensures none { IfNone result ((i : ℕ) (u : Uberblock) → Has slots.now i u
+        → ¬ IsRewound from.now groups u) }
 {
     for i in 0..slots.len() {
         if let Some(u) = slots[i] {

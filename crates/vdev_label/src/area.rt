@@ -2,7 +2,7 @@
 ghost use Rattle.std.specs.Prelude.{◌≡◌, ◌≢◌, ◌⊎◌, ◌≤◌, ◌<◌, ◌+◌, ◌*◌, ◌∷◌, ℕ, length, IfErr, OnOk};
 ghost use Rattle.model_disk.specs.Call.{read_call, write_call};
 ghost use Rattle.model_disk.specs.Joint.{on, bytes_of, content, Stands};
-ghost use Rattle.vdev_label.specs.Place.{area_at};
+ghost use Rattle.vdev_label.specs.Reads.{place_of};
 
 use crate::place::{AREA_LEN, LABEL_LEN, LABELS, area_offset};
 use crate::refusal::Refusal;
@@ -20,7 +20,8 @@ pub(crate) fn read_area<D: Disk + Drop>(
     requires size { LABELS * LABEL_LEN ≤ length (bytes_of disks.old.starts which) }
     requires len { length area.old ≡ AREA_LEN }
     ensures starts { disks.new.starts ≡ disks.old.starts }
-    ensures calls { disks.new.calls ≡ on which (read_call result (area_at (length (bytes_of disks.old.starts which)) number) area.new) ∷ disks.old.calls }
+    ensures calls { disks.new.calls
+        ≡ on which (read_call result (place_of disks.old which number) area.new) ∷ disks.old.calls }
     ensures len { length area.new ≡ AREA_LEN }
     ensures fault { IfErr result (λ refusal. refusal ≡ Refusal.DiskFault) }
 {
@@ -43,7 +44,8 @@ pub(crate) fn write_area<D: Disk + Drop>(
     requires size { LABELS * LABEL_LEN ≤ length (bytes_of disks.old.starts which) }
     requires len { length area.now ≡ AREA_LEN }
     ensures starts { disks.new.starts ≡ disks.old.starts }
-    ensures calls { disks.new.calls ≡ on which (write_call result (area_at (length (bytes_of disks.old.starts which)) number) area.now) ∷ disks.old.calls }
+    ensures calls { disks.new.calls
+        ≡ on which (write_call result (place_of disks.old which number) area.now) ∷ disks.old.calls }
     ensures fault { IfErr result (λ refusal. refusal ≡ Refusal.DiskFault) }
 {
     let at = area_offset(disks.size(which), number);

@@ -22,7 +22,8 @@ use std::alloc::{AllocError, Global};
 fn whole_list(alloc: Global, bytes: &[u8]) -> Result<NvList, Refusal>
     ensures found { IfOk result (λ list. Spells bytes.now (list_view list)) }
     ensures only { (l : PlainList) → Spells bytes.now l → FindsList result l }
-    ensures bad { IfErr result (λ refusal. RefusesList refusal ((l : PlainList) → ¬ Spells bytes.now l)) }
+    ensures bad { IfErr result (λ refusal. RefusesList refusal ((l : PlainList)
+        → ¬ Spells bytes.now l)) }
 {
     let (list, len) = match nvlist::decode(alloc, bytes) {
         Ok(found) => found,
@@ -50,7 +51,8 @@ impl Config {
     /// The configuration that the bytes encode. What its values are is not judged here.
     pub fn decode(alloc: Global, bytes: &[u8]) -> Result<Config, Refusal>
         ensures found { IfOk result (λ config. SpellsConfig bytes.now (config_view config)) }
-        ensures only { (vdevs : List PlainVdev) → SpellsConfig bytes.now vdevs → FindsConfig result vdevs }
+        ensures only { (vdevs : List PlainVdev) → SpellsConfig bytes.now vdevs
+            → FindsConfig result vdevs }
         ensures cause { IfErr result (IsConfigCause bytes.now) }
     {
         let list = whole_list(alloc, bytes)?;

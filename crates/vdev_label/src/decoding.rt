@@ -22,7 +22,8 @@ fn front_list(alloc: Global, front: &[u8]) -> Result<NvList, Refusal>
     ensures room { IfOk result (λ list. HasRoom (list_view list)) }
     ensures found { IfOk result (λ list. front.now ≡ front_of (list_view list)) }
     ensures only { (l : PlainList) → HasRoom l → front.now ≡ front_of l → FindsList result l }
-    ensures bad { IfErr result (λ refusal. RefusesList refusal ((l : PlainList) → HasRoom l → front.now ≢ front_of l)) }
+    ensures bad { IfErr result (λ refusal. RefusesList refusal ((l : PlainList) → HasRoom l
+        → front.now ≢ front_of l)) }
 {
     let (list, len) = match nvlist::decode(alloc, front) {
         Ok(found) => found,

@@ -17,7 +17,8 @@ use words::seal;
 /// Adds a pair at the end.
 fn add(pairs: &mut NvList, name: &str, value: Value) -> Result<(), AllocError>
     requires { IsNameBehind (last_name (list_view pairs.old)) name.now }
-    ensures { OnOk result (list_view pairs.new ≡ with_pair (list_view pairs.old) name.now (value_view value)) }
+    ensures { OnOk result (list_view pairs.new
+        ≡ with_pair (list_view pairs.old) name.now (value_view value)) }
 {
     match pairs.push(name, value) {
         Ok(()) => Ok(()),
@@ -36,7 +37,8 @@ fn child_list(alloc: Global, id: u64, guid: u64) -> Result<NvList, AllocError>
 }
 
 fn children_lists(alloc: Global, children: &[u64]) -> Result<Vec<NvList>, AllocError>
-    ensures { IfOk result (λ found. lists_view found.items ≡ plain_lists (numbered child_pairs 0 children.now)) }
+    ensures { IfOk result (λ found. lists_view found.items
+        ≡ plain_lists (numbered child_pairs 0 children.now)) }
 {
     let mut found = Vec::new(alloc);
     for id in 0..children.len() {
@@ -65,7 +67,8 @@ fn vdev_list(alloc: Global, id: u64, vdev: &Vdev) -> Result<NvList, AllocError>
 }
 
 fn vdevs_lists(alloc: Global, vdevs: &[Vdev]) -> Result<Vec<NvList>, AllocError>
-    ensures { IfOk result (λ found. lists_view found.items ≡ plain_lists (numbered vdev_pairs 0 (map vdev_view vdevs.now))) }
+    ensures { IfOk result (λ found. lists_view found.items
+        ≡ plain_lists (numbered vdev_pairs 0 (map vdev_view vdevs.now))) }
 {
     let mut found = Vec::new(alloc);
     for id in 0..vdevs.len() {

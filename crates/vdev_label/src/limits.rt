@@ -75,7 +75,8 @@ fn is_new(guids: &[u64], i: usize) -> bool
 
 /// Whether no guid is 0, and no two are equal.
 fn are_guids(guids: &[u64]) -> bool
-    ensures { IsTrue result ↔ (All (λ guid. guid ≢ 0) guids.now × AllPairs (λ a b. a ≢ b) guids.now) }
+    ensures { IsTrue result ↔ (All (λ guid. guid ≢ 0) guids.now
+        × AllPairs (λ a b. a ≢ b) guids.now) }
 {
     for i in 0..guids.len() {
         if guids[i] == 0 || !is_new(guids, i) {
@@ -104,7 +105,8 @@ impl Config {
     /// 1,024 a vdev, of which at least one is for the meta region and one is not; and all guids, the
     /// pool's too, other than 0 and different.
     pub fn is_allowed(&self, alloc: Global, pool_guid: u64) -> Result<bool, AllocError>
-        ensures { IfOk result (λ allowed. IsTrue allowed ↔ IsAllowed pool_guid (config_view self.now)) }
+        ensures { IfOk result (λ allowed. IsTrue allowed
+            ↔ IsAllowed pool_guid (config_view self.now)) }
     {
         let count = self.vdevs.len();
         if count == 0 || count > MAX_VDEVS || !are_allowed(&self.vdevs) {

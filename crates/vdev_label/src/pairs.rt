@@ -16,7 +16,8 @@ pub(crate) const BAD_PAIRS: Refusal = Refusal::BadLabel(Breach::Pairs);
 #[tactic(auto, using(crate::proofs::Lookups::is_number, crate::proofs::Lookups::no_number))]
 pub(crate) fn number_of(pairs: &NvList, name: &str) -> Result<u64, Refusal>
     ensures found { IfOk result (λ n. find name.now (list_view pairs.now) ≡ Some (number n)) }
-    ensures bad { IfErr result (λ refusal. Refuses refusal ((n : ℕ) → find name.now (list_view pairs.now) ≢ Some (number n))) }
+    ensures bad { IfErr result (λ refusal. Refuses refusal ((n : ℕ)
+        → find name.now (list_view pairs.now) ≢ Some (number n))) }
 {
     match pairs.number(name) {
         Some(n) => Ok(n),
@@ -28,7 +29,8 @@ pub(crate) fn number_of(pairs: &NvList, name: &str) -> Result<u64, Refusal>
 pub(crate) fn count_of(pairs: &NvList, name: &str) -> Result<u64, Refusal>
     ensures found { IfOk result (λ n. find name.now (list_view pairs.now) ≡ Some (number n)) }
     ensures count { IfOk result (λ n. IsCount n) }
-    ensures bad { IfErr result (λ refusal. Refuses refusal ((n : ℕ) → IsCount n → find name.now (list_view pairs.now) ≢ Some (number n))) }
+    ensures bad { IfErr result (λ refusal. Refuses refusal ((n : ℕ) → IsCount n
+        → find name.now (list_view pairs.now) ≢ Some (number n))) }
 {
     let n = number_of(pairs, name)?;
     if n == 0 || LAST_COUNT < n {
@@ -40,7 +42,8 @@ pub(crate) fn count_of(pairs: &NvList, name: &str) -> Result<u64, Refusal>
 #[tactic(auto, using(crate::proofs::Lookups::is_text, crate::proofs::Lookups::no_text))]
 pub(crate) fn text_of<'a>(pairs: &'a NvList, name: &str) -> Result<&'a str, Refusal>
     ensures found { IfOk result (λ t. find name.now (list_view pairs.now) ≡ Some (text t.now)) }
-    ensures bad { IfErr result (λ refusal. Refuses refusal ((t : List ℕ) → find name.now (list_view pairs.now) ≢ Some (text t))) }
+    ensures bad { IfErr result (λ refusal. Refuses refusal ((t : List ℕ)
+        → find name.now (list_view pairs.now) ≢ Some (text t))) }
 {
     match pairs.text(name) {
         Some(t) => Ok(t),
@@ -50,8 +53,10 @@ pub(crate) fn text_of<'a>(pairs: &'a NvList, name: &str) -> Result<&'a str, Refu
 
 #[tactic(auto, using(crate::proofs::Lookups::is_list, crate::proofs::Lookups::no_list))]
 pub(crate) fn list_of<'a>(pairs: &'a NvList, name: &str) -> Result<&'a NvList, Refusal>
-    ensures found { IfOk result (λ l. find name.now (list_view pairs.now) ≡ Some (list (list_view l.now))) }
-    ensures bad { IfErr result (λ refusal. Refuses refusal ((l : PlainList) → find name.now (list_view pairs.now) ≢ Some (list l))) }
+    ensures found { IfOk result (λ l. find name.now (list_view pairs.now)
+        ≡ Some (list (list_view l.now))) }
+    ensures bad { IfErr result (λ refusal. Refuses refusal ((l : PlainList)
+        → find name.now (list_view pairs.now) ≢ Some (list l))) }
 {
     match pairs.list(name) {
         Some(l) => Ok(l),
@@ -61,8 +66,10 @@ pub(crate) fn list_of<'a>(pairs: &'a NvList, name: &str) -> Result<&'a NvList, R
 
 #[tactic(auto, using(crate::proofs::Lookups::is_lists, crate::proofs::Lookups::no_lists_there))]
 pub(crate) fn lists_of<'a>(pairs: &'a NvList, name: &str) -> Result<&'a [NvList], Refusal>
-    ensures found { IfOk result (λ ls. find name.now (list_view pairs.now) ≡ Some (lists (lists_view ls.now))) }
-    ensures bad { IfErr result (λ refusal. Refuses refusal ((ls : PlainLists) → find name.now (list_view pairs.now) ≢ Some (lists ls))) }
+    ensures found { IfOk result (λ ls. find name.now (list_view pairs.now)
+        ≡ Some (lists (lists_view ls.now))) }
+    ensures bad { IfErr result (λ refusal. Refuses refusal ((ls : PlainLists)
+        → find name.now (list_view pairs.now) ≢ Some (lists ls))) }
 {
     match pairs.lists(name) {
         Some(ls) => Ok(ls),

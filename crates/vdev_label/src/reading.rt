@@ -21,7 +21,8 @@ use std::alloc::Global;
 fn child_of(id: u64, pairs: &NvList) -> Result<u64, Refusal>
     requires { FitsBehind [] (list_view pairs.now) }
     ensures found { IfOk result (λ guid. list_view pairs.now ≡ child_pairs id guid) }
-    ensures bad { IfErr result (λ refusal. Refuses refusal ((guid : ℕ) → list_view pairs.now ≢ child_pairs id guid)) }
+    ensures bad { IfErr result (λ refusal. Refuses refusal ((guid : ℕ)
+        → list_view pairs.now ≢ child_pairs id guid)) }
 {
     let guid = number_of(pairs, "guid")?;
     let own = number_of(pairs, "id")?;
@@ -33,8 +34,10 @@ fn child_of(id: u64, pairs: &NvList) -> Result<u64, Refusal>
 
 fn children_of(alloc: Global, lists: &[NvList]) -> Result<Vec<u64>, Refusal>
     requires { FitsLists (lists_view lists.now) }
-    ensures found { IfOk result (λ guids. lists_view lists.now ≡ plain_lists (numbered child_pairs 0 guids.items)) }
-    ensures bad { IfErr result (λ refusal. Refuses refusal ((guids : List ℕ) → lists_view lists.now ≢ plain_lists (numbered child_pairs 0 guids))) }
+    ensures found { IfOk result (λ guids. lists_view lists.now
+        ≡ plain_lists (numbered child_pairs 0 guids.items)) }
+    ensures bad { IfErr result (λ refusal. Refuses refusal ((guids : List ℕ)
+        → lists_view lists.now ≢ plain_lists (numbered child_pairs 0 guids))) }
 {
     let mut guids = Vec::new(alloc);
     for id in 0..lists.len() {
@@ -48,7 +51,8 @@ fn children_of(alloc: Global, lists: &[NvList]) -> Result<Vec<u64>, Refusal>
 fn vdev_of(alloc: Global, id: u64, pairs: &NvList) -> Result<Vdev, Refusal>
     requires { FitsBehind [] (list_view pairs.now) }
     ensures found { IfOk result (λ v. list_view pairs.now ≡ vdev_pairs id (vdev_view v)) }
-    ensures bad { IfErr result (λ refusal. Refuses refusal ((v : PlainVdev) → list_view pairs.now ≢ vdev_pairs id v)) }
+    ensures bad { IfErr result (λ refusal. Refuses refusal ((v : PlainVdev)
+        → list_view pairs.now ≢ vdev_pairs id v)) }
 {
     let shift = number_of(pairs, "ashift")?;
     let own = number_of(pairs, "id")?;
@@ -68,8 +72,10 @@ fn vdev_of(alloc: Global, id: u64, pairs: &NvList) -> Result<Vdev, Refusal>
 
 fn vdevs_of(alloc: Global, lists: &[NvList]) -> Result<Vec<Vdev>, Refusal>
     requires { FitsLists (lists_view lists.now) }
-    ensures found { IfOk result (λ vdevs. lists_view lists.now ≡ plain_lists (numbered vdev_pairs 0 (map vdev_view vdevs.items))) }
-    ensures bad { IfErr result (λ refusal. Refuses refusal ((vdevs : List PlainVdev) → lists_view lists.now ≢ plain_lists (numbered vdev_pairs 0 vdevs))) }
+    ensures found { IfOk result (λ vdevs. lists_view lists.now
+        ≡ plain_lists (numbered vdev_pairs 0 (map vdev_view vdevs.items))) }
+    ensures bad { IfErr result (λ refusal. Refuses refusal ((vdevs : List PlainVdev)
+        → lists_view lists.now ≢ plain_lists (numbered vdev_pairs 0 vdevs))) }
 {
     let mut vdevs = Vec::new(alloc);
     for id in 0..lists.len() {
@@ -83,7 +89,8 @@ fn vdevs_of(alloc: Global, lists: &[NvList]) -> Result<Vec<Vdev>, Refusal>
 pub(crate) fn config_of(alloc: Global, pairs: &NvList) -> Result<Config, Refusal>
     requires { FitsBehind [] (list_view pairs.now) }
     ensures found { IfOk result (λ config. list_view pairs.now ≡ tree_pairs (config_view config)) }
-    ensures bad { IfErr result (λ refusal. Refuses refusal ((vdevs : List PlainVdev) → list_view pairs.now ≢ tree_pairs vdevs)) }
+    ensures bad { IfErr result (λ refusal. Refuses refusal ((vdevs : List PlainVdev)
+        → list_view pairs.now ≢ tree_pairs vdevs)) }
 {
     if pairs.len() != 1 {
         return Err(BAD_PAIRS);
@@ -122,8 +129,10 @@ fn is_name_byte(b: u8) -> bool
 }
 
 fn state_of(pairs: &NvList) -> Result<State, Refusal>
-    ensures found { IfOk result (λ state. find (codes "state") (list_view pairs.now) ≡ Some (number (state_number state))) }
-    ensures bad { IfErr result (λ refusal. Refuses refusal ((state : State) → find (codes "state") (list_view pairs.now) ≢ Some (number (state_number state)))) }
+    ensures found { IfOk result (λ state. find (codes "state") (list_view pairs.now)
+        ≡ Some (number (state_number state))) }
+    ensures bad { IfErr result (λ refusal. Refuses refusal ((state : State)
+        → find (codes "state") (list_view pairs.now) ≢ Some (number (state_number state)))) }
 {
     match number_of(pairs, "state")? {
         0 => Ok(State::Active),
@@ -138,7 +147,8 @@ pub(crate) fn label_of(alloc: Global, pairs: &NvList) -> Result<Label, Refusal>
     requires { FitsBehind [] (list_view pairs.now) }
     ensures found { IfOk result (λ label. list_view pairs.now ≡ label_pairs (label_view label)) }
     ensures in_range { IfOk result (λ label. InRange (label_view label)) }
-    ensures bad { IfErr result (λ refusal. Refuses refusal ((label : PlainLabel) → InRange label → list_view pairs.now ≢ label_pairs label)) }
+    ensures bad { IfErr result (λ refusal. Refuses refusal ((label : PlainLabel) → InRange label
+        → list_view pairs.now ≢ label_pairs label)) }
 {
     let version = number_of(pairs, "version")?;
     let name = text_of(pairs, "name")?;

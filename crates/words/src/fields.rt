@@ -19,7 +19,8 @@ pub fn bytes_at<const N: usize>(block: &[u8], at: usize) -> [u8; N]
 pub fn word_at(block: &[u8], at: usize) -> u64
     requires { at + 8 ≤ length block.now }
     ensures found { take 8 (drop at block.now) ≡ word_bytes (result ∷ []) }
-    ensures only { (word : ℕ) → word < 2 ^ 64 → take 8 (drop at block.now) ≡ word_bytes (word ∷ []) → result ≡ word }
+    ensures only { (word : ℕ) → word < 2 ^ 64
+        → take 8 (drop at block.now) ≡ word_bytes (word ∷ []) → result ≡ word }
 {
     let mut words = [0];
     read_words(&block[at..at + 8], &mut words);
@@ -31,7 +32,8 @@ pub fn words_at<const N: usize>(block: &[u8], at: usize) -> [u64; N]
     requires { at + 8 * N ≤ length block.now }
     ensures words { AreWords result }
     ensures found { take (8 * N) (drop at block.now) ≡ word_bytes result }
-    ensures only { (words : List ℕ) → AreWords words → take (8 * N) (drop at block.now) ≡ word_bytes words → result ≡ words }
+    ensures only { (words : List ℕ) → AreWords words
+        → take (8 * N) (drop at block.now) ≡ word_bytes words → result ≡ words }
 {
     let mut words = [0; N];
     read_words(&block[at..at + 8 * N], &mut words);
@@ -49,7 +51,8 @@ pub fn is_zero(bytes: &[u8]) -> bool
 /// Writes a field.
 pub fn put(block: &mut [u8], at: usize, field: &[u8])
     requires { at + length field.now ≤ length block.old }
-    ensures { block.new ≡ take at block.old ++ (field.now ++ drop (at + length field.now) block.old) }
+    ensures { block.new ≡ take at block.old ++ (field.now
+        ++ drop (at + length field.now) block.old) }
 {
     block[at..at + field.len()].copy_from_slice(field);
 }
@@ -57,7 +60,8 @@ pub fn put(block: &mut [u8], at: usize, field: &[u8])
 /// Writes a field of words, the lowest byte of each first.
 pub fn put_words(block: &mut [u8], at: usize, words: &[u64])
     requires { at + 8 * length words.now ≤ length block.old }
-    ensures { block.new ≡ take at block.old ++ (word_bytes words.now ++ drop (at + 8 * length words.now) block.old) }
+    ensures { block.new ≡ take at block.old ++ (word_bytes words.now
+        ++ drop (at + 8 * length words.now) block.old) }
 {
     write_words(words, &mut block[at..at + 8 * words.len()]);
 }

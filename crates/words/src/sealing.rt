@@ -62,7 +62,8 @@ pub fn seal(area: &mut [u8])
 pub fn check_seal(area: &[u8]) -> Result<&[u8], SealFault>
     requires { SEAL_LEN ≤ length area.now }
     ensures found { IfOk result (λ front. area.now ≡ sealed front.now) }
-    ensures only { (front : List ℕ) → area.now ≡ sealed front → IsOkAnd result (λ found. found.now ≡ front) }
+    ensures only { (front : List ℕ) → area.now ≡ sealed front
+        → IsOkAnd result (λ found. found.now ≡ front) }
     ensures word { IsErrOf result SealFault.Word
         ↔ (take 8 (drop (length area.now - SEAL_LEN) area.now) ≢ seal_word) }
 {
