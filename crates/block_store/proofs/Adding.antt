@@ -1,5 +1,5 @@
 -- A block that a plan adds.
-use Rattle.std.proofs.Common.{ℕ, ◌≡◌, ◌⊎◌, inl, inr, ◌<◌, Bool, true, false, if◌then◌else◌, Option, Some, None, List, [], ◌++◌, length, Contains, refl, sym, ap, subst, ◌∙◌, arith}
+use Rattle.std.proofs.Common.{ℕ, ◌≡◌, ◌⊎◌, inl, inr, ◌<◌, ◌≤◌, Bool, true, false, if◌then◌else◌, Option, Some, None, List, [], ◌++◌, length, Contains, refl, sym, ap, subst, ◌∙◌, arith}
 use Rattle.std.specs.Prelude.{unwrap_or}
 use Rattle.std.specs.List.{slice_get}
 use Rattle.std.proofs.lemmas.List.Elements.{Contains-append_left, Contains-append_right, Contains-append_cases}
@@ -20,7 +20,8 @@ use Rattle.block_store.specs.Blocks.{Contents, Adds, IsWrittenAs}
 use Rattle.block_store.specs.Places.{shapes_of, IsTaken, IsPlaceIn, IsCopy, IsExtentAt, ArePlacesApart, AreChosen}
 use Rattle.block_store.specs.Places.{filled as filled_marks, planned as planned_marks}
 use Rattle.block_store.specs.Plans.{Plans, KeepsPlans, IsOnTheWay, IsDueFor, AreWritesAt}
-use Rattle.block_store.specs.Store.{Store, Keeps, IsStore, outs, outs_from, ArePlaced}
+use Rattle.block_store.specs.Store.{Store, Spans, Keeps, IsStore, outs, outs_from, ArePlaced}
+use Rattle.block_store.proofs.Lost.{lose_same}
 use Rattle.block_store.proofs.Planning.{IsSameBut, keeps_by, marks_by_map, some_or_none}
 use Rattle.block_store.proofs.ReadingPlaces.{place_fits}
 use Rattle.block_store.proofs.SameBlock.{same_block, block_is, block_itself}
@@ -40,6 +41,8 @@ with_copies block copies before other i = if same_block other block then unwrap_
 pub record IsNewBlock (old new : Store) (block : Block) (bytes : List ℕ) (places : List Dva) (writes : List ColumnWrite) : Type 0 where
   pub disks : new.disks ≡ old.disks
   pub out : new.out ≡ old.out
+  pub spans : new.spans ≡ old.spans
+  pub born : old.spans.group ≤ block.birth
   pub due : new.due ≡ old.due ++ writes
   pub chosen : AreChosen old.spaces [] block.property.sectors places new.spaces
   pub copies_at : dvas block.copies ≡ places
@@ -206,11 +209,16 @@ added old new block bytes places writes stored planned is plans =
         held = keeps_by old new (record {
           disks = is.disks;
           out = is.out;
+          more_lost = lose_same old new is.out is.spans;
           shapes = taken.grows.shapes;
           are = marks_by_map filled_marks old.spaces new.spaces taken.filled_stays;
         }) stored plans.held;
         kept = λ other known found. still_known block other bytes known planned fresh (plans.kept other known found);
         placed = placed_with old new block bytes places writes planned is plans.placed;
+        born = λ other known found unknown. elim (this_or_known block other bytes known planned found) [
+          | inl (this, same) ↦ omega (arith, is.born, ap (λ (b : Block). b.birth) this, ap (λ (s : Spans). s.group) is.spans)
+          | inr was ↦ omega (arith, plans.born other known was unknown, ap (λ (s : Spans). s.group) is.spans)
+        ];
         writes_of = of_copies;
         on_the_way = λ other known i extent found unknown copy. elim (this_or_known block other bytes known planned found) [
           | inl (this, same) ↦
@@ -274,6 +282,7 @@ added old new block bytes places writes stored planned is plans =
 pub record OnlyTook (old new : Store) (sectors : ℕ) (places : List Dva) : Type 0 where
   pub disks : new.disks ≡ old.disks
   pub out : new.out ≡ old.out
+  pub spans : new.spans ≡ old.spans
   pub due : new.due ≡ old.due
   pub chosen : AreChosen old.spaces [] sectors places new.spaces
 
@@ -283,18 +292,20 @@ took_same old new sectors places took =
     record {
       disks = took.disks;
       out = took.out;
+      more_lost = lose_same old new took.out took.spans;
       shapes = taken.grows.shapes;
       are = marks_by_map filled_marks old.spaces new.spaces taken.filled_stays;
     }
 
 -- what is stored is so where a plan took places, whatever is due
-pub chosen_keeps : (old new : Store) (sectors : ℕ) (places : List Dva) → new.disks ≡ old.disks → new.out ≡ old.out → AreChosen old.spaces [] sectors places new.spaces
-    → Keeps old new
-chosen_keeps old new sectors places disks out chosen stored holds =
+pub chosen_keeps : (old new : Store) (sectors : ℕ) (places : List Dva) → new.disks ≡ old.disks → new.out ≡ old.out → new.spans ≡ old.spans
+    → AreChosen old.spaces [] sectors places new.spaces → Keeps old new
+chosen_keeps old new sectors places disks out spans chosen stored holds =
     let taken : AreTakenToo old.spaces sectors places new.spaces = are_taken old.spaces [] sectors places new.spaces chosen in
     keeps_by old new (record {
       disks = disks;
       out = out;
+      more_lost = lose_same old new out spans;
       shapes = taken.grows.shapes;
       are = marks_by_map filled_marks old.spaces new.spaces taken.filled_stays;
     }) stored holds
@@ -312,6 +323,7 @@ took_keeps_plans old new sectors places took stored planned plans =
       held = took_keeps old new sectors places took stored plans.held;
       kept = plans.kept;
       placed = placed_too old.spaces new.spaces planned_marks planned_marks planned taken.grows plans.placed;
+      born = λ block bytes known fresh. omega (arith, plans.born block bytes known fresh, ap (λ (s : Spans). s.group) took.spans);
       writes_of = plans.writes_of;
       on_the_way = λ block bytes i extent known fresh copy.
           let way = plans.on_the_way block bytes i extent known fresh (copy_too new.spaces old.spaces block i extent (sym taken.grows.shapes) copy) in

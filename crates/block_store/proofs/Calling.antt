@@ -1,5 +1,5 @@
 -- Device calls.
-use Rattle.std.proofs.Common.{ℕ, ◌≡◌, ◌⊎◌, inl, inr, ◌+◌, ◌<◌, ◌≤◌, false, List, ◌∷◌, length, Contains, Result, Ok, Err, OnOk, IfErr, is_ok, refl, sym, subst, arith}
+use Rattle.std.proofs.Common.{ℕ, ◌≡◌, ◌⊎◌, inl, inr, ◌+◌, ◌<◌, ◌≤◌, false, List, ◌∷◌, length, Contains, Result, Ok, Err, OnOk, IfErr, is_ok, refl, sym, ap, subst, arith}
 use Rattle.std.proofs.lemmas.Bool.{cases_eq}
 use Rattle.model_disk.specs.Call.{write_call, flush_call}
 use Rattle.model_disk.specs.Contents.{touches}
@@ -10,8 +10,11 @@ use Rattle.raidz_io.specs.declared.writes.ColumnWrite.{ColumnWrite}
 use Rattle.raidz_io.specs.Elsewhere.{ChangesOnlyWritten}
 use Rattle.raidz_io.specs.Stands.{IsDone}
 use Rattle.block_store.specs.declared.device.FailedDisk.{FailedDisk}
-use Rattle.block_store.specs.Store.{Store, outs, outs_from, IsOutToo}
+use Rattle.block_store.specs.Store.{Store, Spans, outs, outs_from, IsOutToo, GoesOut, Spares}
+use Rattle.raidz_io.proofs.Kept.{stands_while_kept}
+use Rattle.block_store.specs.Blocks.{Contents}
 use Rattle.block_store.proofs.Kept.{IsKept}
+use Rattle.block_store.proofs.Lost.{LoseMore, lose_same, lose_one, same_group}
 use Rattle.block_store.proofs.Outs.{more_out, this_is_out}
 use Rattle.block_store.proofs.Writing.{Makes}
 
@@ -58,17 +61,30 @@ done_or_out : (old new : Store) (write : ColumnWrite) (result : Result (Unit {0}
 done_or_out old new write (Ok x) starts calls err present = written_bytes_stand old.disks new.disks write.disk write.offset write.bytes.items starts calls
 done_or_out old new write (Err e) starts calls err present = absurd (present (this_is_out old new write.disk err))
 
+pub lost_after : (old new : Store) (result : Result (Unit {0}) FailedDisk) (disk : ℕ) → OnOk result (new.out ≡ old.out)
+    → IfErr result (λ failed. IsOutToo old.out disk new.out) → OnOk result (new.spans ≡ old.spans) → IfErr result (λ failed. GoesOut old disk new) → LoseMore old new
+lost_after old new (Ok x) disk out too spans gone = lose_same old new out spans
+lost_after old new (Err e) disk out too spans gone = lose_one old new disk too gone
+
+group_after : (old new : Store) (result : Result (Unit {0}) FailedDisk) (disk : ℕ) → OnOk result (new.spans ≡ old.spans)
+    → IfErr result (λ failed. GoesOut old disk new) → new.spans.group ≤ old.spans.group
+group_after old new (Ok x) disk spans gone = let same : new.spans.group ≡ old.spans.group = ap (λ (s : Spans). s.group) spans in omega (arith, same)
+group_after old new (Err e) disk spans gone = same_group old new disk gone
+
 -- the first write that was due was made
 pub made : (old new : Store) (write : ColumnWrite) (result : Result (Unit {0}) FailedDisk) → new.disks.starts ≡ old.disks.starts → new.spaces ≡ old.spaces
     → old.due ≡ write ∷ new.due → new.disks.calls ≡ on write.disk (write_call result write.offset write.bytes.items) ∷ old.disks.calls
-    → OnOk result (new.out ≡ old.out) → IfErr result (λ failed. IsOutToo old.out write.disk new.out) → Makes old new write
-made old new write result starts spaces due calls ok err = record {
+    → OnOk result (new.out ≡ old.out) → IfErr result (λ failed. IsOutToo old.out write.disk new.out)
+    → OnOk result (new.spans ≡ old.spans) → IfErr result (λ failed. GoesOut old write.disk new) → Makes old new write
+made old new write result starts spaces due calls ok err spans gone = record {
   starts = starts;
   spaces = spaces;
   due = due;
   others = changes_only old.disks new.disks write result starts calls;
   done = done_or_out old new write result starts calls err;
   more_out = outs_after old new result write.disk ok err;
+  more_lost = lost_after old new result write.disk ok err spans gone;
+  group = group_after old new result write.disk spans gone;
 }
 
 untouched_by_flush : (result : Result (Unit {0}) FailedDisk) (i : ℕ) → touches (flush_call result) i ≡ false
@@ -78,10 +94,20 @@ untouched_by_flush (Err e) i = refl
 -- a flush changes no byte
 pub flushed : (old new : Store) (disk : ℕ) (result : Result (Unit {0}) FailedDisk) → new.disks.starts ≡ old.disks.starts → new.spaces ≡ old.spaces
     → new.due ≡ old.due → new.disks.calls ≡ on disk (flush_call result) ∷ old.disks.calls
-    → OnOk result (new.out ≡ old.out) → IfErr result (λ failed. IsOutToo old.out disk new.out) → IsKept old new
-flushed old new disk result starts spaces due calls ok err = record {
+    → OnOk result (new.out ≡ old.out) → IfErr result (λ failed. IsOutToo old.out disk new.out)
+    → OnOk result (new.spans ≡ old.spans) → IfErr result (λ failed. GoesOut old disk new) → IsKept old new
+flushed old new disk result starts spaces due calls ok err spans gone = record {
   spaces = spaces;
   due = due;
   contents = λ other i for. other_bytes_stay old.disks new.disks disk (flush_call result) starts calls other i (inr (untouched_by_flush result i));
   more_out = outs_after old new result disk ok err;
+  more_lost = lost_after old new result disk ok err spans gone;
+  group = group_after old new result disk spans gone;
 }
+
+-- and spares all that stood
+pub flush_spares : (old new : Store) (disk : ℕ) (result : Result (Unit {0}) FailedDisk) → new.disks.starts ≡ old.disks.starts
+    → new.disks.calls ≡ on disk (flush_call result) ∷ old.disks.calls → (known : Contents) → Spares known old new
+flush_spares old new disk result starts calls known block bytes i extent absent is copy stands =
+    stands_while_kept (content old.disks) (content new.disks) absent extent bytes
+    (λ other j of. other_bytes_stay old.disks new.disks disk (flush_call result) starts calls other j (inr (untouched_by_flush result j))) stands

@@ -55,10 +55,10 @@ on_err (Ok x) P is = tt
 on_err (Err e) P is = is
 
 -- where no place was left, some were taken
-pub took_some : (old new : Store) (sectors copies : ℕ) (refusal : Refusal) → new.disks ≡ old.disks → new.out ≡ old.out → new.due ≡ old.due
+pub took_some : (old new : Store) (sectors copies : ℕ) (refusal : Refusal) → new.disks ≡ old.disks → new.out ≡ old.out → new.spans ≡ old.spans → new.due ≡ old.due
     → (refusal ≡ NoSpace) × RanOut old.spaces sectors copies new.spaces → (places : List Dva) × OnlyTook old new sectors places
-took_some old new sectors copies refusal disks out due (cause, (places, few, chosen, full)) =
-    (places, record { disks = disks; out = out; due = due; chosen = chosen })
+took_some old new sectors copies refusal disks out spans due (cause, (places, few, chosen, full)) =
+    (places, record { disks = disks; out = out; spans = spans; due = due; chosen = chosen })
 
 -- bytes are below 256
 pub bytes_fit : (bytes : List ℕ) → ((i : ℕ) → Fits w8 (slice_index_or bytes i 0)) → All (λ byte. byte < 256) bytes

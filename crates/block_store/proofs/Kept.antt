@@ -1,5 +1,5 @@
 -- What is stored and planned stays so where no byte of a disk is another.
-use Rattle.std.proofs.Common.{ℕ, ◌≡◌, inl, inr, ◌+◌, ◌<◌, Some, List, length, Contains, sym, subst, ◌∙◌, arith}
+use Rattle.std.proofs.Common.{ℕ, ◌≡◌, inl, inr, ◌+◌, ◌<◌, ◌≤◌, Some, List, length, Contains, sym, subst, ◌∙◌, arith}
 use Rattle.model_disk.specs.Joint.{content}
 use Rattle.raidz_io.specs.declared.vdev.Extent.{Extent}
 use Rattle.raidz_io.specs.declared.writes.ColumnWrite.{ColumnWrite}
@@ -12,7 +12,8 @@ use Rattle.block_store.specs.Elsewhere.{IsForBlocks}
 use Rattle.block_store.specs.Places.{Marks, filled, IsCopy}
 use Rattle.block_store.specs.Places.{planned as planned_marks}
 use Rattle.block_store.specs.Plans.{IsOnTheWay, IsDueFor, KeepsPlans}
-use Rattle.block_store.specs.Store.{Store, outs, ArePlaced, Keeps}
+use Rattle.block_store.specs.Store.{Store, outs, lost, ArePlaced, Keeps}
+use Rattle.block_store.proofs.Lost.{LoseMore}
 use Rattle.block_store.proofs.Sectors.{lie_in_sectors}
 use Rattle.block_store.proofs.Writing.{found_at}
 
@@ -22,6 +23,8 @@ pub record IsKept (old new : Store) : Type 0 where
   pub due : new.due ≡ old.due
   pub contents : (disk i : ℕ) → IsForBlocks old.spaces disk i → content new.disks disk i ≡ content old.disks disk i
   pub more_out : (disk : ℕ) → Contains (outs old) disk → Contains (outs new) disk
+  pub more_lost : LoseMore old new
+  pub group : new.spans.group ≤ old.spans.group
 
 -- a byte of a copy that is placed is one for blocks
 for_blocks : (spaces : List VdevSpace) (marks : Marks) (contents : Contents) (block : Block) (bytes : List ℕ) (k : ℕ) (extent : Extent) (disk i : ℕ)
@@ -35,8 +38,8 @@ keeps kept more old new is stored holds = record {
   placed = rw is.spaces holds.placed;
   stand = λ block bytes i extent known copy.
       let copy_was : IsCopy old.spaces block i extent = rw (sym is.spaces) copy in
-      more (content new.disks) (outs old) (outs new) extent bytes is.more_out
-      (kept (content old.disks) (content new.disks) (outs old) extent bytes
+      more (content new.disks) (lost old block.birth) (lost new block.birth) extent bytes (is.more_lost block.birth)
+      (kept (content old.disks) (content new.disks) (lost old block.birth) extent bytes
       (λ disk j of. is.contents disk j (for_blocks old.spaces filled stored block bytes i extent disk j holds.placed known copy_was of))
       (holds.stand block bytes i extent known copy_was));
 }
@@ -78,6 +81,7 @@ keeps_plans kept more old new is stored planned plans = record {
   held = keeps kept more old new is stored plans.held;
   kept = plans.kept;
   placed = rw is.spaces plans.placed;
+  born = λ block bytes known fresh. omega (arith, plans.born block bytes known fresh, is.group);
   writes_of = plans.writes_of;
   on_the_way = λ block bytes i extent known fresh copy.
       let copy_was : IsCopy old.spaces block i extent = rw (sym is.spaces) copy in

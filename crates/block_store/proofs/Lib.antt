@@ -3,10 +3,12 @@ pub mod Calling
 pub mod Choosing
 pub mod Copies
 pub mod CopyWrites
+pub mod Entering
 pub mod Extents
 pub mod Fewer
 pub mod Fitting
 pub mod Kept
+pub mod Lost
 pub mod Making
 pub mod Outs
 pub mod Planning

@@ -4,7 +4,7 @@ use Rattle.std.proofs.lemmas.Bool.{cases_lt}
 use Rattle.std.proofs.lemmas.List.{drop_all, append-nil}
 use Rattle.std.proofs.lemmas.List.Elements.{All-push}
 use Rattle.std.specs.List.{slice_get, Contains}
-use Rattle.std.specs.Prelude.{replicate}
+use Rattle.std.specs.Prelude.{replicate, slice_index}
 use Rattle.model_disk.specs.Joint.{bytes_of}
 use Rattle.raidz_map.specs.declared.geometry.Geometry.{Geometry}
 use Rattle.raidz_io.specs.declared.writes.ColumnWrite.{ColumnWrite}
@@ -196,8 +196,9 @@ has_room starts first config shape count is =
 
 -- what is made is a store
 pub is_store : (store : Store) (configs : List VdevConfig) → AreShapes store.disks.starts 0 configs (shapes_of store.spaces) → length configs ≤ 8
-    → length store.disks.starts ≤ 2 ^ 64 → length store.out ≡ length store.disks.starts → store.due ≡ [] → IsStore store
-is_store store configs are few count out due =
+    → length store.disks.starts ≤ 2 ^ 64 → length store.out ≡ length store.disks.starts → length store.spans.since ≡ length store.disks.starts
+    → ((disk : ℕ) → slice_index store.spans.since disk ≤ store.spans.group) → store.due ≡ [] → IsStore store
+is_store store configs are few count out spans reached due =
     let starts : List (List ℕ) = store.disks.starts in
     record {
       laid_out = record {
@@ -208,6 +209,8 @@ is_store store configs are few count out due =
         few = omega (arith, same_count starts 0 configs store.spaces are, few);
       };
       disks = out;
+      spans = spans;
+      reached = reached;
       due = λ write among. let P : List ColumnWrite → Type 0 = λ xs. Contains xs write in absurd (omega (arith, (subst P due among).1));
     }
 
@@ -223,6 +226,7 @@ plans_nothing store due = record {
   held = holds_nothing store;
   kept = λ block bytes is. is;
   placed = record { blocks = λ block bytes is. absurd (cc); places = λ block bytes i place is copy. absurd (cc); apart = λ block other bytes others i k place behind is is'. absurd (cc) };
+  born = λ block bytes is new. absurd (cc);
   writes_of = λ block i. [];
   on_the_way = λ block bytes i extent is new copy. absurd (cc);
   due = λ write among. let P : List ColumnWrite → Type 0 = λ xs. Contains xs write in absurd (omega (arith, (subst P due among).1));
@@ -234,3 +238,9 @@ pub empty_more : (spaces : List VdevSpace) (space : VdevSpace) (shape : VdevShap
 empty_more spaces space shape before same none_filled none_planned =
     let marks : replicate (metaslabs shape) 0 ≡ replicate (metaslabs space.shape) 0 = ap (λ s. replicate (metaslabs s) 0) (sym same) in
     All-push IsEmpty spaces space before (record { none_filled = none_filled ∙ marks; none_planned = none_planned ∙ marks })
+
+-- no disk is out since a group above 0
+pub none_since : (n disk : ℕ) → slice_index (replicate n 0) disk ≤ 0
+none_since zero disk = omega arith
+none_since (suc n) zero = omega arith
+none_since (suc n) (suc disk) = none_since n disk

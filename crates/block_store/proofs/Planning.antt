@@ -1,5 +1,5 @@
 -- Plans that begin, and plans that end.
-use Rattle.std.proofs.Common.{ℕ, zero, suc, ◌≡◌, ◌⊎◌, inl, inr, ◌+◌, ◌<◌, ◌≤◌, Bool, Option, Some, None, List, [], ◌∷◌, length, get_or, Contains, refl, sym, ap, subst, ◌∙◌, arith}
+use Rattle.std.proofs.Common.{ℕ, zero, suc, ◌≡◌, ◌⊎◌, inl, inr, ◌+◌, ◌<◌, ◌≤◌, Option, Some, None, List, [], ◌∷◌, length, get_or, Contains, refl, sym, ap, subst, ◌∙◌, arith}
 use Rattle.std.specs.Prelude.{slice_index, slice_index_or, slice_set, map}
 use Rattle.std.specs.List.{slice_get}
 use Rattle.std.proofs.lemmas.Bool.{cases_eq}
@@ -15,7 +15,9 @@ use Rattle.block_store.specs.Blocks.{Contents}
 use Rattle.block_store.specs.Places.{Marks, shapes_of, HaveMarks, IsCopy}
 use Rattle.block_store.specs.Places.{filled as filled_marks, planned as planned_marks}
 use Rattle.block_store.specs.Plans.{Plans, IsOnTheWay}
-use Rattle.block_store.specs.Store.{Store, outs, outs_from, ArePlaced, Holds}
+use Rattle.block_store.specs.Store.{Store, outs, lost, ArePlaced, Holds}
+use Rattle.raidz_io.proofs.Kept.{more_absent}
+use Rattle.block_store.proofs.Lost.{LoseMore, lose_same, is_lost}
 use Rattle.block_store.proofs.Taking.{Grows, placed_too, copy_too, slice_get-set_same, slice_get-set_other}
 
 pub marks_by_map : (marks : Marks) (spaces after : List VdevSpace) → map marks after ≡ map marks spaces → HaveMarks spaces marks after marks
@@ -65,18 +67,17 @@ pub same_marks : (spaces : List VdevSpace) (marks : Marks) → HaveMarks spaces 
 same_marks spaces marks v space new found found' = ap marks (same_some new space (sym found' ∙ found))
 
 -- a store with the same disks and the same marks holds what it held
-held_by : (old new : Store) (marks : Marks) (stored : Contents) → new.disks ≡ old.disks → new.out ≡ old.out → shapes_of new.spaces ≡ shapes_of old.spaces
+held_by : (old new : Store) (marks : Marks) (stored : Contents) → new.disks ≡ old.disks → LoseMore old new → shapes_of new.spaces ≡ shapes_of old.spaces
     → ArePlaced new.spaces filled_marks stored
     → ((block : Block) (bytes : List ℕ) (i : ℕ) (extent : Extent) → stored block ≡ Some bytes → IsCopy old.spaces block i extent
-    → ExtentStands (content old.disks) (outs old) extent bytes)
+    → ExtentStands (content old.disks) (lost old block.birth) extent bytes)
     → Holds new stored
-held_by old new marks stored disks out shapes placed stand = record {
+held_by old new marks stored disks more_lost shapes placed stand = record {
   placed = placed;
   stand = λ block bytes i extent known copy.
       let stood = stand block bytes i extent known (copy_too new.spaces old.spaces block i extent (sym shapes) copy) in
-      let P : Disks → Type 0 = λ d. ExtentStands (content d) (outs old) extent bytes in
-      let Q : List Bool → Type 0 = λ o. ExtentStands (content new.disks) (outs_from 0 o) extent bytes in
-      subst Q (sym out) (subst P (sym disks) stood);
+      let P : Disks → Type 0 = λ d. ExtentStands (content d) (lost old block.birth) extent bytes in
+      more_absent (content new.disks) (lost old block.birth) (lost new block.birth) extent bytes (more_lost block.birth) (subst P (sym disks) stood);
 }
 
 no_contents : {X : Type 0} (x : X) (found : Option X) → found ≡ Some x → ¬ (found ≡ None)
@@ -86,12 +87,18 @@ no_contents x found is none = absurd (let e : Some x ≡ None = sym is ∙ none 
 pub record IsSameBut (old new : Store) (marks later : Marks) : Type 0 where
   pub disks : new.disks ≡ old.disks
   pub out : new.out ≡ old.out
+  pub more_lost : LoseMore old new
   pub shapes : shapes_of new.spaces ≡ shapes_of old.spaces
   pub are : HaveMarks old.spaces marks new.spaces later
 
+pub same_but : (old new : Store) (marks later : Marks) → new.disks ≡ old.disks → new.out ≡ old.out → new.spans ≡ old.spans → shapes_of new.spaces ≡ shapes_of old.spaces
+    → HaveMarks old.spaces marks new.spaces later → IsSameBut old new marks later
+same_but old new marks later disks out spans shapes are =
+    record { disks = disks; out = out; more_lost = lose_same old new out spans; shapes = shapes; are = are }
+
 pub keeps_by : (old new : Store) → IsSameBut old new filled_marks filled_marks → (stored : Contents) → Holds old stored → Holds new stored
 keeps_by old new same stored holds =
-    held_by old new filled_marks stored same.disks same.out same.shapes
+    held_by old new filled_marks stored same.disks same.more_lost same.shapes
     (placed_too old.spaces new.spaces filled_marks filled_marks stored (grows_by old.spaces new.spaces filled_marks filled_marks same.shapes same.are) holds.placed)
     holds.stand
 
@@ -105,6 +112,7 @@ begun old new same planned none stored holds = record {
   held = keeps_by old new same stored holds;
   kept = λ block bytes known. known;
   placed = placed_too old.spaces new.spaces filled_marks planned_marks stored (grows_by old.spaces new.spaces filled_marks planned_marks same.shapes planned) holds.placed;
+  born = λ block bytes known fresh. absurd (no_contents bytes (stored block) known fresh);
   writes_of = λ block i. [];
   on_the_way = λ block bytes i extent known fresh copy. absurd (no_contents bytes (stored block) known fresh);
   due = λ write held. absurd (nothing write (subst (λ xs. Contains xs write) none held));
@@ -133,13 +141,17 @@ arrived store writes extent bytes none way =
     all_done them each = λ i write within present. each (get_or them i write) (i, within, is_there them i write within) present
 
 -- a plan ends
-pub finished : (old new : Store) → IsSameBut old new planned_marks filled_marks → old.due ≡ [] → (stored planned : Contents) → Plans old stored planned → Holds new planned
-finished old new same none stored planned plans =
-    held_by old new filled_marks planned same.disks same.out same.shapes
+pub finished : (old new : Store) → IsSameBut old new planned_marks filled_marks → ((disk : ℕ) → slice_index old.spans.since disk ≤ old.spans.group) → old.due ≡ []
+    → (stored planned : Contents) → Plans old stored planned → Holds new planned
+finished old new same reached none stored planned plans =
+    held_by old new filled_marks planned same.disks same.more_lost same.shapes
     (placed_too old.spaces new.spaces planned_marks filled_marks planned (grows_by old.spaces new.spaces planned_marks filled_marks same.shapes same.are) plans.placed)
     (λ block bytes i extent known copy. elim (some_or_none (stored block)) [
       | inl (was, is) ↦
           let same_bytes : was ≡ bytes = same_some was bytes (sym (plans.kept block was is) ∙ known) in
-          subst (λ b. ExtentStands (content old.disks) (outs old) extent b) same_bytes (plans.held.stand block was i extent is copy)
-      | inr fresh ↦ arrived old (plans.writes_of block i) extent bytes none (plans.on_the_way block bytes i extent known fresh copy)
+          subst (λ b. ExtentStands (content old.disks) (lost old block.birth) extent b) same_bytes (plans.held.stand block was i extent is copy)
+      | inr fresh ↦
+          more_absent (content old.disks) (outs old) (lost old block.birth) extent bytes
+          (λ disk out. is_lost old block.birth disk out (omega (arith, reached disk, plans.born block bytes known fresh)))
+          (arrived old (plans.writes_of block i) extent bytes none (plans.on_the_way block bytes i extent known fresh copy))
     ])

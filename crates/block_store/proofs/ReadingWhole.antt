@@ -15,7 +15,8 @@ use Rattle.block_store.specs.declared.refusal.Refusal.{Refusal}
 use Rattle.block_store.specs.declared.refusal.Refusal.TheVariants.{NoMemory, BadPointer, DiskFault, BadDigest}
 use Rattle.block_store.specs.Blocks.{Contents}
 use Rattle.block_store.specs.Reading.{Asks, IsReadable, AreTolerable, IsLastFault, IsFirstRead, IsFailedCopy, HaveFailed, IsReadUpTo}
-use Rattle.block_store.specs.Store.{Store, outs, Holds}
+use Rattle.block_store.specs.Store.{Store, outs, lost, Holds}
+use Rattle.block_store.proofs.Lost.{lose_same, lost_is_out}
 use Rattle.block_store.proofs.Kept.{IsKept}
 use Rattle.block_store.proofs.ReadingLost.{absent_earlier, honest_later, stands_later, few_lost}
 use Rattle.block_store.proofs.ReadingSteps.{reads_on, untouched_on, failed_by}
@@ -62,6 +63,8 @@ is_kept laws old new missing block result is = record {
   more_out = λ disk held.
       let out : new.out ≡ old.out = ap (λ (s : Store). s.out) is.rest in
       rw out held;
+  more_lost = lose_same old new (ap (λ (s : Store). s.out) is.rest) (ap (λ (s : Store). s.spans) is.rest);
+  group = let same : new.spans.group ≡ old.spans.group = ap (λ (s : Store). s.spans.group) is.rest in omega (arith, same);
 }
 
 -- a block that is stored stands where the last copy was read
@@ -69,10 +72,11 @@ pub stands_there : Laws → (old new : Store) (missing : List ℕ) (block : Bloc
     → (is : IsBlockRead old new missing block result) → Holds old stored → stored block ≡ Some bytes
     → ExtentStands (content is.read.mid) (absent_since is.read.mid new.disks (outs old ++ missing)) is.read.read.extent bytes
 stands_there laws old new missing block result stored bytes is holds known =
-    stands_later laws.reads_keep laws.kept laws.more_absent old.disks is.read.mid (outs old) (absent_since is.read.mid new.disks (outs old ++ missing)) is.read.read.extent
+    stands_later laws.reads_keep laws.kept laws.more_absent old.disks is.read.mid (lost old block.birth) (absent_since is.read.mid new.disks (outs old ++ missing)) is.read.read.extent
     bytes is.read.before
     (λ disk held.
-    Contains-append_left (outs old ++ missing) (failed_since (length is.read.mid.calls) new.disks.calls) disk (Contains-append_left (outs old) missing disk held))
+    Contains-append_left (outs old ++ missing) (failed_since (length is.read.mid.calls) new.disks.calls) disk
+    (Contains-append_left (outs old) missing disk (lost_is_out old block.birth disk held)))
     (holds.stand block bytes is.read.i is.read.read.extent known is.read.read.is_copy)
 
 pub bytes_right : Laws → (old new : Store) (missing : List ℕ) (block : Block) (result : Result (Vec ℕ Global) Refusal) → IsBlockRead old new missing block result

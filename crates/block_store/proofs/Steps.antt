@@ -1,10 +1,11 @@
 -- Reads and plans one after the other.
-use Rattle.std.proofs.Common.{ℕ, ◌≡◌, ◌+◌, inl, inr, Result, Ok, Err, Option, Some, None, false, List, [], ◌∷◌, ◌++◌, map, length, Contains, refl, sym, ap, ◌∙◌, subst, arith, append_assoc}
+use Rattle.std.proofs.Common.{ℕ, ◌≡◌, ◌<◌, ◌≤◌, ◌+◌, inl, inr, Result, Ok, Err, Option, Some, None, Bool, true, false, if◌then◌else◌, List, [], ◌∷◌, ◌++◌, map, length, Contains, refl, sym, ap, ◌∙◌, subst, arith, append_assoc}
 use Rattle.std.proofs.lemmas.List.{append-nil}
 use Rattle.std.specs.List.{slice_get}
 use Rattle.std.specs.Option.{option_map}
-use Rattle.std.specs.Prelude.{All, OnOk, OnErr, IfOk}
-use Rattle.std.proofs.lemmas.List.Elements.{All-append, Contains-append_left, Contains-append_right, Contains-append_cases}
+use Rattle.std.specs.Prelude.{All, OnOk, OnErr, IfOk, nat_lt}
+use Rattle.std.proofs.lemmas.Bool.Decides.{nat_tests}
+use Rattle.std.proofs.lemmas.List.Elements.{All-append, All-cons, All-head, All-tail, Contains-append_left, Contains-append_right, Contains-append_cases}
 use Rattle.std.proofs.lemmas.Option.{slice_get-map, same_Some}
 use Rattle.model_disk.specs.Joint.{JointCall, Disks, calls_on, failed_since, AreHonestSince}
 use Rattle.model_disk.proofs.LawLemmas.{parts_are_honest}
@@ -23,7 +24,7 @@ use Rattle.block_store.specs.Places.{filled as filled_marks}
 use Rattle.block_store.specs.Plans.{Plans, KeepsPlans}
 use Rattle.block_store.specs.Reading.{FewAreAbsent, AreTolerable}
 use Rattle.block_store.specs.Steps.{OnlyReadsBlocks, Taken, HaveTaken, OnlyReadsAndPlans, AnswersAreTrue, LossIsTolerable, HasNoRoomFor}
-use Rattle.block_store.specs.Store.{Store, Keeps, outs, outs_from, is_out}
+use Rattle.block_store.specs.Store.{Store, Spans, Keeps, in_group, reaching, outs, outs_from, is_out}
 use Rattle.block_store.proofs.ReadingLost.{failed_earlier}
 use Rattle.block_store.proofs.ReadingSteps.{reads_on as disk_reads_on, rest_on}
 
@@ -62,13 +63,38 @@ chosen_fills_nothing spaces taken sectors (place ∷ places) after (chosen, mid,
     chosen_fills_nothing mid (taken ++ place ∷ []) sectors places after rest ∙ too.filled_stays
 
 -- places were taken for one block
-taken_once : (spaces : List VdevSpace) (sectors : ℕ) (places : List Dva) (after : List VdevSpace) → AreChosen spaces [] sectors places after
-    → HaveTaken spaces (record { sectors = sectors; places = places } ∷ []) after
-taken_once spaces sectors places after chosen = (after, chosen, refl)
+taken_once : (spaces : List VdevSpace) (sectors birth : ℕ) (places : List Dva) (after : List VdevSpace) → AreChosen spaces [] sectors places after
+    → HaveTaken spaces (record { sectors = sectors; birth = birth; places = places } ∷ []) after
+taken_once spaces sectors birth places after chosen = (after, chosen, refl)
 
 taken_on : (spaces mid after : List VdevSpace) (first rest : List Taken) → HaveTaken spaces first mid → HaveTaken mid rest after → HaveTaken spaces (first ++ rest) after
 taken_on spaces mid after [] rest same later = subst (λ (s : List VdevSpace). HaveTaken s rest after) same later
 taken_on spaces mid after (taken ∷ first) rest (between, chosen, more) later = (between, chosen, taken_on between mid after first rest more later)
+
+all_front : (P : Taken → Type 0) (xs ys : List Taken) → All P (xs ++ ys) → All P xs
+all_front P [] ys all = λ k d below. absurd (omega arith)
+all_front P (x ∷ xs) ys all = All-cons P x xs (All-head P x (xs ++ ys) all) (all_front P xs ys (All-tail P x (xs ++ ys) all))
+
+all_back : (P : Taken → Type 0) (xs ys : List Taken) → All P (xs ++ ys) → All P ys
+all_back P [] ys all = all
+all_back P (x ∷ xs) ys all = all_back P xs ys (All-tail P x (xs ++ ys) all)
+
+not_below_is : (a b : ℕ) → nat_lt a b ≡ true → ¬ (b ≤ a)
+not_below_is a b is le = absurd (let less : a < b = grind (arith, nat_tests) in omega (arith, less, le))
+
+-- a block that is born in the plan's group or later changes no span
+not_reaching : (spans : Spans) (birth : ℕ) → spans.group ≤ birth → reaching spans birth ≡ spans
+not_reaching spans birth le = cases (nat_lt birth spans.group) refl
+  where
+    cases : (test : Bool) → nat_lt birth spans.group ≡ test → (if test then in_group spans birth else spans) ≡ spans
+    cases true is = absurd (not_below_is birth spans.group is le)
+    cases false is = refl
+
+spans_once : (old new : Store) (sectors birth : ℕ) (places : List Dva) → new.spans ≡ reaching old.spans birth
+    → All (λ (block : Taken). old.spans.group ≤ block.birth) (record { sectors = sectors; birth = birth; places = places } ∷ []) → new.spans ≡ old.spans
+spans_once old new sectors birth places spans all =
+    let taken : Taken = record { sectors = sectors; birth = birth; places = places } in
+    spans ∙ not_reaching old.spans birth (All-head (λ (block : Taken). old.spans.group ≤ block.birth) taken [] all)
 
 pub steps_none : (store : Store) (missing : List ℕ) → OnlyReadsAndPlans store store missing
 steps_none store missing = record {
@@ -77,6 +103,7 @@ steps_none store missing = record {
   filled = refl;
   taken = [];
   took = refl;
+  spans = λ all. refl;
   reads = OnlyReads-none store.disks;
   untouched = λ disk held. refl;
   keeps = λ stored held. held;
@@ -93,6 +120,7 @@ steps_read old new missing reads = record {
   filled = ap (λ (s : Store). map filled_marks s.spaces) reads.rest;
   taken = [];
   took = ap (λ (s : Store). s.spaces) reads.rest;
+  spans = λ all. ap (λ (s : Store). s.spans) reads.rest;
   reads = reads.reads;
   untouched = reads.untouched;
   keeps = reads.keeps;
@@ -106,19 +134,20 @@ no_reads : (old new : Disks) → new ≡ old → OnlyReads old new
 no_reads old new same = subst (λ (disks : Disks). OnlyReads old disks) (sym same) (OnlyReads-none old)
 
 -- What `plan_write` says, in this form.
-pub steps_plan : (old new : Store) (missing : List ℕ) (sectors copies : ℕ) (result : Result Block Refusal) (bytes : List ℕ)
-    → new.disks ≡ old.disks → new.out ≡ old.out → shapes_of new.spaces ≡ shapes_of old.spaces → Keeps old new
+pub steps_plan : (old new : Store) (missing : List ℕ) (sectors birth copies : ℕ) (result : Result Block Refusal) (bytes : List ℕ)
+    → new.disks ≡ old.disks → new.out ≡ old.out → new.spans ≡ reaching old.spans birth → shapes_of new.spaces ≡ shapes_of old.spaces → Keeps old new
     → IfOk result (λ block. AreChosen old.spaces [] sectors (dvas block.copies) new.spaces) → OnErr result (TookSome old.spaces sectors copies new.spaces)
     → OnOk result ((added : List ColumnWrite) × (new.due ≡ old.due ++ added) × All (λ write. is_out old.out write.disk ≡ false) added)
     → OnErr result (new.due ≡ old.due)
     → IfOk result (λ block. (stored planned : Contents) → Plans old stored planned → (later : Contents) × Plans new stored later × Adds planned later block bytes)
     → OnErr result (KeepsPlans old new) → OnlyReadsAndPlans old new missing
-steps_plan old new missing sectors copies (Ok block) bytes disks out shapes keeps places some due err_due planned err = record {
+steps_plan old new missing sectors birth copies (Ok block) bytes disks out spans shapes keeps places some due err_due planned err = record {
   out = out;
   shapes = shapes;
   filled = chosen_fills_nothing old.spaces [] sectors (dvas block.copies) new.spaces places;
-  taken = record { sectors = sectors; places = dvas block.copies } ∷ [];
-  took = taken_once old.spaces sectors (dvas block.copies) new.spaces places;
+  taken = record { sectors = sectors; birth = birth; places = dvas block.copies } ∷ [];
+  took = taken_once old.spaces sectors birth (dvas block.copies) new.spaces places;
+  spans = spans_once old new sectors birth (dvas block.copies) spans;
   reads = no_reads old.disks new.disks disks;
   untouched = λ disk held. ap (λ (d : Disks). calls_on disk d.calls) disks;
   keeps = keeps;
@@ -127,12 +156,13 @@ steps_plan old new missing sectors copies (Ok block) bytes disks out shapes keep
   in_use = due.2;
   plans = λ stored before held. let there = planned stored before held in (there.0, there.1, there.2.kept);
 }
-steps_plan old new missing sectors copies (Err refusal) bytes disks out shapes keeps places some due err_due planned err = record {
+steps_plan old new missing sectors birth copies (Err refusal) bytes disks out spans shapes keeps places some due err_due planned err = record {
   out = out;
   shapes = shapes;
   filled = chosen_fills_nothing old.spaces [] sectors some.0 new.spaces some.2;
-  taken = record { sectors = sectors; places = some.0 } ∷ [];
-  took = taken_once old.spaces sectors some.0 new.spaces some.2;
+  taken = record { sectors = sectors; birth = birth; places = some.0 } ∷ [];
+  took = taken_once old.spaces sectors birth some.0 new.spaces some.2;
+  spans = spans_once old new sectors birth some.0 spans;
   reads = no_reads old.disks new.disks disks;
   untouched = λ disk held. ap (λ (d : Disks). calls_on disk d.calls) disks;
   keeps = keeps;
@@ -149,6 +179,10 @@ steps_on old mid new missing first rest = record {
   filled = rest.filled ∙ first.filled;
   taken = first.taken ++ rest.taken;
   took = taken_on old.spaces mid.spaces new.spaces first.taken rest.taken first.took rest.took;
+  spans = λ all.
+      let P : Taken → Type 0 = λ block. old.spans.group ≤ block.birth in
+      let before : mid.spans ≡ old.spans = first.spans (all_front P first.taken rest.taken all) in
+      rest.spans (subst (λ (s : Spans). All (λ (block : Taken). s.group ≤ block.birth) rest.taken) (sym before) (all_back P first.taken rest.taken all)) ∙ before;
   reads = disk_reads_on old.disks mid.disks new.disks first.reads rest.reads;
   untouched = λ disk held.
       rest.untouched disk (subst (λ disks. Contains (disks ++ missing) disk) (sym (same_outs old mid first.out)) held)

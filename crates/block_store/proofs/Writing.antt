@@ -1,5 +1,5 @@
 -- A write that is due is made.
-use Rattle.std.proofs.Common.{ℕ, zero, suc, ◌≡◌, ◌≢◌, ◌⊎◌, inl, inr, Option, Some, None, List, [], ◌∷◌, Contains, refl, sym, ap, subst, ◌∙◌, arith}
+use Rattle.std.proofs.Common.{ℕ, zero, suc, ◌≡◌, ◌≢◌, ◌≤◌, ◌+◌, ◌⊎◌, inl, inr, Option, Some, None, List, [], ◌∷◌, Contains, refl, sym, ap, subst, ◌∙◌, arith}
 use Rattle.std.proofs.lemmas.Bool.{cases_lt}
 use Rattle.std.specs.List.{slice_get}
 use Rattle.model_disk.specs.Joint.{content}
@@ -8,14 +8,16 @@ use Rattle.raidz_io.specs.declared.vdev.Extent.{Extent}
 use Rattle.raidz_io.specs.declared.writes.ColumnWrite.{ColumnWrite}
 use Rattle.raidz_io.specs.Elsewhere.{ChangesOnlyWritten, ShareNoByte}
 use Rattle.raidz_io.specs.Stands.{ExtentStands, IsDone, IsColumnWrite}
+use Rattle.raidz_io.specs.Places.{disk_of, offset_of}
 use Rattle.raidz_io.proofs.Written.{same_some}
 use Rattle.block_store.specs.Blocks.{Contents}
 use Rattle.block_store.specs.Laws.{Laws}
 use Rattle.block_store.specs.Places.{IsLaidOut, IsCopy}
 use Rattle.block_store.specs.Places.{planned as planned_marks}
 use Rattle.block_store.specs.Plans.{Plans, IsOnTheWay, IsDueFor}
-use Rattle.block_store.specs.Store.{Store, outs, Holds}
+use Rattle.block_store.specs.Store.{Store, outs, lost, Holds, Spares, SparesBut}
 use Rattle.block_store.proofs.Copies.{copies_apart}
+use Rattle.block_store.proofs.Lost.{LoseMore}
 
 -- the first write that was due was made: it is done, or its disk is out
 pub record Makes (old new : Store) (write : ColumnWrite) : Type 0 where
@@ -25,6 +27,8 @@ pub record Makes (old new : Store) (write : ColumnWrite) : Type 0 where
   pub others : ChangesOnlyWritten (content old.disks) (content new.disks) write
   pub done : ¬ Contains (outs new) write.disk → IsDone (content new.disks) write
   pub more_out : (disk : ℕ) → Contains (outs old) disk → Contains (outs new) disk
+  pub more_lost : LoseMore old new
+  pub group : new.spans.group ≤ old.spans.group
 
 pub found_at : {X : Type 0} (xs : List X) (x : X) → Contains xs x → (k : ℕ) × (slice_get xs k ≡ Some x)
 found_at [] x (k, within, is) = absurd (omega arith)
@@ -53,13 +57,13 @@ held_still laws old new write stored planned laid makes plans due = record {
       let way = plans.on_the_way due.block due.bytes due.i due.extent due.is_planned due.is_new due.is_copy in
       let at = found_at (plans.writes_of due.block due.i) write due.is_of_copy in
       let is : IsColumnWrite due.extent at.0 write = way.columns at.0 write at.1 in
-      let stood : ExtentStands (content old.disks) (outs old) extent bytes = plans.held.stand block bytes i extent known copy_was in
+      let stood : ExtentStands (content old.disks) (lost old block.birth) extent bytes = plans.held.stand block bytes i extent known copy_was in
       elim (copies_apart laws.apart_extents laws.other_vdevs old.disks.starts old.spaces planned_marks planned laid plans.placed
       block due.block bytes due.bytes i due.i extent due.extent (plans.kept block bytes known) due.is_planned copy_was due.is_copy) [
         | inl (same, at_i) ↦ absurd (some_is_not_none bytes (stored due.block) (ap stored (sym same) ∙ known) due.is_new)
         | inr share ↦
-            laws.more_absent (content new.disks) (outs old) (outs new) extent bytes makes.more_out
-            (laws.others_written (content old.disks) (content new.disks) (outs old) extent due.extent at.0 write bytes is share makes.others stood)
+            laws.more_absent (content new.disks) (lost old block.birth) (lost new block.birth) extent bytes (makes.more_lost block.birth)
+            (laws.others_written (content old.disks) (content new.disks) (lost old block.birth) extent due.extent at.0 write bytes is share makes.others stood)
       ];
 }
 
@@ -124,6 +128,7 @@ write_keeps laws old new write stored planned laid makes plans =
       held = held_still laws old new write stored planned laid makes plans due;
       kept = plans.kept;
       placed = rw makes.spaces plans.placed;
+      born = λ block bytes known fresh. omega (arith, plans.born block bytes known fresh, makes.group);
       writes_of = plans.writes_of;
       on_the_way = λ block bytes i extent known fresh copy.
           still_on_the_way laws old new write stored planned laid makes plans due block bytes i extent known fresh (rw (sym makes.spaces) copy);
@@ -140,3 +145,56 @@ write_keeps laws old new write stored planned laid makes plans =
             is_of_copy = was.is_of_copy;
           };
     }
+
+-- ---- what stood
+
+-- the copy of a block that the plan has is that of the write, or shares no byte with it
+of_write : Laws → (old new : Store) (write : ColumnWrite) (stored planned : Contents) → IsLaidOut old.disks.starts old.spaces → Makes old new write
+    → (plans : Plans old stored planned) → (due : IsDueFor old stored planned plans.writes_of write)
+    → (block : Block) (bytes : List ℕ) (i : ℕ) (extent : Extent) (absent : List ℕ) → planned block ≡ Some bytes → IsCopy old.spaces block i extent
+    → ExtentStands (content old.disks) absent extent bytes
+    → ((block ≡ due.block) × (k : ℕ) × IsColumnWrite extent k write) ⊎ ExtentStands (content new.disks) absent extent bytes
+of_write laws old new write stored planned laid makes plans due block bytes i extent absent known copy stood =
+    let way = plans.on_the_way due.block due.bytes due.i due.extent due.is_planned due.is_new due.is_copy in
+    let at = found_at (plans.writes_of due.block due.i) write due.is_of_copy in
+    let is : IsColumnWrite due.extent at.0 write = way.columns at.0 write at.1 in
+    elim (copies_apart laws.apart_extents laws.other_vdevs old.disks.starts old.spaces planned_marks planned laid plans.placed
+    block due.block bytes due.bytes i due.i extent due.extent known due.is_planned copy due.is_copy) [
+      | inl (same, at_i) ↦
+          let fresh : stored block ≡ None = ap stored same ∙ due.is_new in
+          let here = plans.on_the_way block bytes i extent known fresh copy in
+          let is_here : slice_get (plans.writes_of block i) at.0 ≡ Some write =
+          ap (λ (b : Block). slice_get (plans.writes_of b i) at.0) same ∙ ap (λ n. slice_get (plans.writes_of due.block n) at.0) at_i ∙ at.1 in
+          inl (same, at.0, here.columns at.0 write is_here)
+      | inr share ↦ inr (laws.others_written (content old.disks) (content new.disks) absent extent due.extent at.0 write bytes is share makes.others stood)
+    ]
+
+-- a copy that lacks the column on the write's disk stands still
+but_one : (old new : Store) (write : ColumnWrite) (absent : List ℕ) (extent : Extent) (bytes : List ℕ) → Makes old new write → Contains absent write.disk
+    → ExtentStands (content old.disks) absent extent bytes → ExtentStands (content new.disks) absent extent bytes
+but_one old new write absent extent bytes makes lacks stood = record {
+  layout = stood.layout;
+  columns = stood.columns;
+  is_layout = stood.is_layout;
+  are_bytes = stood.are_bytes;
+  stand = λ i column part at at' present j within.
+      makes.others (disk_of extent.vdev column) (offset_of column + j)
+      (λ written. present (subst (λ n. Contains absent n) (sym written.which) lacks)) ∙ stood.stand i column part at at' present j within;
+}
+
+pub write_spares : Laws → (old new : Store) (write : ColumnWrite) (stored planned : Contents) → IsLaidOut old.disks.starts old.spaces → Makes old new write
+    → Plans old stored planned → Spares stored old new × SparesBut write planned old new
+write_spares laws old new write stored planned laid makes plans =
+    let is_due : Contains old.due write = rw makes.due (zero, omega arith, refl) in
+    let due = plans.due write is_due in (
+      λ block bytes i extent absent known copy stood.
+          elim (of_write laws old new write stored planned laid makes plans due block bytes i extent absent (plans.kept block bytes known) copy stood) [
+            | inl (same, k, is) ↦ absurd (some_is_not_none bytes (stored due.block) (ap stored (sym same) ∙ known) due.is_new)
+            | inr stands ↦ stands
+          ],
+      λ block bytes i extent absent known copy but stood.
+          elim (of_write laws old new write stored planned laid makes plans due block bytes i extent absent known copy stood) [
+            | inl (same, k, is) ↦ but_one old new write absent extent bytes makes (but k is) stood
+            | inr stands ↦ stands
+          ],
+    )

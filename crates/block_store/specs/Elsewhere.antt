@@ -1,14 +1,16 @@
 -- The bytes of disks that are for blocks, and those that are not.
-use Rattle.std.specs.Prelude.{ℕ, ◌≡◌, ◌+◌, ◌<◌, ◌≤◌, Some, List, slice_get, Contains}
+use Rattle.std.specs.Prelude.{ℕ, ◌≡◌, ◌+◌, ◌<◌, ◌≤◌, Some, List, slice_get}
 use Rattle.model_disk.specs.Joint.{content}
 use Rattle.block_pointer.specs.declared.dva.Dva.{Dva}
 use Rattle.raidz_io.specs.declared.vdev.Extent.{Extent}
 use Rattle.raidz_io.specs.Elsewhere.{IsOfExtent}
 use Rattle.raidz_io.specs.Places.{offset_of_sector}
+use Rattle.raidz_io.specs.Reads.{OnlyReads}
+use Rattle.block_store.specs.Blocks.{Contents}
 use Rattle.block_store.specs.declared.space.VdevSpace.{VdevSpace}
 use Rattle.block_store.specs.Places.{IsPlaceIn, IsExtentAt}
 use Rattle.block_store.specs.Plans.{KeepsPlans}
-use Rattle.block_store.specs.Store.{Store, Keeps, outs}
+use Rattle.block_store.specs.Store.{Store, Keeps, Spares}
 
 -- Byte i of the disk is in one of the sectors of a vdev that hold blocks. Labels and uberblocks stand before these sectors and
 -- behind them.
@@ -27,9 +29,13 @@ BlocksLieInSectors =
     (spaces : List VdevSpace) (sectors : ℕ) (place : Dva) (extent : Extent) (disk i : ℕ) → IsPlaceIn spaces sectors place
     → IsExtentAt spaces sectors place extent → IsOfExtent extent disk i → IsForBlocks spaces disk i
 
--- so what changes none of them, such as a write of a label, keeps what the store holds and plans
+-- reads spare all that stood
+abbrev pub ReadsSpare : Type 0
+ReadsSpare = (old new : Store) (known : Contents) → OnlyReads old.disks new.disks → Spares known old new
+
+-- what changes none of them, such as a write of a label, keeps what the store holds and plans
 abbrev pub WritesElsewhereKeep : Type 0
 WritesElsewhereKeep =
-    (old new : Store) → new.spaces ≡ old.spaces → new.due ≡ old.due → ((disk : ℕ) → Contains (outs old) disk → Contains (outs new) disk)
+    (old new : Store) → new.spaces ≡ old.spaces → new.due ≡ old.due → new.out ≡ old.out → new.spans ≡ old.spans
     → ((disk i : ℕ) → IsForBlocks old.spaces disk i → content new.disks disk i ≡ content old.disks disk i)
     → Keeps old new × KeepsPlans old new

@@ -1,5 +1,5 @@
 -- Plans: blocks that are to be written.
-use Rattle.std.specs.Prelude.{ℕ, ◌≡◌, ◌⊎◌, Some, None, false, List, length, slice_get, Contains, All}
+use Rattle.std.specs.Prelude.{ℕ, ◌≡◌, ◌≤◌, ◌⊎◌, Some, None, false, List, length, slice_get, Contains, All}
 use Rattle.model_disk.specs.Joint.{content}
 use Rattle.block_pointer.specs.declared.block.Block.{Block}
 use Rattle.block_pointer.specs.declared.dva.Dva.{Dva}
@@ -41,11 +41,12 @@ pub record AreWritesAt (store : Store) (sectors : ℕ) (bytes : List ℕ) (place
   pub only : (write : ColumnWrite) → Contains writes write → (i : ℕ) × (copy : List ColumnWrite) × (slice_get copies i ≡ Some copy) × Contains copy write
   pub in_use : All (λ write. is_out store.out write.disk ≡ false) writes
 
--- Some blocks are stored, and a plan adds others: they are placed too, and once what is due is written all are stored.
+-- Some blocks are stored, and a plan adds others, born in its group: they are placed too, and once what is due is written all are stored.
 pub record Plans (store : Store) (stored planned : Contents) : Type 0 where
   pub held : Holds store stored
   pub kept : Extends stored planned
   pub placed : ArePlaced store.spaces planned_marks planned
+  pub born : (block : Block) (bytes : List ℕ) → planned block ≡ Some bytes → stored block ≡ None → store.spans.group ≤ block.birth
   -- the writes of each copy that is new
   pub writes_of : Block → ℕ → List ColumnWrite
   pub on_the_way : (block : Block) (bytes : List ℕ) (i : ℕ) (extent : Extent) → planned block ≡ Some bytes → stored block ≡ None

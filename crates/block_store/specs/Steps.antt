@@ -1,5 +1,5 @@
 -- What calls over a store may do to it: reads of blocks, and plans of new ones.
-use Rattle.std.specs.Prelude.{ℕ, ◌≡◌, false, List, [], ◌∷◌, ◌++◌, map, All}
+use Rattle.std.specs.Prelude.{ℕ, ◌≡◌, ◌≤◌, false, List, [], ◌∷◌, ◌++◌, map, All}
 use Rattle.block_pointer.specs.declared.dva.Dva.{Dva}
 use Rattle.raidz_io.specs.declared.writes.ColumnWrite.{ColumnWrite}
 use Rattle.raidz_io.specs.Reads.{OnlyReads, AreUntouched, IsHonestSince, absent_since}
@@ -19,9 +19,10 @@ pub record OnlyReadsBlocks (old new : Store) (missing : List ℕ) : Type 0 where
   pub keeps : Keeps old new
   pub plans : KeepsPlans old new
 
--- the places that were taken for copies of one block, of so many sectors
+-- the places that were taken for copies of one block, of so many sectors and born then
 pub record Taken : Type 0 where
   pub sectors : ℕ
+  pub birth : ℕ
   pub places : List Dva
 
 -- for one block after the other places were chosen and taken
@@ -31,13 +32,15 @@ HaveTaken spaces (taken ∷ rest) after =
     (mid : List VdevSpace) × AreChosen spaces [] taken.sectors taken.places mid × HaveTaken mid rest after
 
 -- Nothing was done but such reads, and new blocks were planned. What stored blocks fill is the same. More writes are due, none of
--- them to a disk that is out. Each plan goes on, with what it had and perhaps more; so it does where a call was refused.
+-- them to a disk that is out. Each plan goes on, with what it had and perhaps more; so it does where a call was refused. What disks
+-- that are out may lack is the same, where no block was born before the plan's group.
 pub record OnlyReadsAndPlans (old new : Store) (missing : List ℕ) : Type 0 where
   pub out : new.out ≡ old.out
   pub shapes : shapes_of new.spaces ≡ shapes_of old.spaces
   pub filled : map filled_marks new.spaces ≡ map filled_marks old.spaces
   pub taken : List Taken
   pub took : HaveTaken old.spaces taken new.spaces
+  pub spans : All (λ block. old.spans.group ≤ block.birth) taken → new.spans ≡ old.spans
   pub reads : OnlyReads old.disks new.disks
   pub untouched : AreUntouched (outs old ++ missing) old.disks new.disks
   pub keeps : Keeps old new

@@ -1,21 +1,27 @@
 -- A store of blocks, and what it holds.
-use Rattle.std.specs.Prelude.{ℕ, suc, ◌≡◌, ◌⊎◌, ◌||◌, ◌==◌, Some, Bool, false, if◌then◌else◌, List, [], ◌∷◌, length, slice_get, slice_index_or, Contains}
+use Rattle.std.specs.Prelude.{ℕ, suc, ◌≡◌, ◌≤◌, ◌⊎◌, ◌||◌, ◌==◌, nat_le, nat_lt, min, Some, Bool, false, if◌then◌else◌, List, [], ◌∷◌, length, map, filter, slice_get, slice_index, slice_index_or, slice_set, Contains}
 use Rattle.model_disk.specs.Joint.{Disks, content}
 use Rattle.block_pointer.specs.declared.block.Block.{Block}
 use Rattle.block_pointer.specs.declared.dva.Dva.{Dva}
 use Rattle.block_pointer.specs.Copies.{dvas}
 use Rattle.raidz_io.specs.declared.vdev.Extent.{Extent}
 use Rattle.raidz_io.specs.declared.writes.ColumnWrite.{ColumnWrite}
-use Rattle.raidz_io.specs.Stands.{ExtentStands, IsWithin}
+use Rattle.raidz_io.specs.Stands.{ExtentStands, IsColumnWrite, IsWithin}
 use Rattle.block_store.specs.declared.space.VdevSpace.{VdevSpace}
 use Rattle.block_store.specs.Blocks.{Contents, IsWrittenAs}
 use Rattle.block_store.specs.Places.{Marks, filled, IsLaidOut, IsTaken, IsCopy, ArePlacesApart}
+
+-- Which blocks the disks that are out may lack. A plan is of a transaction group, and no block of it was born before that group.
+pub record Spans : Type 0 where
+  pub since : List ℕ  -- of each disk that is out, the first group whose blocks it may lack
+  pub group : ℕ  -- the group of the plan
 
 -- what a `BlockStore` shows
 pub record Store : Type 0 where
   pub disks : Disks
   pub spaces : List VdevSpace
   pub out : List Bool  -- for each disk, whether it is out
+  pub spans : Spans
   pub due : List ColumnWrite  -- the writes of the plan that are to be made, in order
 
 -- whether that disk is out
@@ -35,6 +41,23 @@ outs_from first (out ∷ rest) = if out then first ∷ outs_from (suc first) res
 abbrev pub outs : Store → List ℕ
 outs store = outs_from 0 store.out
 
+-- the disks that are lost for a block that was born in that group: they are out since then, or since an earlier group
+abbrev pub lost : Store → ℕ → List ℕ
+lost store birth = filter (λ disk. nat_le (slice_index store.spans.since disk) birth) (outs store)
+
+-- a plan of that group: where it is an earlier one than before, the disks that are out may lack its blocks too
+abbrev pub in_group : Spans → ℕ → Spans
+in_group spans group = record { group = group; since = if nat_lt group spans.group then map (min group) spans.since else spans.since }
+
+-- a block of the plan was born then: in the plan's group, or else the plan's group is an earlier one
+abbrev pub reaching : Spans → ℕ → Spans
+reaching spans birth = if nat_lt birth spans.group then in_group spans birth else spans
+
+-- that disk may lack blocks from the plan's group on, if it was not out before; of the others nothing changes
+abbrev pub GoesOut : Store → ℕ → Store → Type 0
+GoesOut old disk new =
+    new.spans ≡ (if is_out old.out disk then old.spans else record { group = old.spans.group; since = slice_set old.spans.since disk old.spans.group })
+
 -- each block that is known is what its pointer tells, and its copies lie apart, in places that are in use
 pub record ArePlaced (spaces : List VdevSpace) (marks : Marks) (contents : Contents) : Type 0 where
   pub blocks : (block : Block) (bytes : List ℕ) → contents block ≡ Some bytes → IsWrittenAs block bytes
@@ -44,18 +67,34 @@ pub record ArePlaced (spaces : List VdevSpace) (marks : Marks) (contents : Conte
       → slice_get (dvas block.copies) i ≡ Some place → slice_get (dvas other.copies) k ≡ Some behind
       → ((block ≡ other) × (i ≡ k)) ⊎ ArePlacesApart place behind
 
--- The blocks are stored: they are placed, and each column of each copy, the parity too, stands at its place on every disk that isn't out.
+-- The blocks are stored: they are placed, and each column of each copy, the parity too, stands at its place on every disk that isn't
+-- lost for its birth: on those that are out too, where they went out later.
 pub record Holds (store : Store) (stored : Contents) : Type 0 where
   pub placed : ArePlaced store.spaces filled stored
   pub stand : (block : Block) (bytes : List ℕ) (i : ℕ) (extent : Extent) → stored block ≡ Some bytes → IsCopy store.spaces block i extent
-      → ExtentStands (content store.disks) (outs store) extent bytes
+      → ExtentStands (content store.disks) (lost store block.birth) extent bytes
 
 -- each map of blocks that the store held, it still holds
 abbrev pub Keeps : Store → Store → Type 0
 Keeps old new = (stored : Contents) → Holds old stored → Holds new stored
 
+-- Each copy of these blocks that stood, but for columns on some disks, does so still. So each column that stood stands.
+abbrev pub Spares : Contents → Store → Store → Type 0
+Spares known old new =
+    (block : Block) (bytes : List ℕ) (i : ℕ) (extent : Extent) (absent : List ℕ) → known block ≡ Some bytes → IsCopy old.spaces block i extent
+    → ExtentStands (content old.disks) absent extent bytes → ExtentStands (content new.disks) absent extent bytes
+
+-- the same, but for the column that the write is of
+abbrev pub SparesBut : ColumnWrite → Contents → Store → Store → Type 0
+SparesBut write known old new =
+    (block : Block) (bytes : List ℕ) (i : ℕ) (extent : Extent) (absent : List ℕ) → known block ≡ Some bytes → IsCopy old.spaces block i extent
+    → ((k : ℕ) → IsColumnWrite extent k write → Contains absent write.disk)
+    → ExtentStands (content old.disks) absent extent bytes → ExtentStands (content new.disks) absent extent bytes
+
 -- the vdevs are on the disks, and what is due is on them too
 pub record IsStore (store : Store) : Type 0 where
   pub laid_out : IsLaidOut store.disks.starts store.spaces
   pub disks : length store.out ≡ length store.disks.starts
+  pub spans : length store.spans.since ≡ length store.disks.starts
+  pub reached : (disk : ℕ) → slice_index store.spans.since disk ≤ store.spans.group
   pub due : (write : ColumnWrite) → Contains store.due write → IsWithin store.disks.starts write

@@ -137,6 +137,7 @@ impl<D: Disk + Drop> BlockStore<D> {
         requires room { (space : VdevSpace) → slice_get self.old.spaces place.vdev ≡ Some space → slice_index (planned space) (metaslab_of space.shape place) + place.allocated < 2 ^ 64 }
         ensures disks { self.new.disks ≡ self.old.disks }
         ensures out { self.new.out ≡ self.old.out }
+        ensures spans { self.new.spans ≡ self.old.spans }
         ensures due { self.new.due ≡ self.old.due }
         ensures spaces { IsTakenToo self.old.spaces place self.new.spaces }
     {
@@ -155,6 +156,7 @@ impl<D: Disk + Drop> BlockStore<D> {
         requires copies { copies ≤ 3 }
         ensures disks { self.new.disks ≡ self.old.disks }
         ensures out { self.new.out ≡ self.old.out }
+        ensures spans { self.new.spans ≡ self.old.spans }
         ensures due { self.new.due ≡ self.old.due }
         ensures count { IfOk result (λ places. length places.items ≡ copies) }
         ensures chosen { IfOk result (λ places. AreChosen self.old.spaces [] sectors places.items self.new.spaces) }

@@ -153,6 +153,7 @@ impl<D: Disk + Drop> BlockStore<D> {
         ensures starts { IfOk result (λ store. store.disks.starts ≡ map D.start disks.items) }
         ensures calls { IfOk result (λ store. (which : ℕ) → calls_on which store.disks.calls ≡ log_of (map D.calls disks.items) which) }
         ensures out { IfOk result (λ store. (disk : ℕ) → is_out store.out disk ≡ false) }
+        ensures group { IfOk result (λ store. store.spans.group ≡ 0) }
         ensures due { IfOk result (λ store. store.due ≡ []) }
 
         // It holds no block, and no plan is begun: no sector is in use.
@@ -168,10 +169,13 @@ impl<D: Disk + Drop> BlockStore<D> {
         let disks = DiskArray::new(disks);
         let spaces = spaces_of(alloc, &disks, vdevs)?;
         let out = vec![in alloc; false; disks.len()]?;
+        let since = vec![in alloc; 0; disks.len()]?;
         Ok(BlockStore {
             disks,
             spaces,
             out,
+            since,
+            group: 0,
             due: VecDeque::new(alloc),
         })
     }

@@ -4,8 +4,9 @@ ghost use Rattle.model_disk.specs.Call.{write_call, flush_call};
 ghost use Rattle.model_disk.specs.Joint.{on};
 ghost use Rattle.raidz_io.specs.declared.writes.ColumnWrite.{ColumnWrite};
 ghost use Rattle.block_store.specs.Laws.{Laws};
-ghost use Rattle.block_store.specs.Plans.{KeepsPlans};
-ghost use Rattle.block_store.specs.Store.{Keeps, IsOutToo};
+ghost use Rattle.block_store.specs.Blocks.{Contents};
+ghost use Rattle.block_store.specs.Plans.{Plans, KeepsPlans};
+ghost use Rattle.block_store.specs.Store.{Keeps, IsOutToo, GoesOut, Spares, SparesBut};
 
 use crate::store::BlockStore;
 use model_disk::Disk;
@@ -44,9 +45,13 @@ impl<D: Disk + Drop> BlockStore<D> {
             × (self.new.disks.calls ≡ on write.disk (write_call result write.offset write.bytes.items) ∷ self.old.disks.calls)
             × IfErr result (λ failed. failed.disk ≡ write.disk) × IfErr result (λ failed. IsOutToo self.old.out write.disk self.new.out) }
         ensures out { OnOk result (self.new.out ≡ self.old.out) }
+        ensures spans { OnOk result (self.new.spans ≡ self.old.spans) }
+        ensures gone { IfErr result (λ failed. GoesOut self.old failed.disk self.new) }
 
-        // Each plan goes on.
+        // Each plan goes on. A disk that goes out keeps each column that stood there, but for the one that the write is of.
         ensures plans { KeepsPlans self.old self.new }
+        ensures spares { (write : ColumnWrite) (stored planned : Contents) → self.old.due ≡ write ∷ self.new.due → Plans self.old stored planned
+            → Spares stored self.old self.new × SparesBut write planned self.old self.new }
     {
         blocks_beside_others();
         let Some(write) = self.due.pop_front() else {
@@ -66,6 +71,11 @@ impl<D: Disk + Drop> BlockStore<D> {
         ensures out { OnOk result (self.new.out ≡ self.old.out) }
         ensures failed { IfErr result (λ failed. failed.disk ≡ disk) }
         ensures out_too { IfErr result (λ failed. IsOutToo self.old.out disk self.new.out) }
+        ensures spans { OnOk result (self.new.spans ≡ self.old.spans) }
+
+        // What it may lack is blocks from the plan's group on: no byte of a disk has changed.
+        ensures gone { IfErr result (λ failed. GoesOut self.old disk self.new) }
+        ensures spares { (known : Contents) → Spares known self.old self.new }
         ensures keeps { Keeps self.old self.new }
         ensures plans { KeepsPlans self.old self.new }
     {
@@ -76,7 +86,8 @@ impl<D: Disk + Drop> BlockStore<D> {
 
     /// Notes that a disk is out, where a call on it failed.
     fn note(&mut self, disk: usize, answered: bool) -> Result<(), FailedDisk>
-        requires { disk < length self.old.out }
+        requires out { disk < length self.old.out }
+        requires since { disk < length self.old.spans.since }
         ensures disks { self.new.disks ≡ self.old.disks }
         ensures spaces { self.new.spaces ≡ self.old.spaces }
         ensures due { self.new.due ≡ self.old.due }
@@ -84,9 +95,14 @@ impl<D: Disk + Drop> BlockStore<D> {
         ensures out { OnOk result (self.new.out ≡ self.old.out) }
         ensures failed { IfErr result (λ failed. failed.disk ≡ disk) }
         ensures out_too { IfErr result (λ failed. IsOutToo self.old.out disk self.new.out) }
+        ensures spans { OnOk result (self.new.spans ≡ self.old.spans) }
+        ensures gone { IfErr result (λ failed. GoesOut self.old disk self.new) }
     {
         if answered {
             return Ok(());
+        }
+        if !self.out[disk] {
+            self.since[disk] = self.group;
         }
         self.out[disk] = true;
         Err(FailedDisk { disk })

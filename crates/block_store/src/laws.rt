@@ -1,8 +1,8 @@
 //! Laws of what a store holds, as functions with no body: what each ensures follows from the definitions alone.
-ghost use Rattle.block_store.specs.Elsewhere.{BlocksLieInSectors, WritesElsewhereKeep};
+ghost use Rattle.block_store.specs.Elsewhere.{BlocksLieInSectors, ReadsSpare, WritesElsewhereKeep};
 ghost use Rattle.block_store.specs.Forgetting.{FewerAreHeld, FewerArePlanned};
 
-use raidz_io::{stands_while_kept, stands_with_more_absent};
+use raidz_io::{reads_keep_contents, stands_while_kept, stands_with_more_absent};
 
 /// What a store holds, it holds of fewer blocks.
 pub fn fewer_are_held()
@@ -18,6 +18,14 @@ pub fn fewer_are_planned()
 pub fn blocks_lie_in_sectors()
     ensures { BlocksLieInSectors }
 {}
+
+/// Reads spare all that stood.
+pub fn reads_spare()
+    ensures { ReadsSpare }
+{
+    reads_keep_contents();
+    stands_while_kept();
+}
 
 /// What changes no byte of those sectors keeps what a store holds and plans.
 pub fn writes_elsewhere_keep()

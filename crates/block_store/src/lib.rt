@@ -17,7 +17,9 @@ mod store;
 pub use block::{Asked, CopyCount, NewBlock};
 pub use create::VdevConfig;
 pub use device::FailedDisk;
-pub use laws::{blocks_lie_in_sectors, fewer_are_held, fewer_are_planned, writes_elsewhere_keep};
+pub use laws::{
+    blocks_lie_in_sectors, fewer_are_held, fewer_are_planned, reads_spare, writes_elsewhere_keep,
+};
 pub use refusal::Refusal;
 pub use shape::VdevShape;
 pub use space::VdevSpace;

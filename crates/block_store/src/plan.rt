@@ -1,5 +1,5 @@
 //! Plans of blocks that are to be written.
-ghost use Rattle.std.specs.Prelude.{◌≡◌, ◌≤◌, ◌<◌, ◌+◌, ◌*◌, ◌^◌, ◌⊎◌, ℕ, List, All, Contains, false, filter, not, length, [], ◌++◌, OnOk, OnErr, IfOk, IfErr};
+ghost use Rattle.std.specs.Prelude.{◌≡◌, ◌≤◌, ◌<◌, ◌+◌, ◌*◌, ◌^◌, ◌⊎◌, ℕ, List, All, Contains, false, filter, map, min, nat_lt, if◌then◌else◌, not, length, [], ◌++◌, OnOk, OnErr, IfOk, IfErr};
 ghost use Rattle.block_pointer.specs.Block.{FitsBlock};
 ghost use Rattle.block_pointer.specs.Copies.{dvas};
 ghost use Rattle.raidz_io.specs.declared.writes.ColumnWrite.{ColumnWrite};
@@ -7,7 +7,7 @@ ghost use Rattle.raidz_io.specs.Places.{CanHold, IsOnDisks};
 ghost use Rattle.block_store.specs.Blocks.{Contents, Adds, FitsNew, IsBlockOf, count_of};
 ghost use Rattle.block_store.specs.Places.{shapes_of, filled, planned, HaveMarks, AreChosen, TookSome, RanOut, IsPlaceIn, IsExtentAt};
 ghost use Rattle.block_store.specs.Plans.{Plans, KeepsPlans, AreWritesAt};
-ghost use Rattle.block_store.specs.Store.{Holds, Keeps, is_out};
+ghost use Rattle.block_store.specs.Store.{Holds, Keeps, is_out, in_group, reaching};
 
 use crate::block::{CopyCount, NewBlock};
 use crate::refusal::Refusal;
@@ -72,11 +72,31 @@ fn drop_plans(spaces: &mut Vec<VdevSpace>)
     }
 }
 
+/// Each disk that is out may lack blocks from that group on, where it is earlier than the plan's.
+fn lower(since: &mut Vec<u64>, before: u64, group: u64)
+    ensures { since.new.items ≡ (if nat_lt group before then map (min group) since.old.items else since.old.items) }
+{
+    if group < before {
+        lower_all(since, group);
+    }
+}
+
+/// Each is at most that group.
+fn lower_all(since: &mut Vec<u64>, group: u64)
+    ensures { since.new.items ≡ map (min group) since.old.items }
+{
+    for disk in 0..since.len() {
+        since[disk] = group.min(since[disk]);
+    }
+}
+
 impl<D: Disk + Drop> BlockStore<D> {
-    /// Begins a plan, and drops the one before it. Nothing is due.
-    pub fn begin_plan(&mut self)
+    /// Begins a plan of a transaction group, and drops the one before it. Nothing is due. A disk that fails from then on
+    /// may lack blocks that were born in that group or later.
+    pub fn begin_plan(&mut self, group: u64)
         ensures disks { self.new.disks ≡ self.old.disks }
         ensures out { self.new.out ≡ self.old.out }
+        ensures spans { self.new.spans ≡ in_group self.old.spans group }
         ensures shapes { shapes_of self.new.spaces ≡ shapes_of self.old.spaces }
         ensures due { self.new.due ≡ [] }
 
@@ -87,14 +107,59 @@ impl<D: Disk + Drop> BlockStore<D> {
         // What is stored stays so, and nothing else is planned.
         ensures plans { (stored : Contents) → Holds self.old stored → Plans self.new stored stored }
     {
+        self.enter(group);
+        self.drop_plan();
+    }
+
+    /// Drops a plan.
+    fn drop_plan(&mut self)
+        ensures disks { self.new.disks ≡ self.old.disks }
+        ensures out { self.new.out ≡ self.old.out }
+        ensures spans { self.new.spans ≡ self.old.spans }
+        ensures shapes { shapes_of self.new.spaces ≡ shapes_of self.old.spaces }
+        ensures due { self.new.due ≡ [] }
+        ensures filled { HaveMarks self.old.spaces filled self.new.spaces filled }
+        ensures free { HaveMarks self.old.spaces filled self.new.spaces planned }
+        ensures plans { (stored : Contents) → Holds self.old stored → Plans self.new stored stored }
+    {
         self.due.clear();
         drop_plans(&mut self.spaces);
+    }
+
+    /// The plan's group is that one.
+    fn enter(&mut self, group: u64)
+        ensures disks { self.new.disks ≡ self.old.disks }
+        ensures out { self.new.out ≡ self.old.out }
+        ensures spaces { self.new.spaces ≡ self.old.spaces }
+        ensures due { self.new.due ≡ self.old.due }
+        ensures spans { self.new.spans ≡ in_group self.old.spans group }
+        ensures keeps { Keeps self.old self.new }
+    {
+        lower(&mut self.since, self.group, group);
+        self.group = group;
+    }
+
+    /// A block of the plan is born then.
+    fn reach(&mut self, birth: u64)
+        ensures disks { self.new.disks ≡ self.old.disks }
+        ensures out { self.new.out ≡ self.old.out }
+        ensures spaces { self.new.spaces ≡ self.old.spaces }
+        ensures due { self.new.due ≡ self.old.due }
+        ensures spans { self.new.spans ≡ reaching self.old.spans birth }
+        ensures born { self.new.spans.group ≤ birth }
+        ensures keeps { Keeps self.old self.new }
+        ensures plans { KeepsPlans self.old self.new }
+    {
+        if birth < self.group {
+            self.enter(birth);
+        }
     }
 
     /// Ends a plan of which nothing is due: its blocks are stored.
     pub fn finish_plan(&mut self)
         ensures disks { self.new.disks ≡ self.old.disks }
         ensures out { self.new.out ≡ self.old.out }
+        ensures spans { self.new.spans ≡ self.old.spans }
         ensures shapes { shapes_of self.new.spaces ≡ shapes_of self.old.spaces }
         ensures due { self.new.due ≡ self.old.due }
         ensures filled { HaveMarks self.old.spaces planned self.new.spaces filled }
@@ -105,7 +170,8 @@ impl<D: Disk + Drop> BlockStore<D> {
     }
 
     /// Adds a block to the plan: it places so many copies, each in another vdev while one has room, then in other
-    /// metaslabs, then anywhere apart, and the writes that store them are due. None is to a disk that is out.
+    /// metaslabs, then anywhere apart, and the writes that store them are due. None is to a disk that is out. A block is
+    /// born in the plan's group or later; one that is not makes the plan's group an earlier one.
     /// Where no metaslab has room for a copy the answer is `NoSpace`.
     pub fn plan_write(
         &mut self,
@@ -118,12 +184,45 @@ impl<D: Disk + Drop> BlockStore<D> {
         requires size { length bytes.now ≡ new.property.sectors * 512 }
         ensures disks { self.new.disks ≡ self.old.disks }
         ensures out { self.new.out ≡ self.old.out }
+        ensures spans { self.new.spans ≡ reaching self.old.spans new.birth }
         ensures shapes { shapes_of self.new.spaces ≡ shapes_of self.old.spaces }
         ensures keeps { Keeps self.old self.new }
         ensures block { IfOk result (λ block. IsBlockOf new bytes.now (count_of copies) block) }
         ensures fits { IfOk result FitsBlock }
 
         // The block is planned, and all others stay.
+        ensures planned { IfOk result (λ block. (stored planned : Contents) → Plans self.old stored planned
+            → (later : Contents) × Plans self.new stored later × Adds planned later block bytes.now) }
+        ensures places { IfOk result (λ block. AreChosen self.old.spaces [] new.property.sectors (dvas block.copies) self.new.spaces) }
+        ensures due { OnOk result ((added : List ColumnWrite) × (self.new.due ≡ self.old.due ++ added) × All (λ write. is_out self.old.out write.disk ≡ false) added) }
+        ensures refused { IfErr result (λ refusal. (refusal ≡ Refusal.NoMemory)
+            ⊎ ((refusal ≡ Refusal.NoSpace) × RanOut self.old.spaces new.property.sectors (count_of copies) self.new.spaces)) }
+        ensures err_spaces { OnErr result (TookSome self.old.spaces new.property.sectors (count_of copies) self.new.spaces) }
+        ensures err_due { OnErr result (self.new.due ≡ self.old.due) }
+        ensures err { OnErr result (KeepsPlans self.old self.new) }
+    {
+        self.reach(new.birth);
+        self.place_block(alloc, bytes, new, copies)
+    }
+
+    /// Adds a block, born in the plan's group or later.
+    fn place_block(
+        &mut self,
+        alloc: Global,
+        bytes: &[u8],
+        new: NewBlock,
+        copies: CopyCount,
+    ) -> Result<Block, Refusal>
+        requires fits { FitsNew new }
+        requires born { self.old.spans.group ≤ new.birth }
+        requires size { length bytes.now ≡ new.property.sectors * 512 }
+        ensures disks { self.new.disks ≡ self.old.disks }
+        ensures out { self.new.out ≡ self.old.out }
+        ensures spans { self.new.spans ≡ self.old.spans }
+        ensures shapes { shapes_of self.new.spaces ≡ shapes_of self.old.spaces }
+        ensures keeps { Keeps self.old self.new }
+        ensures block { IfOk result (λ block. IsBlockOf new bytes.now (count_of copies) block) }
+        ensures fits { IfOk result FitsBlock }
         ensures planned { IfOk result (λ block. (stored planned : Contents) → Plans self.old stored planned
             → (later : Contents) × Plans self.new stored later × Adds planned later block bytes.now) }
         ensures places { IfOk result (λ block. AreChosen self.old.spaces [] new.property.sectors (dvas block.copies) self.new.spaces) }

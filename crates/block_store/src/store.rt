@@ -1,5 +1,5 @@
 //! The store.
-ghost use Rattle.std.specs.Prelude.{◌≡◌, ◌+◌, ◌<◌, ◌≤◌, length, slice_get, Some, option_map};
+ghost use Rattle.std.specs.Prelude.{◌≡◌, ◌+◌, ◌<◌, ◌≤◌, length, slice_get, slice_index, Some, None, if◌then◌else◌, option_map};
 ghost use Rattle.block_store.specs.Store.{is_out};
 
 use crate::shape::VdevShape;
@@ -19,6 +19,10 @@ pub struct BlockStore<D: Disk + Drop> {
     pub(crate) disks: DiskArray<D>,
     pub(crate) spaces: Vec<VdevSpace>,
     pub(crate) out: Vec<bool>,
+    /// Of each disk that is out, the first transaction group whose blocks it may lack.
+    pub(crate) since: Vec<u64>,
+    /// No block of the plan was born before that group.
+    pub(crate) group: u64,
     pub(crate) due: VecDeque<ColumnWrite>,
 }
 
@@ -27,9 +31,9 @@ impl<D: Disk + Drop> Model for BlockStore<D> {
 
     ghost Value = { Store };
 
-    ghost view = { λ s. record { disks = s.disks; spaces = s.spaces.items; out = s.out.items; due = s.due.items } };
+    ghost view = { λ s. record { disks = s.disks; spaces = s.spaces.items; out = s.out.items; spans = record { since = s.since.items; group = s.group }; due = s.due.items } };
 
-    ghost invariant = { λ s. IsStore (record { disks = s.disks; spaces = s.spaces.items; out = s.out.items; due = s.due.items }) };
+    ghost invariant = { λ s. IsStore (record { disks = s.disks; spaces = s.spaces.items; out = s.out.items; spans = record { since = s.since.items; group = s.group }; due = s.due.items }) };
 }
 
 impl<D: Disk + Drop> BlockStore<D> {
@@ -46,6 +50,17 @@ impl<D: Disk + Drop> BlockStore<D> {
         ensures { result ≡ is_out self.now.out disk }
     {
         self.out.get(disk).copied().unwrap_or(false)
+    }
+
+    /// Of a disk that is out, the first transaction group whose blocks it may lack. What was stored before that group is
+    /// still on it.
+    pub fn out_since(&self, disk: usize) -> Option<u64>
+        ensures { result ≡ (if is_out self.now.out disk then Some (slice_index self.now.spans.since disk) else None) }
+    {
+        if !self.is_out(disk) {
+            return None;
+        }
+        Some(self.since.get(disk).copied().unwrap_or(0))
     }
 
     /// How many vdevs there are.

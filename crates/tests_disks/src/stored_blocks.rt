@@ -42,6 +42,8 @@ enum Step<'a> {
     /// How many writes are due.
     Due,
     IsOut(usize),
+    /// Of a disk that is out, the first group whose blocks it may lack.
+    OutSince(usize),
     /// Whether the first two copies of a block are on two vdevs.
     IsOnTwoVdevs(usize),
     /// Whether two blocks lie in the same places.
@@ -67,6 +69,7 @@ enum Outcome {
     Done,
     /// So many writes failed, or are due.
     Count(usize),
+    Since(Option<u64>),
     /// The bytes are those that were written, or the answer is yes.
     Right,
     Wrong,
@@ -284,7 +287,7 @@ fn judge(store: &mut TestStore, alloc: Global, known: &[Known], step: Step) -> O
 fn make(store: &mut TestStore, alloc: Global, known: &mut Vec<Known>, step: Step) -> Outcome {
     match step {
         Step::Begin => {
-            store.begin_plan();
+            store.begin_plan(BIRTH);
             Outcome::Done
         }
         Step::Plan(seed, sectors, copies) => match plan(store, alloc, seed, sectors, copies) {
@@ -302,6 +305,7 @@ fn make(store: &mut TestStore, alloc: Global, known: &mut Vec<Known>, step: Step
         Step::Flush(disk) => flush(store, disk),
         Step::Due => Outcome::Count(store.due_count()),
         Step::IsOut(disk) => answer(store.is_out(disk)),
+        Step::OutSince(disk) => Outcome::Since(store.out_since(disk)),
         _ => judge(store, alloc, known.as_slice(), step).unwrap_or(Outcome::Wrong),
     }
 }
@@ -440,6 +444,8 @@ fn a_disk_whose_write_fails_is_out(rt: HostRuntime) -> Result<(), Fail> {
         (Step::IsOut(0), Outcome::Wrong),
         (Step::IsOut(1), Outcome::Right),
         (Step::IsOut(2), Outcome::Wrong),
+        (Step::OutSince(0), Outcome::Since(None)),
+        (Step::OutSince(1), Outcome::Since(Some(BIRTH))),
         (Step::Begin, Outcome::Done),
         (Step::Plan(3, LARGE, CopyCount::One), Outcome::Done),
         (Step::Due, Outcome::Count(2)),

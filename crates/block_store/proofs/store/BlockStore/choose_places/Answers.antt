@@ -13,8 +13,9 @@ loop-copy-preserved g c =
     let A : List Dva → Type 0 = λ places. AreChosen c.args.self.now.spaces [] c.args.sectors places c.take.new.self.spaces in (
       c.take.ensures.disks ∙ before.0,
       c.take.ensures.out ∙ before.1,
-      c.take.ensures.due ∙ before.2,
-      ap length c.push.ensures.items ∙ length-append c.loop-copy.places.items (c.in-Some.place ∷ []) ∙ ap (λ n. n + 1) before.3,
+      c.take.ensures.spans ∙ before.2,
+      c.take.ensures.due ∙ before.3,
+      ap length c.push.ensures.items ∙ length-append c.loop-copy.places.items (c.in-Some.place ∷ []) ∙ ap (λ n. n + 1) before.4,
       subst A (sym c.push.ensures.items)
-          (AreChosen-push c.args.self.now.spaces [] c.args.sectors c.loop-copy.places.items c.loop-copy.self.spaces c.in-Some.place c.take.new.self.spaces before.4 chosen c.take.ensures.spaces),
+          (AreChosen-push c.args.self.now.spaces [] c.args.sectors c.loop-copy.places.items c.loop-copy.self.spaces c.in-Some.place c.take.new.self.spaces before.5 chosen c.take.ensures.spaces),
     )

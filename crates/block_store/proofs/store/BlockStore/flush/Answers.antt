@@ -1,7 +1,7 @@
 use Rattle.std.proofs.Common.{◌≡◌, ◌∷◌, IfErr, OnOk, is_ok, sym, ap, ◌∙◌, subst}
 use Rattle.model_disk.specs.Call.{flush_call}
 use Rattle.model_disk.specs.Joint.{Disks, on}
-use Rattle.block_store.specs.Store.{Store, IsOutToo}
+use Rattle.block_store.specs.Store.{Store, IsOutToo, GoesOut}
 use Rattle.block_store.proofs.Calling.{flushed, same_flush_call}
 use Rattle.block_store.proofs.Kept.{IsKept, keeps, keeps_plans}
 use Rattle.block_store.proofs.store.BlockStore.flush.Given.{Over}
@@ -20,6 +20,8 @@ kept g c =
     (c.note.ensures.due ∙ ap (λ (s : Store). s.due) c.self.view_is) calls
     (subst (λ (s : Store). OnOk c.note.result (c.note.new.self.out ≡ s.out)) c.self.view_is c.note.ensures.out)
     (subst (λ (s : Store). IfErr c.note.result (λ failed. IsOutToo s.out c.args.disk c.note.new.self.out)) c.self.view_is c.note.ensures.out_too)
+    (subst (λ (s : Store). OnOk c.note.result (c.note.new.self.spans ≡ s.spans)) c.self.view_is c.note.ensures.spans)
+    (subst (λ (s : Store). IfErr c.note.result (λ failed. GoesOut s c.args.disk c.note.new.self)) c.self.view_is c.note.ensures.gone)
 
 pub returns-clause-keeps : goal.returns-clause-keeps
 returns-clause-keeps g c = keeps c.blocks_beside_others.ensures.kept c.blocks_beside_others.ensures.more_absent c.args.self.now c.note.new.self (kept g c)

@@ -17,6 +17,8 @@ invariant_of-self g c =
       laid_out = laid_out_too c.self.inside.disks.starts c.self.inside.spaces.items _
           (map-set_same (λ s. s.shape) c.self.inside.spaces.items c.args.place.vdev c.index_mut-space.result.now _ at refl) c.self.invariant.laid_out;
       disks = c.self.invariant.disks;
+      spans = c.self.invariant.spans;
+      reached = c.self.invariant.reached;
       due = c.self.invariant.due;
     }
 

@@ -1,0 +1,144 @@
+-- The disks that are lost for a birth.
+use Rattle.std.proofs.Common.{ℕ, zero, suc, ◌≡◌, ◌≢◌, inl, inr, ◌≤◌, Bool, true, false, cond, if◌then◌else◌, List, [], ◌∷◌, length, Contains, refl, sym, ap, subst, ◌∙◌, arith}
+use Rattle.std.specs.Prelude.{nat_le, nat_lt, min, map, filter, slice_index, slice_set}
+use Rattle.std.proofs.lemmas.Bool.Decides.{nat_tests}
+use Rattle.std.proofs.lemmas.List.{length-map}
+use Rattle.raidz_io.proofs.Calls.{Contains-front, Contains-later, Contains-cases}
+use Rattle.block_store.specs.Store.{Store, Spans, is_out, IsOutToo, GoesOut, in_group, outs, outs_from, lost}
+use Rattle.block_store.proofs.Outs.{in_is_out, more_out}
+
+of_filter_by : (p : ℕ → Bool) (y : ℕ) (ys : List ℕ) (x : ℕ) (b : Bool) → p y ≡ b → (Contains (filter p ys) x → Contains ys x × (p x ≡ true))
+    → Contains (cond b (y ∷ filter p ys) (filter p ys)) x → Contains (y ∷ ys) x × (p x ≡ true)
+of_filter_by p y ys x true is rest held = elim (Contains-cases y (filter p ys) x held) [
+  | inl same ↦ (rw same (Contains-front y ys), ap p same ∙ is)
+  | inr later ↦ let there = rest later in (Contains-later y ys x there.0, there.1)
+]
+of_filter_by p y ys x false is rest held = let there = rest held in (Contains-later y ys x there.0, there.1)
+
+of_filter : (p : ℕ → Bool) (xs : List ℕ) (x : ℕ) → Contains (filter p xs) x → Contains xs x × (p x ≡ true)
+of_filter p [] x (k, within, is) = absurd (omega arith)
+of_filter p (y ∷ ys) x held = of_filter_by p y ys x (p y) refl (of_filter p ys x) held
+
+into_filter_by : (p : ℕ → Bool) (y : ℕ) (ys : List ℕ) (x : ℕ) (b : Bool) → p y ≡ b → (Contains ys x → Contains (filter p ys) x) → Contains (y ∷ ys) x → p x ≡ true
+    → Contains (cond b (y ∷ filter p ys) (filter p ys)) x
+into_filter_by p y ys x true is rest held passes = elim (Contains-cases y ys x held) [
+  | inl same ↦ rw same (Contains-front y (filter p ys))
+  | inr later ↦ Contains-later y (filter p ys) x (rest later)
+]
+into_filter_by p y ys x false is rest held passes = elim (Contains-cases y ys x held) [
+  | inl same ↦ absurd (let no : true ≡ false = sym passes ∙ ap p same ∙ is in cc)
+  | inr later ↦ rest later
+]
+
+into_filter : (p : ℕ → Bool) (xs : List ℕ) (x : ℕ) → Contains xs x → p x ≡ true → Contains (filter p xs) x
+into_filter p [] x (k, within, is) passes = absurd (omega arith)
+into_filter p (y ∷ ys) x held passes = into_filter_by p y ys x (p y) refl (λ later. into_filter p ys x later passes) held passes
+
+le_of : (a b : ℕ) → nat_le a b ≡ true → a ≤ b
+le_of a b is = grind (arith, nat_tests)
+
+of_le : (a b : ℕ) → a ≤ b → nat_le a b ≡ true
+of_le a b le = grind (arith, nat_tests)
+
+pub lost_is_out : (store : Store) (birth disk : ℕ) → Contains (lost store birth) disk → Contains (outs store) disk
+lost_is_out store birth disk held = (of_filter (λ it. nat_le (slice_index store.spans.since it) birth) (outs store) disk held).0
+
+pub lost_since : (store : Store) (birth disk : ℕ) → Contains (lost store birth) disk → slice_index store.spans.since disk ≤ birth
+lost_since store birth disk held =
+    le_of (slice_index store.spans.since disk) birth (of_filter (λ it. nat_le (slice_index store.spans.since it) birth) (outs store) disk held).1
+
+pub is_lost : (store : Store) (birth disk : ℕ) → Contains (outs store) disk → slice_index store.spans.since disk ≤ birth → Contains (lost store birth) disk
+is_lost store birth disk out since =
+    into_filter (λ it. nat_le (slice_index store.spans.since it) birth) (outs store) disk out (of_le (slice_index store.spans.since disk) birth since)
+
+-- each disk that was lost for a birth is so still
+abbrev pub LoseMore : Store → Store → Type 0
+LoseMore old new = (birth disk : ℕ) → Contains (lost old birth) disk → Contains (lost new birth) disk
+
+pub lose_same : (old new : Store) → new.out ≡ old.out → new.spans ≡ old.spans → LoseMore old new
+lose_same old new out spans birth disk held =
+    is_lost new birth disk (subst (λ flags. Contains (outs_from 0 flags) disk) (sym out) (lost_is_out old birth disk held))
+    (subst (λ (s : Spans). slice_index s.since disk ≤ birth) (sym spans) (lost_since old birth disk held))
+
+-- ---- a plan of another group
+
+lowered : (since : List ℕ) (group disk : ℕ) → slice_index (map (min group) since) disk ≤ slice_index since disk
+lowered [] group disk = omega arith
+lowered (x ∷ xs) group zero = omega arith
+lowered (x ∷ xs) group (suc disk) = lowered xs group disk
+
+lowered_to : (since : List ℕ) (group disk : ℕ) → slice_index (map (min group) since) disk ≤ group
+lowered_to [] group disk = omega arith
+lowered_to (x ∷ xs) group zero = omega arith
+lowered_to (x ∷ xs) group (suc disk) = lowered_to xs group disk
+
+no_later : (test : Bool) (since : List ℕ) (group disk : ℕ) → slice_index (if test then map (min group) since else since) disk ≤ slice_index since disk
+no_later true since group disk = lowered since group disk
+no_later false since group disk = omega arith
+
+not_below : (a b : ℕ) → nat_lt a b ≡ false → b ≤ a
+not_below a b is = grind (arith, nat_tests)
+
+pub reached_in : (spans : Spans) (group : ℕ) → ((disk : ℕ) → slice_index spans.since disk ≤ spans.group)
+    → (disk : ℕ) → slice_index (in_group spans group).since disk ≤ group
+reached_in spans group reached disk = cases (nat_lt group spans.group) refl
+  where
+    cases : (test : Bool) → nat_lt group spans.group ≡ test → slice_index (if test then map (min group) spans.since else spans.since) disk ≤ group
+    cases true is = lowered_to spans.since group disk
+    cases false is = omega (arith, reached disk, not_below group spans.group is)
+
+pub length_in : (spans : Spans) (group : ℕ) → length (in_group spans group).since ≡ length spans.since
+length_in spans group = cases (nat_lt group spans.group)
+  where
+    cases : (test : Bool) → length (if test then map (min group) spans.since else spans.since) ≡ length spans.since
+    cases true = simp length-map
+    cases false = refl
+
+pub lose_in : (old new : Store) (group : ℕ) → new.out ≡ old.out → new.spans ≡ in_group old.spans group → LoseMore old new
+lose_in old new group out spans birth disk held =
+    let sooner : slice_index (in_group old.spans group).since disk ≤ slice_index old.spans.since disk =
+    no_later (nat_lt group old.spans.group) old.spans.since group disk in
+    is_lost new birth disk (subst (λ flags. Contains (outs_from 0 flags) disk) (sym out) (lost_is_out old birth disk held))
+    (subst (λ (s : Spans). slice_index s.since disk ≤ birth) (sym spans) (omega (arith, sooner, lost_since old birth disk held)))
+
+-- ---- a disk goes out
+
+set_other : (xs : List ℕ) (i k v : ℕ) → i ≢ k → slice_index (slice_set xs i v) k ≡ slice_index xs k
+set_other [] i k v differ = refl
+set_other (x ∷ xs) zero zero v differ = absurd (differ refl)
+set_other (x ∷ xs) zero (suc k) v differ = refl
+set_other (x ∷ xs) (suc i) zero v differ = refl
+set_other (x ∷ xs) (suc i) (suc k) v differ = set_other xs i k v (λ same. differ (ap suc same))
+
+pub set_reached : (xs : List ℕ) (i k v bound : ℕ) → ((n : ℕ) → slice_index xs n ≤ bound) → v ≤ bound → slice_index (slice_set xs i v) k ≤ bound
+set_reached [] i k v bound all le = all k
+set_reached (x ∷ xs) zero zero v bound all le = le
+set_reached (x ∷ xs) zero (suc k) v bound all le = all (suc k)
+set_reached (x ∷ xs) (suc i) zero v bound all le = all zero
+set_reached (x ∷ xs) (suc i) (suc k) v bound all le = set_reached xs i k v bound (λ n. all (suc n)) le
+
+pub lose_one : (old new : Store) (disk : ℕ) → IsOutToo old.out disk new.out → GoesOut old disk new → LoseMore old new
+lose_one old new disk too gone birth other held = cases (is_out old.out disk) refl gone
+  where
+    out : Contains (outs old) other
+    out = lost_is_out old birth other held
+
+    cases : (was : Bool) → is_out old.out disk ≡ was
+        → new.spans ≡ (if was then old.spans else record { group = old.spans.group; since = slice_set old.spans.since disk old.spans.group })
+        → Contains (lost new birth) other
+    cases true is spans =
+        is_lost new birth other (more_out old new disk too other out) (subst (λ (s : Spans). slice_index s.since other ≤ birth) (sym spans) (lost_since old birth other held))
+    cases false is spans =
+        let differ : disk ≢ other = λ same. absurd (let no : true ≡ false = sym (in_is_out old other out) ∙ ap (is_out old.out) (sym same) ∙ is in cc) in
+        let since : slice_index (slice_set old.spans.since disk old.spans.group) other ≡ slice_index old.spans.since other =
+        set_other old.spans.since disk other old.spans.group differ in
+        is_lost new birth other (more_out old new disk too other out)
+        (subst (λ (s : Spans). slice_index s.since other ≤ birth) (sym spans) (omega (arith, since, lost_since old birth other held)))
+
+pub same_group : (old new : Store) (disk : ℕ) → GoesOut old disk new → new.spans.group ≤ old.spans.group
+same_group old new disk gone = cases (is_out old.out disk) gone
+  where
+    cases : (was : Bool) → new.spans ≡ (if was then old.spans else record { group = old.spans.group; since = slice_set old.spans.since disk old.spans.group })
+        → new.spans.group ≤ old.spans.group
+    cases true spans = let same : new.spans.group ≡ old.spans.group = ap (λ (s : Spans). s.group) spans in omega (arith, same)
+    cases false spans = let same : new.spans.group ≡ old.spans.group = ap (λ (s : Spans). s.group) spans in omega (arith, same)
