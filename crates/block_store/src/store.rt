@@ -11,9 +11,13 @@ use std::marker::Model;
 
 /// Blocks on the vdevs of a pool, and a plan of those that are to be written.
 ///
-/// A plan begins with `begin_plan`. Each `plan_write` places a block and names the writes that store it, which are then
+/// A plan begins with `begin_plan`, which is told its transaction group. Each `plan_write` places a block and names the writes that store it, which are then
 /// due. `write_next` makes the next of them. Once none is due, `finish_plan` takes the blocks of the plan as stored.
 /// A plan is dropped by the next `begin_plan`: what it placed is free again.
+///
+/// A disk that fails a write or a flush is out: no call is made on it when a block is read, and no write is planned for
+/// it. It is out since the group of that plan. Of blocks that were born before, it still has every column, whatever
+/// failed: the write that failed is of a block of the plan.
 #[derive(Drop)]
 pub struct BlockStore<D: Disk + Drop> {
     pub(crate) disks: DiskArray<D>,
