@@ -10,9 +10,10 @@ use Rattle.dnode.specs.declared.dnode.Dnode.{Dnode}
 use Rattle.dnode.specs.declared.object_set.ObjectSet.{ObjectSet}
 use Rattle.block_store.specs.Blocks.{Contents}
 use Rattle.block_store.specs.Store.{Store, Holds}
-use Rattle.dnode_tree.proofs.FurtherReads.{reads_on, true_before, true_after}
+use Rattle.block_store.proofs.Steps.{reads_on}
+use Rattle.dnode_tree.proofs.FurtherReads.{true_before, true_after}
 use Rattle.dnode_tree.specs.declared.writes.BlockWrite.{BlockWrite}
-use Rattle.dnode_tree.specs.Reading.{OnlyReadsBlocks, AnswersAreTrue}
+use Rattle.block_store.specs.Steps.{OnlyReadsBlocks, AnswersAreTrue}
 use Rattle.dnode_tree.specs.Tree.{IsTree}
 use Rattle.dnode_tree.specs.Writes.{AreInOrder, AreWholeBlocks, written}
 use Rattle.dnode_slots.specs.declared.writes.NodeWrite.{NodeWrite}

@@ -5,4 +5,3 @@ mod Outcomes
 mod PutNodes
 mod SlotBytes
 mod TreeSizes
-mod PlannedSets

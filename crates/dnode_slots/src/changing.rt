@@ -5,7 +5,7 @@ ghost use Rattle.dnode.specs.declared.dnode.Dnode.{Dnode};
 ghost use Rattle.dnode.specs.ObjectSet.{FitsObjectSet};
 ghost use Rattle.block_store.specs.Blocks.{Contents};
 ghost use Rattle.block_store.specs.Store.{Holds};
-ghost use Rattle.dnode_tree.specs.Reading.{OnlyReadsBlocks, AnswersAreTrue, LossIsTolerable};
+ghost use Rattle.block_store.specs.Steps.{OnlyReadsBlocks, AnswersAreTrue, LossIsTolerable};
 ghost use Rattle.dnode_tree.specs.Tree.{IsTree};
 ghost use Rattle.dnode_tree.specs.Writes.{AreInOrder, AreWholeBlocks, written};
 ghost use Rattle.dnode_slots.specs.Nodes.{AreNodesOf};

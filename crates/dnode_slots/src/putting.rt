@@ -5,7 +5,7 @@ ghost use Rattle.dnode.specs.declared.dnode.Dnode.{Dnode};
 ghost use Rattle.dnode.specs.ObjectSet.{FitsObjectSet};
 ghost use Rattle.block_store.specs.Blocks.{Contents};
 ghost use Rattle.block_store.specs.Plans.{Plans};
-ghost use Rattle.dnode_tree.specs.Reading.{OnlyReadsAndPlans, AnswersAreTrue, LossIsTolerable};
+ghost use Rattle.block_store.specs.Steps.{OnlyReadsAndPlans, AnswersAreTrue, LossIsTolerable};
 ghost use Rattle.dnode_tree.specs.Writes.{HasNoRoom, IsForRoom};
 ghost use Rattle.dnode_slots.specs.Nodes.{HasNodes};
 ghost use Rattle.dnode_slots.specs.Writes.{AreNodeWrites, AreNodesRewritten, IsGrownSet, written_nodes};
@@ -42,7 +42,7 @@ pub fn put_many<D: Disk + Drop>(
     ensures rewritten { IfOk result (λ done. (stored planned : Contents) (bound : ℕ) (nodes : ℕ → Dnode) (blocks : List Block) → Plans store.old stored planned
         → HasNodes stored bound set.now nodes blocks → bound ≤ birth → AnswersAreTrue store.old store.new
         → (later : Contents) × Plans store.new stored later × AreNodesRewritten copies planned later birth done (written_nodes writes.now nodes) blocks) }
-    ensures no_room { IfErr result (λ refusal. refusal ≡ Refusal.NoSpace → HasNoRoom store.old store.new set.now.dnodes copies) }
+    ensures no_room { IfErr result (λ refusal. refusal ≡ Refusal.NoSpace → HasNoRoom store.old store.new missing.now set.now.dnodes copies) }
     ensures known { IfErr result (λ refusal. (stored planned : Contents) (bound : ℕ) (nodes : ℕ → Dnode) (blocks : List Block) → Plans store.old stored planned
         → HasNodes stored bound set.now nodes blocks → bound ≤ birth → AnswersAreTrue store.old store.new → LossIsTolerable store.old store.new missing.now
         → IsForRoom refusal) }

@@ -6,7 +6,7 @@ ghost use Rattle.dnode.specs.Dnode.{FitsDnode};
 ghost use Rattle.dnode.specs.ObjectSet.{FitsObjectSet};
 ghost use Rattle.block_store.specs.Blocks.{Contents};
 ghost use Rattle.block_store.specs.Store.{Holds};
-ghost use Rattle.dnode_tree.specs.Reading.{OnlyReadsBlocks, AnswersAreTrue, LossIsTolerable};
+ghost use Rattle.block_store.specs.Steps.{OnlyReadsBlocks, AnswersAreTrue, LossIsTolerable};
 ghost use Rattle.dnode_slots.specs.Nodes.{HasNodes};
 
 use crate::blocks::block_at;

@@ -8,7 +8,7 @@ ghost use Rattle.block_store.specs.Blocks.{Contents, Adds, count_of};
 ghost use Rattle.block_store.specs.Places.{RanOut};
 ghost use Rattle.block_store.specs.Plans.{Plans};
 ghost use Rattle.block_store.specs.Store.{Holds};
-ghost use Rattle.dnode_tree.specs.Reading.{OnlyReadsBlocks, OnlyReadsAndPlans, AnswersAreTrue, LossIsTolerable};
+ghost use Rattle.block_store.specs.Steps.{OnlyReadsBlocks, OnlyReadsAndPlans, AnswersAreTrue, LossIsTolerable};
 ghost use Rattle.dnode_tree.specs.Writes.{IsForRoom};
 ghost use Rattle.dnode_slots.specs.Sets.{IsSetBlock};
 

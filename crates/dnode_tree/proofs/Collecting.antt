@@ -9,10 +9,11 @@ use Rattle.block_pointer.specs.declared.property.Property.{Property}
 use Rattle.block_store.specs.Blocks.{Contents}
 use Rattle.block_store.specs.Store.{Store, Holds}
 use Rattle.dnode.specs.declared.node.ObjectNode.{ObjectNode}
-use Rattle.dnode_tree.specs.Reading.{OnlyReadsBlocks, AnswersAreTrue}
+use Rattle.block_store.specs.Steps.{OnlyReadsBlocks, AnswersAreTrue}
 use Rattle.dnode_tree.specs.Subtree.{IsSubtree, AreParts, joined}
 use Rattle.dnode_tree.specs.Tree.{property_of}
-use Rattle.dnode_tree.proofs.FurtherReads.{reads_none, reads_on, true_before, true_after}
+use Rattle.block_store.proofs.Steps.{reads_none, reads_on}
+use Rattle.dnode_tree.proofs.FurtherReads.{true_before, true_after}
 use Rattle.dnode_tree.proofs.Parts.{indirect_part}
 
 pub joined-take_more : (parts : List (List Block)) (i : ℕ) → i < length parts → joined (take i parts) ++ get_or parts i [] ≡ joined (take (i + 1) parts)

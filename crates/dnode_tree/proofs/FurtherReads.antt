@@ -1,126 +1,19 @@
--- Reads one after the other.
-use Rattle.std.proofs.Common.{ℕ, ◌≡◌, ◌+◌, ◌≤◌, ◌&&◌, nat_le, Bool, true, false, if◌then◌else◌, List, [], ◌∷◌, ◌++◌, length, Contains, refl, sym, ap, ◌∙◌, subst, inl, inr, arith, append_assoc}
-use Rattle.std.proofs.lemmas.Bool.Decides.{nat_tests}
-use Rattle.std.proofs.lemmas.List.Elements.{Contains-append_left, Contains-append_right, Contains-append_cases}
-use Rattle.model_disk.specs.Call.{is_failed}
-use Rattle.model_disk.specs.Joint.{JointCall, Disks, failed_since, AreHonestSince}
-use Rattle.model_disk.proofs.LawLemmas.{parts_are_honest}
-use Rattle.raidz_io.specs.Reads.{AreReads, OnlyReads, IsHonestSince}
-use Rattle.raidz_io.proofs.Calls.{length-OnlyReads, OnlyReads-none, failed_since-more, Contains-front, Contains-later, Contains-cases}
-use Rattle.block_store.specs.declared.space.VdevSpace.{VdevSpace}
-use Rattle.block_store.specs.Reading.{AreTolerable}
-use Rattle.block_store.specs.Store.{Store, outs}
-use Rattle.dnode_tree.specs.Reading.{OnlyReadsBlocks, AnswersAreTrue, LossIsTolerable}
+-- What holds of reads one after the other holds of each.
+use Rattle.std.proofs.Common.{ℕ, ap, List}
+use Rattle.block_store.specs.Places.{shapes_of}
+use Rattle.block_store.specs.Steps.{OnlyReadsBlocks, AnswersAreTrue, LossIsTolerable}
+use Rattle.block_store.specs.Store.{Store}
+use Rattle.block_store.proofs.Steps.{true_before as true_first, true_after as true_rest, few_before as few_first, few_after as few_rest}
 
-AreReads-append : (later earlier : List JointCall) → AreReads later → AreReads earlier → AreReads (later ++ earlier)
-AreReads-append [] earlier first rest = rest
-AreReads-append (made ∷ later) earlier first rest = (first.0, AreReads-append later earlier first.1 rest)
+module _ (old mid new : Store) (missing : List ℕ) (first : OnlyReadsBlocks old mid missing) (rest : OnlyReadsBlocks mid new missing) where
+  pub true_before : AnswersAreTrue old new → AnswersAreTrue old mid
+  true_before honest = true_first old mid new rest.reads honest
 
-pub OnlyReads-on : (old mid new : Disks) → OnlyReads old mid → OnlyReads mid new → OnlyReads old new
-OnlyReads-on old mid new first rest = record {
-  starts = rest.starts ∙ first.starts;
-  newer = rest.newer ++ first.newer;
-  calls = rest.calls ∙ ap (λ calls. rest.newer ++ calls) first.calls ∙ sym (append_assoc rest.newer first.newer old.calls);
-  are_reads = AreReads-append rest.newer first.newer rest.are_reads first.are_reads;
-}
+  pub true_after : AnswersAreTrue old new → AnswersAreTrue mid new
+  true_after honest = true_rest old mid new first.reads honest
 
-same_outs : (old new : Store) → new ≡ record old { disks = new.disks } → outs new ≡ outs old
-same_outs old new rest = ap (λ store. outs store) rest
+  pub few_before : LossIsTolerable old new missing → LossIsTolerable old mid missing
+  few_before few = few_first old mid new missing rest.reads few
 
-pub reads_none : (store : Store) (missing : List ℕ) → OnlyReadsBlocks store store missing
-reads_none store missing = record {
-  rest = refl;
-  reads = OnlyReads-none store.disks;
-  untouched = λ disk held. refl;
-  keeps = λ stored held. held;
-  plans = λ stored planned held. held;
-}
-
-pub reads_on : (old mid new : Store) (missing : List ℕ) → OnlyReadsBlocks old mid missing → OnlyReadsBlocks mid new missing → OnlyReadsBlocks old new missing
-reads_on old mid new missing first rest = record {
-  rest = rest.rest ∙ ap (λ store. let named : Store = record store { disks = new.disks } in named) first.rest;
-  reads = OnlyReads-on old.disks mid.disks new.disks first.reads rest.reads;
-  untouched = λ disk held.
-      rest.untouched disk (subst (λ disks. Contains (disks ++ missing) disk) (sym (same_outs old mid first.rest)) held)
-      ∙ first.untouched disk held;
-  keeps = λ stored held. rest.keeps stored (first.keeps stored held);
-  plans = λ stored planned held. rest.plans stored planned (first.plans stored planned held);
-}
-
--- each part of what is true is true
-pub honest_part : (old mid new : Disks) → OnlyReads old mid → OnlyReads mid new → IsHonestSince old new → IsHonestSince old mid
-honest_part old mid new first rest honest =
-    let P : List (List ℕ) → Type 0 = λ starts. AreHonestSince (length old.calls) starts new.calls in
-    let Q : List JointCall → Type 0 = AreHonestSince (length old.calls) mid.starts in
-    parts_are_honest mid.starts (length old.calls) (length old.calls) rest.newer mid.calls (omega arith)
-    (subst Q rest.calls (subst P rest.starts honest))
-
-pub honest_rest : (old mid new : Disks) → OnlyReads old mid → IsHonestSince old new → IsHonestSince mid new
-honest_rest old mid new first honest = parts_are_honest new.starts (length old.calls) (length mid.calls) [] new.calls (length-OnlyReads old mid first) honest
-
-pub true_before : (old mid new : Store) (missing : List ℕ) → OnlyReadsBlocks old mid missing → OnlyReadsBlocks mid new missing
-    → AnswersAreTrue old new → AnswersAreTrue old mid
-true_before old mid new missing first rest honest = honest_part old.disks mid.disks new.disks first.reads rest.reads honest
-
-pub true_after : (old mid new : Store) (missing : List ℕ) → OnlyReadsBlocks old mid missing → OnlyReadsBlocks mid new missing
-    → AnswersAreTrue old new → AnswersAreTrue mid new
-true_after old mid new missing first rest honest = honest_rest old.disks mid.disks new.disks first.reads honest
-
-at_or_before : (fewer more n : ℕ) → fewer ≤ more → nat_le more n ≡ true → nat_le fewer n ≡ true
-at_or_before fewer more n le late = grind (arith, nat_tests)
-
-fewer_if : (late early failed : Bool) (x : ℕ) (xs ys : List ℕ) (y : ℕ) → (late ≡ true → early ≡ true) → (Contains xs y → Contains ys y)
-    → Contains (if late && failed then x ∷ xs else xs) y → Contains (if early && failed then x ∷ ys else ys) y
-fewer_if true true true x xs ys y when all held =
-    elim (Contains-cases x xs y held) [ inl same ↦ rw same (Contains-front x ys) | inr later ↦ Contains-later x ys y (all later) ]
-fewer_if true true false x xs ys y when all held = all held
-fewer_if true false failed x xs ys y when all held = absurd (let e : false ≡ true = when refl in cc)
-fewer_if false true true x xs ys y when all held = Contains-later x ys y (all held)
-fewer_if false true false x xs ys y when all held = all held
-fewer_if false false failed x xs ys y when all held = all held
-
--- a call that failed is one that failed since there were fewer calls
-pub failed_since-fewer : (fewer more : ℕ) (calls : List JointCall) (disk : ℕ) → fewer ≤ more → Contains (failed_since more calls) disk → Contains (failed_since fewer calls) disk
-failed_since-fewer fewer more [] disk le held = held
-failed_since-fewer fewer more (made ∷ calls) disk le held =
-    fewer_if (nat_le more (length calls)) (nat_le fewer (length calls)) (is_failed made.call) made.which (failed_since more calls) (failed_since fewer calls) disk
-    (λ late. at_or_before fewer more (length calls) le late) (failed_since-fewer fewer more calls disk le) held
-
-pub failed_since-append : (n : ℕ) (newer calls : List JointCall) (disk : ℕ) → Contains (failed_since n calls) disk → Contains (failed_since n (newer ++ calls)) disk
-failed_since-append n [] calls disk held = held
-failed_since-append n (made ∷ newer) calls disk held = failed_since-more n made (newer ++ calls) disk (failed_since-append n newer calls disk held)
-
--- where fewer are absent, few are
-pub fewer_absent : (spaces : List VdevSpace) (more fewer : List ℕ) → ((disk : ℕ) → Contains fewer disk → Contains more disk) → AreTolerable spaces more → AreTolerable spaces fewer
-fewer_absent spaces more fewer within few v space found =
-    let there = few v space found in
-    record { disks = there.disks; few = there.few; all = λ child below held. there.all child below (within (space.shape.vdev.first + child) held) }
-
-pub absent_more : (missing others failed fewer : List ℕ) → others ≡ missing → ((disk : ℕ) → Contains fewer disk → Contains failed disk)
-    → (disk : ℕ) → Contains (others ++ fewer) disk → Contains (missing ++ failed) disk
-absent_more missing others failed fewer same within disk held =
-    elim (Contains-append_cases others fewer disk held) [
-      | inl first ↦ Contains-append_left missing failed disk (subst (λ disks. Contains disks disk) same first)
-      | inr later ↦ Contains-append_right missing failed disk (within disk later)
-    ]
-
-pub few_before : (old mid new : Store) (missing : List ℕ) → OnlyReadsBlocks old mid missing → OnlyReadsBlocks mid new missing
-    → LossIsTolerable old new missing → LossIsTolerable old mid missing
-few_before old mid new missing first rest few =
-    let failed : List ℕ = failed_since (length old.disks.calls) new.disks.calls in
-    let fewer : List ℕ = failed_since (length old.disks.calls) mid.disks.calls in
-    fewer_absent old.spaces ((outs old ++ missing) ++ failed) ((outs old ++ missing) ++ fewer)
-    (absent_more (outs old ++ missing) (outs old ++ missing) failed fewer refl (λ disk held.
-    subst (λ calls. Contains (failed_since (length old.disks.calls) calls) disk) (sym rest.reads.calls)
-    (failed_since-append (length old.disks.calls) rest.reads.newer mid.disks.calls disk held))) few
-
-pub few_after : (old mid new : Store) (missing : List ℕ) → OnlyReadsBlocks old mid missing → OnlyReadsBlocks mid new missing
-    → LossIsTolerable old new missing → LossIsTolerable mid new missing
-few_after old mid new missing first rest few =
-    let failed : List ℕ = failed_since (length old.disks.calls) new.disks.calls in
-    let fewer : List ℕ = failed_since (length mid.disks.calls) new.disks.calls in
-    let spaces : mid.spaces ≡ old.spaces = ap (λ store. store.spaces) first.rest in
-    subst (λ spaces. AreTolerable spaces ((outs mid ++ missing) ++ fewer)) (sym spaces)
-    (fewer_absent old.spaces ((outs old ++ missing) ++ failed) ((outs mid ++ missing) ++ fewer)
-    (absent_more (outs old ++ missing) (outs mid ++ missing) failed fewer (ap (λ disks. disks ++ missing) (same_outs old mid first.rest))
-    (λ disk held. failed_since-fewer (length old.disks.calls) (length mid.disks.calls) new.disks.calls disk (length-OnlyReads old.disks mid.disks first.reads) held)) few)
+  pub few_after : LossIsTolerable old new missing → LossIsTolerable mid new missing
+  few_after few = few_rest old mid new missing first.reads (ap (λ store. store.out) first.rest) (ap (λ store. shapes_of store.spaces) first.rest) few

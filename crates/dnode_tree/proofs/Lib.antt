@@ -15,6 +15,7 @@ pub mod Roots
 pub mod WritingParts
 pub mod Raising
 pub mod WholeTree
+pub mod WayLemmas
 pub mod Standing
 pub mod Leaving
 pub mod SameBlocks

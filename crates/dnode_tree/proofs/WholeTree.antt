@@ -14,7 +14,7 @@ use Rattle.block_store.specs.Store.{Store}
 use Rattle.dnode_tree.specs.declared.writes.BlockWrite.{BlockWrite}
 use Rattle.dnode_tree.specs.declared.writes.CopyCounts.{CopyCounts}
 use Rattle.dnode_tree.specs.declared.writes.Rewrite.{Rewrite}
-use Rattle.dnode_tree.specs.Reading.{OnlyReadsAndPlans, AnswersAreTrue, LossIsTolerable}
+use Rattle.block_store.specs.Steps.{OnlyReadsAndPlans, AnswersAreTrue, LossIsTolerable}
 use Rattle.dnode_tree.specs.PartsRewritten.{IsPartRewritten, HasWrites}
 use Rattle.dnode_tree.specs.Rewriting.{IsExchanged, IsRewritten}
 use Rattle.dnode_tree.specs.Subtree.{IsSubtree, HasProperty}
@@ -23,7 +23,8 @@ use Rattle.dnode_tree.specs.Writes.{AreInOrder, AreBetween, AreWholeBlocks, writ
 use Rattle.dnode_tree.proofs.Kept.{subtree_as}
 use Rattle.dnode_tree.proofs.NewArrays.{behind_all, order_dropped, has_before, has_behind, written_others}
 use Rattle.dnode_tree.proofs.Spans.{span_up}
-use Rattle.dnode_tree.proofs.Steps.{steps_on, true_sooner, true_later, few_later}
+use Rattle.block_store.proofs.Steps.{steps_on}
+use Rattle.dnode_tree.proofs.Steps.{true_sooner, true_later, few_later}
 
 -- the tree has that many levels above the data, and what its places have room for is written
 pub record IsRaising (copies : CopyCounts) (start now : Store) (missing : List ℕ) (node : ObjectNode) (level birth : ℕ) (pointer : BlockPtr) (writes rest : List BlockWrite) (noted_now : List Block) : Type 0 where

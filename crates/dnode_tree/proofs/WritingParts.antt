@@ -12,7 +12,7 @@ use Rattle.block_store.specs.Plans.{Plans}
 use Rattle.block_store.specs.Store.{Store}
 use Rattle.dnode_tree.specs.declared.writes.BlockWrite.{BlockWrite}
 use Rattle.dnode_tree.specs.declared.writes.CopyCounts.{CopyCounts}
-use Rattle.dnode_tree.specs.Reading.{OnlyReadsAndPlans, AnswersAreTrue, LossIsTolerable}
+use Rattle.block_store.specs.Steps.{OnlyReadsAndPlans, AnswersAreTrue, LossIsTolerable}
 use Rattle.dnode_tree.specs.PartsRewritten.{IsPartRewritten, AreRewrittenTo, HasWrites}
 use Rattle.dnode_tree.specs.Subtree.{IsSubtree}
 use Rattle.dnode_tree.specs.Tree.{property_of}
@@ -21,7 +21,8 @@ use Rattle.dnode_tree.proofs.Fills.{total_set}
 use Rattle.dnode_tree.proofs.Kept.{part_end}
 use Rattle.dnode_tree.proofs.NewArrays.{behind_all, order_taken, order_dropped, has_before, has_behind}
 use Rattle.dnode_tree.proofs.Rewriting.{part_skipped, part_rewritten}
-use Rattle.dnode_tree.proofs.Steps.{steps_on, true_sooner, true_later, few_later}
+use Rattle.block_store.proofs.Steps.{steps_on}
+use Rattle.dnode_tree.proofs.Steps.{true_sooner, true_later, few_later}
 
 -- the parts before the k-th are written
 pub record IsWritingParts (copies : CopyCounts) (start now : Store) (missing : List ℕ) (node : ObjectNode) (level first bound birth from : ℕ) (origin pointers : List BlockPtr) (writes rest : List BlockWrite) (k : ℕ)

@@ -1,8 +1,8 @@
 pub mod Freeing
 pub mod Laws
 pub mod PartsRewritten
-pub mod Reading
 pub mod Rewriting
 pub mod Subtree
 pub mod Tree
 pub mod Writes
+pub mod Ways

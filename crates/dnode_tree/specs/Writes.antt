@@ -3,9 +3,8 @@ use Rattle.std.specs.Prelude.{ℕ, ◌≡◌, ◌⊎◌, ◌*◌, ◌<◌, ◌�
 use Rattle.dnode.specs.declared.node.ObjectNode.{ObjectNode}
 use Rattle.block_store.specs.declared.refusal.Refusal.{Refusal}
 use Rattle.block_store.specs.declared.refusal.Refusal.TheVariants.{NoMemory, NoSpace}
-use Rattle.block_store.specs.declared.space.VdevSpace.{VdevSpace}
 use Rattle.block_store.specs.Blocks.{count_of}
-use Rattle.block_store.specs.Places.{shapes_of, RanOut}
+use Rattle.block_store.specs.Steps.{HasNoRoomFor}
 use Rattle.block_store.specs.Store.{Store}
 use Rattle.dnode_tree.specs.declared.writes.BlockWrite.{BlockWrite}
 use Rattle.dnode_tree.specs.declared.writes.CopyCounts.{CopyCounts}
@@ -32,12 +31,9 @@ written (write ∷ writes) array id = if write.id == id then Some write.bytes.it
 abbrev pub copies_at : CopyCounts → ℕ → ℕ
 copies_at copies level = cond (level == 0) (count_of copies.data) (count_of copies.indirect)
 
--- there is no room: at a block of some level no metaslab had room for another copy
-pub record HasNoRoom (old store : Store) (node : ObjectNode) (copies : CopyCounts) : Type 0 where
-  pub spaces : List VdevSpace
-  pub shapes : shapes_of spaces ≡ shapes_of old.spaces
-  pub level : ℕ
-  pub ran_out : RanOut spaces (property_of node level).sectors (copies_at copies level) store.spaces
+-- there was no room for a block of some level
+abbrev pub HasNoRoom : Store → Store → List ℕ → ObjectNode → CopyCounts → Type 0
+HasNoRoom old new missing node copies = (level : ℕ) × HasNoRoomFor old new missing (property_of node level).sectors (copies_at copies level)
 
 -- there is not enough memory, or no room
 abbrev pub IsForRoom : Refusal → Type 0

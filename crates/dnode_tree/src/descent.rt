@@ -6,9 +6,10 @@ ghost use Rattle.dnode.specs.Indirect.{SpellsIndirect};
 ghost use Rattle.block_store.specs.Blocks.{Contents};
 ghost use Rattle.block_store.specs.Reading.{Asks};
 ghost use Rattle.block_store.specs.Store.{Holds};
-ghost use Rattle.dnode_tree.specs.Reading.{OnlyReadsBlocks, AnswersAreTrue, LossIsTolerable};
+ghost use Rattle.block_store.specs.Steps.{OnlyReadsBlocks, AnswersAreTrue, LossIsTolerable};
 ghost use Rattle.dnode_tree.specs.Subtree.{asked_of, AreParts, blocks_at, joined};
 ghost use Rattle.dnode_tree.specs.Tree.{property_of, IsPart};
+ghost use Rattle.dnode_tree.specs.Ways.{AreReadAs, IsBlockFault};
 
 use crate::subtree::{Parts, Subtree};
 use block_pointer::{Block, BlockPtr, Property};
@@ -64,6 +65,8 @@ pub(crate) fn read_indirect<D: Disk + Drop>(
 ) -> Result<Indirect, Refusal>
     ensures reads { OnlyReadsBlocks store.old store.new missing.now }
     ensures asks { IfOk result (λ found. Asks asked block.now) }
+    ensures read { IfOk result (AreReadAs store.old.spaces asked block.now) }
+    ensures refused { IfErr result (IsBlockFault store.old store.new missing.now asked block.now) }
     ensures count { IfOk result (λ found. length found ≡ 128) }
     ensures value { IfOk result (λ found. (stored : Contents) (bytes : List ℕ) (pointers : List BlockPtr) → Holds store.old stored
         → stored block.now ≡ Some bytes → SpellsIndirect bytes pointers → AnswersAreTrue store.old store.new → found ≡ pointers) }

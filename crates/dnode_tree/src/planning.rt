@@ -1,14 +1,13 @@
 //! One block of an object that is planned.
-ghost use Rattle.std.specs.Prelude.{◌≡◌, ◌≢◌, ◌*◌, ◌^◌, ◌<◌, length, cond, ◌==◌, map, IfOk, IfErr};
+ghost use Rattle.std.specs.Prelude.{◌≡◌, ◌≢◌, ◌*◌, ◌^◌, ◌<◌, ℕ, List, length, cond, ◌==◌, IfOk, IfErr};
 ghost use Rattle.std.specs.List.{AllByRecursion};
 ghost use Rattle.block_pointer.specs.Block.{FitsBlock};
 ghost use Rattle.block_pointer.specs.Copies.{dvas};
 ghost use Rattle.dnode.specs.Node.{IsNode};
 ghost use Rattle.block_store.specs.Blocks.{Contents, Adds, FitsNew};
-ghost use Rattle.block_store.specs.Places.{shapes_of, filled};
 ghost use Rattle.block_store.specs.Plans.{Plans};
 ghost use Rattle.block_store.specs.Reading.{Asks};
-ghost use Rattle.block_store.specs.Store.{Keeps};
+ghost use Rattle.block_store.specs.Steps.{OnlyReadsAndPlans};
 ghost use Rattle.dnode_tree.specs.Subtree.{asked_of};
 ghost use Rattle.dnode_tree.specs.Tree.{property_of};
 ghost use Rattle.dnode_tree.specs.Writes.{copies_at, HasNoRoom, IsForRoom};
@@ -38,11 +37,7 @@ pub(crate) fn plan_block<D: Disk + Drop>(
     requires filled { 0 < fill }
     requires fill_of_data { level ≡ 0 → fill ≡ 1 }
     requires size { length bytes.now ≡ (property_of node.now level).sectors * 512 }
-    ensures disks { store.new.disks ≡ store.old.disks }
-    ensures out { store.new.out ≡ store.old.out }
-    ensures shapes { shapes_of store.new.spaces ≡ shapes_of store.old.spaces }
-    ensures filled { map filled store.new.spaces ≡ map filled store.old.spaces }
-    ensures keeps { Keeps store.old store.new }
+    ensures steps { (missing : List ℕ) → OnlyReadsAndPlans store.old store.new missing }
     ensures fits { IfOk result FitsBlock }
     ensures property { IfOk result (λ block. block.property ≡ property_of node.now level) }
     ensures asks { IfOk result (Asks (asked_of (property_of node.now level) birth)) }
@@ -52,7 +47,8 @@ pub(crate) fn plan_block<D: Disk + Drop>(
     ensures planned { IfOk result (λ block. (stored planned : Contents) → Plans store.old stored planned
         → (later : Contents) × Plans store.new stored later × Adds planned later block bytes.now) }
     ensures refused { IfErr result IsForRoom }
-    ensures no_room { IfErr result (λ refusal. refusal ≡ Refusal.NoSpace → HasNoRoom store.old store.new node.now copies) }
+    ensures no_room { IfErr result (λ refusal. refusal ≡ Refusal.NoSpace
+        → (missing : List ℕ) → HasNoRoom store.old store.new missing node.now copies) }
 {
     let block = NewBlock {
         property: property_at(node, level),

@@ -6,7 +6,7 @@ ghost use Rattle.dnode.specs.Levels.{levels_of as the_levels_of};
 ghost use Rattle.dnode.specs.Node.{FitsNode};
 ghost use Rattle.block_store.specs.Blocks.{Contents};
 ghost use Rattle.block_store.specs.Plans.{Plans};
-ghost use Rattle.dnode_tree.specs.Reading.{OnlyReadsAndPlans, AnswersAreTrue, LossIsTolerable};
+ghost use Rattle.block_store.specs.Steps.{OnlyReadsAndPlans, AnswersAreTrue, LossIsTolerable};
 ghost use Rattle.dnode_tree.specs.PartsRewritten.{IsPartRewritten, HasWrites};
 ghost use Rattle.dnode_tree.specs.Rewriting.{IsGrown, IsRewritten};
 ghost use Rattle.dnode_tree.specs.Subtree.{IsSubtree, HasProperty};
@@ -48,7 +48,7 @@ pub fn put_many<D: Disk + Drop>(
     ensures rewritten { IfOk result (λ done. (stored planned : Contents) (bound : ℕ) (array : ℕ → Option (List ℕ)) (blocks : List Block) → Plans store.old stored planned
         → IsTree stored bound node.now array blocks → bound ≤ birth → AnswersAreTrue store.old store.new
         → (later : Contents) × Plans store.new stored later × IsRewritten copies planned later birth done (written writes.now array) blocks) }
-    ensures no_room { IfErr result (λ refusal. refusal ≡ Refusal.NoSpace → HasNoRoom store.old store.new node.now copies) }
+    ensures no_room { IfErr result (λ refusal. refusal ≡ Refusal.NoSpace → HasNoRoom store.old store.new missing.now node.now copies) }
     ensures known { IfErr result (λ refusal. (stored planned : Contents) (bound : ℕ) (array : ℕ → Option (List ℕ)) (blocks : List Block) → Plans store.old stored planned
         → IsTree stored bound node.now array blocks → bound ≤ birth → AnswersAreTrue store.old store.new → LossIsTolerable store.old store.new missing.now
         → IsForRoom refusal) }
@@ -116,7 +116,7 @@ fn write_root<D: Disk + Drop>(
         → IsSubtree stored (property_of node.now) (the_levels_of node.now.highest - 1) 0 birth node.now.pointer array blocks → AnswersAreTrue store.old store.new
         → (later : Contents) × Plans store.new stored later
         × IsPartRewritten copies planned later (property_of node.now) (the_levels_of node.now.highest - 1) 0 birth pointer (written writes.now array) blocks replaced.old.items replaced.new.items) }
-    ensures no_room { IfErr result (λ refusal. refusal ≡ Refusal.NoSpace → HasNoRoom store.old store.new node.now copies) }
+    ensures no_room { IfErr result (λ refusal. refusal ≡ Refusal.NoSpace → HasNoRoom store.old store.new missing.now node.now copies) }
     ensures known { IfErr result (λ refusal. (stored planned : Contents) (array : ℕ → Option (List ℕ)) (blocks : List Block) → Plans store.old stored planned
         → IsSubtree stored (property_of node.now) (the_levels_of node.now.highest - 1) 0 birth node.now.pointer array blocks → AnswersAreTrue store.old store.new
         → LossIsTolerable store.old store.new missing.now → IsForRoom refusal) }
@@ -164,7 +164,7 @@ fn raise<D: Disk + Drop>(
         → AnswersAreTrue store.old store.new
         → (later : Contents) × Plans store.new stored later
         × IsPartRewritten copies planned later (property_of node.now) (level + 1) 0 birth pointer new_array before noted replaced.new.items) }
-    ensures no_room { IfErr result (λ refusal. refusal ≡ Refusal.NoSpace → HasNoRoom store.old store.new node.now copies) }
+    ensures no_room { IfErr result (λ refusal. refusal ≡ Refusal.NoSpace → HasNoRoom store.old store.new missing.now node.now copies) }
     ensures known { IfErr result (λ refusal. (stored planned now : Contents) (array new_array : ℕ → Option (List ℕ)) (before noted : List Block) → Plans store.old stored now
         → IsPartRewritten copies planned now (property_of node.now) level 0 birth root new_array before noted replaced.old.items
         → ((id : ℕ) → 128 ^ level ≤ id → array id ≡ None) → HasWrites new_array array writes.now (128 ^ level) (128 * 128 ^ level)

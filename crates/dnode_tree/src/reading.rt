@@ -4,8 +4,9 @@ ghost use Rattle.std.specs.Option.{option_map};
 ghost use Rattle.block_pointer.specs.declared.block.Block.{Block};
 ghost use Rattle.block_store.specs.Blocks.{Contents};
 ghost use Rattle.block_store.specs.Store.{Holds};
-ghost use Rattle.dnode_tree.specs.Reading.{OnlyReadsBlocks, AnswersAreTrue, LossIsTolerable};
-ghost use Rattle.dnode_tree.specs.Tree.{IsPart, IsTree};
+ghost use Rattle.block_store.specs.Steps.{OnlyReadsBlocks, AnswersAreTrue, LossIsTolerable};
+ghost use Rattle.dnode_tree.specs.Tree.{property_of, IsPart, IsTree};
+ghost use Rattle.dnode_tree.specs.Ways.{reached, bytes_of, IsFound, IsRefused, IsFoundBelow, IsRefusedBelow};
 
 use crate::descent::{asked_at, read_indirect, span};
 use crate::subtree::Subtree;
@@ -29,6 +30,10 @@ pub fn get<D: Disk + Drop>(
     ensures reads { OnlyReadsBlocks store.old store.new missing.now }
     ensures value { IfOk result (λ found. (stored : Contents) (array : ℕ → Option (List ℕ)) (blocks : List Block) → Holds store.old stored
         → IsTree stored birth node.now array blocks → AnswersAreTrue store.old store.new → option_map (λ bytes. bytes.items) found ≡ array id) }
+
+    // Whatever the tree is: what was read on the way, and on a refusal its cause there.
+    ensures found { IfOk result (λ found. IsFound store.old.spaces node.now birth id (bytes_of found)) }
+    ensures refused { IfErr result (IsRefused store.old store.new missing.now node.now birth id) }
     ensures cause { IfErr result (λ refusal. refusal ≢ Refusal.NoSpace) }
     ensures known { IfErr result (λ refusal. (stored : Contents) (array : ℕ → Option (List ℕ)) (blocks : List Block) → Holds store.old stored
         → IsTree stored birth node.now array blocks → AnswersAreTrue store.old store.new → LossIsTolerable store.old store.new missing.now
@@ -60,6 +65,10 @@ fn get_below<D: Disk + Drop>(
     ensures value { IfOk result (λ found. (stored : Contents) (first : ℕ) (array : ℕ → Option (List ℕ)) (blocks : List Block) → Holds store.old stored
         → IsPart stored node.now first part array blocks → AnswersAreTrue store.old store.new
         → option_map (λ bytes. bytes.items) found ≡ array (first + place)) }
+    ensures found { IfOk result (λ found. IsFoundBelow store.old.spaces (property_of node.now)
+        (reached part.level part.pointer part.birth) place (bytes_of found)) }
+    ensures refused { IfErr result (IsRefusedBelow store.old store.new missing.now (property_of node.now)
+        (reached part.level part.pointer part.birth) place) }
     ensures cause { IfErr result (λ refusal. refusal ≢ Refusal.NoSpace) }
     ensures known { IfErr result (λ refusal. (stored : Contents) (first : ℕ) (array : ℕ → Option (List ℕ)) (blocks : List Block) → Holds store.old stored
         → IsPart stored node.now first part array blocks → AnswersAreTrue store.old store.new → LossIsTolerable store.old store.new missing.now

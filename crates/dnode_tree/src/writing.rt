@@ -8,7 +8,7 @@ ghost use Rattle.dnode.specs.Node.{IsNode};
 ghost use Rattle.block_store.specs.Blocks.{Contents};
 ghost use Rattle.block_store.specs.Plans.{Plans};
 ghost use Rattle.dnode_tree.specs.declared.writes.BlockWrite.{BlockWrite};
-ghost use Rattle.dnode_tree.specs.Reading.{OnlyReadsAndPlans, AnswersAreTrue, LossIsTolerable};
+ghost use Rattle.block_store.specs.Steps.{OnlyReadsAndPlans, AnswersAreTrue, LossIsTolerable};
 ghost use Rattle.dnode_tree.specs.PartsRewritten.{IsPartRewritten, AreRewrittenTo, AreRewritten, HasWrites};
 ghost use Rattle.dnode_tree.specs.Subtree.{blocks_at};
 ghost use Rattle.dnode_tree.specs.Tree.{property_of, IsPart};
@@ -56,7 +56,7 @@ pub(crate) fn write_part<D: Disk + Drop>(
         → IsPart stored node.now first part array blocks → AnswersAreTrue store.old store.new
         → (later : Contents) × Plans store.new stored later
         × IsPartRewritten copies planned later (property_of node.now) part.level first birth (BlockPtr.Block block) (written writes.now array) blocks replaced.old.items replaced.new.items) }
-    ensures no_room { IfErr result (λ refusal. refusal ≡ Refusal.NoSpace → HasNoRoom store.old store.new node.now copies) }
+    ensures no_room { IfErr result (λ refusal. refusal ≡ Refusal.NoSpace → HasNoRoom store.old store.new missing.now node.now copies) }
     ensures known { IfErr result (λ refusal. (stored planned : Contents) (array : ℕ → Option (List ℕ)) (blocks : List Block) → Plans store.old stored planned
         → IsPart stored node.now first part array blocks → AnswersAreTrue store.old store.new → LossIsTolerable store.old store.new missing.now
         → IsForRoom refusal) }
@@ -107,7 +107,7 @@ pub(crate) fn write_parts<D: Disk + Drop>(
         → AnswersAreTrue store.old store.new
         → (later : Contents) × Plans store.new stored later
         × AreRewritten copies planned later (property_of node.now) parts.level first birth block new_array before noted replaced.new.items) }
-    ensures no_room { IfErr result (λ refusal. refusal ≡ Refusal.NoSpace → HasNoRoom store.old store.new node.now copies) }
+    ensures no_room { IfErr result (λ refusal. refusal ≡ Refusal.NoSpace → HasNoRoom store.old store.new missing.now node.now copies) }
     ensures known { IfErr result (λ refusal. (stored planned now : Contents) (array new_array : ℕ → Option (List ℕ)) (before after : List (List Block)) (noted : List Block)
         → Plans store.old stored now
         → AreRewrittenTo copies stored planned now (property_of node.now) parts.level first parts.birth birth parts.pointers array new_array before after from noted replaced.old.items

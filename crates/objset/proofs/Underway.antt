@@ -15,9 +15,10 @@ use Rattle.dnode_slots.specs.declared.writes.NodeWrite.{NodeWrite}
 use Rattle.dnode_slots.specs.declared.writes.SetRewrite.{SetRewrite}
 use Rattle.dnode_slots.specs.Nodes.{HasNodes}
 use Rattle.dnode_slots.specs.Writes.{FitsWrite, AreNodeWrites, AreNodesRewritten, IsGrownSet, written_nodes}
-use Rattle.dnode_tree.proofs.Steps.{steps_none, steps_on, true_sooner, true_later, few_later}
+use Rattle.block_store.proofs.Steps.{steps_none, steps_on}
+use Rattle.dnode_tree.proofs.Steps.{true_sooner, true_later, few_later}
 use Rattle.dnode_tree.specs.declared.writes.CopyCounts.{CopyCounts}
-use Rattle.dnode_tree.specs.Reading.{OnlyReadsAndPlans, AnswersAreTrue, LossIsTolerable}
+use Rattle.block_store.specs.Steps.{OnlyReadsAndPlans, AnswersAreTrue, LossIsTolerable}
 use Rattle.dnode_tree.specs.Rewriting.{IsExchanged}
 use Rattle.objset.proofs.Exchanged.{exchanged_last, exchanged_as}
 use Rattle.objset.proofs.Kept.{object_kept, object_as}

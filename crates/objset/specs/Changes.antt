@@ -2,9 +2,8 @@
 use Rattle.std.specs.Prelude.{ℕ, ◌≡◌, ◌≢◌, ◌⊎◌, ◌*◌, ◌^◌, ◌<◌, ◌≤◌, ◌==◌, if◌then◌else◌, List, [], ◌∷◌, ◌++◌, length, Option, Some, None, IsSomeAnd, All}
 use Rattle.block_pointer.specs.declared.block.Block.{Block}
 use Rattle.block_store.specs.declared.block.CopyCount.{CopyCount}
-use Rattle.block_store.specs.declared.space.VdevSpace.{VdevSpace}
 use Rattle.block_store.specs.Blocks.{Contents, Extends, count_of}
-use Rattle.block_store.specs.Places.{shapes_of, RanOut}
+use Rattle.block_store.specs.Steps.{HasNoRoomFor}
 use Rattle.block_store.specs.Store.{Store}
 use Rattle.dnode.specs.declared.object_set.ObjectSet.{ObjectSet}
 use Rattle.dnode_slots.specs.declared.writes.SetRewrite.{SetRewrite}
@@ -88,12 +87,10 @@ pub record IsGrownFor (old new : ObjectSet) (changes : List ObjectChange) : Type
   pub room : All (λ change. change.number < new.objects) changes
   pub least : (objects : ℕ) → old.objects ≤ objects → All (λ change. change.number < objects) changes → new.objects ≤ objects
 
--- there is no room: at a data block, or at one of 32 sectors with the copies of other blocks, no metaslab had room for another copy
-pub record HasNoRoom (old store : Store) (copies : SetCopies) : Type 0 where
-  pub spaces : List VdevSpace
-  pub shapes : shapes_of spaces ≡ shapes_of old.spaces
+-- there was no room for a data block, or for one of 32 sectors with the copies of other blocks
+pub record HasNoRoom (old new : Store) (missing : List ℕ) (copies : SetCopies) : Type 0 where
   pub sectors : ℕ
   pub small : sectors ≤ 256
   pub count : CopyCount
   pub which : (count ≡ copies.data) ⊎ ((count ≡ copies.other) × (sectors ≡ 32))
-  pub ran_out : RanOut spaces sectors (count_of count) store.spaces
+  pub no_room : HasNoRoomFor old new missing sectors (count_of count)

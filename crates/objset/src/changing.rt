@@ -7,7 +7,7 @@ ghost use Rattle.dnode.specs.Dnode.{FitsDnode};
 ghost use Rattle.dnode.specs.Node.{FitsNode};
 ghost use Rattle.dnode.specs.ObjectSet.{FitsObjectSet};
 ghost use Rattle.dnode_slots.specs.Writes.{AreNodeWrites};
-ghost use Rattle.dnode_tree.specs.Reading.{OnlyReadsAndPlans, AnswersAreTrue, LossIsTolerable};
+ghost use Rattle.block_store.specs.Steps.{OnlyReadsAndPlans, AnswersAreTrue, LossIsTolerable};
 ghost use Rattle.dnode_tree.specs.Tree.{IsTree};
 ghost use Rattle.dnode_tree.specs.Writes.{written, IsForRoom};
 ghost use Rattle.objset.specs.Changes.{AreWhole, AreGoodWrites, IsGoodChange, MayChange, after_change, changed, AreChanged, IsGrownFor, HasNoRoom, object_copies};
@@ -51,7 +51,7 @@ pub fn change<D: Disk + Drop>(
         → AreObjects stored bound set.now objects own before → bound ≤ birth → AnswersAreTrue store.old store.new
         → All (λ change. MayChange change.change (objects change.number)) changes.now
         × (later : Contents) × Plans store.new stored later × AreChanged copies planned later birth done changes.now (changed changes.now objects) own before) }
-    ensures no_room { IfErr result (λ refusal. refusal ≡ Refusal.NoSpace → HasNoRoom store.old store.new copies) }
+    ensures no_room { IfErr result (λ refusal. refusal ≡ Refusal.NoSpace → HasNoRoom store.old store.new missing.now copies) }
     ensures known { IfErr result (λ refusal. (stored planned : Contents) (bound : ℕ) (objects : ℕ → Option Object) (own : List Block) (before : ℕ → List Block) → Plans store.old stored planned
         → AreObjects stored bound set.now objects own before → bound ≤ birth → AnswersAreTrue store.old store.new → LossIsTolerable store.old store.new missing.now
         → IsForRoom refusal ⊎ ((refusal ≡ Refusal.BadPointer) × Any (λ change. ¬ MayChange change.change (objects change.number)) changes.now)) }
@@ -108,7 +108,7 @@ fn change_each<D: Disk + Drop>(
         → All (λ change. MayChange change.change (objects change.number)) changes.now
         × (later : Contents) × Plans store.new stored later
         × AreObjectsChanged (object_copies copies) planned later birth changes.now writes.items are.nodes objects before replaced.old.items replaced.new.items) }
-    ensures no_room { IfErr result (λ refusal. refusal ≡ Refusal.NoSpace → HasNoRoom store.old store.new copies) }
+    ensures no_room { IfErr result (λ refusal. refusal ≡ Refusal.NoSpace → HasNoRoom store.old store.new missing.now copies) }
     ensures known { IfErr result (λ refusal. (stored planned : Contents) (bound : ℕ) (objects : ℕ → Option Object) (own : List Block) (before : ℕ → List Block) → Plans store.old stored planned
         → AreObjects stored bound set.now objects own before → bound ≤ birth → AnswersAreTrue store.old store.new → LossIsTolerable store.old store.new missing.now
         → IsForRoom refusal ⊎ ((refusal ≡ Refusal.BadPointer) × Any (λ change. ¬ MayChange change.change (objects change.number)) changes.now)) }
@@ -151,7 +151,7 @@ fn change_one<D: Disk + Drop>(
         → MayChange change.now.change (objects change.now.number)
         × (later : Contents) × Plans store.new stored later
         × IsObjectChanged (object_copies copies) planned later birth write.node (after_change change.now.change (objects change.now.number)) (before change.now.number) replaced.old.items replaced.new.items) }
-    ensures no_room { IfErr result (λ refusal. refusal ≡ Refusal.NoSpace → HasNoRoom store.old store.new copies) }
+    ensures no_room { IfErr result (λ refusal. refusal ≡ Refusal.NoSpace → HasNoRoom store.old store.new missing.now copies) }
     ensures known { IfErr result (λ refusal. (stored planned : Contents) (bound : ℕ) (objects : ℕ → Option Object) (own : List Block) (before : ℕ → List Block) → Plans store.old stored planned
         → AreObjects stored bound set.now objects own before → bound ≤ birth → AnswersAreTrue store.old store.new → LossIsTolerable store.old store.new missing.now
         → IsForRoom refusal ⊎ ((refusal ≡ Refusal.BadPointer) × ¬ MayChange change.now.change (objects change.now.number))) }
@@ -192,7 +192,7 @@ fn change_dnode<D: Disk + Drop>(
         → MayChange change.now object
         × (later : Contents) × Plans store.new stored later
         × IsObjectChanged (object_copies copies) planned later birth after (after_change change.now object) blocks replaced.old.items replaced.new.items) }
-    ensures no_room { IfErr result (λ refusal. refusal ≡ Refusal.NoSpace → HasNoRoom store.old store.new copies) }
+    ensures no_room { IfErr result (λ refusal. refusal ≡ Refusal.NoSpace → HasNoRoom store.old store.new missing.now copies) }
     ensures known { IfErr result (λ refusal. (stored planned : Contents) (bound : ℕ) (object : Option Object) (blocks : List Block) → Plans store.old stored planned
         → IsObject stored bound dnode object blocks → bound ≤ birth → AnswersAreTrue store.old store.new → LossIsTolerable store.old store.new missing.now
         → IsForRoom refusal ⊎ ((refusal ≡ Refusal.BadPointer) × ¬ MayChange change.now object)) }
@@ -266,7 +266,7 @@ fn write_object<D: Disk + Drop>(
         → IsTree stored bound node.now array blocks → bound ≤ birth → AnswersAreTrue store.old store.new
         → (later : Contents) × Plans store.new stored later
         × IsObjectChanged (object_copies copies) planned later birth after (Some (object_of node.now (written writes.now array))) blocks replaced.old.items replaced.new.items) }
-    ensures no_room { IfErr result (λ refusal. refusal ≡ Refusal.NoSpace → HasNoRoom store.old store.new copies) }
+    ensures no_room { IfErr result (λ refusal. refusal ≡ Refusal.NoSpace → HasNoRoom store.old store.new missing.now copies) }
     ensures known { IfErr result (λ refusal. (stored planned : Contents) (bound : ℕ) (array : ℕ → Option (List ℕ)) (blocks : List Block) → Plans store.old stored planned
         → IsTree stored bound node.now array blocks → bound ≤ birth → AnswersAreTrue store.old store.new → LossIsTolerable store.old store.new missing.now
         → IsForRoom refusal) }

@@ -2,7 +2,8 @@ use Rattle.std.proofs.Common.{◌≡◌, ◌+◌, ◌*◌, ◌/◌, List, All, r
 use Rattle.std.specs.List.{Any}
 use Rattle.dnode_tree.specs.declared.writes.BlockWrite.{BlockWrite}
 use Rattle.dnode_tree.specs.Writes.{written}
-use Rattle.dnode_tree.proofs.FurtherReads.{reads_none, reads_on, true_after, few_after}
+use Rattle.block_store.proofs.Steps.{reads_none, reads_on}
+use Rattle.dnode_tree.proofs.FurtherReads.{true_after, few_after}
 use Rattle.dnode_tree.proofs.Refusing.{passed_on}
 use Rattle.dnode_slots.specs.declared.writes.NodeWrite.{NodeWrite}
 use Rattle.dnode_slots.specs.Nodes.{AreNodesOf}

@@ -1,11 +1,12 @@
 use Rattle.std.proofs.Common.{List, inl, refl, subst}
 use Rattle.dnode.specs.declared.object_set.ObjectSet.{ObjectSet}
 use Rattle.dnode_tree.specs.declared.writes.BlockWrite.{BlockWrite}
-use Rattle.dnode_tree.specs.Reading.{OnlyReadsAndPlans}
+use Rattle.block_store.specs.Steps.{OnlyReadsAndPlans}
 use Rattle.dnode_tree.specs.Rewriting.{IsGrown, IsRewritten}
 use Rattle.dnode_tree.specs.Writes.{written}
 use Rattle.dnode_tree.proofs.Refusing.{passed_on}
-use Rattle.dnode_tree.proofs.Steps.{steps_read, steps_on, no_room_on, true_sooner, true_later, few_later}
+use Rattle.block_store.proofs.Steps.{steps_read, steps_on}
+use Rattle.dnode_tree.proofs.Steps.{no_room_on, true_sooner, true_later, few_later}
 use Rattle.dnode_tree.proofs.WholeTree.{tree_later}
 use Rattle.dnode_slots.specs.declared.writes.SetRewrite.{SetRewrite}
 use Rattle.dnode_slots.proofs.PutNodes.{set_fits, highest_least, nodes_rewritten}
@@ -23,7 +24,7 @@ returns-in_err-done-clause-steps g c = steps_on _ _ _ _ (steps_read _ _ _ c.in_o
 pub returns-in_err-done-clause-no_room : goal.returns-in_err-done-clause-no_room
 returns-in_err-done-clause-no_room g c =
     let first : OnlyReadsAndPlans c.args.store.now c.block_writes.new.store c.args.missing.now = steps_read _ _ _ c.in_ok-changed.ensures.reads in
-    passed_on _ _ _ c.from_residual-in_err-done.ensures.1 (λ none. no_room_on _ _ _ _ _ first.shapes (c.in_err-done.ensures.no_room none))
+    passed_on _ _ _ c.from_residual-in_err-done.ensures.1 (λ none. no_room_on _ _ _ _ c.args.set.now.dnodes c.args.copies first (c.in_err-done.ensures.no_room none))
 
 pub returns-in_err-done-clause-known : goal.returns-in_err-done-clause-known
 returns-in_err-done-clause-known g c =
@@ -74,3 +75,6 @@ returns-clause-rewritten g c = λ stored planned bound nodes blocks plans has le
           (c.in_ok-changed.ensures.value stored has.array nodes blocks plans.held
           (tree_later stored bound c.args.birth c.args.set.now.dnodes has.array blocks le has.tree) has.each before),
     )
+
+pub returns-in_err-changed-clause-steps : goal.returns-in_err-changed-clause-steps
+returns-in_err-changed-clause-steps g c = steps_read _ _ _ c.in_err-changed.ensures.reads

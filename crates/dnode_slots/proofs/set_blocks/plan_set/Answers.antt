@@ -1,16 +1,15 @@
 use Rattle.std.proofs.Common.{refl, subst, arith}
 use Rattle.std.proofs.lemmas.Result.{IfOk-at_ok}
 use Rattle.block_store.specs.Blocks.{Adds}
-use Rattle.dnode_tree.proofs.Steps.{steps_plan}
+use Rattle.block_store.proofs.Steps.{steps_plan}
 use Rattle.dnode.specs.ObjectSet.{object_set_bytes}
 use Rattle.dnode_slots.proofs.Outcomes.{if_ok}
-use Rattle.dnode_slots.proofs.PlannedSets.{filled_stays}
 use Rattle.dnode_slots.proofs.set_blocks.plan_set.Goals as goal
 
 pub returns-clause-steps : goal.returns-clause-steps
 returns-clause-steps g c =
-    steps_plan _ _ _ c.plan_write.ensures.disks c.plan_write.ensures.out c.plan_write.ensures.shapes
-    (filled_stays c.plan_write.result _ _ _ _ c.plan_write.ensures.places c.plan_write.ensures.err_spaces) c.plan_write.ensures.keeps
+    steps_plan _ _ _ _ _ c.plan_write.result _ c.plan_write.ensures.disks c.plan_write.ensures.out c.plan_write.ensures.shapes c.plan_write.ensures.keeps
+    c.plan_write.ensures.places c.plan_write.ensures.err_spaces c.plan_write.ensures.due c.plan_write.ensures.err_due c.plan_write.ensures.planned c.plan_write.ensures.err
 
 pub returns-clause-planned : goal.returns-clause-planned
 returns-clause-planned g c =

@@ -1,5 +1,6 @@
 use Rattle.std.proofs.Common.{◌∙◌, subst}
-use Rattle.dnode_tree.proofs.FurtherReads.{reads_on, true_before, true_after, few_after}
+use Rattle.block_store.proofs.Steps.{reads_on}
+use Rattle.dnode_tree.proofs.FurtherReads.{true_before, true_after, few_after}
 use Rattle.dnode_tree.proofs.Refusing.{passed_on}
 use Rattle.dnode_tree.proofs.WholeTree.{tree_later}
 use Rattle.dnode_tree.specs.Freeing.{AreOnlyIn}

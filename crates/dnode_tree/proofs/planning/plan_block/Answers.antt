@@ -1,10 +1,10 @@
-use Rattle.std.proofs.Common.{◌<◌, ◌∙◌, ap, sym, subst, refl, arith}
+use Rattle.std.proofs.Common.{◌<◌, ◌∙◌, ap, sym, subst, arith}
 use Rattle.block_store.specs.Blocks.{count_of}
 use Rattle.block_store.specs.Places.{RanOut}
 use Rattle.block_pointer.specs.Property.{FitsProperty}
 use Rattle.dnode_tree.proofs.Fitting.{chosen_fit, property_fits}
 use Rattle.dnode_tree.proofs.Refusing.{passed_on, only_no_space}
-use Rattle.dnode_tree.proofs.Steps.{chosen_fills_nothing}
+use Rattle.block_store.proofs.Steps.{no_room_now, steps_plan}
 use Rattle.dnode_tree.specs.Tree.{property_of}
 use Rattle.dnode_tree.proofs.planning.plan_block.Goals as goal
 
@@ -27,17 +27,20 @@ returns-clause-fits g c =
 pub returns-in_err-planned-clause-no_room : goal.returns-in_err-planned-clause-no_room
 returns-in_err-planned-clause-no_room g c =
     passed_on _ _ _ c.from_residual.ensures.1
-    (λ is. record {
-      spaces = c.args.store.now.spaces;
-      shapes = refl;
-      level = c.args.level;
-      ran_out = subst (λ n. RanOut c.args.store.now.spaces (property_of c.args.node.now c.args.level).sectors n c.plan_write.new.self.spaces) c.at.ensures
+    (λ is missing. (
+      c.args.level,
+      no_room_now c.args.store.now c.plan_write.new.self missing _ _
+          (subst (λ n. RanOut c.args.store.now.spaces (property_of c.args.node.now c.args.level).sectors n c.plan_write.new.self.spaces) c.at.ensures
           (subst (λ p. RanOut c.args.store.now.spaces p.sectors (count_of c.at.result) c.plan_write.new.self.spaces) c.property_at.ensures
-          (only_no_space _ _ c.in_err-planned.ensures.refused is));
-    })
+          (only_no_space _ _ c.in_err-planned.ensures.refused is))),
+    ))
 
-pub returns-in_err-planned-clause-filled : goal.returns-in_err-planned-clause-filled
-returns-in_err-planned-clause-filled g c = let (places, few, chosen) = c.in_err-planned.ensures.err_spaces in chosen_fills_nothing _ _ _ _ _ chosen
+pub returns-in_err-planned-clause-steps : goal.returns-in_err-planned-clause-steps
+returns-in_err-planned-clause-steps g c =
+    λ missing. steps_plan _ _ missing _ _ c.plan_write.result _ c.plan_write.ensures.disks c.plan_write.ensures.out c.plan_write.ensures.shapes c.plan_write.ensures.keeps
+    c.plan_write.ensures.places c.plan_write.ensures.err_spaces c.plan_write.ensures.due c.plan_write.ensures.err_due c.plan_write.ensures.planned c.plan_write.ensures.err
 
-pub returns-clause-filled : goal.returns-clause-filled
-returns-clause-filled g c = chosen_fills_nothing _ _ _ _ _ c.in_ok-planned.ensures.places
+pub returns-clause-steps : goal.returns-clause-steps
+returns-clause-steps g c =
+    λ missing. steps_plan _ _ missing _ _ c.plan_write.result _ c.plan_write.ensures.disks c.plan_write.ensures.out c.plan_write.ensures.shapes c.plan_write.ensures.keeps
+    c.plan_write.ensures.places c.plan_write.ensures.err_spaces c.plan_write.ensures.due c.plan_write.ensures.err_due c.plan_write.ensures.planned c.plan_write.ensures.err

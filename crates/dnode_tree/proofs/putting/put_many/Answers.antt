@@ -2,7 +2,8 @@ use Rattle.std.proofs.Common.{◌≡◌, lit<, subst, ◌+◌, ◌-◌, ◌*◌,
 use Rattle.dnode_tree.proofs.Raising.{six_levels}
 use Rattle.dnode_tree.proofs.Refusing.{passed_on}
 use Rattle.dnode_tree.proofs.Spans.{span_up}
-use Rattle.dnode_tree.proofs.Steps.{steps_on, no_room_on}
+use Rattle.block_store.proofs.Steps.{steps_on}
+use Rattle.dnode_tree.proofs.Steps.{no_room_on}
 use Rattle.dnode_tree.proofs.WholeTree.{raising_begins, raising_goes_on, raising_fails, power_rises, level_between, root_of, tree_rewritten}
 use Rattle.dnode_tree.proofs.putting.put_many.Goals as goal
 
@@ -38,7 +39,7 @@ returns-in_err-pointer-2-clause-steps g c = steps_on _ _ _ _ c.loop-level.invari
 
 pub returns-in_err-pointer-2-clause-no_room : goal.returns-in_err-pointer-2-clause-no_room
 returns-in_err-pointer-2-clause-no_room g c =
-    passed_on _ _ _ c.from_residual-in_err-pointer-2.ensures.1 (λ none. no_room_on _ _ _ _ _ c.loop-level.invariant.steps.shapes (c.in_err-pointer-2.ensures.no_room none))
+    passed_on _ _ _ c.from_residual-in_err-pointer-2.ensures.1 (λ none. no_room_on _ _ _ _ c.args.node.now c.args.copies c.loop-level.invariant.steps (c.in_err-pointer-2.ensures.no_room none))
 
 pub returns-in_err-pointer-2-clause-known : goal.returns-in_err-pointer-2-clause-known
 returns-in_err-pointer-2-clause-known g c =

@@ -1,4 +1,5 @@
 use Rattle.std.proofs.Common.{[], ◌∷◌, replicate, set, ap, ◌∙◌, arith}
+use Rattle.block_store.proofs.Steps.{steps_none}
 use Rattle.dnode_tree.proofs.Raising.{raising_begins, raised, six_levels}
 use Rattle.dnode_tree.proofs.Refusing.{passed_on}
 use Rattle.dnode_tree.specs.Tree.{property_of}
@@ -27,3 +28,9 @@ returns-clause-rewritten g c =
       done.1,
       raised planned done.0 (property_of c.args.node.now) c.args.level c.args.birth c.in_ok-block.block new_array before noted _ done.2,
     )
+
+pub returns-then-is_empty-clause-steps : goal.returns-then-is_empty-clause-steps
+returns-then-is_empty-clause-steps g c = steps_none _ _
+
+pub returns-in_err-pointers-clause-steps : goal.returns-in_err-pointers-clause-steps
+returns-in_err-pointers-clause-steps g c = steps_none _ _

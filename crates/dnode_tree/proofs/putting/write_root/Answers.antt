@@ -1,5 +1,6 @@
 use Rattle.std.proofs.Common.{◌≡◌, length, rules}
 use Rattle.std.proofs.lemmas.List.{nil_from_length}
+use Rattle.block_store.proofs.Steps.{steps_none}
 use Rattle.dnode_tree.proofs.Raising.{root_stays}
 use Rattle.dnode_tree.proofs.Refusing.{passed_on}
 use Rattle.dnode_tree.proofs.putting.write_root.Goals as goal
@@ -18,3 +19,6 @@ returns-in_err-block-clause-known g c = passed_on _ _ _ c.from_residual.ensures.
 
 pub returns-clause-rewritten : goal.returns-clause-rewritten
 returns-clause-rewritten g c = rw c.levels.ensures at c.in_ok-block.ensures.rewritten
+
+pub returns-then-is_empty-clause-steps : goal.returns-then-is_empty-clause-steps
+returns-then-is_empty-clause-steps g c = steps_none _ _

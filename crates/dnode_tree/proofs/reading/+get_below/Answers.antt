@@ -1,10 +1,14 @@
-use Rattle.std.proofs.Common.{◌≡◌, suc, ◌+◌, ◌-◌, ◌*◌, ◌/◌, ◌^◌, ◌<◌, ap, sym, subst, ◌∙◌, arith}
+use Rattle.std.proofs.Common.{◌≡◌, suc, ◌+◌, ◌-◌, ◌*◌, ◌/◌, ◌%◌, ◌^◌, ◌<◌, ap, sym, subst, ◌∙◌, arith}
 use Rattle.std.proofs.lemmas.Result.{IfOk-weaker, IfErr-weaker}
 use Rattle.block_store.specs.Reading.{Asks}
-use Rattle.dnode_tree.proofs.FurtherReads.{reads_on, true_before, true_after, few_after}
+use Rattle.block_store.proofs.Steps.{reads_on}
+use Rattle.dnode_tree.proofs.FurtherReads.{true_before, true_after, few_after}
 use Rattle.dnode_tree.proofs.Parts.{data_part, indirect_part, child_part, child_low, child_place}
 use Rattle.dnode_tree.proofs.Refusing.{passed_on}
+use Rattle.dnode_tree.specs.Subtree.{asked_of}
 use Rattle.dnode_tree.specs.Tree.{property_of}
+use Rattle.dnode_tree.specs.Ways.{reached, bytes_of, IsReadAs, AreReadAs, IsFoundBelow}
+use Rattle.dnode_tree.proofs.WayLemmas.{found_hole, found_data, found_down, refused_data, refused_indirect, refused_down}
 use Rattle.dnode_tree.proofs.reading.+get_below.Goals as goal
 
 pub returns-in_err-read-clause-known : goal.returns-in_err-read-clause-known
@@ -55,3 +59,53 @@ returns-clause-known g t c =
     (true_after _ _ _ _ c.in_ok-children.ensures.reads c.get_below.ensures.reads honest)
     (few_after _ _ _ _ c.in_ok-children.ensures.reads c.get_below.ensures.reads few))
     c.get_below.ensures.known
+
+pub returns-in_default-clause-found : goal.returns-in_default-clause-found
+returns-in_default-clause-found g t c =
+    found_hole c.args.store.now.spaces (property_of c.args.node.now) c.args.part.level c.args.part.birth c.args.part.pointer c.args.place c.in_default.is
+
+pub returns-in_err-read-clause-refused : goal.returns-in_err-read-clause-refused
+returns-in_err-read-clause-refused g t c =
+    passed_on _ _ _ c.from_residual.ensures.1
+    (refused_data c.args.store.now c.read.new.self c.args.missing.now (property_of c.args.node.now) c.args.part.level c.args.part.birth c.args.part.pointer c.args.place
+    c.in-Block.block c.asked_at-asked.result _ c.asked_at-asked.ensures c.in-Block.is c.in_err-read.ensures.refused)
+
+pub returns-then-part-eq0-clause-found : goal.returns-then-part-eq0-clause-found
+returns-then-part-eq0-clause-found g t c =
+    let read : IsReadAs c.args.store.now.spaces c.asked_at-asked.result c.in-Block.block c.in_ok-read.field-0.items =
+    record { readable = c.in_ok-read.ensures.readable; size = c.in_ok-read.ensures.size; digest = c.in_ok-read.ensures.digest } in
+    found_data c.args.store.now.spaces (property_of c.args.node.now) c.args.part.level c.args.part.birth c.args.part.pointer c.args.place c.in-Block.block c.in_ok-read.field-0.items
+    c.if-part-eq0.true c.in-Block.is
+    (subst (λ asked. IsReadAs c.args.store.now.spaces asked c.in-Block.block c.in_ok-read.field-0.items) c.asked_at-asked.ensures read)
+
+pub returns-in_err-children-clause-refused : goal.returns-in_err-children-clause-refused
+returns-in_err-children-clause-refused g t c =
+    passed_on _ _ _ c.from_residual-in_err-children.ensures.1
+    (refused_indirect c.args.store.now c.read_indirect.new.store c.args.missing.now (property_of c.args.node.now) c.args.part.level c.args.part.birth c.args.part.pointer c.args.place
+    c.in-Block.block c.asked_at-asked.result _ (omega arith) c.asked_at-asked.ensures c.in-Block.is c.in_err-children.ensures.refused)
+
+pub returns-clause-found : goal.returns-clause-found
+returns-clause-found g t c =
+    let e : c.args.part.level ≡ suc (c.args.part.level - 1) = omega arith in
+    let low : c.args.place / c.span-span.result < 128 = child_low _ _ _ _ e c.span-span.ensures.value c.span-span.ensures.some c.requires.within in
+    let read : AreReadAs c.args.store.now.spaces (asked_of (property_of c.args.node.now c.args.part.level) c.args.part.birth) c.in-Block.block c.in_ok-children.children =
+    subst (λ asked. AreReadAs c.args.store.now.spaces asked c.in-Block.block c.in_ok-children.children) c.asked_at-asked.ensures c.in_ok-children.ensures.read in
+    let spaces = ap (λ store. store.spaces) c.in_ok-children.ensures.reads.rest in
+    IfOk-weaker c.get_below.result _ _
+    (λ found below.
+    found_down c.args.store.now.spaces (property_of c.args.node.now) c.args.part.level (c.args.part.level - 1) c.args.part.birth c.args.part.pointer c.args.place c.span-span.result
+    c.in-Block.block c.in_ok-children.children c.get.result e c.in-Block.is read c.span-span.ensures.value low c.get.ensures.value (bytes_of found)
+    (subst (λ s. IsFoundBelow s (property_of c.args.node.now) (reached (c.args.part.level - 1) c.get.result c.in-Block.block.birth) (c.args.place % c.span-span.result) (bytes_of found)) spaces below))
+    c.get_below.ensures.found
+
+pub returns-clause-refused : goal.returns-clause-refused
+returns-clause-refused g t c =
+    let e : c.args.part.level ≡ suc (c.args.part.level - 1) = omega arith in
+    let low : c.args.place / c.span-span.result < 128 = child_low _ _ _ _ e c.span-span.ensures.value c.span-span.ensures.some c.requires.within in
+    let read : AreReadAs c.args.store.now.spaces (asked_of (property_of c.args.node.now c.args.part.level) c.args.part.birth) c.in-Block.block c.in_ok-children.children =
+    subst (λ asked. AreReadAs c.args.store.now.spaces asked c.in-Block.block c.in_ok-children.children) c.asked_at-asked.ensures c.in_ok-children.ensures.read in
+    IfErr-weaker c.get_below.result _ _
+    (λ refusal below.
+    refused_down c.args.store.now c.read_indirect.new.store c.get_below.new.store c.args.missing.now (property_of c.args.node.now) c.args.part.level (c.args.part.level - 1) c.args.part.birth c.args.part.pointer c.args.place c.span-span.result
+    c.in-Block.block c.in_ok-children.children c.get.result e c.in-Block.is read c.span-span.ensures.value low c.get.ensures.value c.in_ok-children.ensures.reads refusal below)
+    c.get_below.ensures.refused

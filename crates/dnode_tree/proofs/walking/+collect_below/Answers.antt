@@ -1,6 +1,7 @@
 use Rattle.std.proofs.Common.{◌≡◌, suc, ◌-◌, refl, subst, sym, ◌∙◌, arith}
 use Rattle.block_store.specs.Reading.{Asks}
-use Rattle.dnode_tree.proofs.FurtherReads.{reads_on, true_before, true_after, few_after}
+use Rattle.block_store.proofs.Steps.{reads_on}
+use Rattle.dnode_tree.proofs.FurtherReads.{true_before, true_after, few_after}
 use Rattle.dnode_tree.proofs.Parts.{indirect_part}
 use Rattle.dnode_tree.proofs.Collecting.{parts_below, part_at, collecting_begins, collecting_goes_on, collected_all}
 use Rattle.dnode_tree.proofs.Refusing.{passed_on}

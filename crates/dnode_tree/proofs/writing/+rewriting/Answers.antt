@@ -7,7 +7,8 @@ use Rattle.dnode_tree.proofs.NewArrays.{written_first}
 use Rattle.dnode_tree.proofs.Refusing.{passed_on, ok_both}
 use Rattle.dnode_tree.proofs.Rewriting.{rewriting_begins, sum_fits, root_rewritten}
 use Rattle.dnode_tree.proofs.Roots.{indirect_length, leaf_rewritten, part_has_root}
-use Rattle.dnode_tree.proofs.Steps.{steps_on, steps_read, steps_plan, true_sooner, true_later, few_later, no_room_on}
+use Rattle.block_store.proofs.Steps.{steps_none, steps_on, steps_read}
+use Rattle.dnode_tree.proofs.Steps.{true_sooner, true_later, few_later, no_room_on}
 use Rattle.dnode_tree.proofs.WritingParts.{writing_skips, writing_goes_on, writing_fails, run_is_between, run_in_order, run_whole, root_filled}
 use Rattle.dnode_tree.specs.Subtree.{asked_of}
 use Rattle.dnode_tree.specs.Tree.{property_of}
@@ -61,7 +62,7 @@ write_part-returns-clause-rewritten g t c =
 pub write_part-returns-clause-no_room : goal.write_part-returns-clause-no_room
 write_part-returns-clause-no_room g t c =
     let reads = steps_read _ _ _ c.in_ok-parts.ensures.reads in
-    IfErr-weaker c.write_parts.result _ _ (λ refusal is none. no_room_on _ _ _ _ _ reads.shapes (is none)) c.write_parts.ensures.no_room
+    IfErr-weaker c.write_parts.result _ _ (λ refusal is none. no_room_on _ _ _ _ c.args.node.now c.args.copies reads (is none)) c.write_parts.ensures.no_room
 
 pub write_part-returns-clause-known : goal.write_part-returns-clause-known
 write_part-returns-clause-known g t c =
@@ -101,7 +102,7 @@ write_parts-returns-in_err-block-clause-steps g t c = steps_on _ _ _ _ c.loop-pl
 
 pub write_parts-returns-in_err-block-clause-no_room : goal.write_parts-returns-in_err-block-clause-no_room
 write_parts-returns-in_err-block-clause-no_room g t c =
-    passed_on _ _ _ c.from_residual.ensures.1 (λ none. no_room_on _ _ _ _ _ c.loop-place.invariant.steps.shapes (c.in_err-block.ensures.no_room none))
+    passed_on _ _ _ c.from_residual.ensures.1 (λ none. no_room_on _ _ _ _ c.args.node.now c.args.copies c.loop-place.invariant.steps (c.in_err-block.ensures.no_room none))
 
 pub write_parts-returns-in_err-block-clause-known : goal.write_parts-returns-in_err-block-clause-known
 write_parts-returns-in_err-block-clause-known g t c =
@@ -143,7 +144,7 @@ write_parts-returns-clause-rewritten g t c =
     let all : c.loop-place.place ≡ 128 = omega (arith, c.loop-place-test.false, c.loop-place.auto.place-end, c.requires.from) in
     IfOk-weaker c.plan_block.result _ _
     (λ block made stored planned now array new_array before after noted plans rewritten has honest.
-    let planned_step = steps_plan c.loop-place.store c.plan_block.new.store c.args.missing.now c.plan_block.ensures.disks c.plan_block.ensures.out c.plan_block.ensures.shapes c.plan_block.ensures.filled c.plan_block.ensures.keeps in
+    let planned_step = c.plan_block.ensures.steps c.args.missing.now in
     let there = c.loop-place.invariant.rewriting stored planned now array new_array before after noted plans rewritten has (true_sooner _ _ _ _ c.loop-place.invariant.steps planned_step honest) in
     let added = made.0.0 stored there.0 there.2 in
     let asks : Asks (asked_of (property_of c.args.node.now (suc c.args.parts.level)) c.args.birth) block = rw add-one at made.0.1 in (
@@ -156,4 +157,27 @@ write_parts-returns-clause-rewritten g t c =
 
 pub write_parts-returns-clause-no_room : goal.write_parts-returns-clause-no_room
 write_parts-returns-clause-no_room g t c =
-    IfErr-weaker c.plan_block.result _ _ (λ refusal is none. no_room_on _ _ _ _ _ c.loop-place.invariant.steps.shapes (is none)) c.plan_block.ensures.no_room
+    IfErr-weaker c.plan_block.result _ _ (λ refusal is none. no_room_on _ _ _ _ c.args.node.now c.args.copies c.loop-place.invariant.steps (is none c.args.missing.now)) c.plan_block.ensures.no_room
+
+pub write_part-returns-in_err-note-clause-steps : goal.write_part-returns-in_err-note-clause-steps
+write_part-returns-in_err-note-clause-steps g t c = steps_none _ _
+
+pub write_part-returns-then-part-eq0-clause-steps : goal.write_part-returns-then-part-eq0-clause-steps
+write_part-returns-then-part-eq0-clause-steps g t c = c.plan_block.ensures.steps c.args.missing.now
+
+pub write_part-returns-in_err-parts-clause-steps : goal.write_part-returns-in_err-parts-clause-steps
+write_part-returns-in_err-parts-clause-steps g t c = steps_read _ _ _ c.in_err-parts.ensures.reads
+
+pub write_parts-loop-place-init : goal.write_parts-loop-place-init
+write_parts-loop-place-init g t c = record {
+  steps = steps_none _ _;
+  between = c.requires.between;
+  order = c.requires.order;
+  whole = c.requires.whole;
+  filled = c.requires.some;
+  count = c.requires.count;
+  rewriting = λ stored planned begun array new_array before after noted plans rewritten has honest. (begun, after, plans, rewritten, has);
+}
+
+pub write_parts-returns-clause-steps : goal.write_parts-returns-clause-steps
+write_parts-returns-clause-steps g t c = steps_on _ _ _ _ c.loop-place.invariant.steps (c.plan_block.ensures.steps c.args.missing.now)

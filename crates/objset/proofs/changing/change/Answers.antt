@@ -3,7 +3,8 @@ use Rattle.block_pointer.specs.declared.block.Block.{Block}
 use Rattle.dnode_slots.specs.declared.writes.NodeWrite.{NodeWrite}
 use Rattle.dnode_slots.specs.Writes.{AreNodesRewritten, IsGrownSet, written_nodes}
 use Rattle.dnode_tree.proofs.Refusing.{passed_on}
-use Rattle.dnode_tree.proofs.Steps.{steps_on, true_sooner, true_later, few_later}
+use Rattle.block_store.proofs.Steps.{steps_on}
+use Rattle.dnode_tree.proofs.Steps.{true_sooner, true_later, few_later}
 use Rattle.dnode_tree.specs.Writes.{HasNoRoom}
 use Rattle.objset.proofs.Exchanged.{appended}
 use Rattle.objset.proofs.Room.{no_room_for_dnodes, no_room_sooner}
@@ -18,9 +19,9 @@ returns-in_err-rewrite-clause-steps g c = steps_on _ _ _ _ c.in_ok-writes.ensure
 pub returns-in_err-rewrite-clause-no_room : goal.returns-in_err-rewrite-clause-no_room
 returns-in_err-rewrite-clause-no_room g c =
     passed_on _ _ _ c.from_residual-in_err-rewrite.ensures.1
-    (λ is. no_room_sooner _ _ _ _ c.in_ok-writes.ensures.steps.shapes
-    (no_room_for_dnodes c.change_each.new.store c.put_many.new.store c.args.set.now.dnodes c.args.copies c.requires.set.1.sectors
-    (subst (λ counts. HasNoRoom c.change_each.new.store c.put_many.new.store c.args.set.now.dnodes counts) c.of_dnodes.ensures (c.in_err-rewrite.ensures.no_room is))))
+    (λ is. no_room_sooner _ _ _ _ _ c.in_ok-writes.ensures.steps
+    (no_room_for_dnodes c.change_each.new.store c.put_many.new.store c.args.missing.now c.args.set.now.dnodes c.args.copies c.requires.set.1.sectors
+    (subst (λ counts. HasNoRoom c.change_each.new.store c.put_many.new.store c.args.missing.now c.args.set.now.dnodes counts) c.of_dnodes.ensures (c.in_err-rewrite.ensures.no_room is))))
 
 pub returns-in_err-rewrite-clause-known : goal.returns-in_err-rewrite-clause-known
 returns-in_err-rewrite-clause-known g c =

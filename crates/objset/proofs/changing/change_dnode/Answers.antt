@@ -7,6 +7,7 @@ use Rattle.dnode_tree.proofs.Standing.{empty_trees}
 use Rattle.objset.proofs.Kept.{object_there}
 use Rattle.objset.proofs.Trees.{is_created, is_put, is_freed}
 use Rattle.objset.specs.Changes.{AreWhole, object_copies}
+use Rattle.block_store.proofs.Steps.{steps_none}
 use Rattle.objset.proofs.changing.change_dnode.Goals as goal
 
 pub returns-in-Free-dnode-clause-changed : goal.returns-in-Free-dnode-clause-changed
@@ -58,3 +59,15 @@ returns-in-Object-dnode-clause-known g c =
     let has = object_there stored bound c.args.dnode c.args.dnode c.in-Object-dnode.node object blocks refl c.in-Object-dnode.is there in
     inl (inl (is stored planned bound has.there.array blocks plans has.tree le honest few)))
     c.free_object.ensures.known
+
+pub returns-in_default-clause-steps : goal.returns-in_default-clause-steps
+returns-in_default-clause-steps g c = steps_none _ _
+
+pub returns-in_default-dnode-clause-steps : goal.returns-in_default-dnode-clause-steps
+returns-in_default-dnode-clause-steps g c = steps_none _ _
+
+pub returns-then-not-are_whole-clause-steps : goal.returns-then-not-are_whole-clause-steps
+returns-then-not-are_whole-clause-steps g c = steps_none _ _
+
+pub returns-in_default-dnode-2-clause-steps : goal.returns-in_default-dnode-2-clause-steps
+returns-in_default-dnode-2-clause-steps g c = steps_none _ _

@@ -5,7 +5,7 @@ use Rattle.block_store.specs.declared.refusal.Refusal.{Refusal}
 use Rattle.block_store.specs.declared.refusal.Refusal.TheVariants.{BadPointer}
 use Rattle.dnode_slots.specs.declared.writes.NodeWrite.{NodeWrite}
 use Rattle.dnode_tree.proofs.Refusing.{passed_on}
-use Rattle.dnode_tree.proofs.Steps.{steps_on}
+use Rattle.block_store.proofs.Steps.{steps_on}
 use Rattle.dnode_tree.specs.Writes.{IsForRoom}
 use Rattle.objset.specs.declared.changes.ObjectChange.{ObjectChange}
 use Rattle.objset.specs.Changes.{MayChange}
@@ -25,7 +25,7 @@ returns-in_err-write-clause-steps g c = steps_on _ _ _ _ c.loop-change.invariant
 
 pub returns-in_err-write-clause-no_room : goal.returns-in_err-write-clause-no_room
 returns-in_err-write-clause-no_room g c =
-    passed_on _ _ _ c.from_residual.ensures.1 (λ is. no_room_sooner _ _ _ _ c.loop-change.invariant.steps.shapes (c.in_err-write.ensures.no_room is))
+    passed_on _ _ _ c.from_residual.ensures.1 (λ is. no_room_sooner _ _ _ _ _ c.loop-change.invariant.steps (c.in_err-write.ensures.no_room is))
 
 pub returns-in_err-write-clause-known : goal.returns-in_err-write-clause-known
 returns-in_err-write-clause-known g c =

@@ -1,6 +1,7 @@
 use Rattle.std.proofs.Common.{inl, sym, subst}
 use Rattle.dnode_tree.proofs.Refusing.{passed_on}
-use Rattle.dnode_tree.proofs.Steps.{steps_on, steps_read, true_sooner, true_later, few_later}
+use Rattle.block_store.proofs.Steps.{steps_on, steps_read}
+use Rattle.dnode_tree.proofs.Steps.{true_sooner, true_later, few_later}
 use Rattle.objset.proofs.Kept.{nodes_later}
 use Rattle.objset.proofs.Room.{no_room_sooner}
 use Rattle.objset.specs.Objects.{IsObject}
@@ -18,7 +19,7 @@ returns-in_err-node-clause-steps g c = steps_on _ _ _ _ (steps_read _ _ _ c.in_o
 pub returns-in_err-node-clause-no_room : goal.returns-in_err-node-clause-no_room
 returns-in_err-node-clause-no_room g c =
     let read = steps_read _ _ _ c.in_ok-dnode.ensures.reads in
-    passed_on _ _ _ c.from_residual-in_err-node.ensures.1 (λ is. no_room_sooner _ _ _ _ read.shapes (c.in_err-node.ensures.no_room is))
+    passed_on _ _ _ c.from_residual-in_err-node.ensures.1 (λ is. no_room_sooner _ _ _ _ _ read (c.in_err-node.ensures.no_room is))
 
 pub returns-in_err-node-clause-known : goal.returns-in_err-node-clause-known
 returns-in_err-node-clause-known g c =
@@ -43,3 +44,6 @@ returns-clause-changed g c =
     c.in_ok-node.ensures.changed stored planned bound (objects c.args.change.now.number) (before c.args.change.now.number) (c.in_ok-dnode.ensures.reads.plans stored planned plans)
     (subst (λ dnode. IsObject stored bound dnode (objects c.args.change.now.number) (before c.args.change.now.number)) (sym same) (are.each c.args.change.now.number)) le
     (true_later _ _ _ _ read c.in_ok-node.ensures.steps honest)
+
+pub returns-in_err-dnode-clause-steps : goal.returns-in_err-dnode-clause-steps
+returns-in_err-dnode-clause-steps g c = steps_read _ _ _ c.in_err-dnode.ensures.reads

@@ -10,8 +10,8 @@ use Rattle.objset.proofs.changing.write_object.Goals as goal
 pub returns-in_err-done-clause-no_room : goal.returns-in_err-done-clause-no_room
 returns-in_err-done-clause-no_room g c =
     passed_on _ _ _ c.from_residual.ensures.1
-    (λ is. no_room_for_object c.args.store.now c.put_many.new.store c.args.node.now c.args.copies c.requires.node.0.sectors
-    (subst (λ counts. HasNoRoom c.args.store.now c.put_many.new.store c.args.node.now counts) c.of_objects.ensures (c.in_err-done.ensures.no_room is)))
+    (λ is. no_room_for_object c.args.store.now c.put_many.new.store c.args.missing.now c.args.node.now c.args.copies c.requires.node.0.sectors
+    (subst (λ counts. HasNoRoom c.args.store.now c.put_many.new.store c.args.missing.now c.args.node.now counts) c.of_objects.ensures (c.in_err-done.ensures.no_room is)))
 
 pub returns-clause-changed : goal.returns-clause-changed
 returns-clause-changed g c = λ stored planned bound array blocks plans tree le honest.

@@ -1,6 +1,7 @@
 use Rattle.std.proofs.Common.{inl, inr, refl}
 use Rattle.std.proofs.lemmas.Result.{IfOk-weaker, IfErr-weaker}
-use Rattle.dnode_tree.proofs.FurtherReads.{reads_on, true_before, true_after, few_after}
+use Rattle.block_store.proofs.Steps.{reads_on}
+use Rattle.dnode_tree.proofs.FurtherReads.{true_before, true_after, few_after}
 use Rattle.dnode_tree.proofs.Refusing.{passed_on}
 use Rattle.objset.proofs.Kept.{no_object, object_there, some_and}
 use Rattle.objset.proofs.reading.get.Goals as goal

@@ -1,0 +1,130 @@
+-- What was read on the way down a tree, whether or not the tree is whole.
+use Rattle.std.specs.Option.{option_map}
+use Rattle.std.specs.declared.alloc.Global.{Global}
+use Rattle.std.specs.Prelude.{ℕ, Vec, zero, suc, ◌≡◌, ◌⊎◌, ◌*◌, ◌/◌, ◌%◌, ◌^◌, ◌<◌, ◌≤◌, ◌++◌, ◌-◌, List, length, slice_index_or, Option, Some, None}
+use Rattle.sha2.specs.Sha256.{sha256}
+use Rattle.block_pointer.specs.declared.block.Block.{Block}
+use Rattle.block_pointer.specs.declared.pointer.BlockPtr.{BlockPtr}
+use Rattle.block_pointer.specs.declared.pointer.BlockPtr.TheVariants.{Hole, Block as At}
+use Rattle.block_pointer.specs.declared.property.Property.{Property}
+use Rattle.dnode.specs.declared.node.ObjectNode.{ObjectNode}
+use Rattle.dnode.specs.Indirect.{SpellsIndirect}
+use Rattle.dnode.specs.Levels.{levels_of}
+use Rattle.block_store.specs.declared.block.Asked.{Asked}
+use Rattle.block_store.specs.declared.refusal.Refusal.{Refusal}
+use Rattle.block_store.specs.declared.refusal.Refusal.TheVariants.{NoMemory, DiskFault, NoSpace, BadPointer, BadDigest, BadConfig}
+use Rattle.block_store.specs.declared.space.VdevSpace.{VdevSpace}
+use Rattle.block_store.specs.Reading.{IsReadable, IsLastFault}
+use Rattle.block_store.specs.Store.{Store, outs}
+use Rattle.block_store.specs.Steps.{OnlyReadsBlocks}
+use Rattle.dnode_tree.specs.Subtree.{asked_of}
+use Rattle.dnode_tree.specs.Tree.{property_of}
+
+-- These bytes were read for the pointer: it may be read, and they have its size and its digest.
+pub record IsReadAs (spaces : List VdevSpace) (asked : Asked) (block : Block) (bytes : List ℕ) : Type 0 where
+  pub readable : IsReadable spaces asked block
+  pub size : length bytes ≡ block.property.sectors * 512
+  pub digest : sha256 bytes ≡ block.checksum
+
+-- these pointers were read for the pointer
+pub record AreReadAs (spaces : List VdevSpace) (asked : Asked) (block : Block) (pointers : List BlockPtr) : Type 0 where
+  pub bytes : List ℕ
+  pub read : IsReadAs spaces asked block bytes
+  pub spelled : SpellsIndirect bytes pointers
+
+-- a pointer on the way: how far above the data it points, and the latest birth that it may have
+pub record Reached : Type 0 where
+  pub level : ℕ
+  pub pointer : BlockPtr
+  pub birth : ℕ
+
+abbrev pub reached : ℕ → BlockPtr → ℕ → Reached
+reached level pointer birth = record { level = level; pointer = pointer; birth = birth }
+
+-- what a block that it points to is asked
+abbrev pub asked_there : (ℕ → Property) → Reached → Asked
+asked_there property here = asked_of (property here.level) here.birth
+
+-- The way from a pointer that far above the data to one of the data blocks below it, by its place among them, comes to a pointer:
+-- at once, or through indirect blocks that were read. What an indirect block points to was born by its own birth.
+abbrev pub ComesTo : List VdevSpace → (ℕ → Property) → ℕ → ℕ → BlockPtr → ℕ → Reached → Type 0
+ComesTo spaces property zero birth pointer place there = there ≡ reached 0 pointer birth
+ComesTo spaces property (suc level) birth pointer place there =
+    (there ≡ reached (suc level) pointer birth)
+    ⊎ ((block : Block) × (pointers : List BlockPtr) × (pointer ≡ At block) × AreReadAs spaces (asked_of (property (suc level)) birth) block pointers
+    × ComesTo spaces property level block.birth (slice_index_or pointers (place / 128 ^ level) Hole) (place % 128 ^ level) there)
+
+-- the bytes of a block, if there is one
+abbrev pub bytes_of : Option (Vec ℕ Global) → Option (List ℕ)
+bytes_of found = option_map (λ bytes. bytes.items) found
+
+-- there is a data block with these bytes, or a hole and none
+abbrev pub HasFound : List VdevSpace → (ℕ → Property) → Reached → Option (List ℕ) → Type 0
+HasFound spaces property there None = there.pointer ≡ Hole
+HasFound spaces property there (Some bytes) =
+    (block : Block) × (there.level ≡ 0) × (there.pointer ≡ At block) × IsReadAs spaces (asked_there property there) block bytes
+
+-- the bytes that were read for it spell no pointers
+pub record SpellsNoPointers (spaces : List VdevSpace) (asked : Asked) (block : Block) : Type 0 where
+  pub bytes : List ℕ
+  pub read : IsReadAs spaces asked block bytes
+  pub none : (pointers : List BlockPtr) → ¬ SpellsIndirect bytes pointers
+
+-- why an indirect block was not read: its pointer may not be, or it spells no pointers, or its last copy was at fault
+abbrev pub IsBlockFault : Store → Store → List ℕ → Asked → Block → Refusal → Type 0
+IsBlockFault old new missing asked block refusal =
+    (refusal ≡ NoMemory)
+    ⊎ (((refusal ≡ BadPointer) × ((¬ IsReadable old.spaces asked block) ⊎ SpellsNoPointers old.spaces asked block))
+    ⊎ IsLastFault old new (outs old ++ missing) block refusal)
+
+-- the pointer may not be read, or leads to an indirect block that spells no pointers
+pub record IsBad (spaces : List VdevSpace) (property : ℕ → Property) (there : Reached) : Type 0 where
+  pub block : Block
+  pub is : there.pointer ≡ At block
+  pub why : (¬ IsReadable spaces (asked_there property there) block) ⊎ ((0 < there.level) × SpellsNoPointers spaces (asked_there property there) block)
+
+-- the block was not read: the last of its copies was at fault, after other reads
+pub record IsLost (old new : Store) (missing : List ℕ) (there : Reached) (refusal : Refusal) : Type 0 where
+  pub block : Block
+  pub is : there.pointer ≡ At block
+  pub mid : Store
+  pub before : OnlyReadsBlocks old mid missing
+  pub fault : IsLastFault mid new (outs mid ++ missing) block refusal
+
+-- why a pointer was not followed
+abbrev pub IsCause : Store → Store → List ℕ → (ℕ → Property) → Reached → Refusal → Type 0
+IsCause old new missing property there NoMemory = Unit {0}
+IsCause old new missing property there BadPointer = IsBad old.spaces property there
+IsCause old new missing property there DiskFault = IsLost old new missing there DiskFault
+IsCause old new missing property there BadDigest = IsLost old new missing there BadDigest
+IsCause old new missing property there NoSpace = ⊥
+IsCause old new missing property there BadConfig = ⊥
+
+-- the root of an object's tree
+abbrev pub root_of : ObjectNode → ℕ → Reached
+root_of node birth = reached (levels_of node.highest - 1) node.pointer birth
+
+-- the way to a data block comes from a pointer to another
+abbrev pub LeadsTo : List VdevSpace → (ℕ → Property) → Reached → ℕ → Reached → Type 0
+LeadsTo spaces property here place there = ComesTo spaces property here.level here.birth here.pointer place there
+
+-- what was found at that place below a pointer
+pub record IsFoundBelow (spaces : List VdevSpace) (property : ℕ → Property) (here : Reached) (place : ℕ) (found : Option (List ℕ)) : Type 0 where
+  pub there : Reached
+  pub leads : LeadsTo spaces property here place there
+  pub has : HasFound spaces property there found
+
+-- why nothing was found there: the cause is on the way
+pub record IsRefusedBelow (old new : Store) (missing : List ℕ) (property : ℕ → Property) (here : Reached) (place : ℕ) (refusal : Refusal) : Type 0 where
+  pub there : Reached
+  pub leads : LeadsTo old.spaces property here place there
+  pub fault : IsCause old new missing property there refusal
+
+-- what was found of a data block of an object: nothing behind the highest id
+abbrev pub IsFound : List VdevSpace → ObjectNode → ℕ → ℕ → Option (List ℕ) → Type 0
+IsFound spaces node birth id found =
+    ((node.highest < id) × (found ≡ None)) ⊎ ((id ≤ node.highest) × IsFoundBelow spaces (property_of node) (root_of node birth) id found)
+
+-- why a data block of an object was not read
+abbrev pub IsRefused : Store → Store → List ℕ → ObjectNode → ℕ → ℕ → Refusal → Type 0
+IsRefused old new missing node birth id refusal = IsRefusedBelow old new missing (property_of node) (root_of node birth) id refusal
