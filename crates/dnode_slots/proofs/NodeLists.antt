@@ -7,7 +7,8 @@ use Rattle.std.proofs.lemmas.List.Elements.{All-head, All-tail}
 use Rattle.dnode.specs.declared.dnode.Dnode.{Dnode}
 use Rattle.dnode.specs.Dnode.{FitsDnode, SpellsDnode, dnode_bytes}
 use Rattle.dnode_slots.specs.declared.writes.NodeWrite.{NodeWrite}
-use Rattle.dnode_slots.specs.Slots.{slot_of, HasSlots}
+use Rattle.dnode_slots.specs.Nodes.{slot_of}
+use Rattle.dnode_slots.specs.Slots.{HasSlots}
 use Rattle.dnode_slots.specs.Writes.{written_nodes}
 
 -- writes of others leave a dnode

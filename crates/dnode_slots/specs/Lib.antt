@@ -1,3 +1,4 @@
+pub mod Found
 pub mod Nodes
 pub mod Sets
 pub mod Slots

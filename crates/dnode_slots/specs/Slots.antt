@@ -1,11 +1,8 @@
 -- The dnodes of one block. Only the crate's own functions say these.
-use Rattle.std.specs.Prelude.{ℕ, ◌+◌, ◌*◌, ◌<◌, List, take, drop}
+use Rattle.std.specs.Prelude.{ℕ, ◌+◌, ◌*◌, ◌<◌, List}
 use Rattle.dnode.specs.declared.dnode.Dnode.{Dnode}
 use Rattle.dnode.specs.Dnode.{SpellsDnode}
-
--- the bytes of a dnode of a block
-abbrev pub slot_of : List ℕ → ℕ → List ℕ
-slot_of bytes place = take 512 (drop (512 * place) bytes)
+use Rattle.dnode_slots.specs.Nodes.{slot_of}
 
 -- the bytes of the block of that id have these dnodes in its places
 abbrev pub HasSlots : List ℕ → ℕ → (ℕ → Dnode) → Type 0

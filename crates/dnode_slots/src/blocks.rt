@@ -8,6 +8,7 @@ ghost use Rattle.block_store.specs.Blocks.{Contents};
 ghost use Rattle.block_store.specs.Store.{Holds};
 ghost use Rattle.block_store.specs.Steps.{OnlyReadsBlocks, AnswersAreTrue, LossIsTolerable};
 ghost use Rattle.dnode_tree.specs.Tree.{IsTree};
+ghost use Rattle.dnode_tree.specs.Ways.{bytes_of, IsFound, IsRefused};
 ghost use Rattle.dnode_slots.specs.Nodes.{AreNodesOf};
 ghost use Rattle.dnode_slots.specs.Slots.{HasSlots};
 
@@ -17,7 +18,7 @@ use dnode::ObjectSet;
 use model_disk::Disk;
 use std::alloc::Global;
 
-/// The bytes of a block of the dnodes, or nothing where it is a hole. `BadPointer` where the block has another size.
+/// The bytes of a block of the dnodes, or nothing where it is a hole.
 pub(crate) fn block_at<D: Disk + Drop>(
     set: &ObjectSet,
     store: &mut BlockStore<D>,
@@ -31,18 +32,14 @@ pub(crate) fn block_at<D: Disk + Drop>(
     ensures size { IfOk result (λ found. IfSome found (λ bytes. length bytes.items ≡ 16384)) }
     ensures value { IfOk result (λ found. (stored : Contents) (array : ℕ → Option (List ℕ)) (blocks : List Block) → Holds store.old stored
         → IsTree stored birth set.now.dnodes array blocks → AnswersAreTrue store.old store.new → option_map (λ bytes. bytes.items) found ≡ array id) }
+    ensures found { IfOk result (λ found. IsFound store.old.spaces set.now.dnodes birth id (bytes_of found)) }
+    ensures refused { IfErr result (IsRefused store.old store.new missing.now set.now.dnodes birth id) }
     ensures cause { IfErr result (λ refusal. refusal ≢ Refusal.NoSpace) }
     ensures known { IfErr result (λ refusal. (stored : Contents) (array : ℕ → Option (List ℕ)) (blocks : List Block) → Holds store.old stored
         → IsTree stored birth set.now.dnodes array blocks → AnswersAreTrue store.old store.new → LossIsTolerable store.old store.new missing.now
         → refusal ≡ Refusal.NoMemory) }
 {
-    let Some(bytes) = dnode_tree::get(&set.dnodes, store, alloc, id, birth, missing)? else {
-        return Ok(None);
-    };
-    if bytes.len() != BLOCK_LEN {
-        return Err(Refusal::BadPointer);
-    }
-    Ok(Some(bytes))
+    dnode_tree::get(&set.dnodes, store, alloc, id, birth, missing)
 }
 
 /// The bytes of a block of the dnodes: zeros where it is a hole, as free dnodes are.

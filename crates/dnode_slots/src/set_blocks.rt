@@ -10,7 +10,7 @@ ghost use Rattle.block_store.specs.Plans.{Plans};
 ghost use Rattle.block_store.specs.Store.{Holds};
 ghost use Rattle.block_store.specs.Steps.{OnlyReadsBlocks, OnlyReadsAndPlans, AnswersAreTrue, LossIsTolerable};
 ghost use Rattle.dnode_tree.specs.Writes.{IsForRoom};
-ghost use Rattle.dnode_slots.specs.Sets.{IsSetBlock};
+ghost use Rattle.dnode_slots.specs.Sets.{IsSetBlock, IsSetFound, IsSetRefused};
 
 use block_pointer::{Block, Property};
 use block_store::{Asked, BlockStore, CopyCount, NewBlock, Refusal};
@@ -41,6 +41,10 @@ pub fn read_set<D: Disk + Drop>(
     ensures fits { IfOk result FitsObjectSet }
     ensures value { IfOk result (λ found. (stored : Contents) (set : ObjectSet) → Holds store.old stored → IsSetBlock stored birth block.now set
         → AnswersAreTrue store.old store.new → found ≡ set) }
+
+    // Whatever the block is: what was read, and on a refusal its cause.
+    ensures found { IfOk result (IsSetFound store.old.spaces birth block.now) }
+    ensures refused { IfErr result (IsSetRefused store.old store.new missing.now birth block.now) }
     ensures cause { IfErr result (λ refusal. refusal ≢ Refusal.NoSpace) }
     ensures known { IfErr result (λ refusal. (stored : Contents) (set : ObjectSet) → Holds store.old stored → IsSetBlock stored birth block.now set
         → AnswersAreTrue store.old store.new → LossIsTolerable store.old store.new missing.now → refusal ≡ Refusal.NoMemory) }

@@ -1,9 +1,9 @@
 //! The dnodes of one block.
-ghost use Rattle.std.specs.Prelude.{◌≡◌, ◌≢◌, ◌/◌, ◌<◌, ℕ, Some, All, AllPairs, IfOk, IfErr, length};
+ghost use Rattle.std.specs.Prelude.{◌≡◌, ◌≢◌, ◌↔◌, ◌/◌, ◌^◌, ◌<◌, ℕ, Some, All, AllPairs, IsTrue, IfOk, IfErr, length, replicate};
 ghost use Rattle.dnode.specs.declared.dnode.Dnode.{Dnode};
 ghost use Rattle.dnode.specs.Dnode.{FitsDnode, dnode_bytes};
-ghost use Rattle.dnode_slots.specs.Nodes.{IsNodeIn};
-ghost use Rattle.dnode_slots.specs.Slots.{slot_of, HasSlots};
+ghost use Rattle.dnode_slots.specs.Nodes.{IsNodeIn, IsUnused, HasZeros, slot_of};
+ghost use Rattle.dnode_slots.specs.Slots.{HasSlots};
 ghost use Rattle.dnode_slots.specs.Writes.{written_nodes};
 
 use crate::writes::NodeWrite;
@@ -25,6 +25,7 @@ pub(crate) fn node_at(block: &[u8], place: usize) -> Result<Dnode, Refusal>
     requires place { place < 32 }
     ensures found { IfOk result (IsNodeIn (Some block.now) place) }
     ensures only { (node : Dnode) → IsNodeIn (Some block.now) place node → result ≡ Ok node }
+    ensures none { IfErr result (λ refusal. (node : Dnode) → ¬ IsNodeIn (Some block.now) place node) }
     ensures refused { IfErr result (λ refusal. refusal ≡ Refusal.BadPointer) }
 {
     let at = NODE_LEN * place;
@@ -34,6 +35,43 @@ pub(crate) fn node_at(block: &[u8], place: usize) -> Result<Dnode, Refusal>
         Ok(node) => Ok(node),
         Err(_) => Err(Refusal::BadPointer),
     }
+}
+
+/// Whether the block of that id has zeros where there is no object, of so many with object 0.
+pub(crate) fn has_zeros(block: &[u8], id: u64, objects: u64) -> bool
+    requires size { length block.now ≡ 16384 }
+    requires id { id < 2 ^ 59 }
+    ensures { IsTrue result ↔ HasZeros objects id block.now }
+{
+    for place in 0..NODES_A_BLOCK {
+        if is_unused(NODES_A_BLOCK * id + place, objects) && !is_free(block, place as usize) {
+            return false;
+        }
+    }
+    true
+}
+
+/// Whether a number is one that has no object.
+fn is_unused(number: u64, objects: u64) -> bool
+    ensures { IsTrue result ↔ IsUnused objects number }
+{
+    number == 0 || number >= objects
+}
+
+/// Whether zeros stand at a place of a block.
+fn is_free(block: &[u8], place: usize) -> bool
+    requires size { length block.now ≡ 16384 }
+    requires place { place < 32 }
+    ensures { IsTrue result ↔ (slot_of block.now place ≡ replicate 512 0) }
+{
+    let at = NODE_LEN * place;
+    is_zero(&block[at..at + NODE_LEN])
+}
+
+fn is_zero(bytes: &[u8]) -> bool
+    ensures { IsTrue result ↔ (bytes.now ≡ replicate (length bytes.now) 0) }
+{
+    bytes.iter().all(|byte| *byte == 0)
 }
 
 /// Puts a dnode at a place of a block.

@@ -1,4 +1,5 @@
 pub mod Changes
 pub mod Changing
+pub mod Found
 pub mod Laws
 pub mod Objects

@@ -6,6 +6,8 @@ ghost use Rattle.block_store.specs.Blocks.{Contents};
 ghost use Rattle.block_store.specs.Store.{Holds};
 ghost use Rattle.dnode.specs.ObjectSet.{FitsObjectSet};
 ghost use Rattle.block_store.specs.Steps.{OnlyReadsBlocks, AnswersAreTrue, LossIsTolerable};
+ghost use Rattle.dnode_tree.specs.Ways.{bytes_of};
+ghost use Rattle.objset.specs.Found.{IsDataFound, IsDataRefused};
 ghost use Rattle.objset.specs.Objects.{Object, AreObjects};
 
 use block_pointer::Block;
@@ -31,6 +33,10 @@ pub fn get<D: Disk + Drop>(
     ensures value { IfOk result (λ found. (stored : Contents) (objects : ℕ → Option Object) (own : List Block) (blocks : ℕ → List Block) → Holds store.old stored
         → AreObjects stored birth set.now objects own blocks → AnswersAreTrue store.old store.new
         → IsSomeAnd (objects number) (λ object. option_map (λ bytes. bytes.items) found ≡ object.array id)) }
+
+    // Whatever the set is: what was read, and on a refusal its cause.
+    ensures found { IfOk result (λ found. IsDataFound store.old.spaces set.now birth number id (bytes_of found)) }
+    ensures refused { IfErr result (IsDataRefused store.old store.new missing.now set.now birth number id) }
     ensures cause { IfErr result (λ refusal. refusal ≢ Refusal.NoSpace) }
     ensures known { IfErr result (λ refusal. (stored : Contents) (objects : ℕ → Option Object) (own : List Block) (blocks : ℕ → List Block) → Holds store.old stored
         → AreObjects stored birth set.now objects own blocks → AnswersAreTrue store.old store.new → LossIsTolerable store.old store.new missing.now
@@ -42,8 +48,8 @@ pub fn get<D: Disk + Drop>(
     dnode_tree::get(&node, store, alloc, id, birth, missing)
 }
 
-/// All blocks of an object, each before those below it, and otherwise in the order of their data; none where there is no
-/// such object. Of the object's blocks only indirect ones are read. The set's blocks were born in the transaction group
+/// All blocks of an object, each before those below it, and otherwise in the order of their data. `BadPointer` where there
+/// is no such object. Of the object's blocks only indirect ones are read. The set's blocks were born in the transaction group
 /// `birth` or before. The disks that are named are taken as missing.
 pub fn walk<D: Disk + Drop>(
     set: &ObjectSet,
@@ -56,14 +62,15 @@ pub fn walk<D: Disk + Drop>(
     requires { FitsObjectSet set.now }
     ensures reads { OnlyReadsBlocks store.old store.new missing.now }
     ensures blocks { IfOk result (λ found. (stored : Contents) (objects : ℕ → Option Object) (own : List Block) (blocks : ℕ → List Block) → Holds store.old stored
-        → AreObjects stored birth set.now objects own blocks → AnswersAreTrue store.old store.new → found.items ≡ blocks number) }
+        → AreObjects stored birth set.now objects own blocks → AnswersAreTrue store.old store.new
+        → (objects number ≢ None) × (found.items ≡ blocks number)) }
     ensures cause { IfErr result (λ refusal. refusal ≢ Refusal.NoSpace) }
     ensures known { IfErr result (λ refusal. (stored : Contents) (objects : ℕ → Option Object) (own : List Block) (blocks : ℕ → List Block) → Holds store.old stored
         → AreObjects stored birth set.now objects own blocks → AnswersAreTrue store.old store.new → LossIsTolerable store.old store.new missing.now
-        → refusal ≡ Refusal.NoMemory) }
+        → (refusal ≡ Refusal.NoMemory) ⊎ ((refusal ≡ Refusal.BadPointer) × (objects number ≡ None))) }
 {
     let Dnode::Object(node) = dnode_slots::get(set, store, alloc, number, birth, missing)? else {
-        return Ok(Vec::new(alloc));
+        return Err(Refusal::BadPointer);
     };
     dnode_tree::walk(&node, store, alloc, birth, missing)
 }

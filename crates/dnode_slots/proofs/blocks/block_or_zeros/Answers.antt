@@ -2,7 +2,7 @@ use Rattle.std.proofs.Common.{◌≡◌, ◌+◌, ◌*◌, ℕ, Option, Some, No
 use Rattle.std.specs.Option.{option_map}
 use Rattle.dnode.specs.declared.dnode.Dnode.TheVariants.{Free}
 use Rattle.dnode_slots.specs.Nodes.{IsNodeIn}
-use Rattle.dnode_slots.specs.Slots.{slot_of}
+use Rattle.dnode_slots.specs.Nodes.{slot_of}
 use Rattle.dnode_slots.proofs.BlockLists.{slots_of_block}
 use Rattle.dnode_slots.proofs.NodeLists.{spells_as}
 use Rattle.dnode_slots.proofs.SlotBytes.{zeros_are_free}

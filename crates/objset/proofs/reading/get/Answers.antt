@@ -1,9 +1,12 @@
-use Rattle.std.proofs.Common.{inl, inr, refl}
+use Rattle.std.proofs.Common.{inl, inr, refl, ap, subst}
 use Rattle.std.proofs.lemmas.Result.{IfOk-weaker, IfErr-weaker}
 use Rattle.block_store.proofs.Steps.{reads_on}
 use Rattle.dnode_tree.proofs.FurtherReads.{true_before, true_after, few_after}
 use Rattle.dnode_tree.proofs.Refusing.{passed_on}
 use Rattle.objset.proofs.Kept.{no_object, object_there, some_and}
+use Rattle.dnode.specs.declared.dnode.Dnode.{Dnode}
+use Rattle.dnode_tree.specs.Ways.{bytes_of, IsFound}
+use Rattle.dnode_slots.specs.Found.{IsNodeFound}
 use Rattle.objset.proofs.reading.get.Goals as goal
 
 pub returns-in_err-node-clause-known : goal.returns-in_err-node-clause-known
@@ -38,3 +41,33 @@ returns-clause-known g c =
     inl (is stored there.there.array (blocks c.args.number) (c.in_ok-node.ensures.reads.keeps stored held) there.tree (true_after _ _ _ _ c.in_ok-node.ensures.reads c.get-2.ensures.reads honest)
     (few_after _ _ _ _ c.in_ok-node.ensures.reads c.get-2.ensures.reads few)))
     c.get-2.ensures.known
+
+pub returns-in_err-node-clause-refused : goal.returns-in_err-node-clause-refused
+returns-in_err-node-clause-refused g c = passed_on _ _ _ c.from_residual.ensures.1 (inl c.in_err-node.ensures.refused)
+
+pub returns-in_default-clause-refused : goal.returns-in_default-clause-refused
+returns-in_default-clause-refused g c =
+    inr (inl (refl, subst (λ (node : Dnode). IsNodeFound c.args.store.now.spaces c.args.set.now c.args.birth c.args.number node) c.in_default.is c.in_ok-node.ensures.found))
+
+pub returns-clause-found : goal.returns-clause-found
+returns-clause-found g c =
+    let spaces = ap (λ store. store.spaces) c.in_ok-node.ensures.reads.rest in
+    IfOk-weaker c.get-2.result _ _
+    (λ found is. record {
+      node = c.in-Object.node;
+      has_node = subst (λ (node : Dnode). IsNodeFound c.args.store.now.spaces c.args.set.now c.args.birth c.args.number node) c.in-Object.is c.in_ok-node.ensures.found;
+      is = subst (λ s. IsFound s c.in-Object.node c.args.birth c.args.id (bytes_of found)) spaces is;
+    })
+    c.get-2.ensures.found
+
+pub returns-clause-refused : goal.returns-clause-refused
+returns-clause-refused g c =
+    IfErr-weaker c.get-2.result _ _
+    (λ refusal is. inr (inr (record {
+      node = c.in-Object.node;
+      has_node = subst (λ (node : Dnode). IsNodeFound c.args.store.now.spaces c.args.set.now c.args.birth c.args.number node) c.in-Object.is c.in_ok-node.ensures.found;
+      mid = c.get.new.store;
+      before = c.in_ok-node.ensures.reads;
+      why = is;
+    })))
+    c.get-2.ensures.refused
