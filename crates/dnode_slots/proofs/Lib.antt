@@ -4,4 +4,3 @@ mod NodeLists
 mod Outcomes
 mod PutNodes
 mod SlotBytes
-mod TreeSizes

@@ -1,5 +1,5 @@
-//! Tests of the objects: trees of blocks, dnodes by number, and the objects of a set. They stand together, so that what
-//! they reach is proved once with them.
+//! Tests of the objects: trees of blocks, dnodes by number, the objects of a set, and tables. They stand together, so that
+//! what they reach is proved once with them.
 #![tactic(auto)]
 
 #[cfg(test)]
@@ -8,5 +8,7 @@ mod nodes;
 mod objects;
 #[cfg(test)]
 mod stores;
+#[cfg(test)]
+mod tables;
 #[cfg(test)]
 mod trees;

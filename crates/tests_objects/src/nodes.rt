@@ -1,6 +1,7 @@
 //! Dnodes by number.
-ghost use Rattle.std.specs.Prelude.{◌≡◌, ◌<◌, ◌≤◌, IfOk, length};
+ghost use Rattle.std.specs.Prelude.{◌≡◌, ◌+◌, ◌*◌, ◌<◌, ◌≤◌, IfOk, length};
 ghost use Rattle.dnode.specs.Dnode.{FitsDnode};
+ghost use Rattle.dnode.specs.Node.{FitsNode};
 ghost use Rattle.dnode.specs.ObjectSet.{FitsObjectSet};
 ghost use Rattle.dnode_slots.specs.Writes.{AreNodeWrites};
 
@@ -250,30 +251,44 @@ fn ones(alloc: Global, len: usize) -> Result<Vec<u8>, AllocError>
     vec![in alloc; 1; len]
 }
 
-/// A set whose first block of dnodes has no dnodes.
-fn spoiled(store: &mut Store, alloc: Global) -> Result<ObjectSet, Refusal>
-    ensures { IfOk result FitsObjectSet }
+/// The first or the second block of dnodes has ones alone.
+fn with_ones(store: &mut Store, alloc: Global, id: u64) -> Result<ObjectNode, Refusal>
+    requires { id < 2 }
+    ensures node { IfOk result FitsNode }
+    ensures object_type { IfOk result (λ node. node.object_type ≡ 10) }
+    ensures sectors { IfOk result (λ node. node.data_sectors ≡ 32) }
+    ensures highest { IfOk result (λ node. id ≤ node.highest) }
 {
     let writes = [BlockWrite {
-        id: 0,
+        id,
         bytes: ones(alloc, 16_384)?,
     }];
     store.begin_plan();
     let dnodes = dnode_tree::put_many(&EMPTY.dnodes, store, alloc, &writes, 1, COPIES, &[])?.node;
     store_plan(store);
+    Ok(dnodes)
+}
+
+/// A set of so many dnodes whose first or second block has ones alone.
+fn spoiled(store: &mut Store, alloc: Global, id: u64, objects: u64) -> Result<ObjectSet, Refusal>
+    requires id { id < 2 }
+    requires some { 0 < objects }
+    requires few { objects ≤ 32 * (id + 1) }
+    ensures { IfOk result FitsObjectSet }
+{
     Ok(ObjectSet {
-        dnodes,
+        dnodes: with_ones(store, alloc, id)?,
         kind: ObjectSetKind::Meta,
-        objects: 32,
+        objects,
     })
 }
 
-/// Whether bytes that spell no dnode are refused, before and after others are written beside them.
+/// Whether bytes that spell no dnode are refused, and kept as others are written beside them.
 fn refusals(store: &mut Store, alloc: Global) -> Result<[bool; 2], Refusal> {
-    let set = spoiled(store, alloc)?;
-    let before = are_at(&set, store, alloc, &[(5, BAD)], 1, &[]);
+    let set = spoiled(store, alloc, 1, 64)?;
+    let before = are_at(&set, store, alloc, &[(37, BAD), (63, BAD), (5, 0)], 1, &[]);
     let done = put(&set, store, alloc, &second_writes(), 2)?.set;
-    let after = are_at(&done, store, alloc, &[(5, BAD), (31, 0)], 2, &[]);
+    let after = are_at(&done, store, alloc, &[(37, BAD), (33, 33), (31, 0)], 2, &[]);
     Ok([before, after])
 }
 
@@ -286,5 +301,29 @@ fn refusals_in_memory(alloc: Global) -> Result<[bool; 2], Fail> {
 fn bytes_that_spell_no_dnode_are_refused_and_kept(rt: HostRuntime) -> Result<(), Fail> {
     let refused = refusals_in_memory(rt.alloc())?;
     assert_eq!(rt; refused, [true, true]);
+    Ok(())
+}
+
+/// Whether a block is refused that has something else than zeros at number 0, or behind the last dnode: also for a dnode
+/// that it spells.
+fn zeros(store: &mut Store, alloc: Global) -> Result<[bool; 2], Refusal> {
+    let first = spoiled(store, alloc, 0, 32)?;
+    let at_0 = put(&first, store, alloc, &second_writes(), 2)?.set;
+    let second = spoiled(store, alloc, 1, 40)?;
+    Ok([
+        are_at(&at_0, store, alloc, &[(31, BAD), (33, 33)], 2, &[]),
+        are_at(&second, store, alloc, &[(39, BAD), (5, 0), (40, 0)], 1, &[]),
+    ])
+}
+
+fn zeros_in_memory(alloc: Global) -> Result<[bool; 2], Fail> {
+    let mut store = new_store(alloc)?;
+    Ok(zeros(&mut store, alloc)?)
+}
+
+#[test]
+fn zeros_stand_where_there_is_no_object(rt: HostRuntime) -> Result<(), Fail> {
+    let judged = zeros_in_memory(rt.alloc())?;
+    assert_eq!(rt; judged, [true, true]);
     Ok(())
 }

@@ -1,0 +1,11 @@
+//! Tables in objects, in this project's profile: a first row whose first word is the number of rows after it, and rows of
+//! a fixed width.
+#![tactic(auto)]
+
+mod refusal;
+mod rows;
+mod shape;
+
+pub use refusal::Refusal;
+pub use rows::{BLOCK_LEN, decode, encode};
+pub use shape::RowShape;
