@@ -1,12 +1,11 @@
-ghost use Rattle.std.specs.Prelude.{◌≡◌, ◌+◌, ◌^◌, ◌<◌, ℕ, List, OnOk, OnErr, IfOk, IsErrOf};
+ghost use Rattle.std.specs.Prelude.{◌≡◌, ◌+◌, ◌^◌, ◌<◌, ◌≤◌, ℕ, List, OnOk, OnErr, IfOk, IfSome, IfNone, IsErrOf};
 ghost use Rattle.space_map.specs.Entry.{FitsEntry};
-ghost use Rattle.space_map.specs.Sectors.{contains};
-ghost use Rattle.space_map.specs.Map.{all_free, after, Changes};
-ghost use Rattle.space_map.specs.FreeRuns.{AreFree, IsSet};
+ghost use Rattle.space_map.specs.Map.{all_free};
+ghost use Rattle.space_map.specs.FreeRuns.{AreFree, IsSet, entry_of, CanEnter, IsEntered, HasRoom};
 
 use crate::entry::{Entry, Kind, Run};
 use crate::refusal::Refusal;
-use crate::runs::{give_run, take_run};
+use crate::runs::{first_fit, give_run, take_run};
 use std::alloc::{AllocError, Global};
 use std::marker::Model;
 
@@ -65,19 +64,56 @@ impl FreeSet {
     /// nothing.
     pub fn apply(&mut self, entry: Entry) -> Result<(), Refusal>
         requires { FitsEntry entry }
-        ensures ok { OnOk result (IsSet self.new self.old.sectors (after (contains self.old.runs) entry)) }
-        ensures changes { OnOk result (Changes self.old.sectors (contains self.old.runs) entry) }
-        ensures bad { IsErrOf result Refusal.BadMap → ¬ Changes self.old.sectors (contains self.old.runs) entry }
+        ensures ok { OnOk result (IsEntered self.old self.new entry) }
+        ensures changes { OnOk result (CanEnter self.old entry) }
+        ensures bad { IsErrOf result Refusal.BadMap → ¬ CanEnter self.old entry }
         ensures err { OnErr result (self.new ≡ self.old) }
     {
         let sectors = self.sectors;
         if entry.run.start + entry.run.len > sectors {
             return Err(Refusal::BadMap);
         }
-        match entry.kind {
-            Kind::Allocated => take_run(&mut self.runs, entry.run, sectors)?,
-            Kind::Freed => give_run(&mut self.runs, entry.run, sectors)?,
+        self.change(entry.kind, entry.run)
+    }
+
+    /// Allocates or frees a run of the metaslab, in sectors of 512 bytes and of any length. `BadMap` comes
+    /// where its sectors are not all free before they are allocated, or not all allocated before they are
+    /// freed. A refusal changes nothing.
+    pub fn change(&mut self, kind: Kind, run: Run) -> Result<(), Refusal>
+        requires not_empty { 0 < run.len }
+        requires within { run.start + run.len ≤ self.old.sectors }
+        ensures ok { OnOk result (IsEntered self.old self.new (entry_of kind run)) }
+        ensures changes { OnOk result (CanEnter self.old (entry_of kind run)) }
+        ensures bad { IsErrOf result Refusal.BadMap → ¬ CanEnter self.old (entry_of kind run) }
+        ensures err { OnErr result (self.new ≡ self.old) }
+    {
+        let sectors = self.sectors;
+        match kind {
+            Kind::Allocated => take_run(&mut self.runs, run, sectors)?,
+            Kind::Freed => give_run(&mut self.runs, run, sectors)?,
         }
         Ok(())
+    }
+
+    /// So many free sectors in a row, if there are: the front of the first free run that has as many.
+    pub fn find(&self, sectors: u64) -> Option<Run>
+        requires { 0 < sectors }
+        ensures len { IfSome result (λ run. run.len ≡ sectors) }
+        ensures free { IfSome result (λ run. CanEnter self.now (entry_of Kind.Allocated run)) }
+        ensures none { IfNone result (¬ HasRoom self.now sectors) }
+    {
+        let _ = &self.sectors;
+        first_fit(&self.runs, sectors)
+    }
+}
+
+impl Clone for FreeSet {
+    ghost is_clone = { λ set copy. copy ≡ set };
+
+    fn clone(&self) -> Result<FreeSet, AllocError> {
+        Ok(FreeSet {
+            sectors: self.sectors,
+            runs: Vec::from_slice(*self.runs.allocator(), &self.runs)?,
+        })
     }
 }

@@ -1,8 +1,8 @@
 //! Changes of a list of runs that ascend, with one sector at least between two of them.
-ghost use Rattle.std.specs.Prelude.{◌≡◌, ℕ, ◌+◌, ◌^◌, ◌<◌, ◌≤◌, [], ◌∷◌, ◌++◌, true, false, length, take, drop, vec_len, IsTrue, OnOk, OnErr, IfOk, IfErr, IsErrOf};
+ghost use Rattle.std.specs.Prelude.{◌≡◌, ℕ, ◌+◌, ◌^◌, ◌<◌, ◌≤◌, [], ◌∷◌, ◌++◌, true, false, length, take, drop, vec_len, IsTrue, OnOk, OnErr, IfOk, IfErr, IfSome, IfNone, IsErrOf};
 ghost use Rattle.std.specs.List.{AllWithin};
 ghost use Rattle.std.specs.List.Sorted.{IsNonDecreasingBy};
-ghost use Rattle.space_map.specs.Sectors.{names, contains, changed, AreBetween};
+ghost use Rattle.space_map.specs.Sectors.{names, contains, changed, AreBetween, HasRun};
 ghost use Rattle.space_map.specs.Pieces.{not_empty};
 ghost use Rattle.space_map.specs.Sides.{IsLeft, IsRight};
 
@@ -18,6 +18,28 @@ fn count_up_to(runs: &[Run], sector: u64) -> usize
     ensures back { AllWithin (λ (r : Run). sector < r.start) runs.now result (length runs.now) }
 {
     runs.partition_point(|run| run.start <= sector)
+}
+
+/// The front of the first run that has so many sectors.
+pub(crate) fn first_fit(runs: &[Run], sectors: u64) -> Option<Run>
+    requires { 0 < sectors }
+    ensures len { IfSome result (λ run. run.len ≡ sectors) }
+    ensures free { IfSome result
+        (λ run. (s : ℕ) → IsTrue (names run s) → contains runs.now s ≡ true) }
+    ensures within { IfSome result
+        (λ run. (to : ℕ) → AreBetween 0 (to + 1) runs.now → run.start + run.len ≤ to) }
+    ensures none { IfNone result
+        ((to : ℕ) → AreBetween 0 to runs.now → ¬ HasRun (contains runs.now) sectors) }
+{
+    for run in runs {
+        if run.len >= sectors {
+            return Some(Run {
+                start: run.start,
+                len: sectors,
+            });
+        }
+    }
+    None
 }
 
 /// Puts those of two runs that have sectors in the place of one.
