@@ -5,10 +5,10 @@
 //! and `flush`), `pool ..` makes the pool behind the faults, and `missing DISK ..` names the disks that are missing for
 //! reads under a group from then on.
 use crate::faulty_pool::{DiskFault, FaultyPool};
+use crate::telling::reply_to;
 use model_disk::Fault;
 use pool_model::Refusal;
-use programs::answer;
-use schedule_lines::{Command, Line, PoolLine, parse, reply_text};
+use schedule_lines::{Command, Line, parse, reply_text};
 use std::alloc::Global;
 use std::test::Fail;
 
@@ -73,40 +73,26 @@ fn note(alloc: Global, pool: &mut FaultyPool, line: &str) -> Result<(), Fail> {
     Ok(())
 }
 
-// What the pool replies to a line.
-fn reply_to(alloc: Global, pool: &mut FaultyPool, line: &str) -> Result<String, Fail> {
-    let Line::Command(command) = parse(alloc, line.as_bytes())? else {
-        return Ok(format!(in alloc; "skipped")?);
+// The line again, with the reply of the pool.
+fn row(alloc: Global, pool: &mut FaultyPool, line: &str) -> Result<String, Fail> {
+    let Some((front, _)) = line.split_once(" -> ") else {
+        note(alloc, pool, line)?;
+        return Ok(format!(in alloc; "{line}\n")?);
     };
-    match answer(alloc, pool, command)? {
-        Some(reply) => Ok(reply_text(alloc, &reply)?),
-        None => Ok(format!(in alloc; "no first line")?),
-    }
+    let reply = reply_to(alloc, pool, front)?;
+    Ok(format!(in alloc; "{front} -> {}\n", reply_text(alloc, &reply)?)?)
 }
 
-// The lines again, each with the reply of the pool.
-fn replies_in(alloc: Global, pool: &mut FaultyPool, text: &str) -> Result<String, Fail> {
-    let mut told = String::new(alloc);
+fn rows(alloc: Global, pool: &mut FaultyPool, text: &str) -> Result<String, Fail> {
+    let mut rows = String::new(alloc);
     for line in text.lines() {
-        let (front, reply) = match line.split_once(" -> ") {
-            Some((front, _)) => (
-                front,
-                format!(in alloc; " -> {}", reply_to(alloc, pool, front)?)?,
-            ),
-            None => {
-                note(alloc, pool, line)?;
-                (line, String::new(alloc))
-            }
-        };
-        told.push_str(front)?;
-        told.push_str(reply.as_str())?;
-        told.push_str("\n")?;
+        rows.push_str(row(alloc, pool, line)?.as_str())?;
     }
-    Ok(told)
+    Ok(rows)
 }
 
 /// A schedule's text as the pool makes it: each line with the reply that the pool gives.
 pub fn played(alloc: Global, text: &str) -> Result<String, Fail> {
     let mut pool = made(alloc, text)?;
-    replies_in(alloc, &mut pool, text)
+    rows(alloc, &mut pool, text)
 }

@@ -1,13 +1,12 @@
 //! Random schedules of several writers: a pool over disks replies as the machine in memory does.
 ghost use Rattle.std.specs.Prelude.{◌<◌};
 
-use crate::telling::ran;
+use crate::telling::{ran, reply_to};
 use model_disk::MemDisk;
 use plain_machine::Machine;
 use pool_core::Core;
 use pool_model::Reply;
-use programs::answer;
-use schedule_lines::{Line, parse, reply_text};
+use schedule_lines::reply_text;
 use std::alloc::Global;
 use std::test::Fail;
 
@@ -146,16 +145,6 @@ impl Writers {
     fn is_lucky(&self) -> bool {
         self.committed >= 6 && self.receipts >= 10 && self.reads >= 8
     }
-}
-
-// What the machine in memory replies to a line.
-fn reply_to(alloc: Global, machine: &mut Machine, line: &str) -> Result<Reply, Fail> {
-    if let Line::Command(command) = parse(alloc, line.as_bytes())? {
-        if let Some(reply) = answer(alloc, machine, command)? {
-            return Ok(reply);
-        }
-    }
-    Ok(Reply::Released)
 }
 
 // The line with its reply.

@@ -1,7 +1,9 @@
 //! What running a schedule tells.
-use programs::{ExitStatus, StepMachine, schedule};
+use pool_model::{Refusal, Reply};
+use programs::{StepMachine, answer, schedule};
+use schedule_lines::{Line, parse};
 use std::alloc::Global;
-use std::io::{BufRead, Write};
+use std::io::BufRead;
 use std::test::Fail;
 
 /// The lines of rows `LINE -> REPLY`.
@@ -51,4 +53,15 @@ pub fn ran<P: StepMachine>(alloc: Global, parts: &[&str]) -> Result<(String, Str
     let input = fronts(alloc, parts)?;
     let told = told::<P>(alloc, input.as_str())?;
     Ok((told, backs(alloc, parts)?))
+}
+
+/// What a pool replies to a line.
+pub fn reply_to<P: StepMachine>(alloc: Global, pool: &mut P, line: &str) -> Result<Reply, Fail> {
+    let Line::Command(command) = parse(alloc, line.as_bytes())? else {
+        return Err(Fail::from(Refusal::BadConfig));
+    };
+    match answer(alloc, pool, command)? {
+        Some(reply) => Ok(reply),
+        None => Err(Fail::from(Refusal::NotNow)),
+    }
 }
