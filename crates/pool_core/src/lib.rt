@@ -8,8 +8,6 @@ mod reading;
 mod refusal;
 mod runs;
 mod syncing;
-#[cfg(test)]
-mod tests;
 
 pub use pool::Core;
 pub use pool_model::{Action, Bytes, Change, Name, Phase, Refusal, Reply, Step, Write};
