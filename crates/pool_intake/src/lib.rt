@@ -4,8 +4,6 @@
 
 mod intake;
 mod laws;
-#[cfg(test)]
-mod tests;
 
 pub use intake::Intake;
 pub use laws::views_are_followed_by_their_groups;
