@@ -9,8 +9,6 @@ mod kept;
 mod plan;
 mod reading;
 mod refusal;
-#[cfg(test)]
-mod tests;
 
 pub use commit::Commit;
 pub use device::Progress;
