@@ -119,7 +119,8 @@ impl<D: Disk + Drop> Commit<D> {
         ensures kept { self.new.kept ≡ self.old.kept }
         ensures planned { self.new.planned ≡ self.old.planned }
     {
-        self.store.begin_plan();
+        self.store
+            .begin_plan(self.kept.committed().saturating_add(1));
         Progress::Dropped(failed.disk)
     }
 
@@ -134,8 +135,9 @@ impl<D: Disk + Drop> Commit<D> {
             return Progress::Moved(phase);
         }
         self.store.finish_plan();
-        self.store.begin_plan();
         self.kept.shift(planned.volumes);
+        self.store
+            .begin_plan(self.kept.committed().saturating_add(1));
         Progress::Done
     }
 }

@@ -33,9 +33,9 @@ impl<D: Disk + Drop> Commit<D> {
             → items.now ≡ v.ledger (suc v.committed) → MakesGoodVolumes items.now
             → (refusal ≡ Refusal.NoMemory) ⊎ (IsLost v [] (state_of self.old) (state_of self.new) refusal ⊎ (refusal ≡ Refusal.NoSpace))) }
     {
-        self.store.begin_plan();
-        let flushes = self.disks_in_use(alloc)?;
         let group = self.kept.committed().saturating_add(1);
+        self.store.begin_plan(group);
+        let flushes = self.disks_in_use(alloc)?;
         match self
             .kept
             .last()

@@ -101,7 +101,7 @@ fn change_both(
     ensures { IfOk result (λ done. FitsObjectSet done.set) }
 {
     let changes = [first, second];
-    store.begin_plan();
+    store.begin_plan(birth);
     let done = change(set, store, alloc, &changes, birth, COPIES, &[])?;
     store_plan(store);
     Ok(done)
