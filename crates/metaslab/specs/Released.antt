@@ -1,0 +1,33 @@
+-- Runs that groups released.
+use Rattle.std.specs.Prelude.{ℕ, ◌≡◌, ◌+◌, ◌<◌, ◌≤◌, Bool, false, not, ◌&&◌, ◌||◌, Option, Some, None, if◌then◌else◌, List, [], ◌∷◌, filter, IsTrue}
+use Rattle.space_map.specs.FreeRuns.{FreeRuns, IsSet}
+use Rattle.space_map.specs.Sectors.{names, contains}
+use Rattle.metaslab.specs.declared.settling.Release.{Release}
+
+-- the group that released the sector
+abbrev pub released_by : List Release → ℕ → Option ℕ
+released_by [] s = None
+released_by (r ∷ rs) s = if names r.run s then Some r.group else released_by rs s
+
+-- one of the groups that pass released the sector
+abbrev pub frees : (ℕ → Bool) → List Release → ℕ → Bool
+frees passes [] s = false
+frees passes (r ∷ rs) s = (passes r.group && names r.run s) || frees passes rs s
+
+-- the runs lie in the metaslab, and no sector of theirs is free or released twice
+abbrev pub AreHeldBack : ℕ → (ℕ → Bool) → List Release → Type 0
+AreHeldBack sectors free [] = Unit {0}
+AreHeldBack sectors free (r ∷ rs) = (0 < r.run.len) × (r.run.start + r.run.len ≤ sectors)
+    × ((s : ℕ) → IsTrue (names r.run s) → (free s ≡ false) × (released_by rs s ≡ None)) × AreHeldBack sectors free rs
+
+-- none of them lies in this free set
+abbrev pub IsHeldBack : FreeRuns → List Release → Type 0
+IsHeldBack free rs = AreHeldBack free.sectors (contains free.runs) rs
+
+-- a free set is another with what the groups that pass released
+abbrev pub HasGained : (ℕ → Bool) → List Release → FreeRuns → FreeRuns → Type 0
+HasGained passes rs old new = IsSet new old.sectors (λ s. contains old.runs s || frees passes rs s)
+
+-- what the groups that do not pass released
+abbrev pub kept : (ℕ → Bool) → List Release → List Release
+kept passes rs = filter (λ release. not (passes release.group)) rs

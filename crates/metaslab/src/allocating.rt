@@ -1,0 +1,149 @@
+//! A metaslab.
+ghost use Rattle.std.specs.Prelude.{◌≡◌, ◌<◌, [], ◌↔◌, IsTrue, OnOk, OnErr, IfOk};
+
+use crate::refusal::Refusal;
+use crate::settling::{Release, change, drop_due, give_all, give_due};
+use space_map::{FreeSet, Kind, Run};
+use std::alloc::{AllocError, Global};
+use std::marker::Model;
+
+/// A metaslab: a part of a vdev, in sectors of 512 bytes that are counted from its start. Some of them are
+/// free, some hold blocks, and some were released and are not free yet (as OpenZFS's deferred frees; that
+/// three groups go by is this project's profile).
+///
+/// `allocate` hands out free sectors. What was released with a group becomes free at the first `settle` for
+/// a group three or more later, while no group before it is pinned. A plan works on a clone: a dropped plan
+/// drops the clone, which takes no memory.
+#[derive(Debug, Drop)]
+pub struct Metaslab {
+    free: FreeSet,
+    released: Vec<Release>,
+    pins: Vec<u64>,
+}
+
+impl Model for Metaslab {
+    ghost use Rattle.metaslab.specs.Space.{Space};
+    ghost use Rattle.metaslab.specs.Released.{IsHeldBack};
+
+    ghost Value = { Space };
+
+    ghost view = { λ m. record { free = m.free; released = m.released.items; pins = m.pins.items } };
+
+    ghost invariant = { λ m. IsHeldBack m.free m.released.items };
+}
+
+impl Metaslab {
+    ghost use Rattle.metaslab.specs.State.{Free, InUse, Released};
+    ghost use Rattle.metaslab.specs.Space.{sectors_of};
+    ghost use Rattle.metaslab.specs.Calls.{IsRunOf, Changes, HasFreeRun, Settles, IsOf, AreUnused};
+    ghost use Rattle.metaslab.specs.Calls.{pinned, unpinned};
+
+    /// A metaslab with this free set, as the replay of its space map gives it. All its other sectors are in
+    /// use, and no group is pinned.
+    pub fn new(alloc: Global, free: FreeSet) -> Metaslab
+        ensures states { IsOf result free }
+        ensures pins { result.pins ≡ [] }
+    {
+        Metaslab {
+            free,
+            released: Vec::new(alloc),
+            pins: Vec::new(alloc),
+        }
+    }
+
+    /// How many sectors there are, whatever they are used for.
+    pub fn sectors(&self) -> u64
+        ensures { result ≡ sectors_of self.now }
+    {
+        self.free.sectors()
+    }
+
+    /// Whether so many sectors in a row are free.
+    pub fn has_room(&self, sectors: u64) -> bool
+        requires { 0 < sectors }
+        ensures { IsTrue result ↔ HasFreeRun self.now sectors }
+    {
+        self.free.find(sectors).is_some()
+    }
+
+    /// Takes so many free sectors in a row, any, and hands them out. `NoSpace` comes only where no so many
+    /// are free in a row, and `NoMemory` may come in its place. An error leaves the metaslab as it was.
+    pub fn allocate(&mut self, sectors: u64) -> Result<Run, Refusal>
+        requires { 0 < sectors }
+        ensures len { IfOk result (λ run. run.len ≡ sectors) }
+        ensures free { IfOk result (λ run. IsRunOf self.old run Free) }
+        ensures taken { IfOk result (λ run. Changes self.old self.new run InUse) }
+        ensures no_space { result ≡ Err Refusal.NoSpace → ¬ HasFreeRun self.old sectors }
+        ensures err { OnErr result (self.new ≡ self.old) }
+    {
+        let Some(run) = self.free.find(sectors) else {
+            return Err(Refusal::NoSpace);
+        };
+        change(&mut self.free, Kind::Allocated, run)?;
+        Ok(run)
+    }
+
+    /// Releases a run that was handed out, with the group that gives it up: from that group on no block is
+    /// there, and groups before it may still reach one. An error, that memory is short, leaves the metaslab
+    /// as it was.
+    pub fn release(&mut self, run: Run, group: u64) -> Result<(), AllocError>
+        requires some { 0 < run.len }
+        requires in_use { IsRunOf self.old run InUse }
+        ensures released { OnOk result (Changes self.old self.new run (Released group)) }
+        ensures err { OnErr result (self.new ≡ self.old) }
+    {
+        self.released.push(Release { group, run })?;
+        Ok(())
+    }
+
+    /// Makes free what may be handed out to a group, as its plan begins. An error, that memory is short,
+    /// leaves the metaslab as it was.
+    pub fn settle(&mut self, group: u64) -> Result<(), AllocError>
+        ensures settled { OnOk result (Settles self.old self.new group) }
+        ensures err { OnErr result (self.new ≡ self.old) }
+    {
+        let mut free = self.free.clone()?;
+        give_due(&mut free, &self.released, &self.pins, group)?;
+        drop_due(&mut self.released, &self.pins, group);
+        self.free = free;
+        Ok(())
+    }
+
+    /// All sectors that are not in use, those too that were released and are not free yet: what the
+    /// metaslab's space map leaves free.
+    pub fn unused(&self) -> Result<FreeSet, AllocError>
+        ensures { IfOk result (AreUnused self.now) }
+    {
+        let mut unused = self.free.clone()?;
+        give_all(&mut unused, &self.released)?;
+        Ok(unused)
+    }
+
+    /// Pins a group beside those that are: what it may read is not handed out.
+    pub fn pin(&mut self, group: u64) -> Result<(), AllocError>
+        ensures ok { OnOk result (self.new ≡ pinned self.old group) }
+        ensures err { OnErr result (self.new ≡ self.old) }
+    {
+        self.pins.push(group)?;
+        Ok(())
+    }
+
+    /// Unpins a group, however often it was pinned.
+    pub fn unpin(&mut self, group: u64)
+        ensures { self.new ≡ unpinned self.old group }
+    {
+        self.pins.retain(|pin| *pin != group);
+    }
+}
+
+impl Clone for Metaslab {
+    ghost is_clone = { λ metaslab copy. copy ≡ metaslab };
+
+    fn clone(&self) -> Result<Metaslab, AllocError> {
+        Ok(Metaslab {
+            free: self.free.clone()?,
+            released: Vec::from_slice(*self.released.allocator(), &self.released)?,
+            pins: Vec::from_slice(*self.pins.allocator(), &self.pins)?,
+        })
+    }
+}

@@ -1,0 +1,80 @@
+//! What was released, and when it may be handed out again.
+ghost use Rattle.std.specs.Prelude.{◌≡◌, ◌<◌, nat_le, true, OnOk, OnErr};
+ghost use Rattle.std.specs.List.{list_all};
+ghost use Rattle.space_map.specs.FreeRuns.{entry_of, CanEnter, IsEntered};
+ghost use Rattle.metaslab.specs.State.{is_due};
+ghost use Rattle.metaslab.specs.Released.{kept, IsHeldBack, HasGained};
+
+use space_map::{FreeSet, Kind, Run};
+use std::alloc::AllocError;
+
+/// A run that a group released.
+#[derive(Clone, Copy, Debug)]
+pub(crate) struct Release {
+    pub(crate) group: u64,
+    pub(crate) run: Run,
+}
+
+/// Whether no group before this one is pinned.
+fn are_from(pins: &[u64], group: u64) -> bool
+    ensures { result ≡ list_all (λ pin. nat_le group pin) pins.now }
+{
+    pins.iter().all(|pin| group <= *pin)
+}
+
+/// Whether what a group released may be handed out to another.
+fn is_due(pins: &[u64], group: u64, releasing: u64) -> bool
+    ensures { result ≡ is_due pins.now group releasing }
+{
+    group >= 3 && releasing <= group - 3 && are_from(pins, releasing)
+}
+
+/// Gives what is due to the free sectors.
+pub(crate) fn give_due(
+    free: &mut FreeSet,
+    released: &[Release],
+    pins: &[u64],
+    group: u64,
+) -> Result<(), AllocError>
+    requires { IsHeldBack free.old released.now }
+    ensures { OnOk result (HasGained (is_due pins.now group) released.now free.old free.new) }
+{
+    for release in released {
+        if is_due(pins, group, release.group) {
+            change(free, Kind::Freed, release.run)?;
+        }
+    }
+    Ok(())
+}
+
+/// Gives all that was released to the free sectors.
+pub(crate) fn give_all(free: &mut FreeSet, released: &[Release]) -> Result<(), AllocError>
+    requires { IsHeldBack free.old released.now }
+    ensures { OnOk result (HasGained (λ group. true) released.now free.old free.new) }
+{
+    for release in released {
+        change(free, Kind::Freed, release.run)?;
+    }
+    Ok(())
+}
+
+/// Allocates or frees a run, all of whose sectors are free or allocated before.
+pub(crate) fn change(free: &mut FreeSet, kind: Kind, run: Run) -> Result<(), AllocError>
+    requires changes { CanEnter free.old (entry_of kind run) }
+    requires not_empty { 0 < run.len }
+    ensures ok { OnOk result (IsEntered free.old free.new (entry_of kind run)) }
+    ensures err { OnErr result (free.new ≡ free.old) }
+{
+    match free.change(kind, run) {
+        Ok(()) => Ok(()),
+        Err(space_map::Refusal::NoMemory) => Err(AllocError),
+        Err(space_map::Refusal::BadMap) => unreachable!(),
+    }
+}
+
+/// Drops what is due from what was released.
+pub(crate) fn drop_due(released: &mut Vec<Release>, pins: &[u64], group: u64)
+    ensures { released.new.items ≡ kept (is_due pins.now group) released.old.items }
+{
+    released.retain(|release| !is_due(pins, group, release.group));
+}
