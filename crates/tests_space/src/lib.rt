@@ -1,0 +1,9 @@
+//! Tests of free space and of what is to be freed: nothing but tests.
+#![tactic(auto)]
+
+#[cfg(test)]
+mod dead_lists;
+#[cfg(test)]
+mod free_sets;
+#[cfg(test)]
+mod metaslabs;

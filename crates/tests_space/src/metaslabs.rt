@@ -1,0 +1,102 @@
+ghost use Rattle.std.specs.Prelude.{◌<◌};
+
+use metaslab::{Metaslab, Refusal};
+use space_map::{FreeSet, Run};
+use std::alloc::Global;
+use std::test::*;
+
+/// Whether 16 sectors that a group released are free again once another group is settled, first while a third is
+/// pinned, and then after it is unpinned and the group is settled once more.
+fn comes_back(
+    alloc: Global,
+    released: u64,
+    settled: u64,
+    pinned: u64,
+) -> Result<(bool, bool), Refusal> {
+    let mut metaslab = Metaslab::new(alloc, FreeSet::new(alloc, 16)?);
+    let run = metaslab.allocate(16)?;
+    metaslab.release(run, released)?;
+    metaslab.pin(pinned)?;
+    metaslab.settle(settled)?;
+    let while_pinned = metaslab.has_room(16);
+    metaslab.unpin(pinned);
+    metaslab.settle(settled)?;
+    Ok((while_pinned, metaslab.has_room(16)))
+}
+
+/// The groups that release, that are settled and that are pinned, and what comes back.
+const SETTLES: [(u64, u64, u64, (bool, bool), &str); 6] = [
+    (4, 6, 9, (false, false), "two groups later"),
+    (4, 7, 9, (true, true), "three groups later"),
+    (4, 7, 4, (true, true), "the pinned group does not reach it"),
+    (4, 7, 3, (false, true), "the pinned group may reach it"),
+    (
+        4,
+        90,
+        3,
+        (false, true),
+        "a pinned group may reach it for long",
+    ),
+    (4, 0, 9, (false, false), "the first group"),
+];
+
+#[test]
+fn what_is_released_waits(rt: HostRuntime) -> Result<(), Fail> {
+    for (released, settled, pinned, back, why) in SETTLES {
+        let found = comes_back(rt.alloc(), released, settled, pinned)?;
+        assert_eq!(rt; found, back, "{why}");
+    }
+    Ok(())
+}
+
+/// How many sectors two runs have that are allocated in turn in a metaslab of 16.
+fn allocated(alloc: Global, first: u64, second: u64) -> Result<(u64, u64), Refusal>
+    requires first_some { 0 < first }
+    requires second_some { 0 < second }
+{
+    let mut metaslab = Metaslab::new(alloc, FreeSet::new(alloc, 16)?);
+    let one = metaslab.allocate(first)?;
+    let other = metaslab.allocate(second)?;
+    Ok((one.len, other.len))
+}
+
+#[test]
+fn space_runs_out(rt: HostRuntime) {
+    assert_eq!(rt; allocated(rt.alloc(), 10, 6), Ok((10, 6)));
+    assert_eq!(rt; allocated(rt.alloc(), 10, 7), Err(Refusal::NoSpace));
+    assert_eq!(rt; allocated(rt.alloc(), 17, 1), Err(Refusal::NoSpace));
+}
+
+/// The run of a whole metaslab, taken from a copy that is dropped and then from the metaslab.
+fn taken_twice(alloc: Global) -> Result<(Run, Run), Refusal> {
+    let mut metaslab = Metaslab::new(alloc, FreeSet::new(alloc, 16)?);
+    let mut copy = metaslab.clone()?;
+    let planned = copy.allocate(metaslab.sectors().max(1))?;
+    drop(copy);
+    Ok((planned, metaslab.allocate(16)?))
+}
+
+#[test]
+fn a_copy_is_dropped(rt: HostRuntime) {
+    let whole = Run { start: 0, len: 16 };
+    assert_eq!(rt; taken_twice(rt.alloc()), Ok((whole, whole)));
+}
+
+/// Whether a metaslab of 4 sectors, of which 200 groups took and released one each, has one sector free, two in a row,
+/// and none in use.
+fn worn(alloc: Global) -> Result<(bool, bool, bool), Refusal> {
+    let mut metaslab = Metaslab::new(alloc, FreeSet::new(alloc, 4)?);
+    for group in 4..204 {
+        metaslab.settle(group)?;
+        let run = metaslab.allocate(1)?;
+        metaslab.release(run, group)?;
+    }
+    let unused = metaslab.unused()?;
+    let none_in_use = unused.runs() == [Run { start: 0, len: 4 }].as_slice();
+    Ok((metaslab.has_room(1), metaslab.has_room(2), none_in_use))
+}
+
+#[test]
+fn nothing_is_lost_over_many_groups(rt: HostRuntime) {
+    assert_eq!(rt; worn(rt.alloc()), Ok((true, false, true)));
+}
