@@ -16,6 +16,7 @@ pub mod WritingParts
 pub mod Raising
 pub mod WholeTree
 pub mod WayLemmas
+pub mod Walks
 pub mod Standing
 pub mod Leaving
 pub mod SameBlocks

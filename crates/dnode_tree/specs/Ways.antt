@@ -1,7 +1,7 @@
 -- What was read on the way down a tree, whether or not the tree is whole.
 use Rattle.std.specs.Option.{option_map}
 use Rattle.std.specs.declared.alloc.Global.{Global}
-use Rattle.std.specs.Prelude.{ℕ, Vec, zero, suc, ◌≡◌, ◌⊎◌, ◌*◌, ◌/◌, ◌%◌, ◌^◌, ◌<◌, ◌≤◌, ◌++◌, ◌-◌, List, length, slice_index_or, Option, Some, None}
+use Rattle.std.specs.Prelude.{ℕ, Vec, zero, suc, ◌≡◌, ◌⊎◌, ◌*◌, ◌/◌, ◌%◌, ◌^◌, ◌<◌, ◌≤◌, ◌++◌, ◌-◌, List, [], ◌∷◌, length, slice_index_or, Option, Some, None}
 use Rattle.sha2.specs.Sha256.{sha256}
 use Rattle.block_pointer.specs.declared.block.Block.{Block}
 use Rattle.block_pointer.specs.declared.pointer.BlockPtr.{BlockPtr}
@@ -14,10 +14,10 @@ use Rattle.block_store.specs.declared.block.Asked.{Asked}
 use Rattle.block_store.specs.declared.refusal.Refusal.{Refusal}
 use Rattle.block_store.specs.declared.refusal.Refusal.TheVariants.{NoMemory, DiskFault, NoSpace, BadPointer, BadDigest, BadConfig}
 use Rattle.block_store.specs.declared.space.VdevSpace.{VdevSpace}
-use Rattle.block_store.specs.Reading.{IsReadable, IsLastFault}
+use Rattle.block_store.specs.Reading.{Asks, IsReadable, IsLastFault}
 use Rattle.block_store.specs.Store.{Store, outs}
 use Rattle.block_store.specs.Steps.{OnlyReadsBlocks}
-use Rattle.dnode_tree.specs.Subtree.{asked_of}
+use Rattle.dnode_tree.specs.Subtree.{asked_of, joined}
 use Rattle.dnode_tree.specs.Tree.{property_of}
 
 -- These bytes were read for the pointer: it may be read, and they have its size and its digest.
@@ -128,3 +128,21 @@ IsFound spaces node birth id found =
 -- why a data block of an object was not read
 abbrev pub IsRefused : Store → Store → List ℕ → ObjectNode → ℕ → ℕ → Refusal → Type 0
 IsRefused old new missing node birth id refusal = IsRefusedBelow old new missing (property_of node) (root_of node birth) id refusal
+
+-- A part was walked: each block is one that its parent may have, each indirect block was read, and these are the blocks of the part,
+-- each before those below it.
+abbrev pub IsWalked : List VdevSpace → (ℕ → Property) → ℕ → ℕ → BlockPtr → List Block → Type 0
+IsWalked spaces property level birth Hole blocks = blocks ≡ []
+IsWalked spaces property zero birth (At block) blocks = Asks (asked_of (property 0) birth) block × (blocks ≡ block ∷ [])
+IsWalked spaces property (suc level) birth (At block) blocks =
+    (pointers : List BlockPtr) × (parts : List (List Block)) × AreReadAs spaces (asked_of (property (suc level)) birth) block pointers × (length parts ≡ 128)
+    × ((k : ℕ) → k < 128 → IsWalked spaces property level block.birth (slice_index_or pointers k Hole) (slice_index_or parts k []))
+    × (blocks ≡ block ∷ joined parts)
+
+-- why a part was not walked: the cause is on the way to one of its data blocks
+abbrev pub IsWalkRefused : Store → Store → List ℕ → (ℕ → Property) → Reached → Refusal → Type 0
+IsWalkRefused old new missing property here refusal = (place : ℕ) × (place < 128 ^ here.level) × IsRefusedBelow old new missing property here place refusal
+
+-- all blocks of an object were walked
+abbrev pub AreWalked : List VdevSpace → ObjectNode → ℕ → List Block → Type 0
+AreWalked spaces node birth blocks = IsWalked spaces (property_of node) (levels_of node.highest - 1) birth node.pointer blocks

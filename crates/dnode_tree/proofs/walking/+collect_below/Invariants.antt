@@ -1,5 +1,7 @@
 use Rattle.std.proofs.Common.{◌-◌}
 use Rattle.dnode_tree.proofs.Collecting.{IsCollecting}
+use Rattle.dnode_tree.proofs.Walks.{HaveWalked}
+use Rattle.dnode_tree.specs.Tree.{property_of}
 use Rattle.dnode_tree.proofs.walking.+collect_below.Given as goal
 
 abbrev pub decreases-collect_below : goal.decreases-collect_below
@@ -8,3 +10,4 @@ decreases-collect_below g l = l.part.level
 abbrev pub invariant-loop-pointer : goal.invariant-loop-pointer
 invariant-loop-pointer g l =
     IsCollecting l.initial.store l.store l.missing l.node (l.part.level - 1) l.block.birth l.pointer-items l.pointer-index l.initial.found.items l.found.items
+    × HaveWalked l.initial.store.spaces (property_of l.node) (l.part.level - 1) l.block.birth l.pointer-items l.pointer-index l.initial.found.items l.found.items
