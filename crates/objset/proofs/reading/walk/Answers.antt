@@ -28,8 +28,7 @@ returns-clause-blocks g c =
     IfOk-weaker c.walk.result _ _
     (λ found is stored objects own blocks held are honest.
     let there = object_there stored c.args.birth c.in_ok-node.field-0 (are.nodes c.args.number) c.in-Object.node (objects c.args.number) (blocks c.args.number)
-    (c.in_ok-node.ensures.value stored are.nodes own held are.dnodes (true_before _ _ _ _ c.in_ok-node.ensures.reads c.walk.ensures.reads honest)) c.in-Object.is (are.each c.args.number) in
-    (
+    (c.in_ok-node.ensures.value stored are.nodes own held are.dnodes (true_before _ _ _ _ c.in_ok-node.ensures.reads c.walk.ensures.reads honest)) c.in-Object.is (are.each c.args.number) in (
       λ none. there_is_some (objects c.args.number) there.there there.is none,
       is stored there.there.array (blocks c.args.number) (c.in_ok-node.ensures.reads.keeps stored held) there.tree (true_after _ _ _ _ c.in_ok-node.ensures.reads c.walk.ensures.reads honest),
     ))
