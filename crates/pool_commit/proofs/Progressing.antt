@@ -167,8 +167,11 @@ goes_on old mid plan later v phase n Done new backs low some few made next stays
     none_left disk held = flushes_none mid.due later.flushes.items disk goes.0 held
 
     makes_all : (0 < n) ⊎ (left_calls old.store.due plan.flushes.items ≡ []) → MakesAll (left_calls old.store.due plan.flushes.items) (made_between old.store.disks mid.disks)
-    makes_all (inl above) = inr (phase, next.makes (made_between old.store.disks mid.disks) [] (rest_none ∙ sym (append-nil (made_between old.store.disks mid.disks)))
-        (omega (arith, made.count, above)) (omega (arith, made.count, few)) made.in_phase)
+    makes_all (inl above) = inr (
+      phase,
+      next.makes (made_between old.store.disks mid.disks) [] (rest_none ∙ sym (append-nil (made_between old.store.disks mid.disks)))
+          (omega (arith, made.count, above)) (omega (arith, made.count, few)) made.in_phase,
+    )
     makes_all (inr none) = inl (none, sym rest_none ∙ none)
 goes_on old mid plan later v phase n (Dropped disk) new backs low some few made next stays volumes goes = absurd goes
 

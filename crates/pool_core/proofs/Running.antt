@@ -39,9 +39,13 @@ true_after old mid new first honest = parts_are_honest new.starts (length old.ca
 chain_more : (old : CoreState) (v : View) (steps : List Step) (givens : List Given) (replies : List Reply) (mid : CoreState) (between : View) (step : Step) (given : Given) (reply : Reply) (new : CoreState) (w : View)
     → Chain old v steps givens replies mid between → GrewTo (disks_of mid) (disks_of new) → Link mid between step given reply new w
     → Chain old v (steps ++ step ∷ []) (givens ++ given ∷ []) (replies ++ reply ∷ []) new w
-chain_more old v [] [] [] mid between step given reply new w chain grew link =
-    (new, w, subst (λ (s : CoreState). GrewTo (disks_of s) (disks_of new)) (sym chain.0) grew,
-    subst (λ (p : CoreState × View). Link p.0 p.1 step given reply new w) (λ i. (sym chain.0 i, sym chain.1 i)) link, (refl, refl))
+chain_more old v [] [] [] mid between step given reply new w chain grew link = (
+  new,
+  w,
+  subst (λ (s : CoreState). GrewTo (disks_of s) (disks_of new)) (sym chain.0) grew,
+  subst (λ (p : CoreState × View). Link p.0 p.1 step given reply new w) (λ i. (sym chain.0 i, sym chain.1 i)) link,
+  (refl, refl),
+)
 chain_more old v (x ∷ steps) (y ∷ givens) (z ∷ replies) mid between step given reply new w chain grew link =
     (chain.0, chain.1, chain.2, chain.3, chain_more chain.0 chain.1 steps givens replies mid between step given reply new w chain.4 grew link)
 chain_more old v steps givens replies mid between step given reply new w chain grew link = absurd chain

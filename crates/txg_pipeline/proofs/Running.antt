@@ -43,9 +43,13 @@ runs_on old calls before mid now call answer new r s = (
 )
 
 pub ran : (old : Pipeline) (calls : List Call) (before : List Answer) (new : Pipeline) (now : List Answer) → Runs old calls before new now → Ran old calls before new now
-ran old calls before new now r = (r.0, r.1, λ f k.
-    let g = r.2 f k in
-    (g.0, g.1, g.2, once_in_order f (map step_of calls) (map reply_of r.0) g.0 k.sound (flow_of_calls f calls r.0 g.0 g.2)))
+ran old calls before new now r = (
+  r.0,
+  r.1,
+  λ f k.
+      let g = r.2 f k in
+      (g.0, g.1, g.2, once_in_order f (map step_of calls) (map reply_of r.0) g.0 k.sound (flow_of_calls f calls r.0 g.0 g.2)),
+)
 
 pub on_err : {T E P : Type 0} (r : Result T E) → P → OnErr r P
 on_err (Ok x) p = tt
