@@ -1,6 +1,6 @@
 -- Steps of the machine, and what represents the view after each.
 use Rattle.std.proofs.Common.{◌≡◌, ◌⊎◌, ⊎_elim, inl, inr, ℕ, suc, ◌≤◌, true, false, true≢false, List, [], ◌∷◌, Option, Some, None, refl, sym, ap, ◌∙◌, subst, arith}
-use Rattle.std.specs.Prelude.{◌++◌, map, filter, is_some, not, IsTrue, if◌then◌else◌}
+use Rattle.std.specs.Prelude.{filter, is_some, not, if◌then◌else◌}
 use Rattle.std.proofs.lemmas.Bool.Decides.{nat_tests}
 use Rattle.pool_model.specs.declared.group.Holder.{Holder}
 use Rattle.pool_model.specs.declared.group.Stage.{Stage}
@@ -14,11 +14,10 @@ use Rattle.pool_model.specs.declared.step.Step.{Step}
 use Rattle.pool_model.specs.declared.step.Step.TheVariants.{Hold, Write as WriteStep, Act, Release, Close, Quiesce, Plan, Device, Read, ReadUnder}
 use Rattle.pool_model.specs.declared.step.Reply.{Reply}
 use Rattle.pool_model.specs.declared.step.Reply.TheVariants.{Held, Receipt, Released, Closed, Quiesced, Planned, Committed, Bytes, Refused}
-use Rattle.pool_model.specs.declared.step.Phase.TheVariants.{Blocks, BlocksFlush}
 use Rattle.pool_model.specs.Pools.{PlainPool, Ledger, applied, upto, volume_at}
-use Rattle.pool_model.specs.View.{View, Vdev, DueCall, Sync, Idle, Unplanned, Left, is_syncing, is_planned, is_kept, is_held, is_quiescing, is_quiesced, hold_group, now_of, open_group, waiting_group, disks_of, is_away, disks_in_use, nothing_given}
+use Rattle.pool_model.specs.View.{View, Vdev, Sync, Idle, Unplanned, Left, is_syncing, is_planned, is_kept, is_held, is_quiescing, is_quiesced, hold_group, now_of, open_group, waiting_group, disks_of, is_away, disks_in_use, nothing_given}
 use Rattle.pool_model.specs.Flow.{flow_of}
-use Rattle.pool_model.specs.Refusals.{greatest, or_else, first_cause, read_refusal, refusal_of, takes_memory}
+use Rattle.pool_model.specs.Refusals.{greatest, or_else, first_cause, read_refusal, refusal_of}
 use Rattle.pool_model.specs.Machine.{StepOf, IsPlan, MayLack, with_hold, without_hold, took, taken, left_waiting, committed_next, without_memory}
 use Rattle.pool_model.proofs.Plans.{nothing_quiet, may_nothing, same_elements}
 use Rattle.pool_model.proofs.SoundFlows.{taken_hold}

@@ -15,7 +15,7 @@ use Rattle.pool_model.specs.declared.step.Phase.{Phase}
 use Rattle.pool_model.specs.declared.step.Phase.TheVariants.{Blocks, BlocksFlush}
 use Rattle.raidz_io.proofs.Calls.{Contains-none}
 use Rattle.raidz_io.specs.declared.writes.ColumnWrite.{ColumnWrite}
-use Rattle.pool_model.specs.View.{View, DueCall, Left, disks_in_use}
+use Rattle.pool_model.specs.View.{View, DueCall}
 use Rattle.pool_model.specs.Machine.{due, Makes, MakesAll, committed_next, dropped}
 use Rattle.pool_model.proofs.Plans.{makes_writes, makes_flushes}
 use Rattle.pool_commit.specs.declared.device.Progress.{Progress}

@@ -8,8 +8,7 @@ use Rattle.group_volumes.specs.declared.refusal.Refusal.TheVariants as volumes
 use Rattle.volume_blocks.specs.declared.volume.VolumeBlocks.{VolumeBlocks}
 use Rattle.volume_blocks.specs.Reading.{IsUnreadIn}
 use Rattle.pool_model.specs.View.{View}
-use Rattle.pool_commit.specs.declared.refusal.Refusal.{Refusal}
-use Rattle.pool_commit.specs.declared.refusal.Refusal.TheVariants.{NoMemory, DiskFault, NoSpace, BadPointer, BadDigest, BadConfig}
+use Rattle.pool_commit.specs.declared.refusal.Refusal.TheVariants.{NoMemory, DiskFault, NoSpace, BadPointer, BadDigest}
 use Rattle.pool_commit.specs.Causes.{of_store, of_volumes}
 use Rattle.pool_commit.specs.Reading.{AreTrue, IsReadFault, IsLost, TooManyAreLost}
 use Rattle.pool_commit.specs.State.{State}

@@ -1,7 +1,7 @@
 -- The device calls of a step, as the record of calls tells them.
 use Rattle.std.specs.Prelude.{ℕ, ◌≡◌, List, [], ◌∷◌, ◌++◌, length, nat_le, if◌then◌else◌}
 use Rattle.std.specs.List.{AllByRecursion}
-use Rattle.model_disk.specs.Call.{Call, Read, FailedRead, Wrote, FailedWrite, Flushed, FailedFlush}
+use Rattle.model_disk.specs.Call.{Call, FailedRead, Wrote, FailedWrite, Flushed, FailedFlush}
 use Rattle.model_disk.specs.Joint.{Disks, JointCall, on}
 use Rattle.pool_model.specs.declared.step.Phase.TheVariants.{Blocks, BlocksFlush}
 use Rattle.pool_model.specs.View.{DueCall}

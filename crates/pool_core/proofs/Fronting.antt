@@ -1,5 +1,5 @@
 -- Steps that touch no disk.
-use Rattle.std.proofs.Common.{◌≡◌, ◌⊎◌, ⊎_elim, ℕ, suc, Bool, true, false, true≢false, List, [], ◌∷◌, Option, Some, None, refl, sym, ap, ◌∙◌, subst, inl, inr}
+use Rattle.std.proofs.Common.{◌≡◌, ⊎_elim, ℕ, suc, Bool, true, false, true≢false, List, [], ◌∷◌, Option, Some, None, refl, sym, ap, ◌∙◌, subst, inl}
 use Rattle.std.specs.Prelude.{Contains, filter, is_some, not, nat_le, nat_lt, ◌&&◌, if◌then◌else◌}
 use Rattle.block_store.specs.Blocks.{Contents}
 use Rattle.group_volumes.specs.Volumes.{SpellsPool}
@@ -10,15 +10,15 @@ use Rattle.pool_model.specs.declared.step.Step.TheVariants.{Hold, Write, Act, Re
 use Rattle.pool_model.specs.declared.step.Reply.{Reply}
 use Rattle.pool_model.specs.declared.step.Reply.TheVariants.{Held, Committed, Refused}
 use Rattle.pool_model.specs.Pools.{PlainPool, applied}
-use Rattle.pool_model.specs.View.{View, Given, DueCall, nothing_given, disks_of, disks_in_use, Sync, is_syncing, is_planned, is_kept, is_suspended, is_quiescing, is_held, hold_group, open_group, waiting_group}
+use Rattle.pool_model.specs.View.{View, Given, nothing_given, disks_of, disks_in_use, is_syncing, is_planned, is_suspended, is_quiescing, is_held, hold_group, open_group, waiting_group}
 use Rattle.pool_model.specs.Refusals.{greatest, first_cause, or_else, may_plan, refusal_of}
 use Rattle.pool_model.specs.Machine.{StepOf, Granted}
 use Rattle.pool_model.proofs.Plans.{nothing_quiet, may_nothing}
 use Rattle.pool_intake.specs.declared.intake.Intake.{Intake}
-use Rattle.pool_intake.specs.Follows.{Follows, KeepsCommitted, Steps as IntakeSteps, StepsUnlessSuspended}
+use Rattle.pool_intake.specs.Follows.{Follows, KeepsCommitted}
 use Rattle.pool_commit.specs.declared.kept.Planned.{Planned}
 use Rattle.pool_commit.specs.Backs.{Backs, IsPlanOf, SpellsKept, kept_pool, pool_after}
-use Rattle.pool_commit.specs.Calls.{fault_call, unread_call, made_between, unread_between}
+use Rattle.pool_commit.specs.Calls.{fault_call, unread_call}
 use Rattle.pool_commit.specs.State.{State, volumes_at}
 use Rattle.pool_commit.proofs.Made.{made_by_none, told_by_none}
 use Rattle.pool_core.specs.Represents.{Represents}

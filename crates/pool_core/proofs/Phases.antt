@@ -12,8 +12,7 @@ use Rattle.pool_model.specs.declared.step.Phase.{Phase}
 use Rattle.pool_model.specs.declared.step.Step.TheVariants.{Plan, Device}
 use Rattle.pool_model.specs.declared.step.Reply.{Reply}
 use Rattle.pool_model.specs.declared.step.Reply.TheVariants.{Planned, Moved, Replan, Committed, Refused}
-use Rattle.pool_model.specs.View.{View, Given, DueCall, nothing_given, Sync, Unplanned, Left, is_syncing, is_planned, is_quiesced, is_suspended, is_tolerable, is_readable, open_after, waiting_after}
-use Rattle.pool_model.specs.Flow.{flow_of, opened}
+use Rattle.pool_model.specs.View.{View, Given, DueCall, nothing_given, Sync, Unplanned, Left, is_syncing, is_planned, is_quiesced, is_suspended, is_readable, open_after}
 use Rattle.pool_model.specs.Refusals.{greatest, first_cause, refusal_of}
 use Rattle.pool_model.specs.Machine.{StepOf, IsPlan, IsQuiet, FailsOn, IsReadCause, IsUnreadable, due, taken, committed_next, dropped}
 use Rattle.pool_model.proofs.Plans.{nothing_quiet}

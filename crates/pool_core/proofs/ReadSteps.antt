@@ -1,8 +1,7 @@
 -- Reads as steps of the machine.
-use Rattle.std.proofs.Common.{◌≡◌, ◌⊎◌, ⊎_elim, ℕ, ◌+◌, ◌≤◌, ◌^◌, Bool, true, false, true≢false, List, [], length, Option, Some, None, refl, sym, ap, ◌∙◌, subst, inl, inr}
+use Rattle.std.proofs.Common.{◌≡◌, ◌⊎◌, ⊎_elim, ℕ, ◌+◌, Bool, true, false, true≢false, List, [], length, Option, Some, None, refl, sym, ap, ◌∙◌, subst, inl, inr}
 use Rattle.std.specs.Option.{option_map}
-use Rattle.std.specs.Prelude.{is_some, slice_range}
-use Rattle.raidz_io.specs.Reads.{OnlyReads}
+use Rattle.std.specs.Prelude.{slice_range}
 use Rattle.pool_model.specs.declared.refusal.Refusal.TheVariants as causes
 use Rattle.pool_model.specs.declared.refusal.Refusal.{Refusal as Cause}
 use Rattle.pool_model.specs.declared.step.Step.{Step}
@@ -12,14 +11,13 @@ use Rattle.pool_model.specs.declared.step.Reply.TheVariants.{Bytes, Refused}
 use Rattle.pool_model.specs.declared.volume.PlainVolume.{PlainVolume}
 use Rattle.pool_model.specs.Pools.{PlainPool, volume_at}
 use Rattle.pool_model.specs.View.{View, is_readable, now_of}
-use Rattle.pool_model.specs.Refusals.{read_refusal, refusal_of}
+use Rattle.pool_model.specs.Refusals.{refusal_of}
 use Rattle.pool_model.specs.Machine.{AreBytesOf, IsReadCause, StepOf}
 use Rattle.pool_now.specs.declared.shape.VolumeShape.{VolumeShape}
 use Rattle.pool_now.specs.Overlay.{HasRange}
 use Rattle.pool_now.specs.Shapes.{shape_of, shape_at}
 use Rattle.pool_commit.specs.declared.refusal.Refusal.{Refusal}
 use Rattle.pool_commit.specs.declared.refusal.Refusal.TheVariants.{NoMemory, NoSuchName, OutOfRange, GroupGone}
-use Rattle.pool_commit.specs.Backs.{Backs}
 use Rattle.pool_commit.specs.Reading.{AreTrue as AnswersAreTrue, HasNoCause, IsUnderCause, IsReadFault, IsLost, OnlyReadsPool, TooManyAreLost}
 use Rattle.pool_commit.specs.State.{State}
 use Rattle.pool_core.specs.Causes.{cause_of}

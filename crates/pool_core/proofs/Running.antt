@@ -1,7 +1,7 @@
 -- A run goes on by a step, and tells what the headline says.
-use Rattle.std.proofs.Common.{◌≡◌, ◌≤◌, true, ℕ, List, [], ◌∷◌, ◌++◌, length, refl, sym, ap, ◌∙◌, subst, arith, append_assoc}
+use Rattle.std.proofs.Common.{◌≡◌, true, ℕ, List, [], ◌∷◌, ◌++◌, length, refl, sym, ap, ◌∙◌, subst, arith, append_assoc}
 use Rattle.std.specs.List.{AllByRecursion}
-use Rattle.std.proofs.lemmas.List.{append-nil, length-append}
+use Rattle.std.proofs.lemmas.List.{append-nil}
 use Rattle.model_disk.specs.Joint.{Disks, JointCall, AreHonestSince}
 use Rattle.model_disk.proofs.LawLemmas.{parts_are_honest}
 use Rattle.raidz_io.specs.Reads.{IsHonestSince}
@@ -12,7 +12,6 @@ use Rattle.pool_model.specs.Machine.{Run}
 use Rattle.pool_model.proofs.Whole.{headline}
 use Rattle.pool_commit.specs.Calls.{GrewTo}
 use Rattle.pool_commit.proofs.Made.{GrewTo-none, GrewTo-length}
-use Rattle.pool_core.specs.Represents.{Represents}
 use Rattle.pool_core.specs.Runs.{Chain, RunsTo, Ran}
 use Rattle.pool_core.specs.State.{CoreState, disks_of}
 use Rattle.pool_core.specs.Steps.{IsPlanned, Link, Steps}

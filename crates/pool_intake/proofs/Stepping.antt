@@ -1,6 +1,6 @@
 -- Steps of the intake, and the view that it follows after each.
 use Rattle.std.proofs.Common.{◌≡◌, ◌⊎◌, ⊎_elim, inl, inr, ℕ, suc, ◌≤◌, true, false, true≢false, List, Option, Some, None, refl, sym, ap, ◌∙◌, subst, arith}
-use Rattle.std.specs.Prelude.{cond, is_some, IsTrue, not, ◌==◌, ◌&&◌, ◌||◌}
+use Rattle.std.specs.Prelude.{cond, is_some, not, ◌==◌, ◌&&◌, ◌||◌}
 use Rattle.pool_model.specs.declared.group.Holder.{Holder}
 use Rattle.pool_model.specs.declared.group.Stage.{Stage}
 use Rattle.pool_model.specs.declared.group.Stage.TheVariants.{Quiescing, Quiesced as QuiescedStage}

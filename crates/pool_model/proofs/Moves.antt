@@ -1,6 +1,6 @@
 -- The ways in which the machine may go on, each from a view that shows what it needs.
 use Rattle.std.proofs.Common.{◌≡◌, ◌⊎◌, ⊎_elim, inl, inr, ◌≤◌, ◌<◌, ℕ, suc, List, [], ◌∷◌, Bool, true, false, true≢false, Option, Some, None, refl, sym, ap, ◌∙◌, subst}
-use Rattle.std.specs.Prelude.{is_some, nat_le, not, ◌&&◌, ◌||◌}
+use Rattle.std.specs.Prelude.{nat_le, not, ◌&&◌, ◌||◌}
 use Rattle.pool_model.specs.declared.group.Stage.{Stage}
 use Rattle.pool_model.specs.declared.group.Stage.TheVariants.{Quiescing, Quiesced as QuiescedStage}
 use Rattle.pool_model.specs.declared.item.Action.{Action}

@@ -1,5 +1,5 @@
 -- Plans and device calls of a core that keeps what is left in a list.
-use Rattle.std.proofs.Common.{◌≡◌, ℕ, suc, ◌≤◌, ◌<◌, List, [], ◌∷◌, ◌++◌, length, true, refl, sym, ap, ◌∙◌, subst, arith, lit≤, lit<}
+use Rattle.std.proofs.Common.{◌≡◌, ℕ, suc, ◌≤◌, ◌<◌, List, [], ◌∷◌, ◌++◌, length, refl, sym, ap, ◌∙◌, subst, arith, lit≤}
 use Rattle.std.specs.Prelude.{map, filter, Contains, IsPermutation}
 use Rattle.std.specs.List.{AllByRecursion}
 use Rattle.pool_model.specs.declared.step.Phase.{Phase}

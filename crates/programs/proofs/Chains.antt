@@ -1,5 +1,5 @@
 -- Commands that a core answers, as one chain of it.
-use Rattle.std.proofs.Common.{◌≡◌, ◌⊎◌, ⊎_elim, ℕ, List, [], ◌∷◌, ◌++◌, Bool, true, false, None, refl, sym, ap, ◌∙◌, subst, append_assoc}
+use Rattle.std.proofs.Common.{◌≡◌, ℕ, List, [], ◌∷◌, ◌++◌, Bool, true, false, refl, sym, subst}
 use Rattle.std.specs.List.{AllByRecursion}
 use Rattle.pool_model.specs.declared.step.Step.{Step}
 use Rattle.pool_model.specs.declared.step.Reply.{Reply}
@@ -12,7 +12,7 @@ use Rattle.pool_core.specs.State.{CoreState}
 use Rattle.pool_core.proofs.Running.{run_of}
 use Rattle.programs.specs.Answers.{Leads, Goes as GoesOn, runs_on}
 use Rattle.programs.specs.Plays.{Plays}
-use Rattle.programs.specs.Runs.{StepsTruly, AreSteps, IsCommandRun, AreParts, IsOneRun}
+use Rattle.programs.specs.Runs.{StepsTruly, AreSteps, AreParts, IsOneRun}
 
 -- a chain of the core, which is trusted
 pub record IsChain (old : CoreState) (v : View) (steps : List Step) (replies : List Reply) (new : CoreState) : Type 0 where

@@ -1,8 +1,6 @@
 -- A run of calls goes on by a call, and is once and in order.
 use Rattle.std.proofs.Common.{◌≡◌, ◌++◌, List, [], ◌∷◌, drop, length, arith, refl, sym, ap, ◌∙◌, subst, append_assoc}
 use Rattle.std.specs.Prelude.{map, Result, Ok, Err, OnErr}
-use Rattle.pool_model.specs.declared.step.Step.{Step}
-use Rattle.pool_model.specs.declared.step.Reply.{Reply}
 use Rattle.pool_model.specs.Flow.{Flow, FlowStep, FlowRun}
 use Rattle.pool_model.proofs.Falls.{once_in_order}
 use Rattle.txg_pipeline.specs.declared.calls.Answer.{Answer}

@@ -1,4 +1,4 @@
-use Rattle.std.proofs.Common.{ℕ, suc, ◌≡◌, ◌⊎◌, ⊎_elim, inl, inr, ◌-◌, List, [], length, None, Contains, refl, sym, ap, ◌∙◌, subst, arith}
+use Rattle.std.proofs.Common.{ℕ, suc, ◌≡◌, ◌⊎◌, ◌-◌, List, [], length, None, Contains, refl, sym, ap, ◌∙◌, subst, arith}
 use Rattle.model_disk.specs.Joint.{Disks}
 use Rattle.raidz_io.specs.Reads.{IsHonestSince}
 use Rattle.group_volumes.specs.declared.volumes.GroupVolumes.{GroupVolumes}

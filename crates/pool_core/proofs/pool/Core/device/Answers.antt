@@ -1,6 +1,4 @@
-use Rattle.std.proofs.Common.{sym, ◌∙◌, ap, inl, subst}
-use Rattle.model_disk.specs.Joint.{Disks}
-use Rattle.pool_model.specs.declared.refusal.Refusal.TheVariants as causes
+use Rattle.std.proofs.Common.{sym, ap, subst}
 use Rattle.pool_model.specs.declared.step.Step.TheVariants as steps
 use Rattle.pool_model.specs.View.{is_syncing}
 use Rattle.pool_commit.specs.declared.device.Progress.{Progress}

@@ -1,16 +1,12 @@
-use Rattle.std.proofs.Common.{◌≡◌, ◌⊎◌, ⊎_elim, inl, inr, Option, Some, None, true, false, true≢false, ap, sym, ◌∙◌, subst, suc, ℕ, List, refl, arith, ◌<◌, ◌^◌}
+use Rattle.std.proofs.Common.{◌≡◌, Option, Some, None, true, false, true≢false, ap, sym, ◌∙◌, subst, suc, refl, ◌<◌, ◌^◌}
 use Rattle.pool_model.specs.declared.refusal.Refusal.TheVariants as causes
-use Rattle.pool_model.specs.declared.refusal.Refusal.{Refusal as Cause}
 use Rattle.pool_model.specs.declared.step.Step.TheVariants as steps
-use Rattle.pool_model.specs.declared.step.Reply.TheVariants as replies
 use Rattle.std.specs.Prelude.{is_some}
-use Rattle.pool_model.specs.View.{View, Unplanned, is_syncing}
+use Rattle.pool_model.specs.View.{Unplanned}
 use Rattle.pool_model.specs.Machine.{taken}
-use Rattle.pool_model.specs.Pools.{Entry}
 use Rattle.pool_now.specs.GoodChanges.{MakesGoodVolumes}
 use Rattle.pool_commit.specs.StateOf.{state_of as commit_state}
 use Rattle.pool_core.specs.StateOf.{state_of}
-use Rattle.pool_core.specs.Steps.{Goes}
 use Rattle.pool_core.proofs.Fronting.{refused}
 use Rattle.pool_core.proofs.Phases.{plan_planned, backs_taken, plans, plan_refused, group_after, group_low, takes_none}
 use Rattle.pool_core.proofs.pool.Core.plan.Goals as goal

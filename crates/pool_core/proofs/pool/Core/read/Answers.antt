@@ -1,10 +1,9 @@
-use Rattle.std.proofs.Common.{◌≡◌, ◌≤◌, ◌+◌, ◌^◌, List, ℕ, Some, None, false, true, ap, sym, ◌∙◌, subst, arith, length, refl}
+use Rattle.std.proofs.Common.{◌≡◌, List, ℕ, Some, None, true, ap, sym, ◌∙◌, subst, arith, length}
 use Rattle.std.specs.Prelude.{is_some}
 use Rattle.pool_model.specs.declared.step.Step.TheVariants as steps
 use Rattle.pool_model.specs.Pools.{volume_at}
 use Rattle.pool_model.specs.View.{now_of}
 use Rattle.pool_now.specs.Overlay.{base_of, HasRange}
-use Rattle.pool_now.specs.Shapes.{shape_of}
 use Rattle.pool_commit.proofs.ReadCauses.{in_range}
 use Rattle.pool_commit.specs.StateOf.{state_of as commit_state}
 use Rattle.pool_core.specs.StateOf.{state_of}
