@@ -12,7 +12,7 @@ use Rattle.block_store.specs.Store.{Store, is_out}
 use Rattle.group_volumes.specs.declared.volumes.GroupVolumes.{GroupVolumes}
 use Rattle.group_volumes.specs.Volumes.{SpellsPool}
 use Rattle.pool_model.specs.Pools.{PlainPool}
-use Rattle.pool_model.specs.View.{View, Left, is_kept}
+use Rattle.pool_model.specs.View.{View, DueCall, Left, is_kept}
 use Rattle.volume_blocks.specs.Reading.{OnlyReadsBlocks}
 use Rattle.pool_commit.specs.declared.kept.Kept.{Kept}
 use Rattle.pool_commit.specs.declared.kept.Planned.{Planned}
@@ -89,13 +89,14 @@ flushed_still old new disk reads is = record {
   none = all_joined (λ (made : JointCall). made.which ≡ disk → ¬ IsWrite made.call) reads.newer is.newer (reads_leave reads.newer disk reads.are_reads) is.none;
 }
 
-plan_stays : (s : State) (store : Store) (planned : Contents) (plan : Option Planned) (v : View) → store.due ≡ s.store.due → OnlyReads s.store.disks store.disks
+plan_stays : (s : State) (store : Store) (planned : Contents) (plan : Option Planned) (v : View) → store.due ≡ s.store.due → store.out ≡ s.store.out → OnlyReads s.store.disks store.disks
     → IsPlanOf s planned plan v → IsPlanOf (record s { store = store }) planned plan v
-plan_stays s store planned None v due reads is = is
-plan_stays s store planned (Some plan) v due reads is = (
+plan_stays s store planned None v due out reads is = is
+plan_stays s store planned (Some plan) v due out reads is = (
   is.0 ∙ ap (λ (writes : List ColumnWrite). Left (left_calls writes plan.flushes.items)) (sym due),
   is.1,
   λ disk in_use. ⊎_elim inl (λ flushed. inr (due ∙ flushed.0, flushed_still s.store.disks store.disks disk reads flushed.1)) (is.2 disk in_use),
+  subst (λ (p : List Bool × List ColumnWrite). AllByRecursion (λ (call : DueCall). is_out p.0 call.disk ≡ false) (left_calls p.1 plan.flushes.items)) (λ i. (sym out i, sym due i)) is.3,
 )
 
 backs_after : (s : State) (store : Store) (missing : List ℕ) (v : View) → OnlyReadsBlocks s.store store missing → Backs s v → Backs (record s { store = store }) v
@@ -108,7 +109,7 @@ backs_after s store missing v reads backs = record {
     planned = backs.blocks.planned;
     plans = reads.plans backs.blocks.stored backs.blocks.planned backs.blocks.plans;
     kept = backs.blocks.kept;
-    plan = plan_stays s store backs.blocks.planned s.planned v (ap (λ (t : Store). t.due) reads.rest) reads.reads backs.blocks.plan;
+    plan = plan_stays s store backs.blocks.planned s.planned v (ap (λ (t : Store). t.due) reads.rest) (ap (λ (t : Store). t.out) reads.rest) reads.reads backs.blocks.plan;
   };
 }
 

@@ -1,6 +1,6 @@
 -- Device calls that are made one after another.
 use Rattle.std.proofs.Common.{◌≡◌, ⊎_elim, inl, inr, ℕ, suc, ◌+◌, ◌<◌, ◌≤◌, Bool, true, false, List, [], ◌∷◌, ◌++◌, length, refl, sym, ap, ◌∙◌, subst, arith, append_assoc}
-use Rattle.std.specs.Prelude.{IfErr, nat_le, min, if◌then◌else◌}
+use Rattle.std.specs.Prelude.{IfErr, nat_le, min, if◌then◌else◌, map}
 use Rattle.std.specs.List.{AllByRecursion}
 use Rattle.std.proofs.lemmas.Bool.Decides.{nat_tests}
 use Rattle.std.proofs.lemmas.List.{append-nil, length-append}
@@ -15,7 +15,7 @@ use Rattle.block_store.specs.Store.{Store, IsOutToo}
 use Rattle.pool_model.specs.declared.step.Phase.{Phase}
 use Rattle.pool_model.specs.View.{DueCall}
 use Rattle.pool_model.specs.Machine.{due}
-use Rattle.pool_commit.specs.Calls.{due_call, fault_call, unread_call, told_since, made_between, faults_between, unread_between, GrewTo, IsWrite, IsFlushed}
+use Rattle.pool_commit.specs.Calls.{due_call, fault_call, unread_call, told_since, made_between, faults_between, unread_between, GrewTo, IsWrite, IsFlushed, which_call, called_between}
 use Rattle.pool_commit.specs.Making.{writes_left, IsSameStore, MadeCalls, FailedCall, FlushesMove}
 
 late : (m n : ℕ) → m ≤ n → nat_le m n ≡ true
@@ -85,6 +85,19 @@ unread_so old mid new phase disk call same made none =
     told_more unread_call old.disks mid.disks new.disks disk call same.grew made.calls
     ∙ ap (λ xs. unread_between old.disks mid.disks ++ xs) made.no_read ∙ append-nil (unread_between old.disks mid.disks) ∙ none
 
+map_snoc : (calls : List DueCall) (call : DueCall) → map (λ (c : DueCall). c.disk) (calls ++ call ∷ []) ≡ map (λ (c : DueCall). c.disk) calls ++ call.disk ∷ []
+map_snoc [] call = refl
+map_snoc (first ∷ calls) call = ap (λ xs. first.disk ∷ xs) (map_snoc calls call)
+
+called_so : (old mid new : Store) (phase : Phase) (disk : ℕ) (call : Call) → IsSameStore old mid → MadeOne mid new phase disk call
+    → called_between old.disks mid.disks ≡ map (λ (c : DueCall). c.disk) (made_between old.disks mid.disks)
+    → called_between old.disks new.disks ≡ map (λ (c : DueCall). c.disk) (made_between old.disks new.disks)
+called_so old mid new phase disk call same made before =
+    told_more which_call old.disks mid.disks new.disks disk call same.grew made.calls
+    ∙ ap (λ xs. xs ++ disk ∷ []) before
+    ∙ sym (map_snoc (made_between old.disks mid.disks) (due phase disk))
+    ∙ sym (ap (map (λ (c : DueCall). c.disk)) (made_so old mid new phase disk call same made))
+
 pub none_made : (store : Store) (left : List DueCall) (phase : Phase) → MadeCalls store store left left phase 0
 none_made store left phase =
     let none : made_between store.disks store.disks ≡ [] = made_by_none store.disks in
@@ -96,6 +109,7 @@ none_made store left phase =
       in_phase = subst (AllByRecursion (λ (call : DueCall). call.phase ≡ phase)) (sym none) tt;
       faults = told_by_none fault_call store.disks;
       unread = told_by_none unread_call store.disks;
+      called = told_by_none which_call store.disks ∙ sym (ap (map (λ (c : DueCall). c.disk)) none);
     }
 
 all_more : (P : DueCall → Type 0) (xs : List DueCall) (x : DueCall) → AllByRecursion P xs → P x → AllByRecursion P (xs ++ x ∷ [])
@@ -117,6 +131,7 @@ one_made old mid new left rest phase n disk call so made ok out =
       faults = told_more fault_call old.disks mid.disks new.disks disk call so.same.grew made.calls
           ∙ ap (λ xs. faults_between old.disks mid.disks ++ xs) (made.fault ∙ ap (λ b. if b then due phase disk ∷ [] else []) ok) ∙ append-nil (faults_between old.disks mid.disks) ∙ so.faults;
       unread = unread_so old mid new phase disk call so.same made so.unread;
+      called = called_so old mid new phase disk call so.same made so.called;
     }
 
 pub one_failed : (old mid new : Store) (left rest : List DueCall) (phase : Phase) (n disk : ℕ) (call : Call)
@@ -137,6 +152,7 @@ one_failed old mid new left rest phase n disk call so few made failed out =
       faults = told_more fault_call old.disks mid.disks new.disks disk call so.same.grew made.calls
           ∙ ap (λ xs. faults_between old.disks mid.disks ++ xs) (made.fault ∙ ap (λ b. if b then due phase disk ∷ [] else []) failed) ∙ ap (λ xs. xs ++ due phase disk ∷ []) so.faults;
       unread = unread_so old mid new phase disk call so.same made so.unread;
+      called = called_so old mid new phase disk call so.same made so.called;
     }
 
 -- ---- a write and a flush

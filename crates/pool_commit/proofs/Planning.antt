@@ -6,7 +6,7 @@ use Rattle.std.proofs.lemmas.Bool.{cases_lt}
 use Rattle.std.proofs.lemmas.List.Elements.{All-contains, Contains-append_left, Contains-append_right}
 use Rattle.raidz_io.specs.declared.vdev.Vdev.{Vdev as VdevOnDisks}
 use Rattle.raidz_io.specs.declared.writes.ColumnWrite.{ColumnWrite}
-use Rattle.raidz_io.proofs.Calls.{Contains-front, Contains-later, Contains-cases}
+use Rattle.raidz_io.proofs.Calls.{Contains-front, Contains-later, Contains-cases, Contains-none}
 use Rattle.raidz_io.proofs.Placed.{placed_at}
 use Rattle.block_store.specs.declared.shape.VdevShape.{VdevShape}
 use Rattle.block_store.specs.declared.space.VdevSpace.{VdevSpace}
@@ -114,6 +114,27 @@ is_plan old new v flushes stored planned vdevs out none kept plans are =
     (subst (λ (list : List Vdev). Contains (disks_of list) write.disk) (same_vdevs old.spaces new.spaces kept.shapes ∙ sym vdevs)
     (write_on_disk new stored planned write plans held)))))
 
+not_true : (b : Bool) → not b ≡ true → b ≡ false
+not_true false is = refl
+not_true true is = absurd (cc)
+
+kept_at : (test : ℕ → Bool) (y : ℕ) (xs : List ℕ) (x : ℕ) (b : Bool) → test y ≡ b → (Contains xs x → test x ≡ true) → Contains (if b then y ∷ xs else xs) x → test x ≡ true
+kept_at test y xs x true is later held = ⊎_elim (λ same. ap test same ∙ is) later (Contains-cases y xs x held)
+kept_at test y xs x false is later held = later held
+
+-- what a filter keeps passes its test
+kept_passes : (test : ℕ → Bool) (xs : List ℕ) (x : ℕ) → Contains (filter test xs) x → test x ≡ true
+kept_passes test [] x held = absurd (Contains-none x held)
+kept_passes test (y ∷ xs) x held = kept_at test y (filter test xs) x (test y) refl (kept_passes test xs x) held
+
+calls_in_use : (store : Store) (v : View) (calls : List DueCall) → ((disk : ℕ) → v.out disk ≡ is_out store.out disk) → AllByRecursion (λ (call : DueCall). Contains (disks_in_use v) call.disk) calls
+    → AllByRecursion (λ (call : DueCall). is_out store.out call.disk ≡ false) calls
+calls_in_use store v [] out all = tt
+calls_in_use store v (call ∷ calls) out all = (
+  sym (out call.disk) ∙ not_true (v.out call.disk) (kept_passes (λ disk. not (v.out disk)) (disks_of v.vdevs) call.disk all.0),
+  calls_in_use store v calls out all.1,
+)
+
 -- ---- states
 
 -- what holds, holds at an error
@@ -185,11 +206,13 @@ plan_is_backed s new group last plan items v backs none next is_last are flushes
     let there = after backs.blocks.stored backs.blocks.planned pool backs.blocks.plans spelled honest in
     let all : plan.flushes.items ≡ disks_in_use v =
     flushes ∙ (λ i. filter (λ disk. not (sym (backs.out disk) i)) (disks_of (sym backs.vdevs i))) in
+    let plan_is : IsPlan v (left_calls new.due plan.flushes.items) =
+    is_plan s.store new v plan.flushes.items backs.blocks.stored there.later backs.vdevs backs.out none kept there.plans all in
     let spells : SpellsPool there.later (suc v.committed) plan.volumes (applied (suc v.committed) pool (v.ledger (suc v.committed))) =
     subst (λ (entry : Entry). SpellsPool there.later (suc v.committed) plan.volumes (applied (suc v.committed) pool entry)) are
     (subst (λ (n : ℕ). SpellsPool there.later n plan.volumes (applied n pool items)) next there.spells) in (
       left_calls new.due plan.flushes.items,
-      is_plan s.store new v plan.flushes.items backs.blocks.stored there.later backs.vdevs backs.out none kept there.plans all,
+      plan_is,
       record {
         vdevs = backs.vdevs ∙ sym (same_vdevs s.store.spaces new.spaces kept.shapes);
         out = λ disk. backs.out disk ∙ sym (ap (λ (list : List Bool). is_out list disk) kept.out);
@@ -199,7 +222,13 @@ plan_is_backed s new group last plan items v backs none next is_last are flushes
           planned = there.later;
           plans = there.plans;
           kept = backs.blocks.kept;
-          plan = (refl, spells, λ disk in_use. inl (subst (λ (xs : List ℕ). Contains xs disk) (sym all) in_use));
+          plan = (
+            refl,
+            spells,
+            λ disk in_use. inl (subst (λ (xs : List ℕ). Contains xs disk) (sym all) in_use),
+            subst (λ (out : List Bool). AllByRecursion (λ (call : DueCall). is_out out call.disk ≡ false) (left_calls new.due plan.flushes.items)) (sym kept.out)
+                (calls_in_use s.store v (left_calls new.due plan.flushes.items) backs.out plan_is.in_use),
+          );
         };
       },
     )

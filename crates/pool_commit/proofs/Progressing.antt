@@ -23,11 +23,11 @@ use Rattle.pool_commit.specs.declared.device.Progress.TheVariants.{Moved, Done, 
 use Rattle.pool_commit.specs.declared.kept.Kept.{Kept}
 use Rattle.pool_commit.specs.declared.kept.Planned.{Planned}
 use Rattle.pool_commit.specs.Backs.{Backs, IsPlanOf, IsToFlush, SpellsKept, kept_pool, left_calls, pool_after}
-use Rattle.pool_commit.specs.Calls.{made_between, faults_between, unread_between, IsFlushed}
+use Rattle.pool_commit.specs.Calls.{made_between, faults_between, unread_between, called_between, IsFlushed}
 use Rattle.pool_commit.specs.Config.{shown, vdevs_of}
 use Rattle.pool_commit.specs.HasDisks.{AreBelow, HasDisks}
 use Rattle.pool_commit.specs.Making.{MadeCalls, FailedCall, FlushesMove}
-use Rattle.pool_commit.specs.Progress.{Progresses, GoesOn, DropsPlan, with_plan}
+use Rattle.pool_commit.specs.Progress.{OnlyMade, Progresses, GoesOn, DropsPlan, with_plan}
 use Rattle.pool_commit.specs.State.{State, volumes_at}
 use Rattle.pool_commit.proofs.Keeping.{kept_next}
 
@@ -45,6 +45,7 @@ with_tail old mid left rest tail phase n made = record {
   in_phase = made.in_phase;
   faults = made.faults;
   unread = made.unread;
+  called = made.called;
 }
 
 pub failed_tail : (old mid : Store) (left tail : List DueCall) (phase : Phase) (disk : ℕ) → FailedCall old mid left phase disk → FailedCall old mid (left ++ tail) phase disk
@@ -59,6 +60,7 @@ failed_tail old mid left tail phase disk failed = record {
   in_phase = failed.in_phase;
   faults = failed.faults;
   unread = failed.unread;
+  called = failed.called;
 }
 
 -- calls of the front of what is left: writes, or flushes where no write is left
@@ -95,6 +97,32 @@ flushes_none [] [] disk e held = Contains-none disk held
 flushes_none [] (first ∷ flushes) disk e held = let count = ap length e in absurd (omega arith)
 flushes_none (write ∷ writes) flushes disk e held = let count = ap length e in absurd (omega arith)
 
+-- ---- calls on disks in use
+
+all_front : (P : DueCall → Type 0) (xs ys : List DueCall) → AllByRecursion P (xs ++ ys) → AllByRecursion P xs
+all_front P [] ys all = tt
+all_front P (x ∷ xs) ys all = (all.0, all_front P xs ys all.1)
+
+all_rest : (P : DueCall → Type 0) (xs ys : List DueCall) → AllByRecursion P (xs ++ ys) → AllByRecursion P ys
+all_rest P [] ys all = all
+all_rest P (x ∷ xs) ys all = all_rest P xs ys all.1
+
+all_through : (P Q : DueCall → Type 0) → ((call : DueCall) → P call → Q call) → (xs : List DueCall) → AllByRecursion P xs → AllByRecursion Q xs
+all_through P Q through [] all = tt
+all_through P Q through (x ∷ xs) all = (through x all.0, all_through P Q through xs all.1)
+
+-- the calls that were made were on disks in use, as all that were left
+only_made : (old : Store) (mid new : Disks) (v : View) (left rest : List DueCall) → ((disk : ℕ) → v.out disk ≡ is_out old.out disk) → new ≡ mid
+    → left ≡ made_between old.disks mid ++ rest → AllByRecursion (λ (call : DueCall). is_out old.out call.disk ≡ false) left
+    → unread_between old.disks mid ≡ [] → called_between old.disks mid ≡ map (λ (call : DueCall). call.disk) (made_between old.disks mid) → OnlyMade old.disks new v
+only_made old mid new v left rest out same order in_use unread called = subst (λ (d : Disks). OnlyMade old.disks d v) (sym same) (record {
+  unread = unread;
+  called = called;
+  in_use = all_through (λ (call : DueCall). is_out old.out call.disk ≡ false) (λ (call : DueCall). v.out call.disk ≡ false) (λ call is. out call.disk ∙ is)
+      (made_between old.disks mid) (all_front (λ (call : DueCall). is_out old.out call.disk ≡ false) (made_between old.disks mid) rest
+      (subst (AllByRecursion (λ (call : DueCall). is_out old.out call.disk ≡ false)) order in_use));
+})
+
 -- calls were made, and the plan goes on or is done
 pub goes_on : (old : State) (mid : Store) (plan later : Planned) (v : View) (phase : Phase) (n : ℕ) (progress : Progress) (new : State)
     → Backs (with_plan old plan) v → v.committed < 2 ^ 62 → (0 < n) ⊎ (left_calls old.store.due plan.flushes.items ≡ []) → n ≤ 4
@@ -112,7 +140,7 @@ goes_on old mid plan later v phase n (Moved moved) new backs low some few made n
           (next.makes calls rest made.order (made_some some) (omega (arith, made.count, few)) made.in_phase),
       goes.1,
       made.faults,
-      made.unread,
+      only_made old.store mid.disks mid.disks v (left_calls old.store.due plan.flushes.items) rest backs.out refl made.order backs.blocks.plan.3 made.unread made.called,
       record {
         vdevs = backs.vdevs ∙ ap (λ (spaces : List VdevSpace). vdevs_of spaces) (sym made.same.spaces);
         out = λ disk. backs.out disk ∙ ap (λ (out : List Bool). is_out out disk) (sym made.out);
@@ -126,6 +154,9 @@ goes_on old mid plan later v phase n (Moved moved) new backs low some few made n
             refl,
             subst (λ (g : GroupVolumes). SpellsPool backs.blocks.planned (suc v.committed) g (pool_after v)) (sym volumes) backs.blocks.plan.1,
             λ disk in_use. stays disk (backs.blocks.plan.2 disk in_use),
+            all_rest (λ (call : DueCall). is_out mid.out call.disk ≡ false) calls rest
+                (subst (AllByRecursion (λ (call : DueCall). is_out mid.out call.disk ≡ false)) made.order
+                (subst (λ (out : List Bool). AllByRecursion (λ (call : DueCall). is_out out call.disk ≡ false) (left_calls old.store.due plan.flushes.items)) (sym made.out) backs.blocks.plan.3)),
           );
         };
       },
@@ -141,7 +172,8 @@ goes_on old mid plan later v phase n Done new backs low some few made next stays
       backs.blocks.plan.0,
       subst (MakesAll (left_calls old.store.due plan.flushes.items)) same (makes_all some),
       ap (λ (d : Disks). faults_between old.store.disks d) goes.2.disks ∙ made.faults,
-      ap (λ (d : Disks). unread_between old.store.disks d) goes.2.disks ∙ made.unread,
+      only_made old.store mid.disks new.store.disks v (left_calls old.store.due plan.flushes.items) (left_calls mid.due later.flushes.items) backs.out goes.2.disks made.order
+          backs.blocks.plan.3 made.unread made.called,
       λ disk in_use. subst (λ (d : Disks). IsFlushed d disk) (sym goes.2.disks)
           (⊎_elim (λ left. absurd (none_left disk left)) (λ flushed. flushed.1) (stays disk (backs.blocks.plan.2 disk in_use))),
       record {
@@ -193,7 +225,7 @@ drops old mid plan v phase disk new backs failed next drop kept none =
             (next.makes calls failed.rest failed.order (one_some old.store mid failed) failed.few failed.in_phase);
         fault = ap (λ (d : Disks). faults_between old.store.disks d) drop.disks ∙ failed.faults;
       },
-      ap (λ (d : Disks). unread_between old.store.disks d) drop.disks ∙ failed.unread,
+      only_made old.store mid.disks new.store.disks v (left_calls old.store.due plan.flushes.items) failed.rest backs.out drop.disks failed.order backs.blocks.plan.3 failed.unread failed.called,
       record {
         vdevs = backs.vdevs ∙ ap (λ (spaces : List VdevSpace). vdevs_of spaces) (sym failed.same.spaces) ∙ sym (vdevs_by_shapes mid.spaces new.store.spaces drop.shapes);
         out = λ other. out_too (v.out other) (is_out old.store.out other) (is_out mid.out other) (other == disk) (is_out new.store.out other) (backs.out other) (failed.out.disks other)

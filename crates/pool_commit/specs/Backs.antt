@@ -1,5 +1,6 @@
 -- When the committed half of a core backs a view: what the view says of disks, of kept groups and of the group that is synced.
 use Rattle.std.specs.Prelude.{ℕ, suc, ◌≡◌, ◌⊎◌, ◌++◌, Contains, List, [], map, false, Option, Some, None, if◌then◌else◌}
+use Rattle.std.specs.List.{AllByRecursion}
 use Rattle.raidz_io.specs.declared.writes.ColumnWrite.{ColumnWrite}
 use Rattle.block_store.specs.Blocks.{Contents}
 use Rattle.block_store.specs.Plans.{Plans}
@@ -37,13 +38,14 @@ pool_after v = applied (suc v.committed) (v.pools v.committed) (v.ledger (suc v.
 abbrev pub IsToFlush : Store → List ℕ → ℕ → Type 0
 IsToFlush store flushes disk = Contains flushes disk ⊎ ((store.due ≡ []) × IsFlushed store.disks disk)
 
--- a plan has these device calls left, its volumes spell what the group makes, once its blocks are stored, and each disk in
--- use is flushed behind its last write or has its flush left
+-- a plan has these device calls left, its volumes spell what the group makes, once its blocks are stored, each disk in use
+-- is flushed behind its last write or has its flush left, and no call that is left is on a disk that is out
 abbrev pub IsPlanOf : State → Contents → Option Planned → View → Type 0
 IsPlanOf s planned None v = is_planned v.sync ≡ false
 IsPlanOf s planned (Some plan) v =
     (v.sync ≡ Left (left_calls s.store.due plan.flushes.items)) × SpellsPool planned (suc v.committed) plan.volumes (pool_after v)
     × ((disk : ℕ) → Contains (disks_in_use v) disk → IsToFlush s.store plan.flushes.items disk)
+    × AllByRecursion (λ (call : DueCall). is_out s.store.out call.disk ≡ false) (left_calls s.store.due plan.flushes.items)
 
 -- each block taken with the bytes that it was written with
 pub record HasBlocks (s : State) (v : View) : Type 0 where

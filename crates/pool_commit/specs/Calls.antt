@@ -26,6 +26,10 @@ abbrev pub unread_call : ℕ → Call → List ℕ
 unread_call disk (FailedRead at n) = disk ∷ []
 unread_call disk call = []
 
+-- any call
+abbrev pub which_call : ℕ → Call → List ℕ
+which_call disk call = disk ∷ []
+
 -- what the calls since there were n tell, in order
 abbrev pub told_since : {A : Type 0} → (ℕ → Call → List A) → ℕ → List JointCall → List A
 told_since tells n [] = []
@@ -40,6 +44,10 @@ faults_between old new = told_since fault_call (length old.calls) new.calls
 
 abbrev pub unread_between : Disks → Disks → List ℕ
 unread_between old new = told_since unread_call (length old.calls) new.calls
+
+-- the disks that were called, read or not
+abbrev pub called_between : Disks → Disks → List ℕ
+called_between old new = told_since which_call (length old.calls) new.calls
 
 -- the record of calls only grew
 pub record GrewTo (old new : Disks) : Type 0 where

@@ -8,7 +8,7 @@ use Rattle.pool_model.specs.declared.step.Phase.{Phase}
 use Rattle.pool_model.specs.declared.step.Phase.TheVariants.{Blocks, BlocksFlush}
 use Rattle.pool_model.specs.View.{DueCall}
 use Rattle.pool_model.specs.Machine.{due}
-use Rattle.pool_commit.specs.Calls.{made_between, faults_between, unread_between, GrewTo, IsFlushed}
+use Rattle.pool_commit.specs.Calls.{made_between, faults_between, unread_between, called_between, GrewTo, IsFlushed}
 
 abbrev pub writes_left : List ColumnWrite → List DueCall
 writes_left writes = map (λ write. due Blocks write.disk) writes
@@ -31,6 +31,7 @@ pub record MadeCalls (old new : Store) (left rest : List DueCall) (phase : Phase
   pub in_phase : AllByRecursion (λ call. call.phase ≡ phase) (made_between old.disks new.disks)
   pub faults : faults_between old.disks new.disks ≡ []
   pub unread : unread_between old.disks new.disks ≡ []
+  pub called : called_between old.disks new.disks ≡ map (λ call. call.disk) (made_between old.disks new.disks)
 
 -- of those that were left one to four were made, and the last one failed on this disk
 pub record FailedCall (old new : Store) (left : List DueCall) (phase : Phase) (disk : ℕ) : Type 0 where
@@ -44,6 +45,7 @@ pub record FailedCall (old new : Store) (left : List DueCall) (phase : Phase) (d
   pub in_phase : AllByRecursion (λ call. call.phase ≡ phase) (made_between old.disks new.disks)
   pub faults : faults_between old.disks new.disks ≡ due phase disk ∷ []
   pub unread : unread_between old.disks new.disks ≡ []
+  pub called : called_between old.disks new.disks ≡ map (λ call. call.disk) (made_between old.disks new.disks)
 
 -- each of the disks is to be flushed still, or nothing was written to it since its last flush; and one of which that was
 -- true before is as it was

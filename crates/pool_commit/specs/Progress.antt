@@ -1,5 +1,6 @@
 -- How far device calls bring a plan.
-use Rattle.std.specs.Prelude.{ℕ, suc, ◌≡◌, ◌<◌, ◌^◌, Contains, List, [], ◌∷◌, ◌++◌, length, Some, None}
+use Rattle.std.specs.Prelude.{ℕ, suc, ◌≡◌, ◌<◌, ◌^◌, Contains, List, [], ◌∷◌, ◌++◌, length, map, false, Some, None}
+use Rattle.std.specs.List.{AllByRecursion}
 use Rattle.model_disk.specs.Joint.{Disks}
 use Rattle.block_store.specs.Blocks.{Contents}
 use Rattle.block_store.specs.Places.{shapes_of}
@@ -7,14 +8,14 @@ use Rattle.block_store.specs.Plans.{Plans}
 use Rattle.block_store.specs.Store.{Store}
 use Rattle.group_volumes.specs.declared.volumes.GroupVolumes.{GroupVolumes}
 use Rattle.pool_model.specs.declared.step.Phase.{Phase}
-use Rattle.pool_model.specs.View.{View, DueCall, Left, disks_in_use}
+use Rattle.pool_model.specs.View.{View, DueCall, Left, is_away, disks_in_use}
 use Rattle.pool_model.specs.Machine.{due, Makes, MakesAll, committed_next, dropped}
 use Rattle.pool_commit.specs.declared.device.Progress.{Progress}
 use Rattle.pool_commit.specs.declared.device.Progress.TheVariants.{Moved, Done, Dropped}
 use Rattle.pool_commit.specs.declared.kept.Kept.{Kept}
 use Rattle.pool_commit.specs.declared.kept.Planned.{Planned}
 use Rattle.pool_commit.specs.Backs.{Backs, left_calls}
-use Rattle.pool_commit.specs.Calls.{made_between, faults_between, unread_between, IsFlushed}
+use Rattle.pool_commit.specs.Calls.{made_between, faults_between, unread_between, called_between, IsFlushed}
 use Rattle.pool_commit.specs.State.{State}
 
 -- the last of the calls that were made, a write or a flush of the plan, failed on this disk, and no other did
@@ -28,17 +29,23 @@ pub record FailsAt (old new : Disks) (v : View) (disk : ℕ) : Type 0 where
   pub makes : Makes left (made_between old new) rest phase
   pub fault : faults_between old new ≡ due phase disk ∷ []
 
+-- no disk was called but by the writes and flushes that were made, and none of them is out
+pub record OnlyMade (old new : Disks) (v : View) : Type 0 where
+  pub unread : unread_between old new ≡ []
+  pub called : called_between old new ≡ map (λ call. call.disk) (made_between old new)
+  pub in_use : AllByRecursion (λ call. is_away v call.disk ≡ false) (made_between old new)
+
 -- From v the calls that were made, and no others, are calls of the plan, and nothing was read. Where one failed the plan is
 -- dropped; where none is left each disk in use is flushed behind its last write.
 abbrev pub Progresses : State → Progress → State → View → Type 0
 Progresses old (Moved phase) new v = (left rest : List DueCall) × (v.sync ≡ Left left)
     × Makes left (made_between old.store.disks new.store.disks) rest phase
-    × (0 < length rest) × (faults_between old.store.disks new.store.disks ≡ []) × (unread_between old.store.disks new.store.disks ≡ [])
+    × (0 < length rest) × (faults_between old.store.disks new.store.disks ≡ []) × OnlyMade old.store.disks new.store.disks v
     × Backs new (record v { sync = Left rest })
 Progresses old Done new v = (left : List DueCall) × (v.sync ≡ Left left) × MakesAll left (made_between old.store.disks new.store.disks)
-    × (faults_between old.store.disks new.store.disks ≡ []) × (unread_between old.store.disks new.store.disks ≡ [])
+    × (faults_between old.store.disks new.store.disks ≡ []) × OnlyMade old.store.disks new.store.disks v
     × ((disk : ℕ) → Contains (disks_in_use v) disk → IsFlushed new.store.disks disk) × Backs new (committed_next v)
-Progresses old (Dropped disk) new v = FailsAt old.store.disks new.store.disks v disk × (unread_between old.store.disks new.store.disks ≡ [])
+Progresses old (Dropped disk) new v = FailsAt old.store.disks new.store.disks v disk × OnlyMade old.store.disks new.store.disks v
     × Backs new (dropped v disk)
 
 -- the state with this plan

@@ -8,7 +8,7 @@ use Rattle.dnode_slots.proofs.set_blocks.plan_set.Goals as goal
 
 pub returns-clause-steps : goal.returns-clause-steps
 returns-clause-steps g c =
-    steps_plan _ _ _ _ _ c.plan_write.result _ c.plan_write.ensures.disks c.plan_write.ensures.out c.plan_write.ensures.shapes c.plan_write.ensures.keeps
+    steps_plan _ _ _ _ _ _ c.plan_write.result _ c.plan_write.ensures.disks c.plan_write.ensures.out c.plan_write.ensures.spans c.plan_write.ensures.shapes c.plan_write.ensures.keeps
     c.plan_write.ensures.places c.plan_write.ensures.err_spaces c.plan_write.ensures.due c.plan_write.ensures.err_due c.plan_write.ensures.planned c.plan_write.ensures.err
 
 pub returns-clause-planned : goal.returns-clause-planned

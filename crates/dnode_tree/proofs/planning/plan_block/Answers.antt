@@ -37,10 +37,10 @@ returns-in_err-planned-clause-no_room g c =
 
 pub returns-in_err-planned-clause-steps : goal.returns-in_err-planned-clause-steps
 returns-in_err-planned-clause-steps g c =
-    λ missing. steps_plan _ _ missing _ _ c.plan_write.result _ c.plan_write.ensures.disks c.plan_write.ensures.out c.plan_write.ensures.shapes c.plan_write.ensures.keeps
+    λ missing. steps_plan _ _ missing _ _ _ c.plan_write.result _ c.plan_write.ensures.disks c.plan_write.ensures.out c.plan_write.ensures.spans c.plan_write.ensures.shapes c.plan_write.ensures.keeps
     c.plan_write.ensures.places c.plan_write.ensures.err_spaces c.plan_write.ensures.due c.plan_write.ensures.err_due c.plan_write.ensures.planned c.plan_write.ensures.err
 
 pub returns-clause-steps : goal.returns-clause-steps
 returns-clause-steps g c =
-    λ missing. steps_plan _ _ missing _ _ c.plan_write.result _ c.plan_write.ensures.disks c.plan_write.ensures.out c.plan_write.ensures.shapes c.plan_write.ensures.keeps
+    λ missing. steps_plan _ _ missing _ _ _ c.plan_write.result _ c.plan_write.ensures.disks c.plan_write.ensures.out c.plan_write.ensures.spans c.plan_write.ensures.shapes c.plan_write.ensures.keeps
     c.plan_write.ensures.places c.plan_write.ensures.err_spaces c.plan_write.ensures.due c.plan_write.ensures.err_due c.plan_write.ensures.planned c.plan_write.ensures.err
