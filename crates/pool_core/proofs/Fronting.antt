@@ -18,12 +18,12 @@ use Rattle.pool_intake.specs.declared.intake.Intake.{Intake}
 use Rattle.pool_intake.specs.Follows.{Follows, KeepsCommitted}
 use Rattle.pool_commit.specs.declared.kept.Planned.{Planned}
 use Rattle.pool_commit.specs.Backs.{Backs, IsPlanOf, SpellsKept, kept_pool, pool_after}
-use Rattle.pool_commit.specs.Calls.{fault_call, unread_call}
+use Rattle.pool_commit.specs.Calls.{fault_call, unread_call, which_call}
 use Rattle.pool_commit.specs.State.{State, volumes_at}
 use Rattle.pool_commit.proofs.Made.{made_by_none, told_by_none}
 use Rattle.pool_core.specs.Represents.{Represents}
 use Rattle.pool_core.specs.State.{CoreState, disks_of as core_disks}
-use Rattle.pool_core.specs.Steps.{IsGiven, AreFlushed, is_barred, Goes}
+use Rattle.pool_core.specs.Steps.{OnlyWritesAndFlushes, IsGiven, AreFlushed, is_barred, Goes}
 
 -- ---- what backs a view backs one with the same disks and groups
 
@@ -45,6 +45,7 @@ plan_kept s planned (Some plan) v w k is = (
   subst (λ (p : PlainPool). SpellsPool planned (suc w.committed) plan.volumes p) (sym (made_kept v w k (ap is_syncing is.0)))
       (subst (λ c. SpellsPool planned (suc c) plan.volumes (pool_after v)) (sym k.committed) is.1),
   λ disk in_use. is.2 disk (subst (λ (disks : List ℕ). Contains disks disk) (in_use_kept v w k) in_use),
+  is.3,
 )
 
 pub backs_kept : (s : State) (v w : View) → KeepsCommitted v w → Backs s v → Backs s w
@@ -76,6 +77,17 @@ abbrev pub IsFrontStep : Step → Type 0
 IsFrontStep Device = ⊥
 IsFrontStep step = Unit {0}
 
+pub front_calls : (step : Step) (old : CoreState) (given : Given) (new : CoreState) → IsFrontStep step → OnlyWritesAndFlushes step old given new
+front_calls Device old given new is = absurd is
+front_calls (Hold writer) old given new is = tt
+front_calls step old given new is = tt
+
+-- where no disk was called
+pub nothing_called : (step : Step) (s : CoreState) (intake : Intake) → OnlyWritesAndFlushes step s nothing_given (record s { intake = intake })
+nothing_called Device s intake = told_by_none which_call (core_disks s)
+nothing_called (Hold writer) s intake = tt
+nothing_called step s intake = tt
+
 -- only a Device step commits
 granted_commits_none : (v : View) (given : Given) (step : Step) (group : ℕ) (w : View) → IsFrontStep step → Granted v given step (Committed group) w → ⊥
 granted_commits_none v given Device group w is g = is
@@ -100,6 +112,8 @@ front s intake v trusted step reply r is_front goes = record {
     is_step = goes.1;
     represents = record { follows = goes.2; backs = backs_kept s.commit v goes.0 goes.3 r.backs };
     flushed = front_commits_none v nothing_given step reply goes.0 (record s { intake = intake }) is_front goes.1;
+    untouched = λ disk away. refl;
+    only = front_calls step s nothing_given (record s { intake = intake }) is_front;
   };
 }
 
@@ -114,6 +128,8 @@ refused s v trusted step cause r first = record {
     is_step = inl (record { cause = cause; first = first; answer = refl; unchanged = refl; quiet = nothing_quiet; calls = may_nothing step });
     represents = r;
     flushed = tt;
+    untouched = λ disk away. refl;
+    only = nothing_called step s s.intake;
   };
 }
 

@@ -1,18 +1,18 @@
 -- Plans and device calls as steps of the machine.
 use Rattle.std.proofs.Common.{◌≡◌, ◌⊎◌, ⊎_elim, ℕ, suc, ◌+◌, ◌≤◌, ◌<◌, ◌^◌, Bool, true, false, true≢false, List, [], ◌∷◌, ◌++◌, length, Option, Some, None, refl, sym, ap, ◌∙◌, subst, arith, inl, inr}
-use Rattle.std.specs.Prelude.{◌&&◌, ◌||◌, min, is_some, not, nat_le, if◌then◌else◌}
-use Rattle.std.proofs.lemmas.List.{append-nil}
+use Rattle.std.specs.Prelude.{◌&&◌, ◌||◌, min, is_some, not, nat_le, if◌then◌else◌, ◌==◌, map, Contains}
+use Rattle.std.proofs.lemmas.List.{append-nil, length-append}
 use Rattle.std.proofs.lemmas.Bool.Decides.{nat_tests}
 use Rattle.model_disk.specs.Call.{Call, Read, FailedRead, Wrote, FailedWrite, Flushed, FailedFlush}
-use Rattle.model_disk.specs.Joint.{Disks, JointCall}
-use Rattle.raidz_io.specs.Reads.{IsRead, AreReads, OnlyReads}
+use Rattle.model_disk.specs.Joint.{Disks, JointCall, calls_on}
+use Rattle.raidz_io.specs.Reads.{IsRead, AreReads, OnlyReads, AreUntouched}
 use Rattle.pool_model.specs.declared.refusal.Refusal.TheVariants as causes
 use Rattle.pool_model.specs.declared.refusal.Refusal.{Refusal as Cause}
 use Rattle.pool_model.specs.declared.step.Phase.{Phase}
 use Rattle.pool_model.specs.declared.step.Step.TheVariants.{Plan, Device}
 use Rattle.pool_model.specs.declared.step.Reply.{Reply}
 use Rattle.pool_model.specs.declared.step.Reply.TheVariants.{Planned, Moved, Replan, Committed, Refused}
-use Rattle.pool_model.specs.View.{View, Given, DueCall, nothing_given, Sync, Unplanned, Left, is_syncing, is_planned, is_quiesced, is_suspended, is_readable, open_after}
+use Rattle.pool_model.specs.View.{View, Given, DueCall, is_away, nothing_given, Sync, Unplanned, Left, is_syncing, is_planned, is_quiesced, is_suspended, is_readable, open_after}
 use Rattle.pool_model.specs.Refusals.{greatest, first_cause, refusal_of}
 use Rattle.pool_model.specs.Machine.{StepOf, IsPlan, IsQuiet, FailsOn, IsReadCause, IsUnreadable, due, taken, committed_next, dropped}
 use Rattle.pool_model.proofs.Plans.{nothing_quiet}
@@ -22,18 +22,23 @@ use Rattle.pool_intake.proofs.Stepping.{followed}
 use Rattle.pool_commit.specs.declared.device.Progress.TheVariants as progress
 use Rattle.pool_commit.specs.declared.kept.Planned.{Planned as PlannedGroup}
 use Rattle.pool_commit.specs.Backs.{Backs, IsPlanOf}
-use Rattle.pool_commit.specs.Calls.{due_call, fault_call, unread_call, told_since, made_between, faults_between, unread_between, GrewTo}
-use Rattle.pool_commit.specs.Progress.{Progresses}
+use Rattle.pool_commit.specs.Calls.{due_call, fault_call, unread_call, told_since, made_between, faults_between, unread_between, GrewTo, which_call, called_between}
+use Rattle.pool_commit.specs.Progress.{OnlyMade, Progresses}
 use Rattle.pool_commit.specs.Reading.{IsReadFault, IsLost}
 use Rattle.pool_commit.specs.Room.{LacksRoom}
 use Rattle.pool_commit.specs.State.{State}
 use Rattle.pool_commit.proofs.Made.{told_by_none}
+use Rattle.block_store.specs.Store.{outs}
+use Rattle.block_store.proofs.Outs.{out_is_in}
+use Rattle.raidz_io.proofs.Calls.{Contains-front, Contains-cases, Contains-none}
+use Rattle.std.proofs.lemmas.List.Elements.{Contains-append_left, Contains-append_right}
+use Rattle.std.specs.List.{AllByRecursion}
 use Rattle.pool_commit.specs.declared.refusal.Refusal.{Refusal}
 use Rattle.pool_commit.specs.declared.refusal.Refusal.TheVariants.{NoMemory, NoSpace}
 use Rattle.pool_core.specs.Causes.{cause_of}
 use Rattle.pool_core.specs.Represents.{Represents}
 use Rattle.pool_core.specs.State.{CoreState, disks_of}
-use Rattle.pool_core.specs.Steps.{AreTrue, fault_list, IsGiven, Goes}
+use Rattle.pool_core.specs.Steps.{AwayIsUntouched, AreTrue, fault_list, IsGiven, Goes}
 use Rattle.pool_core.proofs.Fronting.{nothing_is_given}
 
 -- ---- reads are no calls of a plan
@@ -102,6 +107,16 @@ unreadable v old new trusted full refusal lost honest = (is_cause refusal lost.0
     why true honest = inl (lost.1 (honest refl))
     why false honest = inr refl
 
+-- reads and plans that touch no disk that is out
+pub spares_outs : (s : CoreState) (commit : State) (intake : Intake) (v : View) (missing : List ℕ) → Represents s v → AreUntouched (outs s.commit.store ++ missing) (disks_of s) commit.store.disks
+    → AwayIsUntouched s v (record { intake = intake; commit = commit })
+spares_outs s commit intake v missing r untouched disk away =
+    untouched disk (Contains-append_left (outs s.commit.store) missing disk (out_is_in s.commit.store disk (sym (r.backs.out disk) ∙ away)))
+
+pub plan_spares : (s : CoreState) (commit : State) (intake : Intake) (v : View) → Represents s v → AreUntouched (outs s.commit.store) (disks_of s) commit.store.disks
+    → AwayIsUntouched s v (record { intake = intake; commit = commit })
+plan_spares s commit intake v r untouched disk away = untouched disk (out_is_in s.commit.store disk (sym (r.backs.out disk) ∙ away))
+
 -- ---- how far the group that is synced is
 
 follows_on : (intake : Intake) (v : View) (sync : Sync) (out : ℕ → Bool) → Follows intake v → is_syncing v.sync ≡ true → is_syncing sync ≡ true
@@ -145,41 +160,78 @@ device_is_given : (old new : CoreState) (fault : Option DueCall) (trusted : Bool
     → IsGiven old new (device_given old new fault trusted)
 device_is_given old new fault trusted faults unread = record { made = refl; fault = sym faults; unread = sym unread; full = λ e. absurd (true≢false (sym e)) }
 
-pub moves : (s : CoreState) (commit : State) (v : View) (trusted : Bool) (phase : Phase) → Represents s v → is_suspended v ≡ false → Progresses s.commit (progress.Moved phase) commit v
+late : (m n : ℕ) → m ≤ n → nat_le m n ≡ true
+late m n h = grind (arith, nat_tests)
+
+not_same : (m n : ℕ) → ¬ (m ≡ n) → (m == n) ≡ false
+not_same m n h = grind (arith, nat_tests, h)
+
+-- a disk that is not among those that were called has the calls that it had
+not_called : (n : ℕ) (newer calls : List JointCall) (disk : ℕ) → n ≡ length calls → ¬ Contains (told_since which_call n (newer ++ calls)) disk → calls_on disk (newer ++ calls) ≡ calls_on disk calls
+not_called n [] calls disk same none = refl
+not_called n (made ∷ newer) calls disk same none =
+    let count = length-append newer calls in
+    let is_late : nat_le n (length (newer ++ calls)) ≡ true = late n (length (newer ++ calls)) (omega arith) in
+    let told : told_since which_call n (made ∷ newer ++ calls) ≡ told_since which_call n (newer ++ calls) ++ made.which ∷ [] =
+    ap (λ b. told_since which_call n (newer ++ calls) ++ (if b then made.which ∷ [] else [])) is_late in
+    let other : (made.which == disk) ≡ false = not_same made.which disk (λ e. none (subst (λ (xs : List ℕ). Contains xs disk) (sym told)
+    (Contains-append_right (told_since which_call n (newer ++ calls)) (made.which ∷ []) disk (subst (λ d. Contains (made.which ∷ []) d) e (Contains-front made.which []))))) in
+    ap (λ b. if b then made.call ∷ calls_on disk (newer ++ calls) else calls_on disk (newer ++ calls)) other
+    ∙ not_called n newer calls disk same (λ held. none (subst (λ (xs : List ℕ). Contains xs disk) (sym told) (Contains-append_left (told_since which_call n (newer ++ calls)) (made.which ∷ []) disk held)))
+
+not_on_away : (calls : List DueCall) (v : View) (disk : ℕ) → AllByRecursion (λ (call : DueCall). is_away v call.disk ≡ false) calls → is_away v disk ≡ true
+    → ¬ Contains (map (λ (call : DueCall). call.disk) calls) disk
+not_on_away [] v disk all away held = Contains-none disk held
+not_on_away (call ∷ calls) v disk all away held =
+    ⊎_elim (λ same. true≢false (sym away ∙ ap (is_away v) same ∙ all.0)) (λ later. not_on_away calls v disk all.1 away later) (Contains-cases call.disk (map (λ (call : DueCall). call.disk) calls) disk held)
+
+-- a Device step calls no disk that is away
+device_spares : (s : CoreState) (new : CoreState) (v : View) → GrewTo (disks_of s) (disks_of new) → OnlyMade (disks_of s) (disks_of new) v → AwayIsUntouched s v new
+device_spares s new v grew only disk away =
+    ap (λ (calls : List JointCall). calls_on disk calls) grew.calls
+    ∙ not_called (length (disks_of s).calls) grew.newer (disks_of s).calls disk refl
+    (λ held. not_on_away (made_between (disks_of s) (disks_of new)) v disk only.in_use away
+    (subst (λ (xs : List ℕ). Contains xs disk) (ap (told_since which_call (length (disks_of s).calls)) (sym grew.calls) ∙ only.called) held))
+
+pub moves : (s : CoreState) (commit : State) (v : View) (trusted : Bool) (phase : Phase) → Represents s v → is_suspended v ≡ false → Progresses s.commit (progress.Moved phase) commit v → GrewTo (disks_of s) commit.store.disks
     → Goes s v trusted Device (Moved phase) (record s { commit = commit })
-moves s commit v trusted phase r free p =
+moves s commit v trusted phase r free p grew =
     let new : CoreState = record s { commit = commit } in
     record {
       given = device_given s new None true;
       trust = λ e. refl;
       after = record v { sync = Left p.1 };
       link = record {
-        is_given = device_is_given s new None true p.5 p.6;
+        is_given = device_is_given s new None true p.5 p.6.unread;
         is_step = inr (inr (record { none = device_free v free (ap is_planned p.2); granted = (p.0, p.1, p.2, p.3, p.4, refl, refl); calls = refl }));
         represents = record { follows = follows_on s.intake v (Left p.1) v.out r.follows (ap is_syncing p.2) refl; backs = p.7 };
         flushed = tt;
+        untouched = device_spares s new v grew p.6;
+        only = p.6.called;
       };
     }
 
-pub commits : (s : CoreState) (intake : Intake) (commit : State) (v : View) (trusted : Bool) (reply : Reply) → Represents s v → is_suspended v ≡ false → Progresses s.commit progress.Done commit v
+pub commits : (s : CoreState) (intake : Intake) (commit : State) (v : View) (trusted : Bool) (reply : Reply) → Represents s v → is_suspended v ≡ false → Progresses s.commit progress.Done commit v → GrewTo (disks_of s) commit.store.disks
     → reply ≡ Committed (suc v.committed) → Follows intake (committed_next v) → Goes s v trusted Device reply (record { intake = intake; commit = commit })
-commits s intake commit v trusted reply r free p is f =
+commits s intake commit v trusted reply r free p grew is f =
     let new : CoreState = record { intake = intake; commit = commit } in
     subst (λ (x : Reply). Goes s v trusted Device x new) (sym is) (record {
       given = device_given s new None true;
       trust = λ e. refl;
       after = committed_next v;
       link = record {
-        is_given = device_is_given s new None true p.3 p.4;
+        is_given = device_is_given s new None true p.3 p.4.unread;
         is_step = inr (inr (record { none = device_free v free (ap is_planned p.1); granted = (refl, p.0, p.1, p.2, refl, refl); calls = refl }));
         represents = record { follows = f; backs = p.6 };
         flushed = p.5;
+        untouched = device_spares s new v grew p.4;
+        only = p.4.called;
       };
     })
 
-pub drops : (s : CoreState) (commit : State) (v : View) (trusted : Bool) (disk : ℕ) (reply : Reply) → Represents s v → is_suspended v ≡ false → Progresses s.commit (progress.Dropped disk) commit v
+pub drops : (s : CoreState) (commit : State) (v : View) (trusted : Bool) (disk : ℕ) (reply : Reply) → Represents s v → is_suspended v ≡ false → Progresses s.commit (progress.Dropped disk) commit v → GrewTo (disks_of s) commit.store.disks
     → ((w : View) → Backs commit w → reply ≡ (if is_suspended w then Refused causes.Suspended else Replan disk)) → Goes s v trusted Device reply (record s { commit = commit })
-drops s commit v trusted disk reply r free p is = go (is_suspended (dropped v disk)) refl (is (dropped v disk) p.2)
+drops s commit v trusted disk reply r free p grew is = go (is_suspended (dropped v disk)) refl (is (dropped v disk) p.2)
   where
     new : CoreState
     new = record s { commit = commit }
@@ -200,10 +252,12 @@ drops s commit v trusted disk reply r free p is = go (is_suspended (dropped v di
           trust = λ t. refl;
           after = dropped v disk;
           link = record {
-            is_given = device_is_given s new (Some (due p.0.phase disk)) true p.0.fault p.1;
+            is_given = device_is_given s new (Some (due p.0.phase disk)) true p.0.fault p.1.unread;
             is_step = inr (inr (record { none = device_free v free (ap is_planned p.0.planned); granted = (refl, disk, fails, e, refl); calls = refl }));
             represents = after;
             flushed = tt;
+            untouched = device_spares s new v grew p.1;
+            only = p.1.called;
           };
         })
     go false e x =
@@ -212,10 +266,12 @@ drops s commit v trusted disk reply r free p is = go (is_suspended (dropped v di
           trust = λ t. refl;
           after = dropped v disk;
           link = record {
-            is_given = device_is_given s new (Some (due p.0.phase disk)) true p.0.fault p.1;
+            is_given = device_is_given s new (Some (due p.0.phase disk)) true p.0.fault p.1.unread;
             is_step = inr (inr (record { none = device_free v free (ap is_planned p.0.planned); granted = (fails, e, refl); calls = refl }));
             represents = after;
             flushed = tt;
+            untouched = device_spares s new v grew p.1;
+            only = p.1.called;
           };
         })
 
@@ -245,9 +301,9 @@ backs_taken s v backs none = record {
 -- a group is taken, and planned
 pub plans : (s : CoreState) (intake : Intake) (commit : State) (v : View) (trusted : Bool) (timestamp group : ℕ) (calls : List DueCall)
     → refusal_of v (Plan timestamp) ≡ None → Follows intake (taken v Unplanned) → group ≡ suc v.committed → IsPlan (taken v Unplanned) calls
-    → Backs commit (record (taken v Unplanned) { sync = Left calls }) → OnlyReads (disks_of s) commit.store.disks
+    → Backs commit (record (taken v Unplanned) { sync = Left calls }) → OnlyReads (disks_of s) commit.store.disks → AwayIsUntouched s v (record { intake = intake; commit = commit })
     → Goes s v trusted (Plan timestamp) (Planned group) (record { intake = intake; commit = commit })
-plans s intake commit v trusted timestamp group calls none f is plan backs reads =
+plans s intake commit v trusted timestamp group calls none f is plan backs reads spared =
     let new : CoreState = record { intake = intake; commit = commit } in
     record {
       given = given_by_reads s new trusted false;
@@ -258,16 +314,18 @@ plans s intake commit v trusted timestamp group calls none f is plan backs reads
         is_step = inr (inr (record { none = none; granted = (is, calls, record { in_use = plan.in_use; flushes = plan.flushes }, refl); calls = reads_quiet s new trusted false }));
         represents = record { follows = follows_on intake (taken v Unplanned) (Left calls) v.out f refl refl; backs = backs };
         flushed = tt;
+        untouched = spared;
+        only = tt;
       };
     }
 
 -- a plan that was refused, by its cause: its group is taken
 pub plan_refused : (s : CoreState) (intake : Intake) (commit : State) (v : View) (trusted : Bool) (timestamp : ℕ) (refusal : Refusal) (named : Cause) → named ≡ cause_of refusal
-    → refusal_of v (Plan timestamp) ≡ None → Follows intake (taken v Unplanned) → Backs commit (taken v Unplanned) → OnlyReads (disks_of s) commit.store.disks
+    → refusal_of v (Plan timestamp) ≡ None → Follows intake (taken v Unplanned) → Backs commit (taken v Unplanned) → OnlyReads (disks_of s) commit.store.disks → AwayIsUntouched s v (record { intake = intake; commit = commit })
     → (trusted ≡ true → AreTrue s (record { intake = intake; commit = commit })) → (refusal ≡ NoSpace → LacksRoom commit)
     → (refusal ≡ NoMemory) ⊎ (IsLost (taken v Unplanned) [] s.commit commit refusal ⊎ (refusal ≡ NoSpace))
     → Goes s v trusted (Plan timestamp) (Refused named) (record { intake = intake; commit = commit })
-plan_refused s intake commit v trusted timestamp refusal named is none f backs reads honest full why =
+plan_refused s intake commit v trusted timestamp refusal named is none f backs reads spared honest full why =
     let new : CoreState = record { intake = intake; commit = commit } in
     subst (λ (c : Cause). Goes s v trusted (Plan timestamp) (Refused c) new) (sym is) (⊎_elim
     (λ memory. subst (λ (x : Refusal). Goes s v trusted (Plan timestamp) (Refused (cause_of x)) new) (sym memory)
@@ -289,6 +347,8 @@ plan_refused s intake commit v trusted timestamp refusal named is none f backs r
         is_step = step;
         represents = record { follows = f; backs = backs };
         flushed = tt;
+        untouched = spared;
+        only = tt;
       };
     }
 
@@ -311,6 +371,8 @@ idles s commit v trusted r free none backs same =
         is_step = inl (record { cause = causes.NotNow; first = device_early v free none; answer = refl; unchanged = refl; quiet = nothing_quiet; calls = refl });
         represents = record { follows = r.follows; backs = backs };
         flushed = tt;
+        untouched = λ disk away. ap (λ (d : Disks). calls_on disk d.calls) same;
+        only = ap (λ (d : Disks). called_between (disks_of s) d) same ∙ told_by_none which_call (disks_of s);
       };
     }
 
@@ -326,6 +388,8 @@ takes_none s intake v trusted timestamp cause r first f = record {
     is_step = inl (record { cause = cause; first = first; answer = refl; unchanged = refl; quiet = nothing_quiet; calls = nothing_quiet });
     represents = record { follows = f; backs = r.backs };
     flushed = tt;
+    untouched = λ disk away. refl;
+    only = tt;
   };
 }
 

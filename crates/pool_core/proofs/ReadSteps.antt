@@ -24,8 +24,8 @@ use Rattle.pool_core.specs.Causes.{cause_of}
 use Rattle.pool_core.specs.Represents.{Represents}
 use Rattle.pool_core.specs.State.{CoreState}
 use Rattle.pool_core.specs.Steps.{Goes}
-use Rattle.pool_core.proofs.Fronting.{IsFrontStep, front_commits_none}
-use Rattle.pool_core.proofs.Phases.{given_by_reads, reads_are_given, reads_quiet}
+use Rattle.pool_core.proofs.Fronting.{IsFrontStep, front_commits_none, front_calls}
+use Rattle.pool_core.proofs.Phases.{given_by_reads, reads_are_given, reads_quiet, spares_outs}
 
 -- ---- under a kept group
 
@@ -67,6 +67,8 @@ read_goes s commit v trusted step reply r reads is_front is_step = record {
     is_step = is_step;
     represents = record { follows = r.follows; backs = reads.backs v r.backs };
     flushed = front_commits_none v (given_by_reads s (record s { commit = commit }) trusted false) step reply v (record s { commit = commit }) is_front is_step;
+    untouched = spares_outs s commit s.intake v [] r reads.untouched;
+    only = front_calls step s (given_by_reads s (record s { commit = commit }) trusted false) (record s { commit = commit }) is_front;
   };
 }
 

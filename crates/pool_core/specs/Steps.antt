@@ -1,13 +1,14 @@
 -- What a step of a core is.
-use Rattle.std.specs.Prelude.{ℕ, ◌≡◌, List, [], ◌∷◌, Contains, Bool, true, false, Option, Some, None}
+use Rattle.std.specs.Prelude.{ℕ, ◌≡◌, List, [], ◌∷◌, Contains, map, Bool, true, false, Option, Some, None}
+use Rattle.model_disk.specs.Joint.{calls_on}
 use Rattle.raidz_io.specs.Reads.{IsHonestSince}
 use Rattle.pool_model.specs.declared.step.Step.{Step}
-use Rattle.pool_model.specs.declared.step.Step.TheVariants.{Release, Read, ReadUnder}
+use Rattle.pool_model.specs.declared.step.Step.TheVariants.{Device, Release, Read, ReadUnder}
 use Rattle.pool_model.specs.declared.step.Reply.{Reply}
 use Rattle.pool_model.specs.declared.step.Reply.TheVariants.{Planned, Committed}
-use Rattle.pool_model.specs.View.{View, Given, DueCall, disks_in_use, is_suspended}
+use Rattle.pool_model.specs.View.{View, Given, DueCall, is_away, disks_in_use, is_suspended}
 use Rattle.pool_model.specs.Machine.{StepOf}
-use Rattle.pool_commit.specs.Calls.{made_between, faults_between, unread_between, IsFlushed}
+use Rattle.pool_commit.specs.Calls.{made_between, faults_between, unread_between, called_between, IsFlushed}
 use Rattle.pool_commit.specs.Room.{LacksRoom}
 use Rattle.pool_core.specs.State.{CoreState, disks_of}
 use Rattle.pool_core.specs.Represents.{Represents}
@@ -40,12 +41,23 @@ abbrev pub AreFlushed : Reply → View → CoreState → Type 0
 AreFlushed (Committed group) w new = (disk : ℕ) → Contains (disks_in_use w) disk → IsFlushed (disks_of new) disk
 AreFlushed reply w new = Unit {0}
 
+-- no disk that is away is called
+abbrev pub AwayIsUntouched : CoreState → View → CoreState → Type 0
+AwayIsUntouched old v new = (disk : ℕ) → is_away v disk ≡ true → calls_on disk (disks_of new).calls ≡ calls_on disk (disks_of old).calls
+
+-- no disk is called but by the writes and flushes that are made; so a Device step reads nothing
+abbrev pub OnlyWritesAndFlushes : Step → CoreState → Given → CoreState → Type 0
+OnlyWritesAndFlushes Device old given new = called_between (disks_of old) (disks_of new) ≡ map (λ call. call.disk) given.made
+OnlyWritesAndFlushes step old given new = Unit {0}
+
 -- from core state and view: the step and its reply lead to this core state and this view
 pub record Link (old : CoreState) (v : View) (step : Step) (given : Given) (reply : Reply) (new : CoreState) (w : View) : Type 0 where
   pub is_given : IsGiven old new given
   pub is_step : StepOf v given step reply w
   pub represents : Represents new w
   pub flushed : AreFlushed reply w new
+  pub untouched : AwayIsUntouched old v new
+  pub only : OnlyWritesAndFlushes step old given new
 
 -- so it is with some given, which is trusted where the answers of the disks are known to be true
 pub record Goes (old : CoreState) (v : View) (trusted : Bool) (step : Step) (reply : Reply) (new : CoreState) : Type 0 where

@@ -18,7 +18,7 @@ pub returns-in-Some-Moved-clause-goes : goal.returns-in-Some-Moved-clause-goes
 returns-in-Some-Moved-clause-goes g c v trusted r free honest plans =
     let p = c.in-Some-Moved.ensures.some v r.backs (group_low c.args.self.now.intake v r.follows) in
     moves (state_of c.args.self.now) (commit_state c.device.new.self) v trusted c.in-Some-Moved.phase r free
-    (subst (λ (x : Progress). Progresses (commit_state c.args.self.now.commit) x (commit_state c.device.new.self) v) c.in-Some-Moved.field-0-is p.1)
+    (subst (λ (x : Progress). Progresses (commit_state c.args.self.now.commit) x (commit_state c.device.new.self) v) c.in-Some-Moved.field-0-is p.1) c.in-Some-Moved.ensures.grew
 
 pub returns-in-Some-Done-clause-goes : goal.returns-in-Some-Done-clause-goes
 returns-in-Some-Done-clause-goes g c v trusted r free honest plans =
@@ -27,10 +27,10 @@ returns-in-Some-Done-clause-goes g c v trusted r free honest plans =
     let both = c.commit_group.ensures.committed v r.follows (ap is_syncing done.1) in
     subst (λ commit. Goes (state_of c.args.self.now) v trusted steps.Device c.commit_group.result (record { intake = c.commit_group.new.self.intake; commit = commit_state commit })) (sym c.commit_group.ensures.commit)
     (commits (state_of c.args.self.now) c.commit_group.new.self.intake (commit_state c.device.new.self) v trusted c.commit_group.result r
-    free done both.0 both.1)
+    free done c.in-Some-Done.ensures.grew both.0 both.1)
 
 pub returns-in-Some-Dropped-clause-goes : goal.returns-in-Some-Dropped-clause-goes
 returns-in-Some-Dropped-clause-goes g c v trusted r free honest plans =
     let p = c.in-Some-Dropped.ensures.some v r.backs (group_low c.args.self.now.intake v r.follows) in
     drops (state_of c.args.self.now) (commit_state c.device.new.self) v trusted c.in-Some-Dropped.disk c.replan.result r free
-    (subst (λ (x : Progress). Progresses (commit_state c.args.self.now.commit) x (commit_state c.device.new.self) v) c.in-Some-Dropped.field-0-is p.1) c.replan.ensures
+    (subst (λ (x : Progress). Progresses (commit_state c.args.self.now.commit) x (commit_state c.device.new.self) v) c.in-Some-Dropped.field-0-is p.1) c.in-Some-Dropped.ensures.grew c.replan.ensures

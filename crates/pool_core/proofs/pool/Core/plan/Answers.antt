@@ -8,7 +8,7 @@ use Rattle.pool_now.specs.GoodChanges.{MakesGoodVolumes}
 use Rattle.pool_commit.specs.StateOf.{state_of as commit_state}
 use Rattle.pool_core.specs.StateOf.{state_of}
 use Rattle.pool_core.proofs.Fronting.{refused}
-use Rattle.pool_core.proofs.Phases.{plan_planned, backs_taken, plans, plan_refused, group_after, group_low, takes_none}
+use Rattle.pool_core.proofs.Phases.{plan_planned, backs_taken, plan_spares, plans, plan_refused, group_after, group_low, takes_none}
 use Rattle.pool_core.proofs.pool.Core.plan.Goals as goal
 
 pub returns-then-is_planned-clause-goes : goal.returns-then-is_planned-clause-goes
@@ -36,7 +36,7 @@ returns-in-Ok-plan-clause-goes g c timestamp v trusted r free honest plans_trust
     let planned = c.in-Ok-plan.ensures.planned (taken v Unplanned) backed refl low (c.in-Some.ensures.items (taken v Unplanned) begun.1) (honest (plans_trust tt)) in
     plans (state_of c.args.self.now) c.begin_sync.new.self (commit_state c.plan.new.self) v trusted timestamp c.saturating_add.result planned.0 begun.0 begun.1
     (let committed = c.committed_group.ensures (taken v Unplanned) begun.1 in let added = c.saturating_add.ensures in group_after c.committed_group.result v.committed c.saturating_add.result committed low added)
-    planned.1 planned.2 c.in-Ok-plan.ensures.reads
+    planned.1 planned.2 c.in-Ok-plan.ensures.reads (plan_spares (state_of c.args.self.now) (commit_state c.plan.new.self) c.begin_sync.new.self v r c.in-Ok-plan.ensures.untouched)
 
 pub returns-in-Err-plan-clause-goes : goal.returns-in-Err-plan-clause-goes
 returns-in-Err-plan-clause-goes g c timestamp v trusted r free honest plans_trust =
@@ -49,6 +49,7 @@ returns-in-Err-plan-clause-goes g c timestamp v trusted r free honest plans_trus
     let why = c.in-Err-plan.ensures.refused (taken v Unplanned) backed refl low items good in
     let after = c.in-Err-plan.ensures.unplanned (taken v Unplanned) backed refl in
     plan_refused (state_of c.args.self.now) c.begin_sync.new.self (commit_state c.plan.new.self) v trusted timestamp c.in-Err-plan.refusal c.named.result c.named.ensures begun.0 begun.1 after c.in-Err-plan.ensures.reads
+    (plan_spares (state_of c.args.self.now) (commit_state c.plan.new.self) c.begin_sync.new.self v r c.in-Err-plan.ensures.untouched)
     honest c.in-Err-plan.ensures.full why
 
 pub plan-requires : goal.plan-requires
