@@ -1,5 +1,5 @@
 //! The committed half of a core.
-ghost use Rattle.std.specs.Prelude.{ℕ, List, ◌≡◌, ◌⊎◌, ◌<◌, ◌≤◌, ◌+◌, ◌-◌, ◌^◌, ◌++◌, not, filter, length, map, slice_get, Some, is_some, OnOk, IfOk, IfErr, IsTrue, nat_le};
+ghost use Rattle.std.specs.Prelude.{ℕ, List, ◌≡◌, ◌⊎◌, ◌<◌, ◌≤◌, ◌+◌, ◌-◌, ◌^◌, ◌++◌, not, filter, length, map, slice_get, Some, None, is_some, false, OnOk, IfOk, IfErr, IsTrue, nat_le};
 ghost use Rattle.model_disk.specs.Joint.{calls_on, log_of};
 ghost use Rattle.block_store.specs.declared.shape.VdevShape.{VdevShape as ShapeOf};
 ghost use Rattle.block_store.specs.Config.{AreShapes, IsFewVdevs};
@@ -64,6 +64,7 @@ impl<D: Disk + Drop> Commit<D> {
     /// Whether the group that is synced has a plan.
     pub fn is_planned(&self) -> bool
         ensures planned { result ≡ is_some self.now.planned }
+        ensures unplanned { result ≡ false → self.now.planned ≡ None }
         ensures view { (v : View) → Backs (state_of self.now) v → result ≡ is_planned v.sync }
     {
         self.planned.is_some()

@@ -461,6 +461,9 @@ fn plan_cause(
     group: u64,
 ) -> Result<(Option<pool_commit::Refusal>, bool), Fail> {
     let items = items_of(alloc, group)?;
+    if commit.is_planned() {
+        return Ok((None, false));
+    }
     let cause = commit.plan(alloc, items.open_items()).err();
     Ok((cause, is_done(commit)))
 }
