@@ -1,5 +1,5 @@
 -- Refusals and disks that are out.
-use Rattle.std.proofs.Common.{◌≡◌, ⊎_elim, inl, inr, ℕ, List, [], ◌∷◌, Bool, Option, Some, None, refl, sym, ap, subst}
+use Rattle.std.proofs.Common.{◌≡◌, ⊎_elim, inl, inr, ℕ, List, [], ◌∷◌, Bool, Option, Some, None, refl, sym, ap, ◌∙◌, subst}
 use Rattle.std.specs.Prelude.{◌==◌, ◌||◌}
 use Rattle.pool_model.specs.declared.step.Phase.{Phase}
 use Rattle.pool_model.specs.declared.step.Step.{Step}
@@ -8,9 +8,9 @@ use Rattle.pool_model.specs.declared.step.Reply.{Reply}
 use Rattle.pool_model.specs.declared.step.Reply.TheVariants.{Refused}
 use Rattle.pool_model.specs.View.{View, Given, DueCall, is_fault_on}
 use Rattle.pool_model.specs.Refusals.{refusal_of}
-use Rattle.pool_model.specs.Machine.{due, Granted, StepOf, Run}
+use Rattle.pool_model.specs.Machine.{Granted, StepOf, Run}
 use Rattle.pool_model.specs.Headline.{IsRightlyAnswered, RightlyAnswered, OutsBy, OutsMove}
-use Rattle.pool_model.proofs.Moves.{NoFault, EachMove, by_move}
+use Rattle.pool_model.proofs.Moves.{NoFault, IsFaultOn, EachMove, by_move}
 
 granted_rightly : (v : View) (given : Given) (step : Step) (reply : Reply) (w : View) → refusal_of v step ≡ None → Granted v given step reply w → IsRightlyAnswered v given step reply w
 granted_rightly v given step (Refused cause) w n g = inr (inr (n, g))
@@ -37,16 +37,16 @@ stays_out out Device given e = λ disk. ap (λ (fault : Option DueCall). is_faul
 stays_out out (Hold writer) given e = λ disk. refl
 stays_out out step given e = λ disk. refl
 
-goes_out : (out : ℕ → Bool) (given : Given) (disk : ℕ) (phase : Phase) → given.fault ≡ Some (due phase disk) → OutsBy out Device given (λ d. (d == disk) || out d)
-goes_out out given disk phase e = λ d. ap (λ (fault : Option DueCall). is_fault_on fault d || out d) (sym e)
+goes_out : (out : ℕ → Bool) (given : Given) (disk : ℕ) → IsFaultOn given disk → OutsBy out Device given (λ d. (d == disk) || out d)
+goes_out out given disk e = λ d. sym (ap (λ (fault : Option DueCall). is_fault_on fault d || out d) e.1 ∙ ap (λ (on : ℕ). (d == on) || out d) e.2)
 
 out_moves : EachMove (λ v given step reply w. OutsBy v.out step given w.out)
 out_moves = record {
   stays = λ v given step cause may e. stays_out v.out step given e;
   begun = λ v given t cause is d. refl;
   again = λ v given t cause is d. refl;
-  failed = λ v given disk left phase e. goes_out v.out given disk phase e;
-  replanned = λ v given disk left phase e. goes_out v.out given disk phase e;
+  failed = λ v given disk left e. goes_out v.out given disk e;
+  replanned = λ v given disk left e. goes_out v.out given disk e;
   moved = λ v given phase left rest e. stays_out v.out Device given e;
   read = λ v given name offset len bytes a d. refl;
   read_under = λ v given g name offset len bytes e a d. refl;

@@ -42,8 +42,8 @@ move_moves = record {
   stays = λ v given step cause may e. refused_moves (counters_of v) step cause may;
   begun = λ v given t cause is. plan_takes (counters_of (record v { sync = Idle; waiting = Some QuiescedStage })) t cause (counters_of (record v { sync = Unplanned; waiting = None })) is (record { quiesced = omega arith; unplanned = refl; taken = refl });
   again = λ v given t cause is. plan_takes (counters_of (record v { sync = Unplanned })) t cause (counters_of (record v { sync = Unplanned })) is (record { quiesced = unplanned_low v; unplanned = refl; taken = refl });
-  failed = λ v given disk left phase e. inr (refl, refl);
-  replanned = λ v given disk left phase e. (refl, refl);
+  failed = λ v given disk left e. inr (refl, refl);
+  replanned = λ v given disk left e. (refl, refl);
   moved = λ v given phase left rest e. (refl, refl);
   read = λ v given name offset len bytes a. refl;
   read_under = λ v given g name offset len bytes k a. refl;
@@ -96,8 +96,8 @@ commit_moves = record {
   stays = λ v given step cause may e replies last h k. (h, k);
   begun = λ v given t cause is replies last h k. (h, k);
   again = λ v given t cause is replies last h k. (h, k);
-  failed = λ v given disk left phase e replies last h k. (h, k);
-  replanned = λ v given disk left phase e replies last h k. (h, k);
+  failed = λ v given disk left e replies last h k. (h, k);
+  replanned = λ v given disk left e replies last h k. (h, k);
   moved = λ v given phase left rest e replies last h k. (h, k);
   read = λ v given name offset len bytes a replies last h k. (h, k);
   read_under = λ v given g name offset len bytes e a replies last h k. (h, k);

@@ -12,10 +12,10 @@ use Rattle.pool_model.specs.declared.step.Step.TheVariants.{Hold, Write as Write
 use Rattle.pool_model.specs.declared.step.Reply.{Reply}
 use Rattle.pool_model.specs.declared.step.Reply.TheVariants.{Held, Receipt, Released, Closed, Quiesced, Planned, Moved, Replan, Committed, Bytes, Refused}
 use Rattle.pool_model.specs.declared.refusal.Refusal.{Refusal}
-use Rattle.pool_model.specs.declared.refusal.Refusal.TheVariants.{NoMemory, NoSpace, Suspended, NotNow}
+use Rattle.pool_model.specs.declared.refusal.Refusal.TheVariants.{NoMemory, DiskFault, NoSpace, Suspended, NotNow, BadPointer, BadDigest, BadMap}
 use Rattle.pool_model.specs.View.{View, Given, DueCall, Sync, Idle, Unplanned, Left, is_syncing, is_planned, is_quiesced, is_suspended, waiting_group, open_group, is_kept, hold_group, is_held, now_of}
 use Rattle.pool_model.specs.Refusals.{greatest, first_cause, may_plan, refusal_of}
-use Rattle.pool_model.specs.Machine.{with_hold, without_hold, took, taken, left_waiting, dropped, committed_next, due, IsQuiet, IsReadCause, IsUnreadable, MayLack, without_memory, AreBytesOf, Granted, StepOf}
+use Rattle.pool_model.specs.Machine.{with_hold, without_hold, took, taken, left_waiting, dropped, committed_next, IsQuiet, IsUnreadable, MayLack, without_memory, AreBytesOf, Granted, StepOf}
 use Rattle.pool_model.proofs.Causes.{or_none, none_of, first_none, not_false, write_none, act_none, act_open, closed_below, quiescing}
 
 -- a Plan that is refused leaves its group taken, unless the pool is suspended or no group is due
@@ -34,13 +34,17 @@ abbrev pub NoFault : Step → Given → Type 0
 NoFault Device given = given.fault ≡ None
 NoFault step given = Unit {0}
 
+-- the one call that failed was on this disk
+abbrev pub IsFaultOn : Given → ℕ → Type 0
+IsFaultOn given disk = (call : DueCall) × (given.fault ≡ Some call) × (call.disk ≡ disk)
+
 -- a property of steps, proved of each way to go on
 pub record EachMove (P : View → Given → Step → Reply → View → Type 0) : Type 0 where
   pub stays : (v : View) (given : Given) (step : Step) (cause : Refusal) → MayStay step cause → NoFault step given → P v given step (Refused cause) v
   pub begun : (v : View) (given : Given) (timestamp : ℕ) (cause : Refusal) → IsPlanFault cause → P (record v { sync = Idle; waiting = Some QuiescedStage }) given (Plan timestamp) (Refused cause) (record v { sync = Unplanned; waiting = None })
   pub again : (v : View) (given : Given) (timestamp : ℕ) (cause : Refusal) → IsPlanFault cause → P (record v { sync = Unplanned }) given (Plan timestamp) (Refused cause) (record v { sync = Unplanned })
-  pub failed : (v : View) (given : Given) (disk : ℕ) (left : List DueCall) (phase : Phase) → given.fault ≡ Some (due phase disk) → P (record v { sync = Left left }) given Device (Refused Suspended) (dropped v disk)
-  pub replanned : (v : View) (given : Given) (disk : ℕ) (left : List DueCall) (phase : Phase) → given.fault ≡ Some (due phase disk) → P (record v { sync = Left left }) given Device (Replan disk) (dropped v disk)
+  pub failed : (v : View) (given : Given) (disk : ℕ) (left : List DueCall) → IsFaultOn given disk → P (record v { sync = Left left }) given Device (Refused Suspended) (dropped v disk)
+  pub replanned : (v : View) (given : Given) (disk : ℕ) (left : List DueCall) → IsFaultOn given disk → P (record v { sync = Left left }) given Device (Replan disk) (dropped v disk)
   pub moved : (v : View) (given : Given) (phase : Phase) (left rest : List DueCall) → given.fault ≡ None → P (record v { sync = Left left }) given Device (Moved phase) (record v { sync = Left rest })
   pub read : (v : View) (given : Given) (name : List ℕ) (offset len : ℕ) (bytes : List ℕ) → (given.trusted ≡ true → AreBytesOf (now_of v) name offset len bytes) → P v given (Read name offset len) (Bytes bytes) v
   pub read_under : (v : View) (given : Given) (group : ℕ) (name : List ℕ) (offset len : ℕ) (bytes : List ℕ) → is_kept v group ≡ true → (given.trusted ≡ true → AreBytesOf (v.pools group) name offset len bytes) → P v given (ReadUnder group name offset len) (Bytes bytes) v
@@ -110,14 +114,16 @@ no_fault Device given quiet = quiet.fault
 no_fault (Hold writer) given quiet = tt
 no_fault step given quiet = tt
 
-read_cause : (cause : Refusal) → IsReadCause cause → IsPlanFault cause
-read_cause cause is =
-    ⊎_elim (λ e. subst IsPlanFault (sym e) tt)
-    (λ d. ⊎_elim (λ e. subst IsPlanFault (sym e) tt) (λ d. ⊎_elim (λ e. subst IsPlanFault (sym e) tt) (λ e. subst IsPlanFault (sym e) tt) d) d) is
+read_fault : (v : View) (given : Given) (cause : Refusal) → IsUnreadable v given cause → IsPlanFault cause
+read_fault v given DiskFault is = tt
+read_fault v given BadPointer is = tt
+read_fault v given BadDigest is = tt
+read_fault v given BadMap is = tt
+read_fault v given cause is = absurd is
 
 -- a plan that can't read what it needs, or finds no room
 plan_fault : (v : View) (given : Given) (cause : Refusal) → IsUnreadable v given cause ⊎ ((cause ≡ NoSpace) × (given.full ≡ true)) → IsPlanFault cause
-plan_fault v given cause h = ⊎_elim (λ r. read_cause cause r.0) (λ r. subst IsPlanFault (sym r.0) tt) h
+plan_fault v given cause h = ⊎_elim (λ r. read_fault v given cause r) (λ r. subst IsPlanFault (sym r.0) tt) h
 
 -- at a plan of which these calls are left
 at_left : (P : View → Given → Step → Reply → View → Type 0) (v : View) (given : Given) (step : Step) (reply : Reply) (w : View) (left : List DueCall) → v.sync ≡ Left left → P (record v { sync = Left left }) given step reply w → P v given step reply w
@@ -166,10 +172,10 @@ grants P m v given Device (Moved phase) w n g =
 grants P m v given Device (Committed group) w n g =
     subst (P v given Device (Committed group)) (sym g.5) (subst (λ k. P v given Device (Committed k) (committed_next v)) (sym g.0) (at_left P v given Device (Committed (suc v.committed)) (committed_next v) g.1 g.2 (m.committed v given g.1 g.4)))
 grants P m v given Device (Replan disk) w n g =
-    subst (P v given Device (Replan disk)) (sym g.2) (at_left P v given Device (Replan disk) (dropped v disk) g.0.left g.0.planned (m.replanned v given disk g.0.left g.0.phase g.0.fault))
+    subst (P v given Device (Replan disk)) (sym g.2) (at_left P v given Device (Replan disk) (dropped v disk) g.0.left g.0.planned (m.replanned v given disk g.0.left (g.0.call, g.0.fault, g.0.on)))
 grants P m v given Device (Refused cause) w n g =
     subst (λ c. P v given Device (Refused c) w) (sym g.0)
-    (subst (P v given Device (Refused Suspended)) (sym g.4) (at_left P v given Device (Refused Suspended) (dropped v g.1) g.2.left g.2.planned (m.failed v given g.1 g.2.left g.2.phase g.2.fault)))
+    (subst (P v given Device (Refused Suspended)) (sym g.4) (at_left P v given Device (Refused Suspended) (dropped v g.1) g.2.left g.2.planned (m.failed v given g.1 g.2.left (g.2.call, g.2.fault, g.2.on))))
 grants P m v given (Read name offset len) (Bytes bytes) w n g = subst (P v given (Read name offset len) (Bytes bytes)) (sym g.1) (m.read v given name offset len bytes g.0)
 grants P m v given (Read name offset len) (Refused cause) w n g = subst (P v given (Read name offset len) (Refused cause)) (sym g.1) (m.stays v given (Read name offset len) cause tt tt)
 grants P m v given (ReadUnder group name offset len) (Bytes bytes) w n g =

@@ -31,8 +31,8 @@ flow_moves = record {
   stays = λ v given step cause may e. refused_flow (flow_of v) step cause may;
   begun = λ v given t cause is. plan_takes (flow_of (record v { sync = Idle; waiting = Some QuiescedStage })) t cause (flow_of (record v { sync = Unplanned; waiting = None })) is (inr (refl, refl, refl));
   again = λ v given t cause is. plan_takes (flow_of (record v { sync = Unplanned })) t cause (flow_of (record v { sync = Unplanned })) is (inl (refl, refl));
-  failed = λ v given disk left phase e. refl;
-  replanned = λ v given disk left phase e. refl;
+  failed = λ v given disk left e. refl;
+  replanned = λ v given disk left e. refl;
   moved = λ v given phase left rest e. refl;
   read = λ v given name offset len bytes a. refl;
   read_under = λ v given g name offset len bytes k a. refl;
@@ -60,8 +60,8 @@ first_moves = record {
   stays = λ v given step cause may e s. s;
   begun = λ v given t cause is s. s;
   again = λ v given t cause is s. s;
-  failed = λ v given disk left phase e s. s;
-  replanned = λ v given disk left phase e s. s;
+  failed = λ v given disk left e s. s;
+  replanned = λ v given disk left e s. s;
   moved = λ v given phase left rest e s. s;
   read = λ v given name offset len bytes a s. s;
   read_under = λ v given g name offset len bytes k a s. s;

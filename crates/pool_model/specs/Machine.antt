@@ -1,5 +1,5 @@
 -- The machine: what each step is answered, and what it changes.
-use Rattle.std.specs.Prelude.{◌≡◌, ◌⊎◌, ℕ, suc, ◌+◌, ◌≤◌, ◌<◌, List, [], ◌∷◌, ◌++◌, length, map, slice_range, Contains, Bool, true, false, IsTrue, Option, Some, None, filter, IsPermutation, ◌==◌, ◌||◌, if◌then◌else◌}
+use Rattle.std.specs.Prelude.{◌≡◌, ◌⊎◌, ℕ, suc, ◌+◌, ◌≤◌, ◌<◌, List, [], ◌∷◌, ◌++◌, length, map, slice_range, Contains, Bool, true, false, IsTrue, Option, Some, None, filter, not, IsPermutation, ◌==◌, ◌&&◌, ◌||◌, if◌then◌else◌}
 use Rattle.std.specs.List.{AllByRecursion}
 use Rattle.pool_model.specs.declared.group.Stage.{Stage}
 use Rattle.pool_model.specs.declared.group.Stage.TheVariants.{Quiescing, Quiesced as QuiescedStage}
@@ -15,7 +15,7 @@ use Rattle.pool_model.specs.declared.refusal.Refusal.{Refusal}
 use Rattle.pool_model.specs.declared.refusal.Refusal.TheVariants.{NoMemory, DiskFault, NoSpace, Suspended, BadPointer, BadDigest, BadMap}
 use Rattle.pool_model.specs.declared.volume.PlainVolume.{PlainVolume}
 use Rattle.pool_model.specs.Pools.{PlainPool, volume_at, applied}
-use Rattle.pool_model.specs.View.{View, Given, DueCall, Sync, Idle, Unplanned, Left, waiting_group, open_group, hold_group, now_of, is_suspended, is_readable, disks_in_use}
+use Rattle.pool_model.specs.View.{View, Vdev, Given, DueCall, Sync, Idle, Unplanned, Left, waiting_group, open_group, hold_group, now_of, is_suspended, is_missing, lost_in, counted, disks_in_use}
 use Rattle.pool_model.specs.Refusals.{refusal_of, takes_memory}
 use Rattle.pool_model.specs.Flow.{held_by, released_by, counted_on, ledger_took}
 
@@ -56,8 +56,11 @@ committed_next v = record v {
 
 -- ---- plans and device calls
 
-abbrev pub due : Phase → ℕ → DueCall
-due phase disk = record { disk = disk; phase = phase }
+abbrev pub due_write : ℕ → ℕ → DueCall
+due_write disk number = record { disk = disk; phase = Blocks; number = number }
+
+abbrev pub due_flush : ℕ → DueCall
+due_flush disk = record { disk = disk; phase = BlocksFlush; number = 0 }
 
 -- phases follow one another
 abbrev pub rank : Phase → ℕ
@@ -67,9 +70,14 @@ rank BlocksFlush = 1
 abbrev pub is_flush : DueCall → Bool
 is_flush call = rank call.phase == 1
 
--- a plan: writes to disks in use, and one flush of each disk in use
+-- the numbers of the writes to a disk
+abbrev pub numbers_on : ℕ → List DueCall → List ℕ
+numbers_on disk calls = map (λ call. call.number) (filter (λ call. not (is_flush call) && (call.disk == disk)) calls)
+
+-- a plan: writes to disks in use, of each disk numbered from 0 on, and one flush of each disk in use
 pub record IsPlan (v : View) (calls : List DueCall) : Type 0 where
   pub in_use : AllByRecursion (λ call. Contains (disks_in_use v) call.disk) calls
+  pub numbered : (disk : ℕ) → IsPermutation (numbers_on disk calls) (counted 0 (length (numbers_on disk calls)))
   pub flushes : IsPermutation (map (λ call. call.disk) (filter is_flush calls)) (disks_in_use v)
 
 -- one to four calls of those left, in one phase, and none of an earlier phase was left
@@ -89,11 +97,12 @@ pub record FailsOn (v : View) (given : Given) (disk : ℕ) : Type 0 where
   pub left : List DueCall
   pub rest : List DueCall
   pub before : List DueCall
-  pub phase : Phase
+  pub call : DueCall
+  pub on : call.disk ≡ disk
   pub planned : v.sync ≡ Left left
-  pub last : given.made ≡ before ++ due phase disk ∷ []
-  pub makes : Makes left given.made rest phase
-  pub fault : given.fault ≡ Some (due phase disk)
+  pub last : given.made ≡ before ++ call ∷ []
+  pub makes : Makes left given.made rest call.phase
+  pub fault : given.fault ≡ Some call
 
 -- nothing was written or flushed
 pub record IsQuiet (given : Given) : Type 0 where
@@ -114,13 +123,23 @@ MayCall step given = IsQuiet given × (given.unread ≡ [])
 abbrev pub AreBytesOf : PlainPool → List ℕ → ℕ → ℕ → List ℕ → Type 0
 AreBytesOf pool name offset len bytes = (volume : PlainVolume) × (volume_at name pool ≡ Some volume) × (bytes ≡ slice_range volume.bytes offset (offset + len))
 
--- a block can't be read: its columns are lost, or it is not what its pointer tells
+-- the causes that only reading has
 abbrev pub IsReadCause : Refusal → Type 0
 IsReadCause cause = (cause ≡ DiskFault) ⊎ ((cause ≡ BadPointer) ⊎ ((cause ≡ BadDigest) ⊎ (cause ≡ BadMap)))
 
--- so it is answered only where a vdev misses more disks than it has parities, or a disk's answer may be false
+-- in this step one of the vdevs misses more disks than it has parities
+pub record MissesTooMany (v : View) (given : Given) (vdev : Vdev) : Type 0 where
+  pub there : Contains v.vdevs vdev
+  pub more : vdev.parity < lost_in (is_missing v given) vdev.first vdev.children
+
+-- A block that had to be read can't be: the vdev of its last copy misses too many disks; or the block is not what its
+-- pointer tells, which is never so where the disks answer truly.
 abbrev pub IsUnreadable : View → Given → Refusal → Type 0
-IsUnreadable v given cause = IsReadCause cause × ((is_readable v given ≡ false) ⊎ (given.trusted ≡ false))
+IsUnreadable v given DiskFault = (vdev : Vdev) × (given.lost_on ≡ Some vdev) × MissesTooMany v given vdev
+IsUnreadable v given BadPointer = given.trusted ≡ false
+IsUnreadable v given BadDigest = given.trusted ≡ false
+IsUnreadable v given BadMap = given.trusted ≡ false
+IsUnreadable v given cause = ⊥
 
 -- what a step against which the view has nothing may be answered, and what it then changes
 abbrev pub Granted : View → Given → Step → Reply → View → Type 0

@@ -14,10 +14,12 @@ pub record Vdev : Type 0 where
   pub children : ℕ
   pub parity : ℕ
 
--- a device call that a plan has yet to make
+-- A device call that a plan has yet to make. The plan's writes to a disk are numbered from 0 on, through all phases; a
+-- flush has the number 0.
 pub record DueCall : Type 0 where
   pub disk : ℕ
   pub phase : Phase
+  pub number : ℕ
 
 -- the group after the committed one isn't synced; is synced and has no plan; has one, of which these calls are left
 pub data Sync : Type 0 where
@@ -124,12 +126,13 @@ pub record Given : Type 0 where
   pub made : List DueCall  -- the writes and flushes that were made, in order
   pub fault : Option DueCall  -- the last of them, where it failed
   pub unread : List ℕ  -- the disks that failed a read, in order
+  pub lost_on : Option Vdev  -- the vdev of the last copy of a block that had to be read, and could not be
   pub trusted : Bool  -- whether what the disks answered is known to be true
   pub full : Bool  -- whether some block of a plan found no free run of its size where it may go
 
 -- no disk was called
 abbrev pub nothing_given : Given
-nothing_given = record { made = []; fault = None; unread = []; trusted = true; full = false }
+nothing_given = record { made = []; fault = None; unread = []; lost_on = None; trusted = true; full = false }
 
 -- the disks that are missing for a step: away, or failing a read in it
 abbrev pub is_missing : View → Given → ℕ → Bool
@@ -139,10 +142,6 @@ is_missing v given disk = is_away v disk || list_any (λ d. d == disk) given.unr
 abbrev pub is_fault_on : Option DueCall → ℕ → Bool
 is_fault_on None disk = false
 is_fault_on (Some call) disk = disk == call.disk
-
--- what was written can be read in this step, as each vdev has no more missing disks than parities
-abbrev pub is_readable : View → Given → Bool
-is_readable v given = is_tolerable v.vdevs (is_missing v given)
 
 abbrev pub disks_in_use : View → List ℕ
 disks_in_use v = filter (λ disk. not (is_away v disk)) (disks_of v.vdevs)
