@@ -188,7 +188,7 @@ pub planned_step : (v : View) (timestamp group : ℕ) → v.vdevs ≡ [] → ref
 planned_step v timestamp group e none g = inr (inr (record { none = none; granted = (g, [], empty, refl); calls = may_nothing (Plan timestamp) }))
   where
     empty : IsPlan v []
-    empty = record { in_use = tt; flushes = same_elements [] (disks_in_use v) (sym (ap (λ (vdevs : List Vdev). filter (λ disk. not (is_away v disk)) (disks_of vdevs)) e)) }
+    empty = record { in_use = tt; numbered = λ disk. same_elements [] [] refl; flushes = same_elements [] (disks_in_use v) (sym (ap (λ (vdevs : List Vdev). filter (λ disk. not (is_away v disk)) (disks_of vdevs)) e)) }
 
 pub with_plan : (m : Machine) (v : View) (pool : PlainPool) → Represents m (taken v Unplanned) → pool ≡ upto v.committed (v.pools v.committed) v.ledger (suc v.committed) → Represents (record m { planned = Some pool }) (taken v (Left []))
 with_plan m v pool r e = record {

@@ -92,12 +92,13 @@ flushed_still old new disk reads is = record {
 plan_stays : (s : State) (store : Store) (planned : Contents) (plan : Option Planned) (v : View) → store.due ≡ s.store.due → store.out ≡ s.store.out → OnlyReads s.store.disks store.disks
     → IsPlanOf s planned plan v → IsPlanOf (record s { store = store }) planned plan v
 plan_stays s store planned None v due out reads is = is
-plan_stays s store planned (Some plan) v due out reads is = (
-  is.0 ∙ ap (λ (writes : List ColumnWrite). Left (left_calls writes plan.flushes.items)) (sym due),
-  is.1,
-  λ disk in_use. ⊎_elim inl (λ flushed. inr (due ∙ flushed.0, flushed_still s.store.disks store.disks disk reads flushed.1)) (is.2 disk in_use),
-  subst (λ (p : List Bool × List ColumnWrite). AllByRecursion (λ (call : DueCall). is_out p.0 call.disk ≡ false) (left_calls p.1 plan.flushes.items)) (λ i. (sym out i, sym due i)) is.3,
-)
+plan_stays s store planned (Some plan) v due out reads is = record {
+  counts = is.counts;
+  sync = is.sync ∙ ap (λ (writes : List ColumnWrite). Left (left_calls is.counts writes plan.flushes.items)) (sym due);
+  spells = is.spells;
+  to_flush = λ disk in_use. ⊎_elim inl (λ flushed. inr (due ∙ flushed.0, flushed_still s.store.disks store.disks disk reads flushed.1)) (is.to_flush disk in_use);
+  in_use = subst (λ (p : List Bool × List ColumnWrite). AllByRecursion (λ (call : DueCall). is_out p.0 call.disk ≡ false) (left_calls is.counts p.1 plan.flushes.items)) (λ i. (sym out i, sym due i)) is.in_use;
+}
 
 backs_after : (s : State) (store : Store) (missing : List ℕ) (v : View) → OnlyReadsBlocks s.store store missing → Backs s v → Backs (record s { store = store }) v
 backs_after s store missing v reads backs = record {

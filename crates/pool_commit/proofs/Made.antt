@@ -8,14 +8,14 @@ use Rattle.std.proofs.Common.{Result, Ok, Err, is_ok}
 use Rattle.model_disk.specs.Call.{Call, is_failed, write_call, flush_call}
 use Rattle.raidz_io.proofs.Calls.{Contains-cases}
 use Rattle.raidz_io.specs.declared.writes.ColumnWrite.{ColumnWrite}
-use Rattle.pool_model.specs.declared.step.Phase.TheVariants as phases
 use Rattle.model_disk.specs.Joint.{Disks, JointCall, on}
 use Rattle.block_store.specs.Plans.{KeepsPlans}
 use Rattle.block_store.specs.Store.{Store, IsOutToo}
 use Rattle.pool_model.specs.declared.step.Phase.{Phase}
 use Rattle.pool_model.specs.View.{DueCall}
-use Rattle.pool_model.specs.Machine.{due}
-use Rattle.pool_commit.specs.Calls.{due_call, fault_call, unread_call, told_since, made_between, faults_between, unread_between, GrewTo, IsWrite, IsFlushed, which_call, called_between}
+use Rattle.pool_model.specs.Flow.{counted_on}
+use Rattle.pool_model.specs.Machine.{due_write, due_flush}
+use Rattle.pool_commit.specs.Calls.{disk_call, plan_call, fault_call, unread_call, told_since, made_between, faults_between, unread_between, GrewTo, IsWrite, IsFlushed, which_call, called_between}
 use Rattle.pool_commit.specs.Making.{writes_left, IsSameStore, MadeCalls, FailedCall, FlushesMove}
 
 late : (m n : ℕ) → m ≤ n → nat_le m n ≡ true
@@ -48,7 +48,7 @@ pub told_by_none : {A : Type 0} (tells : ℕ → Call → List A) (disks : Disks
 told_by_none tells disks = told_none tells (length disks.calls) disks.calls (omega arith)
 
 pub made_by_none : (disks : Disks) → made_between disks disks ≡ []
-made_by_none disks = told_by_none due_call disks
+made_by_none disks = told_by_none plan_call disks
 
 -- one call more
 told_more : {A : Type 0} (tells : ℕ → Call → List A) (old mid new : Disks) (disk : ℕ) (call : Call) → GrewTo old mid → new.calls ≡ on disk call ∷ mid.calls
@@ -58,130 +58,130 @@ told_more tells old mid new disk call grew calls =
     ∙ ap (λ b. told_since tells (length old.calls) mid.calls ++ (if b then tells disk call else [])) (late (length old.calls) (length mid.calls) (GrewTo-length old mid grew))
 
 -- one call was made, which is due
-pub record MadeOne (mid new : Store) (phase : Phase) (disk : ℕ) (call : Call) : Type 0 where
+pub record MadeOne (mid new : Store) (next : DueCall) (call : Call) : Type 0 where
   pub starts : new.disks.starts ≡ mid.disks.starts
-  pub calls : new.disks.calls ≡ on disk call ∷ mid.disks.calls
+  pub calls : new.disks.calls ≡ on next.disk call ∷ mid.disks.calls
   pub spaces : new.spaces ≡ mid.spaces
   pub plans : KeepsPlans mid new
-  pub is_due : due_call disk call ≡ due phase disk ∷ []
-  pub fault : fault_call disk call ≡ (if is_failed call then due phase disk ∷ [] else [])
-  pub no_read : unread_call disk call ≡ []
+  pub is_due : plan_call next.disk call ≡ disk_call next ∷ []
+  pub fault : fault_call next.disk call ≡ (if is_failed call then disk_call next ∷ [] else [])
+  pub no_read : unread_call next.disk call ≡ []
 
-same_more : (old mid new : Store) (phase : Phase) (disk : ℕ) (call : Call) → IsSameStore old mid → MadeOne mid new phase disk call → IsSameStore old new
-same_more old mid new phase disk call same made = record {
-  spaces = made.spaces ∙ same.spaces;
-  grew = GrewTo-more old.disks mid.disks new.disks (on disk call) same.grew made.starts made.calls;
-  plans = λ stored planned held. made.plans stored planned (same.plans stored planned held);
+same_more : (old mid new : Store) (next : DueCall) (call : Call) → IsSameStore old mid → MadeOne mid new next call → IsSameStore old new
+same_more old mid new next call same one = record {
+  spaces = one.spaces ∙ same.spaces;
+  grew = GrewTo-more old.disks mid.disks new.disks (on next.disk call) same.grew one.starts one.calls;
+  plans = λ stored planned held. one.plans stored planned (same.plans stored planned held);
 }
 
-made_so : (old mid new : Store) (phase : Phase) (disk : ℕ) (call : Call) → IsSameStore old mid → MadeOne mid new phase disk call
-    → made_between old.disks new.disks ≡ made_between old.disks mid.disks ++ due phase disk ∷ []
-made_so old mid new phase disk call same made =
-    told_more due_call old.disks mid.disks new.disks disk call same.grew made.calls ∙ ap (λ xs. made_between old.disks mid.disks ++ xs) made.is_due
+map_snoc : {A : Type 0} (f : DueCall → A) (calls : List DueCall) (call : DueCall) → map f (calls ++ call ∷ []) ≡ map f calls ++ f call ∷ []
+map_snoc f [] call = refl
+map_snoc f (first ∷ calls) call = ap (λ xs. f first ∷ xs) (map_snoc f calls call)
 
-unread_so : (old mid new : Store) (phase : Phase) (disk : ℕ) (call : Call) → IsSameStore old mid → MadeOne mid new phase disk call
+seen_so : (old mid new : Store) (next : DueCall) (call : Call) (made : List DueCall) → IsSameStore old mid → MadeOne mid new next call → map disk_call made ≡ made_between old.disks mid.disks
+    → map disk_call (made ++ next ∷ []) ≡ made_between old.disks new.disks
+seen_so old mid new next call made same one seen =
+    map_snoc disk_call made next ∙ ap (λ xs. xs ++ disk_call next ∷ []) seen
+    ∙ sym (told_more plan_call old.disks mid.disks new.disks next.disk call same.grew one.calls ∙ ap (λ xs. made_between old.disks mid.disks ++ xs) one.is_due)
+
+unread_so : (old mid new : Store) (next : DueCall) (call : Call) → IsSameStore old mid → MadeOne mid new next call
     → unread_between old.disks mid.disks ≡ [] → unread_between old.disks new.disks ≡ []
-unread_so old mid new phase disk call same made none =
-    told_more unread_call old.disks mid.disks new.disks disk call same.grew made.calls
-    ∙ ap (λ xs. unread_between old.disks mid.disks ++ xs) made.no_read ∙ append-nil (unread_between old.disks mid.disks) ∙ none
+unread_so old mid new next call same one none =
+    told_more unread_call old.disks mid.disks new.disks next.disk call same.grew one.calls
+    ∙ ap (λ xs. unread_between old.disks mid.disks ++ xs) one.no_read ∙ append-nil (unread_between old.disks mid.disks) ∙ none
 
-map_snoc : (calls : List DueCall) (call : DueCall) → map (λ (c : DueCall). c.disk) (calls ++ call ∷ []) ≡ map (λ (c : DueCall). c.disk) calls ++ call.disk ∷ []
-map_snoc [] call = refl
-map_snoc (first ∷ calls) call = ap (λ xs. first.disk ∷ xs) (map_snoc calls call)
-
-called_so : (old mid new : Store) (phase : Phase) (disk : ℕ) (call : Call) → IsSameStore old mid → MadeOne mid new phase disk call
-    → called_between old.disks mid.disks ≡ map (λ (c : DueCall). c.disk) (made_between old.disks mid.disks)
-    → called_between old.disks new.disks ≡ map (λ (c : DueCall). c.disk) (made_between old.disks new.disks)
-called_so old mid new phase disk call same made before =
-    told_more which_call old.disks mid.disks new.disks disk call same.grew made.calls
-    ∙ ap (λ xs. xs ++ disk ∷ []) before
-    ∙ sym (map_snoc (made_between old.disks mid.disks) (due phase disk))
-    ∙ sym (ap (map (λ (c : DueCall). c.disk)) (made_so old mid new phase disk call same made))
+called_so : (old mid new : Store) (next : DueCall) (call : Call) (made : List DueCall) → IsSameStore old mid → MadeOne mid new next call
+    → called_between old.disks mid.disks ≡ map (λ (c : DueCall). c.disk) made
+    → called_between old.disks new.disks ≡ map (λ (c : DueCall). c.disk) (made ++ next ∷ [])
+called_so old mid new next call made same one before =
+    told_more which_call old.disks mid.disks new.disks next.disk call same.grew one.calls
+    ∙ ap (λ xs. xs ++ next.disk ∷ []) before
+    ∙ sym (map_snoc (λ (c : DueCall). c.disk) made next)
 
 pub none_made : (store : Store) (left : List DueCall) (phase : Phase) → MadeCalls store store left left phase 0
-none_made store left phase =
-    let none : made_between store.disks store.disks ≡ [] = made_by_none store.disks in
-    record {
-      same = record { spaces = refl; grew = GrewTo-none store.disks; plans = λ stored planned held. held };
-      out = refl;
-      order = ap (λ xs. xs ++ left) (sym none);
-      count = ap length none;
-      in_phase = subst (AllByRecursion (λ (call : DueCall). call.phase ≡ phase)) (sym none) tt;
-      faults = told_by_none fault_call store.disks;
-      unread = told_by_none unread_call store.disks;
-      called = told_by_none which_call store.disks ∙ sym (ap (map (λ (c : DueCall). c.disk)) none);
-    }
+none_made store left phase = record {
+  same = record { spaces = refl; grew = GrewTo-none store.disks; plans = λ stored planned held. held };
+  out = refl;
+  made = [];
+  seen = sym (made_by_none store.disks);
+  order = refl;
+  count = refl;
+  in_phase = tt;
+  faults = told_by_none fault_call store.disks;
+  unread = told_by_none unread_call store.disks;
+  called = told_by_none which_call store.disks;
+}
 
 all_more : (P : DueCall → Type 0) (xs : List DueCall) (x : DueCall) → AllByRecursion P xs → P x → AllByRecursion P (xs ++ x ∷ [])
 all_more P [] x all p = (p, tt)
 all_more P (y ∷ ys) x all p = (all.0, all_more P ys x all.1 p)
 
-pub one_made : (old mid new : Store) (left rest : List DueCall) (phase : Phase) (n disk : ℕ) (call : Call)
-    → MadeCalls old mid left (due phase disk ∷ rest) phase n → MadeOne mid new phase disk call → is_failed call ≡ false → new.out ≡ mid.out
+pub one_made : (old mid new : Store) (left rest : List DueCall) (phase : Phase) (n : ℕ) (next : DueCall) (call : Call)
+    → MadeCalls old mid left (next ∷ rest) phase n → MadeOne mid new next call → next.phase ≡ phase → is_failed call ≡ false → new.out ≡ mid.out
     → MadeCalls old new left rest phase (n + 1)
-one_made old mid new left rest phase n disk call so made ok out =
-    let is = made_so old mid new phase disk call so.same made in
-    record {
-      same = same_more old mid new phase disk call so.same made;
-      out = out ∙ so.out;
-      order = so.order ∙ sym (append_assoc (made_between old.disks mid.disks) (due phase disk ∷ []) rest) ∙ ap (λ xs. xs ++ rest) (sym is);
-      count = ap length is ∙ length-append (made_between old.disks mid.disks) (due phase disk ∷ []) ∙ ap (λ k. k + 1) so.count;
-      in_phase = subst (AllByRecursion (λ (c : DueCall). c.phase ≡ phase)) (sym is)
-          (all_more (λ (c : DueCall). c.phase ≡ phase) (made_between old.disks mid.disks) (due phase disk) so.in_phase refl);
-      faults = told_more fault_call old.disks mid.disks new.disks disk call so.same.grew made.calls
-          ∙ ap (λ xs. faults_between old.disks mid.disks ++ xs) (made.fault ∙ ap (λ b. if b then due phase disk ∷ [] else []) ok) ∙ append-nil (faults_between old.disks mid.disks) ∙ so.faults;
-      unread = unread_so old mid new phase disk call so.same made so.unread;
-      called = called_so old mid new phase disk call so.same made so.called;
-    }
+one_made old mid new left rest phase n next call so one in_it ok out = record {
+  same = same_more old mid new next call so.same one;
+  out = out ∙ so.out;
+  made = so.made ++ next ∷ [];
+  seen = seen_so old mid new next call so.made so.same one so.seen;
+  order = so.order ∙ sym (append_assoc so.made (next ∷ []) rest);
+  count = length-append so.made (next ∷ []) ∙ ap (λ k. k + 1) so.count;
+  in_phase = all_more (λ (c : DueCall). c.phase ≡ phase) so.made next so.in_phase in_it;
+  faults = told_more fault_call old.disks mid.disks new.disks next.disk call so.same.grew one.calls
+      ∙ ap (λ xs. faults_between old.disks mid.disks ++ xs) (one.fault ∙ ap (λ b. if b then disk_call next ∷ [] else []) ok) ∙ append-nil (faults_between old.disks mid.disks) ∙ so.faults;
+  unread = unread_so old mid new next call so.same one so.unread;
+  called = called_so old mid new next call so.made so.same one so.called;
+}
 
-pub one_failed : (old mid new : Store) (left rest : List DueCall) (phase : Phase) (n disk : ℕ) (call : Call)
-    → MadeCalls old mid left (due phase disk ∷ rest) phase n → n < 4 → MadeOne mid new phase disk call → is_failed call ≡ true → IsOutToo mid.out disk new.out
-    → FailedCall old new left phase disk
-one_failed old mid new left rest phase n disk call so few made failed out =
-    let is = made_so old mid new phase disk call so.same made in
-    record {
-      same = same_more old mid new phase disk call so.same made;
-      out = subst (λ (o : List Bool). IsOutToo o disk new.out) so.out out;
-      before = made_between old.disks mid.disks;
-      rest = rest;
-      made = is;
-      order = so.order ∙ sym (append_assoc (made_between old.disks mid.disks) (due phase disk ∷ []) rest) ∙ ap (λ xs. xs ++ rest) (sym is);
-      few = let count : length (made_between old.disks new.disks) ≡ n + 1 = ap length is ∙ length-append (made_between old.disks mid.disks) (due phase disk ∷ []) ∙ ap (λ k. k + 1) so.count in omega (arith, count, few);
-      in_phase = subst (AllByRecursion (λ (c : DueCall). c.phase ≡ phase)) (sym is)
-          (all_more (λ (c : DueCall). c.phase ≡ phase) (made_between old.disks mid.disks) (due phase disk) so.in_phase refl);
-      faults = told_more fault_call old.disks mid.disks new.disks disk call so.same.grew made.calls
-          ∙ ap (λ xs. faults_between old.disks mid.disks ++ xs) (made.fault ∙ ap (λ b. if b then due phase disk ∷ [] else []) failed) ∙ ap (λ xs. xs ++ due phase disk ∷ []) so.faults;
-      unread = unread_so old mid new phase disk call so.same made so.unread;
-      called = called_so old mid new phase disk call so.same made so.called;
-    }
+pub one_failed : (old mid new : Store) (left rest : List DueCall) (phase : Phase) (n : ℕ) (next : DueCall) (call : Call)
+    → MadeCalls old mid left (next ∷ rest) phase n → n < 4 → MadeOne mid new next call → next.phase ≡ phase → is_failed call ≡ true → IsOutToo mid.out next.disk new.out
+    → FailedCall old new left phase next.disk
+one_failed old mid new left rest phase n next call so few one in_it failed out = record {
+  same = same_more old mid new next call so.same one;
+  out = subst (λ (o : List Bool). IsOutToo o next.disk new.out) so.out out;
+  made = so.made ++ next ∷ [];
+  before = so.made;
+  call = next;
+  rest = rest;
+  seen = seen_so old mid new next call so.made so.same one so.seen;
+  last = refl;
+  on = refl;
+  order = so.order ∙ sym (append_assoc so.made (next ∷ []) rest);
+  few = let count : length (so.made ++ next ∷ []) ≡ n + 1 = length-append so.made (next ∷ []) ∙ ap (λ k. k + 1) so.count in omega (arith, count, few);
+  in_phase = all_more (λ (c : DueCall). c.phase ≡ phase) so.made next so.in_phase in_it;
+  faults = told_more fault_call old.disks mid.disks new.disks next.disk call so.same.grew one.calls
+      ∙ ap (λ xs. faults_between old.disks mid.disks ++ xs) (one.fault ∙ ap (λ b. if b then disk_call next ∷ [] else []) failed) ∙ ap (λ xs. xs ++ disk_call next ∷ []) so.faults;
+  unread = unread_so old mid new next call so.same one so.unread;
+  called = called_so old mid new next call so.made so.same one so.called;
+}
 
 -- ---- a write and a flush
 
-pub write_made : {T E : Type 0} (result : Result T E) (mid new : Store) (write : ColumnWrite) → is_ok result ≡ true
+pub write_made : {T E : Type 0} (result : Result T E) (mid new : Store) (write : ColumnWrite) (number : ℕ) → is_ok result ≡ true
     → new.disks.starts ≡ mid.disks.starts → new.spaces ≡ mid.spaces → KeepsPlans mid new
     → new.disks.calls ≡ on write.disk (write_call result write.offset write.bytes.items) ∷ mid.disks.calls
-    → MadeOne mid new phases.Blocks write.disk (write_call result write.offset write.bytes.items) × (is_failed (write_call result write.offset write.bytes.items) ≡ false)
-write_made (Ok x) mid new write ok starts spaces plans calls = (record { starts = starts; calls = calls; spaces = spaces; plans = plans; is_due = refl; fault = refl; no_read = refl }, refl)
-write_made (Err x) mid new write ok starts spaces plans calls = absurd (cc)
+    → MadeOne mid new (due_write write.disk number) (write_call result write.offset write.bytes.items) × (is_failed (write_call result write.offset write.bytes.items) ≡ false)
+write_made (Ok x) mid new write number ok starts spaces plans calls = (record { starts = starts; calls = calls; spaces = spaces; plans = plans; is_due = refl; fault = refl; no_read = refl }, refl)
+write_made (Err x) mid new write number ok starts spaces plans calls = absurd (cc)
 
-pub write_lost : {T E : Type 0} (result : Result T E) (mid new : Store) (write : ColumnWrite) → is_ok result ≡ false
+pub write_lost : {T E : Type 0} (result : Result T E) (mid new : Store) (write : ColumnWrite) (number : ℕ) → is_ok result ≡ false
     → new.disks.starts ≡ mid.disks.starts → new.spaces ≡ mid.spaces → KeepsPlans mid new
     → new.disks.calls ≡ on write.disk (write_call result write.offset write.bytes.items) ∷ mid.disks.calls
-    → MadeOne mid new phases.Blocks write.disk (write_call result write.offset write.bytes.items) × (is_failed (write_call result write.offset write.bytes.items) ≡ true)
-write_lost (Err x) mid new write ok starts spaces plans calls = (record { starts = starts; calls = calls; spaces = spaces; plans = plans; is_due = refl; fault = refl; no_read = refl }, refl)
-write_lost (Ok x) mid new write ok starts spaces plans calls = absurd (cc)
+    → MadeOne mid new (due_write write.disk number) (write_call result write.offset write.bytes.items) × (is_failed (write_call result write.offset write.bytes.items) ≡ true)
+write_lost (Err x) mid new write number ok starts spaces plans calls = (record { starts = starts; calls = calls; spaces = spaces; plans = plans; is_due = refl; fault = refl; no_read = refl }, refl)
+write_lost (Ok x) mid new write number ok starts spaces plans calls = absurd (cc)
 
 pub flush_made : {T E : Type 0} (result : Result T E) (mid new : Store) (disk : ℕ) → is_ok result ≡ true
     → new.disks.starts ≡ mid.disks.starts → new.spaces ≡ mid.spaces → KeepsPlans mid new
     → new.disks.calls ≡ on disk (flush_call result) ∷ mid.disks.calls
-    → MadeOne mid new phases.BlocksFlush disk (flush_call result) × (is_failed (flush_call result) ≡ false)
+    → MadeOne mid new (due_flush disk) (flush_call result) × (is_failed (flush_call result) ≡ false)
 flush_made (Ok x) mid new disk ok starts spaces plans calls = (record { starts = starts; calls = calls; spaces = spaces; plans = plans; is_due = refl; fault = refl; no_read = refl }, refl)
 flush_made (Err x) mid new disk ok starts spaces plans calls = absurd (cc)
 
 pub flush_lost : {T E : Type 0} (result : Result T E) (mid new : Store) (disk : ℕ) → is_ok result ≡ false
     → new.disks.starts ≡ mid.disks.starts → new.spaces ≡ mid.spaces → KeepsPlans mid new
     → new.disks.calls ≡ on disk (flush_call result) ∷ mid.disks.calls
-    → MadeOne mid new phases.BlocksFlush disk (flush_call result) × (is_failed (flush_call result) ≡ true)
+    → MadeOne mid new (due_flush disk) (flush_call result) × (is_failed (flush_call result) ≡ true)
 flush_lost (Err x) mid new disk ok starts spaces plans calls = (record { starts = starts; calls = calls; spaces = spaces; plans = plans; is_due = refl; fault = refl; no_read = refl }, refl)
 flush_lost (Ok x) mid new disk ok starts spaces plans calls = absurd (cc)
 
@@ -197,9 +197,9 @@ left_some left made rest n order count below = omega (arith, ap length order, le
 pub err_is : {T E : Type 0} (result : Result T E) (failed : E) (P : E → Type 0) → result ≡ Err failed → IfErr result P → P failed
 err_is result failed P is there = subst (λ r. IfErr r P) is there
 
-pub writes_count : (writes : List ColumnWrite) → length (writes_left writes) ≡ length writes
-writes_count [] = refl
-writes_count (write ∷ writes) = ap suc (writes_count writes)
+pub writes_count : (counts : ℕ → ℕ) (writes : List ColumnWrite) → length (writes_left counts writes) ≡ length writes
+writes_count counts [] = refl
+writes_count counts (write ∷ writes) = ap suc (writes_count (counted_on counts write.disk) writes)
 
 -- ---- disks that are flushed
 

@@ -17,15 +17,16 @@ use Rattle.block_store.specs.Store.{Store, Holds, is_out}
 use Rattle.block_store.proofs.Writing.{found_at}
 use Rattle.group_volumes.specs.declared.volumes.GroupVolumes.{GroupVolumes}
 use Rattle.group_volumes.specs.Volumes.{SpellsPool, IsPlannedAs}
-use Rattle.pool_model.specs.declared.step.Phase.TheVariants.{Blocks, BlocksFlush}
-use Rattle.pool_model.specs.Machine.{due, IsPlan}
-use Rattle.pool_model.proofs.Plans.{is_plan as plan_of}
+use Rattle.pool_model.specs.Flow.{counted_on}
+use Rattle.pool_model.specs.Machine.{due_write, due_flush, IsPlan}
+use Rattle.pool_model.proofs.Plans.{writes_on, is_plan as plan_of}
 use Rattle.pool_model.specs.Pools.{PlainPool, Entry, applied}
 use Rattle.pool_model.specs.View.{View, Vdev, DueCall, Sync, Left, is_planned, counted, disks_of, disks_in_use}
 use Rattle.volume_blocks.specs.Reading.{AnswersAreTrue}
 use Rattle.volume_blocks.specs.Writing.{OnlyReadsAndPlans}
 use Rattle.pool_commit.specs.declared.kept.Planned.{Planned}
 use Rattle.pool_commit.specs.Backs.{Backs, IsPlanOf, left_calls}
+use Rattle.pool_commit.specs.Making.{writes_left}
 use Rattle.pool_commit.specs.Config.{shown, vdevs_of}
 use Rattle.pool_commit.specs.State.{State}
 use Rattle.pool_commit.proofs.Backing.{last_spelled}
@@ -92,20 +93,24 @@ all_disks : (P : ℕ → Type 0) (writes : List ColumnWrite) → ((write : Colum
 all_disks P [] each = tt
 all_disks P (write ∷ writes) each = (each write (here write writes), all_disks P writes (λ other held. each other (behind write writes other held)))
 
-calls_of_disks : (writes : List ColumnWrite) → map (λ write. due Blocks write.disk) writes ≡ map (due Blocks) (map (λ write. write.disk) writes)
-calls_of_disks [] = refl
-calls_of_disks (write ∷ writes) = ap (λ (calls : List DueCall). due Blocks write.disk ∷ calls) (calls_of_disks writes)
+calls_of_disks : (counts : ℕ → ℕ) (writes : List ColumnWrite) → writes_left counts writes ≡ writes_on counts (map (λ write. write.disk) writes)
+calls_of_disks counts [] = refl
+calls_of_disks counts (write ∷ writes) = ap (λ (calls : List DueCall). due_write write.disk (counts write.disk) ∷ calls) (calls_of_disks (counted_on counts write.disk) writes)
+
+-- no write was made yet
+abbrev pub none_before : ℕ → ℕ
+none_before disk = 0
 
 same_vdevs : (spaces others : List VdevSpace) → shapes_of others ≡ shapes_of spaces → vdevs_of others ≡ vdevs_of spaces
 same_vdevs spaces others same = ap (λ (shapes : List VdevShape). map (λ shape. shown shape.vdev) shapes) same
 
 -- writes to disks in use, and then their flushes
 is_plan : (old new : Store) (v : View) (flushes : List ℕ) (stored planned : Contents) → v.vdevs ≡ vdevs_of old.spaces → ((disk : ℕ) → v.out disk ≡ is_out old.out disk)
-    → old.due ≡ [] → OnlyReadsAndPlans old new → Plans new stored planned → flushes ≡ disks_in_use v → IsPlan v (left_calls new.due flushes)
+    → old.due ≡ [] → OnlyReadsAndPlans old new → Plans new stored planned → flushes ≡ disks_in_use v → IsPlan v (left_calls none_before new.due flushes)
 is_plan old new v flushes stored planned vdevs out none kept plans are =
     let only : new.due ≡ kept.added = kept.due ∙ ap (λ (writes : List ColumnWrite). writes ++ kept.added) none in
-    subst (IsPlan v) (sym (ap (λ (calls : List DueCall). calls ++ map (due BlocksFlush) flushes) (calls_of_disks new.due)
-    ∙ ap (λ (disks : List ℕ). map (due Blocks) (map (λ write. write.disk) new.due) ++ map (due BlocksFlush) disks) are))
+    subst (IsPlan v) (sym (ap (λ (calls : List DueCall). calls ++ map due_flush flushes) (calls_of_disks none_before new.due)
+    ∙ ap (λ (disks : List ℕ). writes_on none_before (map (λ write. write.disk) new.due) ++ map due_flush disks) are))
     (plan_of v (map (λ write. write.disk) new.due)
     (all_disks (Contains (disks_in_use v)) new.due (λ write held.
     in_filter (λ disk. not (v.out disk)) (disks_of v.vdevs) write.disk
@@ -206,12 +211,12 @@ plan_is_backed s new group last plan items v backs none next is_last are flushes
     let there = after backs.blocks.stored backs.blocks.planned pool backs.blocks.plans spelled honest in
     let all : plan.flushes.items ≡ disks_in_use v =
     flushes ∙ (λ i. filter (λ disk. not (sym (backs.out disk) i)) (disks_of (sym backs.vdevs i))) in
-    let plan_is : IsPlan v (left_calls new.due plan.flushes.items) =
+    let plan_is : IsPlan v (left_calls none_before new.due plan.flushes.items) =
     is_plan s.store new v plan.flushes.items backs.blocks.stored there.later backs.vdevs backs.out none kept there.plans all in
     let spells : SpellsPool there.later (suc v.committed) plan.volumes (applied (suc v.committed) pool (v.ledger (suc v.committed))) =
     subst (λ (entry : Entry). SpellsPool there.later (suc v.committed) plan.volumes (applied (suc v.committed) pool entry)) are
     (subst (λ (n : ℕ). SpellsPool there.later n plan.volumes (applied n pool items)) next there.spells) in (
-      left_calls new.due plan.flushes.items,
+      left_calls none_before new.due plan.flushes.items,
       plan_is,
       record {
         vdevs = backs.vdevs ∙ sym (same_vdevs s.store.spaces new.spaces kept.shapes);
@@ -222,13 +227,14 @@ plan_is_backed s new group last plan items v backs none next is_last are flushes
           planned = there.later;
           plans = there.plans;
           kept = backs.blocks.kept;
-          plan = (
-            refl,
-            spells,
-            λ disk in_use. inl (subst (λ (xs : List ℕ). Contains xs disk) (sym all) in_use),
-            subst (λ (out : List Bool). AllByRecursion (λ (call : DueCall). is_out out call.disk ≡ false) (left_calls new.due plan.flushes.items)) (sym kept.out)
-                (calls_in_use s.store v (left_calls new.due plan.flushes.items) backs.out plan_is.in_use),
-          );
+          plan = record {
+            counts = none_before;
+            sync = refl;
+            spells = spells;
+            to_flush = λ disk in_use. inl (subst (λ (xs : List ℕ). Contains xs disk) (sym all) in_use);
+            in_use = subst (λ (out : List Bool). AllByRecursion (λ (call : DueCall). is_out out call.disk ≡ false) (left_calls none_before new.due plan.flushes.items)) (sym kept.out)
+                (calls_in_use s.store v (left_calls none_before new.due plan.flushes.items) backs.out plan_is.in_use);
+          };
         };
       },
     )

@@ -7,13 +7,12 @@ use Rattle.block_store.specs.Plans.{Plans}
 use Rattle.block_store.specs.Store.{Store, is_out}
 use Rattle.group_volumes.specs.declared.volumes.GroupVolumes.{GroupVolumes}
 use Rattle.group_volumes.specs.Volumes.{SpellsPool}
-use Rattle.pool_model.specs.declared.step.Phase.TheVariants.{Blocks, BlocksFlush}
 use Rattle.pool_model.specs.Pools.{PlainPool, applied}
 use Rattle.pool_model.specs.View.{View, DueCall, Left, is_planned, is_kept, disks_in_use}
-use Rattle.pool_model.specs.Machine.{due}
 use Rattle.pool_commit.specs.declared.kept.Planned.{Planned}
 use Rattle.pool_commit.specs.Calls.{IsFlushed}
 use Rattle.pool_commit.specs.Config.{vdevs_of}
+use Rattle.pool_commit.specs.Making.{writes_left, flushes_left}
 use Rattle.pool_commit.specs.State.{State, volumes_at}
 
 -- a kept group has volumes, which spell its pool; another has none
@@ -26,9 +25,9 @@ SpellsKept stored group None (Some pool) = ⊥
 abbrev pub kept_pool : View → ℕ → Option PlainPool
 kept_pool v group = if is_kept v group then Some (v.pools group) else None
 
--- the device calls that are left of a plan: its writes, and then its flushes
-abbrev pub left_calls : List ColumnWrite → List ℕ → List DueCall
-left_calls writes flushes = map (λ write. due Blocks write.disk) writes ++ map (due BlocksFlush) flushes
+-- the device calls that are left of a plan: its writes, behind so many on each disk, and then its flushes
+abbrev pub left_calls : (ℕ → ℕ) → List ColumnWrite → List ℕ → List DueCall
+left_calls counts writes flushes = writes_left counts writes ++ flushes_left flushes
 
 -- what the group after the committed one makes
 abbrev pub pool_after : View → PlainPool
@@ -40,12 +39,16 @@ IsToFlush store flushes disk = Contains flushes disk ⊎ ((store.due ≡ []) × 
 
 -- a plan has these device calls left, its volumes spell what the group makes, once its blocks are stored, each disk in use
 -- is flushed behind its last write or has its flush left, and no call that is left is on a disk that is out
+pub record HasPlan (s : State) (planned : Contents) (plan : Planned) (v : View) : Type 0 where
+  pub counts : ℕ → ℕ
+  pub sync : v.sync ≡ Left (left_calls counts s.store.due plan.flushes.items)
+  pub spells : SpellsPool planned (suc v.committed) plan.volumes (pool_after v)
+  pub to_flush : (disk : ℕ) → Contains (disks_in_use v) disk → IsToFlush s.store plan.flushes.items disk
+  pub in_use : AllByRecursion (λ (call : DueCall). is_out s.store.out call.disk ≡ false) (left_calls counts s.store.due plan.flushes.items)
+
 abbrev pub IsPlanOf : State → Contents → Option Planned → View → Type 0
 IsPlanOf s planned None v = is_planned v.sync ≡ false
-IsPlanOf s planned (Some plan) v =
-    (v.sync ≡ Left (left_calls s.store.due plan.flushes.items)) × SpellsPool planned (suc v.committed) plan.volumes (pool_after v)
-    × ((disk : ℕ) → Contains (disks_in_use v) disk → IsToFlush s.store plan.flushes.items disk)
-    × AllByRecursion (λ (call : DueCall). is_out s.store.out call.disk ≡ false) (left_calls s.store.due plan.flushes.items)
+IsPlanOf s planned (Some plan) v = HasPlan s planned plan v
 
 -- each block taken with the bytes that it was written with
 pub record HasBlocks (s : State) (v : View) : Type 0 where

@@ -1,24 +1,32 @@
 -- The device calls of a step, as the record of calls tells them.
-use Rattle.std.specs.Prelude.{ℕ, ◌≡◌, List, [], ◌∷◌, ◌++◌, length, nat_le, if◌then◌else◌}
+use Rattle.std.specs.Prelude.{ℕ, ◌≡◌, List, [], ◌∷◌, ◌++◌, length, nat_le, Bool, true, false, if◌then◌else◌}
 use Rattle.std.specs.List.{AllByRecursion}
 use Rattle.model_disk.specs.Call.{Call, FailedRead, Wrote, FailedWrite, Flushed, FailedFlush}
 use Rattle.model_disk.specs.Joint.{Disks, JointCall, on}
-use Rattle.pool_model.specs.declared.step.Phase.TheVariants.{Blocks, BlocksFlush}
 use Rattle.pool_model.specs.View.{DueCall}
-use Rattle.pool_model.specs.Machine.{due}
+use Rattle.pool_model.specs.Machine.{is_flush}
 
--- a write or a flush; a read is no call of a plan
-abbrev pub due_call : ℕ → Call → List DueCall
-due_call disk (Wrote at bytes) = due Blocks disk ∷ []
-due_call disk (FailedWrite at bytes) = due Blocks disk ∷ []
-due_call disk Flushed = due BlocksFlush disk ∷ []
-due_call disk FailedFlush = due BlocksFlush disk ∷ []
-due_call disk call = []
+-- a write or a flush, as a disk sees it
+pub record DiskCall : Type 0 where
+  pub disk : ℕ
+  pub flushes : Bool
+
+-- a call of a plan, as its disk sees it: its phase and its number only the plan tells
+abbrev pub disk_call : DueCall → DiskCall
+disk_call call = record { disk = call.disk; flushes = is_flush call }
+
+-- a call that was made, where it is a write or a flush; a read is no call of a plan
+abbrev pub plan_call : ℕ → Call → List DiskCall
+plan_call disk (Wrote at bytes) = record { disk = disk; flushes = false } ∷ []
+plan_call disk (FailedWrite at bytes) = record { disk = disk; flushes = false } ∷ []
+plan_call disk Flushed = record { disk = disk; flushes = true } ∷ []
+plan_call disk FailedFlush = record { disk = disk; flushes = true } ∷ []
+plan_call disk call = []
 
 -- one that failed
-abbrev pub fault_call : ℕ → Call → List DueCall
-fault_call disk (FailedWrite at bytes) = due Blocks disk ∷ []
-fault_call disk FailedFlush = due BlocksFlush disk ∷ []
+abbrev pub fault_call : ℕ → Call → List DiskCall
+fault_call disk (FailedWrite at bytes) = record { disk = disk; flushes = false } ∷ []
+fault_call disk FailedFlush = record { disk = disk; flushes = true } ∷ []
 fault_call disk call = []
 
 -- a read that failed
@@ -36,10 +44,10 @@ told_since tells n [] = []
 told_since tells n (made ∷ earlier) = told_since tells n earlier ++ (if nat_le n (length earlier) then tells made.which made.call else [])
 
 -- the writes and flushes that were made, those of them that failed, and the disks that failed a read
-abbrev pub made_between : Disks → Disks → List DueCall
-made_between old new = told_since due_call (length old.calls) new.calls
+abbrev pub made_between : Disks → Disks → List DiskCall
+made_between old new = told_since plan_call (length old.calls) new.calls
 
-abbrev pub faults_between : Disks → Disks → List DueCall
+abbrev pub faults_between : Disks → Disks → List DiskCall
 faults_between old new = told_since fault_call (length old.calls) new.calls
 
 abbrev pub unread_between : Disks → Disks → List ℕ

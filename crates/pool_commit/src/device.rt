@@ -1,11 +1,10 @@
 //! The device calls of a plan.
 ghost use Rattle.std.specs.Prelude.{◌≡◌, ◌<◌, ◌≤◌, ◌^◌, ℕ, min, length, false, true, [], Some, None, OnOk, IfErr, IfSome, IfNone};
-ghost use Rattle.pool_model.specs.declared.step.Phase.TheVariants as phases;
 ghost use Rattle.pool_model.specs.View.{View, is_planned};
 ghost use Rattle.pool_commit.specs.Backs.{Backs};
 ghost use Rattle.pool_commit.specs.StateOf.{state_of};
 ghost use Rattle.pool_commit.specs.Calls.{GrewTo};
-ghost use Rattle.pool_commit.specs.Making.{writes_left, flushes_left, MadeCalls, FailedCall, FlushesMove};
+ghost use Rattle.pool_commit.specs.Making.{MadeWrites, MadeFlushes, FailedWrite, FailedFlush, FlushesMove};
 ghost use Rattle.pool_commit.specs.declared.device.Progress.TheVariants as progress;
 ghost use Rattle.pool_commit.specs.Progress.{Progresses, DropsPlan, GoesOn, with_plan};
 ghost use Rattle.pool_commit.specs.HasDisks.{AreBelow, HasDisks};
@@ -33,8 +32,9 @@ pub enum Progress {
 
 /// Makes up to four of the writes that are due. The first fault ends them.
 fn make_writes<D: Disk + Drop>(store: &mut BlockStore<D>) -> Result<(), FailedDisk>
-    ensures made { OnOk result (MadeCalls store.old store.new (writes_left store.old.due) (writes_left store.new.due) phases.Blocks (min (length store.old.due) 4)) }
-    ensures failed { IfErr result (λ failed. FailedCall store.old store.new (writes_left store.old.due) phases.Blocks failed.disk) }
+    ensures grew { GrewTo store.old.disks store.new.disks }
+    ensures made { OnOk result (MadeWrites store.old store.new (min (length store.old.due) 4)) }
+    ensures failed { IfErr result (λ failed. FailedWrite store.old store.new failed.disk) }
 {
     for _ in 0..store.due_count().min(MOST_CALLS) {
         if let Err(failed) = store.write_next() {
@@ -50,11 +50,11 @@ fn make_flushes<D: Disk + Drop>(
     flushes: &mut VecDeque<usize>,
 ) -> Result<(), FailedDisk>
     requires { AreBelow (length store.old.disks.starts) flushes.old.items }
-    ensures made { OnOk result (MadeCalls store.old store.new (flushes_left flushes.old.items) (flushes_left flushes.new.items) phases.BlocksFlush (min (length flushes.old.items) 4)) }
+    ensures made { OnOk result (MadeFlushes store.old store.new flushes.old.items flushes.new.items (min (length flushes.old.items) 4)) }
     ensures due { store.new.due ≡ store.old.due }
     ensures flushed { OnOk result (FlushesMove store.old store.new flushes.old.items flushes.new.items) }
     ensures there { OnOk result (AreBelow (length store.old.disks.starts) flushes.new.items) }
-    ensures failed { IfErr result (λ failed. FailedCall store.old store.new (flushes_left flushes.old.items) phases.BlocksFlush failed.disk) }
+    ensures failed { IfErr result (λ failed. FailedFlush store.old store.new flushes.old.items failed.disk) }
 {
     for _ in 0..flushes.len().min(MOST_CALLS) {
         let Some(disk) = flushes.pop_front() else {

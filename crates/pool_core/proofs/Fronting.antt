@@ -40,13 +40,14 @@ in_use_kept v w k = λ i. filter (λ disk. not (k.out i disk)) (disks_of (k.vdev
 
 plan_kept : (s : State) (planned : Contents) (plan : Option Planned) (v w : View) → KeepsCommitted v w → IsPlanOf s planned plan v → IsPlanOf s planned plan w
 plan_kept s planned None v w k is = ap is_planned k.sync ∙ is
-plan_kept s planned (Some plan) v w k is = (
-  k.sync ∙ is.0,
-  subst (λ (p : PlainPool). SpellsPool planned (suc w.committed) plan.volumes p) (sym (made_kept v w k (ap is_syncing is.0)))
-      (subst (λ c. SpellsPool planned (suc c) plan.volumes (pool_after v)) (sym k.committed) is.1),
-  λ disk in_use. is.2 disk (subst (λ (disks : List ℕ). Contains disks disk) (in_use_kept v w k) in_use),
-  is.3,
-)
+plan_kept s planned (Some plan) v w k is = record {
+  counts = is.counts;
+  sync = k.sync ∙ is.sync;
+  spells = subst (λ (p : PlainPool). SpellsPool planned (suc w.committed) plan.volumes p) (sym (made_kept v w k (ap is_syncing is.sync)))
+      (subst (λ c. SpellsPool planned (suc c) plan.volumes (pool_after v)) (sym k.committed) is.spells);
+  to_flush = λ disk in_use. is.to_flush disk (subst (λ (disks : List ℕ). Contains disks disk) (in_use_kept v w k) in_use);
+  in_use = is.in_use;
+}
 
 pub backs_kept : (s : State) (v w : View) → KeepsCommitted v w → Backs s v → Backs s w
 backs_kept s v w k backs = record {

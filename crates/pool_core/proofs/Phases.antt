@@ -12,9 +12,9 @@ use Rattle.pool_model.specs.declared.step.Phase.{Phase}
 use Rattle.pool_model.specs.declared.step.Step.TheVariants.{Plan, Device}
 use Rattle.pool_model.specs.declared.step.Reply.{Reply}
 use Rattle.pool_model.specs.declared.step.Reply.TheVariants.{Planned, Moved, Replan, Committed, Refused}
-use Rattle.pool_model.specs.View.{View, Given, DueCall, is_away, nothing_given, Sync, Unplanned, Left, is_syncing, is_planned, is_quiesced, is_suspended, is_readable, open_after}
+use Rattle.pool_model.specs.View.{View, Given, DueCall, is_away, nothing_given, Sync, Unplanned, Left, is_syncing, is_planned, is_quiesced, is_suspended, open_after}
 use Rattle.pool_model.specs.Refusals.{greatest, first_cause, refusal_of}
-use Rattle.pool_model.specs.Machine.{StepOf, IsPlan, IsQuiet, FailsOn, IsReadCause, IsUnreadable, due, taken, committed_next, dropped}
+use Rattle.pool_model.specs.Machine.{StepOf, IsPlan, IsQuiet, FailsOn, IsReadCause, IsUnreadable, taken, committed_next, dropped}
 use Rattle.pool_model.proofs.Plans.{nothing_quiet}
 use Rattle.pool_intake.specs.declared.intake.Intake.{Intake}
 use Rattle.pool_intake.specs.Follows.{Follows}
@@ -22,8 +22,8 @@ use Rattle.pool_intake.proofs.Stepping.{followed}
 use Rattle.pool_commit.specs.declared.device.Progress.TheVariants as progress
 use Rattle.pool_commit.specs.declared.kept.Planned.{Planned as PlannedGroup}
 use Rattle.pool_commit.specs.Backs.{Backs, IsPlanOf}
-use Rattle.pool_commit.specs.Calls.{due_call, fault_call, unread_call, told_since, made_between, faults_between, unread_between, GrewTo, which_call, called_between}
-use Rattle.pool_commit.specs.Progress.{OnlyMade, Progresses}
+use Rattle.pool_commit.specs.Calls.{disk_call, plan_call, fault_call, unread_call, told_since, made_between, faults_between, unread_between, GrewTo, which_call, called_between}
+use Rattle.pool_commit.specs.Progress.{AreMade, Progresses}
 use Rattle.pool_commit.specs.Reading.{IsReadFault, IsLost}
 use Rattle.pool_commit.specs.Room.{LacksRoom}
 use Rattle.pool_commit.specs.State.{State}
@@ -38,7 +38,7 @@ use Rattle.pool_commit.specs.declared.refusal.Refusal.TheVariants.{NoMemory, NoS
 use Rattle.pool_core.specs.Causes.{cause_of}
 use Rattle.pool_core.specs.Represents.{Represents}
 use Rattle.pool_core.specs.State.{CoreState, disks_of}
-use Rattle.pool_core.specs.Steps.{AwayIsUntouched, AreTrue, fault_list, IsGiven, Goes}
+use Rattle.pool_core.specs.Steps.{AwayIsUntouched, AreFlushed, AreTrue, fault_list, IsGiven, Goes}
 use Rattle.pool_core.proofs.Fronting.{nothing_is_given}
 
 -- ---- reads are no calls of a plan
@@ -54,7 +54,7 @@ tells_none tells n (made ∷ newer) calls none are =
     none_more true xs = append-nil xs
     none_more false xs = append-nil xs
 
-not_due : (disk : ℕ) (call : Call) → IsRead call → due_call disk call ≡ []
+not_due : (disk : ℕ) (call : Call) → IsRead call → plan_call disk call ≡ []
 not_due disk (Read at bytes) is = refl
 not_due disk (FailedRead at n) is = refl
 not_due disk (Wrote at bytes) is = absurd is
@@ -84,7 +84,7 @@ given_by_reads old new trusted full = record { made = []; fault = None; unread =
 
 pub reads_are_given : (old new : CoreState) (trusted full : Bool) → OnlyReads (disks_of old) (disks_of new) → (full ≡ true → LacksRoom new.commit) → IsGiven old new (given_by_reads old new trusted full)
 reads_are_given old new trusted full reads room = record {
-  made = sym (told_by_reads due_call (disks_of old) (disks_of new) not_due reads);
+  made = sym (told_by_reads plan_call (disks_of old) (disks_of new) not_due reads);
   fault = sym (told_by_reads fault_call (disks_of old) (disks_of new) no_fault reads);
   unread = refl;
   full = room;
@@ -153,12 +153,13 @@ device_early v s p = both (is_suspended v) (is_planned v.sync) s p
     both true b x y = absurd (true≢false x)
 
 -- the calls of a Device step
-abbrev device_given : CoreState → CoreState → Option DueCall → Bool → Given
-device_given old new fault trusted = record { made = made_between (disks_of old) (disks_of new); fault = fault; unread = []; trusted = trusted; full = false }
+abbrev device_given : List DueCall → Option DueCall → Given
+device_given made fault = record { made = made; fault = fault; unread = []; lost_on = None; trusted = true; full = false }
 
-device_is_given : (old new : CoreState) (fault : Option DueCall) (trusted : Bool) → faults_between (disks_of old) (disks_of new) ≡ fault_list fault → unread_between (disks_of old) (disks_of new) ≡ []
-    → IsGiven old new (device_given old new fault trusted)
-device_is_given old new fault trusted faults unread = record { made = refl; fault = sym faults; unread = sym unread; full = λ e. absurd (true≢false (sym e)) }
+device_is_given : (old new : CoreState) (v : View) (made : List DueCall) (fault : Option DueCall) → AreMade (disks_of old) (disks_of new) v made
+    → faults_between (disks_of old) (disks_of new) ≡ map disk_call (fault_list fault) → IsGiven old new (device_given made fault)
+device_is_given old new v made fault are faults =
+    record { made = are.seen; fault = sym faults; unread = sym are.unread; full = λ e. absurd (true≢false (sym e)) }
 
 late : (m n : ℕ) → m ≤ n → nat_le m n ≡ true
 late m n h = grind (arith, nat_tests)
@@ -186,28 +187,29 @@ not_on_away (call ∷ calls) v disk all away held =
     ⊎_elim (λ same. true≢false (sym away ∙ ap (is_away v) same ∙ all.0)) (λ later. not_on_away calls v disk all.1 away later) (Contains-cases call.disk (map (λ (call : DueCall). call.disk) calls) disk held)
 
 -- a Device step calls no disk that is away
-device_spares : (s : CoreState) (new : CoreState) (v : View) → GrewTo (disks_of s) (disks_of new) → OnlyMade (disks_of s) (disks_of new) v → AwayIsUntouched s v new
-device_spares s new v grew only disk away =
+device_spares : (s : CoreState) (new : CoreState) (v : View) (made : List DueCall) → GrewTo (disks_of s) (disks_of new) → AreMade (disks_of s) (disks_of new) v made → AwayIsUntouched s v new
+device_spares s new v made grew only disk away =
     ap (λ (calls : List JointCall). calls_on disk calls) grew.calls
     ∙ not_called (length (disks_of s).calls) grew.newer (disks_of s).calls disk refl
-    (λ held. not_on_away (made_between (disks_of s) (disks_of new)) v disk only.in_use away
+    (λ held. not_on_away made v disk only.in_use away
     (subst (λ (xs : List ℕ). Contains xs disk) (ap (told_since which_call (length (disks_of s).calls)) (sym grew.calls) ∙ only.called) held))
 
 pub moves : (s : CoreState) (commit : State) (v : View) (trusted : Bool) (phase : Phase) → Represents s v → is_suspended v ≡ false → Progresses s.commit (progress.Moved phase) commit v → GrewTo (disks_of s) commit.store.disks
     → Goes s v trusted Device (Moved phase) (record s { commit = commit })
 moves s commit v trusted phase r free p grew =
     let new : CoreState = record s { commit = commit } in
+    let on = p.0 in
     record {
-      given = device_given s new None true;
+      given = device_given on.made None;
       trust = λ e. refl;
-      after = record v { sync = Left p.1 };
+      after = record v { sync = Left on.rest };
       link = record {
-        is_given = device_is_given s new None true p.5 p.6.unread;
-        is_step = inr (inr (record { none = device_free v free (ap is_planned p.2); granted = (p.0, p.1, p.2, p.3, p.4, refl, refl); calls = refl }));
-        represents = record { follows = follows_on s.intake v (Left p.1) v.out r.follows (ap is_syncing p.2) refl; backs = p.7 };
+        is_given = device_is_given s new v on.made None on.are_made on.faults;
+        is_step = inr (inr (record { none = device_free v free (ap is_planned on.planned); granted = (on.left, on.rest, on.planned, on.makes, on.some, refl, refl); calls = refl }));
+        represents = record { follows = follows_on s.intake v (Left on.rest) v.out r.follows (ap is_syncing on.planned) refl; backs = p.1 };
         flushed = tt;
-        untouched = device_spares s new v grew p.6;
-        only = p.6.called;
+        untouched = device_spares s new v on.made grew on.are_made;
+        only = on.are_made.called;
       };
     }
 
@@ -215,65 +217,72 @@ pub commits : (s : CoreState) (intake : Intake) (commit : State) (v : View) (tru
     → reply ≡ Committed (suc v.committed) → Follows intake (committed_next v) → Goes s v trusted Device reply (record { intake = intake; commit = commit })
 commits s intake commit v trusted reply r free p grew is f =
     let new : CoreState = record { intake = intake; commit = commit } in
+    let ends = p.0 in
     subst (λ (x : Reply). Goes s v trusted Device x new) (sym is) (record {
-      given = device_given s new None true;
+      given = device_given ends.made None;
       trust = λ e. refl;
       after = committed_next v;
       link = record {
-        is_given = device_is_given s new None true p.3 p.4.unread;
-        is_step = inr (inr (record { none = device_free v free (ap is_planned p.1); granted = (refl, p.0, p.1, p.2, refl, refl); calls = refl }));
-        represents = record { follows = f; backs = p.6 };
-        flushed = p.5;
-        untouched = device_spares s new v grew p.4;
-        only = p.4.called;
+        is_given = device_is_given s new v ends.made None ends.are_made ends.faults;
+        is_step = inr (inr (record { none = device_free v free (ap is_planned ends.planned); granted = (refl, ends.left, ends.planned, ends.makes, refl, refl); calls = refl }));
+        represents = record { follows = f; backs = p.1 };
+        flushed = ends.flushed;
+        untouched = device_spares s new v ends.made grew ends.are_made;
+        only = ends.are_made.called;
       };
     })
 
 pub drops : (s : CoreState) (commit : State) (v : View) (trusted : Bool) (disk : ℕ) (reply : Reply) → Represents s v → is_suspended v ≡ false → Progresses s.commit (progress.Dropped disk) commit v → GrewTo (disks_of s) commit.store.disks
     → ((w : View) → Backs commit w → reply ≡ (if is_suspended w then Refused causes.Suspended else Replan disk)) → Goes s v trusted Device reply (record s { commit = commit })
-drops s commit v trusted disk reply r free p grew is = go (is_suspended (dropped v disk)) refl (is (dropped v disk) p.2)
+drops s commit v trusted disk reply r free p grew is = go (is_suspended (dropped v disk)) refl (is (dropped v disk) p.1)
   where
     new : CoreState
     new = record s { commit = commit }
 
     given : Given
-    given = device_given s new (Some (due p.0.phase disk)) true
+    given = device_given p.0.made (Some p.0.call)
+
+    is_given : IsGiven s new given
+    is_given = device_is_given s new v p.0.made (Some p.0.call) p.0.are_made p.0.fault
 
     fails : FailsOn v given disk
-    fails = record { left = p.0.left; rest = p.0.rest; before = p.0.before; phase = p.0.phase; planned = p.0.planned; last = p.0.last; makes = p.0.makes; fault = refl }
+    fails = record {
+      left = p.0.left;
+      rest = p.0.rest;
+      before = p.0.before;
+      call = p.0.call;
+      on = p.0.on;
+      planned = p.0.planned;
+      last = p.0.last;
+      makes = p.0.makes;
+      fault = refl;
+    }
 
     after : Represents new (dropped v disk)
-    after = record { follows = follows_on s.intake v Unplanned (dropped v disk).out r.follows (ap is_syncing p.0.planned) refl; backs = p.2 }
+    after = record { follows = follows_on s.intake v Unplanned (dropped v disk).out r.follows (ap is_syncing p.0.planned) refl; backs = p.1 }
+
+    goes : (answer : Reply) → StepOf v given Device answer (dropped v disk) → AreFlushed answer (dropped v disk) new → Goes s v trusted Device answer new
+    goes answer step flushed = record {
+      given = given;
+      trust = λ t. refl;
+      after = dropped v disk;
+      link = record {
+        is_given = is_given;
+        is_step = step;
+        represents = after;
+        flushed = flushed;
+        untouched = device_spares s new v p.0.made grew p.0.are_made;
+        only = p.0.are_made.called;
+      };
+    }
 
     go : (b : Bool) → is_suspended (dropped v disk) ≡ b → reply ≡ (if is_suspended (dropped v disk) then Refused causes.Suspended else Replan disk) → Goes s v trusted Device reply new
     go true e x =
-        subst (λ (y : Reply). Goes s v trusted Device y new) (sym (x ∙ ap (λ b. if b then Refused causes.Suspended else Replan disk) e)) (record {
-          given = given;
-          trust = λ t. refl;
-          after = dropped v disk;
-          link = record {
-            is_given = device_is_given s new (Some (due p.0.phase disk)) true p.0.fault p.1.unread;
-            is_step = inr (inr (record { none = device_free v free (ap is_planned p.0.planned); granted = (refl, disk, fails, e, refl); calls = refl }));
-            represents = after;
-            flushed = tt;
-            untouched = device_spares s new v grew p.1;
-            only = p.1.called;
-          };
-        })
+        subst (λ (y : Reply). Goes s v trusted Device y new) (sym (x ∙ ap (λ b. if b then Refused causes.Suspended else Replan disk) e))
+        (goes (Refused causes.Suspended) (inr (inr (record { none = device_free v free (ap is_planned p.0.planned); granted = (refl, disk, fails, e, refl); calls = refl }))) tt)
     go false e x =
-        subst (λ (y : Reply). Goes s v trusted Device y new) (sym (x ∙ ap (λ b. if b then Refused causes.Suspended else Replan disk) e)) (record {
-          given = given;
-          trust = λ t. refl;
-          after = dropped v disk;
-          link = record {
-            is_given = device_is_given s new (Some (due p.0.phase disk)) true p.0.fault p.1.unread;
-            is_step = inr (inr (record { none = device_free v free (ap is_planned p.0.planned); granted = (fails, e, refl); calls = refl }));
-            represents = after;
-            flushed = tt;
-            untouched = device_spares s new v grew p.1;
-            only = p.1.called;
-          };
-        })
+        subst (λ (y : Reply). Goes s v trusted Device y new) (sym (x ∙ ap (λ b. if b then Refused causes.Suspended else Replan disk) e))
+        (goes (Replan disk) (inr (inr (record { none = device_free v free (ap is_planned p.0.planned); granted = (fails, e, refl); calls = refl }))) tt)
 
 -- ---- plans
 
@@ -296,7 +305,7 @@ backs_taken s v backs none = record {
   where
     still : (plan : Option PlannedGroup) → IsPlanOf s backs.blocks.planned plan v → IsPlanOf s backs.blocks.planned plan (taken v Unplanned)
     still None is = refl
-    still (Some plan) is = absurd (true≢false (sym (ap is_planned is.0) ∙ none))
+    still (Some plan) is = absurd (true≢false (sym (ap is_planned is.sync) ∙ none))
 
 -- a group is taken, and planned
 pub plans : (s : CoreState) (intake : Intake) (commit : State) (v : View) (trusted : Bool) (timestamp group : ℕ) (calls : List DueCall)
@@ -363,7 +372,7 @@ idles s commit v trusted r free none backs same =
       after = v;
       link = record {
         is_given = record {
-          made = sym (ap (λ (d : Disks). made_between (disks_of s) d) same ∙ told_by_none due_call (disks_of s));
+          made = sym (ap (λ (d : Disks). made_between (disks_of s) d) same ∙ told_by_none plan_call (disks_of s));
           fault = sym (ap (λ (d : Disks). faults_between (disks_of s) d) same ∙ told_by_none fault_call (disks_of s));
           unread = sym (ap (λ (d : Disks). unread_between (disks_of s) d) same ∙ told_by_none unread_call (disks_of s));
           full = λ e. absurd (true≢false (sym e));

@@ -8,7 +8,7 @@ use Rattle.pool_model.specs.declared.step.Reply.{Reply}
 use Rattle.pool_model.specs.declared.step.Reply.TheVariants.{Planned, Committed}
 use Rattle.pool_model.specs.View.{View, Given, DueCall, is_away, disks_in_use, is_suspended}
 use Rattle.pool_model.specs.Machine.{StepOf}
-use Rattle.pool_commit.specs.Calls.{made_between, faults_between, unread_between, called_between, IsFlushed}
+use Rattle.pool_commit.specs.Calls.{disk_call, made_between, faults_between, unread_between, called_between, IsFlushed}
 use Rattle.pool_commit.specs.Room.{LacksRoom}
 use Rattle.pool_core.specs.State.{CoreState, disks_of}
 use Rattle.pool_core.specs.Represents.{Represents}
@@ -31,8 +31,8 @@ fault_list (Some call) = call ∷ []
 -- What was given to a step: its own writes and flushes, in order; the one that failed, if any; the disks of its reads that
 -- failed; and that it found no room only where there is none.
 pub record IsGiven (old new : CoreState) (given : Given) : Type 0 where
-  pub made : given.made ≡ made_between (disks_of old) (disks_of new)
-  pub fault : fault_list given.fault ≡ faults_between (disks_of old) (disks_of new)
+  pub made : map disk_call given.made ≡ made_between (disks_of old) (disks_of new)
+  pub fault : map disk_call (fault_list given.fault) ≡ faults_between (disks_of old) (disks_of new)
   pub unread : given.unread ≡ unread_between (disks_of old) (disks_of new)
   pub full : given.full ≡ true → LacksRoom new.commit
 

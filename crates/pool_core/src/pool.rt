@@ -3,13 +3,12 @@ ghost use Rattle.std.specs.Prelude.{◌≡◌, ◌⊎◌, ◌<◌, ◌&&◌, ℕ
 ghost use Rattle.model_disk.specs.Joint.{calls_on, log_of};
 ghost use Rattle.pool_model.specs.View.{View, is_suspended, started};
 ghost use Rattle.pool_commit.specs.Backs.{Backs};
-ghost use Rattle.pool_commit.specs.StateOf.{state_of as commit_state};
 ghost use Rattle.block_store.specs.declared.shape.VdevShape.{VdevShape as ShapeOf};
 ghost use Rattle.block_store.specs.Config.{AreShapes, IsFewVdevs};
 ghost use Rattle.pool_commit.specs.Calls.{GrewTo};
 ghost use Rattle.pool_commit.specs.Config.{vdevs_from};
 ghost use Rattle.pool_core.specs.Represents.{Represents};
-ghost use Rattle.pool_core.specs.StateOf.{state_of};
+ghost use Rattle.pool_core.specs.StateOf.{disks_in, state_of};
 ghost use Rattle.pool_core.specs.Steps.{Steps, is_barred as barred_step};
 
 use crate::refusal::named;
@@ -42,8 +41,8 @@ impl<D: Disk + Drop> Core<D> {
     /// An empty pool over these disks, committed as group 3: a sound start. The vdevs take the disks in order, each as
     /// many as it has children. Shapes and disks that no pool may have are `BadConfig`.
     pub fn create(alloc: Global, disks: Vec<D>, vdevs: &[VdevConfig]) -> Result<Self, Refusal>
-        ensures starts { IfOk result (λ core. core.commit.store.disks.starts ≡ map D.start disks.items) }
-        ensures calls { IfOk result (λ core. (which : ℕ) → calls_on which core.commit.store.disks.calls ≡ log_of (map D.calls disks.items) which) }
+        ensures starts { IfOk result (λ core. (disks_in core).starts ≡ map D.start disks.items) }
+        ensures calls { IfOk result (λ core. (which : ℕ) → calls_on which (disks_in core).calls ≡ log_of (map D.calls disks.items) which) }
         ensures represents { IfOk result (λ core. Represents (state_of core) (started (vdevs_from 0 vdevs.now))) }
         ensures refused { IfErr result (λ refusal. (refusal ≡ Refusal.NoMemory)
             ⊎ ((refusal ≡ Refusal.BadConfig) × ((shapes : List ShapeOf) → ¬ (IsFewVdevs vdevs.now × AreShapes (map D.start disks.items) 0 vdevs.now shapes)))) }
@@ -60,7 +59,7 @@ impl<D: Disk + Drop> Core<D> {
 
     /// Whether the pool is suspended, and refuses the step for that.
     fn is_refused(&self, step: &Step) -> bool
-        ensures { (v : View) → Backs (commit_state self.now.commit) v → result ≡ (barred_step step.now && is_suspended v) }
+        ensures { (v : View) → Backs (state_of self.now).commit v → result ≡ (barred_step step.now && is_suspended v) }
     {
         let suspended = self.commit.is_suspended();
         is_barred(step) && suspended
@@ -68,7 +67,7 @@ impl<D: Disk + Drop> Core<D> {
 
     /// One step of the machine. Release, Close, Quiesce and Device take no memory.
     pub fn step(&mut self, step: Step) -> Reply
-        ensures grew { GrewTo self.old.commit.store.disks self.new.commit.store.disks }
+        ensures grew { GrewTo (disks_in self.old) (disks_in self.new) }
         ensures goes { Steps (state_of self.old) step result (state_of self.new) }
     {
         if self.is_refused(&step) {

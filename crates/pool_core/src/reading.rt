@@ -6,9 +6,8 @@ ghost use Rattle.pool_model.specs.Refusals.{refusal_of};
 ghost use Rattle.pool_model.specs.View.{View};
 ghost use Rattle.pool_commit.specs.Calls.{GrewTo};
 ghost use Rattle.pool_commit.specs.Reading.{OnlyReadsPool, TooManyAreLost};
-ghost use Rattle.pool_commit.specs.StateOf.{state_of as commit_state};
 ghost use Rattle.pool_core.specs.Represents.{Represents};
-ghost use Rattle.pool_core.specs.StateOf.{state_of};
+ghost use Rattle.pool_core.specs.StateOf.{disks_in, state_of};
 ghost use Rattle.pool_core.specs.Steps.{AreTrue, Steps};
 
 use crate::pool::Core;
@@ -20,7 +19,7 @@ use pool_now::against_read;
 impl<D: Disk + Drop> Core<D> {
     /// Reads what all accepted groups make.
     pub(crate) fn read(&mut self, name: &Name, offset: u64, len: u64) -> Reply
-        ensures grew { GrewTo self.old.commit.store.disks self.new.commit.store.disks }
+        ensures grew { GrewTo (disks_in self.old) (disks_in self.new) }
         ensures goes { Steps (state_of self.old) (steps.Read name.now offset len) result (state_of self.new) }
     {
         let found = self.intake.find(name);
@@ -46,7 +45,7 @@ impl<D: Disk + Drop> Core<D> {
 
     /// Reads what a kept group contains.
     pub(crate) fn reply_under(&mut self, group: u64, name: &Name, offset: u64, len: u64) -> Reply
-        ensures grew { GrewTo self.old.commit.store.disks self.new.commit.store.disks }
+        ensures grew { GrewTo (disks_in self.old) (disks_in self.new) }
         ensures goes { Steps (state_of self.old) (steps.ReadUnder group name.now offset len) result (state_of self.new) }
     {
         match self.read_under(group, name, offset, len, &[]) {
@@ -64,8 +63,8 @@ impl<D: Disk + Drop> Core<D> {
         len: u64,
         missing: &[usize],
     ) -> Result<Bytes, Refusal>
-        ensures intake { self.new.intake ≡ self.old.intake }
-        ensures reads { OnlyReadsPool (commit_state self.old.commit) (commit_state self.new.commit) missing.now }
+        ensures intake { (state_of self.new).intake ≡ (state_of self.old).intake }
+        ensures reads { OnlyReadsPool (state_of self.old).commit (state_of self.new).commit missing.now }
         ensures bytes { IfOk result (λ bytes. (v : View) → Represents (state_of self.old) v
             → (refusal_of v (steps.ReadUnder group name.now offset len) ≡ None)
             × (AreTrue (state_of self.old) (state_of self.new) → AreBytesOf (v.pools group) name.now offset len bytes)) }
@@ -73,7 +72,7 @@ impl<D: Disk + Drop> Core<D> {
             → (refusal ≡ Refusal.NoMemory) ⊎ ((refusal_of v (steps.ReadUnder group name.now offset len) ≡ Some refusal)
             ⊎ ((refusal_of v (steps.ReadUnder group name.now offset len) ≡ None) × IsReadCause refusal
             × (AreTrue (state_of self.old) (state_of self.new)
-            → TooManyAreLost v missing.now (commit_state self.old.commit) (commit_state self.new.commit))))) }
+            → TooManyAreLost v missing.now (state_of self.old).commit (state_of self.new).commit)))) }
     {
         let read = self
             .commit

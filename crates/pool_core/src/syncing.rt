@@ -7,9 +7,8 @@ ghost use Rattle.pool_model.specs.Machine.{committed_next};
 ghost use Rattle.pool_model.specs.View.{View, is_syncing, is_suspended};
 ghost use Rattle.pool_commit.specs.Backs.{Backs};
 ghost use Rattle.pool_commit.specs.Calls.{GrewTo};
-ghost use Rattle.pool_commit.specs.StateOf.{state_of as commit_state};
 ghost use Rattle.pool_intake.specs.Follows.{Follows};
-ghost use Rattle.pool_core.specs.StateOf.{state_of};
+ghost use Rattle.pool_core.specs.StateOf.{disks_in, state_of};
 ghost use Rattle.pool_core.specs.Steps.{StepsUnlessSuspended};
 
 use crate::pool::Core;
@@ -21,7 +20,7 @@ use pool_model::{Refusal, Reply};
 impl<D: Disk + Drop> Core<D> {
     /// Takes the quiesced group to be synced, or the one whose plan was dropped, and plans it.
     pub(crate) fn plan(&mut self) -> Reply
-        ensures grew { GrewTo self.old.commit.store.disks self.new.commit.store.disks }
+        ensures grew { GrewTo (disks_in self.old) (disks_in self.new) }
         ensures goes { (timestamp : ℕ) → StepsUnlessSuspended (state_of self.old) (steps.Plan timestamp) result (state_of self.new) }
     {
         if self.commit.is_planned() {
@@ -42,7 +41,7 @@ impl<D: Disk + Drop> Core<D> {
 
     /// Makes the next device calls of the plan.
     pub(crate) fn device(&mut self) -> Reply
-        ensures grew { GrewTo self.old.commit.store.disks self.new.commit.store.disks }
+        ensures grew { GrewTo (disks_in self.old) (disks_in self.new) }
         ensures goes { StepsUnlessSuspended (state_of self.old) steps.Device result (state_of self.new) }
     {
         match self.commit.device() {
@@ -55,9 +54,9 @@ impl<D: Disk + Drop> Core<D> {
 
     /// All device calls of the group that is synced are made.
     fn commit_group(&mut self) -> Reply
-        ensures commit { self.new.commit ≡ self.old.commit }
-        ensures committed { (v : View) → Follows self.old.intake v → is_syncing v.sync ≡ true
-            → (result ≡ replies.Committed (suc v.committed)) × Follows self.new.intake (committed_next v) }
+        ensures commit { (state_of self.new).commit ≡ (state_of self.old).commit }
+        ensures committed { (v : View) → Follows (state_of self.old).intake v → is_syncing v.sync ≡ true
+            → (result ≡ replies.Committed (suc v.committed)) × Follows (state_of self.new).intake (committed_next v) }
     {
         match self.intake.commit() {
             Ok(group) => Reply::Committed(group),
@@ -67,7 +66,7 @@ impl<D: Disk + Drop> Core<D> {
 
     /// A disk failed a call of the plan, which is dropped: the pool waits to be planned again, or it is suspended.
     fn replan(&self, disk: usize) -> Reply
-        ensures { (v : View) → Backs (commit_state self.now.commit) v → result ≡ (if is_suspended v then replies.Refused causes.Suspended else replies.Replan disk) }
+        ensures { (v : View) → Backs (state_of self.now).commit v → result ≡ (if is_suspended v then replies.Refused causes.Suspended else replies.Replan disk) }
     {
         if self.commit.is_suspended() {
             return Reply::Refused(Refusal::Suspended);

@@ -5,6 +5,7 @@ use Rattle.model_disk.specs.Call.{flush_call}
 use Rattle.block_store.specs.declared.device.FailedDisk.{FailedDisk}
 use Rattle.block_store.specs.Store.{IsOutToo}
 use Rattle.pool_model.specs.declared.step.Phase.TheVariants as phases
+use Rattle.pool_model.specs.Machine.{due_flush}
 use Rattle.pool_commit.specs.Making.{flushes_left, MadeCalls, FailedCall, FlushesMove}
 use Rattle.pool_commit.proofs.Made.{none_made, one_made, one_failed, flush_made, flush_lost, below_four, err_is, no_flushes, one_flushed}
 use Rattle.pool_commit.proofs.device.make_flushes.Goals as goal
@@ -23,9 +24,9 @@ returns-in-Err-clause-failed g c =
     let lost = flush_lost c.flush.result c.loop.store c.flush.new.self c.in-Some.disk (ap is_ok c.in-Err.is) c.flush.ensures.starts c.flush.ensures.spaces
     c.flush.ensures.plans c.flush.ensures.call in
     let failed = one_failed c.args.store.now c.loop.store c.flush.new.self (flushes_left c.args.flushes.now.items) (flushes_left c.pop_front.new.self.items) phases.BlocksFlush c.loop.counter
-    c.in-Some.disk (flush_call c.flush.result)
+    (due_flush c.in-Some.disk) (flush_call c.flush.result)
     (subst (λ (flushes : List ℕ). MadeCalls c.args.store.now c.loop.store (flushes_left c.args.flushes.now.items) (flushes_left flushes) phases.BlocksFlush c.loop.counter) c.in-Some.ensures.items c.loop.invariant.0)
-    few.1 lost.0 lost.1 (err_is c.flush.result c.in-Err.failed (λ f. IsOutToo c.loop.store.out c.in-Some.disk c.flush.new.self.out) c.in-Err.is c.flush.ensures.out_too) in
+    few.1 lost.0 refl lost.1 (err_is c.flush.result c.in-Err.failed (λ f. IsOutToo c.loop.store.out c.in-Some.disk c.flush.new.self.out) c.in-Err.is c.flush.ensures.out_too) in
     subst (λ disk. FailedCall c.args.store.now c.flush.new.self (flushes_left c.args.flushes.now.items) phases.BlocksFlush disk)
     (sym (err_is c.flush.result c.in-Err.failed (λ (f : FailedDisk). f.disk ≡ c.in-Some.disk) c.in-Err.is c.flush.ensures.failed)) failed
 
@@ -34,9 +35,9 @@ loop-preserved g c =
     let made = flush_made c.flush.result c.loop.store c.flush.new.self c.in-Some.disk (ap is_ok c.in_default-flush.is) c.flush.ensures.starts c.flush.ensures.spaces
     c.flush.ensures.plans c.flush.ensures.call in (
       one_made c.args.store.now c.loop.store c.flush.new.self (flushes_left c.args.flushes.now.items) (flushes_left c.pop_front.new.self.items) phases.BlocksFlush c.loop.counter
-          c.in-Some.disk (flush_call c.flush.result)
+          (due_flush c.in-Some.disk) (flush_call c.flush.result)
           (subst (λ (flushes : List ℕ). MadeCalls c.args.store.now c.loop.store (flushes_left c.args.flushes.now.items) (flushes_left flushes) phases.BlocksFlush c.loop.counter) c.in-Some.ensures.items c.loop.invariant.0)
-          made.0 made.1 c.in_default-flush.ensures.out,
+          made.0 refl made.1 c.in_default-flush.ensures.out,
       c.flush.ensures.due ∙ c.loop.invariant.1,
       λ disk held. c.loop.invariant.2 disk (subst (λ (xs : List ℕ). Contains xs disk) (sym c.in-Some.ensures.items) (Contains-later c.in-Some.disk c.pop_front.new.self.items disk held)),
       one_flushed c.flush.result c.args.store.now c.loop.store c.flush.new.self c.args.flushes.now.items c.pop_front.new.self.items c.in-Some.disk (ap is_ok c.in_default-flush.is) c.flush.ensures.call

@@ -1,42 +1,64 @@
-use Rattle.std.proofs.Common.{◌≡◌, List, min, ap, sym, ◌∙◌, subst, arith, length, is_ok}
+use Rattle.std.proofs.Common.{◌≡◌, ℕ, ◌+◌, List, min, refl, ap, sym, ◌∙◌, subst, arith, length, is_ok}
 use Rattle.model_disk.specs.Call.{write_call}
 use Rattle.raidz_io.specs.declared.writes.ColumnWrite.{ColumnWrite}
 use Rattle.block_store.specs.declared.device.FailedDisk.{FailedDisk}
 use Rattle.block_store.specs.Store.{IsOutToo}
 use Rattle.pool_model.specs.declared.step.Phase.TheVariants as phases
+use Rattle.pool_model.specs.Flow.{counted_on}
+use Rattle.pool_model.specs.Machine.{due_write}
 use Rattle.pool_commit.specs.Making.{writes_left, MadeCalls, FailedCall}
 use Rattle.pool_commit.proofs.Made.{none_made, one_made, one_failed, write_made, write_lost, below_four, left_some, err_is, writes_count}
 use Rattle.pool_commit.proofs.device.make_writes.Goals as goal
 
 pub loop-init : goal.loop-init
-loop-init g c = none_made c.args.store.now (writes_left c.args.store.now.due) phases.Blocks
+loop-init g c counts = (counts, none_made c.args.store.now (writes_left counts c.args.store.now.due) phases.Blocks)
 
 pub write_next-requires : goal.write_next-requires
 write_next-requires g c =
     let few = below_four (length c.args.store.now.due) c.min-end.result c.loop.counter (c.min-end.ensures ∙ ap (λ n. min n 4) c.due_count.ensures) c.loop-test.true in
-    let left = left_some (writes_left c.args.store.now.due) _ (writes_left c.loop.store.due) c.loop.counter c.loop.invariant.order c.loop.invariant.count
-    (omega (arith, few.0, writes_count c.args.store.now.due)) in
-    omega (arith, left, writes_count c.loop.store.due)
+    let so = c.loop.invariant (λ disk. 0) in
+    let count = writes_count (λ disk. 0) c.args.store.now.due in
+    let left = left_some (writes_left (λ disk. 0) c.args.store.now.due) so.1.made (writes_left so.0 c.loop.store.due) c.loop.counter so.1.order so.1.count
+    (omega (arith, few.0, count)) in
+    omega (arith, left, writes_count so.0 c.loop.store.due)
 
 pub returns-in-Err-clause-failed : goal.returns-in-Err-clause-failed
-returns-in-Err-clause-failed g c =
+returns-in-Err-clause-failed g c counts =
     let call = c.write_next.ensures.call in
+    let so = c.loop.invariant counts in
+    let number : ℕ = so.0 call.0.disk in
     let few = below_four (length c.args.store.now.due) c.min-end.result c.loop.counter (c.min-end.ensures ∙ ap (λ n. min n 4) c.due_count.ensures) c.loop-test.true in
-    let lost = write_lost c.write_next.result c.loop.store c.write_next.new.self call.0 (ap is_ok c.in-Err.is) c.write_next.ensures.starts c.write_next.ensures.spaces
+    let lost = write_lost c.write_next.result c.loop.store c.write_next.new.self call.0 number (ap is_ok c.in-Err.is) c.write_next.ensures.starts c.write_next.ensures.spaces
     c.write_next.ensures.plans call.2 in
-    let failed = one_failed c.args.store.now c.loop.store c.write_next.new.self (writes_left c.args.store.now.due) (writes_left c.write_next.new.self.due) phases.Blocks c.loop.counter
-    call.0.disk (write_call c.write_next.result call.0.offset call.0.bytes.items)
-    (subst (λ (writes : List ColumnWrite). MadeCalls c.args.store.now c.loop.store (writes_left c.args.store.now.due) (writes_left writes) phases.Blocks c.loop.counter) call.1 c.loop.invariant)
-    few.1 lost.0 lost.1 (err_is c.write_next.result c.in-Err.failed (λ f. IsOutToo c.loop.store.out call.0.disk c.write_next.new.self.out) c.in-Err.is call.4) in
-    subst (λ disk. FailedCall c.args.store.now c.write_next.new.self (writes_left c.args.store.now.due) phases.Blocks disk)
+    let failed = one_failed c.args.store.now c.loop.store c.write_next.new.self (writes_left counts c.args.store.now.due) (writes_left (counted_on so.0 call.0.disk) c.write_next.new.self.due) phases.Blocks c.loop.counter
+    (due_write call.0.disk number) (write_call c.write_next.result call.0.offset call.0.bytes.items)
+    (subst (λ (writes : List ColumnWrite). MadeCalls c.args.store.now c.loop.store (writes_left counts c.args.store.now.due) (writes_left so.0 writes) phases.Blocks c.loop.counter) call.1 so.1)
+    few.1 lost.0 refl lost.1 (err_is c.write_next.result c.in-Err.failed (λ f. IsOutToo c.loop.store.out call.0.disk c.write_next.new.self.out) c.in-Err.is call.4) in
+    subst (λ disk. FailedCall c.args.store.now c.write_next.new.self (writes_left counts c.args.store.now.due) phases.Blocks disk)
     (sym (err_is c.write_next.result c.in-Err.failed (λ (f : FailedDisk). f.disk ≡ call.0.disk) c.in-Err.is call.3)) failed
 
 pub loop-preserved : goal.loop-preserved
-loop-preserved g c =
+loop-preserved g c counts =
     let call = c.write_next.ensures.call in
-    let made = write_made c.write_next.result c.loop.store c.write_next.new.self call.0 (ap is_ok c.in_default.is) c.write_next.ensures.starts c.write_next.ensures.spaces
-    c.write_next.ensures.plans call.2 in
-    one_made c.args.store.now c.loop.store c.write_next.new.self (writes_left c.args.store.now.due) (writes_left c.write_next.new.self.due) phases.Blocks c.loop.counter
-    call.0.disk (write_call c.write_next.result call.0.offset call.0.bytes.items)
-    (subst (λ (writes : List ColumnWrite). MadeCalls c.args.store.now c.loop.store (writes_left c.args.store.now.due) (writes_left writes) phases.Blocks c.loop.counter) call.1 c.loop.invariant)
-    made.0 made.1 c.in_default.ensures.out
+    let so = c.loop.invariant counts in
+    let number : ℕ = so.0 call.0.disk in
+    let made = write_made c.write_next.result c.loop.store c.write_next.new.self call.0 number (ap is_ok c.in_default.is) c.write_next.ensures.starts c.write_next.ensures.spaces
+    c.write_next.ensures.plans call.2 in (
+      counted_on so.0 call.0.disk,
+      one_made c.args.store.now c.loop.store c.write_next.new.self (writes_left counts c.args.store.now.due) (writes_left (counted_on so.0 call.0.disk) c.write_next.new.self.due) phases.Blocks c.loop.counter
+          (due_write call.0.disk number) (write_call c.write_next.result call.0.offset call.0.bytes.items)
+          (subst (λ (writes : List ColumnWrite). MadeCalls c.args.store.now c.loop.store (writes_left counts c.args.store.now.due) (writes_left so.0 writes) phases.Blocks c.loop.counter) call.1 so.1)
+          made.0 refl made.1 c.in_default.ensures.out,
+    )
+
+pub returns-in-Err-clause-grew : goal.returns-in-Err-clause-grew
+returns-in-Err-clause-grew g c = (returns-in-Err-clause-failed g c (λ disk. 0)).same.grew
+
+pub returns-clause-grew : goal.returns-clause-grew
+returns-clause-grew g c = (c.loop.invariant (λ disk. 0)).1.same.grew
+
+pub returns-clause-made : goal.returns-clause-made
+returns-clause-made g c counts =
+    let ends : c.loop.counter ≡ c.min-end.result = omega (arith, c.loop.auto.counter-end, c.loop-test.false) in
+    let all : c.loop.counter ≡ min (length c.args.store.now.due) 4 = ends ∙ c.min-end.ensures ∙ ap (λ n. min n 4) c.due_count.ensures in
+    subst (λ (n : ℕ). (later : ℕ → ℕ) × MadeCalls c.args.store.now c.loop.store (writes_left counts c.args.store.now.due) (writes_left later c.loop.store.due) phases.Blocks n) all (c.loop.invariant counts)

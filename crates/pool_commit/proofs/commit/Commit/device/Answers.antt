@@ -19,9 +19,9 @@ with_it s plan v is backs = subst (λ (o : Option Planned). Backs (record s { pl
 pub returns-then-due_count-gt0-clause-some : goal.returns-then-due_count-gt0-clause-some
 returns-then-due_count-gt0-clause-some g c v backs low =
     let with_one = with_it (state_of c.args.self.now) c.in_ok-planned.planned v c.in_ok-planned.ensures.value backs in
-    (ap is_planned with_one.blocks.plan.0, c.write.ensures.goes v with_one low)
+    (ap is_planned with_one.blocks.plan.sync, c.write.ensures.goes v with_one low)
 
 pub returns-else-due_count-gt0-clause-some : goal.returns-else-due_count-gt0-clause-some
 returns-else-due_count-gt0-clause-some g c v backs low =
     let with_one = with_it (state_of c.args.self.now) c.in_ok-planned.planned v c.in_ok-planned.ensures.value backs in
-    (ap is_planned with_one.blocks.plan.0, c.flush.ensures.goes v with_one low)
+    (ap is_planned with_one.blocks.plan.sync, c.flush.ensures.goes v with_one low)

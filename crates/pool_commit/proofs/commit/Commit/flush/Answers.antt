@@ -6,9 +6,11 @@ use Rattle.pool_commit.specs.HasDisks.{AreBelow}
 use Rattle.pool_commit.specs.Making.{flushes_left, MadeCalls, FailedCall}
 use Rattle.pool_commit.specs.Backs.{left_calls}
 use Rattle.pool_commit.specs.Progress.{Progresses, GoesOn}
+use Rattle.block_store.specs.Store.{Store}
+use Rattle.pool_commit.specs.State.{State}
 use Rattle.pool_commit.specs.StateOf.{state_of}
 use Rattle.pool_model.specs.declared.step.Phase.TheVariants as phases
-use Rattle.pool_commit.proofs.Progressing.{goes_on, drops, next_flushes, flushes_stay, there_still, some_or_none, few_of}
+use Rattle.pool_commit.proofs.Progressing.{MakesNext, goes_on, drops, next_flushes, flushes_stay, there_still, some_or_none, few_of}
 use Rattle.pool_commit.proofs.commit.Commit.flush.Goals as goal
 
 pub make_flushes-requires : goal.make_flushes-requires
@@ -21,26 +23,36 @@ go_on-requires-clause-there g c =
 
 pub returns-in-Ok-clause-goes : goal.returns-in-Ok-clause-goes
 returns-in-Ok-clause-goes g c v backs low =
+    let old : State = state_of c.args.self.now in
+    let store : Store = c.args.self.now.store in
+    let mid : Store = c.make_flushes.new.store in
+    let flushes : List ℕ = c.args.planned.flushes.items in
+    let counts : ℕ → ℕ = backs.blocks.plan.counts in
     let later : Planned = record { volumes = c.args.planned.volumes; flushes = c.make_flushes.new.flushes } in
-    let none : c.make_flushes.new.store.due ≡ [] = c.in-Ok.ensures.due ∙ c.requires.written in
-    let made : MadeCalls c.args.self.now.store c.make_flushes.new.store (left_calls c.args.self.now.store.due c.args.planned.flushes.items) (left_calls c.make_flushes.new.store.due later.flushes.items) phases.BlocksFlush (min (length c.args.planned.flushes.items) 4) =
-    subst (λ (due : List ColumnWrite). MadeCalls c.args.self.now.store c.make_flushes.new.store (left_calls due c.args.planned.flushes.items) (left_calls c.make_flushes.new.store.due later.flushes.items) phases.BlocksFlush (min (length c.args.planned.flushes.items) 4))
+    let none : mid.due ≡ [] = c.in-Ok.ensures.due ∙ c.requires.written in
+    let made : MadeCalls store mid (left_calls counts store.due flushes) (left_calls counts mid.due later.flushes.items) phases.BlocksFlush (min (length flushes) 4) =
+    subst (λ (due : List ColumnWrite). MadeCalls store mid (left_calls counts due flushes) (left_calls counts mid.due later.flushes.items) phases.BlocksFlush (min (length flushes) 4))
     (sym c.requires.written)
-    (subst (λ (due : List ColumnWrite). MadeCalls c.args.self.now.store c.make_flushes.new.store (flushes_left c.args.planned.flushes.items) (left_calls due later.flushes.items) phases.BlocksFlush (min (length c.args.planned.flushes.items) 4))
+    (subst (λ (due : List ColumnWrite). MadeCalls store mid (flushes_left flushes) (left_calls counts due later.flushes.items) phases.BlocksFlush (min (length flushes) 4))
     (sym none) c.in-Ok.ensures.made) in
-    goes_on (state_of c.args.self.now) c.make_flushes.new.store c.args.planned later v phases.BlocksFlush (min (length c.args.planned.flushes.items) 4) c.go_on.result (state_of c.go_on.new.self)
+    goes_on old mid c.args.planned later v phases.BlocksFlush (min (length flushes) 4) c.go_on.result (state_of c.go_on.new.self) counts
     backs low
-    (subst (λ (due : List ColumnWrite). (0 < min (length c.args.planned.flushes.items) 4) ⊎ (left_calls due c.args.planned.flushes.items ≡ [])) (sym c.requires.written) (some_or_none c.args.planned.flushes.items))
-    (few_of (length c.args.planned.flushes.items)) made (next_flushes (state_of c.args.self.now) c.args.planned c.requires.written)
-    (flushes_stay (state_of c.args.self.now) c.args.planned later c.make_flushes.new.store none c.in-Ok.ensures.flushed) refl
-    (subst (λ (o : Option Planned). GoesOn (record { store = c.make_flushes.new.store; kept = c.args.self.now.kept; planned = o }) later phases.BlocksFlush c.go_on.result (state_of c.go_on.new.self))
+    (subst (λ (due : List ColumnWrite). (0 < min (length flushes) 4) ⊎ (left_calls counts due flushes ≡ [])) (sym c.requires.written) (some_or_none flushes))
+    (few_of (length flushes)) made
+    (subst (λ (due : List ColumnWrite). MakesNext (left_calls counts due flushes) phases.BlocksFlush) (sym c.requires.written) (next_flushes flushes))
+    (flushes_stay old c.args.planned later mid none c.in-Ok.ensures.flushed) refl
+    (subst (λ (o : Option Planned). GoesOn (record { store = mid; kept = c.args.self.now.kept; planned = o }) later phases.BlocksFlush c.go_on.result (state_of c.go_on.new.self))
     c.requires.none c.go_on.ensures)
 
 pub returns-in-Err-clause-goes : goal.returns-in-Err-clause-goes
 returns-in-Err-clause-goes g c v backs low =
-    subst (λ (p : Progress). Progresses (state_of c.args.self.now) p (state_of c.drop_plan.new.self) v) (sym c.drop_plan.ensures.result)
-    (drops (state_of c.args.self.now) c.make_flushes.new.store c.args.planned v phases.BlocksFlush c.in-Err.failed.disk (state_of c.drop_plan.new.self) backs
-    (subst (λ (due : List ColumnWrite). FailedCall c.args.self.now.store c.make_flushes.new.store (left_calls due c.args.planned.flushes.items) phases.BlocksFlush c.in-Err.failed.disk)
+    let old : State = state_of c.args.self.now in
+    let store : Store = c.args.self.now.store in
+    let flushes : List ℕ = c.args.planned.flushes.items in
+    let counts : ℕ → ℕ = backs.blocks.plan.counts in
+    subst (λ (p : Progress). Progresses old p (state_of c.drop_plan.new.self) v) (sym c.drop_plan.ensures.result)
+    (drops old c.make_flushes.new.store c.args.planned v phases.BlocksFlush c.in-Err.failed.disk (state_of c.drop_plan.new.self) backs
+    (subst (λ (due : List ColumnWrite). FailedCall store c.make_flushes.new.store (left_calls counts due flushes) phases.BlocksFlush c.in-Err.failed.disk)
     (sym c.requires.written) c.in-Err.ensures.failed)
-    (next_flushes (state_of c.args.self.now) c.args.planned c.requires.written)
+    (subst (λ (due : List ColumnWrite). MakesNext (left_calls counts due flushes) phases.BlocksFlush) (sym c.requires.written) (next_flushes flushes))
     c.drop_plan.ensures.store c.drop_plan.ensures.kept (c.drop_plan.ensures.planned ∙ c.requires.none))
