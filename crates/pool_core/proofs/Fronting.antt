@@ -65,11 +65,12 @@ backs_kept s v w k backs = record {
 
 -- ---- nothing was called
 
-pub nothing_is_given : (s : CoreState) (intake : Intake) → IsGiven s (record s { intake = intake }) nothing_given
-nothing_is_given s intake = record {
+pub nothing_is_given : (s : CoreState) (v : View) (step : Step) (intake : Intake) → IsGiven s v step (record s { intake = intake }) nothing_given
+nothing_is_given s v step intake = record {
   made = sym (made_by_none (core_disks s));
   fault = sym (told_by_none fault_call (core_disks s));
   unread = sym (told_by_none unread_call (core_disks s));
+  lost = λ vdev e. absurd (cc);
   full = λ e. absurd (true≢false (sym e));
 }
 
@@ -109,7 +110,7 @@ front s intake v trusted step reply r is_front goes = record {
   trust = λ e. refl;
   after = goes.0;
   link = record {
-    is_given = nothing_is_given s intake;
+    is_given = nothing_is_given s v step intake;
     is_step = goes.1;
     represents = record { follows = goes.2; backs = backs_kept s.commit v goes.0 goes.3 r.backs };
     flushed = front_commits_none v nothing_given step reply goes.0 (record s { intake = intake }) is_front goes.1;
@@ -125,7 +126,7 @@ refused s v trusted step cause r first = record {
   trust = λ e. refl;
   after = v;
   link = record {
-    is_given = nothing_is_given s s.intake;
+    is_given = nothing_is_given s v step s.intake;
     is_step = inl (record { cause = cause; first = first; answer = refl; unchanged = refl; quiet = nothing_quiet; calls = may_nothing step });
     represents = r;
     flushed = tt;

@@ -9,12 +9,14 @@ use Rattle.raidz_io.specs.Reads.{IsRead, AreReads, OnlyReads, AreUntouched}
 use Rattle.pool_model.specs.declared.refusal.Refusal.TheVariants as causes
 use Rattle.pool_model.specs.declared.refusal.Refusal.{Refusal as Cause}
 use Rattle.pool_model.specs.declared.step.Phase.{Phase}
+use Rattle.pool_model.specs.declared.step.Step.{Step}
 use Rattle.pool_model.specs.declared.step.Step.TheVariants.{Plan, Device}
 use Rattle.pool_model.specs.declared.step.Reply.{Reply}
 use Rattle.pool_model.specs.declared.step.Reply.TheVariants.{Planned, Moved, Replan, Committed, Refused}
-use Rattle.pool_model.specs.View.{View, Given, DueCall, is_away, nothing_given, Sync, Unplanned, Left, is_syncing, is_planned, is_quiesced, is_suspended, open_after}
+use Rattle.pool_model.specs.View.{View, Vdev, Given, DueCall, is_away, nothing_given, Sync, Unplanned, Left, is_syncing, is_planned, is_quiesced, is_suspended, open_after}
+use Rattle.pool_model.specs.Pools.{Entry}
 use Rattle.pool_model.specs.Refusals.{greatest, first_cause, refusal_of}
-use Rattle.pool_model.specs.Machine.{StepOf, IsPlan, IsQuiet, FailsOn, IsReadCause, IsUnreadable, taken, committed_next, dropped}
+use Rattle.pool_model.specs.Machine.{StepOf, IsPlan, IsQuiet, FailsOn, IsUnreadable, taken, committed_next, dropped}
 use Rattle.pool_model.proofs.Plans.{nothing_quiet}
 use Rattle.pool_intake.specs.declared.intake.Intake.{Intake}
 use Rattle.pool_intake.specs.Follows.{Follows}
@@ -24,7 +26,7 @@ use Rattle.pool_commit.specs.declared.kept.Planned.{Planned as PlannedGroup}
 use Rattle.pool_commit.specs.Backs.{Backs, IsPlanOf}
 use Rattle.pool_commit.specs.Calls.{disk_call, plan_call, fault_call, unread_call, told_since, made_between, faults_between, unread_between, GrewTo, which_call, called_between}
 use Rattle.pool_commit.specs.Progress.{AreMade, Progresses}
-use Rattle.pool_commit.specs.Reading.{IsReadFault, IsLost}
+use Rattle.pool_commit.specs.Reading.{IsLostUnder, IsLostForPlan, LosesUnder, LosesForPlan}
 use Rattle.pool_commit.specs.Room.{LacksRoom}
 use Rattle.pool_commit.specs.State.{State}
 use Rattle.pool_commit.proofs.Made.{told_by_none}
@@ -34,11 +36,11 @@ use Rattle.raidz_io.proofs.Calls.{Contains-front, Contains-cases, Contains-none}
 use Rattle.std.proofs.lemmas.List.Elements.{Contains-append_left, Contains-append_right}
 use Rattle.std.specs.List.{AllByRecursion}
 use Rattle.pool_commit.specs.declared.refusal.Refusal.{Refusal}
-use Rattle.pool_commit.specs.declared.refusal.Refusal.TheVariants.{NoMemory, NoSpace}
+use Rattle.pool_commit.specs.declared.refusal.Refusal.TheVariants.{NoMemory, DiskFault, NoSpace, BadPointer, BadDigest}
 use Rattle.pool_core.specs.Causes.{cause_of}
 use Rattle.pool_core.specs.Represents.{Represents}
 use Rattle.pool_core.specs.State.{CoreState, disks_of}
-use Rattle.pool_core.specs.Steps.{AwayIsUntouched, AreFlushed, AreTrue, fault_list, IsGiven, Goes}
+use Rattle.pool_core.specs.Steps.{AwayIsUntouched, AreFlushed, AreTrue, fault_list, LosesBlock, FindsNoRoom, IsGiven, Goes}
 use Rattle.pool_core.proofs.Fronting.{nothing_is_given}
 
 -- ---- reads are no calls of a plan
@@ -79,33 +81,60 @@ pub reads_grow : (old new : Disks) → OnlyReads old new → GrewTo old new
 reads_grow old new reads = record { starts = reads.starts; newer = reads.newer; calls = reads.calls }
 
 -- where nothing was done but reads
-abbrev pub given_by_reads : CoreState → CoreState → Bool → Bool → Given
-given_by_reads old new trusted full = record { made = []; fault = None; unread = unread_between (disks_of old) (disks_of new); trusted = trusted; full = full }
+abbrev pub given_by_reads : CoreState → CoreState → Option Vdev → Bool → Bool → Given
+given_by_reads old new lost trusted full =
+    record { made = []; fault = None; unread = unread_between (disks_of old) (disks_of new); lost_on = lost; trusted = trusted; full = full }
 
-pub reads_are_given : (old new : CoreState) (trusted full : Bool) → OnlyReads (disks_of old) (disks_of new) → (full ≡ true → LacksRoom new.commit) → IsGiven old new (given_by_reads old new trusted full)
-reads_are_given old new trusted full reads room = record {
+pub reads_are_given : (old : CoreState) (v : View) (step : Step) (new : CoreState) (lost : Option Vdev) (trusted full : Bool) → OnlyReads (disks_of old) (disks_of new)
+    → ((vdev : Vdev) → lost ≡ Some vdev → LosesBlock old v step new vdev) → (full ≡ true → FindsNoRoom old v step) → IsGiven old v step new (given_by_reads old new lost trusted full)
+reads_are_given old v step new lost trusted full reads loses room = record {
   made = sym (told_by_reads plan_call (disks_of old) (disks_of new) not_due reads);
   fault = sym (told_by_reads fault_call (disks_of old) (disks_of new) no_fault reads);
   unread = refl;
+  lost = loses;
   full = room;
 }
 
-pub reads_quiet : (old new : CoreState) (trusted full : Bool) → IsQuiet (given_by_reads old new trusted full)
-reads_quiet old new trusted full = record { made = refl; fault = refl }
+pub reads_quiet : (old new : CoreState) (lost : Option Vdev) (trusted full : Bool) → IsQuiet (given_by_reads old new lost trusted full)
+reads_quiet old new lost trusted full = record { made = refl; fault = refl }
 
--- what could not be read, of a view
-pub unreadable : (v : View) (old new : CoreState) (trusted full : Bool) (refusal : Refusal) → IsLost v [] old.commit new.commit refusal → (trusted ≡ true → AreTrue old new)
-    → IsUnreadable v (given_by_reads old new trusted full) (cause_of refusal)
-unreadable v old new trusted full refusal lost honest = (is_cause refusal lost.0, why trusted honest)
-  where
-    is_cause : (refusal : Refusal) → IsReadFault refusal → IsReadCause (cause_of refusal)
-    is_cause refusal is = ⊎_elim
-        (λ e. inl (ap cause_of e))
-        (λ o. ⊎_elim (λ e. inr (inl (ap cause_of e))) (λ e. inr (inr (inl (ap cause_of e)))) o) is
+-- a block that could not be read, as it is given
+pub record GivesLost (v : View) (old new : CoreState) (trusted : Bool) (cause : Cause) (Loses : Vdev → Type 0) : Type 0 where
+  pub lost : Option Vdev
+  pub unreadable : IsUnreadable v (given_by_reads old new lost trusted false) cause
+  pub loses : (vdev : Vdev) → lost ≡ Some vdev → Loses vdev
 
-    why : (t : Bool) → (t ≡ true → AreTrue old new) → (is_readable v (given_by_reads old new t full) ≡ false) ⊎ (t ≡ false)
-    why true honest = inl (lost.1 (honest refl))
-    why false honest = inr refl
+untrusted : {P : Type 0} (trusted : Bool) → (trusted ≡ true → P) → ¬ P → trusted ≡ false
+untrusted true honest no = absurd (no (honest refl))
+untrusted false honest no = refl
+
+none_lost : {P : Vdev → Type 0} (vdev : Vdev) → None ≡ Some vdev → P vdev
+none_lost vdev e = absurd (cc)
+
+this_lost : {P : Vdev → Type 0} (lost vdev : Vdev) → P lost → Some lost ≡ Some vdev → P vdev
+this_lost {P} lost vdev p e = let same : lost ≡ vdev = cc in subst P same p
+
+pub under_given : (v : View) (old new : CoreState) (trusted : Bool) (group : ℕ) (name : List ℕ) (offset len : ℕ) (refusal : Refusal)
+    → IsLostUnder v old.commit new.commit group name offset len [] refusal → (trusted ≡ true → AreTrue old new)
+    → GivesLost v old new trusted (cause_of refusal) (LosesUnder v old.commit new.commit group name offset len)
+under_given v old new trusted group name offset len DiskFault is honest = record {
+  lost = Some is.lost.0;
+  unreadable = (is.lost.0, refl, record { there = is.lost.2; more = is.lost.3 });
+  loses = λ vdev e. this_lost is.lost.0 vdev (record { unread = is.unread; last = is.lost.1 }) e;
+}
+under_given v old new trusted group name offset len BadDigest is honest = record { lost = None; unreadable = untrusted trusted honest is.lost; loses = none_lost }
+under_given v old new trusted group name offset len refusal is honest = absurd is.lost
+
+pub plan_given : (v : View) (old new : CoreState) (trusted : Bool) (items : Entry) (refusal : Refusal)
+    → IsLostForPlan v old.commit new.commit items refusal → (trusted ≡ true → AreTrue old new)
+    → GivesLost v old new trusted (cause_of refusal) (LosesForPlan v old.commit new.commit items)
+plan_given v old new trusted items DiskFault is honest = record {
+  lost = Some is.lost.0;
+  unreadable = (is.lost.0, refl, record { there = is.lost.2; more = is.lost.3 });
+  loses = λ vdev e. this_lost is.lost.0 vdev (record { unread = is.unread; last = is.lost.1 }) e;
+}
+plan_given v old new trusted items BadDigest is honest = record { lost = None; unreadable = untrusted trusted honest is.lost; loses = none_lost }
+plan_given v old new trusted items refusal is honest = absurd is.lost
 
 -- reads and plans that touch no disk that is out
 pub spares_outs : (s : CoreState) (commit : State) (intake : Intake) (v : View) (missing : List ℕ) → Represents s v → AreUntouched (outs s.commit.store ++ missing) (disks_of s) commit.store.disks
@@ -157,9 +186,9 @@ abbrev device_given : List DueCall → Option DueCall → Given
 device_given made fault = record { made = made; fault = fault; unread = []; lost_on = None; trusted = true; full = false }
 
 device_is_given : (old new : CoreState) (v : View) (made : List DueCall) (fault : Option DueCall) → AreMade (disks_of old) (disks_of new) v made
-    → faults_between (disks_of old) (disks_of new) ≡ map disk_call (fault_list fault) → IsGiven old new (device_given made fault)
+    → faults_between (disks_of old) (disks_of new) ≡ map disk_call (fault_list fault) → IsGiven old v Device new (device_given made fault)
 device_is_given old new v made fault are faults =
-    record { made = are.seen; fault = sym faults; unread = sym are.unread; full = λ e. absurd (true≢false (sym e)) }
+    record { made = are.seen; fault = sym faults; unread = sym are.unread; lost = none_lost; full = λ e. absurd (true≢false (sym e)) }
 
 late : (m n : ℕ) → m ≤ n → nat_le m n ≡ true
 late m n h = grind (arith, nat_tests)
@@ -242,7 +271,7 @@ drops s commit v trusted disk reply r free p grew is = go (is_suspended (dropped
     given : Given
     given = device_given p.0.made (Some p.0.call)
 
-    is_given : IsGiven s new given
+    is_given : IsGiven s v Device new given
     is_given = device_is_given s new v p.0.made (Some p.0.call) p.0.are_made p.0.fault
 
     fails : FailsOn v given disk
@@ -315,12 +344,12 @@ pub plans : (s : CoreState) (intake : Intake) (commit : State) (v : View) (trust
 plans s intake commit v trusted timestamp group calls none f is plan backs reads spared =
     let new : CoreState = record { intake = intake; commit = commit } in
     record {
-      given = given_by_reads s new trusted false;
+      given = given_by_reads s new None trusted false;
       trust = λ e. e;
       after = taken v (Left calls);
       link = record {
-        is_given = reads_are_given s new trusted false reads (λ e. absurd (true≢false (sym e)));
-        is_step = inr (inr (record { none = none; granted = (is, calls, record { in_use = plan.in_use; flushes = plan.flushes }, refl); calls = reads_quiet s new trusted false }));
+        is_given = reads_are_given s v (Plan timestamp) new None trusted false reads none_lost (λ e. absurd (true≢false (sym e)));
+        is_step = inr (inr (record { none = none; granted = (is, calls, record { in_use = plan.in_use; numbered = plan.numbered; flushes = plan.flushes }, refl); calls = reads_quiet s new None trusted false }));
         represents = record { follows = follows_on intake (taken v Unplanned) (Left calls) v.out f refl refl; backs = backs };
         flushed = tt;
         untouched = spared;
@@ -331,28 +360,42 @@ plans s intake commit v trusted timestamp group calls none f is plan backs reads
 -- a plan that was refused, by its cause: its group is taken
 pub plan_refused : (s : CoreState) (intake : Intake) (commit : State) (v : View) (trusted : Bool) (timestamp : ℕ) (refusal : Refusal) (named : Cause) → named ≡ cause_of refusal
     → refusal_of v (Plan timestamp) ≡ None → Follows intake (taken v Unplanned) → Backs commit (taken v Unplanned) → OnlyReads (disks_of s) commit.store.disks → AwayIsUntouched s v (record { intake = intake; commit = commit })
-    → (trusted ≡ true → AreTrue s (record { intake = intake; commit = commit })) → (refusal ≡ NoSpace → LacksRoom commit)
-    → (refusal ≡ NoMemory) ⊎ (IsLost (taken v Unplanned) [] s.commit commit refusal ⊎ (refusal ≡ NoSpace))
+    → (trusted ≡ true → AreTrue s (record { intake = intake; commit = commit })) → (refusal ≡ NoSpace → LacksRoom s.commit (v.ledger (suc v.committed)))
+    → (refusal ≡ NoMemory) ⊎ (IsLostForPlan (taken v Unplanned) s.commit commit (v.ledger (suc v.committed)) refusal ⊎ (refusal ≡ NoSpace))
     → Goes s v trusted (Plan timestamp) (Refused named) (record { intake = intake; commit = commit })
 plan_refused s intake commit v trusted timestamp refusal named is none f backs reads spared honest full why =
-    let new : CoreState = record { intake = intake; commit = commit } in
     subst (λ (c : Cause). Goes s v trusted (Plan timestamp) (Refused c) new) (sym is) (⊎_elim
     (λ memory. subst (λ (x : Refusal). Goes s v trusted (Plan timestamp) (Refused (cause_of x)) new) (sym memory)
-    (goes false (λ e. absurd (true≢false (sym e))) causes.NoMemory (inr (inl (record { may = none; answer = refl; leaves = refl; calls = reads_quiet s new trusted false })))))
+    (goes None false none_lost (λ e. absurd (true≢false (sym e))) causes.NoMemory
+    (inr (inl (record { may = none; answer = refl; leaves = refl; calls = reads_quiet s new None trusted false })))))
     (λ other. ⊎_elim
-    (λ lost. goes false (λ e. absurd (true≢false (sym e))) (cause_of refusal)
-    (inr (inr (record { none = none; granted = (inl (unreadable (taken v Unplanned) s new trusted false refusal lost honest), refl); calls = reads_quiet s new trusted false }))))
+    (λ lost. let gives = plan_given (taken v Unplanned) s new trusted (v.ledger (suc v.committed)) refusal lost honest in
+    goes gives.lost false (λ vdev e. let there = gives.loses vdev e in record { unread = there.unread; last = record { place = there.last.place; is_last = there.last.is_last; is_there = there.last.is_there } })
+    (λ e. absurd (true≢false (sym e))) (cause_of refusal)
+    (inr (inr (record { none = none; granted = (inl (same_causes refusal gives.lost gives.unreadable), refl); calls = reads_quiet s new gives.lost trusted false }))))
     (λ space. subst (λ (x : Refusal). Goes s v trusted (Plan timestamp) (Refused (cause_of x)) new) (sym space)
-    (goes true (λ e. full space) causes.NoSpace (inr (inr (record { none = none; granted = (inr (refl, refl), refl); calls = reads_quiet s new trusted true }))))) other) why)
+    (goes None true none_lost (λ e. full space) causes.NoSpace (inr (inr (record { none = none; granted = (inr (refl, refl), refl); calls = reads_quiet s new None trusted true }))))) other) why)
   where
-    goes : (full : Bool) → (full ≡ true → LacksRoom commit) → (cause : Cause) → StepOf v (given_by_reads s (record { intake = intake; commit = commit }) trusted full) (Plan timestamp) (Refused cause) (taken v Unplanned)
-        → Goes s v trusted (Plan timestamp) (Refused cause) (record { intake = intake; commit = commit })
-    goes full room cause step = record {
-      given = given_by_reads s (record { intake = intake; commit = commit }) trusted full;
+    new : CoreState
+    new = record { intake = intake; commit = commit }
+
+    -- that the group is taken changes nothing of its disks
+    same_causes : (refusal : Refusal) (lost : Option Vdev) → IsUnreadable (taken v Unplanned) (given_by_reads s new lost trusted false) (cause_of refusal)
+        → IsUnreadable v (given_by_reads s new lost trusted false) (cause_of refusal)
+    same_causes DiskFault lost is = (is.0, is.1, record { there = is.2.there; more = is.2.more })
+    same_causes BadPointer lost is = is
+    same_causes BadDigest lost is = is
+    same_causes refusal lost is = absurd is
+
+    goes : (lost : Option Vdev) (full : Bool) → ((vdev : Vdev) → lost ≡ Some vdev → LosesBlock s v (Plan timestamp) new vdev) → (full ≡ true → FindsNoRoom s v (Plan timestamp)) → (cause : Cause)
+        → StepOf v (given_by_reads s new lost trusted full) (Plan timestamp) (Refused cause) (taken v Unplanned)
+        → Goes s v trusted (Plan timestamp) (Refused cause) new
+    goes lost full loses room cause step = record {
+      given = given_by_reads s new lost trusted full;
       trust = λ e. e;
       after = taken v Unplanned;
       link = record {
-        is_given = reads_are_given s (record { intake = intake; commit = commit }) trusted full reads room;
+        is_given = reads_are_given s v (Plan timestamp) new lost trusted full reads loses room;
         is_step = step;
         represents = record { follows = f; backs = backs };
         flushed = tt;
@@ -375,6 +418,7 @@ idles s commit v trusted r free none backs same =
           made = sym (ap (λ (d : Disks). made_between (disks_of s) d) same ∙ told_by_none plan_call (disks_of s));
           fault = sym (ap (λ (d : Disks). faults_between (disks_of s) d) same ∙ told_by_none fault_call (disks_of s));
           unread = sym (ap (λ (d : Disks). unread_between (disks_of s) d) same ∙ told_by_none unread_call (disks_of s));
+          lost = none_lost;
           full = λ e. absurd (true≢false (sym e));
         };
         is_step = inl (record { cause = causes.NotNow; first = device_early v free none; answer = refl; unchanged = refl; quiet = nothing_quiet; calls = refl });
@@ -393,7 +437,7 @@ takes_none s intake v trusted timestamp cause r first f = record {
   trust = λ e. refl;
   after = v;
   link = record {
-    is_given = nothing_is_given s intake;
+    is_given = nothing_is_given s v (Plan timestamp) intake;
     is_step = inl (record { cause = cause; first = first; answer = refl; unchanged = refl; quiet = nothing_quiet; calls = nothing_quiet });
     represents = record { follows = f; backs = r.backs };
     flushed = tt;

@@ -10,22 +10,23 @@ use Rattle.pool_model.specs.declared.step.Step.TheVariants.{Read, ReadUnder}
 use Rattle.pool_model.specs.declared.step.Reply.TheVariants.{Bytes, Refused}
 use Rattle.pool_model.specs.declared.volume.PlainVolume.{PlainVolume}
 use Rattle.pool_model.specs.Pools.{PlainPool, volume_at}
-use Rattle.pool_model.specs.View.{View, is_readable, now_of}
+use Rattle.pool_model.specs.View.{View, Vdev, now_of}
 use Rattle.pool_model.specs.Refusals.{refusal_of}
-use Rattle.pool_model.specs.Machine.{AreBytesOf, IsReadCause, StepOf}
+use Rattle.pool_model.specs.Machine.{AreBytesOf, StepOf}
 use Rattle.pool_now.specs.declared.shape.VolumeShape.{VolumeShape}
 use Rattle.pool_now.specs.Overlay.{HasRange}
 use Rattle.pool_now.specs.Shapes.{shape_of, shape_at}
 use Rattle.pool_commit.specs.declared.refusal.Refusal.{Refusal}
 use Rattle.pool_commit.specs.declared.refusal.Refusal.TheVariants.{NoMemory, NoSuchName, OutOfRange, GroupGone}
-use Rattle.pool_commit.specs.Reading.{AreTrue as AnswersAreTrue, HasNoCause, IsUnderCause, IsReadFault, IsLost, OnlyReadsPool, TooManyAreLost}
+use Rattle.pool_commit.specs.Reading.{AreTrue as AnswersAreTrue, HasNoCause, IsUnderCause, IsLostUnder, OnlyReadsPool}
 use Rattle.pool_commit.specs.State.{State}
 use Rattle.pool_core.specs.Causes.{cause_of}
 use Rattle.pool_core.specs.Represents.{Represents}
 use Rattle.pool_core.specs.State.{CoreState}
-use Rattle.pool_core.specs.Steps.{Goes}
+use Rattle.pool_core.specs.Steps.{LosesBlock, Goes}
+use Rattle.pool_core.specs.Reading.{IsLostAnswer}
 use Rattle.pool_core.proofs.Fronting.{IsFrontStep, front_commits_none, front_calls}
-use Rattle.pool_core.proofs.Phases.{given_by_reads, reads_are_given, reads_quiet, spares_outs}
+use Rattle.pool_core.proofs.Phases.{given_by_reads, reads_are_given, reads_quiet, under_given, spares_outs}
 
 -- ---- under a kept group
 
@@ -36,66 +37,66 @@ under_cause v group name offset len OutOfRange is = is
 under_cause v group name offset len GroupGone is = is
 under_cause v group name offset len refusal is = absurd is
 
--- what could not be read, as the machine names it
-pub lost_cause : (refusal : Refusal) → IsReadFault refusal → IsReadCause (cause_of refusal)
-lost_cause refusal is = ⊎_elim (λ e. inl (ap cause_of e)) (λ o. ⊎_elim (λ e. inr (inl (ap cause_of e))) (λ e. inr (inr (inl (ap cause_of e)))) o) is
-
 abbrev pub IsUnderRefused : View → ℕ → List ℕ → ℕ → ℕ → List ℕ → State → State → Cause → Type 0
 IsUnderRefused v group name offset len missing old new cause = (cause ≡ causes.NoMemory) ⊎ ((refusal_of v (ReadUnder group name offset len) ≡ Some cause)
-    ⊎ ((refusal_of v (ReadUnder group name offset len) ≡ None) × IsReadCause cause × (AnswersAreTrue old new → TooManyAreLost v missing old new)))
+    ⊎ ((refusal_of v (ReadUnder group name offset len) ≡ None) × IsLostAnswer v old new group name offset len missing cause))
 
 pub under_refused : (v : View) (group : ℕ) (name : List ℕ) (offset len : ℕ) (missing : List ℕ) (old new : State) (refusal : Refusal) (named : Cause) → named ≡ cause_of refusal
-    → (refusal ≡ NoMemory) ⊎ (IsUnderCause v group name offset len refusal ⊎ (HasNoCause v group name offset len × IsLost v missing old new refusal))
+    → (refusal ≡ NoMemory) ⊎ (IsUnderCause v group name offset len refusal ⊎ (HasNoCause v group name offset len × IsLostUnder v old new group name offset len missing refusal))
     → IsUnderRefused v group name offset len missing old new named
 under_refused v group name offset len missing old new refusal named is why = elim why [
   | inl memory ↦ inl (is ∙ ap cause_of memory)
   | inr other ↦ elim other [
     | inl cause ↦ inr (inl (under_cause v group name offset len refusal cause ∙ ap Some (sym is)))
-    | inr lost ↦ inr (inr (lost.0, subst IsReadCause (sym is) (lost_cause refusal lost.1.0), lost.1.1))
+    | inr lost ↦ inr (inr (lost.0, record { refusal = refusal; answered = is; lost = lost.1 }))
   ]
 ]
 
 -- a read, and what was given to it
-read_goes : (s : CoreState) (commit : State) (v : View) (trusted : Bool) (step : Step) (reply : Reply) → Represents s v → OnlyReadsPool s.commit commit [] → IsFrontStep step
-    → StepOf v (given_by_reads s (record s { commit = commit }) trusted false) step reply v → Goes s v trusted step reply (record s { commit = commit })
-read_goes s commit v trusted step reply r reads is_front is_step = record {
-  given = given_by_reads s (record s { commit = commit }) trusted false;
+read_goes : (s : CoreState) (commit : State) (v : View) (lost : Option Vdev) (trusted : Bool) (step : Step) (reply : Reply) → Represents s v → OnlyReadsPool s.commit commit [] → IsFrontStep step
+    → ((vdev : Vdev) → lost ≡ Some vdev → LosesBlock s v step (record s { commit = commit }) vdev)
+    → StepOf v (given_by_reads s (record s { commit = commit }) lost trusted false) step reply v → Goes s v trusted step reply (record s { commit = commit })
+read_goes s commit v lost trusted step reply r reads is_front loses is_step = record {
+  given = given_by_reads s (record s { commit = commit }) lost trusted false;
   trust = λ e. e;
   after = v;
   link = record {
-    is_given = reads_are_given s (record s { commit = commit }) trusted false reads.reads (λ e. absurd (true≢false (sym e)));
+    is_given = reads_are_given s v step (record s { commit = commit }) lost trusted false reads.reads loses (λ e. absurd (true≢false (sym e)));
     is_step = is_step;
     represents = record { follows = r.follows; backs = reads.backs v r.backs };
-    flushed = front_commits_none v (given_by_reads s (record s { commit = commit }) trusted false) step reply v (record s { commit = commit }) is_front is_step;
+    flushed = front_commits_none v (given_by_reads s (record s { commit = commit }) lost trusted false) step reply v (record s { commit = commit }) is_front is_step;
     untouched = spares_outs s commit s.intake v [] r reads.untouched;
-    only = front_calls step s (given_by_reads s (record s { commit = commit }) trusted false) (record s { commit = commit }) is_front;
+    only = front_calls step s (given_by_reads s (record s { commit = commit }) lost trusted false) (record s { commit = commit }) is_front;
   };
 }
 
-why_lost : (v : View) (s : CoreState) (commit : State) (trusted : Bool) → (AnswersAreTrue s.commit commit → TooManyAreLost v [] s.commit commit) → (trusted ≡ true → AnswersAreTrue s.commit commit)
-    → (is_readable v (given_by_reads s (record s { commit = commit }) trusted false) ≡ false) ⊎ (trusted ≡ false)
-why_lost v s commit true lost honest = inl (lost (honest refl))
-why_lost v s commit false lost honest = inr refl
+none_lost : {P : Vdev → Type 0} (vdev : Vdev) → None ≡ Some vdev → P vdev
+none_lost vdev e = absurd (cc)
 
 pub reads_under : (s : CoreState) (commit : State) (v : View) (trusted : Bool) (group : ℕ) (name : List ℕ) (offset len : ℕ) (bytes : List ℕ) → Represents s v → OnlyReadsPool s.commit commit []
     → refusal_of v (ReadUnder group name offset len) ≡ None → (trusted ≡ true → AreBytesOf (v.pools group) name offset len bytes)
     → Goes s v trusted (ReadUnder group name offset len) (Bytes bytes) (record s { commit = commit })
 reads_under s commit v trusted group name offset len bytes r reads none are =
-    read_goes s commit v trusted (ReadUnder group name offset len) (Bytes bytes) r reads tt
-    (inr (inr (record { none = none; granted = (are, refl); calls = reads_quiet s (record s { commit = commit }) trusted false })))
+    read_goes s commit v None trusted (ReadUnder group name offset len) (Bytes bytes) r reads tt none_lost
+    (inr (inr (record { none = none; granted = (are, refl); calls = reads_quiet s (record s { commit = commit }) None trusted false })))
 
 pub refuses_under : (s : CoreState) (commit : State) (v : View) (trusted : Bool) (group : ℕ) (name : List ℕ) (offset len : ℕ) (cause : Cause) → Represents s v → OnlyReadsPool s.commit commit []
     → (trusted ≡ true → AnswersAreTrue s.commit commit) → IsUnderRefused v group name offset len [] s.commit commit cause
     → Goes s v trusted (ReadUnder group name offset len) (Refused cause) (record s { commit = commit })
 refuses_under s commit v trusted group name offset len cause r reads honest why =
-    let quiet = reads_quiet s (record s { commit = commit }) trusted false in
-    read_goes s commit v trusted (ReadUnder group name offset len) (Refused cause) r reads tt (elim why [
-      | inl memory ↦ inr (inl (record { may = refl; answer = ap Refused memory; leaves = refl; calls = quiet }))
+    let new : CoreState = record s { commit = commit } in
+    let step : Step = ReadUnder group name offset len in
+    let quiet = reads_quiet s new None trusted false in elim why [
+      | inl memory ↦ read_goes s commit v None trusted step (Refused cause) r reads tt none_lost (inr (inl (record { may = refl; answer = ap Refused memory; leaves = refl; calls = quiet })))
       | inr other ↦ elim other [
-        | inl first ↦ inl (record { cause = cause; first = first; answer = refl; unchanged = refl; quiet = quiet; calls = quiet })
-        | inr lost ↦ inr (inr (record { none = lost.0; granted = ((lost.1, why_lost v s commit trusted lost.2 honest), refl); calls = quiet }))
+        | inl first ↦ read_goes s commit v None trusted step (Refused cause) r reads tt none_lost
+            (inl (record { cause = cause; first = first; answer = refl; unchanged = refl; quiet = quiet; calls = quiet }))
+        | inr lost ↦ let gives = under_given v s new trusted group name offset len lost.1.refusal lost.1.lost honest in
+            subst (λ (c : Cause). Goes s v trusted step (Refused c) new) (sym lost.1.answered)
+            (read_goes s commit v gives.lost trusted step (Refused (cause_of lost.1.refusal)) r reads tt gives.loses
+            (inr (inr (record { none = lost.0; granted = (gives.unreadable, refl); calls = reads_quiet s new gives.lost trusted false }))))
       ]
-    ])
+    ]
 
 -- ---- of NOW
 
@@ -111,22 +112,22 @@ pub reads_now : (s : CoreState) (commit : State) (v : View) (trusted : Bool) (na
     → refusal_of v (Read name offset len) ≡ None → volume_at name (now_of v) ≡ Some volume → length bytes ≡ len → (trusted ≡ true → HasRange bytes volume.bytes offset)
     → Goes s v trusted (Read name offset len) (Bytes bytes) (record s { commit = commit })
 reads_now s commit v trusted name offset len bytes volume r reads none at count range =
-    read_goes s commit v trusted (Read name offset len) (Bytes bytes) r reads tt (inr (inr (record {
+    read_goes s commit v None trusted (Read name offset len) (Bytes bytes) r reads tt none_lost (inr (inr (record {
       none = none;
       granted = ((λ e. (volume, at, range e ∙ ap (λ n. slice_range volume.bytes offset (offset + n)) count)), refl);
-      calls = reads_quiet s (record s { commit = commit }) trusted false;
+      calls = reads_quiet s (record s { commit = commit }) None trusted false;
     })))
 
 pub refuses_now : (s : CoreState) (commit : State) (v : View) (trusted : Bool) (name : List ℕ) (offset len : ℕ) (refusal : Refusal) (named : Cause) → named ≡ cause_of refusal → Represents s v
-    → OnlyReadsPool s.commit commit [] → refusal_of v (Read name offset len) ≡ None → (trusted ≡ true → AnswersAreTrue s.commit commit) → (refusal ≡ NoMemory) ⊎ IsLost v [] s.commit commit refusal
+    → OnlyReadsPool s.commit commit [] → refusal_of v (Read name offset len) ≡ None → (trusted ≡ true → AnswersAreTrue s.commit commit) → (refusal ≡ NoMemory) ⊎ IsLostUnder v s.commit commit v.committed name offset len [] refusal
     → Goes s v trusted (Read name offset len) (Refused named) (record s { commit = commit })
 refuses_now s commit v trusted name offset len refusal named is r reads none honest why =
-    let quiet = reads_quiet s (record s { commit = commit }) trusted false in
-    read_goes s commit v trusted (Read name offset len) (Refused named) r reads tt (elim why [
-      | inl memory ↦ inr (inl (record { may = refl; answer = ap Refused (is ∙ ap cause_of memory); leaves = refl; calls = quiet }))
-      | inr lost ↦ inr (inr (record {
-        none = none;
-        granted = ((subst IsReadCause (sym is) (lost_cause refusal lost.0), why_lost v s commit trusted lost.1 honest), refl);
-        calls = quiet;
-      }))
-    ])
+    let new : CoreState = record s { commit = commit } in
+    let step : Step = Read name offset len in elim why [
+      | inl memory ↦ read_goes s commit v None trusted step (Refused named) r reads tt none_lost
+          (inr (inl (record { may = refl; answer = ap Refused (is ∙ ap cause_of memory); leaves = refl; calls = reads_quiet s new None trusted false })))
+      | inr lost ↦ let gives = under_given v s new trusted v.committed name offset len refusal lost honest in
+          subst (λ (c : Cause). Goes s v trusted step (Refused c) new) (sym is)
+          (read_goes s commit v gives.lost trusted step (Refused (cause_of refusal)) r reads tt gives.loses
+          (inr (inr (record { none = none; granted = (gives.unreadable, refl); calls = reads_quiet s new gives.lost trusted false }))))
+    ]

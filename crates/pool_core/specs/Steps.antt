@@ -1,14 +1,15 @@
 -- What a step of a core is.
-use Rattle.std.specs.Prelude.{ℕ, ◌≡◌, List, [], ◌∷◌, Contains, map, Bool, true, false, Option, Some, None}
+use Rattle.std.specs.Prelude.{ℕ, suc, ◌≡◌, List, [], ◌∷◌, Contains, map, Bool, true, false, Option, Some, None}
 use Rattle.model_disk.specs.Joint.{calls_on}
 use Rattle.raidz_io.specs.Reads.{IsHonestSince}
 use Rattle.pool_model.specs.declared.step.Step.{Step}
-use Rattle.pool_model.specs.declared.step.Step.TheVariants.{Device, Release, Read, ReadUnder}
+use Rattle.pool_model.specs.declared.step.Step.TheVariants.{Plan, Device, Release, Read, ReadUnder}
 use Rattle.pool_model.specs.declared.step.Reply.{Reply}
 use Rattle.pool_model.specs.declared.step.Reply.TheVariants.{Planned, Committed}
-use Rattle.pool_model.specs.View.{View, Given, DueCall, is_away, disks_in_use, is_suspended}
+use Rattle.pool_model.specs.View.{View, Vdev, Given, DueCall, is_away, disks_in_use, is_suspended}
 use Rattle.pool_model.specs.Machine.{StepOf}
 use Rattle.pool_commit.specs.Calls.{disk_call, made_between, faults_between, unread_between, called_between, IsFlushed}
+use Rattle.pool_commit.specs.Reading.{LosesUnder, LosesForPlan}
 use Rattle.pool_commit.specs.Room.{LacksRoom}
 use Rattle.pool_core.specs.State.{CoreState, disks_of}
 use Rattle.pool_core.specs.Represents.{Represents}
@@ -28,13 +29,26 @@ abbrev pub fault_list : Option DueCall → List DueCall
 fault_list None = []
 fault_list (Some call) = call ∷ []
 
+-- a block that the step had to read could not be, and this is the vdev of its last copy
+abbrev pub LosesBlock : CoreState → View → Step → CoreState → Vdev → Type 0
+LosesBlock old v (Read name offset len) new vdev = LosesUnder v old.commit new.commit v.committed name offset len vdev
+LosesBlock old v (ReadUnder group name offset len) new vdev = LosesUnder v old.commit new.commit group name offset len vdev
+LosesBlock old v (Plan timestamp) new vdev = LosesForPlan v old.commit new.commit (v.ledger (suc v.committed)) vdev
+LosesBlock old v step new vdev = ⊥
+
+-- there is no room for a block of the group that is to be planned, behind others of its own blocks and nothing else
+abbrev pub FindsNoRoom : CoreState → View → Step → Type 0
+FindsNoRoom old v (Plan timestamp) = LacksRoom old.commit (v.ledger (suc v.committed))
+FindsNoRoom old v step = ⊥
+
 -- What was given to a step: its own writes and flushes, in order; the one that failed, if any; the disks of its reads that
--- failed; and that it found no room only where there is none.
-pub record IsGiven (old new : CoreState) (given : Given) : Type 0 where
+-- failed; the block that could not be read; and that it found no room.
+pub record IsGiven (old : CoreState) (v : View) (step : Step) (new : CoreState) (given : Given) : Type 0 where
   pub made : map disk_call given.made ≡ made_between (disks_of old) (disks_of new)
   pub fault : map disk_call (fault_list given.fault) ≡ faults_between (disks_of old) (disks_of new)
   pub unread : given.unread ≡ unread_between (disks_of old) (disks_of new)
-  pub full : given.full ≡ true → LacksRoom new.commit
+  pub lost : (vdev : Vdev) → given.lost_on ≡ Some vdev → LosesBlock old v step new vdev
+  pub full : given.full ≡ true → FindsNoRoom old v step
 
 -- where a group is committed, each disk in use was flushed behind its last write
 abbrev pub AreFlushed : Reply → View → CoreState → Type 0
@@ -52,7 +66,7 @@ OnlyWritesAndFlushes step old given new = Unit {0}
 
 -- from core state and view: the step and its reply lead to this core state and this view
 pub record Link (old : CoreState) (v : View) (step : Step) (given : Given) (reply : Reply) (new : CoreState) (w : View) : Type 0 where
-  pub is_given : IsGiven old new given
+  pub is_given : IsGiven old v step new given
   pub is_step : StepOf v given step reply w
   pub represents : Represents new w
   pub flushed : AreFlushed reply w new

@@ -1,11 +1,12 @@
 //! Reads.
 ghost use Rattle.std.specs.Prelude.{◌≡◌, ◌⊎◌, Some, None, IfOk, IfErr};
 ghost use Rattle.pool_model.specs.declared.step.Step.TheVariants as steps;
-ghost use Rattle.pool_model.specs.Machine.{AreBytesOf, IsReadCause};
+ghost use Rattle.pool_model.specs.Machine.{AreBytesOf};
 ghost use Rattle.pool_model.specs.Refusals.{refusal_of};
 ghost use Rattle.pool_model.specs.View.{View};
 ghost use Rattle.pool_commit.specs.Calls.{GrewTo};
-ghost use Rattle.pool_commit.specs.Reading.{OnlyReadsPool, TooManyAreLost};
+ghost use Rattle.pool_commit.specs.Reading.{OnlyReadsPool};
+ghost use Rattle.pool_core.specs.Reading.{IsLostAnswer};
 ghost use Rattle.pool_core.specs.Represents.{Represents};
 ghost use Rattle.pool_core.specs.StateOf.{disks_in, state_of};
 ghost use Rattle.pool_core.specs.Steps.{AreTrue, Steps};
@@ -70,9 +71,9 @@ impl<D: Disk + Drop> Core<D> {
             × (AreTrue (state_of self.old) (state_of self.new) → AreBytesOf (v.pools group) name.now offset len bytes)) }
         ensures refused { IfErr result (λ refusal. (v : View) → Represents (state_of self.old) v
             → (refusal ≡ Refusal.NoMemory) ⊎ ((refusal_of v (steps.ReadUnder group name.now offset len) ≡ Some refusal)
-            ⊎ ((refusal_of v (steps.ReadUnder group name.now offset len) ≡ None) × IsReadCause refusal
-            × (AreTrue (state_of self.old) (state_of self.new)
-            → TooManyAreLost v missing.now (state_of self.old).commit (state_of self.new).commit)))) }
+            ⊎ ((refusal_of v (steps.ReadUnder group name.now offset len) ≡ None)
+            × IsLostAnswer v (state_of self.old).commit (state_of self.new).commit
+            group name.now offset len missing.now refusal))) }
     {
         let read = self
             .commit

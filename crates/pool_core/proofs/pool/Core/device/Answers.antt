@@ -24,7 +24,7 @@ pub returns-in-Some-Done-clause-goes : goal.returns-in-Some-Done-clause-goes
 returns-in-Some-Done-clause-goes g c v trusted r free honest plans =
     let p = c.in-Some-Done.ensures.some v r.backs (group_low c.args.self.now.intake v r.follows) in
     let done = subst (λ (x : Progress). Progresses (commit_state c.args.self.now.commit) x (commit_state c.device.new.self) v) c.in-Some-Done.field-0-is p.1 in
-    let both = c.commit_group.ensures.committed v r.follows (ap is_syncing done.1) in
+    let both = c.commit_group.ensures.committed v r.follows (ap is_syncing done.0.planned) in
     subst (λ commit. Goes (state_of c.args.self.now) v trusted steps.Device c.commit_group.result (record { intake = c.commit_group.new.self.intake; commit = commit_state commit })) (sym c.commit_group.ensures.commit)
     (commits (state_of c.args.self.now) c.commit_group.new.self.intake (commit_state c.device.new.self) v trusted c.commit_group.result r
     free done c.in-Some-Done.ensures.grew both.0 both.1)

@@ -1,10 +1,14 @@
-use Rattle.std.proofs.Common.{◌≡◌, Option, Some, None, true, false, true≢false, ap, sym, ◌∙◌, subst, suc, refl, ◌<◌, ◌^◌}
+use Rattle.std.proofs.Common.{◌≡◌, ◌⊎◌, Option, Some, None, true, false, true≢false, ap, sym, ◌∙◌, subst, suc, refl, ◌<◌, ◌^◌}
 use Rattle.pool_model.specs.declared.refusal.Refusal.TheVariants as causes
 use Rattle.pool_model.specs.declared.step.Step.TheVariants as steps
 use Rattle.std.specs.Prelude.{is_some}
 use Rattle.pool_model.specs.View.{Unplanned}
 use Rattle.pool_model.specs.Machine.{taken}
 use Rattle.pool_now.specs.GoodChanges.{MakesGoodVolumes}
+use Rattle.pool_model.specs.Pools.{Entry}
+use Rattle.pool_commit.specs.declared.refusal.Refusal.TheVariants as refusals
+use Rattle.pool_commit.specs.Reading.{IsLostForPlan}
+use Rattle.pool_commit.specs.Room.{LacksRoom}
 use Rattle.pool_commit.specs.StateOf.{state_of as commit_state}
 use Rattle.pool_core.specs.StateOf.{state_of}
 use Rattle.pool_core.proofs.Fronting.{refused}
@@ -50,7 +54,10 @@ returns-in-Err-plan-clause-goes g c timestamp v trusted r free honest plans_trus
     let after = c.in-Err-plan.ensures.unplanned (taken v Unplanned) backed refl in
     plan_refused (state_of c.args.self.now) c.begin_sync.new.self (commit_state c.plan.new.self) v trusted timestamp c.in-Err-plan.refusal c.named.result c.named.ensures begun.0 begun.1 after c.in-Err-plan.ensures.reads
     (plan_spares (state_of c.args.self.now) (commit_state c.plan.new.self) c.begin_sync.new.self v r c.in-Err-plan.ensures.untouched)
-    honest c.in-Err-plan.ensures.full why
+    honest
+    (λ space. subst (λ (entry : Entry). LacksRoom (commit_state c.args.self.now.commit) entry) items (c.in-Err-plan.ensures.full space))
+    (subst (λ (entry : Entry). (c.in-Err-plan.refusal ≡ refusals.NoMemory)
+    ⊎ (IsLostForPlan (taken v Unplanned) (commit_state c.args.self.now.commit) (commit_state c.plan.new.self) entry c.in-Err-plan.refusal ⊎ (c.in-Err-plan.refusal ≡ refusals.NoSpace))) items why)
 
 pub plan-requires : goal.plan-requires
 plan-requires g c = record { unplanned = not_some c.args.self.now.commit.planned (sym c.is_planned.ensures.planned ∙ c.if-is_planned.false) }
