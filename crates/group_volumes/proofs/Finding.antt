@@ -1,5 +1,5 @@
 -- The volume of a name.
-use Rattle.std.proofs.Common.{◌≡◌, ℕ, Bool, true, false, List, [], ◌∷◌, Option, Some, None, refl, sym, ap, ◌∙◌, subst}
+use Rattle.std.proofs.Common.{◌≡◌, ℕ, suc, Contains, arith, Bool, true, false, List, [], ◌∷◌, Option, Some, None, refl, sym, ap, ◌∙◌, subst}
 use Rattle.std.specs.Prelude.{cond, find, IfSome, IfNone}
 use Rattle.std.specs.Option.{option_map}
 use Rattle.block_store.specs.Blocks.{Contents}
@@ -8,6 +8,7 @@ use Rattle.pool_model.specs.Names.{same}
 use Rattle.pool_model.specs.Pools.{PlainPool, volume_at}
 use Rattle.group_volumes.specs.declared.volumes.NamedVolume.{NamedVolume}
 use Rattle.group_volumes.specs.Volumes.{SpellsVolume, SpellsVolumes}
+use Rattle.pool_now.proofs.Indexes.{same_is}
 
 -- what is found spells what the pool has at the name
 abbrev Found : Contents → ℕ → List ℕ → PlainPool → Option NamedVolume → Type 0
@@ -47,3 +48,22 @@ pub none_found : {R : Type 0} (result : Option R) (now : R → NamedVolume) (nam
     → IfNone result ((stored : Contents) (birth : ℕ) (pool : PlainPool) → SpellsVolumes stored birth volumes pool → volume_at name pool ≡ None)
 none_found None now name volumes is = λ stored birth pool spells. subst (Found stored birth name pool) (sym is) (finds stored birth name volumes pool spells)
 none_found (Some r) now name volumes is = tt
+
+-- what is found is one of the list, of that name: the first, or a later one
+held_next : (name : List ℕ) (first : NamedVolume) (volumes : List NamedVolume) (named : NamedVolume) (t : Bool) → same first.name name ≡ t
+    → cond t (Some first) (find (λ n. same n.name name) volumes) ≡ Some named
+    → (find (λ n. same n.name name) volumes ≡ Some named → Contains volumes named × (named.name ≡ name)) → Contains (first ∷ volumes) named × (named.name ≡ name)
+held_next name first volumes named true called found later =
+    let is_first : first ≡ named = cc in
+    subst (λ (n : NamedVolume). Contains (first ∷ volumes) n × (n.name ≡ name)) is_first ((0, omega arith, refl), same_is first.name name called)
+held_next name first volumes named false called found later =
+    let there = later found in ((suc there.0.0, omega (arith, there.0.1), there.0.2), there.1)
+
+find_held : (name : List ℕ) (volumes : List NamedVolume) (named : NamedVolume) → find (λ n. same n.name name) volumes ≡ Some named → Contains volumes named × (named.name ≡ name)
+find_held name [] named is = absurd (cc)
+find_held name (first ∷ volumes) named is = held_next name first volumes named (same first.name name) refl is (λ found. find_held name volumes named found)
+
+pub held_found : {R : Type 0} (result : Option R) (now : R → NamedVolume) (name : List ℕ) (volumes : List NamedVolume)
+    → option_map now result ≡ find (λ named. same named.name name) volumes → IfSome result (λ r. Contains volumes (now r) × ((now r).name ≡ name))
+held_found None now name volumes is = tt
+held_found (Some r) now name volumes is = find_held name volumes (now r) (sym is)

@@ -1,4 +1,5 @@
 mod Finding
+mod Placing
 mod Sharing
 pub mod Spelling
 mod Writing

@@ -1,3 +1,5 @@
 pub mod Refusals
+pub mod Room
 pub mod Sharing
+pub mod Unread
 pub mod Volumes

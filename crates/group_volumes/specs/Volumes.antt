@@ -1,5 +1,5 @@
 -- The volumes of a pool, by their blocks.
-use Rattle.std.specs.Prelude.{ℕ, ◌≡◌, List, [], ◌∷◌}
+use Rattle.std.specs.Prelude.{ℕ, ◌≡◌, List, [], ◌∷◌, Contains}
 use Rattle.block_store.specs.Blocks.{Contents, Extends}
 use Rattle.block_store.specs.Plans.{Plans}
 use Rattle.block_store.specs.Store.{Store}
@@ -33,3 +33,7 @@ pub record IsPlannedAs (store : Store) (stored planned : Contents) (birth : ℕ)
   pub plans : Plans store stored later
   pub extends : Extends planned later
   pub spells : SpellsPool later birth after pool
+
+-- one of the volumes, of that name
+abbrev pub HasVolume : GroupVolumes → List ℕ → NamedVolume → Type 0
+HasVolume volumes name named = Contains volumes.volumes.items named × (named.name ≡ name)

@@ -1,20 +1,23 @@
 //! Volumes by their blocks, and what the items of a group make of them.
-ghost use Rattle.std.specs.Prelude.{◌≡◌, ◌⊎◌, ◌++◌, ◌-◌, ◌/◌, ◌<◌, ℕ, List, [], ◌∷◌, Some, None, true, fold, Contains, IfSome, IfNone, IfOk, IfErr, OnOk};
+ghost use Rattle.std.specs.Prelude.{◌≡◌, ◌⊎◌, ◌++◌, ◌-◌, ◌<◌, ℕ, List, [], ◌∷◌, Some, None, true, fold, IfSome, IfNone, IfOk, IfErr, OnOk};
 ghost use Rattle.std.specs.List.{AllByRecursion};
 ghost use Rattle.block_store.specs.Blocks.{Contents as Stored, Extends};
 ghost use Rattle.block_store.specs.Plans.{Plans};
+ghost use Rattle.block_store.specs.Steps.{OnlyReadsAndPlans, AnswersAreTrue, LossIsTolerable};
 ghost use Rattle.block_store.specs.Store.{Holds};
 ghost use Rattle.pool_model.specs.declared.volume.PlainVolume.{PlainVolume};
 ghost use Rattle.pool_model.specs.Pools.{PlainPool, volume_at, written as pool_written, changed, applied};
 ghost use Rattle.pool_now.specs.GoodChanges.{is_good_change, MakesGoodVolumes};
 ghost use Rattle.pool_now.specs.Overlay.{after_writes};
 ghost use Rattle.pool_now.specs.Shapes.{shape_of};
-ghost use Rattle.volume_blocks.specs.Reading.{AnswersAreTrue, FewAreAbsent};
-ghost use Rattle.volume_blocks.specs.Volume.{size_of, block_size_of};
-ghost use Rattle.volume_blocks.specs.Writing.{HasNoRoom, OnlyReadsAndPlans};
+ghost use Rattle.volume_blocks.specs.Room.{TookChanged};
+ghost use Rattle.volume_blocks.specs.Room.{LacksRoom as LacksRoomFor};
+ghost use Rattle.volume_blocks.specs.Volume.{size_of};
 ghost use Rattle.group_volumes.specs.declared.volumes.NamedVolume.{NamedVolume as Named};
+ghost use Rattle.group_volumes.specs.Room.{TookEach, TookAll, LacksRoom};
 ghost use Rattle.group_volumes.specs.Sharing.{IsRewritten, AreRewritten, SharesBlocks};
-ghost use Rattle.group_volumes.specs.Volumes.{SpellsVolume, SpellsVolumes, SpellsPool, IsPlannedAs};
+ghost use Rattle.group_volumes.specs.Unread.{IsUnreadOfVolume, IsUnreadFor};
+ghost use Rattle.group_volumes.specs.Volumes.{SpellsVolume, SpellsVolumes, SpellsPool, HasVolume, IsPlannedAs};
 
 use crate::refusal::Refusal;
 use block_store::BlockStore;
@@ -91,15 +94,19 @@ impl NamedVolume {
         writes: &[Write],
     ) -> Result<NamedVolume, Refusal>
         requires { 0 < group }
-        ensures kept { OnlyReadsAndPlans store.old store.new }
+        ensures kept { OnlyReadsAndPlans store.old store.new [] }
         ensures value { IfOk result (λ after. (stored planned : Stored) (volume : PlainVolume) → Plans store.old stored planned
             → SpellsVolume stored (group - 1) self.now volume → AnswersAreTrue store.old store.new
             → (later : Stored) × Plans store.new stored later × Extends planned later × SpellsVolume later group after (after_writes volume writes.now)) }
         ensures changes { IfOk result (IsRewritten writes.now group self.now) }
-        ensures full { IfErr result (λ refusal. refusal ≡ Refusal.NoSpace → HasNoRoom store.new.spaces (block_size_of self.now.blocks / 512)) }
-        ensures config { IfErr result (λ refusal. ¬ (refusal ≡ Refusal.BadConfig)) }
+        ensures places { OnOk result
+            (TookChanged store.old.spaces self.now.blocks self.now.name writes.now store.new.spaces) }
+        ensures refused { IfErr result (λ refusal. (refusal ≡ Refusal.NoMemory)
+            ⊎ (((refusal ≡ Refusal.NoSpace)
+            × LacksRoomFor store.old.spaces self.now.blocks self.now.name writes.now)
+            ⊎ IsUnreadOfVolume store.old store.new self.now writes.now group refusal)) }
         ensures known { IfErr result (λ refusal. (stored : Stored) (volume : PlainVolume) → Holds store.old stored → SpellsVolume stored (group - 1) self.now volume
-            → AnswersAreTrue store.old store.new → FewAreAbsent store.old store.new [] → (refusal ≡ Refusal.NoMemory) ⊎ (refusal ≡ Refusal.NoSpace)) }
+            → AnswersAreTrue store.old store.new → LossIsTolerable store.old store.new [] → (refusal ≡ Refusal.NoMemory) ⊎ (refusal ≡ Refusal.NoSpace)) }
     {
         let name = self.name.copied(alloc)?;
         let blocks = self
@@ -125,6 +132,7 @@ impl GroupVolumes {
 
     /// The volume of that name.
     pub fn find(&self, name: &Name) -> Option<&NamedVolume>
+        ensures held { IfSome result (λ named. HasVolume self.now name.now named.now) }
         ensures some { IfSome result (λ named. (stored : Stored) (birth : ℕ) (pool : PlainPool) → SpellsPool stored birth self.now pool
             → (volume : PlainVolume) × (volume_at name.now pool ≡ Some volume) × SpellsVolume stored birth named.now volume) }
         ensures none { IfNone result ((stored : Stored) (birth : ℕ) (pool : PlainPool) → SpellsPool stored birth self.now pool → volume_at name.now pool ≡ None) }
@@ -143,7 +151,7 @@ impl GroupVolumes {
         items: &Pending,
     ) -> Result<GroupVolumes, Refusal>
         requires { 0 < group }
-        ensures kept { OnlyReadsAndPlans store.old store.new }
+        ensures kept { OnlyReadsAndPlans store.old store.new [] }
 
         // The volumes spell the pool after the group, once the plan is stored.
         ensures value { IfOk result (λ after. (stored planned : Stored) (pool : PlainPool) → Plans store.old stored planned
@@ -152,13 +160,19 @@ impl GroupVolumes {
         // A block that no write reaches keeps its pointer.
         ensures shares { IfOk result (SharesBlocks self.now items.now.writes group) }
 
-        // A volume of the pool that the group writes to needs a block for which there is no room.
-        ensures full { IfErr result (λ refusal. refusal ≡ Refusal.NoSpace → (named : Named) × Contains self.now.volumes.items named × HasNoRoom store.new.spaces (block_size_of named.blocks / 512)) }
-        ensures config { IfErr result (λ refusal. refusal ≡ Refusal.BadConfig → ¬ MakesGoodVolumes items.now) }
+        // Places are taken for the blocks that the group's writes change, and for nothing else.
+        ensures places { OnOk result
+            (TookAll store.old.spaces self.now items.now.writes store.new.spaces) }
+
+        // One of these blocks finds no place behind those before it, or was read last and could not be read.
+        ensures refused { IfErr result (λ refusal. (refusal ≡ Refusal.NoMemory)
+            ⊎ (((refusal ≡ Refusal.NoSpace) × LacksRoom store.old.spaces self.now items.now.writes)
+            ⊎ (((refusal ≡ Refusal.BadConfig) × ¬ MakesGoodVolumes items.now)
+            ⊎ IsUnreadFor store.old store.new self.now items.now.writes group refusal))) }
 
         // No block is unread, where no vdev misses more disks than it has parities and what they answer is true.
         ensures known { IfErr result (λ refusal. (stored : Stored) (pool : PlainPool) → Holds store.old stored → SpellsPool stored (group - 1) self.now pool
-            → MakesGoodVolumes items.now → AnswersAreTrue store.old store.new → FewAreAbsent store.old store.new [] → (refusal ≡ Refusal.NoMemory) ⊎ (refusal ≡ Refusal.NoSpace)) }
+            → MakesGoodVolumes items.now → AnswersAreTrue store.old store.new → LossIsTolerable store.old store.new [] → (refusal ≡ Refusal.NoMemory) ⊎ (refusal ≡ Refusal.NoSpace)) }
     {
         let mut after = self.written(store, alloc, group, items.writes())?;
         after.make(alloc, group, items.actions())?;
@@ -174,14 +188,17 @@ impl GroupVolumes {
         writes: &[Write],
     ) -> Result<GroupVolumes, Refusal>
         requires { 0 < group }
-        ensures kept { OnlyReadsAndPlans store.old store.new }
+        ensures kept { OnlyReadsAndPlans store.old store.new [] }
         ensures value { IfOk result (λ after. (stored planned : Stored) (pool : PlainPool) → Plans store.old stored planned
             → SpellsPool stored (group - 1) self.now pool → AnswersAreTrue store.old store.new → IsPlannedAs store.new stored planned group after (fold pool_written pool writes.now)) }
         ensures changes { IfOk result (λ after. AreRewritten writes.now group self.now.volumes.items after.volumes.items) }
-        ensures full { IfErr result (λ refusal. refusal ≡ Refusal.NoSpace → (named : Named) × Contains self.now.volumes.items named × HasNoRoom store.new.spaces (block_size_of named.blocks / 512)) }
-        ensures config { IfErr result (λ refusal. ¬ (refusal ≡ Refusal.BadConfig)) }
+        ensures places { OnOk result
+            (TookEach store.old.spaces self.now.volumes.items writes.now store.new.spaces) }
+        ensures refused { IfErr result (λ refusal. (refusal ≡ Refusal.NoMemory)
+            ⊎ (((refusal ≡ Refusal.NoSpace) × LacksRoom store.old.spaces self.now writes.now)
+            ⊎ IsUnreadFor store.old store.new self.now writes.now group refusal)) }
         ensures known { IfErr result (λ refusal. (stored : Stored) (pool : PlainPool) → Holds store.old stored → SpellsPool stored (group - 1) self.now pool
-            → AnswersAreTrue store.old store.new → FewAreAbsent store.old store.new [] → (refusal ≡ Refusal.NoMemory) ⊎ (refusal ≡ Refusal.NoSpace)) }
+            → AnswersAreTrue store.old store.new → LossIsTolerable store.old store.new [] → (refusal ≡ Refusal.NoMemory) ⊎ (refusal ≡ Refusal.NoSpace)) }
     {
         let mut after = GroupVolumes::new(alloc);
         for volume in &self.volumes {

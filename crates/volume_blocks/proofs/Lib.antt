@@ -1,7 +1,5 @@
 mod Changed
 mod Dividing
-pub mod Further
-pub mod FurtherReads
 mod Laying
 mod Planning
 mod Ranges

@@ -1,3 +1,4 @@
 pub mod Reading
+pub mod Room
 pub mod Volume
 pub mod Writing

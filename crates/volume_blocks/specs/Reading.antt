@@ -1,30 +1,13 @@
 -- Reads of the blocks of a volume.
 use Rattle.std.specs.Prelude.{ℕ, ◌≡◌, ◌⊎◌, ◌+◌, ◌*◌, ◌<◌, Some, List, ◌++◌}
 use Rattle.block_pointer.specs.declared.block.Block.{Block}
-use Rattle.raidz_io.specs.Reads.{OnlyReads, AreUntouched, IsHonestSince, absent_since}
-use Rattle.block_store.specs.Plans.{KeepsPlans}
 use Rattle.block_store.specs.declared.refusal.Refusal.{Refusal}
 use Rattle.block_store.specs.declared.refusal.Refusal.TheVariants.{BadPointer}
-use Rattle.block_store.specs.Reading.{AreTolerable, IsReadable, IsLastFault}
-use Rattle.block_store.specs.Store.{Store, Keeps, outs}
+use Rattle.block_store.specs.Reading.{IsReadable, IsLastFault}
+use Rattle.block_store.specs.Steps.{OnlyReadsBlocks}
+use Rattle.block_store.specs.Store.{Store, outs}
 use Rattle.volume_blocks.specs.declared.volume.VolumeBlocks.{VolumeBlocks}
 use Rattle.volume_blocks.specs.Volume.{block_at, asked_of}
-
--- nothing was done but reads, none of them on a disk that is out or missing
-pub record OnlyReadsBlocks (old new : Store) (missing : List ℕ) : Type 0 where
-  pub rest : new ≡ record old { disks = new.disks }
-  pub reads : OnlyReads old.disks new.disks
-  pub untouched : AreUntouched (outs old ++ missing) old.disks new.disks
-  pub keeps : Keeps old new
-  pub plans : KeepsPlans old new
-
--- what the disks answered since is true
-abbrev pub AnswersAreTrue : Store → Store → Type 0
-AnswersAreTrue old new = IsHonestSince old.disks new.disks
-
--- no vdev lacks more disks than it has parities: those that are out, that are missing, and that failed since
-abbrev pub FewAreAbsent : Store → Store → List ℕ → Type 0
-FewAreAbsent old new missing = AreTolerable old.spaces (absent_since old.disks new.disks (outs old ++ missing))
 
 -- the block of that id is not what the volume asks, or its last copy could not be read
 pub record IsUnread (old new : Store) (volume : VolumeBlocks) (birth id : ℕ) (missing : List ℕ) (refusal : Refusal) : Type 0 where

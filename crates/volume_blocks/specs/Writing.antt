@@ -1,14 +1,9 @@
 -- A group's writes to a volume.
-use Rattle.std.specs.Prelude.{ℕ, ◌≡◌, ◌+◌, ◌*◌, ◌<◌, ◌≤◌, List, [], ◌++◌, length, false, All, Any, IsSomeAnd}
+use Rattle.std.specs.Prelude.{ℕ, ◌≡◌, ◌+◌, ◌*◌, ◌<◌, ◌≤◌, List, [], length, Any, IsSomeAnd}
 use Rattle.pool_model.specs.declared.item.Write.{Write}
-use Rattle.raidz_io.specs.declared.writes.ColumnWrite.{ColumnWrite}
-use Rattle.raidz_io.specs.Reads.{OnlyReads, AreUntouched}
 use Rattle.block_store.specs.declared.refusal.Refusal.{Refusal}
-use Rattle.block_store.specs.declared.space.VdevSpace.{VdevSpace}
-use Rattle.block_store.specs.Blocks.{Contents, Extends}
-use Rattle.block_store.specs.Places.{shapes_of, NoPlaceIsLeft}
-use Rattle.block_store.specs.Plans.{Plans}
-use Rattle.block_store.specs.Store.{Store, Keeps, outs, is_out}
+use Rattle.block_store.specs.Steps.{OnlyReadsAndPlans}
+use Rattle.block_store.specs.Store.{Store}
 use Rattle.volume_blocks.specs.declared.volume.VolumeBlocks.{VolumeBlocks}
 use Rattle.volume_blocks.specs.Reading.{IsUnread}
 use Rattle.volume_blocks.specs.Volume.{HasShape, block_at}
@@ -30,27 +25,11 @@ pub record ChangesOnly (old : VolumeBlocks) (name : List ℕ) (writes : List Wri
   pub changed : (id : ℕ) → IsChanged old name writes id → IsSomeAnd (block_at new id) (λ block. block.birth ≡ birth)
   pub others : (id : ℕ) → ¬ IsChanged old name writes id → block_at new id ≡ block_at old id
 
--- no vdev has a free place for a block of so many sectors
-abbrev pub HasNoRoom : List VdevSpace → ℕ → Type 0
-HasNoRoom spaces sectors = NoPlaceIsLeft spaces sectors
-
--- nothing was done but reads, none of them on a disk that is out, and a plan that has what it had and perhaps more blocks
-pub record OnlyReadsAndPlans (old new : Store) : Type 0 where
-  pub reads : OnlyReads old.disks new.disks
-  pub untouched : AreUntouched (outs old) old.disks new.disks
-  pub out : new.out ≡ old.out
-  pub shapes : shapes_of new.spaces ≡ shapes_of old.spaces
-  pub keeps : Keeps old new
-  pub added : List ColumnWrite
-  pub due : new.due ≡ old.due ++ added
-  pub in_use : All (λ write. is_out old.out write.disk ≡ false) added
-  pub plans : (stored planned : Contents) → Plans old stored planned → (later : Contents) × Plans new stored later × Extends planned later
-
 -- a block that the writes change was read last, and could not be read
 pub record IsUnreadOf (old new : Store) (volume : VolumeBlocks) (name : List ℕ) (writes : List Write) (birth : ℕ) (refusal : Refusal) : Type 0 where
   pub id : ℕ
   pub is_changed : IsChanged volume name writes id
   -- as the blocks before it were read and planned
   pub mid : Store
-  pub before : OnlyReadsAndPlans old mid
+  pub before : OnlyReadsAndPlans old mid []
   pub unread : IsUnread mid new volume birth id [] refusal

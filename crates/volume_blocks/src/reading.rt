@@ -1,8 +1,9 @@
 //! Reads of a volume.
 ghost use Rattle.std.specs.Prelude.{◌≡◌, ◌⊎◌, ◌+◌, ◌*◌, ◌/◌, ◌≤◌, ◌<◌, ◌^◌, ℕ, None, List, length, IfOk, IfErr, slice_range};
 ghost use Rattle.block_store.specs.Blocks.{Contents};
+ghost use Rattle.block_store.specs.Steps.{OnlyReadsBlocks, AnswersAreTrue, LossIsTolerable};
 ghost use Rattle.block_store.specs.Store.{Holds};
-ghost use Rattle.volume_blocks.specs.Reading.{OnlyReadsBlocks, AnswersAreTrue, FewAreAbsent, IsUnread, IsUnreadIn};
+ghost use Rattle.volume_blocks.specs.Reading.{IsUnread, IsUnreadIn};
 ghost use Rattle.volume_blocks.specs.Volume.{size_of, block_size_of, block_at, asked_of, HasBytes, Spells};
 
 use crate::volume::VolumeBlocks;
@@ -39,7 +40,7 @@ impl VolumeBlocks {
 
         // And it is read, where no vdev misses more disks than it has parities and what they answer is true.
         ensures known { IfErr result (λ refusal. (stored : Contents) (array : List ℕ) → Holds store.old stored → Spells stored birth self.now array
-            → AnswersAreTrue store.old store.new → FewAreAbsent store.old store.new missing.now → refusal ≡ Refusal.NoMemory) }
+            → AnswersAreTrue store.old store.new → LossIsTolerable store.old store.new missing.now → refusal ≡ Refusal.NoMemory) }
     {
         let block_size = self.block_size();
         let mut read = Vec::new(alloc);
@@ -71,7 +72,7 @@ impl VolumeBlocks {
             → HasBytes stored (block_size_of self.now) birth (block_at self.now id) bytes → AnswersAreTrue store.old store.new → found.items ≡ bytes) }
         ensures known { IfErr result (λ refusal. (stored : Contents) (bytes : List ℕ) → Holds store.old stored
             → HasBytes stored (block_size_of self.now) birth (block_at self.now id) bytes → AnswersAreTrue store.old store.new
-            → FewAreAbsent store.old store.new missing.now → refusal ≡ Refusal.NoMemory) }
+            → LossIsTolerable store.old store.new missing.now → refusal ≡ Refusal.NoMemory) }
     {
         match self.block(id) {
             None => Ok(vec![in alloc; 0; self.block_size() as usize]?),

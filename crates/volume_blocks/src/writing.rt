@@ -1,15 +1,18 @@
 //! A volume after the writes of a group.
-ghost use Rattle.std.specs.Prelude.{◌≡◌, ◌⊎◌, ◌↔◌, ◌/◌, ◌<◌, ◌≤◌, [], ℕ, List, IfOk, IfErr, OnOk, length, Contains};
+ghost use Rattle.std.specs.Prelude.{◌≡◌, ◌⊎◌, ◌↔◌, ◌/◌, ◌<◌, ◌≤◌, [], ◌∷◌, ℕ, List, IfOk, IfErr, OnOk, length, Contains};
 ghost use Rattle.std.specs.List.Sorted.{IsStrictlyIncreasing};
 ghost use Rattle.pool_model.specs.declared.volume.PlainVolume.{PlainVolume};
 ghost use Rattle.pool_now.specs.Overlay.{after_writes};
 ghost use Rattle.block_store.specs.Blocks.{Contents, Adds, Extends};
 ghost use Rattle.block_store.specs.Plans.{Plans};
+ghost use Rattle.block_store.specs.Places.{NoPlaceIsLeft};
 ghost use Rattle.block_store.specs.Reading.{Asks};
+ghost use Rattle.block_store.specs.Steps.{OnlyReadsBlocks, OnlyReadsAndPlans, AnswersAreTrue, LossIsTolerable};
 ghost use Rattle.block_store.specs.Store.{Holds};
-ghost use Rattle.volume_blocks.specs.Reading.{OnlyReadsBlocks, AnswersAreTrue, FewAreAbsent, IsUnread};
+ghost use Rattle.volume_blocks.specs.Reading.{IsUnread};
+ghost use Rattle.volume_blocks.specs.Room.{TookFor, TookChanged, LacksRoom};
 ghost use Rattle.volume_blocks.specs.Volume.{size_of, block_size_of, asked_of, part, Spells};
-ghost use Rattle.volume_blocks.specs.Writing.{Reaches, IsChanged, ChangesOnly, HasNoRoom, OnlyReadsAndPlans, IsUnreadOf};
+ghost use Rattle.volume_blocks.specs.Writing.{Reaches, IsChanged, ChangesOnly, IsUnreadOf};
 
 use crate::volume::VolumeBlocks;
 use block_pointer::Block;
@@ -33,7 +36,7 @@ impl VolumeBlocks {
         birth: u64,
     ) -> Result<VolumeBlocks, Refusal>
         requires { 0 < birth }
-        ensures kept { OnlyReadsAndPlans store.old store.new }
+        ensures kept { OnlyReadsAndPlans store.old store.new [] }
         ensures idle { ((id : ℕ) → ¬ IsChanged self.now name.now writes.now id) → store.new ≡ store.old }
         ensures changes { IfOk result (ChangesOnly self.now name.now writes.now birth) }
 
@@ -42,14 +45,18 @@ impl VolumeBlocks {
             → volume.name ≡ name.now → Spells stored birth_before self.now volume.bytes → birth_before ≤ birth → AnswersAreTrue store.old store.new
             → (later : Contents) × Plans store.new stored later × Extends planned later
             × Spells later birth after (after_writes volume writes.now).bytes) }
+
+        // Places are taken for the blocks that the writes change and for nothing else; so it is where one finds none.
+        ensures places { OnOk result
+            (TookChanged store.old.spaces self.now name.now writes.now store.new.spaces) }
         ensures refused { IfErr result (λ refusal. (refusal ≡ Refusal.NoMemory)
-            ⊎ (((refusal ≡ Refusal.NoSpace) × HasNoRoom store.new.spaces (block_size_of self.now / 512))
+            ⊎ (((refusal ≡ Refusal.NoSpace) × LacksRoom store.old.spaces self.now name.now writes.now)
             ⊎ IsUnreadOf store.old store.new self.now name.now writes.now birth_before refusal)) }
 
         // No block is unread, where no vdev misses more disks than it has parities and what they answer is true.
         ensures known { IfErr result (λ refusal. (stored : Contents) (volume : PlainVolume) → Holds store.old stored
             → volume.name ≡ name.now → Spells stored birth_before self.now volume.bytes → AnswersAreTrue store.old store.new
-            → FewAreAbsent store.old store.new [] → (refusal ≡ Refusal.NoMemory) ⊎ (refusal ≡ Refusal.NoSpace)) }
+            → LossIsTolerable store.old store.new [] → (refusal ≡ Refusal.NoMemory) ⊎ (refusal ≡ Refusal.NoSpace)) }
     {
         let ids = self.changed_ids(alloc, name, writes)?;
         let mut after = self.copied()?;
@@ -79,7 +86,7 @@ impl VolumeBlocks {
             → bytes.items ≡ part (after_writes volume writes.now).bytes (block_size_of self.now) id) }
         ensures refused { IfErr result (λ refusal. (refusal ≡ Refusal.NoMemory) ⊎ IsUnread store.old store.new self.now birth id [] refusal) }
         ensures known { IfErr result (λ refusal. (stored : Contents) (array : List ℕ) → Holds store.old stored → Spells stored birth self.now array
-            → AnswersAreTrue store.old store.new → FewAreAbsent store.old store.new [] → refusal ≡ Refusal.NoMemory) }
+            → AnswersAreTrue store.old store.new → LossIsTolerable store.old store.new [] → refusal ≡ Refusal.NoMemory) }
     {
         let mut bytes = self.block_bytes(store, alloc, birth, id, &[])?;
         let offset = id * self.block_size();
@@ -97,13 +104,15 @@ impl VolumeBlocks {
     ) -> Result<Block, Refusal>
         requires born { 0 < birth }
         requires size { length bytes.now ≡ block_size_of self.now }
-        ensures kept { OnlyReadsAndPlans store.old store.new }
+        ensures kept { OnlyReadsAndPlans store.old store.new [] }
         ensures asked { IfOk result (Asks (asked_of (block_size_of self.now) birth)) }
         ensures born { IfOk result (λ block. block.birth ≡ birth) }
         ensures planned { IfOk result (λ block. (stored planned : Contents) → Plans store.old stored planned
             → (later : Contents) × Plans store.new stored later × Adds planned later block bytes.now) }
+        ensures place { OnOk result
+            (TookFor store.old.spaces (block_size_of self.now / 512 ∷ []) store.new.spaces) }
         ensures refused { IfErr result (λ refusal. (refusal ≡ Refusal.NoMemory)
-            ⊎ ((refusal ≡ Refusal.NoSpace) × HasNoRoom store.new.spaces (block_size_of self.now / 512))) }
+            ⊎ ((refusal ≡ Refusal.NoSpace) × NoPlaceIsLeft store.old.spaces (block_size_of self.now / 512))) }
     {
         let new = NewBlock {
             property: self.property(),

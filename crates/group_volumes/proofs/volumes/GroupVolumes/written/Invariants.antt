@@ -1,10 +1,10 @@
-use Rattle.std.proofs.Common.{◌-◌, map, take}
+use Rattle.std.proofs.Common.{◌-◌, [], map, take}
 use Rattle.block_store.specs.Blocks.{Contents}
 use Rattle.block_store.specs.Plans.{Plans}
+use Rattle.block_store.specs.Steps.{OnlyReadsAndPlans, AnswersAreTrue}
 use Rattle.pool_model.specs.Pools.{PlainPool}
 use Rattle.pool_now.specs.Overlay.{after_writes}
-use Rattle.volume_blocks.specs.Reading.{AnswersAreTrue}
-use Rattle.volume_blocks.specs.Writing.{OnlyReadsAndPlans}
+use Rattle.group_volumes.specs.Room.{TookEach}
 use Rattle.group_volumes.specs.Sharing.{AreRewritten}
 use Rattle.group_volumes.specs.Volumes.{SpellsVolumes, IsPlannedAs}
 use Rattle.group_volumes.proofs.volumes.GroupVolumes.written.Given as goal
@@ -12,7 +12,8 @@ use Rattle.group_volumes.proofs.volumes.GroupVolumes.written.Given as goal
 -- the volumes so far are written
 abbrev pub invariant-loop-volume : goal.invariant-loop-volume
 invariant-loop-volume g l = record {
-  kept : OnlyReadsAndPlans l.fn.store l.store;
+  kept : OnlyReadsAndPlans l.fn.store l.store [];
+  places : TookEach l.fn.store.spaces (take l.volume-index l.volume-items) l.writes l.store.spaces;
   planned : (stored planned : Contents) (pool : PlainPool) → Plans l.fn.store stored planned
       → SpellsVolumes stored (l.group - 1) (take l.volume-index l.volume-items) pool → AnswersAreTrue l.fn.store l.store
       → IsPlannedAs l.store stored planned l.group l.after (map (λ volume. after_writes volume l.writes) pool);

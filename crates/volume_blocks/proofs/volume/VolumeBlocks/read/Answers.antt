@@ -5,8 +5,8 @@ use Rattle.volume_blocks.proofs.Ranges.{read_more}
 use Rattle.std.proofs.lemmas.List.Edits.{length-between}
 use Rattle.block_store.specs.Places.{shapes_of}
 use Rattle.block_store.specs.Store.{Store}
+use Rattle.block_store.proofs.Steps.{reads_on, true_before, true_after, few_after}
 use Rattle.volume_blocks.specs.Volume.{part}
-use Rattle.volume_blocks.proofs.FurtherReads.{reads_on, true_before, true_after, few_after}
 use Rattle.volume_blocks.proofs.Refusing.{passed_on}
 use Rattle.volume_blocks.proofs.Spelled.{spelled_at, fits_at}
 use Rattle.volume_blocks.proofs.volume.VolumeBlocks.read.Goals as goal

@@ -1,8 +1,8 @@
 use Rattle.std.proofs.Common.{◌≡◌, ◌+◌, ◌-◌, ◌*◌, ◌<◌, ◌≤◌, None, List, ℕ, length}
 use Rattle.std.specs.Prelude.{slice_range}
 use Rattle.block_store.specs.Blocks.{Contents}
+use Rattle.block_store.specs.Steps.{OnlyReadsBlocks, AnswersAreTrue}
 use Rattle.block_store.specs.Store.{Holds}
-use Rattle.volume_blocks.specs.Reading.{OnlyReadsBlocks, AnswersAreTrue}
 use Rattle.volume_blocks.specs.Volume.{block_at, Spells}
 use Rattle.volume_blocks.proofs.volume.VolumeBlocks.read.Given as goal
 

@@ -1,10 +1,12 @@
-use Rattle.std.proofs.Common.{◌≡◌, ◌↔◌, ⊎_elim, inl, inr, ℕ, ◌+◌, List, [], ◌∷◌, ◌++◌, take, get_or, length, Contains, refl, sym, ◌∙◌, subst, arith}
+use Rattle.std.proofs.Common.{◌≡◌, ◌↔◌, ⊎_elim, inl, inr, ℕ, ◌+◌, List, [], ◌∷◌, ◌++◌, take, get_or, length, Contains, refl, sym, ap, ◌∙◌, subst, arith}
 use Rattle.std.proofs.lemmas.List.{take_all, take_more}
 use Rattle.pool_now.specs.Overlay.{after_writes}
 use Rattle.volume_blocks.specs.Volume.{block_at, part}
-use Rattle.volume_blocks.specs.Writing.{IsChanged, OnlyReadsAndPlans}
-use Rattle.volume_blocks.proofs.Further.{plans_reads, plans_none, plans_on, plans_then_reads}
-use Rattle.volume_blocks.proofs.FurtherReads.{true_before, true_after, few_after}
+use Rattle.volume_blocks.specs.Writing.{IsChanged}
+use Rattle.block_store.specs.Steps.{OnlyReadsAndPlans}
+use Rattle.block_store.specs.Store.{Store}
+use Rattle.block_store.proofs.Steps.{steps_none, steps_read, steps_on, true_before, true_after, few_after}
+use Rattle.volume_blocks.proofs.Planning.{took_more, took_changed, lacks_room}
 use Rattle.volume_blocks.proofs.Refusing.{passed_on}
 use Rattle.volume_blocks.proofs.Rewriting.{Puts, Rewrites, puts_none, puts_more, puts_all, rewrites_none, rewrites_more, rewrites_all, item_changed, none_changed}
 use Rattle.volume_blocks.proofs.Untouched.{changed_below}
@@ -12,7 +14,8 @@ use Rattle.volume_blocks.proofs.volume.VolumeBlocks.written.Goals as goal
 
 pub loop-id-init : goal.loop-id-init
 loop-id-init g c = record {
-  kept = plans_none c.args.store.now;
+  kept = steps_none c.args.store.now [];
+  took = refl;
   idle = λ first. refl;
   shape = c.in_ok-after.ensures.shape;
   puts = puts_none (block_at c.args.self.now) (block_at c.in_ok-after.after) c.args.birth c.in_ok-after.ensures.blocks;
@@ -20,13 +23,19 @@ loop-id-init g c = record {
       rewrites_none stored planned c.args.store.now c.args.self.now.block_size c.args.birth (block_at c.in_ok-after.after) (after_writes volume c.args.writes.now).bytes held;
 }
 
+pub returns-in_err-ids-clause-kept : goal.returns-in_err-ids-clause-kept
+returns-in_err-ids-clause-kept g c = steps_none c.args.store.now []
+
+pub returns-in_err-after-clause-kept : goal.returns-in_err-after-clause-kept
+returns-in_err-after-clause-kept g c = steps_none c.args.store.now []
+
 pub changed_bytes-requires : goal.changed_bytes-requires
 changed_bytes-requires g c =
     changed_below c.args.self.now c.args.name.now c.args.writes.now _
     (item_changed c.args.self.now c.args.name.now c.args.writes.now c.in_ok-ids.ids.items c.deref-id-items.result.now c.loop-id.id-index c.deref-id-items.ensures.value c.in_ok-ids.ensures.ids c.loop-id-test.true)
 
 pub returns-in_err-bytes-clause-kept : goal.returns-in_err-bytes-clause-kept
-returns-in_err-bytes-clause-kept g c = plans_then_reads c.args.store.now c.loop-id.store c.changed_bytes.new.store c.loop-id.invariant.kept c.changed_bytes.ensures.reads
+returns-in_err-bytes-clause-kept g c = steps_on c.args.store.now c.loop-id.store c.changed_bytes.new.store [] c.loop-id.invariant.kept (steps_read c.loop-id.store c.changed_bytes.new.store [] c.changed_bytes.ensures.reads)
 
 pub returns-in_err-bytes-clause-known : goal.returns-in_err-bytes-clause-known
 returns-in_err-bytes-clause-known g c =
@@ -37,23 +46,26 @@ returns-in_err-bytes-clause-known g c =
 
 pub returns-in_err-block-clause-kept : goal.returns-in_err-block-clause-kept
 returns-in_err-block-clause-kept g c =
-    plans_on c.args.store.now c.changed_bytes.new.store c.plan_block.new.store
-    (plans_then_reads c.args.store.now c.loop-id.store c.changed_bytes.new.store c.loop-id.invariant.kept c.changed_bytes.ensures.reads) c.plan_block.ensures.kept
+    steps_on c.args.store.now c.changed_bytes.new.store c.plan_block.new.store []
+    (steps_on c.args.store.now c.loop-id.store c.changed_bytes.new.store [] c.loop-id.invariant.kept (steps_read c.loop-id.store c.changed_bytes.new.store [] c.changed_bytes.ensures.reads)) c.plan_block.ensures.kept
 
 pub returns-in_err-put-clause-kept : goal.returns-in_err-put-clause-kept
 returns-in_err-put-clause-kept g c =
-    plans_on c.args.store.now c.changed_bytes.new.store c.plan_block.new.store
-    (plans_then_reads c.args.store.now c.loop-id.store c.changed_bytes.new.store c.loop-id.invariant.kept c.changed_bytes.ensures.reads) c.plan_block.ensures.kept
+    steps_on c.args.store.now c.changed_bytes.new.store c.plan_block.new.store []
+    (steps_on c.args.store.now c.loop-id.store c.changed_bytes.new.store [] c.loop-id.invariant.kept (steps_read c.loop-id.store c.changed_bytes.new.store [] c.changed_bytes.ensures.reads)) c.plan_block.ensures.kept
 
 pub loop-id-preserved : goal.loop-id-preserved
 loop-id-preserved g c =
     let ids : List ℕ = c.deref-id-items.result.now in
     let id : ℕ = get_or ids c.loop-id.id-index 0 in
     let more : take (c.loop-id.id-index + 1) ids ≡ take c.loop-id.id-index ids ++ id ∷ [] = take_more ids c.loop-id.id-index 0 c.loop-id-test.true in
-    let step : OnlyReadsAndPlans c.loop-id.store c.plan_block.new.store =
-    plans_on c.loop-id.store c.changed_bytes.new.store c.plan_block.new.store (plans_reads c.loop-id.store c.changed_bytes.new.store c.changed_bytes.ensures.reads) c.plan_block.ensures.kept in
+    let step : OnlyReadsAndPlans c.loop-id.store c.plan_block.new.store [] =
+    steps_on c.loop-id.store c.changed_bytes.new.store c.plan_block.new.store [] (steps_read c.loop-id.store c.changed_bytes.new.store [] c.changed_bytes.ensures.reads) c.plan_block.ensures.kept in
     record {
-      kept = plans_on c.args.store.now c.loop-id.store c.plan_block.new.store c.loop-id.invariant.kept step;
+      kept = steps_on c.args.store.now c.loop-id.store c.plan_block.new.store [] c.loop-id.invariant.kept step;
+      took = took_more c.args.self.now c.args.store.now.spaces c.loop-id.store.spaces c.changed_bytes.new.store.spaces c.plan_block.new.store.spaces
+          (take c.loop-id.id-index ids) (take (c.loop-id.id-index + 1) ids) id more c.loop-id.invariant.took
+          (ap (λ (s : Store). s.spaces) c.changed_bytes.ensures.reads.rest) c.in_ok-block.ensures.place;
       idle = λ first. absurd (omega arith);
       shape = (c.put.ensures.shape.0 ∙ c.loop-id.invariant.shape.0, c.put.ensures.shape.1 ∙ c.loop-id.invariant.shape.1);
       puts = puts_more (block_at c.args.self.now) (block_at c.loop-id.after) (block_at c.put.new.self) c.args.birth (take c.loop-id.id-index ids) (take (c.loop-id.id-index + 1) ids)
@@ -87,6 +99,12 @@ returns-clause-value g c = λ stored planned volume held named spells le honest.
     (subst (λ (xs : List ℕ). Rewrites stored planned c.loop-id.store c.args.self.now.block_size c.args.birth (block_at c.loop-id.after) xs (after_writes volume c.args.writes.now).bytes) all
     (c.loop-id.invariant.rewrites stored planned volume held named spells honest))
 
+pub returns-clause-places : goal.returns-clause-places
+returns-clause-places g c =
+    took_changed c.args.self.now c.args.name.now c.args.writes.now c.args.store.now.spaces c.loop-id.store.spaces c.in_ok-ids.ids.items c.deref-id-items.result.now
+    (take c.loop-id.id-index c.deref-id-items.result.now) c.deref-id-items.ensures.value (take_all c.loop-id.id-index c.deref-id-items.result.now c.loop-id-test.false)
+    c.in_ok-ids.ensures.once c.in_ok-ids.ensures.ids c.loop-id.invariant.took
+
 pub returns-in_err-bytes-clause-refused : goal.returns-in_err-bytes-clause-refused
 returns-in_err-bytes-clause-refused g c =
     passed_on c.from_residual-in_err-bytes.result c.in_err-bytes.field-0.0 _ c.from_residual-in_err-bytes.ensures.1
@@ -102,7 +120,12 @@ returns-in_err-bytes-clause-refused g c =
 pub returns-in_err-block-clause-refused : goal.returns-in_err-block-clause-refused
 returns-in_err-block-clause-refused g c =
     passed_on c.from_residual-in_err-block.result c.in_err-block.field-0.0 _ c.from_residual-in_err-block.ensures.1
-    (⊎_elim (λ memory. inl memory) (λ space. inr (inl space)) c.in_err-block.ensures.refused)
+    (⊎_elim (λ memory. inl memory) (λ space. inr (inl (
+      space.0,
+      lacks_room c.args.self.now c.args.name.now c.args.writes.now c.args.store.now.spaces c.loop-id.store.spaces
+          c.changed_bytes.new.store.spaces c.in_ok-ids.ids.items c.deref-id-items.result.now c.loop-id.id-index c.deref-id-items.ensures.value c.in_ok-ids.ensures.once c.in_ok-ids.ensures.ids
+          c.loop-id-test.true c.loop-id.invariant.took (ap (λ (s : Store). s.spaces) c.changed_bytes.ensures.reads.rest) space.1,
+    ))) c.in_err-block.ensures.refused)
 
 pub returns-in_err-bytes-clause-idle : goal.returns-in_err-bytes-clause-idle
 returns-in_err-bytes-clause-idle g c = λ none.
