@@ -8,12 +8,12 @@ use Rattle.std.specs.Prelude.{cond}
 use Rattle.std.proofs.lemmas.Bool.{eq-eqb}
 use Rattle.raidz_io.specs.declared.writes.ColumnWrite.{ColumnWrite}
 use Rattle.block_store.specs.Blocks.{Contents}
+use Rattle.block_store.specs.Steps.{OnlyReadsBlocks}
 use Rattle.block_store.specs.Store.{Store, is_out}
 use Rattle.group_volumes.specs.declared.volumes.GroupVolumes.{GroupVolumes}
 use Rattle.group_volumes.specs.Volumes.{SpellsPool}
 use Rattle.pool_model.specs.Pools.{PlainPool}
 use Rattle.pool_model.specs.View.{View, DueCall, Left, is_kept}
-use Rattle.volume_blocks.specs.Reading.{OnlyReadsBlocks}
 use Rattle.pool_commit.specs.declared.kept.Kept.{Kept}
 use Rattle.pool_commit.specs.declared.kept.Planned.{Planned}
 use Rattle.pool_commit.specs.Backs.{Backs, SpellsKept, IsPlanOf, left_calls}
@@ -52,7 +52,7 @@ pub not_kept : (s : State) (v : View) (group : ℕ) → Backs s v → volumes_at
 not_kept s v group backs is =
     gone_cases backs.blocks.stored group (volumes_at s.kept group) (is_kept v group) (v.pools group) is (backs.blocks.kept group)
 
-last_at : (kept : Kept) → volumes_at kept kept.committed ≡ Some kept.last
+pub last_at : (kept : Kept) → volumes_at kept kept.committed ≡ Some kept.last
 last_at kept =
     ap (λ (b : Bool). cond b (Some kept.last) (if suc kept.committed == kept.committed then kept.before else (if suc (suc kept.committed) == kept.committed then kept.earliest else None)))
     (eq-eqb kept.committed kept.committed refl)

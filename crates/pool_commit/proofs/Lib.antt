@@ -8,4 +8,5 @@ pub mod ReadCauses
 pub mod ReadingBase
 pub mod Starting
 pub mod Tolerating
+pub mod Unread
 pub mod Refusing

@@ -4,16 +4,20 @@ use Rattle.std.specs.Prelude.{not, filter, slice_get}
 use Rattle.std.specs.List.{AllByRecursion}
 use Rattle.std.proofs.lemmas.Bool.{cases_lt}
 use Rattle.std.proofs.lemmas.List.Elements.{All-contains, Contains-append_left, Contains-append_right}
+use Rattle.model_disk.specs.Joint.{Disks, calls_on}
 use Rattle.raidz_io.specs.declared.vdev.Vdev.{Vdev as VdevOnDisks}
+use Rattle.raidz_io.specs.Reads.{AreUntouched}
 use Rattle.raidz_io.specs.declared.writes.ColumnWrite.{ColumnWrite}
 use Rattle.raidz_io.proofs.Calls.{Contains-front, Contains-later, Contains-cases, Contains-none}
 use Rattle.raidz_io.proofs.Placed.{placed_at}
 use Rattle.block_store.specs.declared.shape.VdevShape.{VdevShape}
 use Rattle.block_store.specs.declared.space.VdevSpace.{VdevSpace}
 use Rattle.block_store.specs.Blocks.{Contents}
-use Rattle.block_store.specs.Places.{shapes_of}
+use Rattle.block_store.specs.Places.{shapes_of, HaveMarks}
+use Rattle.block_store.specs.Places.{filled as filled_marks, planned as planned_marks}
 use Rattle.block_store.specs.Plans.{Plans}
-use Rattle.block_store.specs.Store.{Store, Holds, is_out}
+use Rattle.block_store.specs.Steps.{OnlyReadsAndPlans, AnswersAreTrue}
+use Rattle.block_store.specs.Store.{Store, Holds, outs, outs_from, is_out}
 use Rattle.block_store.proofs.Writing.{found_at}
 use Rattle.group_volumes.specs.declared.volumes.GroupVolumes.{GroupVolumes}
 use Rattle.group_volumes.specs.Volumes.{SpellsPool, IsPlannedAs}
@@ -22,12 +26,11 @@ use Rattle.pool_model.specs.Machine.{due_write, due_flush, IsPlan}
 use Rattle.pool_model.proofs.Plans.{writes_on, is_plan as plan_of}
 use Rattle.pool_model.specs.Pools.{PlainPool, Entry, applied}
 use Rattle.pool_model.specs.View.{View, Vdev, DueCall, Sync, Left, is_planned, counted, disks_of, disks_in_use}
-use Rattle.volume_blocks.specs.Reading.{AnswersAreTrue}
-use Rattle.volume_blocks.specs.Writing.{OnlyReadsAndPlans}
 use Rattle.pool_commit.specs.declared.kept.Planned.{Planned}
 use Rattle.pool_commit.specs.Backs.{Backs, IsPlanOf, left_calls}
 use Rattle.pool_commit.specs.Making.{writes_left}
 use Rattle.pool_commit.specs.Config.{shown, vdevs_of}
+use Rattle.pool_commit.specs.Room.{IsBegun}
 use Rattle.pool_commit.specs.State.{State}
 use Rattle.pool_commit.proofs.Backing.{last_spelled}
 use Rattle.pool_commit.proofs.Tolerating.{vdev_at}
@@ -101,12 +104,12 @@ calls_of_disks counts (write ∷ writes) = ap (λ (calls : List DueCall). due_wr
 abbrev pub none_before : ℕ → ℕ
 none_before disk = 0
 
-same_vdevs : (spaces others : List VdevSpace) → shapes_of others ≡ shapes_of spaces → vdevs_of others ≡ vdevs_of spaces
+pub same_vdevs : (spaces others : List VdevSpace) → shapes_of others ≡ shapes_of spaces → vdevs_of others ≡ vdevs_of spaces
 same_vdevs spaces others same = ap (λ (shapes : List VdevShape). map (λ shape. shown shape.vdev) shapes) same
 
 -- writes to disks in use, and then their flushes
 is_plan : (old new : Store) (v : View) (flushes : List ℕ) (stored planned : Contents) → v.vdevs ≡ vdevs_of old.spaces → ((disk : ℕ) → v.out disk ≡ is_out old.out disk)
-    → old.due ≡ [] → OnlyReadsAndPlans old new → Plans new stored planned → flushes ≡ disks_in_use v → IsPlan v (left_calls none_before new.due flushes)
+    → old.due ≡ [] → OnlyReadsAndPlans old new [] → Plans new stored planned → flushes ≡ disks_in_use v → IsPlan v (left_calls none_before new.due flushes)
 is_plan old new v flushes stored planned vdevs out none kept plans are =
     let only : new.due ≡ kept.added = kept.due ∙ ap (λ (writes : List ColumnWrite). writes ++ kept.added) none in
     subst (IsPlan v) (sym (ap (λ (calls : List DueCall). calls ++ map due_flush flushes) (calls_of_disks none_before new.due)
@@ -165,7 +168,7 @@ backs_begun s store v out shapes plans sync none backs = record {
 }
 
 -- and where more was planned since, but no plan was made
-pub backs_still : (s : State) (new : Store) (v : View) → s.planned ≡ None → OnlyReadsAndPlans s.store new → Backs s v
+pub backs_still : (s : State) (new : Store) (v : View) → s.planned ≡ None → OnlyReadsAndPlans s.store new [] → Backs s v
     → Backs (record s { store = new }) v
 backs_still s new v no_plan kept backs =
     let there = kept.plans backs.blocks.stored backs.blocks.planned backs.blocks.plans in
@@ -200,7 +203,7 @@ IsAfter old new group last items after =
 pub plan_is_backed : (s : State) (new : Store) (group : ℕ) (last : GroupVolumes) (plan : Planned) (items : Entry) (v : View) → Backs s v → s.store.due ≡ []
     → group ≡ suc v.committed → last ≡ s.kept.last → items ≡ v.ledger (suc v.committed)
     → plan.flushes.items ≡ filter (λ disk. not (is_out s.store.out disk)) (disks_of (vdevs_of s.store.spaces))
-    → OnlyReadsAndPlans s.store new → AnswersAreTrue s.store new → IsAfter s.store new group last items plan.volumes
+    → OnlyReadsAndPlans s.store new [] → AnswersAreTrue s.store new → IsAfter s.store new group last items plan.volumes
     → (calls : List DueCall) × IsPlan v calls × Backs (record { store = new; kept = s.kept; planned = Some plan }) (record v { sync = Left calls })
 plan_is_backed s new group last plan items v backs none next is_last are flushes kept honest after =
     let before : group - 1 ≡ v.committed = omega arith in
@@ -238,3 +241,14 @@ plan_is_backed s new group last plan items v backs none next is_last are flushes
         };
       },
     )
+
+-- disks that were out as the plan was begun are untouched since
+pub untouched_since : (old begun new : Store) → begun.disks ≡ old.disks → begun.out ≡ old.out → AreUntouched (outs begun ++ []) begun.disks new.disks
+    → AreUntouched (outs old) old.disks new.disks
+untouched_since old begun new disks out untouched disk held =
+    untouched disk (Contains-append_left (outs begun) [] disk (subst (λ (flags : List Bool). Contains (outs_from 0 flags) disk) (sym out) held))
+    ∙ ap (λ (d : Disks). calls_on disk d.calls) disks
+
+pub is_begun : (old begun : Store) → begun.disks ≡ old.disks → begun.out ≡ old.out → shapes_of begun.spaces ≡ shapes_of old.spaces
+    → HaveMarks old.spaces filled_marks begun.spaces filled_marks → HaveMarks old.spaces filled_marks begun.spaces planned_marks → IsBegun old begun
+is_begun old begun disks out shapes filled_stays free = record { disks = disks; out = out; shapes = shapes; filled_stays = filled_stays; free = free }

@@ -1,35 +1,29 @@
 -- Refusals of the layers below.
-use Rattle.std.proofs.Common.{ℕ, ◌≡◌, ◌⊎◌, ⊎_elim, List, [], refl, sym, subst, inl, inr}
+use Rattle.std.proofs.Common.{ℕ, ◌≡◌, ◌⊎◌, ⊎_elim, List, refl, sym, ap, subst, inl, inr}
 use Rattle.block_store.specs.declared.refusal.Refusal.{Refusal as StoreRefusal}
 use Rattle.block_store.specs.declared.refusal.Refusal.TheVariants as store
 use Rattle.block_store.specs.Store.{Store}
 use Rattle.group_volumes.specs.declared.refusal.Refusal.{Refusal as VolumesRefusal}
 use Rattle.group_volumes.specs.declared.refusal.Refusal.TheVariants as volumes
+use Rattle.group_volumes.specs.declared.volumes.GroupVolumes.{GroupVolumes}
+use Rattle.group_volumes.specs.Refusals.{refusal_of}
+use Rattle.group_volumes.specs.Room.{LacksRoom as LacksRoomFor}
+use Rattle.group_volumes.specs.Unread.{IsUnreadFor}
+use Rattle.pool_model.specs.Pools.{Entry}
+use Rattle.pool_now.specs.GoodChanges.{MakesGoodVolumes}
 use Rattle.volume_blocks.specs.declared.volume.VolumeBlocks.{VolumeBlocks}
-use Rattle.volume_blocks.specs.Reading.{IsUnreadIn}
-use Rattle.pool_model.specs.View.{View}
-use Rattle.pool_commit.specs.declared.refusal.Refusal.TheVariants.{NoMemory, DiskFault, NoSpace, BadPointer, BadDigest}
+use Rattle.volume_blocks.specs.Reading.{IsUnread}
+use Rattle.pool_commit.specs.declared.refusal.Refusal.{Refusal}
+use Rattle.pool_commit.specs.declared.refusal.Refusal.TheVariants.{NoMemory, DiskFault, NoSpace, BadPointer, BadDigest, BadConfig}
 use Rattle.pool_commit.specs.Causes.{of_store, of_volumes}
-use Rattle.pool_commit.specs.Reading.{AreTrue, IsReadFault, IsLost, TooManyAreLost}
-use Rattle.pool_commit.specs.State.{State}
-
--- why a plan is refused
-pub plan_refused : (v : View) (old new : State) (refusal : VolumesRefusal) → ¬ (refusal ≡ volumes.BadConfig)
-    → (AreTrue old new → ¬ ((refusal ≡ volumes.NoMemory) ⊎ (refusal ≡ volumes.NoSpace)) → TooManyAreLost v [] old new)
-    → (of_volumes refusal ≡ NoMemory) ⊎ (IsLost v [] old new (of_volumes refusal) ⊎ (of_volumes refusal ≡ NoSpace))
-plan_refused v old new volumes.NoMemory config lost = inl refl
-plan_refused v old new volumes.NoSpace config lost = inr (inr refl)
-plan_refused v old new volumes.BadConfig config lost = absurd (config refl)
-plan_refused v old new volumes.DiskFault config lost = inr (inl (inl refl, λ honest. lost honest (λ known. ⊎_elim (λ e. cc) (λ e. cc) known)))
-plan_refused v old new volumes.BadPointer config lost = inr (inl (inr (inl refl), λ honest. lost honest (λ known. ⊎_elim (λ e. cc) (λ e. cc) known)))
-plan_refused v old new volumes.BadDigest config lost = inr (inl (inr (inr refl), λ honest. lost honest (λ known. ⊎_elim (λ e. cc) (λ e. cc) known)))
+use Rattle.pool_commit.specs.Reading.{IsReadFault}
 
 -- a block of a volume that could not be read
 abbrev pub IsUnreadCause : StoreRefusal → Type 0
 IsUnreadCause refusal = (refusal ≡ store.BadPointer) ⊎ ((refusal ≡ store.DiskFault) ⊎ (refusal ≡ store.BadDigest))
 
-pub unread_cause : {old new : Store} {volume : VolumeBlocks} {birth offset end : ℕ} {missing : List ℕ} {refusal : StoreRefusal} → IsUnreadIn old new volume birth offset end missing refusal → IsUnreadCause refusal
-unread_cause unread = ⊎_elim (λ bad. inl bad.0) (λ last. ⊎_elim (λ lost. inr (inl lost.0)) (λ digest. inr (inr digest.0)) last.last.cause) unread.unread.cause
+pub unread_cause : {old new : Store} {volume : VolumeBlocks} {birth id : ℕ} {missing : List ℕ} {refusal : StoreRefusal} → IsUnread old new volume birth id missing refusal → IsUnreadCause refusal
+unread_cause unread = ⊎_elim (λ bad. inl bad.0) (λ last. ⊎_elim (λ lost. inr (inl lost.0)) (λ digest. inr (inr digest.0)) last.last.cause) unread.cause
 
 pub read_fault : (refusal : StoreRefusal) → IsUnreadCause refusal → IsReadFault (of_store refusal)
 read_fault refusal cause =
@@ -37,16 +31,50 @@ read_fault refusal cause =
     (λ other. ⊎_elim (λ e. inl (subst (λ (r : StoreRefusal). of_store r ≡ DiskFault) (sym e) refl))
     (λ e. inr (inr (subst (λ (r : StoreRefusal). of_store r ≡ BadDigest) (sym e) refl))) other) cause
 
-pub not_memory : (refusal : StoreRefusal) → IsUnreadCause refusal → ¬ (refusal ≡ store.NoMemory)
-not_memory refusal cause memory = ⊎_elim (λ e. cc) (λ other. ⊎_elim (λ e. cc) (λ e. cc) other) cause
-
 pub is_memory : (refusal : StoreRefusal) → refusal ≡ store.NoMemory → of_store refusal ≡ NoMemory
 is_memory refusal e = subst (λ (r : StoreRefusal). of_store r ≡ NoMemory) (sym e) refl
 
-pub no_space : (refusal : VolumesRefusal) → of_volumes refusal ≡ NoSpace → refusal ≡ volumes.NoSpace
-no_space volumes.NoSpace e = refl
-no_space volumes.NoMemory e = absurd (cc)
-no_space volumes.DiskFault e = absurd (cc)
-no_space volumes.BadPointer e = absurd (cc)
-no_space volumes.BadDigest e = absurd (cc)
-no_space volumes.BadConfig e = absurd (cc)
+-- what is no fault of a read
+pub not_memory : (refusal : Refusal) → IsReadFault refusal → ¬ (refusal ≡ NoMemory)
+not_memory refusal fault is = ⊎_elim (λ e. cc) (λ other. ⊎_elim (λ e. cc) (λ e. cc) other) fault
+
+not_space : (refusal : Refusal) → IsReadFault refusal → ¬ (refusal ≡ NoSpace)
+not_space refusal fault is = ⊎_elim (λ e. cc) (λ other. ⊎_elim (λ e. cc) (λ e. cc) other) fault
+
+not_config : (refusal : Refusal) → IsReadFault refusal → ¬ (refusal ≡ BadConfig)
+not_config refusal fault is = ⊎_elim (λ e. cc) (λ other. ⊎_elim (λ e. cc) (λ e. cc) other) fault
+
+-- the volumes answer as the store does
+pub same_answer : (cause : StoreRefusal) → of_volumes (refusal_of cause) ≡ of_store cause
+same_answer store.NoMemory = refl
+same_answer store.DiskFault = refl
+same_answer store.NoSpace = refl
+same_answer store.BadPointer = refl
+same_answer store.BadDigest = refl
+same_answer store.BadConfig = refl
+
+-- why the volumes after a group can't be planned
+abbrev pub IsPlanRefused : Store → Store → GroupVolumes → Entry → ℕ → VolumesRefusal → Type 0
+IsPlanRefused old new last items group refusal =
+    (refusal ≡ volumes.NoMemory)
+    ⊎ (((refusal ≡ volumes.NoSpace) × LacksRoomFor old.spaces last items.writes)
+    ⊎ (((refusal ≡ volumes.BadConfig) × ¬ MakesGoodVolumes items) ⊎ IsUnreadFor old new last items.writes group refusal))
+
+unread_fault : (old new : Store) (last : GroupVolumes) (items : Entry) (group : ℕ) (refusal : VolumesRefusal) → IsUnreadFor old new last items.writes group refusal → IsReadFault (of_volumes refusal)
+unread_fault old new last items group refusal is =
+    subst (λ (r : VolumesRefusal). IsReadFault (of_volumes r)) (sym is.unread.answered)
+    (subst IsReadFault (sym (same_answer is.unread.cause)) (read_fault is.unread.cause (unread_cause is.unread.unread.unread)))
+
+pub only_space : (old new : Store) (last : GroupVolumes) (items : Entry) (group : ℕ) (refusal : VolumesRefusal) → of_volumes refusal ≡ NoSpace
+    → IsPlanRefused old new last items group refusal → LacksRoomFor old.spaces last items.writes
+only_space old new last items group refusal is (inl memory) = absurd (let e : of_volumes refusal ≡ NoMemory = ap of_volumes memory in cc)
+only_space old new last items group refusal is (inr (inl space)) = space.1
+only_space old new last items group refusal is (inr (inr (inl config))) = absurd (let e : of_volumes refusal ≡ BadConfig = ap of_volumes config.0 in cc)
+only_space old new last items group refusal is (inr (inr (inr unread))) = absurd (not_space (of_volumes refusal) (unread_fault old new last items group refusal unread) is)
+
+pub only_unread : (old new : Store) (last : GroupVolumes) (items : Entry) (group : ℕ) (refusal : VolumesRefusal) → IsReadFault (of_volumes refusal)
+    → IsPlanRefused old new last items group refusal → IsUnreadFor old new last items.writes group refusal
+only_unread old new last items group refusal fault (inl memory) = absurd (not_memory (of_volumes refusal) fault (ap of_volumes memory))
+only_unread old new last items group refusal fault (inr (inl space)) = absurd (not_space (of_volumes refusal) fault (ap of_volumes space.0))
+only_unread old new last items group refusal fault (inr (inr (inl config))) = absurd (not_config (of_volumes refusal) fault (ap of_volumes config.0))
+only_unread old new last items group refusal fault (inr (inr (inr unread))) = unread

@@ -15,22 +15,19 @@ use Rattle.raidz_io.proofs.Calls.{Contains-front, Contains-cases, Contains-none}
 use Rattle.block_store.specs.declared.shape.VdevShape.{VdevShape}
 use Rattle.block_store.specs.declared.space.VdevSpace.{VdevSpace}
 use Rattle.block_store.specs.Places.{shapes_of}
-use Rattle.block_store.specs.Reading.{AreTolerable}
 use Rattle.block_store.specs.Store.{Store, outs, is_out}
 use Rattle.block_store.proofs.Outs.{in_is_out}
-use Rattle.pool_model.specs.View.{View, Vdev, lost_in, is_tolerable}
-use Rattle.volume_blocks.specs.Reading.{FewAreAbsent as FewAreAbsentSince}
+use Rattle.pool_model.specs.View.{View, lost_in}
 use Rattle.pool_commit.specs.Calls.{unread_call, told_since, unread_between}
 use Rattle.pool_commit.specs.Config.{shown, vdevs_of}
-use Rattle.pool_commit.specs.Reading.{is_lost, TooManyAreLost}
-use Rattle.pool_commit.specs.State.{State}
+use Rattle.pool_commit.specs.Reading.{is_lost}
 
 -- ---- the lost disks of a vdev
 
-abbrev one_if : Bool → ℕ → List ℕ
+abbrev pub one_if : Bool → ℕ → List ℕ
 one_if lost disk = if lost then disk ∷ [] else []
 
-abbrev lost_disks : (ℕ → Bool) → ℕ → ℕ → List ℕ
+abbrev pub lost_disks : (ℕ → Bool) → ℕ → ℕ → List ℕ
 lost_disks lost first zero = []
 lost_disks lost first (suc n) = lost_disks lost first n ++ one_if (lost (first + n)) (first + n)
 
@@ -38,7 +35,7 @@ length_one : (lost : Bool) (disk : ℕ) → length (one_if lost disk) ≡ (if lo
 length_one true disk = refl
 length_one false disk = refl
 
-length_lost : (lost : ℕ → Bool) (first n : ℕ) → length (lost_disks lost first n) ≡ lost_in lost first n
+pub length_lost : (lost : ℕ → Bool) (first n : ℕ) → length (lost_disks lost first n) ≡ lost_in lost first n
 length_lost lost first zero = refl
 length_lost lost first (suc n) =
     length-append (lost_disks lost first n) (one_if (lost (first + n)) (first + n))
@@ -49,7 +46,7 @@ in_one : (lost : Bool) (disk : ℕ) → lost ≡ true → Contains (one_if lost 
 in_one true disk is = Contains-front disk []
 in_one false disk is = absurd (cc)
 
-among_lost : (lost : ℕ → Bool) (first n child : ℕ) → child < n → lost (first + child) ≡ true → Contains (lost_disks lost first n) (first + child)
+pub among_lost : (lost : ℕ → Bool) (first n child : ℕ) → child < n → lost (first + child) ≡ true → Contains (lost_disks lost first n) (first + child)
 among_lost lost first zero child below is = absurd (omega arith)
 among_lost lost first (suc n) child below is =
     ⊎_elim
@@ -69,7 +66,7 @@ both_right : (a b : Bool) → (a && b) ≡ true → b ≡ true
 both_right true b is = is
 both_right false b is = absurd (cc)
 
-all_at : {A : Type 0} (test : A → Bool) (xs : List A) (i : ℕ) (x : A) → list_all test xs ≡ true → slice_get xs i ≡ Some x → test x ≡ true
+pub all_at : {A : Type 0} (test : A → Bool) (xs : List A) (i : ℕ) (x : A) → list_all test xs ≡ true → slice_get xs i ≡ Some x → test x ≡ true
 all_at test [] i x all found = absurd (cc)
 all_at test (first ∷ xs) zero x all found =
     let same : first ≡ x = cc in
@@ -81,24 +78,8 @@ vdev_at spaces v space found =
     slice_get-map (λ (shape : VdevShape). shown shape.vdev) (shapes_of spaces) v
     ∙ ap (option_map (λ (shape : VdevShape). shown shape.vdev)) (slice_get-map (λ (s : VdevSpace). s.shape) spaces v ∙ ap (option_map (λ (s : VdevSpace). s.shape)) found)
 
-at_most : (a b : ℕ) → nat_le a b ≡ true → a ≤ b
+pub at_most : (a b : ℕ) → nat_le a b ≡ true → a ≤ b
 at_most a b is = grind (arith, nat_tests, is)
-
--- where the lost disks are tolerable, so are absent disks that are all lost
-pub few_where_tolerable : (spaces : List VdevSpace) (lost : ℕ → Bool) (absent : List ℕ) → is_tolerable (vdevs_of spaces) lost ≡ true
-    → ((disk : ℕ) → Contains absent disk → lost disk ≡ true) → AreTolerable spaces absent
-few_where_tolerable spaces lost absent tolerable all v space found =
-    let first : ℕ = space.shape.vdev.first in
-    let children : ℕ = space.shape.vdev.geometry.children in
-    let few : lost_in lost first children ≤ space.shape.vdev.geometry.parity =
-    at_most (lost_in lost first children) space.shape.vdev.geometry.parity
-    (all_at (λ (vdev : Vdev). nat_le (lost_in lost vdev.first vdev.children) vdev.parity) (vdevs_of spaces) v (shown space.shape.vdev) tolerable (vdev_at spaces v space found)) in
-    let count : length (lost_disks lost first children) ≡ lost_in lost first children = length_lost lost first children in
-    record {
-      disks = lost_disks lost first children;
-      few = omega arith;
-      all = λ child below held. among_lost lost first children child below (all (first + child) held);
-    }
 
 -- ---- absent disks are lost
 
@@ -145,7 +126,7 @@ failed_is_unread n (made ∷ newer) calls disk le are held =
     read_is_in (nat_le n (length (newer ++ calls))) made.call made.which disk (failed_since n (newer ++ calls)) (told_since unread_call n (newer ++ calls)) are.0
     (failed_is_unread n newer calls disk le are.1) held
 
-absent_is_lost : (old : Store) (v : View) (missing : List ℕ) (new : Disks) → OnlyReads old.disks new → ((disk : ℕ) → v.out disk ≡ is_out old.out disk)
+pub absent_is_lost : (old : Store) (v : View) (missing : List ℕ) (new : Disks) → OnlyReads old.disks new → ((disk : ℕ) → v.out disk ≡ is_out old.out disk)
     → (disk : ℕ) → Contains ((outs old ++ missing) ++ failed_since (length old.disks.calls) new.calls) disk
     → is_lost v missing (unread_between old.disks new) disk ≡ true
 absent_is_lost old v missing new reads out disk held =
@@ -161,16 +142,6 @@ absent_is_lost old v missing new reads out disk held =
     (subst (λ (calls : List JointCall). Contains (failed_since (length old.disks.calls) calls) disk) reads.calls since))))))
     (Contains-append_cases (outs old ++ missing) (failed_since (length old.disks.calls) new.calls) disk held)
 
-true_or_false : (b : Bool) → (b ≡ true) ⊎ (b ≡ false)
+pub true_or_false : (b : Bool) → (b ≡ true) ⊎ (b ≡ false)
 true_or_false true = inl refl
 true_or_false false = inr refl
-
--- what is read where not few disks are absent is read where too many are lost
-pub too_many_are_lost : (old new : State) (v : View) (missing : List ℕ) → v.vdevs ≡ vdevs_of old.store.spaces → ((disk : ℕ) → v.out disk ≡ is_out old.store.out disk)
-    → OnlyReads old.store.disks new.store.disks → ¬ FewAreAbsentSince old.store new.store missing → TooManyAreLost v missing old new
-too_many_are_lost old new v missing vdevs out reads not_few =
-    let lost : ℕ → Bool = is_lost v missing (unread_between old.store.disks new.store.disks) in
-    ⊎_elim
-    (λ tolerable. absurd (not_few (few_where_tolerable old.store.spaces lost ((outs old.store ++ missing) ++ failed_since (length old.store.disks.calls) new.store.disks.calls)
-    (subst (λ (vdevs : List Vdev). is_tolerable vdevs lost ≡ true) vdevs tolerable) (absent_is_lost old.store v missing new.store.disks reads out))))
-    (λ many. many) (true_or_false (is_tolerable v.vdevs lost))

@@ -1,10 +1,21 @@
--- Room for the blocks of a pool.
-use Rattle.std.specs.Prelude.{◌/◌, Contains}
-use Rattle.group_volumes.specs.declared.volumes.NamedVolume.{NamedVolume}
-use Rattle.volume_blocks.specs.Volume.{block_size_of}
-use Rattle.volume_blocks.specs.Writing.{HasNoRoom}
+-- Room for the blocks of a group that is to be planned.
+use Rattle.std.specs.Prelude.{◌≡◌}
+use Rattle.block_store.specs.Places.{shapes_of, filled, planned, HaveMarks}
+use Rattle.block_store.specs.Store.{Store}
+use Rattle.group_volumes.specs.Room.{LacksRoom as LacksRoomFor}
+use Rattle.pool_model.specs.Pools.{Entry}
 use Rattle.pool_commit.specs.State.{State}
 
--- no metaslab has room for a block of one of the committed volumes
-abbrev pub LacksRoom : State → Type 0
-LacksRoom s = (named : NamedVolume) × Contains s.kept.last.volumes.items named × HasNoRoom s.store.spaces (block_size_of named.blocks / 512)
+-- the store as a plan begins: the same disks, of which nothing is in use but what is stored
+pub record IsBegun (old begun : Store) : Type 0 where
+  pub disks : begun.disks ≡ old.disks
+  pub out : begun.out ≡ old.out
+  pub shapes : shapes_of begun.spaces ≡ shapes_of old.spaces
+  pub filled_stays : HaveMarks old.spaces filled begun.spaces filled
+  pub free : HaveMarks old.spaces filled begun.spaces planned
+
+-- there is no room for a block of the committed volumes that the items change, behind what is stored and others of these blocks
+pub record LacksRoom (s : State) (items : Entry) : Type 0 where
+  pub begun : Store
+  pub is_begun : IsBegun s.store begun
+  pub lacks : LacksRoomFor begun.spaces s.kept.last items.writes

@@ -7,7 +7,7 @@ ghost use Rattle.pool_model.specs.Machine.{IsPlan};
 ghost use Rattle.pool_now.specs.GoodChanges.{MakesGoodVolumes};
 ghost use Rattle.pool_commit.specs.Backs.{Backs};
 ghost use Rattle.pool_commit.specs.StateOf.{state_of};
-ghost use Rattle.pool_commit.specs.Reading.{AreTrue, IsLost};
+ghost use Rattle.pool_commit.specs.Reading.{AreTrue, IsReadFault, IsUnreadForPlan, IsLostForPlan};
 ghost use Rattle.pool_commit.specs.Room.{LacksRoom};
 
 use crate::commit::Commit;
@@ -28,10 +28,19 @@ impl<D: Disk + Drop> Commit<D> {
         ensures dropped { OnErr result ((v : View) → Backs (state_of self.old) v → Backs (state_of self.new) (record v { sync = Unplanned })) }
         ensures planned { OnOk result ((v : View) → Backs (state_of self.old) v → is_planned v.sync ≡ false → v.committed < 2 ^ 62 → items.now ≡ v.ledger (suc v.committed) → AreTrue (state_of self.old) (state_of self.new)
             → (calls : List DueCall) × IsPlan v calls × Backs (state_of self.new) (record v { sync = Left calls })) }
-        ensures full { IfErr result (λ refusal. refusal ≡ Refusal.NoSpace → LacksRoom (state_of self.new)) }
+
+        // One of the group's own blocks finds no place, behind what is stored and others of them.
+        ensures full { IfErr result (λ refusal. refusal ≡ Refusal.NoSpace
+            → LacksRoom (state_of self.old) items.now) }
+
+        // A block that the group changes was read last, and could not be read.
+        ensures unread { IfErr result (λ refusal. IsReadFault refusal
+            → IsUnreadForPlan (state_of self.old) (state_of self.new) items.now refusal) }
         ensures refused { IfErr result (λ refusal. (v : View) → Backs (state_of self.old) v → is_planned v.sync ≡ false → v.committed < 2 ^ 62
             → items.now ≡ v.ledger (suc v.committed) → MakesGoodVolumes items.now
-            → (refusal ≡ Refusal.NoMemory) ⊎ (IsLost v [] (state_of self.old) (state_of self.new) refusal ⊎ (refusal ≡ Refusal.NoSpace))) }
+            → (refusal ≡ Refusal.NoMemory)
+            ⊎ (IsLostForPlan v (state_of self.old) (state_of self.new) items.now refusal
+            ⊎ (refusal ≡ Refusal.NoSpace))) }
     {
         let group = self.kept.committed().saturating_add(1);
         self.store.begin_plan(group);

@@ -8,14 +8,14 @@ ghost use Rattle.pool_now.specs.NowMoves.{GroupsAreBelow};
 ghost use Rattle.pool_now.specs.Overlay.{base_of, HasRange};
 ghost use Rattle.pool_now.specs.Shapes.{shape_of};
 ghost use Rattle.block_store.specs.Blocks.{Contents};
+ghost use Rattle.block_store.specs.Steps.{OnlyReadsBlocks, AnswersAreTrue};
 ghost use Rattle.block_store.specs.Store.{Holds};
 ghost use Rattle.group_volumes.specs.Volumes.{SpellsPool};
 ghost use Rattle.pool_model.specs.Pools.{PlainPool};
 ghost use Rattle.pool_model.specs.Refusals.{read_refusal};
-ghost use Rattle.volume_blocks.specs.Reading.{OnlyReadsBlocks, AnswersAreTrue, FewAreAbsent};
 ghost use Rattle.pool_commit.specs.Backs.{Backs};
 ghost use Rattle.pool_commit.specs.StateOf.{state_of};
-ghost use Rattle.pool_commit.specs.Reading.{AreTrue, OnlyReadsPool, IsReadFault, IsLost, HasNoCause, IsUnderCause, IsReadCause};
+ghost use Rattle.pool_commit.specs.Reading.{AreTrue, OnlyReadsPool, IsReadFault, IsUnreadOf, IsUnreadUnder, IsLostUnder, HasNoCause, IsUnderCause, IsReadCause};
 
 use crate::commit::Commit;
 use crate::refusal::Refusal;
@@ -43,8 +43,10 @@ fn read_of<D: Disk + Drop>(
     ensures len { IfOk result (λ bytes. length bytes.items ≡ len) }
     ensures refused { IfErr result (λ refusal. (stored : Contents) (pool : PlainPool) → Holds store.old stored → SpellsPool stored birth volumes.now pool
         → (refusal ≡ Refusal.NoMemory) ⊎ (IsReadCause (read_refusal offset len (volume_at name.now pool)) refusal
-        ⊎ ((read_refusal offset len (volume_at name.now pool) ≡ None) × IsReadFault refusal
-        × (AnswersAreTrue store.old store.new → ¬ FewAreAbsent store.old store.new missing.now)))) }
+        ⊎ ((read_refusal offset len (volume_at name.now pool) ≡ None)
+        × IsUnreadOf store.old store.new volumes.now birth name.now offset len missing.now refusal))) }
+    ensures unread { IfErr result (λ refusal. IsReadFault refusal
+        → IsUnreadOf store.old store.new volumes.now birth name.now offset len missing.now refusal) }
 {
     let Some(volume) = volumes.find(name) else {
         return Err(Refusal::NoSuchName);
@@ -75,7 +77,12 @@ impl<D: Disk + Drop> Commit<D> {
             × (AreTrue (state_of self.old) (state_of self.new) → AreBytesOf (v.pools group) name.now offset len bytes.items)) }
         ensures refused { IfErr result (λ refusal. (v : View) → Backs (state_of self.old) v
             → (refusal ≡ Refusal.NoMemory) ⊎ (IsUnderCause v group name.now offset len refusal
-            ⊎ (HasNoCause v group name.now offset len × IsLost v missing.now (state_of self.old) (state_of self.new) refusal))) }
+            ⊎ (HasNoCause v group name.now offset len
+            × IsLostUnder v (state_of self.old) (state_of self.new) group name.now offset len missing.now refusal))) }
+
+        // A block in which the range lies was read last, and could not be read.
+        ensures unread { IfErr result (λ refusal. IsReadFault refusal → IsUnreadUnder (state_of self.old)
+            (state_of self.new) group name.now offset len missing.now refusal) }
     {
         let Some(volumes) = self.kept.volumes(group) else {
             return Err(Refusal::GroupGone);
@@ -110,7 +117,10 @@ impl<D: Disk + Drop> Commit<D> {
             → volume_at name.now (now_of v) ≡ Some volume → shape_of volume ≡ shape → HasRange bytes.items (base_of v name.now volume) offset) }
         ensures refused { IfErr result (λ refusal. (v : View) (volume : PlainVolume) → Backs (state_of self.old) v → GroupsAreBelow v
             → volume_at name.now (now_of v) ≡ Some volume → shape_of volume ≡ shape
-            → (refusal ≡ Refusal.NoMemory) ⊎ IsLost v [] (state_of self.old) (state_of self.new) refusal) }
+            → (refusal ≡ Refusal.NoMemory) ⊎ IsLostUnder v (state_of self.old) (state_of self.new)
+            v.committed name.now offset len [] refusal) }
+        ensures unread { IfErr result (λ refusal. IsReadFault refusal → IsUnreadUnder (state_of self.old)
+            (state_of self.new) (state_of self.old).kept.committed name.now offset len [] refusal) }
     {
         let committed = self.kept.committed();
         if shape.group > committed {

@@ -1,8 +1,7 @@
-use Rattle.std.proofs.Common.{⊎_elim, inl, inr, sym, subst, rules, ◌∙◌}
-use Rattle.pool_commit.specs.declared.refusal.Refusal.{Refusal}
-use Rattle.pool_commit.specs.Reading.{IsReadFault}
-use Rattle.pool_commit.proofs.Refusing.{IsUnreadCause, unread_cause, read_fault, not_memory, is_memory}
+use Rattle.std.proofs.Common.{◌+◌, ⊎_elim, inl, inr, sym, subst, rules, ◌∙◌}
+use Rattle.pool_commit.proofs.Refusing.{not_memory, is_memory}
 use Rattle.volume_blocks.specs.declared.volume.VolumeBlocks.{VolumeBlocks}
+use Rattle.volume_blocks.specs.Reading.{IsUnreadIn}
 use Rattle.volume_blocks.specs.Volume.{Spells}
 use Rattle.pool_commit.proofs.ReadCauses.{in_range, is_out_of_range, has_no_cause}
 use Rattle.pool_commit.proofs.reading.read_of.Goals as goal
@@ -37,15 +36,31 @@ returns-in-Ok-clause-bytes g c = λ stored pool held spells.
 pub returns-in-Err-clause-refused : goal.returns-in-Err-clause-refused
 returns-in-Err-clause-refused g c = λ stored pool held spells.
     let there = c.in-Some.ensures.some stored c.args.birth pool spells in
-    let spelled : Spells stored c.args.birth c.blocks-blocks.result.now there.0.bytes =
-    subst (λ (b : VolumeBlocks). Spells stored c.args.birth b there.0.bytes) (sym c.blocks-blocks.ensures) there.2.bytes in
     let none = has_no_cause c.args.offset c.args.len c.args.name.now pool c.shape.result c.against_read.result there.0 c.against_read.ensures there.1
     (c.shape.ensures.shape stored c.args.birth there.0 there.2) (search rules) in
     ⊎_elim (λ memory. inl (c.from.ensures ∙ is_memory c.in-Err.refusal memory))
-    (λ unread.
-    let cause : IsUnreadCause c.in-Err.refusal = unread_cause unread in
-    inr (inr (
+    (λ unread. inr (inr (
       none,
-      subst (λ (r : Refusal). IsReadFault r) (sym c.from.ensures) (read_fault c.in-Err.refusal cause),
-      λ honest few. not_memory c.in-Err.refusal cause (c.in-Err.ensures.known stored there.0.bytes held spelled honest few),
+      record {
+        named = c.in-Some.volume.now;
+        has = c.in-Some.ensures.held;
+        cause = c.in-Err.refusal;
+        unread =
+            subst (λ (b : VolumeBlocks). IsUnreadIn c.args.store.now c.read.new.store b c.args.birth c.args.offset (c.args.offset + c.args.len) c.args.missing.now c.in-Err.refusal)
+            c.blocks-blocks.ensures unread;
+        answered = c.from.ensures;
+      },
     ))) c.in-Err.ensures.refused
+
+pub returns-in-Err-clause-unread : goal.returns-in-Err-clause-unread
+returns-in-Err-clause-unread g c = λ fault.
+    ⊎_elim (λ memory. absurd (not_memory c.from.result fault (c.from.ensures ∙ is_memory c.in-Err.refusal memory)))
+    (λ unread. record {
+      named = c.in-Some.volume.now;
+      has = c.in-Some.ensures.held;
+      cause = c.in-Err.refusal;
+      unread =
+          subst (λ (b : VolumeBlocks). IsUnreadIn c.args.store.now c.read.new.store b c.args.birth c.args.offset (c.args.offset + c.args.len) c.args.missing.now c.in-Err.refusal)
+          c.blocks-blocks.ensures unread;
+      answered = c.from.ensures;
+    }) c.in-Err.ensures.refused

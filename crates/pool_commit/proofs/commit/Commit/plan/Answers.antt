@@ -1,19 +1,20 @@
-use Rattle.std.proofs.Common.{ℕ, suc, ◌≡◌, ◌⊎◌, ◌-◌, List, [], length, None, Contains, refl, sym, ap, ◌∙◌, subst, arith}
+use Rattle.std.proofs.Common.{ℕ, suc, ◌≡◌, ⊎_elim, inl, inr, ◌-◌, List, length, None, Contains, refl, sym, ap, ◌∙◌, subst, arith}
 use Rattle.model_disk.specs.Joint.{Disks}
 use Rattle.raidz_io.specs.Reads.{IsHonestSince}
 use Rattle.group_volumes.specs.declared.volumes.GroupVolumes.{GroupVolumes}
 use Rattle.group_volumes.specs.Volumes.{SpellsPool}
 use Rattle.pool_model.specs.View.{Unplanned}
 use Rattle.pool_commit.specs.declared.kept.Planned.{Planned}
-use Rattle.pool_commit.specs.declared.refusal.Refusal.{Refusal}
-use Rattle.pool_commit.specs.declared.refusal.Refusal.TheVariants as causes
-use Rattle.pool_commit.specs.Reading.{IsLost, TooManyAreLost}
+use Rattle.group_volumes.specs.Room.{LacksRoom as LacksRoomFor}
+use Rattle.group_volumes.specs.Unread.{IsUnreadFor}
+use Rattle.pool_commit.specs.Causes.{of_volumes}
+use Rattle.pool_commit.specs.Reading.{IsReadFault}
 use Rattle.pool_commit.specs.State.{State}
 use Rattle.pool_commit.specs.StateOf.{state_of}
 use Rattle.pool_commit.proofs.Backing.{last_spelled}
-use Rattle.pool_commit.proofs.Planning.{at_error, backs_begun, backs_still, unplanned_still, plan_is_backed}
-use Rattle.pool_commit.proofs.Refusing.{plan_refused, no_space as is_no_space}
-use Rattle.pool_commit.proofs.Tolerating.{too_many_are_lost}
+use Rattle.pool_commit.proofs.Planning.{is_begun, untouched_since, at_error, backs_begun, backs_still, unplanned_still, plan_is_backed}
+use Rattle.pool_commit.proofs.Refusing.{only_space, only_unread}
+use Rattle.pool_commit.proofs.Unread.{lost_for_plan}
 use Rattle.pool_commit.proofs.commit.Commit.plan.Goals as goal
 
 pub invariant_of-self-in-Ok : goal.invariant_of-self-in-Ok
@@ -58,10 +59,34 @@ returns-in-Err-clause-dropped g c = λ v backs.
     unplanned_still (record s { store = c.after_group.new.store }) c.args.self.now.planned (record v { sync = Unplanned }) c.requires.unplanned
     (backs_still s c.after_group.new.store (record v { sync = Unplanned }) refl c.in-Err.ensures.kept begun)
 
+pub returns-in-Ok-clause-untouched : goal.returns-in-Ok-clause-untouched
+returns-in-Ok-clause-untouched g c =
+    untouched_since c.args.self.now.store c.begin_plan.new.self c.after_group.new.store c.begin_plan.ensures.disks c.begin_plan.ensures.out c.in-Ok.ensures.kept.untouched
+
+pub returns-in-Err-clause-untouched : goal.returns-in-Err-clause-untouched
+returns-in-Err-clause-untouched g c =
+    untouched_since c.args.self.now.store c.begin_plan.new.self c.after_group.new.store c.begin_plan.ensures.disks c.begin_plan.ensures.out c.in-Err.ensures.kept.untouched
+
 pub returns-in-Err-clause-full : goal.returns-in-Err-clause-full
-returns-in-Err-clause-full g c = λ no_space.
-    let there = c.in-Err.ensures.full (is_no_space c.in-Err.refusal (sym c.from.ensures ∙ no_space)) in
-    (there.0, subst (λ (volumes : GroupVolumes). Contains volumes.volumes.items there.0) c.last.ensures there.1, there.2)
+returns-in-Err-clause-full g c = λ no_space. record {
+  begun = c.begin_plan.new.self;
+  is_begun = is_begun c.args.self.now.store c.begin_plan.new.self c.begin_plan.ensures.disks c.begin_plan.ensures.out c.begin_plan.ensures.shapes c.begin_plan.ensures.filled c.begin_plan.ensures.free;
+  lacks = subst (λ (volumes : GroupVolumes). LacksRoomFor c.begin_plan.new.self.spaces volumes c.args.items.now.writes) c.last.ensures
+      (only_space c.begin_plan.new.self c.after_group.new.store c.last.result.now c.args.items.now c.saturating_add-group.result c.in-Err.refusal (sym c.from.ensures ∙ no_space) c.in-Err.ensures.refused);
+}
+
+pub returns-in-Err-clause-unread : goal.returns-in-Err-clause-unread
+returns-in-Err-clause-unread g c = λ fault. record {
+  begun = c.begin_plan.new.self;
+  is_begun = is_begun c.args.self.now.store c.begin_plan.new.self c.begin_plan.ensures.disks c.begin_plan.ensures.out c.begin_plan.ensures.shapes c.begin_plan.ensures.filled c.begin_plan.ensures.free;
+  group = c.saturating_add-group.result;
+  is_next = λ few. let same = c.committed.ensures in omega arith;
+  cause = c.in-Err.refusal;
+  unread = subst (λ (volumes : GroupVolumes). IsUnreadFor c.begin_plan.new.self c.after_group.new.store volumes c.args.items.now.writes c.saturating_add-group.result c.in-Err.refusal) c.last.ensures
+      (only_unread c.begin_plan.new.self c.after_group.new.store c.last.result.now c.args.items.now c.saturating_add-group.result c.in-Err.refusal
+      (subst IsReadFault c.from.ensures fault) c.in-Err.ensures.refused);
+  answered = c.from.ensures;
+}
 
 pub returns-in-Err-clause-refused : goal.returns-in-Err-clause-refused
 returns-in-Err-clause-refused g c = λ v backs none few items good.
@@ -69,13 +94,19 @@ returns-in-Err-clause-refused g c = λ v backs none few items good.
     let s : State = record { store = c.begin_plan.new.self; kept = c.args.self.now.kept; planned = None } in
     let new : State = record { store = c.after_group.new.store; kept = c.args.self.now.kept; planned = c.args.self.now.planned } in
     let before : c.saturating_add-group.result - 1 ≡ v.committed = let same = c.committed.ensures ∙ backs.committed in omega arith in
-    let spelled : SpellsPool begun.blocks.stored (c.saturating_add-group.result - 1) c.last.result.now (v.pools v.committed) =
-    subst (λ (n : ℕ). SpellsPool begun.blocks.stored n c.last.result.now (v.pools v.committed)) (sym before)
-    (subst (λ (volumes : GroupVolumes). SpellsPool begun.blocks.stored v.committed volumes (v.pools v.committed)) (sym c.last.ensures) (last_spelled s v begun)) in
-    subst (λ (refusal : Refusal). (refusal ≡ causes.NoMemory) ⊎ (IsLost v [] (state_of c.args.self.now) new refusal ⊎ (refusal ≡ causes.NoSpace))) (sym c.from.ensures)
-    (plan_refused v (state_of c.args.self.now) new c.in-Err.refusal (λ config. c.in-Err.ensures.config config good)
-    (λ honest not_known.
-    let honest_since = subst (λ (disks : Disks). IsHonestSince disks c.after_group.new.store.disks) (sym c.begin_plan.ensures.disks) honest in
-    subst (λ (disks : Disks). TooManyAreLost v [] (record s { store = record c.begin_plan.new.self { disks = disks } }) new) c.begin_plan.ensures.disks
-    (too_many_are_lost s new v [] begun.vdevs begun.out c.in-Err.ensures.kept.reads
-    (λ few_absent. not_known (c.in-Err.ensures.known begun.blocks.stored (v.pools v.committed) begun.blocks.plans.held spelled good honest_since few_absent)))))
+    let spelled : SpellsPool begun.blocks.stored (c.saturating_add-group.result - 1) c.args.self.now.kept.last (v.pools v.committed) =
+    subst (λ (n : ℕ). SpellsPool begun.blocks.stored n c.args.self.now.kept.last (v.pools v.committed)) (sym before) (last_spelled s v begun) in
+    ⊎_elim (λ memory. inl (c.from.ensures ∙ ap of_volumes memory))
+    (λ other. inr (⊎_elim
+    (λ space. inr (c.from.ensures ∙ ap of_volumes space.0))
+    (λ another. inl (⊎_elim
+    (λ config. absurd (config.1 good))
+    (λ unread. lost_for_plan v (state_of c.args.self.now) new c.args.items.now c.from.result (record {
+      begun = c.begin_plan.new.self;
+      is_begun = is_begun c.args.self.now.store c.begin_plan.new.self c.begin_plan.ensures.disks c.begin_plan.ensures.out c.begin_plan.ensures.shapes c.begin_plan.ensures.filled c.begin_plan.ensures.free;
+      group = c.saturating_add-group.result;
+      is_next = λ small. let same = c.committed.ensures in omega arith;
+      cause = c.in-Err.refusal;
+      unread = subst (λ (volumes : GroupVolumes). IsUnreadFor c.begin_plan.new.self c.after_group.new.store volumes c.args.items.now.writes c.saturating_add-group.result c.in-Err.refusal) c.last.ensures unread;
+      answered = c.from.ensures;
+    }) begun c.in-Err.ensures.kept.reads (v.pools v.committed) spelled) another)) other)) c.in-Err.ensures.refused

@@ -6,11 +6,13 @@ use Rattle.raidz_io.proofs.Written.{IfOk-both}
 use Rattle.group_volumes.specs.declared.volumes.GroupVolumes.{GroupVolumes}
 use Rattle.group_volumes.specs.Volumes.{SpellsPool}
 use Rattle.pool_commit.specs.HasDisks.{HasDisks}
+use Rattle.pool_commit.specs.Reading.{IsUnreadOf}
+use Rattle.pool_commit.specs.State.{volumes_at}
 use Rattle.pool_commit.specs.StateOf.{state_of}
-use Rattle.pool_commit.proofs.Backing.{last_spelled, only_reads}
+use Rattle.pool_commit.proofs.Backing.{last_at, last_spelled, only_reads}
 use Rattle.pool_commit.proofs.ReadCauses.{no_read_cause}
 use Rattle.pool_commit.proofs.ReadingBase.{zeros_lie_under, base_lies_under, no_base_cause}
-use Rattle.pool_commit.proofs.Tolerating.{too_many_are_lost}
+use Rattle.pool_commit.proofs.Unread.{lost_under}
 use Rattle.pool_commit.proofs.commit.Commit.read_committed.Goals as goal
 
 pub invariant_of-self-2 : goal.invariant_of-self-2
@@ -42,11 +44,22 @@ returns-clause-refused g c = IfErr-weaker c.read_of.result _ _ (λ refusal known
     let none = no_base_cause v c.args.name.now volume c.args.shape c.args.offset c.args.len below at shape (omega arith) c.requires.within c.requires.few in
     ⊎_elim inl (λ other. inr (⊎_elim
     (λ cause. absurd (no_read_cause _ refusal none cause))
-    (λ fault. (
-      fault.1,
-      λ honest. too_many_are_lost (state_of c.args.self.now) (record (state_of c.args.self.now) { store = c.read_of.new.store }) v [] backs.vdevs backs.out c.read_of.ensures.reads.reads (fault.2 honest),
-    )) other))
+    (λ fault. lost_under v (state_of c.args.self.now) c.read_of.new.store v.committed c.args.self.now.kept.last c.args.name.now c.args.offset c.args.len [] refusal backs
+    (ap (volumes_at c.args.self.now.kept) (sym backs.committed) ∙ last_at c.args.self.now.kept) c.read_of.ensures.reads.reads (last_spelled (state_of c.args.self.now) v backs)
+    (subst (λ (group : ℕ). IsUnreadOf c.args.self.now.store c.read_of.new.store c.args.self.now.kept.last group c.args.name.now c.args.offset c.args.len [] refusal) group
+    (subst (λ (volumes : GroupVolumes). IsUnreadOf c.args.self.now.store c.read_of.new.store volumes c.committed-committed.result c.args.name.now c.args.offset c.args.len [] refusal)
+    c.last.ensures fault.1))) other))
     (known backs.blocks.stored (v.pools v.committed) backs.blocks.plans.held
     (subst (λ (volumes : GroupVolumes). SpellsPool backs.blocks.stored c.committed-committed.result volumes (v.pools v.committed)) (sym c.last.ensures)
     (subst (λ (group : ℕ). SpellsPool backs.blocks.stored group c.args.self.now.kept.last (v.pools v.committed)) (sym group)
     (last_spelled (state_of c.args.self.now) v backs))))) c.read_of.ensures.refused
+
+pub returns-clause-unread : goal.returns-clause-unread
+returns-clause-unread g c = IfErr-weaker c.read_of.result _ _ (λ refusal known fault. record {
+  volumes = c.args.self.now.kept.last;
+  kept = last_at c.args.self.now.kept;
+  unread = subst (λ (group : ℕ). IsUnreadOf c.args.self.now.store c.read_of.new.store c.args.self.now.kept.last group c.args.name.now c.args.offset c.args.len [] refusal)
+      c.committed-committed.ensures
+      (subst (λ (volumes : GroupVolumes). IsUnreadOf c.args.self.now.store c.read_of.new.store volumes c.committed-committed.result c.args.name.now c.args.offset c.args.len [] refusal)
+      c.last.ensures (known fault));
+}) c.read_of.ensures.unread

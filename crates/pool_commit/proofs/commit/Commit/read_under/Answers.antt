@@ -4,7 +4,7 @@ use Rattle.pool_commit.specs.HasDisks.{HasDisks}
 use Rattle.pool_commit.specs.StateOf.{state_of}
 use Rattle.pool_commit.proofs.Backing.{kept_spelled, only_reads}
 use Rattle.pool_commit.proofs.ReadCauses.{under_kept, under_cause}
-use Rattle.pool_commit.proofs.Tolerating.{too_many_are_lost}
+use Rattle.pool_commit.proofs.Unread.{lost_under}
 use Rattle.pool_commit.proofs.commit.Commit.read_under.Goals as goal
 
 pub invariant_of-self-2 : goal.invariant_of-self-2
@@ -28,10 +28,11 @@ returns-clause-refused g c = IfErr-weaker c.read_of.result _ _ (λ refusal known
     (λ cause. inl (under_cause v c.args.group c.args.name.now c.args.offset c.args.len refusal kept.0 cause))
     (λ fault. inr (
       under_kept v c.args.group c.args.name.now c.args.offset c.args.len kept.0 ∙ fault.0,
-      (
-        fault.1,
-        λ honest. too_many_are_lost (state_of c.args.self.now) (record (state_of c.args.self.now) { store = c.read_of.new.store }) v c.args.missing.now backs.vdevs backs.out
-            c.read_of.ensures.reads.reads (fault.2 honest),
-      ),
+      lost_under v (state_of c.args.self.now) c.read_of.new.store c.args.group c.in-Some.volumes.now c.args.name.now c.args.offset c.args.len c.args.missing.now refusal backs
+          (search rules) c.read_of.ensures.reads.reads kept.1 fault.1,
     )) other))
     (known backs.blocks.stored (v.pools c.args.group) backs.blocks.plans.held kept.1)) c.read_of.ensures.refused
+
+pub returns-clause-unread : goal.returns-clause-unread
+returns-clause-unread g c =
+    IfErr-weaker c.read_of.result _ _ (λ refusal known fault. record { volumes = c.in-Some.volumes.now; kept = search rules; unread = known fault }) c.read_of.ensures.unread
