@@ -10,24 +10,27 @@ use Rattle.group_volumes.specs.declared.volumes.NamedVolume.{NamedVolume}
 use Rattle.group_volumes.specs.Volumes.{SpellsVolume, SpellsVolumes}
 use Rattle.pool_now.proofs.Indexes.{same_is}
 
+abbrev at : List ℕ → List PlainVolume → Option PlainVolume
+at name volumes = find (λ v. same v.name name) volumes
+
 -- what is found spells what the pool has at the name
-abbrev Found : Contents → ℕ → List ℕ → PlainPool → Option NamedVolume → Type 0
-Found stored birth name pool (Some named) = (volume : PlainVolume) × (volume_at name pool ≡ Some volume) × SpellsVolume stored birth named volume
-Found stored birth name pool None = volume_at name pool ≡ None
+abbrev Found : Contents → ℕ → List ℕ → List PlainVolume → Option NamedVolume → Type 0
+Found stored birth name pool (Some named) = (volume : PlainVolume) × (at name pool ≡ Some volume) × SpellsVolume stored birth named volume
+Found stored birth name pool None = at name pool ≡ None
 
 -- a volume of another name is passed
-passed : (stored : Contents) (birth : ℕ) (name : List ℕ) (volume : PlainVolume) (pool : PlainPool) (o : Option NamedVolume) → same volume.name name ≡ false
+passed : (stored : Contents) (birth : ℕ) (name : List ℕ) (volume : PlainVolume) (pool : List PlainVolume) (o : Option NamedVolume) → same volume.name name ≡ false
     → Found stored birth name pool o → Found stored birth name (volume ∷ pool) o
 passed stored birth name volume pool (Some named) other found =
-    (found.0, ap (λ t. cond t (Some volume) (volume_at name pool)) other ∙ found.1, found.2)
-passed stored birth name volume pool None other found = ap (λ t. cond t (Some volume) (volume_at name pool)) other ∙ found
+    (found.0, ap (λ t. cond t (Some volume) (at name pool)) other ∙ found.1, found.2)
+passed stored birth name volume pool None other found = ap (λ t. cond t (Some volume) (at name pool)) other ∙ found
 
-next_found : (stored : Contents) (birth : ℕ) (name : List ℕ) (named : NamedVolume) (volume : PlainVolume) (pool : PlainPool) (o : Option NamedVolume) (t : Bool)
+next_found : (stored : Contents) (birth : ℕ) (name : List ℕ) (named : NamedVolume) (volume : PlainVolume) (pool : List PlainVolume) (o : Option NamedVolume) (t : Bool)
     → same volume.name name ≡ t → SpellsVolume stored birth named volume → Found stored birth name pool o → Found stored birth name (volume ∷ pool) (cond t (Some named) o)
-next_found stored birth name named volume pool o true is spells found = (volume, ap (λ t. cond t (Some volume) (volume_at name pool)) is, spells)
+next_found stored birth name named volume pool o true is spells found = (volume, ap (λ t. cond t (Some volume) (at name pool)) is, spells)
 next_found stored birth name named volume pool o false is spells found = passed stored birth name volume pool o is found
 
-finds : (stored : Contents) (birth : ℕ) (name : List ℕ) (volumes : List NamedVolume) (pool : PlainPool) → SpellsVolumes stored birth volumes pool
+finds : (stored : Contents) (birth : ℕ) (name : List ℕ) (volumes : List NamedVolume) (pool : List PlainVolume) → SpellsVolumes stored birth volumes pool
     → Found stored birth name pool (find (λ named. same named.name name) volumes)
 finds stored birth name [] [] spells = refl
 finds stored birth name (named ∷ volumes) (volume ∷ pool) spells =
@@ -38,15 +41,15 @@ finds stored birth name (named ∷ volumes) [] spells = absurd spells
 
 pub some_found : {R : Type 0} (result : Option R) (now : R → NamedVolume) (name : List ℕ) (volumes : List NamedVolume)
     → option_map now result ≡ find (λ named. same named.name name) volumes
-    → IfSome result (λ r. (stored : Contents) (birth : ℕ) (pool : PlainPool) → SpellsVolumes stored birth volumes pool
+    → IfSome result (λ r. (stored : Contents) (birth : ℕ) (pool : PlainPool) → SpellsVolumes stored birth volumes pool.volumes
     → (volume : PlainVolume) × (volume_at name pool ≡ Some volume) × SpellsVolume stored birth (now r) volume)
 some_found None now name volumes is = tt
-some_found (Some r) now name volumes is = λ stored birth pool spells. subst (Found stored birth name pool) (sym is) (finds stored birth name volumes pool spells)
+some_found (Some r) now name volumes is = λ stored birth pool spells. subst (Found stored birth name pool.volumes) (sym is) (finds stored birth name volumes pool.volumes spells)
 
 pub none_found : {R : Type 0} (result : Option R) (now : R → NamedVolume) (name : List ℕ) (volumes : List NamedVolume)
     → option_map now result ≡ find (λ named. same named.name name) volumes
-    → IfNone result ((stored : Contents) (birth : ℕ) (pool : PlainPool) → SpellsVolumes stored birth volumes pool → volume_at name pool ≡ None)
-none_found None now name volumes is = λ stored birth pool spells. subst (Found stored birth name pool) (sym is) (finds stored birth name volumes pool spells)
+    → IfNone result ((stored : Contents) (birth : ℕ) (pool : PlainPool) → SpellsVolumes stored birth volumes pool.volumes → volume_at name pool ≡ None)
+none_found None now name volumes is = λ stored birth pool spells. subst (Found stored birth name pool.volumes) (sym is) (finds stored birth name volumes pool.volumes spells)
 none_found (Some r) now name volumes is = tt
 
 -- what is found is one of the list, of that name: the first, or a later one

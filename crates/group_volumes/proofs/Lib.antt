@@ -1,4 +1,5 @@
 mod Finding
+mod Inserting
 mod Placing
 mod Sharing
 pub mod Spelling

@@ -1,5 +1,5 @@
 -- The blocks that the volumes of a group share with those of the group before.
-use Rattle.std.specs.Prelude.{ℕ, ◌≡◌, List, [], ◌∷◌, ◌++◌}
+use Rattle.std.specs.Prelude.{ℕ, ◌≡◌, List, [], ◌∷◌, ◌++◌, IsPermutation}
 use Rattle.pool_model.specs.declared.item.Write.{Write}
 use Rattle.volume_blocks.specs.Writing.{ChangesOnly}
 use Rattle.group_volumes.specs.declared.volumes.GroupVolumes.{GroupVolumes}
@@ -9,6 +9,7 @@ use Rattle.group_volumes.specs.declared.volumes.NamedVolume.{NamedVolume}
 pub record IsRewritten (writes : List Write) (birth : ℕ) (old new : NamedVolume) : Type 0 where
   pub name : new.name ≡ old.name
   pub group : new.group ≡ old.group
+  pub kind : new.kind ≡ old.kind
   pub blocks : ChangesOnly old.blocks old.name writes birth new.blocks
 
 -- volume by volume, in one order
@@ -18,9 +19,9 @@ AreRewritten writes birth (old ∷ rest) (new ∷ volumes) = IsRewritten writes 
 AreRewritten writes birth [] (new ∷ volumes) = ⊥
 AreRewritten writes birth (old ∷ rest) [] = ⊥
 
--- the volumes that there were, rewritten, and then those that are made
+-- the volumes that there were, rewritten, and those that are made, each at its place among the names
 pub record SharesBlocks (old : GroupVolumes) (writes : List Write) (birth : ℕ) (new : GroupVolumes) : Type 0 where
   pub rewritten : List NamedVolume
   pub made : List NamedVolume
-  pub is : new.volumes.items ≡ rewritten ++ made
+  pub is : IsPermutation new.volumes.items (rewritten ++ made)
   pub shares : AreRewritten writes birth old.volumes.items rewritten

@@ -1,12 +1,13 @@
 //! Volumes by their blocks, and what the items of a group make of them.
-ghost use Rattle.std.specs.Prelude.{◌≡◌, ◌⊎◌, ◌++◌, ◌-◌, ◌<◌, ℕ, List, [], ◌∷◌, Some, None, true, fold, IfSome, IfNone, IfOk, IfErr, OnOk};
-ghost use Rattle.std.specs.List.{AllByRecursion};
+ghost use Rattle.std.specs.Prelude.{◌≡◌, ◌⊎◌, ◌++◌, ◌-◌, ◌<◌, ◌≤◌, ℕ, List, [], Some, None, true, fold, length, IsPermutation, IfSome, IfNone, IfOk, IfErr, OnOk};
+ghost use Rattle.std.specs.List.{AllByRecursion, position_or_len};
 ghost use Rattle.block_store.specs.Blocks.{Contents as Stored, Extends};
 ghost use Rattle.block_store.specs.Plans.{Plans};
 ghost use Rattle.block_store.specs.Steps.{OnlyReadsAndPlans, AnswersAreTrue, LossIsTolerable};
 ghost use Rattle.block_store.specs.Store.{Holds};
 ghost use Rattle.pool_model.specs.declared.volume.PlainVolume.{PlainVolume};
-ghost use Rattle.pool_model.specs.Pools.{PlainPool, volume_at, written as pool_written, changed, applied};
+ghost use Rattle.pool_model.specs.Names.{is_before};
+ghost use Rattle.pool_model.specs.Pools.{PlainPool, no_volumes, volume_at, with_volume, written as pool_written, changed, applied};
 ghost use Rattle.pool_now.specs.GoodChanges.{is_good_change, MakesGoodVolumes};
 ghost use Rattle.pool_now.specs.Overlay.{after_writes};
 ghost use Rattle.pool_now.specs.Shapes.{shape_of};
@@ -17,26 +18,27 @@ ghost use Rattle.group_volumes.specs.declared.volumes.NamedVolume.{NamedVolume a
 ghost use Rattle.group_volumes.specs.Room.{TookEach, TookAll, LacksRoom};
 ghost use Rattle.group_volumes.specs.Sharing.{IsRewritten, AreRewritten, SharesBlocks};
 ghost use Rattle.group_volumes.specs.Unread.{IsUnreadOfVolume, IsUnreadFor};
-ghost use Rattle.group_volumes.specs.Volumes.{SpellsVolume, SpellsVolumes, SpellsPool, HasVolume, IsPlannedAs};
+ghost use Rattle.group_volumes.specs.Volumes.{SpellsVolume, SpellsPool, HasVolume, IsPlannedAs};
 
 use crate::refusal::Refusal;
 use block_store::BlockStore;
 use model_disk::Disk;
-use pool_model::{Action, Change, Name, Write};
+use pool_model::{Action, Change, Name, VolumeKind, Write};
 use pool_now::{VolumeShape, is_good_shape};
 use std::alloc::{AllocError, Global};
 use txg_pipeline::Pending;
 use volume_blocks::VolumeBlocks;
 
-/// A volume of a pool: its name, the group that made it, and its blocks.
+/// A volume of a pool: its name, the group that made it, its kind and its blocks.
 #[derive(Debug, Drop)]
 pub struct NamedVolume {
     name: Name,
     group: u64,
+    kind: VolumeKind,
     blocks: VolumeBlocks,
 }
 
-/// The volumes of a pool under one group, oldest first.
+/// The volumes of a pool under one group, in the order of their names.
 #[derive(Debug, Drop)]
 pub struct GroupVolumes {
     volumes: Vec<NamedVolume>,
@@ -49,7 +51,7 @@ impl NamedVolume {
         &self.blocks
     }
 
-    /// Its size, block size and creation group.
+    /// Its size, block size, creation group and kind.
     pub fn shape(&self) -> VolumeShape
         ensures size { result.size ≡ size_of self.now.blocks }
         ensures shape { (stored : Stored) (birth : ℕ) (volume : PlainVolume) → SpellsVolume stored birth self.now volume → result ≡ shape_of volume }
@@ -58,13 +60,14 @@ impl NamedVolume {
             size: self.blocks.size(),
             block_size: self.blocks.block_size(),
             group: self.group,
+            kind: self.kind,
         }
     }
 
     /// The volume that a change of this group makes.
     fn made(alloc: Global, group: u64, change: &Change) -> Result<NamedVolume, Refusal>
-        ensures value { IfOk result (λ made. (stored : Stored) (birth : ℕ) (volumes : List Named) (pool : PlainPool)
-            → SpellsVolumes stored birth volumes pool → SpellsVolumes stored birth (volumes ++ made ∷ []) (changed group pool change.now)) }
+        ensures value { IfOk result (λ made. (stored : Stored) (birth : ℕ) → (volume : PlainVolume) × SpellsVolume stored birth made volume
+            × ((pool : PlainPool) → with_volume volume pool ≡ changed group pool change.now)) }
         ensures refused { IfErr result (λ refusal. (refusal ≡ Refusal.NoMemory) ⊎ ((refusal ≡ Refusal.BadConfig) × ¬ (is_good_change change.now ≡ true))) }
     {
         match change {
@@ -79,6 +82,7 @@ impl NamedVolume {
                 Ok(NamedVolume {
                     name: name.copied(alloc)?,
                     group,
+                    kind: VolumeKind::Volume,
                     blocks: VolumeBlocks::new(alloc, *size, *block_size),
                 })
             }
@@ -115,6 +119,7 @@ impl NamedVolume {
         Ok(NamedVolume {
             name,
             group: self.group,
+            kind: self.kind,
             blocks,
         })
     }
@@ -123,7 +128,7 @@ impl NamedVolume {
 impl GroupVolumes {
     /// No volumes, as under group 0.
     pub fn new(alloc: Global) -> GroupVolumes
-        ensures { (stored : Stored) (birth : ℕ) → SpellsPool stored birth result [] }
+        ensures { (stored : Stored) (birth : ℕ) → SpellsPool stored birth result no_volumes }
     {
         GroupVolumes {
             volumes: Vec::new(alloc),
@@ -212,14 +217,39 @@ impl GroupVolumes {
     fn make(&mut self, alloc: Global, group: u64, actions: &[Action]) -> Result<(), Refusal>
         ensures value { OnOk result ((stored : Stored) (birth : ℕ) (pool : PlainPool) → SpellsPool stored birth self.old pool
             → SpellsPool stored birth self.new (fold (λ p a. changed group p a.change) pool actions.now)) }
-        ensures more { OnOk result ((made : List Named) × (self.new.volumes.items ≡ self.old.volumes.items ++ made)) }
+        ensures more { OnOk result ((made : List Named) × IsPermutation self.new.volumes.items (self.old.volumes.items ++ made)) }
         ensures refused { IfErr result (λ refusal. (refusal ≡ Refusal.NoMemory)
             ⊎ ((refusal ≡ Refusal.BadConfig) × ¬ AllByRecursion (λ a. is_good_change a.change ≡ true) actions.now)) }
     {
         for action in actions {
             let made = NamedVolume::made(alloc, group, &action.change)?;
-            self.volumes.push(made)?;
+            self.add(made)?;
         }
         Ok(())
+    }
+
+    // A volume whose name is there already is not added.
+    fn add(&mut self, named: NamedVolume) -> Result<(), AllocError>
+        ensures value { OnOk result ((stored : Stored) (birth : ℕ) (pool : PlainPool) (volume : PlainVolume) → SpellsPool stored birth self.old pool
+            → SpellsVolume stored birth named volume → SpellsPool stored birth self.new (with_volume volume pool)) }
+        ensures more { OnOk result ((made : List Named) × IsPermutation self.new.volumes.items (self.old.volumes.items ++ made)) }
+    {
+        if self.find(&named.name).is_some() {
+            return Ok(());
+        }
+        let place = self.place_of(&named.name);
+        self.volumes.insert(place, named)?;
+        Ok(())
+    }
+
+    // Where a volume of that name stands, or would stand.
+    fn place_of(&self, name: &Name) -> usize
+        ensures value { result ≡ position_or_len (λ named. is_before name.now named.name) self.now.volumes.items }
+        ensures bound { result ≤ length self.now.volumes.items }
+    {
+        self.volumes
+            .iter()
+            .position(|named| name.is_before(&named.name))
+            .unwrap_or(self.volumes.len())
     }
 }

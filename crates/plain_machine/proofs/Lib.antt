@@ -2,3 +2,4 @@ pub mod Judging
 pub mod Stepping
 pub mod Reaching
 pub mod Running
+pub mod Placing

@@ -1,14 +1,16 @@
 //! The plain volumes of a group, and what the items of a group make of them.
-ghost use Rattle.std.specs.Prelude.{◌≡◌, fold, [], IfOk, OnOk};
+ghost use Rattle.std.specs.Prelude.{◌≡◌, ◌≤◌, fold, length, map, IfOk, OnOk};
+ghost use Rattle.std.specs.List.{position_or_len};
 ghost use Rattle.std.specs.Option.{option_copied};
-ghost use Rattle.pool_model.specs.Pools.{applied, changed, volume_after, volume_at, written};
+ghost use Rattle.pool_model.specs.Names.{is_before};
+ghost use Rattle.pool_model.specs.Pools.{no_volumes, with_volume, applied, changed, volume_after, volume_at, written};
 
-use pool_model::{Action, Bytes, Change, Name, PlainVolume, Write};
+use pool_model::{Action, Bytes, Change, Name, PlainVolume, VolumeKind, Write};
 use std::alloc::{AllocError, Global};
 use std::marker::Model;
 use txg_pipeline::Pending;
 
-/// The volumes of one group, oldest first.
+/// The volumes of one group, in the order of their names.
 #[derive(Debug, Drop)]
 pub struct Pool {
     volumes: Vec<PlainVolume>,
@@ -19,12 +21,12 @@ impl Model for Pool {
 
     ghost Value = { PlainPool };
 
-    ghost view = { λ p. p.volumes.items };
+    ghost view = { λ p. record { volumes = p.volumes.items } };
 }
 
 impl Pool {
     pub fn new(alloc: Global) -> Pool
-        ensures { result ≡ [] }
+        ensures { result ≡ no_volumes }
     {
         Pool {
             volumes: Vec::new(alloc),
@@ -57,8 +59,77 @@ impl Pool {
     ) -> Result<(), AllocError>
         ensures { OnOk result (self.new ≡ applied group self.old items.now) }
     {
-        write_all(&mut self.volumes, items.writes());
-        change_all(alloc, group, &mut self.volumes, items.actions())
+        self.write_all(items.writes());
+        self.change_all(alloc, group, items.actions())
+    }
+
+    fn write_all(&mut self, writes: &[Write])
+        ensures { self.new ≡ fold written self.old writes.now }
+    {
+        for write in writes {
+            self.write(write);
+        }
+    }
+
+    fn write(&mut self, write: &Write)
+        ensures { self.new ≡ written self.old write.now }
+    {
+        write_each(&mut self.volumes, write);
+    }
+
+    fn change_all(
+        &mut self,
+        alloc: Global,
+        group: u64,
+        actions: &[Action],
+    ) -> Result<(), AllocError>
+        ensures { OnOk result (self.new ≡ fold (λ pool action. changed group pool action.change) self.old actions.now) }
+    {
+        for action in actions {
+            self.change(alloc, group, &action.change)?;
+        }
+        Ok(())
+    }
+
+    fn change(&mut self, alloc: Global, group: u64, change: &Change) -> Result<(), AllocError>
+        ensures { OnOk result (self.new ≡ changed group self.old change.now) }
+    {
+        match change {
+            Change::Create {
+                name,
+                size,
+                block_size,
+            } => self.add(PlainVolume {
+                name: name.copied(alloc)?,
+                bytes: Bytes::zeros(alloc, *size as usize)?,
+                block_size: *block_size,
+                group,
+                kind: VolumeKind::Volume,
+            }),
+        }
+    }
+
+    // A volume whose name is there already is not added.
+    fn add(&mut self, volume: PlainVolume) -> Result<(), AllocError>
+        ensures { OnOk result (self.new ≡ with_volume volume self.old) }
+    {
+        if self.find(&volume.name).is_some() {
+            return Ok(());
+        }
+        let place = self.place_of(&volume.name);
+        self.volumes.insert(place, volume)?;
+        Ok(())
+    }
+
+    // Where a volume of that name stands, or would stand.
+    fn place_of(&self, name: &Name) -> usize
+        ensures value { result ≡ position_or_len (λ v. is_before name.now v.name) self.now.volumes }
+        ensures bound { result ≤ length self.now.volumes }
+    {
+        self.volumes
+            .iter()
+            .position(|volume| name.is_before(&volume.name))
+            .unwrap_or(self.volumes.len())
     }
 }
 
@@ -70,19 +141,12 @@ fn copy_of(alloc: Global, volume: &PlainVolume) -> Result<PlainVolume, AllocErro
         bytes: volume.bytes.copied(alloc)?,
         block_size: volume.block_size,
         group: volume.group,
+        kind: volume.kind,
     })
 }
 
-fn write_all(volumes: &mut Vec<PlainVolume>, writes: &[Write])
-    ensures { volumes.new.items ≡ fold written volumes.old.items writes.now }
-{
-    for write in writes {
-        write_each(volumes, write);
-    }
-}
-
 fn write_each(volumes: &mut Vec<PlainVolume>, write: &Write)
-    ensures { volumes.new.items ≡ written volumes.old.items write.now }
+    ensures { volumes.new.items ≡ map (volume_after write.now) volumes.old.items }
 {
     for i in 0..volumes.len() {
         write_to(&mut volumes[i], write);
@@ -95,44 +159,5 @@ fn write_to(volume: &mut PlainVolume, write: &Write)
 {
     if volume.name.is(&write.volume) {
         volume.bytes.store(write.offset as usize, &write.bytes);
-    }
-}
-
-fn change_all(
-    alloc: Global,
-    group: u64,
-    volumes: &mut Vec<PlainVolume>,
-    actions: &[Action],
-) -> Result<(), AllocError>
-    ensures { OnOk result (volumes.new.items ≡ fold (λ pool action. changed group pool action.change) volumes.old.items actions.now) }
-{
-    for action in actions {
-        make_change(alloc, group, volumes, &action.change)?;
-    }
-    Ok(())
-}
-
-fn make_change(
-    alloc: Global,
-    group: u64,
-    volumes: &mut Vec<PlainVolume>,
-    change: &Change,
-) -> Result<(), AllocError>
-    ensures { OnOk result (volumes.new.items ≡ changed group volumes.old.items change.now) }
-{
-    match change {
-        Change::Create {
-            name,
-            size,
-            block_size,
-        } => {
-            volumes.push(PlainVolume {
-                name: name.copied(alloc)?,
-                bytes: Bytes::zeros(alloc, *size as usize)?,
-                block_size: *block_size,
-                group,
-            })?;
-            Ok(())
-        }
     }
 }

@@ -14,7 +14,7 @@ use Rattle.block_store.specs.Plans.{Plans}
 use Rattle.block_store.specs.Store.{Store, is_out}
 use Rattle.group_volumes.specs.declared.volumes.GroupVolumes.{GroupVolumes}
 use Rattle.group_volumes.specs.Volumes.{SpellsPool}
-use Rattle.pool_model.specs.Pools.{PlainPool}
+use Rattle.pool_model.specs.Pools.{PlainPool, no_volumes}
 use Rattle.pool_model.specs.View.{Vdev, started}
 use Rattle.pool_commit.specs.declared.kept.Kept.{Kept}
 use Rattle.pool_commit.specs.Backs.{Backs, SpellsKept, kept_pool}
@@ -36,7 +36,7 @@ vdevs_made starts first (config ∷ configs) (shape ∷ shapes) are =
 
 -- group 3 is kept, and no other
 kept_first : (kept : Kept) (vdevs : List Vdev) → kept.committed ≡ 3 → kept.before ≡ None → kept.earliest ≡ None
-    → ((stored : Contents) (birth : ℕ) → SpellsPool stored birth kept.last []) → (group : ℕ)
+    → ((stored : Contents) (birth : ℕ) → SpellsPool stored birth kept.last no_volumes) → (group : ℕ)
     → SpellsKept nothing_stored group (volumes_at kept group) (kept_pool (started vdevs) group)
 kept_first kept vdevs c b e empty group = elim (cases_eq group 3) [
   | inl at ↦
@@ -50,7 +50,7 @@ kept_first kept vdevs c b e empty group = elim (cases_eq group 3) [
     there : group ≡ 3 → volumes_at kept group ≡ Some kept.last
     there at = grind (arith, nat_tests, c, at)
 
-    pool_there : group ≡ 3 → kept_pool (started vdevs) group ≡ Some []
+    pool_there : group ≡ 3 → kept_pool (started vdevs) group ≡ Some no_volumes
     pool_there at = grind (arith, nat_tests, at)
 
     gone : group ≢ 3 → volumes_at kept group ≡ None
@@ -61,7 +61,7 @@ kept_first kept vdevs c b e empty group = elim (cases_eq group 3) [
 
 pub starts : (store : Store) (kept : Kept) (configs : List VdevConfig) → AreShapes store.disks.starts 0 configs (shapes_of store.spaces)
     → ((disk : ℕ) → is_out store.out disk ≡ false) → Plans store nothing_stored nothing_stored → kept.committed ≡ 3 → kept.before ≡ None → kept.earliest ≡ None
-    → ((stored : Contents) (birth : ℕ) → SpellsPool stored birth kept.last [])
+    → ((stored : Contents) (birth : ℕ) → SpellsPool stored birth kept.last no_volumes)
     → Backs (record { store = store; kept = kept; planned = None }) (started (vdevs_from 0 configs))
 starts store kept configs shapes out plans c b e empty = record {
   vdevs = vdevs_made store.disks.starts 0 configs (shapes_of store.spaces) shapes;

@@ -1,8 +1,9 @@
 //! The intake of a pool.
 ghost use Rattle.std.specs.Prelude.{◌≡◌, IfOk};
 ghost use Rattle.pool_model.specs.declared.item.Change.TheVariants.{Create};
+ghost use Rattle.pool_model.specs.declared.volume.VolumeKind.TheVariants.{Volume};
 
-use pool_model::{Action, Change, Item, Name, Refusal, Reply, Write};
+use pool_model::{Action, Change, Item, Name, Refusal, Reply, VolumeKind, Write};
 use pool_now::{NameIndex, VolumeShape, against_change, against_write, named, read_pending};
 use std::alloc::{AllocError, Global};
 use txg_pipeline::{Pending, Pipeline};
@@ -195,7 +196,8 @@ impl Intake {
 
 // The name and the shape of the volume that a change makes in this group.
 fn new_volume(alloc: Global, change: &Change, group: u64) -> Result<(Name, VolumeShape), AllocError>
-    ensures { IfOk result (λ volume. (change.now ≡ Create volume.0 volume.1.size volume.1.block_size) × (volume.1.group ≡ group)) }
+    ensures { IfOk result (λ volume. (change.now ≡ Create volume.0 volume.1.size volume.1.block_size)
+        × (volume.1.group ≡ group) × (volume.1.kind ≡ Volume)) }
 {
     match change {
         Change::Create {
@@ -207,6 +209,7 @@ fn new_volume(alloc: Global, change: &Change, group: u64) -> Result<(Name, Volum
                 size: *size,
                 block_size: *block_size,
                 group,
+                kind: VolumeKind::Volume,
             };
             Ok((name.copied(alloc)?, shape))
         }

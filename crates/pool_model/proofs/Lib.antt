@@ -7,6 +7,7 @@ pub mod Sounds
 pub mod Told
 pub mod Falls
 pub mod Uptos
+pub mod Places
 pub mod Committing
 pub mod Nows
 pub mod Counting

@@ -1,11 +1,16 @@
 -- Names and bytes as lists.
 use Rattle.std.specs.Prelude.{ℕ, ◌+◌, List, [], ◌∷◌, ◌++◌, length, take, drop, Bool, false, nat_eq, nat_le, ◌==◌, ◌&&◌, ◌||◌, if◌then◌else◌}
 use Rattle.std.specs.List.{list_all, list_any}
-use Rattle.std.specs.Cmp.Lexicographic.{pointwise}
+use Rattle.std.specs.Cmp.Lexicographic.{pointwise, slice_cmp}
+use Rattle.std.specs.Ordering.{nat_cmp, is_lt}
 
 -- whether two names are the same
 abbrev pub same : List ℕ → List ℕ → Bool
 same name other = pointwise nat_eq name other
+
+-- whether a name comes before another, in the order of their bytes
+abbrev pub is_before : List ℕ → List ℕ → Bool
+is_before name other = is_lt (slice_cmp nat_cmp name other)
 
 -- old with new in place of what it has from the offset on, where that lies within old
 abbrev pub stored : ℕ → List ℕ → List ℕ → List ℕ

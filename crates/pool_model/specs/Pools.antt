@@ -1,19 +1,31 @@
 -- Plain pools, and what the items of a group make of them.
-use Rattle.std.specs.Prelude.{ℕ, zero, suc, List, [], ◌∷◌, ◌++◌, map, fold, find, replicate, Option, nat_le, if◌then◌else◌}
+use Rattle.std.specs.Prelude.{ℕ, zero, suc, List, [], map, fold, find, insert, replicate, Option, is_some, nat_le, if◌then◌else◌}
+use Rattle.std.specs.Cmp.Lexicographic.{slice_cmp}
+use Rattle.std.specs.List.{position_or_len}
+use Rattle.std.specs.List.Sorted.{IsStrictlySortedBy}
+use Rattle.std.specs.Ordering.{nat_cmp}
 use Rattle.pool_model.specs.declared.item.Action.{Action}
 use Rattle.pool_model.specs.declared.item.Change.{Change}
 use Rattle.pool_model.specs.declared.item.Change.TheVariants.{Create}
 use Rattle.pool_model.specs.declared.item.Write.{Write}
 use Rattle.pool_model.specs.declared.volume.PlainVolume.{PlainVolume}
-use Rattle.pool_model.specs.Names.{same, stored}
+use Rattle.pool_model.specs.declared.volume.VolumeKind.TheVariants.{Volume}
+use Rattle.pool_model.specs.Names.{same, is_before, stored}
 
--- A map from names to volumes, as the list of the volumes, oldest first. What it has at a name is `volume_at`.
-abbrev pub PlainPool : Type 0
-PlainPool = List PlainVolume
+-- A map from names to volumes, as the list of its volumes in the order of their names. What it has at a name is `volume_at`.
+pub record PlainPool : Type 0 where
+  pub volumes : List PlainVolume
+
+abbrev pub no_volumes : PlainPool
+no_volumes = record { volumes = [] }
+
+-- each name comes before those behind it, in the order of their bytes
+abbrev pub AreAscending : List PlainVolume → Type 0
+AreAscending volumes = IsStrictlySortedBy (slice_cmp nat_cmp) (map (λ v. v.name) volumes)
 
 -- the volume of that name
 abbrev pub volume_at : List ℕ → PlainPool → Option PlainVolume
-volume_at name pool = find (λ v. same v.name name) pool
+volume_at name pool = find (λ v. same v.name name) pool.volumes
 
 -- a volume after a write: the one that is named has the bytes at their offset
 abbrev pub volume_after : Write → PlainVolume → PlainVolume
@@ -21,11 +33,23 @@ volume_after w v = if same v.name w.volume then record v { bytes = stored w.offs
 
 -- the pool after a write
 abbrev pub written : PlainPool → Write → PlainPool
-written pool w = map (volume_after w) pool
+written pool w = record pool { volumes = map (volume_after w) pool.volumes }
 
--- the pool after a change that a group takes: a new volume has zeros, and the group is its creation group
+-- a new volume has zeros, and the group that makes it is its creation group
+abbrev pub created : ℕ → List ℕ → ℕ → ℕ → PlainVolume
+created group name size block_size = record { name = name; bytes = replicate size 0; block_size = block_size; group = group; kind = Volume }
+
+-- with one volume more, at its place among the names
+abbrev pub placed : PlainVolume → List PlainVolume → List PlainVolume
+placed volume volumes = insert volumes (position_or_len (λ v. is_before volume.name v.name) volumes) volume
+
+-- the pool and this volume, unless its name is there already
+abbrev pub with_volume : PlainVolume → PlainPool → PlainPool
+with_volume volume pool = if is_some (volume_at volume.name pool) then pool else record pool { volumes = placed volume pool.volumes }
+
+-- the pool after a change that a group takes
 abbrev pub changed : ℕ → PlainPool → Change → PlainPool
-changed group pool (Create name size block_size) = pool ++ record { name = name; bytes = replicate size 0; block_size = block_size; group = group } ∷ []
+changed group pool (Create name size block_size) = with_volume (created group name size block_size) pool
 
 -- what a group has accepted, each kind in the order accepted
 pub record Entry : Type 0 where

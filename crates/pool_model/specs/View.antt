@@ -6,7 +6,7 @@ use Rattle.pool_model.specs.declared.group.Holder.{Holder}
 use Rattle.pool_model.specs.declared.group.Stage.{Stage}
 use Rattle.pool_model.specs.declared.group.Stage.TheVariants.{Quiescing, Quiesced}
 use Rattle.pool_model.specs.declared.step.Phase.{Phase}
-use Rattle.pool_model.specs.Pools.{PlainPool, Ledger, no_items, upto}
+use Rattle.pool_model.specs.Pools.{PlainPool, Ledger, no_volumes, no_items, upto}
 
 -- a RAID-Z vdev: its disks are those from the first on, one for each child
 pub record Vdev : Type 0 where
@@ -41,7 +41,7 @@ pub record View : Type 0 where
 
 -- an empty pool over these vdevs is committed as group 3
 abbrev pub started : List Vdev → View
-started vdevs = record { vdevs = vdevs; first = 3; committed = 3; sync = Idle; waiting = None; holds = []; next = λ writer. 1; ledger = λ group. no_items; pools = λ group. []; out = λ disk. false }
+started vdevs = record { vdevs = vdevs; first = 3; committed = 3; sync = Idle; waiting = None; holds = []; next = λ writer. 1; ledger = λ group. no_items; pools = λ group. no_volumes; out = λ disk. false }
 
 -- ---- groups
 

@@ -15,10 +15,10 @@ mod volume;
 pub use group::{Holder, Stage};
 pub use item::{Action, Change, Item, Write};
 pub use laws::{
-    flows_are_once_in_order, headline_of_runs, runs_keep_flows_sound, runs_keep_views_sound,
-    steps_follow_runs,
+    flows_are_once_in_order, headline_of_runs, pools_ascend_by_name, pools_are_maps,
+    runs_keep_flows_sound, runs_keep_views_sound, steps_follow_runs,
 };
 pub use refusal::Refusal;
 pub use step::{Phase, Reply, Step};
 pub use text::{Bytes, Name};
-pub use volume::PlainVolume;
+pub use volume::{PlainVolume, VolumeKind};

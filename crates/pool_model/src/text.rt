@@ -1,6 +1,6 @@
 //! Names and bytes, which a contract sees as lists.
 ghost use Rattle.std.specs.Prelude.{◌≡◌, ◌==◌, IfOk};
-ghost use Rattle.pool_model.specs.Names.{same};
+ghost use Rattle.pool_model.specs.Names.{same, is_before};
 
 use std::alloc::{AllocError, Global};
 use std::marker::Model;
@@ -45,6 +45,13 @@ impl Name {
         ensures { result ≡ same self.now other.now }
     {
         self.letters.as_slice() == other.letters.as_slice()
+    }
+
+    /// Whether this name comes before the other, in the order of their bytes.
+    pub fn is_before(&self, other: &Name) -> bool
+        ensures { result ≡ is_before self.now other.now }
+    {
+        self.letters.as_slice().cmp(other.letters.as_slice()).is_lt()
     }
 
     pub fn copied(&self, alloc: Global) -> Result<Name, AllocError>

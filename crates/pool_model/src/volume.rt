@@ -1,12 +1,21 @@
 //! Plain volumes: a volume as its user sees it.
 use crate::text::{Bytes, Name};
 
+/// What a name of the pool stands for.
+#[derive(Clone, Copy, Debug, PartialEq, Eq, Drop)]
+pub enum VolumeKind {
+    /// A volume that was made with zeros, and that writers may write.
+    Volume,
+}
+
 /// A volume as one array of bytes.
 #[derive(Debug, Drop)]
 pub struct PlainVolume {
     pub name: Name,
     pub bytes: Bytes,
+    /// In bytes.
     pub block_size: u64,
     /// The group that made it.
     pub group: u64,
+    pub kind: VolumeKind,
 }

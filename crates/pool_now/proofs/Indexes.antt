@@ -3,19 +3,12 @@ use Rattle.std.proofs.Common.{◌≡◌, ℕ, Bool, true, false, true≢false, L
 use Rattle.std.specs.Prelude.{cond, Result, Ok, Err, OnOk, IsOk}
 use Rattle.std.specs.Map.{lookup}
 use Rattle.std.specs.Option.{option_map, option_or}
-use Rattle.std.proofs.lemmas.List.Folds.{find-append}
-use Rattle.std.proofs.lemmas.Slice.Eq.{bytes_eq-Decides}
 use Rattle.pool_model.specs.declared.volume.PlainVolume.{PlainVolume}
 use Rattle.pool_model.specs.Names.{same}
-use Rattle.pool_model.specs.Pools.{PlainPool, volume_at}
+use Rattle.pool_model.specs.Pools.{PlainPool, volume_at, with_volume}
+use Rattle.pool_model.proofs.Places.{same_is, is_same, volume_more}
 use Rattle.pool_now.specs.declared.shape.VolumeShape.{VolumeShape}
 use Rattle.pool_now.specs.Shapes.{shape_of, shape_at}
-
-pub same_is : (a b : List ℕ) → same a b ≡ true → a ≡ b
-same_is a b e = (bytes_eq-Decides a b).0 e
-
-pub is_same : (a b : List ℕ) → a ≡ b → same a b ≡ true
-is_same a b e = (bytes_eq-Decides a b).1 e
 
 pub on_ok : {T E P : Type 0} (r : Result T E) → IsOk r → OnOk r P → P
 on_ok (Ok x) i p = p
@@ -55,13 +48,10 @@ or_none : {A : Type 0} (o : Option A) → option_or o None ≡ o
 or_none None = refl
 or_none (Some x) = refl
 
-pub volume_more : (pool : PlainPool) (volume : PlainVolume) (name : List ℕ) → volume_at name (pool ++ volume ∷ []) ≡ option_or (volume_at name pool) (cond (same volume.name name) (Some volume) None)
-volume_more pool volume name = find-append (λ v. same v.name name) pool (volume ∷ [])
-
-pub other_name : (pool : PlainPool) (volume : PlainVolume) (name : List ℕ) → same volume.name name ≡ false → volume_at name (pool ++ volume ∷ []) ≡ volume_at name pool
+pub other_name : (pool : PlainPool) (volume : PlainVolume) (name : List ℕ) → same volume.name name ≡ false → volume_at name (with_volume volume pool) ≡ volume_at name pool
 other_name pool volume name e = volume_more pool volume name ∙ (ap (λ b. option_or (volume_at name pool) (cond b (Some volume) None)) e ∙ or_none (volume_at name pool))
 
-pub new_name : (pool : PlainPool) (volume : PlainVolume) (name : List ℕ) → same volume.name name ≡ true → volume_at name pool ≡ None → volume_at name (pool ++ volume ∷ []) ≡ Some volume
+pub new_name : (pool : PlainPool) (volume : PlainVolume) (name : List ℕ) → same volume.name name ≡ true → volume_at name pool ≡ None → volume_at name (with_volume volume pool) ≡ Some volume
 new_name pool volume name e n = volume_more pool volume name ∙ (λ i. option_or (n i) (cond (e i) (Some volume) None))
 
 -- the look-ups after a key is added are those of the pool with its volume
@@ -70,14 +60,14 @@ pub shapes_added : {K : Type 0} (items : K → List ℕ) (old new : List (K × V
     → volume_at (items key) pool ≡ None → volume.name ≡ items key
     → lookup (λ k. same (items key) (items k)) new ≡ Some (shape_of volume)
     → ((q : K) → same (items key) (items q) ≡ false → lookup (λ k. same (items q) (items k)) new ≡ lookup (λ k. same (items q) (items k)) old)
-    → (name : List ℕ) → lookup (λ k. same name (items k)) new ≡ shape_at name (pool ++ volume ∷ [])
+    → (name : List ℕ) → lookup (λ k. same name (items k)) new ≡ shape_at name (with_volume volume pool)
 shapes_added items old new key pool volume was none called here others name = cases (same (items key) name) refl
   where
-    cases : (b : Bool) → same (items key) name ≡ b → lookup (λ k. same name (items k)) new ≡ shape_at name (pool ++ volume ∷ [])
+    cases : (b : Bool) → same (items key) name ≡ b → lookup (λ k. same name (items k)) new ≡ shape_at name (with_volume volume pool)
     cases true e =
         let n = same_is (items key) name e in
         let absent : volume_at name pool ≡ None = subst (λ m. volume_at m pool ≡ None) n none in
-        let found : volume_at name (pool ++ volume ∷ []) ≡ Some volume = new_name pool volume name (is_same volume.name name (called ∙ n)) absent in
+        let found : volume_at name (with_volume volume pool) ≡ Some volume = new_name pool volume name (is_same volume.name name (called ∙ n)) absent in
         ap (λ m. lookup (λ k. same m (items k)) new) (sym n) ∙ (here ∙ sym (ap (option_map shape_of) found))
     cases false e =
         let other : same volume.name name ≡ false = ap (λ m. same m name) called ∙ e in

@@ -1,6 +1,6 @@
 -- Pending writes over the bytes that lie under them.
 use Rattle.std.proofs.Common.{◌≡◌, ℕ, suc, ◌+◌, ◌<◌, ◌≤◌, Bool, true, false, true≢false, List, [], ◌∷◌, ◌++◌, length, take, replicate, get_or, Option, Some, None, refl, sym, ap, ◌∙◌, subst, arith}
-use Rattle.std.specs.Prelude.{cond, fold}
+use Rattle.std.specs.Prelude.{cond, fold, find}
 use Rattle.std.specs.Option.{option_map, option_or}
 use Rattle.std.proofs.lemmas.List.{length-replicate, take_more}
 use Rattle.std.proofs.lemmas.Option.{cond_some}
@@ -10,13 +10,13 @@ use Rattle.pool_model.specs.declared.item.Change.TheVariants.{Create}
 use Rattle.pool_model.specs.declared.item.Write.{Write}
 use Rattle.pool_model.specs.declared.volume.PlainVolume.{PlainVolume}
 use Rattle.pool_model.specs.Names.{same, stored}
-use Rattle.pool_model.specs.Pools.{PlainPool, Entry, volume_at, volume_after, written, changed, applied}
+use Rattle.pool_model.specs.Pools.{PlainPool, Entry, volume_at, volume_after, written, created, changed, applied}
+use Rattle.pool_model.proofs.Places.{same_is, is_same, name_after, volume_more, volume_written}
 use Rattle.pool_now.specs.declared.shape.VolumeShape.{VolumeShape}
 use Rattle.pool_now.specs.Shapes.{shape_of}
 use Rattle.pool_now.specs.NowMoves.{IsMadeBy}
 use Rattle.pool_now.specs.Overlay.{after_writes, bytes_or_zeros, HasRange, ComesTo}
-use Rattle.pool_now.proofs.Indexes.{same_is, is_same, volume_more}
-use Rattle.pool_now.proofs.Volumes.{name_after, shape_after, volume_at_written}
+use Rattle.pool_now.proofs.Volumes.{shape_after}
 use Rattle.pool_now.proofs.NowMoves.{fold_push}
 
 -- ---- a volume after writes
@@ -75,12 +75,12 @@ pub record IsFresh (maker : ℕ) (volume : PlainVolume) : Type 0 where
 
 found_changed : (group : ℕ) (pool : PlainPool) (change : Change) (name : List ℕ) (x : PlainVolume) → volume_at name pool ≡ Some x → volume_at name (changed group pool change) ≡ Some x
 found_changed group pool (Create called size block_size) name x e =
-    let volume : PlainVolume = record { name = called; bytes = replicate size 0; block_size = block_size; group = group } in
+    let volume : PlainVolume = created group called size block_size in
     volume_more pool volume name ∙ ap (λ o. option_or o (cond (same called name) (Some volume) None)) e
 
 fresh_changed : (group : ℕ) (pool : PlainPool) (change : Change) (name : List ℕ) (y : PlainVolume) → volume_at name pool ≡ None → volume_at name (changed group pool change) ≡ Some y → IsFresh group y
 fresh_changed group pool (Create called size block_size) name y none e =
-    let volume : PlainVolume = record { name = called; bytes = replicate size 0; block_size = block_size; group = group } in
+    let volume : PlainVolume = created group called size block_size in
     let is = cond_some (same called name) volume y (sym (volume_more pool volume name ∙ ap (λ o. option_or o (cond (same called name) (Some volume) None)) none) ∙ e) in
     subst (IsFresh group) is.1 (record { group = refl; zeros = ap (λ n. replicate n 0) (sym (length-replicate {A = ℕ} size 0)) })
 
@@ -112,7 +112,7 @@ volume_at_writes name pool [] = none_or (volume_at name pool)
     none_or : (o : Option PlainVolume) → o ≡ option_map (λ v. after_writes v []) o
     none_or None = refl
     none_or (Some v) = refl
-volume_at_writes name pool (w ∷ writes) = volume_at_writes name (written pool w) writes ∙ (ap (option_map (λ v. after_writes v writes)) (volume_at_written name pool w) ∙ map_after w writes (volume_at name pool))
+volume_at_writes name pool (w ∷ writes) = volume_at_writes name (written pool w) writes ∙ (ap (option_map (λ v. after_writes v writes)) (volume_written pool w name) ∙ map_after w writes (volume_at name pool))
 
 -- a volume that was there has the group's writes
 pub applied_found : (group : ℕ) (pool : PlainPool) (entry : Entry) (name : List ℕ) (x : PlainVolume) → volume_at name pool ≡ Some x → volume_at name (applied group pool entry) ≡ Some (after_writes x entry.writes)
@@ -140,8 +140,11 @@ named_cases name v x rest false e f g = f g
 
 -- the volume of a name has the name
 pub found_named : (name : List ℕ) (pool : PlainPool) (x : PlainVolume) → volume_at name pool ≡ Some x → same x.name name ≡ true
-found_named name [] x e = absurd (cc)
-found_named name (v ∷ pool) x e = named_cases name v x (volume_at name pool) (same v.name name) refl (found_named name pool x) e
+found_named name pool x e = among pool.volumes x e
+  where
+    among : (volumes : List PlainVolume) (x : PlainVolume) → find (λ v. same v.name name) volumes ≡ Some x → same x.name name ≡ true
+    among [] x e = absurd (cc)
+    among (v ∷ volumes) x e = named_cases name v x (find (λ v. same v.name name) volumes) (same v.name name) refl (among volumes x) e
 
 -- ---- what a volume of NOW comes from
 

@@ -4,13 +4,14 @@ use Rattle.std.specs.Prelude.{cond, fold, nat_le}
 use Rattle.std.specs.Option.{option_map, option_or}
 use Rattle.std.proofs.lemmas.Bool.Decides.{nat_tests}
 use Rattle.std.proofs.lemmas.List.{length-append, length-take, length-drop}
-use Rattle.std.proofs.lemmas.List.Folds.{fold_along, find-append}
+use Rattle.std.proofs.lemmas.List.Folds.{fold_along}
 use Rattle.pool_model.specs.declared.item.Change.{Change}
 use Rattle.pool_model.specs.declared.item.Change.TheVariants.{Create}
 use Rattle.pool_model.specs.declared.item.Write.{Write}
 use Rattle.pool_model.specs.declared.volume.PlainVolume.{PlainVolume}
 use Rattle.pool_model.specs.Names.{same, stored}
-use Rattle.pool_model.specs.Pools.{PlainPool, Entry, volume_at, volume_after, written, changed, applied}
+use Rattle.pool_model.specs.Pools.{PlainPool, Entry, volume_at, volume_after, written, created, with_volume, changed, applied}
+use Rattle.pool_model.proofs.Places.{name_after, volume_more, volume_written}
 use Rattle.pool_now.specs.Shapes.{shape_of, shape_at, HaveSameShapes}
 
 -- ---- a write
@@ -24,29 +25,18 @@ stored_cases false offset new old e = refl
 pub length-stored : (offset : ℕ) (new old : List ℕ) → length (stored offset new old) ≡ length old
 length-stored offset new old = stored_cases (nat_le (offset + length new) (length old)) offset new old refl
 
-pub name_after : (w : Write) (volume : PlainVolume) → (volume_after w volume).name ≡ volume.name
-name_after w volume = elim (same volume.name w.volume) as (λ b. (cond b (record volume { bytes = stored w.offset w.bytes volume.bytes }) volume).name ≡ volume.name) [ true ↦ refl | false ↦ refl ]
-
 pub shape_after : (w : Write) (volume : PlainVolume) → shape_of (volume_after w volume) ≡ shape_of volume
 shape_after w volume = elim (same volume.name w.volume) as (λ b. shape_of (cond b (record volume { bytes = stored w.offset w.bytes volume.bytes }) volume) ≡ shape_of volume) [
   | true ↦ λ i. record (shape_of volume) { size = length-stored w.offset w.bytes volume.bytes i }
   | false ↦ refl
 ]
 
--- the volume of a name after a write is its volume after the write
-pub volume_at_written : (name : List ℕ) (pool : PlainPool) (w : Write) → volume_at name (written pool w) ≡ option_map (volume_after w) (volume_at name pool)
-volume_at_written name [] w = refl
-volume_at_written name (volume ∷ pool) w =
-    ap (λ n. cond (same n name) (Some (volume_after w volume)) (volume_at name (written pool w))) (name_after w volume)
-    ∙ (ap (cond (same volume.name name) (Some (volume_after w volume))) (volume_at_written name pool w)
-    ∙ elim (same volume.name name) as (λ b. cond b (Some (volume_after w volume)) (option_map (volume_after w) (volume_at name pool)) ≡ option_map (volume_after w) (cond b (Some volume) (volume_at name pool))) [ true ↦ refl | false ↦ refl ])
-
 shape_map : (w : Write) (o : Option PlainVolume) → option_map shape_of (option_map (volume_after w) o) ≡ option_map shape_of o
 shape_map w None = refl
 shape_map w (Some volume) = ap Some (shape_after w volume)
 
 pub shapes_written : (pool : PlainPool) (w : Write) → HaveSameShapes (written pool w) pool
-shapes_written pool w name = ap (option_map shape_of) (volume_at_written name pool w) ∙ shape_map w (volume_at name pool)
+shapes_written pool w name = ap (option_map shape_of) (volume_written pool w name) ∙ shape_map w (volume_at name pool)
 
 pub shapes_of_writes : (pool : PlainPool) (writes : List Write) → HaveSameShapes (fold written pool writes) pool
 shapes_of_writes pool [] name = refl
@@ -58,13 +48,13 @@ map_or : (a b : Option PlainVolume) → option_map shape_of (option_or a b) ≡ 
 map_or None b = refl
 map_or (Some volume) b = refl
 
-shape_more : (pool : PlainPool) (volume : PlainVolume) (name : List ℕ) → shape_at name (pool ++ volume ∷ []) ≡ option_or (shape_at name pool) (shape_at name (volume ∷ []))
-shape_more pool volume name = ap (option_map shape_of) (find-append (λ v. same v.name name) pool (volume ∷ [])) ∙ map_or (volume_at name pool) (volume_at name (volume ∷ []))
+shape_more : (pool : PlainPool) (volume : PlainVolume) (name : List ℕ) → shape_at name (with_volume volume pool) ≡ option_or (shape_at name pool) (option_map shape_of (cond (same volume.name name) (Some volume) None))
+shape_more pool volume name = ap (option_map shape_of) (volume_more pool volume name) ∙ map_or (volume_at name pool) (cond (same volume.name name) (Some volume) None)
 
 pub shapes_changed : (group : ℕ) (pool other : PlainPool) (change : Change) → HaveSameShapes pool other → HaveSameShapes (changed group pool change) (changed group other change)
 shapes_changed group pool other (Create called size block_size) h name =
-    let volume : PlainVolume = record { name = called; bytes = replicate size 0; block_size = block_size; group = group } in
-    shape_more pool volume name ∙ (ap (λ o. option_or o (shape_at name (volume ∷ []))) (h name) ∙ sym (shape_more other volume name))
+    let volume : PlainVolume = created group called size block_size in
+    shape_more pool volume name ∙ (ap (λ o. option_or o (option_map shape_of (cond (same called name) (Some volume) None))) (h name) ∙ sym (shape_more other volume name))
 
 -- what a group makes of shapes follows from its actions alone
 pub shapes_applied : (group : ℕ) (pool other : PlainPool) (entry also : Entry) → entry.actions ≡ also.actions → HaveSameShapes pool other → HaveSameShapes (applied group pool entry) (applied group other also)

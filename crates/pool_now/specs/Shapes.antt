@@ -6,7 +6,7 @@ use Rattle.pool_model.specs.Pools.{PlainPool, volume_at}
 use Rattle.pool_now.specs.declared.shape.VolumeShape.{VolumeShape}
 
 abbrev pub shape_of : PlainVolume → VolumeShape
-shape_of volume = record { size = length volume.bytes; block_size = volume.block_size; group = volume.group }
+shape_of volume = record { size = length volume.bytes; block_size = volume.block_size; group = volume.group; kind = volume.kind }
 
 -- the shape of the volume of that name
 abbrev pub shape_at : List ℕ → PlainPool → Option VolumeShape

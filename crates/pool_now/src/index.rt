@@ -1,5 +1,5 @@
 //! The names of a pool.
-ghost use Rattle.std.specs.Prelude.{◌≡◌, ◌↔◌, [], ◌∷◌, ◌++◌, None, OnOk};
+ghost use Rattle.std.specs.Prelude.{◌≡◌, ◌↔◌, None, OnOk};
 
 use crate::shape::VolumeShape;
 use pool_model::Name;
@@ -18,13 +18,14 @@ pub struct NameIndex {
 impl NameIndex {
     ghost use Rattle.pool_model.specs.declared.item.Change.TheVariants.{Create};
     ghost use Rattle.pool_model.specs.declared.volume.PlainVolume.{PlainVolume};
-    ghost use Rattle.pool_model.specs.Pools.{PlainPool, volume_at, changed};
+    ghost use Rattle.pool_model.specs.declared.volume.VolumeKind.TheVariants.{Volume};
+    ghost use Rattle.pool_model.specs.Pools.{PlainPool, no_volumes, volume_at, with_volume, changed};
     ghost use Rattle.pool_now.specs.Shapes.{shape_of, shape_at};
     ghost use Rattle.pool_now.specs.Index.{Knows, HasRoom};
 
     /// The index of a pool with no volume.
     pub fn new(alloc: Global) -> NameIndex
-        ensures { Knows result [] }
+        ensures { Knows result no_volumes }
     {
         NameIndex {
             shapes: HashMap::new(alloc),
@@ -49,9 +50,11 @@ impl NameIndex {
     /// Adds the name of a new volume, for which there is room.
     pub fn add(&mut self, name: Name, shape: VolumeShape)
         requires { HasRoom self.old }
-        ensures added { (pool : PlainPool) (volume : PlainVolume) → Knows self.old pool → volume_at name pool ≡ None → volume.name ≡ name → shape_of volume ≡ shape →
-            Knows self.new (pool ++ volume ∷ []) }
-        ensures created { (pool : PlainPool) → Knows self.old pool → volume_at name pool ≡ None →
+        ensures added { (pool : PlainPool) (volume : PlainVolume) → Knows self.old pool →
+            volume_at name pool ≡ None → volume.name ≡ name → shape_of volume ≡ shape →
+            Knows self.new (with_volume volume pool) }
+        ensures created { (pool : PlainPool) → Knows self.old pool →
+            volume_at name pool ≡ None → shape.kind ≡ Volume →
             Knows self.new (changed shape.group pool (Create name shape.size shape.block_size)) }
     {
         let _ = self.shapes.insert(name.into_vec(), shape);

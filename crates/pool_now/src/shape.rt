@@ -1,6 +1,7 @@
 //! What is known of a volume without its bytes.
+use pool_model::VolumeKind;
 
-/// A volume's size, block size and creation group.
+/// A volume's size, block size, creation group and kind.
 #[derive(Clone, Copy, Debug, PartialEq, Eq, Drop)]
 pub struct VolumeShape {
     /// In bytes.
@@ -9,4 +10,5 @@ pub struct VolumeShape {
     pub block_size: u64,
     /// The group that made the volume.
     pub group: u64,
+    pub kind: VolumeKind,
 }

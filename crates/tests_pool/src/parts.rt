@@ -5,7 +5,7 @@ use plain_machine::Machine;
 use pool_commit::{Commit, Progress};
 use pool_core::Core;
 use pool_intake::Intake;
-use pool_model::{Action, Bytes, Change, Item, Name, Refusal, Reply, Step, Write};
+use pool_model::{Action, Bytes, Change, Item, Name, Refusal, Reply, Step, VolumeKind, Write};
 use pool_now::{
     NameIndex, VolumeShape, against_change, against_read, against_write, is_good_shape, lay_over,
     named,
@@ -19,6 +19,7 @@ const SHAPE: VolumeShape = VolumeShape {
     size: 8192,
     block_size: 512,
     group: 4,
+    kind: VolumeKind::Volume,
 };
 
 fn name(alloc: Global, letters: &str) -> Result<Name, AllocError> {

@@ -9,7 +9,7 @@ use Rattle.std.proofs.lemmas.List.Kept.{Contains-dedup_nat, Contains-from_dedup}
 use Rattle.std.proofs.lemmas.List.Quantifiers.{Any-push}
 use Rattle.std.proofs.lemmas.List.Sorted.{Contains-permutation, IsPermutation-sym}
 use Rattle.pool_model.specs.Names.{same}
-use Rattle.pool_now.proofs.Indexes.{same_is, is_same}
+use Rattle.pool_model.proofs.Places.{same_is, is_same}
 use Rattle.pool_model.specs.declared.item.Write.{Write}
 use Rattle.volume_blocks.specs.declared.volume.VolumeBlocks.{VolumeBlocks}
 use Rattle.volume_blocks.specs.Writing.{Reaches, IsChanged}

@@ -11,9 +11,9 @@ use Rattle.pool_model.specs.Names.{same, stored}
 use Rattle.pool_model.specs.Pools.{volume_after}
 use Rattle.pool_now.specs.declared.shape.VolumeShape.{VolumeShape}
 use Rattle.pool_now.specs.Overlay.{after_writes}
-use Rattle.pool_now.proofs.Indexes.{same_is}
+use Rattle.pool_model.proofs.Places.{same_is, name_after}
 use Rattle.pool_now.proofs.Ranges.{untouched}
-use Rattle.pool_now.proofs.Volumes.{name_after, shape_after}
+use Rattle.pool_now.proofs.Volumes.{shape_after}
 use Rattle.raidz_io.proofs.Calls.{Contains-front, Contains-later, Contains-cases}
 use Rattle.volume_blocks.specs.declared.volume.VolumeBlocks.{VolumeBlocks}
 use Rattle.volume_blocks.specs.Volume.{part}

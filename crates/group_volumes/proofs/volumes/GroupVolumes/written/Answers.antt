@@ -50,8 +50,8 @@ pub returns-in_err-written-clause-known : goal.returns-in_err-written-clause-kno
 returns-in_err-written-clause-known g c =
     passed_on c.from_residual.result c.in_err-written.field-0.0 _ c.from_residual.ensures.1 (λ stored pool held spells honest few.
     let kept = c.loop-volume.invariant.kept in
-    let there = spelled_at stored (c.args.group - 1) c.deref-volume-items.result.now pool c.loop-volume.volume-index c.volume-item.result c.loop-volume-test.true c.volume-item.is
-    (subst (λ (v : List NamedVolume). SpellsVolumes stored (c.args.group - 1) v pool) (sym c.deref-volume-items.ensures.value) spells) in
+    let there = spelled_at stored (c.args.group - 1) c.deref-volume-items.result.now pool.volumes c.loop-volume.volume-index c.volume-item.result c.loop-volume-test.true c.volume-item.is
+    (subst (λ (v : List NamedVolume). SpellsVolumes stored (c.args.group - 1) v pool.volumes) (sym c.deref-volume-items.ensures.value) spells) in
     c.in_err-written.ensures.known stored there.0 (kept.keeps stored held) there.1
     (true_after c.args.store.now c.loop-volume.store c.written.new.store kept.reads honest)
     (few_after c.args.store.now c.loop-volume.store c.written.new.store [] kept.reads kept.out kept.shapes few))
@@ -86,7 +86,7 @@ returns-clause-value g c = λ stored planned pool held spells honest.
     let all : take c.loop-volume.volume-index c.deref-volume-items.result.now ≡ c.args.self.now.volumes.items =
     take_all c.loop-volume.volume-index c.deref-volume-items.result.now c.loop-volume-test.false ∙ c.deref-volume-items.ensures.value in
     subst (λ (p : PlainPool). IsPlannedAs c.loop-volume.store stored planned c.args.group c.loop-volume.after p) (sym (written_each pool c.args.writes.now))
-    (c.loop-volume.invariant.planned stored planned pool held (subst (λ (v : List NamedVolume). SpellsVolumes stored (c.args.group - 1) v pool) (sym all) spells) honest)
+    (c.loop-volume.invariant.planned stored planned pool.volumes held (subst (λ (v : List NamedVolume). SpellsVolumes stored (c.args.group - 1) v pool.volumes) (sym all) spells) honest)
 
 pub returns-clause-places : goal.returns-clause-places
 returns-clause-places g c =

@@ -8,7 +8,7 @@ pub returns-in-Ok-accept : goal.returns-in-Ok-accept
 returns-in-Ok-accept c = λ v r u.
     let made = c.in-Ok-new_volume.ensures in
     let knows = knows_on _ _ _ v r (c.in-Ok.ensures.same (now_of v)).0 in
-    acted _ _ _ _ v c.args.action _ c.in-Ok-new_volume.name c.in-Ok-new_volume.shape knows u (sym (c.action_refusal.ensures v r u) ∙ c.in_default.is) c.in-Ok-accept.ensures.accepted made.0 (made.1 ∙ c.open_group.ensures (flow_of v) r.flow) c.add.ensures.created
+    acted _ _ _ _ v c.args.action _ c.in-Ok-new_volume.name c.in-Ok-new_volume.shape knows u (sym (c.action_refusal.ensures v r u) ∙ c.in_default.is) c.in-Ok-accept.ensures.accepted made.0 (made.1 ∙ c.open_group.ensures (flow_of v) r.flow) (λ pool k none. c.add.ensures.created pool k none made.2)
 
 pub returns-in-Err : goal.returns-in-Err
 returns-in-Err c = λ v r u.

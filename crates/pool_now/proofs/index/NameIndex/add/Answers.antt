@@ -1,6 +1,6 @@
-use Rattle.std.proofs.Common.{ℕ, Some, replicate, refl, sym, ap, ◌∙◌}
+use Rattle.std.proofs.Common.{ℕ, Some, refl, sym, ap, ◌∙◌}
 use Rattle.std.proofs.lemmas.List.{length-replicate}
-use Rattle.pool_model.specs.Pools.{volume_at}
+use Rattle.pool_model.specs.Pools.{volume_at, created}
 use Rattle.pool_now.proofs.Indexes.{on_ok, shapes_added}
 use Rattle.pool_now.proofs.index.NameIndex.add.Goals as goal
 
@@ -14,4 +14,4 @@ returns-clause-added c = λ pool volume k none called shape.
     }
 
 pub returns-clause-created : goal.returns-clause-created
-returns-clause-created c = λ pool k none. returns-clause-added c pool (record { name = c.args.name; bytes = replicate c.args.shape.size 0; block_size = c.args.shape.block_size; group = c.args.shape.group }) k none refl (λ i. record c.args.shape { size = length-replicate {A = ℕ} c.args.shape.size 0 i })
+returns-clause-created c = λ pool k none kind. returns-clause-added c pool (created c.args.shape.group c.args.name c.args.shape.size c.args.shape.block_size) k none refl (λ i. record c.args.shape { size = length-replicate {A = ℕ} c.args.shape.size 0 i; kind = sym kind i })

@@ -1,6 +1,6 @@
 use Rattle.std.proofs.Common.{◌≡◌, ◌*◌, length, sym, ap, ◌∙◌}
 use Rattle.std.proofs.lemmas.List.{with_items_is}
-use Rattle.pool_now.proofs.Indexes.{is_same}
+use Rattle.pool_model.proofs.Places.{is_same}
 use Rattle.pool_now.specs.Overlay.{after_writes}
 use Rattle.volume_blocks.proofs.Laying.{laid_block}
 use Rattle.volume_blocks.proofs.Refusing.{passed_on}
