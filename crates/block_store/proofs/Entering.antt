@@ -1,6 +1,5 @@
 -- The group of a plan.
-use Rattle.std.proofs.Common.{ℕ, ◌≡◌, ◌≤◌, Ok, Err, Result, Contains, sym, ap, subst}
-use Rattle.std.specs.Prelude.{IfOk, OnErr}
+use Rattle.std.proofs.Common.{ℕ, ◌≡◌, ◌≤◌, Contains, sym, ap, subst}
 use Rattle.model_disk.specs.Joint.{Disks, content}
 use Rattle.raidz_io.proofs.Kept.{stands_while_kept, more_absent}
 use Rattle.block_store.specs.Places.{shapes_of, HaveMarks}
@@ -33,10 +32,8 @@ entered_plans old new group disks out spaces due spans le =
       group = le;
     } in keeps_plans stands_while_kept more_absent old new kept
 
-pub if_ok : {T E : Type 0} (result : Result T E) (P Q : T → Type 0) → ((x : T) → P x → Q x) → IfOk result P → IfOk result Q
-if_ok (Ok x) P Q map is = map x is
-if_ok (Err e) P Q map is = tt
+pub keeps_through : (old mid new : Store) → Keeps old mid → Keeps mid new → Keeps old new
+keeps_through old mid new before after stored holds = after stored (before stored holds)
 
-pub if_err : {T E : Type 0} (result : Result T E) (P Q : Type 0) → (P → Q) → OnErr result P → OnErr result Q
-if_err (Ok x) P Q map is = tt
-if_err (Err e) P Q map is = map is
+pub plans_through : (old mid new : Store) → KeepsPlans old mid → KeepsPlans mid new → KeepsPlans old new
+plans_through old mid new before after stored planned plans = after stored planned (before stored planned plans)

@@ -49,7 +49,15 @@ AreShapes starts first (config ∷ configs) [] = ⊥
 AreShapes starts first (config ∷ configs) (shape ∷ shapes) =
     IsShapeOf starts first config shape × AreShapes starts (first + config.geometry.children) configs shapes
 
+-- no shapes are what was asked for
+abbrev pub HaveNoShapes : List (List ℕ) → List VdevConfig → Type 0
+HaveNoShapes starts configs = (shapes : List VdevShape) → ¬ AreShapes starts 0 configs shapes
+
 -- a pool has from 1 to 8 vdevs
 pub record IsFewVdevs (configs : List VdevConfig) : Type 0 where
   pub some : 1 ≤ length configs
   pub few : length configs ≤ 8
+
+-- no store may have these vdevs on these disks: there are too few of them or too many, or they have no shapes
+abbrev pub MakeNoStore : List (List ℕ) → List VdevConfig → Type 0
+MakeNoStore starts configs = (shapes : List VdevShape) → ¬ (IsFewVdevs configs × AreShapes starts 0 configs shapes)

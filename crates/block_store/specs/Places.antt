@@ -50,6 +50,10 @@ pub record IsPlaceIn (spaces : List VdevSpace) (sectors : ℕ) (place : Dva) : T
   pub found : slice_get spaces place.vdev ≡ Some space
   pub is_place : IsPlace space.shape sectors place
 
+-- the same of each of these places
+abbrev pub ArePlacesIn : List VdevSpace → ℕ → List Dva → Type 0
+ArePlacesIn spaces sectors places = (place : Dva) → Contains places place → IsPlaceIn spaces sectors place
+
 -- and it is in use
 pub record IsTaken (spaces : List VdevSpace) (marks : Marks) (sectors : ℕ) (place : Dva) : Type 0 where
   pub space : VdevSpace
@@ -77,12 +81,17 @@ pub record IsCopy (spaces : List VdevSpace) (block : Block) (i : ℕ) (extent : 
 
 -- ---- the choice of a place
 
--- the metaslab has room for a block of so many sectors behind those that are planned
+-- a metaslab of the vdev has room for a block of so many sectors behind those that are planned
+abbrev pub HasRoomIn : VdevSpace → ℕ → ℕ → Type 0
+HasRoomIn space metaslab sectors =
+    slice_index (planned space) metaslab + asize space.shape.vdev.geometry sectors ≤ metaslab_sectors space.shape
+
+-- the same of a metaslab of the vdev with that number
 pub record HasRoomAt (spaces : List VdevSpace) (sectors v metaslab : ℕ) : Type 0 where
   pub space : VdevSpace
   pub found : slice_get spaces v ≡ Some space
   pub is_there : metaslab < metaslabs space.shape
-  pub room : slice_index (planned space) metaslab + asize space.shape.vdev.geometry sectors ≤ metaslab_sectors space.shape
+  pub room : HasRoomIn space metaslab sectors
 
 -- one of the places is in the vdev, or in that metaslab of it
 abbrev pub IsInVdev : List Dva → ℕ → Type 0
@@ -108,6 +117,11 @@ pub record IsFound (spaces : List VdevSpace) (taken : List Dva) (sectors : ℕ) 
   pub found : slice_get spaces place.vdev ≡ Some space
   pub behind : IsBehind space sectors place
   pub may : MayTake space.shape taken place.vdev (metaslab_of space.shape place) spread
+
+-- no metaslab that has room may be taken
+abbrev pub NoneIsFound : List VdevSpace → List Dva → ℕ → Spread → Type 0
+NoneIsFound spaces taken sectors spread =
+    (v metaslab : ℕ) → (room : HasRoomAt spaces sectors v metaslab) → ¬ MayTake room.space.shape taken v metaslab spread
 
 -- A further copy of a block of so many sectors goes there: behind what is planned in a metaslab. It goes to another vdev than
 -- those that were taken where one has room, and to another metaslab where one has.

@@ -1,15 +1,15 @@
 -- Plans: blocks that are to be written.
-use Rattle.std.specs.Prelude.{ℕ, ◌≡◌, ◌≤◌, ◌⊎◌, Some, None, false, List, length, slice_get, Contains, All}
+use Rattle.std.specs.Prelude.{ℕ, ◌≡◌, ◌≤◌, ◌⊎◌, Some, None, false, List, ◌∷◌, ◌++◌, length, slice_get, Contains, All}
 use Rattle.model_disk.specs.Joint.{content}
 use Rattle.block_pointer.specs.declared.block.Block.{Block}
 use Rattle.block_pointer.specs.declared.dva.Dva.{Dva}
 use Rattle.raidz_io.specs.declared.vdev.Extent.{Extent}
 use Rattle.raidz_io.specs.declared.writes.ColumnWrite.{ColumnWrite}
 use Rattle.raidz_io.specs.Stands.{WouldStore, AreColumnWrites, IsDone}
-use Rattle.block_store.specs.Blocks.{Contents, Extends}
+use Rattle.block_store.specs.Blocks.{Contents, Extends, Adds}
 use Rattle.block_store.specs.Places.{IsCopy, IsExtentAt}
 use Rattle.block_store.specs.Places.{planned as planned_marks}
-use Rattle.block_store.specs.Store.{Store, outs, is_out, ArePlaced, Holds}
+use Rattle.block_store.specs.Store.{Store, outs, is_out, ArePlaced, Holds, Spares, SparesBut}
 
 -- the writes would store a copy of the block, and each of them is done, is due, or is to a disk that is out
 pub record IsOnTheWay (store : Store) (writes : List ColumnWrite) (extent : Extent) (bytes : List ℕ) : Type 0 where
@@ -60,3 +60,19 @@ KeepsPlans old new = (stored planned : Contents) → Plans old stored planned �
 -- what was stored before a plan is stored beside it
 abbrev pub PlansHold : Type 0
 PlansHold = (store : Store) (stored planned : Contents) → Plans store stored planned → Holds store stored
+
+-- the block is planned too, with these bytes, and all others stay
+abbrev pub PlansToo : Store → Store → Block → List ℕ → Type 0
+PlansToo old new block bytes = (stored planned : Contents) → Plans old stored planned
+    → (later : Contents) × Plans new stored later × Adds planned later block bytes
+
+-- more writes are due, behind those that were, and none is to a disk that is out
+abbrev pub MoreIsDue : Store → Store → Type 0
+MoreIsDue old new =
+    (added : List ColumnWrite) × (new.due ≡ old.due ++ added) × All (λ write. is_out old.out write.disk ≡ false) added
+
+-- Each copy of a stored block that stood, but for columns on some disks, does so still. Of a planned one so does each but for the column
+-- that the write is of.
+abbrev pub SparesAllBut : Store → Store → Type 0
+SparesAllBut old new = (write : ColumnWrite) (stored planned : Contents) → old.due ≡ write ∷ new.due → Plans old stored planned
+    → Spares stored old new × SparesBut write planned old new

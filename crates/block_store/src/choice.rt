@@ -1,6 +1,6 @@
 //! The choice of places for the copies of a block.
 ghost use Rattle.std.specs.Prelude.{◌≡◌, ◌≤◌, ◌<◌, ◌^◌, ◌↔◌, ℕ, Some, IsTrue, IfSome, IfNone, IfOk, IfErr, length, slice_get};
-ghost use Rattle.block_store.specs.Places.{IsInVdev, IsInMetaslab, HasRoomAt, IsBehind, MayTake, IsChosen, IsTakenToo, AreChosen, NoPlaceIsLeft, RanOut};
+ghost use Rattle.block_store.specs.Places.{IsInVdev, IsInMetaslab, HasRoomIn, IsBehind, MayTake, IsChosen, IsTakenToo, AreChosen, NoPlaceIsLeft, RanOut};
 ghost use Rattle.block_store.specs.Shapes.{metaslab_of, metaslabs};
 
 use crate::refusal::Refusal;
@@ -46,17 +46,12 @@ fn may_take(shape: VdevShape, taken: &[Dva], vdev: usize, metaslab: usize, sprea
 }
 
 impl VdevSpace {
-    ghost use Rattle.std.specs.Prelude.{◌+◌, slice_index};
-    ghost use Rattle.raidz_map.specs.Layout.{asize};
-    ghost use Rattle.block_store.specs.Shapes.{metaslab_sectors};
-    ghost use Rattle.block_store.specs.Places.{planned};
-
     /// The place behind what is planned in a metaslab.
     fn place_in(&self, vdev: usize, metaslab: usize, sectors: u32) -> Dva
         requires vdev { vdev < 2 ^ 32 }
         requires some { 0 < sectors }
         requires is_there { metaslab < metaslabs self.now.shape }
-        requires room { slice_index (planned self.now) metaslab + asize self.now.shape.vdev.geometry sectors ≤ metaslab_sectors self.now.shape }
+        requires room { HasRoomIn self.now metaslab sectors }
         ensures vdev { result.vdev ≡ vdev }
         ensures metaslab { metaslab_of self.now.shape result ≡ metaslab }
         ensures behind { IsBehind self.now sectors result }
@@ -77,10 +72,11 @@ impl VdevSpace {
         spread: Spread,
     ) -> Option<usize>
         ensures is_there { IfSome result (λ metaslab. metaslab < metaslabs self.now.shape) }
-        ensures room { IfSome result (λ metaslab. slice_index (planned self.now) metaslab + asize self.now.shape.vdev.geometry sectors ≤ metaslab_sectors self.now.shape) }
-        ensures may { IfSome result (λ metaslab. MayTake self.now.shape taken.now vdev metaslab spread) }
+        ensures room { IfSome result (λ metaslab. HasRoomIn self.now metaslab sectors) }
+        ensures may { IfSome result (λ metaslab.
+            MayTake self.now.shape taken.now vdev metaslab spread) }
         ensures none { IfNone result ((metaslab : ℕ) → metaslab < metaslabs self.now.shape
-            → slice_index (planned self.now) metaslab + asize self.now.shape.vdev.geometry sectors ≤ metaslab_sectors self.now.shape
+            → HasRoomIn self.now metaslab sectors
             → ¬ MayTake self.now.shape taken.now vdev metaslab spread) }
     {
         for metaslab in 0..self.planned.len() {
@@ -97,13 +93,14 @@ impl VdevSpace {
 impl<D: Disk + Drop> BlockStore<D> {
     ghost use Rattle.std.specs.Prelude.{[], ◌+◌, slice_index};
     ghost use Rattle.block_store.specs.declared.space.VdevSpace.{VdevSpace};
-    ghost use Rattle.block_store.specs.Places.{IsFound, planned};
+    ghost use Rattle.block_store.specs.Places.{IsFound, NoneIsFound, planned};
 
     /// The first place that has room and may be taken.
     fn find_place(&self, sectors: u32, taken: &[Dva], spread: Spread) -> Option<Dva>
         requires { 0 < sectors }
-        ensures some { IfSome result (λ place. IsFound self.now.spaces taken.now sectors spread place) }
-        ensures none { IfNone result ((v metaslab : ℕ) → (room : HasRoomAt self.now.spaces sectors v metaslab) → ¬ MayTake room.space.shape taken.now v metaslab spread) }
+        ensures some { IfSome result (λ place.
+            IsFound self.now.spaces taken.now sectors spread place) }
+        ensures none { IfNone result (NoneIsFound self.now.spaces taken.now sectors spread) }
     {
         for (vdev, space) in self.spaces.iter().enumerate() {
             if let Some(metaslab) = space.find_metaslab(vdev, sectors, taken, spread) {
@@ -133,8 +130,11 @@ impl<D: Disk + Drop> BlockStore<D> {
     /// The plan takes a place.
     fn take(&mut self, place: Dva)
         requires there { place.vdev < length self.old.spaces }
-        requires metaslab { (space : VdevSpace) → slice_get self.old.spaces place.vdev ≡ Some space → metaslab_of space.shape place < metaslabs space.shape }
-        requires room { (space : VdevSpace) → slice_get self.old.spaces place.vdev ≡ Some space → slice_index (planned space) (metaslab_of space.shape place) + place.allocated < 2 ^ 64 }
+        requires metaslab { (space : VdevSpace) → slice_get self.old.spaces place.vdev ≡ Some space
+            → metaslab_of space.shape place < metaslabs space.shape }
+        requires room { (space : VdevSpace) → slice_get self.old.spaces place.vdev ≡ Some space
+            → slice_index (planned space) (metaslab_of space.shape place) + place.allocated
+            < 2 ^ 64 }
         ensures disks { self.new.disks ≡ self.old.disks }
         ensures out { self.new.out ≡ self.old.out }
         ensures spans { self.new.spans ≡ self.old.spans }
@@ -159,8 +159,10 @@ impl<D: Disk + Drop> BlockStore<D> {
         ensures spans { self.new.spans ≡ self.old.spans }
         ensures due { self.new.due ≡ self.old.due }
         ensures count { IfOk result (λ places. length places.items ≡ copies) }
-        ensures chosen { IfOk result (λ places. AreChosen self.old.spaces [] sectors places.items self.new.spaces) }
-        ensures refused { IfErr result (λ refusal. (refusal ≡ Refusal.NoSpace) × RanOut self.old.spaces sectors copies self.new.spaces) }
+        ensures chosen { IfOk result (λ places.
+            AreChosen self.old.spaces [] sectors places.items self.new.spaces) }
+        ensures refused { IfErr result (λ refusal. (refusal ≡ Refusal.NoSpace)
+            × RanOut self.old.spaces sectors copies self.new.spaces) }
     {
         let mut places = ArrayVec::new();
         for _copy in 0..copies {

@@ -1,9 +1,9 @@
 //! How a store is made.
-ghost use Rattle.std.specs.Prelude.{◌≡◌, ◌≤◌, ◌<◌, ◌+◌, ◌⊎◌, ℕ, List, [], false, map, length, IfSome, IfNone, IfOk, IfErr};
+ghost use Rattle.std.specs.Prelude.{◌≡◌, ◌≤◌, ◌<◌, ◌+◌, ◌^◌, ◌⊎◌, ℕ, [], false, map, length, IfSome, IfNone, IfOk, IfErr};
 ghost use Rattle.std.specs.Option.{SomeIff};
 ghost use Rattle.model_disk.specs.Joint.{calls_on, log_of};
 ghost use Rattle.block_store.specs.declared.shape.VdevShape.{VdevShape};
-ghost use Rattle.block_store.specs.Config.{IsAllowedSize, sectors_of, AreAllowedSizes, IsLeastOf, IsShapeOf, AreShapes, IsFewVdevs};
+ghost use Rattle.block_store.specs.Config.{IsAllowedSize, sectors_of, AreAllowedSizes, IsLeastOf, IsShapeOf, AreShapes, HaveNoShapes, IsFewVdevs, MakeNoStore};
 ghost use Rattle.block_store.specs.Places.{shapes_of, AreEmpty};
 
 use crate::refusal::Refusal;
@@ -11,8 +11,8 @@ use crate::shape::VdevShape;
 use crate::space::VdevSpace;
 use crate::store::BlockStore;
 use model_disk::{Disk, DiskArray};
-use raidz_io::Vdev;
-use raidz_map::Geometry;
+use raidz_io::{DATA_START, Vdev};
+use raidz_map::{Geometry, SECTOR_BYTES};
 use std::alloc::{AllocError, Global};
 use std::collections::VecDeque;
 
@@ -20,27 +20,25 @@ use std::collections::VecDeque;
 const MAX_VDEVS: usize = 8;
 
 /// The sectors of a metaslab, as a power of two: from this one on.
-const MIN_SHIFT: u32 = 12;
+pub const MIN_METASLAB_SHIFT: u32 = 12;
 
 /// And up to this one.
-const MAX_SHIFT: u32 = 20;
+pub const MAX_METASLAB_SHIFT: u32 = 20;
 
 /// The most metaslabs that a vdev may have.
 const MAX_METASLABS: u64 = 1024;
 
-/// The bytes of a disk are used in multiples of this.
+/// The bytes of a disk are used in multiples of this: 256 KiB, the size of a label.
 const DISK_UNIT: u64 = 0x40000;
 
-/// A disk has at least so many bytes.
+/// A disk has at least so many bytes that are used: 8 MiB.
 const MIN_DISK: u64 = 0x800000;
 
-/// And at most so many.
+/// And at most so many: 8 TiB.
 const MAX_DISK: u64 = 1 << 43;
 
-/// How many bytes of a disk are for labels, before and behind the sectors of blocks.
-const LABEL_BYTES: u64 = 0x480000;
-
-const SECTOR_BYTES: u64 = 512;
+/// How many bytes of a disk are for labels: those before the sectors of blocks, and two labels behind them.
+const LABEL_BYTES: u64 = DATA_START + 2 * DISK_UNIT;
 
 /// A vdev of a store that is to be made. A metaslab has 2 to the power `metaslab_shift` sectors, and the shift is
 /// from 12 to 20.
@@ -51,8 +49,9 @@ pub struct VdevConfig {
 }
 
 /// How many sectors for blocks a disk of that size in bytes has, if it is neither too small nor too large.
-fn sectors_for_blocks(size: u64) -> Option<u64>
-    ensures { SomeIff result (IsAllowedSize size) (sectors_of size) }
+pub fn sectors_for_blocks(size: u64) -> Option<u64>
+    ensures value { SomeIff result (IsAllowedSize size) (sectors_of size) }
+    ensures bound { IfSome result (λ sectors. sectors < 2 ^ 34) }
 {
     let used = size / DISK_UNIT * DISK_UNIT;
     if used < MIN_DISK || MAX_DISK < used {
@@ -86,14 +85,15 @@ fn shape_of<D: Disk + Drop>(
 ) -> Option<VdevShape>
     requires { first ≤ length disks.now.starts }
     ensures some { IfSome result (λ shape. IsShapeOf disks.now.starts first config shape) }
-    ensures none { IfNone result ((shape : VdevShape) → ¬ IsShapeOf disks.now.starts first config shape) }
+    ensures none { IfNone result ((shape : VdevShape)
+        → ¬ IsShapeOf disks.now.starts first config shape) }
 {
     let children = config.geometry.children as usize;
     if disks.len() - first < children {
         return None;
     }
     let child_sectors = least_sectors(disks, first, first + children)?;
-    if config.metaslab_shift < MIN_SHIFT || MAX_SHIFT < config.metaslab_shift {
+    if config.metaslab_shift < MIN_METASLAB_SHIFT || MAX_METASLAB_SHIFT < config.metaslab_shift {
         return None;
     }
     let shape = VdevShape {
@@ -118,10 +118,11 @@ fn spaces_of<D: Disk + Drop>(
     disks: &DiskArray<D>,
     vdevs: &[VdevConfig],
 ) -> Result<Vec<VdevSpace>, Refusal>
-    ensures ok { IfOk result (λ spaces. AreShapes disks.now.starts 0 vdevs.now (shapes_of spaces.items)) }
+    ensures ok { IfOk result (λ spaces.
+        AreShapes disks.now.starts 0 vdevs.now (shapes_of spaces.items)) }
     ensures empty { IfOk result (λ spaces. AreEmpty spaces.items) }
     ensures refused { IfErr result (λ refusal. (refusal ≡ Refusal.NoMemory)
-        ⊎ ((refusal ≡ Refusal.BadConfig) × ((shapes : List VdevShape) → ¬ AreShapes disks.now.starts 0 vdevs.now shapes))) }
+        ⊎ ((refusal ≡ Refusal.BadConfig) × HaveNoShapes disks.now.starts vdevs.now)) }
 {
     let count = disks.len();
     let mut spaces = Vec::new(alloc);
@@ -149,9 +150,11 @@ impl<D: Disk + Drop> BlockStore<D> {
     /// children. Where a vdev, a disk or their number is not within the limits the answer is `BadConfig`.
     pub fn new(alloc: Global, disks: Vec<D>, vdevs: &[VdevConfig]) -> Result<Self, Refusal>
         ensures count { IfOk result (λ store. IsFewVdevs vdevs.now) }
-        ensures shapes { IfOk result (λ store. AreShapes store.disks.starts 0 vdevs.now (shapes_of store.spaces)) }
+        ensures shapes { IfOk result (λ store.
+            AreShapes store.disks.starts 0 vdevs.now (shapes_of store.spaces)) }
         ensures starts { IfOk result (λ store. store.disks.starts ≡ map D.start disks.items) }
-        ensures calls { IfOk result (λ store. (which : ℕ) → calls_on which store.disks.calls ≡ log_of (map D.calls disks.items) which) }
+        ensures calls { IfOk result (λ store. (which : ℕ)
+            → calls_on which store.disks.calls ≡ log_of (map D.calls disks.items) which) }
         ensures out { IfOk result (λ store. (disk : ℕ) → is_out store.out disk ≡ false) }
         ensures group { IfOk result (λ store. store.spans.group ≡ 0) }
         ensures due { IfOk result (λ store. store.due ≡ []) }
@@ -161,7 +164,7 @@ impl<D: Disk + Drop> BlockStore<D> {
         ensures holds { IfOk result (λ store. Holds store nothing_stored) }
         ensures plans { IfOk result (λ store. Plans store nothing_stored nothing_stored) }
         ensures refused { IfErr result (λ refusal. (refusal ≡ Refusal.NoMemory)
-            ⊎ ((refusal ≡ Refusal.BadConfig) × ((shapes : List VdevShape) → ¬ (IsFewVdevs vdevs.now × AreShapes (map D.start disks.items) 0 vdevs.now shapes)))) }
+            ⊎ ((refusal ≡ Refusal.BadConfig) × MakeNoStore (map D.start disks.items) vdevs.now)) }
     {
         if vdevs.is_empty() || MAX_VDEVS < vdevs.len() {
             return Err(Refusal::BadConfig);
@@ -183,7 +186,8 @@ impl<D: Disk + Drop> BlockStore<D> {
     /// The disks, in the order of their numbers.
     pub fn into_disks(self) -> Vec<D>
         ensures starts { map D.start result.items ≡ self.disks.starts }
-        ensures calls { (which : ℕ) → log_of (map D.calls result.items) which ≡ calls_on which self.disks.calls }
+        ensures calls { (which : ℕ)
+            → log_of (map D.calls result.items) which ≡ calls_on which self.disks.calls }
     {
         self.disks.into_disks()
     }

@@ -5,8 +5,8 @@ ghost use Rattle.model_disk.specs.Joint.{on};
 ghost use Rattle.raidz_io.specs.declared.writes.ColumnWrite.{ColumnWrite};
 ghost use Rattle.block_store.specs.Laws.{Laws};
 ghost use Rattle.block_store.specs.Blocks.{Contents};
-ghost use Rattle.block_store.specs.Plans.{Plans, KeepsPlans};
-ghost use Rattle.block_store.specs.Store.{Keeps, IsOutToo, GoesOut, Spares, SparesBut};
+ghost use Rattle.block_store.specs.Plans.{KeepsPlans, SparesAllBut};
+ghost use Rattle.block_store.specs.Store.{Keeps, IsOutToo, GoesOut, Spares};
 
 use crate::store::BlockStore;
 use model_disk::Disk;
@@ -42,16 +42,18 @@ impl<D: Disk + Drop> BlockStore<D> {
         ensures starts { self.new.disks.starts ≡ self.old.disks.starts }
         ensures spaces { self.new.spaces ≡ self.old.spaces }
         ensures call { (write : ColumnWrite) × (self.old.due ≡ write ∷ self.new.due)
-            × (self.new.disks.calls ≡ on write.disk (write_call result write.offset write.bytes.items) ∷ self.old.disks.calls)
-            × IfErr result (λ failed. failed.disk ≡ write.disk) × IfErr result (λ failed. IsOutToo self.old.out write.disk self.new.out) }
+            × (self.new.disks.calls
+            ≡ on write.disk (write_call result write.offset write.bytes.items) ∷ self.old.disks.calls)
+            × IfErr result (λ failed. failed.disk ≡ write.disk)
+            × IfErr result (λ failed. IsOutToo self.old.out write.disk self.new.out) }
         ensures out { OnOk result (self.new.out ≡ self.old.out) }
         ensures spans { OnOk result (self.new.spans ≡ self.old.spans) }
         ensures gone { IfErr result (λ failed. GoesOut self.old failed.disk self.new) }
 
-        // Each plan goes on. A disk that goes out keeps each column that stood there, but for the one that the write is of.
+        // Each plan goes on. A disk that goes out keeps each column that stood there, but for
+        // the one that the write is of.
         ensures plans { KeepsPlans self.old self.new }
-        ensures spares { (write : ColumnWrite) (stored planned : Contents) → self.old.due ≡ write ∷ self.new.due → Plans self.old stored planned
-            → Spares stored self.old self.new × SparesBut write planned self.old self.new }
+        ensures spares { SparesAllBut self.old self.new }
     {
         blocks_beside_others();
         let Some(write) = self.due.pop_front() else {
@@ -67,7 +69,8 @@ impl<D: Disk + Drop> BlockStore<D> {
         ensures starts { self.new.disks.starts ≡ self.old.disks.starts }
         ensures spaces { self.new.spaces ≡ self.old.spaces }
         ensures due { self.new.due ≡ self.old.due }
-        ensures call { self.new.disks.calls ≡ on disk (flush_call result) ∷ self.old.disks.calls }
+        ensures call { self.new.disks.calls
+            ≡ on disk (flush_call result) ∷ self.old.disks.calls }
         ensures out { OnOk result (self.new.out ≡ self.old.out) }
         ensures failed { IfErr result (λ failed. failed.disk ≡ disk) }
         ensures out_too { IfErr result (λ failed. IsOutToo self.old.out disk self.new.out) }

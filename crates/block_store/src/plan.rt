@@ -1,12 +1,11 @@
 //! Plans of blocks that are to be written.
-ghost use Rattle.std.specs.Prelude.{◌≡◌, ◌≤◌, ◌<◌, ◌+◌, ◌*◌, ◌^◌, ◌⊎◌, ℕ, List, All, Contains, false, filter, map, min, nat_lt, if◌then◌else◌, not, length, [], ◌++◌, OnOk, OnErr, IfOk, IfErr};
+ghost use Rattle.std.specs.Prelude.{◌≡◌, ◌≤◌, ◌<◌, ◌+◌, ◌*◌, ◌^◌, ◌⊎◌, filter, map, min, nat_lt, if◌then◌else◌, not, length, [], ◌++◌, OnOk, OnErr, IfOk, IfErr};
 ghost use Rattle.block_pointer.specs.Block.{FitsBlock};
 ghost use Rattle.block_pointer.specs.Copies.{dvas};
-ghost use Rattle.raidz_io.specs.declared.writes.ColumnWrite.{ColumnWrite};
 ghost use Rattle.raidz_io.specs.Places.{CanHold, IsOnDisks};
-ghost use Rattle.block_store.specs.Blocks.{Contents, Adds, FitsNew, IsBlockOf, count_of};
-ghost use Rattle.block_store.specs.Places.{shapes_of, filled, planned, HaveMarks, AreChosen, TookSome, RanOut, IsPlaceIn, IsExtentAt};
-ghost use Rattle.block_store.specs.Plans.{Plans, KeepsPlans, AreWritesAt};
+ghost use Rattle.block_store.specs.Blocks.{Contents, FitsNew, IsBlockOf, count_of};
+ghost use Rattle.block_store.specs.Places.{shapes_of, filled, planned, HaveMarks, AreChosen, TookSome, RanOut, IsPlaceIn, ArePlacesIn, IsExtentAt};
+ghost use Rattle.block_store.specs.Plans.{Plans, KeepsPlans, PlansToo, MoreIsDue, AreWritesAt};
 ghost use Rattle.block_store.specs.Store.{Holds, Keeps, is_out, in_group, reaching};
 
 use crate::block::{CopyCount, NewBlock};
@@ -74,7 +73,8 @@ fn drop_plans(spaces: &mut Vec<VdevSpace>)
 
 /// Each disk that is out may lack blocks from that group on, where it is earlier than the plan's.
 fn lower(since: &mut Vec<u64>, before: u64, group: u64)
-    ensures { since.new.items ≡ (if nat_lt group before then map (min group) since.old.items else since.old.items) }
+    ensures { since.new.items
+        ≡ (if nat_lt group before then map (min group) since.old.items else since.old.items) }
 {
     if group < before {
         lower_all(since, group);
@@ -105,7 +105,8 @@ impl<D: Disk + Drop> BlockStore<D> {
         ensures free { HaveMarks self.old.spaces filled self.new.spaces planned }
 
         // What is stored stays so, and nothing else is planned.
-        ensures plans { (stored : Contents) → Holds self.old stored → Plans self.new stored stored }
+        ensures plans { (stored : Contents)
+            → Holds self.old stored → Plans self.new stored stored }
     {
         self.enter(group);
         self.drop_plan();
@@ -120,7 +121,8 @@ impl<D: Disk + Drop> BlockStore<D> {
         ensures due { self.new.due ≡ [] }
         ensures filled { HaveMarks self.old.spaces filled self.new.spaces filled }
         ensures free { HaveMarks self.old.spaces filled self.new.spaces planned }
-        ensures plans { (stored : Contents) → Holds self.old stored → Plans self.new stored stored }
+        ensures plans { (stored : Contents)
+            → Holds self.old stored → Plans self.new stored stored }
     {
         self.due.clear();
         drop_plans(&mut self.spaces);
@@ -164,7 +166,8 @@ impl<D: Disk + Drop> BlockStore<D> {
         ensures due { self.new.due ≡ self.old.due }
         ensures filled { HaveMarks self.old.spaces planned self.new.spaces filled }
         ensures planned { HaveMarks self.old.spaces planned self.new.spaces planned }
-        ensures stored { (stored planned : Contents) → Plans self.old stored planned → self.old.due ≡ [] → Holds self.new planned }
+        ensures stored { (stored planned : Contents) → Plans self.old stored planned
+            → self.old.due ≡ [] → Holds self.new planned }
     {
         keep_plans(&mut self.spaces);
     }
@@ -191,48 +194,19 @@ impl<D: Disk + Drop> BlockStore<D> {
         ensures fits { IfOk result FitsBlock }
 
         // The block is planned, and all others stay.
-        ensures planned { IfOk result (λ block. (stored planned : Contents) → Plans self.old stored planned
-            → (later : Contents) × Plans self.new stored later × Adds planned later block bytes.now) }
-        ensures places { IfOk result (λ block. AreChosen self.old.spaces [] new.property.sectors (dvas block.copies) self.new.spaces) }
-        ensures due { OnOk result ((added : List ColumnWrite) × (self.new.due ≡ self.old.due ++ added) × All (λ write. is_out self.old.out write.disk ≡ false) added) }
+        ensures planned { IfOk result (λ block. PlansToo self.old self.new block bytes.now) }
+        ensures places { IfOk result (λ block.
+            AreChosen self.old.spaces [] new.property.sectors (dvas block.copies) self.new.spaces) }
+        ensures due { OnOk result (MoreIsDue self.old self.new) }
         ensures refused { IfErr result (λ refusal. (refusal ≡ Refusal.NoMemory)
-            ⊎ ((refusal ≡ Refusal.NoSpace) × RanOut self.old.spaces new.property.sectors (count_of copies) self.new.spaces)) }
-        ensures err_spaces { OnErr result (TookSome self.old.spaces new.property.sectors (count_of copies) self.new.spaces) }
+            ⊎ ((refusal ≡ Refusal.NoSpace)
+            × RanOut self.old.spaces new.property.sectors (count_of copies) self.new.spaces)) }
+        ensures err_spaces { OnErr result
+            (TookSome self.old.spaces new.property.sectors (count_of copies) self.new.spaces) }
         ensures err_due { OnErr result (self.new.due ≡ self.old.due) }
         ensures err { OnErr result (KeepsPlans self.old self.new) }
     {
         self.reach(new.birth);
-        self.place_block(alloc, bytes, new, copies)
-    }
-
-    /// Adds a block, born in the plan's group or later.
-    fn place_block(
-        &mut self,
-        alloc: Global,
-        bytes: &[u8],
-        new: NewBlock,
-        copies: CopyCount,
-    ) -> Result<Block, Refusal>
-        requires fits { FitsNew new }
-        requires born { self.old.spans.group ≤ new.birth }
-        requires size { length bytes.now ≡ new.property.sectors * 512 }
-        ensures disks { self.new.disks ≡ self.old.disks }
-        ensures out { self.new.out ≡ self.old.out }
-        ensures spans { self.new.spans ≡ self.old.spans }
-        ensures shapes { shapes_of self.new.spaces ≡ shapes_of self.old.spaces }
-        ensures keeps { Keeps self.old self.new }
-        ensures block { IfOk result (λ block. IsBlockOf new bytes.now (count_of copies) block) }
-        ensures fits { IfOk result FitsBlock }
-        ensures planned { IfOk result (λ block. (stored planned : Contents) → Plans self.old stored planned
-            → (later : Contents) × Plans self.new stored later × Adds planned later block bytes.now) }
-        ensures places { IfOk result (λ block. AreChosen self.old.spaces [] new.property.sectors (dvas block.copies) self.new.spaces) }
-        ensures due { OnOk result ((added : List ColumnWrite) × (self.new.due ≡ self.old.due ++ added) × All (λ write. is_out self.old.out write.disk ≡ false) added) }
-        ensures refused { IfErr result (λ refusal. (refusal ≡ Refusal.NoMemory)
-            ⊎ ((refusal ≡ Refusal.NoSpace) × RanOut self.old.spaces new.property.sectors (count_of copies) self.new.spaces)) }
-        ensures err_spaces { OnErr result (TookSome self.old.spaces new.property.sectors (count_of copies) self.new.spaces) }
-        ensures err_due { OnErr result (self.new.due ≡ self.old.due) }
-        ensures err { OnErr result (KeepsPlans self.old self.new) }
-    {
         let places = self.choose_places(new.property.sectors, copies.count())?;
         let mut writes = self.writes_at(alloc, places.as_slice(), new.property.sectors, bytes)?;
         let block = Block {
@@ -256,8 +230,9 @@ impl<D: Disk + Drop> BlockStore<D> {
     ) -> Result<VecDeque<ColumnWrite>, AllocError>
         requires size { length bytes.now ≡ sectors * 512 }
         requires some { 0 < sectors }
-        requires places { (place : Dva) → Contains places.now place → IsPlaceIn self.now.spaces sectors place }
-        ensures { IfOk result (λ writes. AreWritesAt self.now sectors bytes.now places.now writes.items) }
+        requires places { ArePlacesIn self.now.spaces sectors places.now }
+        ensures { IfOk result (λ writes.
+            AreWritesAt self.now sectors bytes.now places.now writes.items) }
     {
         let mut writes = VecDeque::new(alloc);
         for place in places {
@@ -289,7 +264,8 @@ impl<D: Disk + Drop> BlockStore<D> {
         copy: Vec<ColumnWrite>,
         writes: &mut VecDeque<ColumnWrite>,
     ) -> Result<(), AllocError>
-        ensures { OnOk result (writes.new.items ≡ writes.old.items ++ filter (λ write. not (is_out self.now.out write.disk)) copy.items) }
+        ensures { OnOk result (writes.new.items
+            ≡ writes.old.items ++ filter (λ write. not (is_out self.now.out write.disk)) copy.items) }
     {
         for write in copy {
             if !self.is_out(write.disk) {

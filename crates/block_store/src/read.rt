@@ -1,5 +1,5 @@
 //! Reads of blocks.
-ghost use Rattle.std.specs.Prelude.{◌≡◌, ◌⊎◌, ◌++◌, ◌*◌, ◌↔◌, ◌<◌, ℕ, List, Some, IsTrue, IfOk, IfErr, OnOk, length, Contains};
+ghost use Rattle.std.specs.Prelude.{◌≡◌, ◌⊎◌, ◌++◌, ◌*◌, ◌↔◌, ◌<◌, ℕ, List, Some, IsTrue, IfOk, IfErr, OnOk, length};
 ghost use Rattle.sha2.specs.Sha256.{sha256};
 ghost use Rattle.model_disk.specs.Joint.{Disks};
 ghost use Rattle.block_pointer.specs.Copies.{dvas};
@@ -34,27 +34,34 @@ impl<D: Disk + Drop> BlockStore<D> {
     ) -> Result<Vec<u8>, Refusal>
         ensures rest { self.new ≡ record self.old { disks = self.new.disks } }
         ensures reads { OnlyReads self.old.disks self.new.disks }
-        ensures untouched { AreUntouched (outs self.old ++ missing.now) self.old.disks self.new.disks }
+        ensures untouched { AreUntouched (outs self.old ++ missing.now)
+            self.old.disks self.new.disks }
         ensures keeps { Keeps self.old self.new }
         ensures plans { KeepsPlans self.old self.new }
         ensures readable { IfOk result (λ read. IsReadable self.old.spaces asked block.now) }
         ensures digest { IfOk result (λ read. sha256 read.items ≡ block.now.checksum) }
-        ensures size { IfOk result (λ read. length read.items ≡ block.now.property.sectors * 512) }
+        ensures size { IfOk result (λ read.
+            length read.items ≡ block.now.property.sectors * 512) }
 
         // The bytes are those of the first copy that can be read: each before it was tried, and failed.
-        ensures first { OnOk result (IsFirstRead self.old self.new (outs self.old ++ missing.now) block.now) }
+        ensures first { OnOk result
+            (IsFirstRead self.old self.new (outs self.old ++ missing.now) block.now) }
 
         // A block that is stored is read as it was written.
-        ensures bytes { IfOk result (λ read. (stored : Contents) (bytes : List ℕ) → Holds self.old stored → stored block.now ≡ Some bytes
+        ensures bytes { IfOk result (λ read. (stored : Contents) (bytes : List ℕ)
+            → Holds self.old stored → stored block.now ≡ Some bytes
             → IsHonestSince self.old.disks self.new.disks → read.items ≡ bytes) }
         ensures refused { IfErr result (λ refusal. (refusal ≡ Refusal.NoMemory)
             ⊎ (((refusal ≡ Refusal.BadPointer) × ¬ IsReadable self.old.spaces asked block.now)
             ⊎ IsLastFault self.old self.new (outs self.old ++ missing.now) block.now refusal)) }
 
         // And it is read, where no vdev misses more disks than it has parities and what they answer is true.
-        ensures known { IfErr result (λ refusal. (stored : Contents) (bytes : List ℕ) → Holds self.old stored → stored block.now ≡ Some bytes
+        ensures known { IfErr result (λ refusal. (stored : Contents) (bytes : List ℕ)
+            → Holds self.old stored → stored block.now ≡ Some bytes
             → Asks asked block.now → IsHonestSince self.old.disks self.new.disks
-            → AreTolerable self.old.spaces (absent_since self.old.disks self.new.disks (outs self.old ++ missing.now)) → refusal ≡ Refusal.NoMemory) }
+            → AreTolerable self.old.spaces
+            (absent_since self.old.disks self.new.disks (outs self.old ++ missing.now))
+            → refusal ≡ Refusal.NoMemory) }
     {
         reads_keep_contents();
         stands_while_kept();
@@ -98,8 +105,7 @@ fn is_fault(read: &Result<Vec<u8>, Refusal>) -> bool
 }
 
 impl<D: Disk + Drop> BlockStore<D> {
-    ghost use Rattle.std.specs.Prelude.{slice_get};
-    ghost use Rattle.block_store.specs.Places.{IsPlaceIn};
+    ghost use Rattle.block_store.specs.Places.{IsPlaceIn, ArePlacesIn};
     ghost use Rattle.block_store.specs.Reading.{IsCopyRead, IsReadUpTo};
 
     /// Whether the pointer is what its parent asks, and its copies are in places of the pool.
@@ -114,7 +120,7 @@ impl<D: Disk + Drop> BlockStore<D> {
     }
 
     fn are_places(&self, places: &[Dva], sectors: u32) -> bool
-        ensures { IsTrue result ↔ ((place : Dva) → Contains places.now place → IsPlaceIn self.now.spaces sectors place) }
+        ensures { IsTrue result ↔ ArePlacesIn self.now.spaces sectors places.now }
     {
         for place in places {
             if !self.is_place(*place, sectors) {
@@ -158,9 +164,10 @@ impl<D: Disk + Drop> BlockStore<D> {
     ) -> Result<Vec<u8>, Refusal>
         requires places { places.now ≡ dvas block.now.copies }
         requires some { 0 < block.now.property.sectors }
-        requires readable { (place : Dva) → Contains places.now place → IsPlaceIn self.old.spaces block.now.property.sectors place }
+        requires readable { ArePlacesIn self.old.spaces block.now.property.sectors places.now }
         ensures rest { self.new ≡ record self.old { disks = self.new.disks } }
-        ensures read { IsReadUpTo self.old.spaces absent.now block.now (length places.now) self.old.disks self.new.disks result }
+        ensures read { IsReadUpTo self.old.spaces absent.now block.now (length places.now)
+            self.old.disks self.new.disks result }
     {
         let mut read = self.read_copy(alloc, places, 0, block, absent);
         for i in 1..places.len() {
@@ -183,9 +190,10 @@ impl<D: Disk + Drop> BlockStore<D> {
         requires places { places.now ≡ dvas block.now.copies }
         requires below { i < length places.now }
         requires some { 0 < block.now.property.sectors }
-        requires readable { (place : Dva) → Contains places.now place → IsPlaceIn self.old.spaces block.now.property.sectors place }
+        requires readable { ArePlacesIn self.old.spaces block.now.property.sectors places.now }
         ensures rest { self.new ≡ record self.old { disks = self.new.disks } }
-        ensures read { IsCopyRead self.old.spaces absent.now block.now i self.old.disks self.new.disks result }
+        ensures read { IsCopyRead self.old.spaces absent.now block.now i
+            self.old.disks self.new.disks result }
     {
         let extent = self.extent_at(places[i], block.property.sectors);
         match extent.read_checked(&mut self.disks, alloc, absent, &block.checksum) {

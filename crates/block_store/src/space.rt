@@ -24,8 +24,10 @@ impl VdevSpace {
     /// The space of a vdev without blocks.
     pub(crate) fn new(alloc: Global, shape: VdevShape) -> Result<Self, AllocError>
         ensures shape { IfOk result (λ space. space.shape ≡ shape) }
-        ensures filled { IfOk result (λ space. space.filled.items ≡ replicate (metaslabs shape) 0) }
-        ensures planned { IfOk result (λ space. space.planned.items ≡ replicate (metaslabs shape) 0) }
+        ensures filled { IfOk result (λ space.
+            space.filled.items ≡ replicate (metaslabs shape) 0) }
+        ensures planned { IfOk result (λ space.
+            space.planned.items ≡ replicate (metaslabs shape) 0) }
     {
         let metaslabs = shape.metaslabs() as usize;
         Ok(VdevSpace {
@@ -38,7 +40,9 @@ impl VdevSpace {
     /// Whether a block of so many data sectors has room in the metaslab, behind what is planned there.
     pub(crate) fn has_room(&self, metaslab: usize, sectors: u32) -> bool
         requires { metaslab < metaslabs self.now.shape }
-        ensures { IsTrue result ↔ (slice_index self.now.planned.items metaslab + asize self.now.shape.vdev.geometry sectors ≤ metaslab_sectors self.now.shape) }
+        ensures { IsTrue result
+            ↔ (slice_index self.now.planned.items metaslab + asize self.now.shape.vdev.geometry sectors
+            ≤ metaslab_sectors self.now.shape) }
     {
         let size = self.shape.metaslab_sectors();
         let mark = self.planned[metaslab];

@@ -11,9 +11,9 @@ use std::marker::Model;
 
 /// Blocks on the vdevs of a pool, and a plan of those that are to be written.
 ///
-/// A plan begins with `begin_plan`, which is told its transaction group. Each `plan_write` places a block and names the writes that store it, which are then
-/// due. `write_next` makes the next of them. Once none is due, `finish_plan` takes the blocks of the plan as stored.
-/// A plan is dropped by the next `begin_plan`: what it placed is free again.
+/// A plan begins with `begin_plan`, which is told its transaction group. Each `plan_write` places a block and names the
+/// writes that store it, which are then due. `write_next` makes the next of them. Once none is due, `finish_plan` takes
+/// the blocks of the plan as stored. A plan is dropped by the next `begin_plan`: what it placed is free again.
 ///
 /// A disk that fails a write or a flush is out: no call is made on it when a block is read, and no write is planned for
 /// it. It is out since the group of that plan. Of blocks that were born before, it still has every column, whatever
@@ -35,9 +35,21 @@ impl<D: Disk + Drop> Model for BlockStore<D> {
 
     ghost Value = { Store };
 
-    ghost view = { λ s. record { disks = s.disks; spaces = s.spaces.items; out = s.out.items; spans = record { since = s.since.items; group = s.group }; due = s.due.items } };
+    ghost view = { λ s. record {
+      disks = s.disks;
+      spaces = s.spaces.items;
+      out = s.out.items;
+      spans = record { since = s.since.items; group = s.group };
+      due = s.due.items;
+    } };
 
-    ghost invariant = { λ s. IsStore (record { disks = s.disks; spaces = s.spaces.items; out = s.out.items; spans = record { since = s.since.items; group = s.group }; due = s.due.items }) };
+    ghost invariant = { λ s. IsStore (record {
+      disks = s.disks;
+      spaces = s.spaces.items;
+      out = s.out.items;
+      spans = record { since = s.since.items; group = s.group };
+      due = s.due.items;
+    }) };
 }
 
 impl<D: Disk + Drop> BlockStore<D> {
@@ -59,7 +71,8 @@ impl<D: Disk + Drop> BlockStore<D> {
     /// Of a disk that is out, the first transaction group whose blocks it may lack. What was stored before that group is
     /// still on it.
     pub fn out_since(&self, disk: usize) -> Option<u64>
-        ensures { result ≡ (if is_out self.now.out disk then Some (slice_index self.now.spans.since disk) else None) }
+        ensures { result
+            ≡ (if is_out self.now.out disk then Some (slice_index self.now.spans.since disk) else None) }
     {
         if !self.is_out(disk) {
             return None;
@@ -77,8 +90,10 @@ impl<D: Disk + Drop> BlockStore<D> {
     /// The shape of a vdev.
     pub fn shape(&self, vdev: usize) -> VdevShape
         requires { vdev < length self.now.spaces }
-        ensures shape { option_map (λ space. space.shape) (slice_get self.now.spaces vdev) ≡ Some result }
-        ensures disks { result.vdev.first + result.vdev.geometry.children ≤ length self.now.disks.starts }
+        ensures shape { option_map (λ space. space.shape) (slice_get self.now.spaces vdev)
+            ≡ Some result }
+        ensures disks { result.vdev.first + result.vdev.geometry.children
+            ≤ length self.now.disks.starts }
     {
         self.spaces[vdev].shape
     }
