@@ -1,15 +1,24 @@
 -- Parts of a tree while it is rewritten. Only the crate's own functions say these.
-use Rattle.std.specs.Prelude.{ℕ, suc, ◌≡◌, ◌+◌, ◌*◌, ◌^◌, ◌<◌, ◌≤◌, List, [], ◌∷◌, ◌++◌, length, slice_index_or, Option, take}
+use Rattle.std.specs.Prelude.{ℕ, suc, ◌≡◌, ◌+◌, ◌-◌, ◌*◌, ◌^◌, ◌<◌, ◌≤◌, List, [], ◌∷◌, ◌++◌, length, slice_index_or, Option, None, take}
 use Rattle.block_pointer.specs.declared.block.Block.{Block}
 use Rattle.block_pointer.specs.declared.pointer.BlockPtr.{BlockPtr}
 use Rattle.block_pointer.specs.declared.pointer.BlockPtr.TheVariants.{Hole, Block as At}
 use Rattle.block_pointer.specs.declared.property.Property.{Property}
+use Rattle.block_store.specs.declared.refusal.Refusal.{Refusal}
 use Rattle.block_store.specs.Blocks.{Contents, Extends}
+use Rattle.block_store.specs.Plans.{Plans}
+use Rattle.block_store.specs.Steps.{AnswersAreTrue, LossIsTolerable}
+use Rattle.block_store.specs.Store.{Store}
+use Rattle.dnode.specs.Levels.{levels_of}
+use Rattle.dnode_tree.specs.declared.writes.Rewriting.{Rewriting}
+use Rattle.dnode_tree.specs.declared.subtree.Parts.{Parts}
+use Rattle.dnode_tree.specs.declared.subtree.Subtree.{Subtree}
 use Rattle.dnode_tree.specs.declared.writes.BlockWrite.{BlockWrite}
 use Rattle.dnode_tree.specs.declared.writes.CopyCounts.{CopyCounts}
 use Rattle.dnode_tree.specs.Rewriting.{IsExchanged}
 use Rattle.dnode_tree.specs.Subtree.{IsSubtree, joined}
-use Rattle.dnode_tree.specs.Writes.{written}
+use Rattle.dnode_tree.specs.Tree.{property_of, IsPart}
+use Rattle.dnode_tree.specs.Writes.{written, IsForRoom}
 
 -- A part of a tree has a new root, and now reads as in the new array. The blocks that are gone were noted.
 pub record IsPartRewritten (copies : CopyCounts) (planned later : Contents) (property : ℕ → Property) (level first birth : ℕ) (pointer : BlockPtr) (array : ℕ → Option (List ℕ)) (before noted noted_later : List Block) : Type 0 where
@@ -45,3 +54,58 @@ pub record AreRewritten (copies : CopyCounts) (planned later : Contents) (proper
   pub gone : List Block
   pub noted_are : noted_later ≡ noted ++ gone
   pub exchanged : IsExchanged copies birth planned later (joined before) (block ∷ joined after) gone
+
+-- the whole tree of the object, as a part
+abbrev pub root_part : Rewriting → Subtree
+root_part this = record { level = levels_of this.node.now.highest - 1; pointer = this.node.now.pointer; birth = this.birth }
+
+-- Whatever the store has at the part, where its answers are true: it plans the part with these writes behind the pointer, and what
+-- gave way was noted.
+abbrev pub WritesPart : Rewriting → Store → Store → Subtree → ℕ → List BlockWrite → List Block → List Block → BlockPtr → Type 0
+WritesPart this old new part first writes noted noted_later pointer =
+    (stored planned : Contents) (array : ℕ → Option (List ℕ)) (blocks : List Block) → Plans old stored planned
+    → IsPart stored this.node.now first part array blocks → AnswersAreTrue old new
+    → (later : Contents) × Plans new stored later
+    × IsPartRewritten this.copies planned later (property_of this.node.now) part.level first this.birth pointer (written writes array) blocks noted noted_later
+
+-- where the store has such a part, its answers are true and few disks are lost, the refusal is want of memory or of room
+abbrev pub LacksRoomForPart : Rewriting → Store → Store → Subtree → ℕ → Refusal → Type 0
+LacksRoomForPart this old new part first refusal =
+    (stored planned : Contents) (array : ℕ → Option (List ℕ)) (blocks : List Block) → Plans old stored planned
+    → IsPart stored this.node.now first part array blocks → AnswersAreTrue old new → LossIsTolerable old new this.missing.now → IsForRoom refusal
+
+-- Whatever the store has at the parts below a root, where those before one of them read as in the new array: it plans the parts with
+-- these writes, and a root above them.
+abbrev pub WritesParts : Rewriting → Store → Store → Parts → ℕ → ℕ → List BlockWrite → List Block → List Block → Block → Type 0
+WritesParts this old new parts first from writes noted_now noted_later block =
+    (stored planned now : Contents) (array new_array : ℕ → Option (List ℕ)) (before after : List (List Block)) (noted : List Block) → Plans old stored now
+    → AreRewrittenTo this.copies stored planned now (property_of this.node.now) parts.level first parts.birth this.birth parts.pointers array new_array before after from noted noted_now
+    → HasWrites new_array array writes (first + from * 128 ^ parts.level) (first + 128 * 128 ^ parts.level) → AnswersAreTrue old new
+    → (later : Contents) × Plans new stored later
+    × AreRewritten this.copies planned later (property_of this.node.now) parts.level first this.birth block new_array before noted noted_later
+
+-- where the store has such parts, its answers are true and few disks are lost, the refusal is want of memory or of room
+abbrev pub LacksRoomForParts : Rewriting → Store → Store → Parts → ℕ → ℕ → List BlockWrite → List Block → Refusal → Type 0
+LacksRoomForParts this old new parts first from writes noted_now refusal =
+    (stored planned now : Contents) (array new_array : ℕ → Option (List ℕ)) (before after : List (List Block)) (noted : List Block) → Plans old stored now
+    → AreRewrittenTo this.copies stored planned now (property_of this.node.now) parts.level first parts.birth this.birth parts.pointers array new_array before after from noted noted_now
+    → HasWrites new_array array writes (first + from * 128 ^ parts.level) (first + 128 * 128 ^ parts.level) → AnswersAreTrue old new
+    → LossIsTolerable old new this.missing.now → IsForRoom refusal
+
+-- Whatever the store plans as the tree of a root, behind which the old array has nothing: it plans a tree that is one level higher, with
+-- these writes.
+abbrev pub Raises : Rewriting → Store → Store → BlockPtr → ℕ → List BlockWrite → List Block → List Block → BlockPtr → Type 0
+Raises this old new root level writes noted_now noted_later pointer =
+    (stored planned now : Contents) (array new_array : ℕ → Option (List ℕ)) (before noted : List Block) → Plans old stored now
+    → IsPartRewritten this.copies planned now (property_of this.node.now) level 0 this.birth root new_array before noted noted_now
+    → ((id : ℕ) → 128 ^ level ≤ id → array id ≡ None) → HasWrites new_array array writes (128 ^ level) (128 * 128 ^ level) → AnswersAreTrue old new
+    → (later : Contents) × Plans new stored later
+    × IsPartRewritten this.copies planned later (property_of this.node.now) (level + 1) 0 this.birth pointer new_array before noted noted_later
+
+-- where the store plans such a tree, its answers are true and few disks are lost, the refusal is want of memory or of room
+abbrev pub LacksRoomToRaise : Rewriting → Store → Store → BlockPtr → ℕ → List BlockWrite → List Block → Refusal → Type 0
+LacksRoomToRaise this old new root level writes noted_now refusal =
+    (stored planned now : Contents) (array new_array : ℕ → Option (List ℕ)) (before noted : List Block) → Plans old stored now
+    → IsPartRewritten this.copies planned now (property_of this.node.now) level 0 this.birth root new_array before noted noted_now
+    → ((id : ℕ) → 128 ^ level ≤ id → array id ≡ None) → HasWrites new_array array writes (128 ^ level) (128 * 128 ^ level) → AnswersAreTrue old new
+    → LossIsTolerable old new this.missing.now → IsForRoom refusal

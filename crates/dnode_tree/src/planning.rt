@@ -1,10 +1,10 @@
 //! One block of an object that is planned.
-ghost use Rattle.std.specs.Prelude.{◌≡◌, ◌≢◌, ◌*◌, ◌^◌, ◌<◌, ℕ, List, length, cond, ◌==◌, IfOk, IfErr};
+ghost use Rattle.std.specs.Prelude.{◌≡◌, ◌*◌, ◌^◌, ◌<◌, ℕ, List, length, IfOk, IfErr};
 ghost use Rattle.std.specs.List.{AllByRecursion};
 ghost use Rattle.block_pointer.specs.Block.{FitsBlock};
 ghost use Rattle.block_pointer.specs.Copies.{dvas};
 ghost use Rattle.dnode.specs.Node.{IsNode};
-ghost use Rattle.block_store.specs.Blocks.{Contents, Adds, FitsNew};
+ghost use Rattle.block_store.specs.Blocks.{Contents, Adds};
 ghost use Rattle.block_store.specs.Plans.{Plans};
 ghost use Rattle.block_store.specs.Reading.{Asks};
 ghost use Rattle.block_store.specs.Steps.{OnlyReadsAndPlans};
@@ -13,51 +13,51 @@ ghost use Rattle.dnode_tree.specs.Tree.{property_of};
 ghost use Rattle.dnode_tree.specs.Writes.{copies_at, HasNoRoom, IsForRoom};
 
 use crate::descent::property_at;
-use crate::writes::CopyCounts;
+use crate::writes::Rewriting;
 use block_pointer::{Block, Copies, Dva};
 use block_store::{BlockStore, NewBlock, Refusal};
-use dnode::ObjectNode;
 use model_disk::Disk;
 use std::alloc::Global;
 
-/// Plans a block of an object.
-pub(crate) fn plan_block<D: Disk + Drop>(
-    node: &ObjectNode,
-    store: &mut BlockStore<D>,
-    alloc: Global,
-    bytes: &[u8],
-    level: u8,
-    fill: u64,
-    birth: u64,
-    copies: CopyCounts,
-) -> Result<Block, Refusal>
-    requires node { IsNode node.now }
-    requires low { level < 6 }
-    requires born { 0 < birth }
-    requires filled { 0 < fill }
-    requires fill_of_data { level ≡ 0 → fill ≡ 1 }
-    requires size { length bytes.now ≡ (property_of node.now level).sectors * 512 }
-    ensures steps { (missing : List ℕ) → OnlyReadsAndPlans store.old store.new missing }
-    ensures fits { IfOk result FitsBlock }
-    ensures property { IfOk result (λ block. block.property ≡ property_of node.now level) }
-    ensures asks { IfOk result (Asks (asked_of (property_of node.now level) birth)) }
-    ensures birth { IfOk result (λ block. block.birth ≡ birth) }
-    ensures fill { IfOk result (λ block. block.fill ≡ fill) }
-    ensures copies { IfOk result (λ block. length (dvas block.copies) ≡ copies_at copies block.property.level) }
-    ensures planned { IfOk result (λ block. (stored planned : Contents) → Plans store.old stored planned
-        → (later : Contents) × Plans store.new stored later × Adds planned later block bytes.now) }
-    ensures refused { IfErr result IsForRoom }
-    ensures no_room { IfErr result (λ refusal. refusal ≡ Refusal.NoSpace
-        → (missing : List ℕ) → HasNoRoom store.old store.new missing node.now copies) }
-{
-    let block = NewBlock {
-        property: property_at(node, level),
-        birth,
-        fill,
-    };
-    let planned = store.plan_write(alloc, bytes, block, copies.at(level))?;
-    vdevs_are_short(&planned.copies);
-    Ok(planned)
+impl<'a> Rewriting<'a> {
+    /// Plans a block of the object.
+    pub(crate) fn plan_block<D: Disk + Drop>(
+        self,
+        store: &mut BlockStore<D>,
+        alloc: Global,
+        bytes: &[u8],
+        level: u8,
+        fill: u64,
+    ) -> Result<Block, Refusal>
+        requires node { IsNode self.node.now }
+        requires low { level < 6 }
+        requires born { 0 < self.birth }
+        requires filled { 0 < fill }
+        requires fill_of_data { level ≡ 0 → fill ≡ 1 }
+        requires size { length bytes.now ≡ (property_of self.node.now level).sectors * 512 }
+        ensures steps { (missing : List ℕ) → OnlyReadsAndPlans store.old store.new missing }
+        ensures fits { IfOk result FitsBlock }
+        ensures property { IfOk result (λ block. block.property ≡ property_of self.entry.node.now level) }
+        ensures asks { IfOk result (Asks (asked_of (property_of self.entry.node.now level) self.entry.birth)) }
+        ensures birth { IfOk result (λ block. block.birth ≡ self.entry.birth) }
+        ensures fill { IfOk result (λ block. block.fill ≡ fill) }
+        ensures copies { IfOk result (λ block.
+            length (dvas block.copies) ≡ copies_at self.entry.copies block.property.level) }
+        ensures planned { IfOk result (λ block. (stored planned : Contents) → Plans store.old stored planned
+            → (later : Contents) × Plans store.new stored later × Adds planned later block bytes.now) }
+        ensures refused { IfErr result IsForRoom }
+        ensures no_room { IfErr result (λ refusal. refusal ≡ Refusal.NoSpace
+            → (missing : List ℕ) → HasNoRoom store.old store.new missing self.entry.node.now self.entry.copies) }
+    {
+        let block = NewBlock {
+            property: property_at(self.node, level),
+            birth: self.birth,
+            fill,
+        };
+        let planned = store.plan_write(alloc, bytes, block, self.copies.at(level))?;
+        vdevs_are_short(&planned.copies);
+        Ok(planned)
+    }
 }
 
 /// The numbers of vdevs have 32 bits.

@@ -1,5 +1,5 @@
 //! Several data blocks of an object are written at once.
-ghost use Rattle.std.specs.Prelude.{◌≡◌, ◌-◌, ◌+◌, ◌*◌, ◌^◌, ◌<◌, ◌≤◌, ℕ, List, [], Option, None, All, IfOk, IfErr};
+ghost use Rattle.std.specs.Prelude.{◌≡◌, ◌-◌, ◌+◌, ◌*◌, ◌^◌, ◌<◌, ◌≤◌, ℕ, List, Option, All, IfOk, IfErr};
 ghost use Rattle.block_pointer.specs.declared.block.Block.{Block};
 ghost use Rattle.block_pointer.specs.Pointer.{Fits};
 ghost use Rattle.dnode.specs.Levels.{levels_of as the_levels_of};
@@ -7,16 +7,16 @@ ghost use Rattle.dnode.specs.Node.{FitsNode};
 ghost use Rattle.block_store.specs.Blocks.{Contents};
 ghost use Rattle.block_store.specs.Plans.{Plans};
 ghost use Rattle.block_store.specs.Steps.{OnlyReadsAndPlans, AnswersAreTrue, LossIsTolerable};
-ghost use Rattle.dnode_tree.specs.PartsRewritten.{IsPartRewritten, HasWrites};
+ghost use Rattle.dnode_tree.specs.PartsRewritten.{root_part, WritesPart, LacksRoomForPart, Raises, LacksRoomToRaise};
 ghost use Rattle.dnode_tree.specs.Rewriting.{IsGrown, IsRewritten};
-ghost use Rattle.dnode_tree.specs.Subtree.{IsSubtree, HasProperty};
+ghost use Rattle.dnode_tree.specs.Subtree.{HasProperty};
 ghost use Rattle.dnode_tree.specs.Tree.{property_of, IsTree};
 ghost use Rattle.dnode_tree.specs.Writes.{AreInOrder, AreBetween, AreWholeBlocks, written, HasNoRoom, IsForRoom};
 
 use crate::descent::span;
 use crate::subtree::{Parts, Subtree};
-use crate::writes::{BlockWrite, CopyCounts, Rewrite};
-use crate::writing::{count_before, write_part, write_parts};
+use crate::writes::{BlockWrite, CopyCounts, Rewrite, Rewriting};
+use crate::writing::count_before;
 use block_pointer::{Block, BlockPtr};
 use block_store::{BlockStore, Refusal};
 use dnode::{Indirect, ObjectNode, levels_of};
@@ -45,44 +45,34 @@ pub fn put_many<D: Disk + Drop>(
     ensures steps { OnlyReadsAndPlans store.old store.new missing.now }
     ensures node { IfOk result (λ done. FitsNode done.node) }
     ensures grown { IfOk result (λ done. IsGrown node.now done.node writes.now) }
-    ensures rewritten { IfOk result (λ done. (stored planned : Contents) (bound : ℕ) (array : ℕ → Option (List ℕ)) (blocks : List Block) → Plans store.old stored planned
+    ensures rewritten { IfOk result (λ done. (stored planned : Contents) (bound : ℕ)
+        (array : ℕ → Option (List ℕ)) (blocks : List Block) → Plans store.old stored planned
         → IsTree stored bound node.now array blocks → bound ≤ birth → AnswersAreTrue store.old store.new
-        → (later : Contents) × Plans store.new stored later × IsRewritten copies planned later birth done (written writes.now array) blocks) }
-    ensures no_room { IfErr result (λ refusal. refusal ≡ Refusal.NoSpace → HasNoRoom store.old store.new missing.now node.now copies) }
-    ensures known { IfErr result (λ refusal. (stored planned : Contents) (bound : ℕ) (array : ℕ → Option (List ℕ)) (blocks : List Block) → Plans store.old stored planned
-        → IsTree stored bound node.now array blocks → bound ≤ birth → AnswersAreTrue store.old store.new → LossIsTolerable store.old store.new missing.now
-        → IsForRoom refusal) }
+        → (later : Contents) × Plans store.new stored later
+        × IsRewritten copies planned later birth done (written writes.now array) blocks) }
+    ensures no_room { IfErr result (λ refusal. refusal ≡ Refusal.NoSpace
+        → HasNoRoom store.old store.new missing.now node.now copies) }
+    ensures known { IfErr result (λ refusal. (stored planned : Contents) (bound : ℕ)
+        (array : ℕ → Option (List ℕ)) (blocks : List Block) → Plans store.old stored planned
+        → IsTree stored bound node.now array blocks → bound ≤ birth → AnswersAreTrue store.old store.new
+        → LossIsTolerable store.old store.new missing.now → IsForRoom refusal) }
 {
+    let rewriting = Rewriting {
+        node,
+        birth,
+        copies,
+        missing,
+    };
     let mut replaced = Vec::new(alloc);
     let highest = highest_of(node.highest, writes);
     let levels = levels_of(node.highest);
     let new_levels = levels_of(highest);
     let (run, mut rest) = writes.split_at(count_before(writes, span(levels - 1)));
-    let mut pointer = write_root(
-        node,
-        store,
-        alloc,
-        run,
-        birth,
-        copies,
-        missing,
-        &mut replaced,
-    )?;
+    let mut pointer = rewriting.write_root(store, alloc, run, &mut replaced)?;
     for level in levels - 1..new_levels - 1 {
         let (run, others) = rest.split_at(count_before(rest, span(level + 1)));
         rest = others;
-        pointer = raise(
-            node,
-            store,
-            alloc,
-            pointer,
-            level,
-            run,
-            birth,
-            copies,
-            missing,
-            &mut replaced,
-        )?;
+        pointer = rewriting.raise(store, alloc, pointer, level, run, &mut replaced)?;
     }
     let node = ObjectNode {
         object_type: node.object_type,
@@ -93,97 +83,82 @@ pub fn put_many<D: Disk + Drop>(
     Ok(Rewrite { node, replaced })
 }
 
-/// Writes data blocks that the object's tree has places for.
-fn write_root<D: Disk + Drop>(
-    node: &ObjectNode,
-    store: &mut BlockStore<D>,
-    alloc: Global,
-    writes: &[BlockWrite],
-    birth: u64,
-    copies: CopyCounts,
-    missing: &[usize],
-    replaced: &mut Vec<Block>,
-) -> Result<BlockPtr, Refusal>
-    requires node { FitsNode node.now }
-    requires between { AreBetween 0 (128 ^ (the_levels_of node.now.highest - 1)) writes.now }
-    requires order { AreInOrder writes.now }
-    requires whole { AreWholeBlocks node.now writes.now }
-    requires born { 0 < birth }
-    ensures steps { OnlyReadsAndPlans store.old store.new missing.now }
-    ensures fits { IfOk result Fits }
-    ensures property { IfOk result (HasProperty (property_of node.now (the_levels_of node.now.highest - 1))) }
-    ensures rewritten { IfOk result (λ pointer. (stored planned : Contents) (array : ℕ → Option (List ℕ)) (blocks : List Block) → Plans store.old stored planned
-        → IsSubtree stored (property_of node.now) (the_levels_of node.now.highest - 1) 0 birth node.now.pointer array blocks → AnswersAreTrue store.old store.new
-        → (later : Contents) × Plans store.new stored later
-        × IsPartRewritten copies planned later (property_of node.now) (the_levels_of node.now.highest - 1) 0 birth pointer (written writes.now array) blocks replaced.old.items replaced.new.items) }
-    ensures no_room { IfErr result (λ refusal. refusal ≡ Refusal.NoSpace → HasNoRoom store.old store.new missing.now node.now copies) }
-    ensures known { IfErr result (λ refusal. (stored planned : Contents) (array : ℕ → Option (List ℕ)) (blocks : List Block) → Plans store.old stored planned
-        → IsSubtree stored (property_of node.now) (the_levels_of node.now.highest - 1) 0 birth node.now.pointer array blocks → AnswersAreTrue store.old store.new
-        → LossIsTolerable store.old store.new missing.now → IsForRoom refusal) }
-{
-    if writes.is_empty() {
-        return Ok(node.pointer);
+impl<'a> Rewriting<'a> {
+    /// Writes data blocks that the object's tree has places for.
+    fn write_root<D: Disk + Drop>(
+        self,
+        store: &mut BlockStore<D>,
+        alloc: Global,
+        writes: &[BlockWrite],
+        replaced: &mut Vec<Block>,
+    ) -> Result<BlockPtr, Refusal>
+        requires node { FitsNode self.node.now }
+        requires between { AreBetween 0 (128 ^ (the_levels_of self.node.now.highest - 1)) writes.now }
+        requires order { AreInOrder writes.now }
+        requires whole { AreWholeBlocks self.node.now writes.now }
+        requires born { 0 < self.birth }
+        ensures steps { OnlyReadsAndPlans store.old store.new self.entry.missing.now }
+        ensures fits { IfOk result Fits }
+        ensures property { IfOk result
+            (HasProperty (property_of self.entry.node.now (the_levels_of self.entry.node.now.highest - 1))) }
+        ensures rewritten { IfOk result (WritesPart self.entry store.old store.new (root_part self.entry) 0 writes.now
+            replaced.old.items replaced.new.items) }
+        ensures no_room { IfErr result (λ refusal. refusal ≡ Refusal.NoSpace
+            → HasNoRoom store.old store.new self.entry.missing.now self.entry.node.now self.entry.copies) }
+        ensures known { IfErr result (LacksRoomForPart self.entry store.old store.new (root_part self.entry) 0) }
+    {
+        if writes.is_empty() {
+            return Ok(self.node.pointer);
+        }
+        let root = Subtree {
+            level: self.node.levels() - 1,
+            pointer: self.node.pointer,
+            birth: self.birth,
+        };
+        let block = self.write_part(store, alloc, root, 0, writes, replaced)?;
+        Ok(BlockPtr::Block(block))
     }
-    let root = Subtree {
-        level: node.levels() - 1,
-        pointer: node.pointer,
-        birth,
-    };
-    let block = write_part(
-        node, store, alloc, root, 0, writes, birth, copies, missing, replaced,
-    )?;
-    Ok(BlockPtr::Block(block))
-}
 
-/// Makes a tree one level higher, and writes data blocks in its new parts.
-fn raise<D: Disk + Drop>(
-    node: &ObjectNode,
-    store: &mut BlockStore<D>,
-    alloc: Global,
-    root: BlockPtr,
-    level: u8,
-    writes: &[BlockWrite],
-    birth: u64,
-    copies: CopyCounts,
-    missing: &[usize],
-    replaced: &mut Vec<Block>,
-) -> Result<BlockPtr, Refusal>
-    requires node { FitsNode node.now }
-    requires low { level < 5 }
-    requires root { Fits root }
-    requires between { AreBetween (128 ^ level) (128 * 128 ^ level) writes.now }
-    requires order { AreInOrder writes.now }
-    requires whole { AreWholeBlocks node.now writes.now }
-    requires born { 0 < birth }
-    ensures steps { OnlyReadsAndPlans store.old store.new missing.now }
-    ensures fits { IfOk result Fits }
-    ensures property { IfOk result (HasProperty (property_of node.now (level + 1))) }
-    ensures rewritten { IfOk result (λ pointer. (stored planned now : Contents) (array new_array : ℕ → Option (List ℕ)) (before noted : List Block) → Plans store.old stored now
-        → IsPartRewritten copies planned now (property_of node.now) level 0 birth root new_array before noted replaced.old.items
-        → ((id : ℕ) → 128 ^ level ≤ id → array id ≡ None) → HasWrites new_array array writes.now (128 ^ level) (128 * 128 ^ level)
-        → AnswersAreTrue store.old store.new
-        → (later : Contents) × Plans store.new stored later
-        × IsPartRewritten copies planned later (property_of node.now) (level + 1) 0 birth pointer new_array before noted replaced.new.items) }
-    ensures no_room { IfErr result (λ refusal. refusal ≡ Refusal.NoSpace → HasNoRoom store.old store.new missing.now node.now copies) }
-    ensures known { IfErr result (λ refusal. (stored planned now : Contents) (array new_array : ℕ → Option (List ℕ)) (before noted : List Block) → Plans store.old stored now
-        → IsPartRewritten copies planned now (property_of node.now) level 0 birth root new_array before noted replaced.old.items
-        → ((id : ℕ) → 128 ^ level ≤ id → array id ≡ None) → HasWrites new_array array writes.now (128 ^ level) (128 * 128 ^ level)
-        → AnswersAreTrue store.old store.new → LossIsTolerable store.old store.new missing.now → IsForRoom refusal) }
-{
-    if root.is_hole() && writes.is_empty() {
-        return Ok(BlockPtr::Hole);
+    /// Makes a tree one level higher, and writes data blocks in its new parts.
+    fn raise<D: Disk + Drop>(
+        self,
+        store: &mut BlockStore<D>,
+        alloc: Global,
+        root: BlockPtr,
+        level: u8,
+        writes: &[BlockWrite],
+        replaced: &mut Vec<Block>,
+    ) -> Result<BlockPtr, Refusal>
+        requires node { FitsNode self.node.now }
+        requires low { level < 5 }
+        requires root { Fits root }
+        requires between { AreBetween (128 ^ level) (128 * 128 ^ level) writes.now }
+        requires order { AreInOrder writes.now }
+        requires whole { AreWholeBlocks self.node.now writes.now }
+        requires born { 0 < self.birth }
+        ensures steps { OnlyReadsAndPlans store.old store.new self.entry.missing.now }
+        ensures fits { IfOk result Fits }
+        ensures property { IfOk result (HasProperty (property_of self.entry.node.now (level + 1))) }
+        ensures rewritten { IfOk result (Raises self.entry store.old store.new root level writes.now
+            replaced.old.items replaced.new.items) }
+        ensures no_room { IfErr result (λ refusal. refusal ≡ Refusal.NoSpace
+            → HasNoRoom store.old store.new self.entry.missing.now self.entry.node.now self.entry.copies) }
+        ensures known { IfErr result (LacksRoomToRaise self.entry store.old store.new root level writes.now
+            replaced.old.items) }
+    {
+        if root.is_hole() && writes.is_empty() {
+            return Ok(BlockPtr::Hole);
+        }
+        let mut pointers = Indirect::holes(alloc)?;
+        pointers.set(0, root);
+        let parts = Parts {
+            pointers,
+            level,
+            birth: self.birth,
+        };
+        let block = self.write_parts(store, alloc, parts, 0, 1, writes, replaced)?;
+        Ok(BlockPtr::Block(block))
     }
-    let mut pointers = Indirect::holes(alloc)?;
-    pointers.set(0, root);
-    let parts = Parts {
-        pointers,
-        level,
-        birth,
-    };
-    let block = write_parts(
-        node, store, alloc, parts, 0, 1, writes, birth, copies, missing, replaced,
-    )?;
-    Ok(BlockPtr::Block(block))
 }
 
 /// The highest id of an object after writes.

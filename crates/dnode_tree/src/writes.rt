@@ -38,3 +38,15 @@ pub struct Rewrite {
     /// The blocks of the object before that gave way to others.
     pub replaced: Vec<Block>,
 }
+
+/// What a rewrite of an object carries through its tree.
+#[derive(Debug, Clone, Copy)]
+pub(crate) struct Rewriting<'a> {
+    /// The object before: the new one has its type and the size of its data blocks.
+    pub node: &'a ObjectNode,
+    /// The transaction group in which the new blocks are born.
+    pub birth: u64,
+    pub copies: CopyCounts,
+    /// The numbers of the disks that are taken as missing.
+    pub missing: &'a [usize],
+}

@@ -1,147 +1,125 @@
 //! Several data blocks of a part of a tree are written at once.
-ghost use Rattle.std.specs.Prelude.{◌≡◌, ◌⊎◌, ◌+◌, ◌*◌, ◌^◌, ◌<◌, ◌≤◌, ◌++◌, ℕ, List, Option, All, OnOk, IfOk, IfErr, length, take, slice_index_or};
-ghost use Rattle.block_pointer.specs.declared.block.Block.{Block};
+ghost use Rattle.std.specs.Prelude.{◌≡◌, ◌⊎◌, ◌+◌, ◌*◌, ◌^◌, ◌<◌, ◌≤◌, ◌++◌, All, OnOk, IfOk, IfErr, length, take, slice_index_or};
 ghost use Rattle.block_pointer.specs.declared.pointer.BlockPtr.{BlockPtr};
 ghost use Rattle.block_pointer.specs.Block.{FitsBlock};
 ghost use Rattle.dnode.specs.Indirect.{total_fill};
 ghost use Rattle.dnode.specs.Node.{IsNode};
-ghost use Rattle.block_store.specs.Blocks.{Contents};
-ghost use Rattle.block_store.specs.Plans.{Plans};
 ghost use Rattle.dnode_tree.specs.declared.writes.BlockWrite.{BlockWrite};
-ghost use Rattle.block_store.specs.Steps.{OnlyReadsAndPlans, AnswersAreTrue, LossIsTolerable};
-ghost use Rattle.dnode_tree.specs.PartsRewritten.{IsPartRewritten, AreRewrittenTo, AreRewritten, HasWrites};
+ghost use Rattle.block_store.specs.Steps.{OnlyReadsAndPlans};
+ghost use Rattle.dnode_tree.specs.PartsRewritten.{WritesPart, LacksRoomForPart, WritesParts, LacksRoomForParts};
 ghost use Rattle.dnode_tree.specs.Subtree.{blocks_at};
-ghost use Rattle.dnode_tree.specs.Tree.{property_of, IsPart};
-ghost use Rattle.dnode_tree.specs.Writes.{AreInOrder, AreBetween, AreWholeBlocks, written, HasNoRoom, IsForRoom};
+ghost use Rattle.dnode_tree.specs.Tree.{property_of};
+ghost use Rattle.dnode_tree.specs.Writes.{AreInOrder, AreBetween, AreWholeBlocks, HasNoRoom};
 
 use crate::descent::{parts_of, span, start_of};
-use crate::planning::plan_block;
 use crate::subtree::{Parts, Subtree};
 use crate::walking::push;
-use crate::writes::{BlockWrite, CopyCounts};
+use crate::writes::{BlockWrite, Rewriting};
 use block_pointer::{Block, BlockPtr};
 use block_store::{BlockStore, Refusal};
-use dnode::{ObjectNode, POINTERS};
+use dnode::POINTERS;
 use model_disk::Disk;
 use std::alloc::{AllocError, Global};
 
-/// Writes data blocks of a part of a tree, whose ids begin at the first. Each block on the way is written once, and those
-/// that give way are added to the replaced ones.
-#[cycle(rewriting)]
-pub(crate) fn write_part<D: Disk + Drop>(
-    node: &ObjectNode,
-    store: &mut BlockStore<D>,
-    alloc: Global,
-    part: Subtree,
-    first: u64,
-    writes: &[BlockWrite],
-    birth: u64,
-    copies: CopyCounts,
-    missing: &[usize],
-    replaced: &mut Vec<Block>,
-) -> Result<Block, Refusal>
-    requires node { IsNode node.now }
-    requires low { part.level < 6 }
-    requires room { first + 128 ^ part.level ≤ 128 ^ 5 }
-    requires some { 0 < length writes.now }
-    requires between { AreBetween first (first + 128 ^ part.level) writes.now }
-    requires order { AreInOrder writes.now }
-    requires whole { AreWholeBlocks node.now writes.now }
-    requires born { 0 < birth }
-    requires bound { part.birth ≤ birth }
-    ensures steps { OnlyReadsAndPlans store.old store.new missing.now }
-    ensures fits { IfOk result FitsBlock }
-    ensures property { IfOk result (λ block. block.property ≡ property_of node.now part.level) }
-    ensures rewritten { IfOk result (λ block. (stored planned : Contents) (array : ℕ → Option (List ℕ)) (blocks : List Block) → Plans store.old stored planned
-        → IsPart stored node.now first part array blocks → AnswersAreTrue store.old store.new
-        → (later : Contents) × Plans store.new stored later
-        × IsPartRewritten copies planned later (property_of node.now) part.level first birth (BlockPtr.Block block) (written writes.now array) blocks replaced.old.items replaced.new.items) }
-    ensures no_room { IfErr result (λ refusal. refusal ≡ Refusal.NoSpace → HasNoRoom store.old store.new missing.now node.now copies) }
-    ensures known { IfErr result (λ refusal. (stored planned : Contents) (array : ℕ → Option (List ℕ)) (blocks : List Block) → Plans store.old stored planned
-        → IsPart stored node.now first part array blocks → AnswersAreTrue store.old store.new → LossIsTolerable store.old store.new missing.now
-        → IsForRoom refusal) }
-{
-    note(replaced, part.pointer)?;
-    if part.level == 0 {
-        return plan_block(node, store, alloc, &writes[0].bytes, 0, 1, birth, copies);
-    }
-    let parts = parts_of(node, store, alloc, part, missing)?;
-    write_parts(
-        node, store, alloc, parts, first, 0, writes, birth, copies, missing, replaced,
-    )
-}
-
-/// Writes data blocks of the parts below a root, from one of them on, and then the root.
-#[cycle(rewriting)]
-pub(crate) fn write_parts<D: Disk + Drop>(
-    node: &ObjectNode,
-    store: &mut BlockStore<D>,
-    alloc: Global,
-    parts: Parts,
-    first: u64,
-    from: usize,
-    writes: &[BlockWrite],
-    birth: u64,
-    copies: CopyCounts,
-    missing: &[usize],
-    replaced: &mut Vec<Block>,
-) -> Result<Block, Refusal>
-    requires node { IsNode node.now }
-    requires low { parts.level < 5 }
-    requires room { first + 128 * 128 ^ parts.level ≤ 128 ^ 5 }
-    requires from { from ≤ 128 }
-    requires count { length parts.pointers ≡ 128 }
-    requires some { (0 < length writes.now) ⊎ (0 < total_fill parts.pointers) }
-    requires between { AreBetween (first + from * 128 ^ parts.level) (first + 128 * 128 ^ parts.level) writes.now }
-    requires order { AreInOrder writes.now }
-    requires whole { AreWholeBlocks node.now writes.now }
-    requires born { 0 < birth }
-    requires bound { parts.birth ≤ birth }
-    ensures steps { OnlyReadsAndPlans store.old store.new missing.now }
-    ensures fits { IfOk result FitsBlock }
-    ensures property { IfOk result (λ block. block.property ≡ property_of node.now (parts.level + 1)) }
-    ensures rewritten { IfOk result (λ block. (stored planned now : Contents) (array new_array : ℕ → Option (List ℕ)) (before after : List (List Block)) (noted : List Block)
-        → Plans store.old stored now
-        → AreRewrittenTo copies stored planned now (property_of node.now) parts.level first parts.birth birth parts.pointers array new_array before after from noted replaced.old.items
-        → HasWrites new_array array writes.now (first + from * 128 ^ parts.level) (first + 128 * 128 ^ parts.level)
-        → AnswersAreTrue store.old store.new
-        → (later : Contents) × Plans store.new stored later
-        × AreRewritten copies planned later (property_of node.now) parts.level first birth block new_array before noted replaced.new.items) }
-    ensures no_room { IfErr result (λ refusal. refusal ≡ Refusal.NoSpace → HasNoRoom store.old store.new missing.now node.now copies) }
-    ensures known { IfErr result (λ refusal. (stored planned now : Contents) (array new_array : ℕ → Option (List ℕ)) (before after : List (List Block)) (noted : List Block)
-        → Plans store.old stored now
-        → AreRewrittenTo copies stored planned now (property_of node.now) parts.level first parts.birth birth parts.pointers array new_array before after from noted replaced.old.items
-        → HasWrites new_array array writes.now (first + from * 128 ^ parts.level) (first + 128 * 128 ^ parts.level)
-        → AnswersAreTrue store.old store.new → LossIsTolerable store.old store.new missing.now → IsForRoom refusal) }
-{
-    let Parts {
-        mut pointers,
-        level,
-        birth: bound,
-    } = parts;
-    let mut rest = writes;
-    for place in from..POINTERS {
-        let start = start_of(first, level, place);
-        let (run, others) = rest.split_at(count_before(rest, start + span(level)));
-        rest = others;
-        if run.is_empty() {
-            continue;
+impl<'a> Rewriting<'a> {
+    /// Writes data blocks of a part of a tree, whose ids begin at the first. Each block on the way is written once, and those
+    /// that give way are added to the replaced ones.
+    #[cycle(rewriting)]
+    pub(crate) fn write_part<D: Disk + Drop>(
+        self,
+        store: &mut BlockStore<D>,
+        alloc: Global,
+        part: Subtree,
+        first: u64,
+        writes: &[BlockWrite],
+        replaced: &mut Vec<Block>,
+    ) -> Result<Block, Refusal>
+        requires node { IsNode self.node.now }
+        requires low { part.level < 6 }
+        requires room { first + 128 ^ part.level ≤ 128 ^ 5 }
+        requires some { 0 < length writes.now }
+        requires between { AreBetween first (first + 128 ^ part.level) writes.now }
+        requires order { AreInOrder writes.now }
+        requires whole { AreWholeBlocks self.node.now writes.now }
+        requires born { 0 < self.birth }
+        requires bound { part.birth ≤ self.birth }
+        ensures steps { OnlyReadsAndPlans store.old store.new self.entry.missing.now }
+        ensures fits { IfOk result FitsBlock }
+        ensures property { IfOk result (λ block. block.property ≡ property_of self.entry.node.now part.level) }
+        ensures rewritten { IfOk result (λ block. WritesPart self.entry store.old store.new part first writes.now
+            replaced.old.items replaced.new.items (BlockPtr.Block block)) }
+        ensures no_room { IfErr result (λ refusal. refusal ≡ Refusal.NoSpace
+            → HasNoRoom store.old store.new self.entry.missing.now self.entry.node.now self.entry.copies) }
+        ensures known { IfErr result (LacksRoomForPart self.entry store.old store.new part first) }
+    {
+        note(replaced, part.pointer)?;
+        if part.level == 0 {
+            return self.plan_block(store, alloc, &writes[0].bytes, 0, 1);
         }
-        let child = Subtree {
-            level,
-            pointer: pointers.get(place),
-            birth: bound,
-        };
-        let block = write_part(
-            node, store, alloc, child, start, run, birth, copies, missing, replaced,
-        )?;
-        pointers.set(place, BlockPtr::Block(block));
+        let parts = parts_of(self.node, store, alloc, part, self.missing)?;
+        self.write_parts(store, alloc, parts, first, 0, writes, replaced)
     }
-    let Some(fill) = pointers.fill() else {
-        return Err(Refusal::BadPointer);
-    };
-    let bytes = pointers.encode(alloc)?;
-    plan_block(node, store, alloc, &bytes, level + 1, fill, birth, copies)
+
+    /// Writes data blocks of the parts below a root, from one of them on, and then the root.
+    #[cycle(rewriting)]
+    pub(crate) fn write_parts<D: Disk + Drop>(
+        self,
+        store: &mut BlockStore<D>,
+        alloc: Global,
+        parts: Parts,
+        first: u64,
+        from: usize,
+        writes: &[BlockWrite],
+        replaced: &mut Vec<Block>,
+    ) -> Result<Block, Refusal>
+        requires node { IsNode self.node.now }
+        requires low { parts.level < 5 }
+        requires room { first + 128 * 128 ^ parts.level ≤ 128 ^ 5 }
+        requires from { from ≤ 128 }
+        requires count { length parts.pointers ≡ 128 }
+        requires some { (0 < length writes.now) ⊎ (0 < total_fill parts.pointers) }
+        requires between { AreBetween (first + from * 128 ^ parts.level) (first + 128 * 128 ^ parts.level) writes.now }
+        requires order { AreInOrder writes.now }
+        requires whole { AreWholeBlocks self.node.now writes.now }
+        requires born { 0 < self.birth }
+        requires bound { parts.birth ≤ self.birth }
+        ensures steps { OnlyReadsAndPlans store.old store.new self.entry.missing.now }
+        ensures fits { IfOk result FitsBlock }
+        ensures property { IfOk result (λ block. block.property ≡ property_of self.entry.node.now (parts.level + 1)) }
+        ensures rewritten { IfOk result (WritesParts self.entry store.old store.new parts first from writes.now
+            replaced.old.items replaced.new.items) }
+        ensures no_room { IfErr result (λ refusal. refusal ≡ Refusal.NoSpace
+            → HasNoRoom store.old store.new self.entry.missing.now self.entry.node.now self.entry.copies) }
+        ensures known { IfErr result (LacksRoomForParts self.entry store.old store.new parts first from writes.now
+            replaced.old.items) }
+    {
+        let Parts {
+            mut pointers,
+            level,
+            birth: bound,
+        } = parts;
+        let mut rest = writes;
+        for place in from..POINTERS {
+            let start = start_of(first, level, place);
+            let (run, others) = rest.split_at(count_before(rest, start + span(level)));
+            rest = others;
+            if run.is_empty() {
+                continue;
+            }
+            let child = Subtree {
+                level,
+                pointer: pointers.get(place),
+                birth: bound,
+            };
+            let block = self.write_part(store, alloc, child, start, run, replaced)?;
+            pointers.set(place, BlockPtr::Block(block));
+        }
+        let Some(fill) = pointers.fill() else {
+            return Err(Refusal::BadPointer);
+        };
+        let bytes = pointers.encode(alloc)?;
+        self.plan_block(store, alloc, &bytes, level + 1, fill)
+    }
 }
 
 /// How many writes at the front are of blocks before that id.

@@ -1,15 +1,27 @@
 -- Objects while they are changed. Only the crate's own functions say these.
-use Rattle.std.specs.Prelude.{ℕ, ◌≡◌, ◌≢◌, List, ◌++◌, Option, All}
+use Rattle.std.specs.Prelude.{ℕ, ◌≡◌, ◌≢◌, ◌⊎◌, ◌≤◌, List, ◌++◌, Option, Some, All, Any}
 use Rattle.block_pointer.specs.declared.block.Block.{Block}
+use Rattle.block_store.specs.declared.refusal.Refusal.{Refusal}
+use Rattle.block_store.specs.declared.refusal.Refusal.TheVariants.{BadPointer}
 use Rattle.block_store.specs.Blocks.{Contents, Extends}
+use Rattle.block_store.specs.Plans.{Plans}
+use Rattle.block_store.specs.Steps.{AnswersAreTrue, LossIsTolerable}
+use Rattle.block_store.specs.Store.{Store}
 use Rattle.dnode.specs.declared.dnode.Dnode.{Dnode}
+use Rattle.dnode.specs.declared.node.ObjectNode.{ObjectNode}
+use Rattle.dnode.specs.declared.object_set.ObjectSet.{ObjectSet}
 use Rattle.dnode_slots.specs.declared.writes.NodeWrite.{NodeWrite}
 use Rattle.dnode_slots.specs.Writes.{written_nodes}
+use Rattle.dnode_tree.specs.declared.writes.BlockWrite.{BlockWrite}
 use Rattle.dnode_tree.specs.declared.writes.CopyCounts.{CopyCounts}
 use Rattle.dnode_tree.specs.Rewriting.{IsExchanged}
+use Rattle.dnode_tree.specs.Tree.{IsTree}
+use Rattle.dnode_tree.specs.Writes.{written, IsForRoom}
+use Rattle.objset.specs.declared.changes.Change.{Change}
+use Rattle.objset.specs.declared.changes.Changing.{Changing}
 use Rattle.objset.specs.declared.changes.ObjectChange.{ObjectChange}
-use Rattle.objset.specs.Changes.{changed, AreExchanged}
-use Rattle.objset.specs.Objects.{Object, IsObject}
+use Rattle.objset.specs.Changes.{changed, AreExchanged, MayChange, after_change, object_copies}
+use Rattle.objset.specs.Objects.{Object, IsObject, AreObjects, object_of}
 
 -- The dnode is that of the object now. The object's blocks that are gone were noted.
 pub record IsObjectChanged (copies : CopyCounts) (planned later : Contents) (birth : ℕ) (node : Dnode) (object : Option Object) (before noted noted_later : List Block) : Type 0 where
@@ -30,3 +42,63 @@ pub record AreObjectsChanged (copies : CopyCounts) (planned later : Contents) (b
   pub gone : List Block
   pub noted_are : noted_later ≡ noted ++ gone
   pub exchanged : AreExchanged copies birth planned later changes before after gone
+
+-- Whatever the store has as the set, where its answers are true: each change may be made, and the store plans the objects with the changes.
+abbrev pub ChangesEach : Changing → Store → Store → ObjectSet → List ObjectChange → List Block → List Block → List NodeWrite → Type 0
+ChangesEach this old new set changes noted noted_later writes =
+    (stored planned : Contents) (bound : ℕ) (objects : ℕ → Option Object) (own : List Block) (before : ℕ → List Block) → Plans old stored planned
+    → (are : AreObjects stored bound set objects own before) → bound ≤ this.birth → AnswersAreTrue old new
+    → All (λ change. MayChange change.change (objects change.number)) changes
+    × (later : Contents) × Plans new stored later
+    × AreObjectsChanged (object_copies this.copies) planned later this.birth changes writes are.nodes objects before noted noted_later
+
+-- where the store has such a set, its answers are true and few disks are lost, room is wanting, or some change may not be made
+abbrev pub IsEachRefused : Changing → Store → Store → ObjectSet → List ObjectChange → Refusal → Type 0
+IsEachRefused this old new set changes refusal =
+    (stored planned : Contents) (bound : ℕ) (objects : ℕ → Option Object) (own : List Block) (before : ℕ → List Block) → Plans old stored planned
+    → AreObjects stored bound set objects own before → bound ≤ this.birth → AnswersAreTrue old new → LossIsTolerable old new this.missing.now
+    → IsForRoom refusal ⊎ ((refusal ≡ BadPointer) × Any (λ change. ¬ MayChange change.change (objects change.number)) changes)
+
+-- the same of one change, with the dnode that the object has then
+abbrev pub ChangesOne : Changing → Store → Store → ObjectSet → ObjectChange → List Block → List Block → Dnode → Type 0
+ChangesOne this old new set change noted noted_later node =
+    (stored planned : Contents) (bound : ℕ) (objects : ℕ → Option Object) (own : List Block) (before : ℕ → List Block) → Plans old stored planned
+    → AreObjects stored bound set objects own before → bound ≤ this.birth → AnswersAreTrue old new
+    → MayChange change.change (objects change.number)
+    × (later : Contents) × Plans new stored later
+    × IsObjectChanged (object_copies this.copies) planned later this.birth node (after_change change.change (objects change.number)) (before change.number) noted noted_later
+
+abbrev pub IsOneRefused : Changing → Store → Store → ObjectSet → ObjectChange → Refusal → Type 0
+IsOneRefused this old new set change refusal =
+    (stored planned : Contents) (bound : ℕ) (objects : ℕ → Option Object) (own : List Block) (before : ℕ → List Block) → Plans old stored planned
+    → AreObjects stored bound set objects own before → bound ≤ this.birth → AnswersAreTrue old new → LossIsTolerable old new this.missing.now
+    → IsForRoom refusal ⊎ ((refusal ≡ BadPointer) × ¬ MayChange change.change (objects change.number))
+
+-- the same of the object that a dnode is of
+abbrev pub ChangesNode : Changing → Store → Store → Dnode → Change → List Block → List Block → Dnode → Type 0
+ChangesNode this old new dnode change noted noted_later after =
+    (stored planned : Contents) (bound : ℕ) (object : Option Object) (blocks : List Block) → Plans old stored planned
+    → IsObject stored bound dnode object blocks → bound ≤ this.birth → AnswersAreTrue old new
+    → MayChange change object
+    × (later : Contents) × Plans new stored later
+    × IsObjectChanged (object_copies this.copies) planned later this.birth after (after_change change object) blocks noted noted_later
+
+abbrev pub IsNodeRefused : Changing → Store → Store → Dnode → Change → Refusal → Type 0
+IsNodeRefused this old new dnode change refusal =
+    (stored planned : Contents) (bound : ℕ) (object : Option Object) (blocks : List Block) → Plans old stored planned
+    → IsObject stored bound dnode object blocks → bound ≤ this.birth → AnswersAreTrue old new → LossIsTolerable old new this.missing.now
+    → IsForRoom refusal ⊎ ((refusal ≡ BadPointer) × ¬ MayChange change object)
+
+-- whatever the store has as the object's tree, where its answers are true: it plans the object with the writes
+abbrev pub WritesObject : Changing → Store → Store → ObjectNode → List BlockWrite → List Block → List Block → Dnode → Type 0
+WritesObject this old new node writes noted noted_later after =
+    (stored planned : Contents) (bound : ℕ) (array : ℕ → Option (List ℕ)) (blocks : List Block) → Plans old stored planned
+    → IsTree stored bound node array blocks → bound ≤ this.birth → AnswersAreTrue old new
+    → (later : Contents) × Plans new stored later
+    × IsObjectChanged (object_copies this.copies) planned later this.birth after (Some (object_of node (written writes array))) blocks noted noted_later
+
+-- where the store has such a tree, its answers are true and few disks are lost, the refusal is want of memory or of room
+abbrev pub LacksRoomForObject : Changing → Store → Store → ObjectNode → Refusal → Type 0
+LacksRoomForObject this old new node refusal =
+    (stored planned : Contents) (bound : ℕ) (array : ℕ → Option (List ℕ)) (blocks : List Block) → Plans old stored planned
+    → IsTree stored bound node array blocks → bound ≤ this.birth → AnswersAreTrue old new → LossIsTolerable old new this.missing.now → IsForRoom refusal

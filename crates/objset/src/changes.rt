@@ -64,3 +64,13 @@ impl SetCopies {
         }
     }
 }
+
+/// What a change of a set carries through its objects.
+#[derive(Debug, Clone, Copy)]
+pub(crate) struct Changing<'a> {
+    /// The transaction group in which the new blocks are born.
+    pub birth: u64,
+    pub copies: SetCopies,
+    /// The numbers of the disks that are taken as missing.
+    pub missing: &'a [usize],
+}

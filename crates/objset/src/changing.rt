@@ -1,20 +1,20 @@
 //! Objects of a set are changed together.
-ghost use Rattle.std.specs.Prelude.{◌≡◌, ◌≢◌, ◌⊎◌, ◌↔◌, ◌*◌, ◌^◌, ◌<◌, ◌≤◌, ◌++◌, ◌∷◌, [], ℕ, List, Option, Some, All, AllPairs, Any, IsTrue, OnOk, IfOk, IfErr};
+ghost use Rattle.std.specs.Prelude.{◌≡◌, ◌≢◌, ◌⊎◌, ◌↔◌, ◌*◌, ◌^◌, ◌<◌, ◌≤◌, ◌++◌, ◌∷◌, [], ℕ, List, Option, All, AllPairs, Any, IsTrue, OnOk, IfOk, IfErr};
 ghost use Rattle.block_pointer.specs.declared.block.Block.{Block};
 ghost use Rattle.block_store.specs.Blocks.{Contents};
 ghost use Rattle.block_store.specs.Plans.{Plans};
+ghost use Rattle.block_store.specs.Steps.{OnlyReadsAndPlans, AnswersAreTrue, LossIsTolerable};
 ghost use Rattle.dnode.specs.Dnode.{FitsDnode};
 ghost use Rattle.dnode.specs.Node.{FitsNode};
 ghost use Rattle.dnode.specs.ObjectSet.{FitsObjectSet};
 ghost use Rattle.dnode_slots.specs.Writes.{AreNodeWrites};
-ghost use Rattle.block_store.specs.Steps.{OnlyReadsAndPlans, AnswersAreTrue, LossIsTolerable};
 ghost use Rattle.dnode_tree.specs.Tree.{IsTree};
-ghost use Rattle.dnode_tree.specs.Writes.{written, IsForRoom};
-ghost use Rattle.objset.specs.Changes.{AreWhole, AreGoodWrites, IsGoodChange, MayChange, after_change, changed, AreChanged, IsGrownFor, HasNoRoom, object_copies};
-ghost use Rattle.objset.specs.Changing.{IsObjectChanged, AreObjectsChanged};
-ghost use Rattle.objset.specs.Objects.{Object, IsObject, AreObjects, object_of};
+ghost use Rattle.dnode_tree.specs.Writes.{IsForRoom};
+ghost use Rattle.objset.specs.Changes.{AreWhole, AreGoodWrites, IsGoodChange, MayChange, changed, AreChanged, IsGrownFor, HasNoRoom};
+ghost use Rattle.objset.specs.Changing.{ChangesEach, IsEachRefused, ChangesOne, IsOneRefused, ChangesNode, IsNodeRefused, WritesObject, LacksRoomForObject};
+ghost use Rattle.objset.specs.Objects.{Object, AreObjects};
 
-use crate::changes::{Change, ObjectChange, SetCopies};
+use crate::changes::{Change, Changing, ObjectChange, SetCopies};
 use block_pointer::{Block, BlockPtr};
 use block_store::{BlockStore, Refusal};
 use dnode::{Dnode, ObjectNode, ObjectSet};
@@ -47,26 +47,30 @@ pub fn change<D: Disk + Drop>(
     ensures set { IfOk result (λ done. FitsObjectSet done.set) }
     ensures kind { IfOk result (λ done. done.set.kind ≡ set.now.kind) }
     ensures grown { IfOk result (λ done. IsGrownFor set.now done.set changes.now) }
-    ensures changed { IfOk result (λ done. (stored planned : Contents) (bound : ℕ) (objects : ℕ → Option Object) (own : List Block) (before : ℕ → List Block) → Plans store.old stored planned
-        → AreObjects stored bound set.now objects own before → bound ≤ birth → AnswersAreTrue store.old store.new
+    ensures changed { IfOk result (λ done. (stored planned : Contents) (bound : ℕ)
+        (objects : ℕ → Option Object) (own : List Block) (before : ℕ → List Block)
+        → Plans store.old stored planned → AreObjects stored bound set.now objects own before
+        → bound ≤ birth → AnswersAreTrue store.old store.new
         → All (λ change. MayChange change.change (objects change.number)) changes.now
-        × (later : Contents) × Plans store.new stored later × AreChanged copies planned later birth done changes.now (changed changes.now objects) own before) }
-    ensures no_room { IfErr result (λ refusal. refusal ≡ Refusal.NoSpace → HasNoRoom store.old store.new missing.now copies) }
-    ensures known { IfErr result (λ refusal. (stored planned : Contents) (bound : ℕ) (objects : ℕ → Option Object) (own : List Block) (before : ℕ → List Block) → Plans store.old stored planned
-        → AreObjects stored bound set.now objects own before → bound ≤ birth → AnswersAreTrue store.old store.new → LossIsTolerable store.old store.new missing.now
-        → IsForRoom refusal ⊎ ((refusal ≡ Refusal.BadPointer) × Any (λ change. ¬ MayChange change.change (objects change.number)) changes.now)) }
+        × (later : Contents) × Plans store.new stored later
+        × AreChanged copies planned later birth done changes.now (changed changes.now objects) own before) }
+    ensures no_room { IfErr result (λ refusal. refusal ≡ Refusal.NoSpace
+        → HasNoRoom store.old store.new missing.now copies) }
+    ensures known { IfErr result (λ refusal. (stored planned : Contents) (bound : ℕ)
+        (objects : ℕ → Option Object) (own : List Block) (before : ℕ → List Block)
+        → Plans store.old stored planned → AreObjects stored bound set.now objects own before
+        → bound ≤ birth → AnswersAreTrue store.old store.new
+        → LossIsTolerable store.old store.new missing.now → IsForRoom refusal
+        ⊎ ((refusal ≡ Refusal.BadPointer)
+        × Any (λ change. ¬ MayChange change.change (objects change.number)) changes.now)) }
 {
-    let mut replaced = Vec::new(alloc);
-    let writes = change_each(
-        set,
-        store,
-        alloc,
-        changes,
+    let changing = Changing {
         birth,
         copies,
         missing,
-        &mut replaced,
-    )?;
+    };
+    let mut replaced = Vec::new(alloc);
+    let writes = changing.change_each(set, store, alloc, changes, &mut replaced)?;
     let rewrite = dnode_slots::put_many(
         set,
         store,
@@ -83,42 +87,155 @@ pub fn change<D: Disk + Drop>(
     })
 }
 
-/// Plans the trees of the changed objects. The blocks that give way are added to the replaced ones, and what is to be
-/// written to the dnodes is returned.
-fn change_each<D: Disk + Drop>(
-    set: &ObjectSet,
-    store: &mut BlockStore<D>,
-    alloc: Global,
-    changes: &[ObjectChange],
-    birth: u64,
-    copies: SetCopies,
-    missing: &[usize],
-    replaced: &mut Vec<Block>,
-) -> Result<Vec<NodeWrite>, Refusal>
-    requires set { FitsObjectSet set.now }
-    requires numbers { All (λ change. (0 < change.number) × (change.number < 32 * 128 ^ 5)) changes.now }
-    requires order { AllPairs (λ change later. change.number < later.number) changes.now }
-    requires good { All (λ change. IsGoodChange change.change) changes.now }
-    requires born { 0 < birth }
-    ensures steps { OnlyReadsAndPlans store.old store.new missing.now }
-    ensures writes { IfOk result (λ writes. AreNodeWrites writes.items) }
-    ensures numbers { IfOk result (λ writes. (number : ℕ) → All (λ change. change.number < number) changes.now ↔ All (λ write. write.number < number) writes.items) }
-    ensures changed { IfOk result (λ writes. (stored planned : Contents) (bound : ℕ) (objects : ℕ → Option Object) (own : List Block) (before : ℕ → List Block) → Plans store.old stored planned
-        → (are : AreObjects stored bound set.now objects own before) → bound ≤ birth → AnswersAreTrue store.old store.new
-        → All (λ change. MayChange change.change (objects change.number)) changes.now
-        × (later : Contents) × Plans store.new stored later
-        × AreObjectsChanged (object_copies copies) planned later birth changes.now writes.items are.nodes objects before replaced.old.items replaced.new.items) }
-    ensures no_room { IfErr result (λ refusal. refusal ≡ Refusal.NoSpace → HasNoRoom store.old store.new missing.now copies) }
-    ensures known { IfErr result (λ refusal. (stored planned : Contents) (bound : ℕ) (objects : ℕ → Option Object) (own : List Block) (before : ℕ → List Block) → Plans store.old stored planned
-        → AreObjects stored bound set.now objects own before → bound ≤ birth → AnswersAreTrue store.old store.new → LossIsTolerable store.old store.new missing.now
-        → IsForRoom refusal ⊎ ((refusal ≡ Refusal.BadPointer) × Any (λ change. ¬ MayChange change.change (objects change.number)) changes.now)) }
-{
-    let mut writes = Vec::new(alloc);
-    for change in changes {
-        let write = change_one(set, store, alloc, change, birth, copies, missing, replaced)?;
-        push(&mut writes, write)?;
+impl<'a> Changing<'a> {
+    /// Plans the trees of the changed objects. The blocks that give way are added to the replaced ones, and what is to be
+    /// written to the dnodes is returned.
+    fn change_each<D: Disk + Drop>(
+        self,
+        set: &ObjectSet,
+        store: &mut BlockStore<D>,
+        alloc: Global,
+        changes: &[ObjectChange],
+        replaced: &mut Vec<Block>,
+    ) -> Result<Vec<NodeWrite>, Refusal>
+        requires set { FitsObjectSet set.now }
+        requires numbers { All (λ change. (0 < change.number) × (change.number < 32 * 128 ^ 5)) changes.now }
+        requires order { AllPairs (λ change later. change.number < later.number) changes.now }
+        requires good { All (λ change. IsGoodChange change.change) changes.now }
+        requires born { 0 < self.birth }
+        ensures steps { OnlyReadsAndPlans store.old store.new self.entry.missing.now }
+        ensures writes { IfOk result (λ writes. AreNodeWrites writes.items) }
+        ensures numbers { IfOk result (λ writes. (number : ℕ) → All (λ change. change.number < number) changes.now
+            ↔ All (λ write. write.number < number) writes.items) }
+        ensures changed { IfOk result (λ writes. ChangesEach self.entry store.old store.new set.now changes.now
+            replaced.old.items replaced.new.items writes.items) }
+        ensures no_room { IfErr result (λ refusal. refusal ≡ Refusal.NoSpace
+            → HasNoRoom store.old store.new self.entry.missing.now self.entry.copies) }
+        ensures known { IfErr result (IsEachRefused self.entry store.old store.new set.now changes.now) }
+    {
+        let mut writes = Vec::new(alloc);
+        for change in changes {
+            let write = self.change_one(set, store, alloc, change, replaced)?;
+            push(&mut writes, write)?;
+        }
+        Ok(writes)
     }
-    Ok(writes)
+
+    /// Plans the tree of one object that is changed.
+    fn change_one<D: Disk + Drop>(
+        self,
+        set: &ObjectSet,
+        store: &mut BlockStore<D>,
+        alloc: Global,
+        change: &ObjectChange,
+        replaced: &mut Vec<Block>,
+    ) -> Result<NodeWrite, Refusal>
+        requires set { FitsObjectSet set.now }
+        requires good { IsGoodChange change.now.change }
+        requires born { 0 < self.birth }
+        ensures steps { OnlyReadsAndPlans store.old store.new self.entry.missing.now }
+        ensures number { IfOk result (λ write. write.number ≡ change.now.number) }
+        ensures fits { IfOk result (λ write. FitsDnode write.node) }
+        ensures changed { IfOk result (λ write. ChangesOne self.entry store.old store.new set.now change.now
+            replaced.old.items replaced.new.items write.node) }
+        ensures no_room { IfErr result (λ refusal. refusal ≡ Refusal.NoSpace
+            → HasNoRoom store.old store.new self.entry.missing.now self.entry.copies) }
+        ensures known { IfErr result (IsOneRefused self.entry store.old store.new set.now change.now) }
+    {
+        let number = change.number;
+        let dnode = dnode_slots::get(set, store, alloc, number, self.birth, self.missing)?;
+        let node = self.change_dnode(dnode, store, alloc, &change.change, replaced)?;
+        Ok(NodeWrite { number, node })
+    }
+
+    /// The dnode of an object after a change.
+    fn change_dnode<D: Disk + Drop>(
+        self,
+        dnode: Dnode,
+        store: &mut BlockStore<D>,
+        alloc: Global,
+        change: &Change,
+        replaced: &mut Vec<Block>,
+    ) -> Result<Dnode, Refusal>
+        requires dnode { FitsDnode dnode }
+        requires good { IsGoodChange change.now }
+        requires born { 0 < self.birth }
+        ensures steps { OnlyReadsAndPlans store.old store.new self.entry.missing.now }
+        ensures fits { IfOk result FitsDnode }
+        ensures changed { IfOk result (ChangesNode self.entry store.old store.new dnode change.now
+            replaced.old.items replaced.new.items) }
+        ensures no_room { IfErr result (λ refusal. refusal ≡ Refusal.NoSpace
+            → HasNoRoom store.old store.new self.entry.missing.now self.entry.copies) }
+        ensures known { IfErr result (IsNodeRefused self.entry store.old store.new dnode change.now) }
+    {
+        match change {
+            Change::Create {
+                object_type,
+                data_sectors,
+                writes,
+            } => {
+                let Dnode::Free = dnode else {
+                    return Err(Refusal::BadPointer);
+                };
+                let node = ObjectNode {
+                    object_type: *object_type,
+                    data_sectors: *data_sectors,
+                    highest: 0,
+                    pointer: BlockPtr::Hole,
+                };
+                self.write_object(&node, store, alloc, writes, replaced)
+            }
+            Change::Put { writes } => {
+                let Dnode::Object(node) = dnode else {
+                    return Err(Refusal::BadPointer);
+                };
+                if !are_whole(&node, writes) {
+                    return Err(Refusal::BadPointer);
+                }
+                self.write_object(&node, store, alloc, writes, replaced)
+            }
+            Change::Free => {
+                let Dnode::Object(node) = dnode else {
+                    return Err(Refusal::BadPointer);
+                };
+                free_object(&node, store, alloc, self.birth, self.missing, replaced)
+            }
+        }
+    }
+
+    /// Plans the tree of an object in which data blocks are written.
+    fn write_object<D: Disk + Drop>(
+        self,
+        node: &ObjectNode,
+        store: &mut BlockStore<D>,
+        alloc: Global,
+        writes: &[BlockWrite],
+        replaced: &mut Vec<Block>,
+    ) -> Result<Dnode, Refusal>
+        requires node { FitsNode node.now }
+        requires good { AreGoodWrites writes.now }
+        requires whole { AreWhole node.now.data_sectors writes.now }
+        requires born { 0 < self.birth }
+        ensures steps { OnlyReadsAndPlans store.old store.new self.entry.missing.now }
+        ensures fits { IfOk result FitsDnode }
+        ensures changed { IfOk result (WritesObject self.entry store.old store.new node.now writes.now
+            replaced.old.items replaced.new.items) }
+        ensures no_room { IfErr result (λ refusal. refusal ≡ Refusal.NoSpace
+            → HasNoRoom store.old store.new self.entry.missing.now self.entry.copies) }
+        ensures known { IfErr result (LacksRoomForObject self.entry store.old store.new node.now) }
+    {
+        let done = dnode_tree::put_many(
+            node,
+            store,
+            alloc,
+            writes,
+            self.birth,
+            self.copies.of_objects(),
+            self.missing,
+        )?;
+        replaced.extend_from_slice(&done.replaced)?;
+        Ok(Dnode::Object(done.node))
+    }
 }
 
 /// Adds a write to a list.
@@ -129,113 +246,6 @@ fn push(writes: &mut Vec<NodeWrite>, write: NodeWrite) -> Result<(), AllocError>
     Ok(())
 }
 
-/// Plans the tree of one object that is changed.
-fn change_one<D: Disk + Drop>(
-    set: &ObjectSet,
-    store: &mut BlockStore<D>,
-    alloc: Global,
-    change: &ObjectChange,
-    birth: u64,
-    copies: SetCopies,
-    missing: &[usize],
-    replaced: &mut Vec<Block>,
-) -> Result<NodeWrite, Refusal>
-    requires set { FitsObjectSet set.now }
-    requires good { IsGoodChange change.now.change }
-    requires born { 0 < birth }
-    ensures steps { OnlyReadsAndPlans store.old store.new missing.now }
-    ensures number { IfOk result (λ write. write.number ≡ change.now.number) }
-    ensures fits { IfOk result (λ write. FitsDnode write.node) }
-    ensures changed { IfOk result (λ write. (stored planned : Contents) (bound : ℕ) (objects : ℕ → Option Object) (own : List Block) (before : ℕ → List Block) → Plans store.old stored planned
-        → AreObjects stored bound set.now objects own before → bound ≤ birth → AnswersAreTrue store.old store.new
-        → MayChange change.now.change (objects change.now.number)
-        × (later : Contents) × Plans store.new stored later
-        × IsObjectChanged (object_copies copies) planned later birth write.node (after_change change.now.change (objects change.now.number)) (before change.now.number) replaced.old.items replaced.new.items) }
-    ensures no_room { IfErr result (λ refusal. refusal ≡ Refusal.NoSpace → HasNoRoom store.old store.new missing.now copies) }
-    ensures known { IfErr result (λ refusal. (stored planned : Contents) (bound : ℕ) (objects : ℕ → Option Object) (own : List Block) (before : ℕ → List Block) → Plans store.old stored planned
-        → AreObjects stored bound set.now objects own before → bound ≤ birth → AnswersAreTrue store.old store.new → LossIsTolerable store.old store.new missing.now
-        → IsForRoom refusal ⊎ ((refusal ≡ Refusal.BadPointer) × ¬ MayChange change.now.change (objects change.now.number))) }
-{
-    let number = change.number;
-    let dnode = dnode_slots::get(set, store, alloc, number, birth, missing)?;
-    let node = change_dnode(
-        dnode,
-        store,
-        alloc,
-        &change.change,
-        birth,
-        copies,
-        missing,
-        replaced,
-    )?;
-    Ok(NodeWrite { number, node })
-}
-
-/// The dnode of an object after a change.
-fn change_dnode<D: Disk + Drop>(
-    dnode: Dnode,
-    store: &mut BlockStore<D>,
-    alloc: Global,
-    change: &Change,
-    birth: u64,
-    copies: SetCopies,
-    missing: &[usize],
-    replaced: &mut Vec<Block>,
-) -> Result<Dnode, Refusal>
-    requires dnode { FitsDnode dnode }
-    requires good { IsGoodChange change.now }
-    requires born { 0 < birth }
-    ensures steps { OnlyReadsAndPlans store.old store.new missing.now }
-    ensures fits { IfOk result FitsDnode }
-    ensures changed { IfOk result (λ after. (stored planned : Contents) (bound : ℕ) (object : Option Object) (blocks : List Block) → Plans store.old stored planned
-        → IsObject stored bound dnode object blocks → bound ≤ birth → AnswersAreTrue store.old store.new
-        → MayChange change.now object
-        × (later : Contents) × Plans store.new stored later
-        × IsObjectChanged (object_copies copies) planned later birth after (after_change change.now object) blocks replaced.old.items replaced.new.items) }
-    ensures no_room { IfErr result (λ refusal. refusal ≡ Refusal.NoSpace → HasNoRoom store.old store.new missing.now copies) }
-    ensures known { IfErr result (λ refusal. (stored planned : Contents) (bound : ℕ) (object : Option Object) (blocks : List Block) → Plans store.old stored planned
-        → IsObject stored bound dnode object blocks → bound ≤ birth → AnswersAreTrue store.old store.new → LossIsTolerable store.old store.new missing.now
-        → IsForRoom refusal ⊎ ((refusal ≡ Refusal.BadPointer) × ¬ MayChange change.now object)) }
-{
-    match change {
-        Change::Create {
-            object_type,
-            data_sectors,
-            writes,
-        } => {
-            let Dnode::Free = dnode else {
-                return Err(Refusal::BadPointer);
-            };
-            let node = ObjectNode {
-                object_type: *object_type,
-                data_sectors: *data_sectors,
-                highest: 0,
-                pointer: BlockPtr::Hole,
-            };
-            write_object(
-                &node, store, alloc, writes, birth, copies, missing, replaced,
-            )
-        }
-        Change::Put { writes } => {
-            let Dnode::Object(node) = dnode else {
-                return Err(Refusal::BadPointer);
-            };
-            if !are_whole(&node, writes) {
-                return Err(Refusal::BadPointer);
-            }
-            write_object(
-                &node, store, alloc, writes, birth, copies, missing, replaced,
-            )
-        }
-        Change::Free => {
-            let Dnode::Object(node) = dnode else {
-                return Err(Refusal::BadPointer);
-            };
-            free_object(&node, store, alloc, birth, missing, replaced)
-        }
-    }
-}
-
 /// Whether each write has the bytes of a data block of the object.
 fn are_whole(node: &ObjectNode, writes: &[BlockWrite]) -> bool
     requires { node.now.data_sectors ≤ 256 }
@@ -243,45 +253,6 @@ fn are_whole(node: &ObjectNode, writes: &[BlockWrite]) -> bool
 {
     let len = node.data_sectors as usize * 512;
     writes.iter().all(|write| write.bytes.len() == len)
-}
-
-/// Plans the tree of an object in which data blocks are written.
-fn write_object<D: Disk + Drop>(
-    node: &ObjectNode,
-    store: &mut BlockStore<D>,
-    alloc: Global,
-    writes: &[BlockWrite],
-    birth: u64,
-    copies: SetCopies,
-    missing: &[usize],
-    replaced: &mut Vec<Block>,
-) -> Result<Dnode, Refusal>
-    requires node { FitsNode node.now }
-    requires good { AreGoodWrites writes.now }
-    requires whole { AreWhole node.now.data_sectors writes.now }
-    requires born { 0 < birth }
-    ensures steps { OnlyReadsAndPlans store.old store.new missing.now }
-    ensures fits { IfOk result FitsDnode }
-    ensures changed { IfOk result (λ after. (stored planned : Contents) (bound : ℕ) (array : ℕ → Option (List ℕ)) (blocks : List Block) → Plans store.old stored planned
-        → IsTree stored bound node.now array blocks → bound ≤ birth → AnswersAreTrue store.old store.new
-        → (later : Contents) × Plans store.new stored later
-        × IsObjectChanged (object_copies copies) planned later birth after (Some (object_of node.now (written writes.now array))) blocks replaced.old.items replaced.new.items) }
-    ensures no_room { IfErr result (λ refusal. refusal ≡ Refusal.NoSpace → HasNoRoom store.old store.new missing.now copies) }
-    ensures known { IfErr result (λ refusal. (stored planned : Contents) (bound : ℕ) (array : ℕ → Option (List ℕ)) (blocks : List Block) → Plans store.old stored planned
-        → IsTree stored bound node.now array blocks → bound ≤ birth → AnswersAreTrue store.old store.new → LossIsTolerable store.old store.new missing.now
-        → IsForRoom refusal) }
-{
-    let done = dnode_tree::put_many(
-        node,
-        store,
-        alloc,
-        writes,
-        birth,
-        copies.of_objects(),
-        missing,
-    )?;
-    replaced.extend_from_slice(&done.replaced)?;
-    Ok(Dnode::Object(done.node))
 }
 
 /// Names all blocks of an object as replaced.
@@ -296,13 +267,15 @@ fn free_object<D: Disk + Drop>(
     requires { node.now.highest < 128 ^ 5 }
     ensures steps { OnlyReadsAndPlans store.old store.new missing.now }
     ensures free { IfOk result (λ after. after ≡ Dnode.Free) }
-    ensures noted { IfOk result (λ _. (stored planned : Contents) (bound : ℕ) (array : ℕ → Option (List ℕ)) (blocks : List Block) → Plans store.old stored planned
+    ensures noted { IfOk result (λ _. (stored planned : Contents) (bound : ℕ)
+        (array : ℕ → Option (List ℕ)) (blocks : List Block) → Plans store.old stored planned
         → IsTree stored bound node.now array blocks → bound ≤ birth → AnswersAreTrue store.old store.new
         → Plans store.new stored planned × (replaced.new.items ≡ replaced.old.items ++ blocks)) }
     ensures cause { IfErr result (λ refusal. refusal ≢ Refusal.NoSpace) }
-    ensures known { IfErr result (λ refusal. (stored planned : Contents) (bound : ℕ) (array : ℕ → Option (List ℕ)) (blocks : List Block) → Plans store.old stored planned
-        → IsTree stored bound node.now array blocks → bound ≤ birth → AnswersAreTrue store.old store.new → LossIsTolerable store.old store.new missing.now
-        → refusal ≡ Refusal.NoMemory) }
+    ensures known { IfErr result (λ refusal. (stored planned : Contents) (bound : ℕ)
+        (array : ℕ → Option (List ℕ)) (blocks : List Block) → Plans store.old stored planned
+        → IsTree stored bound node.now array blocks → bound ≤ birth → AnswersAreTrue store.old store.new
+        → LossIsTolerable store.old store.new missing.now → refusal ≡ Refusal.NoMemory) }
 {
     let blocks = dnode_tree::walk(node, store, alloc, birth, missing)?;
     replaced.extend_from_slice(&blocks)?;

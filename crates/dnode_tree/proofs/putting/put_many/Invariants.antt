@@ -3,4 +3,4 @@ use Rattle.dnode_tree.proofs.putting.put_many.Given as goal
 
 abbrev pub invariant-loop-level : goal.invariant-loop-level
 invariant-loop-level g l =
-    IsRaising l.copies l.fn.store l.store l.missing l.node l.level l.birth l.pointer l.writes l.rest l.replaced.items
+    IsRaising l.rewriting.copies l.fn.store l.store l.rewriting.missing.now l.rewriting.node.now l.level l.rewriting.birth l.pointer l.writes l.rest l.replaced.items

@@ -6,19 +6,19 @@ use Rattle.dnode_tree.proofs.Fitting.{chosen_fit, property_fits}
 use Rattle.dnode_tree.proofs.Refusing.{passed_on, only_no_space}
 use Rattle.block_store.proofs.Steps.{no_room_now, steps_plan}
 use Rattle.dnode_tree.specs.Tree.{property_of}
-use Rattle.dnode_tree.proofs.planning.plan_block.Goals as goal
+use Rattle.dnode_tree.proofs.writes.Rewriting.plan_block.Goals as goal
 
 pub returns-clause-fits : goal.returns-clause-fits
 returns-clause-fits g c =
     let block = c.in_ok-planned.ensures.block in
-    let property = property_fits c.args.node.now c.args.level c.requires.node c.requires.low in
+    let property = property_fits c.args.self.node.now c.args.level c.requires.node c.requires.low in
     let same = block.property ∙ c.property_at.ensures in
     let some : 0 < c.property_at.result.sectors = subst (λ p. 0 < p.sectors) (sym c.property_at.ensures) property.not_empty in
     record {
       copies = chosen_fit _ _ _ _ _ some c.vdevs_are_short.ensures c.in_ok-planned.ensures.places;
       property = subst FitsProperty (sym same) property;
       born = omega (arith, block.birth);
-      birth = omega (arith, block.birth, c.ranges.birth.fits);
+      birth = omega (arith, block.birth);
       filled = omega (arith, block.fill, c.requires.filled);
       fill = omega (arith, block.fill, c.ranges.fill.fits);
       fill_of_data = λ at. block.fill ∙ c.requires.fill_of_data (ap (λ p. p.level) (sym same) ∙ at);
@@ -30,7 +30,7 @@ returns-in_err-planned-clause-no_room g c =
     (λ is missing. (
       c.args.level,
       no_room_now c.args.store.now c.plan_write.new.self missing _ _
-          (subst (λ n. RanOut c.args.store.now.spaces (property_of c.args.node.now c.args.level).sectors n c.plan_write.new.self.spaces) c.at.ensures
+          (subst (λ n. RanOut c.args.store.now.spaces (property_of c.args.self.node.now c.args.level).sectors n c.plan_write.new.self.spaces) c.at.ensures
           (subst (λ p. RanOut c.args.store.now.spaces p.sectors (count_of c.at.result) c.plan_write.new.self.spaces) c.property_at.ensures
           (only_no_space _ _ c.in_err-planned.ensures.refused is))),
     ))

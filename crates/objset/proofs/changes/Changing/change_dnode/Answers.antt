@@ -8,14 +8,14 @@ use Rattle.objset.proofs.Kept.{object_there}
 use Rattle.objset.proofs.Trees.{is_created, is_put, is_freed}
 use Rattle.objset.specs.Changes.{AreWhole, object_copies}
 use Rattle.block_store.proofs.Steps.{steps_none}
-use Rattle.objset.proofs.changing.change_dnode.Goals as goal
+use Rattle.objset.proofs.changes.Changing.change_dnode.Goals as goal
 
 pub returns-in-Free-dnode-clause-changed : goal.returns-in-Free-dnode-clause-changed
 returns-in-Free-dnode-clause-changed g c =
     IfOk-weaker c.write_object.result _ _
     (λ after is stored planned bound object blocks plans there le honest.
     let node : ObjectNode = record { object_type = c.in-Create.object_type; data_sectors = c.in-Create.data_sectors; highest = 0; pointer = Hole } in
-    is_created (object_copies c.args.copies) _ stored planned bound c.args.birth after c.args.change.now object blocks _ _ c.args.dnode node c.in-Create.writes c.deref.result.now
+    is_created (object_copies c.args.self.copies) _ stored planned bound c.args.self.birth after c.args.change.now object blocks _ _ c.args.dnode node c.in-Create.writes c.deref.result.now
     c.in-Create.is c.in-Free-dnode.is there c.deref.ensures.value (is stored planned bound (λ id. None) [] plans (empty_trees stored bound node refl) le honest))
     c.write_object.ensures.changed
 
@@ -30,7 +30,7 @@ returns-else-not-are_whole-clause-changed g c =
     IfOk-weaker c.write_object-in-Put.result _ _
     (λ after is stored planned bound object blocks plans there le honest.
     let has = object_there stored bound c.args.dnode c.args.dnode c.in-Object.node object blocks refl c.in-Object.is there in
-    is_put (object_copies c.args.copies) _ stored planned bound c.args.birth after c.args.change.now object blocks _ _ c.in-Object.node c.in-Put.writes c.deref-in-Put-2.result.now
+    is_put (object_copies c.args.self.copies) _ stored planned bound c.args.self.birth after c.args.change.now object blocks _ _ c.in-Object.node c.in-Put.writes c.deref-in-Put-2.result.now
     c.in-Put.is has c.deref-in-Put-2.ensures.value
     (subst (λ ws. AreWhole c.in-Object.node.data_sectors ws) (c.deref-in-Put.ensures.value ∙ sym c.deref-in-Put-2.ensures.value) (c.if-not-are_whole.ensures.0 refl)) (is stored planned bound has.there.array blocks plans has.tree le honest))
     c.write_object-in-Put.ensures.changed
@@ -49,7 +49,7 @@ returns-in-Object-dnode-clause-changed g c =
     (λ after is stored planned bound object blocks plans there le honest.
     let has = object_there stored bound c.args.dnode c.args.dnode c.in-Object-dnode.node object blocks refl c.in-Object-dnode.is there in
     let done = is.1 stored planned bound has.there.array blocks plans has.tree le honest in
-    is_freed (object_copies c.args.copies) _ stored planned bound c.args.birth after c.args.change.now object blocks _ _ c.in-Object-dnode.node c.in-Free.is is.0 has done.0 done.1)
+    is_freed (object_copies c.args.self.copies) _ stored planned bound c.args.self.birth after c.args.change.now object blocks _ _ c.in-Object-dnode.node c.in-Free.is is.0 has done.0 done.1)
     (ok_both c.free_object.result _ _ c.free_object.ensures.free c.free_object.ensures.noted)
 
 pub returns-in-Object-dnode-clause-known : goal.returns-in-Object-dnode-clause-known

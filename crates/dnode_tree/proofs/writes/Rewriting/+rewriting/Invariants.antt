@@ -1,6 +1,6 @@
 use Rattle.std.proofs.Common.{◌+◌, ◌*◌}
 use Rattle.dnode_tree.proofs.WritingParts.{IsWritingParts}
-use Rattle.dnode_tree.proofs.writing.+rewriting.Given as goal
+use Rattle.dnode_tree.proofs.writes.Rewriting.+rewriting.Given as goal
 
 abbrev pub decreases-write_part : goal.decreases-write_part
 decreases-write_part g l = 2 * l.part.level
@@ -10,4 +10,4 @@ decreases-write_parts g l = 2 * l.parts.level + 1
 
 abbrev pub invariant-write_parts-loop-place : goal.invariant-write_parts-loop-place
 invariant-write_parts-loop-place g l =
-    IsWritingParts l.copies l.initial.store l.store l.missing l.node l.level l.first l.bound l.birth l.from l.initial.pointers l.pointers l.writes l.rest l.place l.initial.replaced.items l.replaced.items
+    IsWritingParts l.self.copies l.initial.store l.store l.self.missing.now l.self.node.now l.level l.first l.bound l.self.birth l.from l.initial.pointers l.pointers l.writes l.rest l.place l.initial.replaced.items l.replaced.items

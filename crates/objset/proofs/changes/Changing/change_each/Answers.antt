@@ -12,13 +12,13 @@ use Rattle.objset.specs.Changes.{MayChange}
 use Rattle.objset.specs.Objects.{Object}
 use Rattle.objset.proofs.Room.{no_room_sooner}
 use Rattle.objset.proofs.Underway.{HasChanged, IsUnderway, underway_begins, underway_goes_on, underway_fails}
-use Rattle.objset.proofs.changing.change_each.Goals as goal
+use Rattle.objset.proofs.changes.Changing.change_each.Goals as goal
 
 pub loop-change-init : goal.loop-change-init
 loop-change-init g c =
-    subst (λ (ws : List NodeWrite). IsUnderway c.args.copies c.args.store.now c.args.store.now c.args.missing.now c.args.set.now c.args.birth [] ws c.args.replaced.now.items c.args.replaced.now.items)
+    subst (λ (ws : List NodeWrite). IsUnderway c.args.self.copies c.args.store.now c.args.store.now c.args.self.missing.now c.args.set.now c.args.self.birth [] ws c.args.replaced.now.items c.args.replaced.now.items)
     (sym c.new-writes.ensures.items)
-    (underway_begins c.args.copies c.args.store.now c.args.missing.now c.args.set.now c.args.birth c.args.replaced.now.items)
+    (underway_begins c.args.self.copies c.args.store.now c.args.self.missing.now c.args.set.now c.args.self.birth c.args.replaced.now.items)
 
 pub returns-in_err-write-clause-steps : goal.returns-in_err-write-clause-steps
 returns-in_err-write-clause-steps g c = steps_on _ _ _ _ c.loop-change.invariant.steps c.in_err-write.ensures.steps
@@ -31,7 +31,7 @@ pub returns-in_err-write-clause-known : goal.returns-in_err-write-clause-known
 returns-in_err-write-clause-known g c =
     let refusal : Refusal = c.in_err-write.field-0.0 in
     passed_on _ _ _ c.from_residual.ensures.1
-    (underway_fails c.args.copies c.args.store.now c.loop-change.store c.change_one.new.store c.args.missing.now c.args.set.now c.args.birth c.args.changes.now c.loop-change.change-index c.change-item.result
+    (underway_fails c.args.self.copies c.args.store.now c.loop-change.store c.change_one.new.store c.args.self.missing.now c.args.set.now c.args.self.birth c.args.changes.now c.loop-change.change-index c.change-item.result
     c.loop-change.writes.items c.args.replaced.now.items c.loop-change.replaced.items c.loop-change.invariant c.loop-change-test.true c.change-item.is c.requires.numbers c.requires.order
     c.in_err-write.ensures.steps
     (λ (objects : ℕ → Option Object). IsForRoom refusal ⊎ ((refusal ≡ BadPointer) × Any (λ (change : ObjectChange). ¬ MayChange change.change (objects change.number)) c.args.changes.now))
@@ -46,17 +46,17 @@ returns-in_err-push-clause-steps g c = steps_on _ _ _ _ c.loop-change.invariant.
 pub loop-change-preserved : goal.loop-change-preserved
 loop-change-preserved g c =
     subst
-    (λ (ws : List NodeWrite). IsUnderway c.args.copies c.args.store.now c.change_one.new.store c.args.missing.now c.args.set.now c.args.birth (take (c.loop-change.change-index + 1) c.args.changes.now) ws
+    (λ (ws : List NodeWrite). IsUnderway c.args.self.copies c.args.store.now c.change_one.new.store c.args.self.missing.now c.args.set.now c.args.self.birth (take (c.loop-change.change-index + 1) c.args.changes.now) ws
     c.args.replaced.now.items c.change_one.new.replaced.items)
     (sym c.in_ok-push.ensures)
-    (underway_goes_on c.args.copies c.args.store.now c.loop-change.store c.change_one.new.store c.args.missing.now c.args.set.now c.args.birth c.args.changes.now c.loop-change.change-index c.change-item.result
+    (underway_goes_on c.args.self.copies c.args.store.now c.loop-change.store c.change_one.new.store c.args.self.missing.now c.args.set.now c.args.self.birth c.args.changes.now c.loop-change.change-index c.change-item.result
     c.loop-change.writes.items c.args.replaced.now.items c.loop-change.replaced.items c.loop-change.invariant c.loop-change-test.true c.change-item.is c.requires.numbers c.requires.order
     c.in_ok-write.ensures.steps c.in_ok-write.write c.change_one.new.replaced.items c.in_ok-write.ensures.number c.in_ok-write.ensures.fits c.in_ok-write.ensures.changed)
 
 pub returns-clause-changed : goal.returns-clause-changed
 returns-clause-changed g c =
     subst
-    (λ (changes : List ObjectChange). HasChanged c.args.copies c.args.store.now c.loop-change.store c.args.set.now c.args.birth changes c.loop-change.writes.items c.args.replaced.now.items c.loop-change.replaced.items)
+    (λ (changes : List ObjectChange). HasChanged c.args.self.copies c.args.store.now c.loop-change.store c.args.set.now c.args.self.birth changes c.loop-change.writes.items c.args.replaced.now.items c.loop-change.replaced.items)
     (take_all c.loop-change.change-index c.args.changes.now c.loop-change-test.false) c.loop-change.invariant.has_changed
 
 pub returns-clause-numbers : goal.returns-clause-numbers

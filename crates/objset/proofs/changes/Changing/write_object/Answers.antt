@@ -5,13 +5,13 @@ use Rattle.objset.proofs.Exchanged.{appended}
 use Rattle.objset.proofs.Room.{no_room_for_object}
 use Rattle.objset.proofs.Trees.{tree_changed}
 use Rattle.objset.specs.Changes.{object_copies}
-use Rattle.objset.proofs.changing.write_object.Goals as goal
+use Rattle.objset.proofs.changes.Changing.write_object.Goals as goal
 
 pub returns-in_err-done-clause-no_room : goal.returns-in_err-done-clause-no_room
 returns-in_err-done-clause-no_room g c =
     passed_on _ _ _ c.from_residual.ensures.1
-    (λ is. no_room_for_object c.args.store.now c.put_many.new.store c.args.missing.now c.args.node.now c.args.copies c.requires.node.0.sectors
-    (subst (λ counts. HasNoRoom c.args.store.now c.put_many.new.store c.args.missing.now c.args.node.now counts) c.of_objects.ensures (c.in_err-done.ensures.no_room is)))
+    (λ is. no_room_for_object c.args.store.now c.put_many.new.store c.args.self.missing.now c.args.node.now c.args.self.copies c.requires.node.0.sectors
+    (subst (λ counts. HasNoRoom c.args.store.now c.put_many.new.store c.args.self.missing.now c.args.node.now counts) c.of_objects.ensures (c.in_err-done.ensures.no_room is)))
 
 pub returns-clause-changed : goal.returns-clause-changed
 returns-clause-changed g c = λ stored planned bound array blocks plans tree le honest.
@@ -20,6 +20,6 @@ returns-clause-changed g c = λ stored planned bound array blocks plans tree le 
     appended c.args.replaced.now.items c.deref.result.now c.extend_from_slice.new.self.items c.in_ok-done.done.replaced.items c.in_ok-extend_from_slice.ensures.items c.deref.ensures.value in (
       there.0,
       there.1,
-      tree_changed (object_copies c.args.copies) c.of_objects.result planned there.0 c.args.birth c.in_ok-done.done c.args.node.now (written c.args.writes.now array) blocks c.args.replaced.now.items c.extend_from_slice.new.self.items
+      tree_changed (object_copies c.args.self.copies) c.of_objects.result planned there.0 c.args.self.birth c.in_ok-done.done c.args.node.now (written c.args.writes.now array) blocks c.args.replaced.now.items c.extend_from_slice.new.self.items
           c.of_objects.ensures c.in_ok-done.ensures.grown.object_type c.in_ok-done.ensures.grown.data_sectors noted_are there.2,
     )

@@ -13,7 +13,7 @@ use Rattle.dnode_tree.proofs.WritingParts.{writing_skips, writing_goes_on, writi
 use Rattle.dnode_tree.specs.Subtree.{asked_of}
 use Rattle.dnode_tree.specs.Tree.{property_of}
 use Rattle.dnode_tree.specs.Writes.{written, AreBetween, AreInOrder, AreWholeBlocks}
-use Rattle.dnode_tree.proofs.writing.+rewriting.Goals as goal
+use Rattle.dnode_tree.proofs.writes.Rewriting.+rewriting.Goals as goal
 
 pub write_part-returns-then-part-eq0-clause-rewritten : goal.write_part-returns-then-part-eq0-clause-rewritten
 write_part-returns-then-part-eq0-clause-rewritten g t c =
@@ -26,7 +26,7 @@ write_part-returns-then-part-eq0-clause-rewritten g t c =
     let added = made.0 stored planned plans in (
       added.0,
       added.1,
-      leaf_rewritten stored planned added.0 (property_of c.args.node.now) c.args.part.level c.args.first c.args.part.birth c.args.birth c.args.part.pointer array (written c.args.writes.now array) blocks _ _
+      leaf_rewritten stored planned added.0 (property_of c.args.self.node.now) c.args.part.level c.args.first c.args.part.birth c.args.self.birth c.args.part.pointer array (written c.args.writes.now array) blocks _ _
           block c.deref.result.now e part c.in_ok-note.ensures.ok added.2 made.1.0 made.1.1.0 made.1.1.1.0 made.1.1.1.1
           (written_first c.args.writes.now array c.args.first c.index-writes-0.result c.requires.some here ∙ ap (λ bytes. Some bytes) (sym c.deref.ensures.value)),
     ))
@@ -48,13 +48,13 @@ write_part-returns-clause-rewritten g t c =
     IfOk-weaker c.write_parts.result _ _
     (λ block is stored planned array blocks plans part honest.
     let below = c.in_ok-parts.ensures.parts stored c.args.first array blocks plans.held part (true_sooner _ _ _ _ reads c.write_parts.ensures.steps honest) in
-    let begun = rewriting_begins stored planned (property_of c.args.node.now) c.in_ok-parts.parts.level c.args.first c.in_ok-parts.parts.birth c.args.birth c.in_ok-parts.parts.pointers
+    let begun = rewriting_begins stored planned (property_of c.args.self.node.now) c.in_ok-parts.parts.level c.args.first c.in_ok-parts.parts.birth c.args.self.birth c.in_ok-parts.parts.pointers
     array (written c.args.writes.now array) below.0 c.note.new.replaced.items plans.kept below.1 in
     let done = is stored planned planned array (written c.args.writes.now array) below.0 [] c.note.new.replaced.items (c.in_ok-parts.ensures.reads.plans stored planned plans) begun
     (λ id above under. refl) (true_later _ _ _ _ reads c.write_parts.ensures.steps honest) in (
       done.0,
       done.1,
-      part_has_root planned done.0 (property_of c.args.node.now) c.args.part.level c.in_ok-parts.parts.level c.args.first c.args.birth block c.args.part.pointer (written c.args.writes.now array) below.0
+      part_has_root planned done.0 (property_of c.args.self.node.now) c.args.part.level c.in_ok-parts.parts.level c.args.first c.args.self.birth block c.args.part.pointer (written c.args.writes.now array) below.0
           blocks _ _ _ e below.2 c.in_ok-note.ensures.ok done.2,
     ))
     c.write_parts.ensures.rewritten
@@ -62,7 +62,7 @@ write_part-returns-clause-rewritten g t c =
 pub write_part-returns-clause-no_room : goal.write_part-returns-clause-no_room
 write_part-returns-clause-no_room g t c =
     let reads = steps_read _ _ _ c.in_ok-parts.ensures.reads in
-    IfErr-weaker c.write_parts.result _ _ (λ refusal is none. no_room_on _ _ _ _ c.args.node.now c.args.copies reads (is none)) c.write_parts.ensures.no_room
+    IfErr-weaker c.write_parts.result _ _ (λ refusal is none. no_room_on _ _ _ _ c.args.self.node.now c.args.self.copies reads (is none)) c.write_parts.ensures.no_room
 
 pub write_part-returns-clause-known : goal.write_part-returns-clause-known
 write_part-returns-clause-known g t c =
@@ -70,7 +70,7 @@ write_part-returns-clause-known g t c =
     IfErr-weaker c.write_parts.result _ _
     (λ refusal is stored planned array blocks plans part honest few.
     let below = c.in_ok-parts.ensures.parts stored c.args.first array blocks plans.held part (true_sooner _ _ _ _ reads c.write_parts.ensures.steps honest) in
-    let begun = rewriting_begins stored planned (property_of c.args.node.now) c.in_ok-parts.parts.level c.args.first c.in_ok-parts.parts.birth c.args.birth c.in_ok-parts.parts.pointers
+    let begun = rewriting_begins stored planned (property_of c.args.self.node.now) c.in_ok-parts.parts.level c.args.first c.in_ok-parts.parts.birth c.args.self.birth c.in_ok-parts.parts.pointers
     array (written c.args.writes.now array) below.0 c.note.new.replaced.items plans.kept below.1 in
     is stored planned planned array (written c.args.writes.now array) below.0 [] c.note.new.replaced.items (c.in_ok-parts.ensures.reads.plans stored planned plans) begun
     (λ id above under. refl) (true_later _ _ _ _ reads c.write_parts.ensures.steps honest) (few_later _ _ _ _ reads c.write_parts.ensures.steps few))
@@ -94,7 +94,7 @@ write_parts-write_part-requires g t c =
     run_is_between _ _ _ _ _ _ _ _ middle_is c.loop-place.invariant.between c.loop-place.invariant.order c.count_before.ensures.before c.count_before.ensures.behind
     c.start_of-start.ensures.value c.split_at.ensures.front in
     let order : AreInOrder c.split_at.result.0.now = run_in_order _ _ _ c.split_at.ensures.front c.loop-place.invariant.order in
-    let whole : AreWholeBlocks c.args.node.now c.split_at.result.0.now = run_whole c.args.node.now _ _ _ c.split_at.ensures.front c.loop-place.invariant.whole in
+    let whole : AreWholeBlocks c.args.self.node.now c.split_at.result.0.now = run_whole c.args.self.node.now _ _ _ c.split_at.ensures.front c.loop-place.invariant.whole in
     search rules
 
 pub write_parts-returns-in_err-block-clause-steps : goal.write_parts-returns-in_err-block-clause-steps
@@ -102,7 +102,7 @@ write_parts-returns-in_err-block-clause-steps g t c = steps_on _ _ _ _ c.loop-pl
 
 pub write_parts-returns-in_err-block-clause-no_room : goal.write_parts-returns-in_err-block-clause-no_room
 write_parts-returns-in_err-block-clause-no_room g t c =
-    passed_on _ _ _ c.from_residual.ensures.1 (λ none. no_room_on _ _ _ _ c.args.node.now c.args.copies c.loop-place.invariant.steps (c.in_err-block.ensures.no_room none))
+    passed_on _ _ _ c.from_residual.ensures.1 (λ none. no_room_on _ _ _ _ c.args.self.node.now c.args.self.copies c.loop-place.invariant.steps (c.in_err-block.ensures.no_room none))
 
 pub write_parts-returns-in_err-block-clause-known : goal.write_parts-returns-in_err-block-clause-known
 write_parts-returns-in_err-block-clause-known g t c =
@@ -135,7 +135,7 @@ write_parts-plan_block-requires-clause-filled g t c =
 
 pub write_parts-plan_block-requires-clause-size : goal.write_parts-plan_block-requires-clause-size
 write_parts-plan_block-requires-clause-size g t c =
-    let sectors : (property_of c.args.node.now (c.args.parts.level + 1)).sectors ≡ 32 = rw (add-one c.args.parts.level) (indirect_sectors c.args.node.now c.args.parts.level) in
+    let sectors : (property_of c.args.self.node.now (c.args.parts.level + 1)).sectors ≡ 32 = rw (add-one c.args.parts.level) (indirect_sectors c.args.self.node.now c.args.parts.level) in
     let size = indirect_length _ _ c.in_ok-bytes.ensures in
     ap length c.deref.ensures.value ∙ size ∙ sym (ap (λ n. n * 512) sectors)
 
@@ -144,10 +144,10 @@ write_parts-returns-clause-rewritten g t c =
     let all : c.loop-place.place ≡ 128 = omega (arith, c.loop-place-test.false, c.loop-place.auto.place-end, c.requires.from) in
     IfOk-weaker c.plan_block.result _ _
     (λ block made stored planned now array new_array before after noted plans rewritten has honest.
-    let planned_step = c.plan_block.ensures.steps c.args.missing.now in
+    let planned_step = c.plan_block.ensures.steps c.args.self.missing.now in
     let there = c.loop-place.invariant.rewriting stored planned now array new_array before after noted plans rewritten has (true_sooner _ _ _ _ c.loop-place.invariant.steps planned_step honest) in
     let added = made.0.0 stored there.0 there.2 in
-    let asks : Asks (asked_of (property_of c.args.node.now (suc c.args.parts.level)) c.args.birth) block = rw add-one at made.0.1 in (
+    let asks : Asks (asked_of (property_of c.args.self.node.now (suc c.args.parts.level)) c.args.self.birth) block = rw add-one at made.0.1 in (
       added.0,
       added.1,
       root_rewritten _ _ _ _ _ _ _ _ _ _ _ _ _ _ _ _ there.3 added.0 block _ all added.2 (subst (λ bytes. SpellsIndirect bytes c.loop-place.pointers) (sym c.deref.ensures.value) c.in_ok-bytes.ensures)
@@ -157,13 +157,13 @@ write_parts-returns-clause-rewritten g t c =
 
 pub write_parts-returns-clause-no_room : goal.write_parts-returns-clause-no_room
 write_parts-returns-clause-no_room g t c =
-    IfErr-weaker c.plan_block.result _ _ (λ refusal is none. no_room_on _ _ _ _ c.args.node.now c.args.copies c.loop-place.invariant.steps (is none c.args.missing.now)) c.plan_block.ensures.no_room
+    IfErr-weaker c.plan_block.result _ _ (λ refusal is none. no_room_on _ _ _ _ c.args.self.node.now c.args.self.copies c.loop-place.invariant.steps (is none c.args.self.missing.now)) c.plan_block.ensures.no_room
 
 pub write_part-returns-in_err-note-clause-steps : goal.write_part-returns-in_err-note-clause-steps
 write_part-returns-in_err-note-clause-steps g t c = steps_none _ _
 
 pub write_part-returns-then-part-eq0-clause-steps : goal.write_part-returns-then-part-eq0-clause-steps
-write_part-returns-then-part-eq0-clause-steps g t c = c.plan_block.ensures.steps c.args.missing.now
+write_part-returns-then-part-eq0-clause-steps g t c = c.plan_block.ensures.steps c.args.self.missing.now
 
 pub write_part-returns-in_err-parts-clause-steps : goal.write_part-returns-in_err-parts-clause-steps
 write_part-returns-in_err-parts-clause-steps g t c = steps_read _ _ _ c.in_err-parts.ensures.reads
@@ -180,4 +180,4 @@ write_parts-loop-place-init g t c = record {
 }
 
 pub write_parts-returns-clause-steps : goal.write_parts-returns-clause-steps
-write_parts-returns-clause-steps g t c = steps_on _ _ _ _ c.loop-place.invariant.steps (c.plan_block.ensures.steps c.args.missing.now)
+write_parts-returns-clause-steps g t c = steps_on _ _ _ _ c.loop-place.invariant.steps (c.plan_block.ensures.steps c.args.self.missing.now)

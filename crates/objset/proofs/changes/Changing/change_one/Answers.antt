@@ -5,13 +5,13 @@ use Rattle.dnode_tree.proofs.Steps.{true_sooner, true_later, few_later}
 use Rattle.objset.proofs.Kept.{nodes_later}
 use Rattle.objset.proofs.Room.{no_room_sooner}
 use Rattle.objset.specs.Objects.{IsObject}
-use Rattle.objset.proofs.changing.change_one.Goals as goal
+use Rattle.objset.proofs.changes.Changing.change_one.Goals as goal
 
 pub returns-in_err-dnode-clause-known : goal.returns-in_err-dnode-clause-known
 returns-in_err-dnode-clause-known g c =
     passed_on _ _ _ c.from_residual.ensures.1
     (λ stored planned bound objects own before plans are le honest few.
-    inl (inl (c.in_err-dnode.ensures.known stored are.nodes own plans.held (nodes_later stored bound c.args.birth c.args.set.now are.nodes own le are.dnodes) honest few)))
+    inl (inl (c.in_err-dnode.ensures.known stored are.nodes own plans.held (nodes_later stored bound c.args.self.birth c.args.set.now are.nodes own le are.dnodes) honest few)))
 
 pub returns-in_err-node-clause-steps : goal.returns-in_err-node-clause-steps
 returns-in_err-node-clause-steps g c = steps_on _ _ _ _ (steps_read _ _ _ c.in_ok-dnode.ensures.reads) c.in_err-node.ensures.steps
@@ -26,7 +26,7 @@ returns-in_err-node-clause-known g c =
     let read = steps_read _ _ _ c.in_ok-dnode.ensures.reads in
     passed_on _ _ _ c.from_residual-in_err-node.ensures.1
     (λ stored planned bound objects own before plans are le honest few.
-    let same = c.in_ok-dnode.ensures.value stored are.nodes own plans.held (nodes_later stored bound c.args.birth c.args.set.now are.nodes own le are.dnodes)
+    let same = c.in_ok-dnode.ensures.value stored are.nodes own plans.held (nodes_later stored bound c.args.self.birth c.args.set.now are.nodes own le are.dnodes)
     (true_sooner _ _ _ _ read c.in_err-node.ensures.steps honest) in
     c.in_err-node.ensures.known stored planned bound (objects c.args.change.now.number) (before c.args.change.now.number) (c.in_ok-dnode.ensures.reads.plans stored planned plans)
     (subst (λ dnode. IsObject stored bound dnode (objects c.args.change.now.number) (before c.args.change.now.number)) (sym same) (are.each c.args.change.now.number)) le
@@ -39,7 +39,7 @@ pub returns-clause-changed : goal.returns-clause-changed
 returns-clause-changed g c =
     let read = steps_read _ _ _ c.in_ok-dnode.ensures.reads in
     λ stored planned bound objects own before plans are le honest.
-    let same = c.in_ok-dnode.ensures.value stored are.nodes own plans.held (nodes_later stored bound c.args.birth c.args.set.now are.nodes own le are.dnodes)
+    let same = c.in_ok-dnode.ensures.value stored are.nodes own plans.held (nodes_later stored bound c.args.self.birth c.args.set.now are.nodes own le are.dnodes)
     (true_sooner _ _ _ _ read c.in_ok-node.ensures.steps honest) in
     c.in_ok-node.ensures.changed stored planned bound (objects c.args.change.now.number) (before c.args.change.now.number) (c.in_ok-dnode.ensures.reads.plans stored planned plans)
     (subst (λ dnode. IsObject stored bound dnode (objects c.args.change.now.number) (before c.args.change.now.number)) (sym same) (are.each c.args.change.now.number)) le

@@ -3,7 +3,7 @@ use Rattle.std.proofs.lemmas.List.{nil_from_length}
 use Rattle.block_store.proofs.Steps.{steps_none}
 use Rattle.dnode_tree.proofs.Raising.{root_stays}
 use Rattle.dnode_tree.proofs.Refusing.{passed_on}
-use Rattle.dnode_tree.proofs.putting.write_root.Goals as goal
+use Rattle.dnode_tree.proofs.writes.Rewriting.write_root.Goals as goal
 
 pub returns-then-is_empty-clause-rewritten : goal.returns-then-is_empty-clause-rewritten
 returns-then-is_empty-clause-rewritten g c =
@@ -11,7 +11,7 @@ returns-then-is_empty-clause-rewritten g c =
     λ stored planned array blocks plans part honest. (
       planned,
       plans,
-      root_stays stored planned _ _ 0 c.args.birth c.args.node.now.pointer array blocks _ _ plans.kept (nil_from_length c.args.writes.now none) part,
+      root_stays stored planned _ _ 0 c.args.self.birth c.args.self.node.now.pointer array blocks _ _ plans.kept (nil_from_length c.args.writes.now none) part,
     )
 
 pub returns-in_err-block-clause-known : goal.returns-in_err-block-clause-known

@@ -1,7 +1,0 @@
-use Rattle.std.proofs.Common.{take}
-use Rattle.objset.proofs.Underway.{IsUnderway}
-use Rattle.objset.proofs.changing.change_each.Given as goal
-
-abbrev pub invariant-loop-change : goal.invariant-loop-change
-invariant-loop-change g l =
-    IsUnderway l.copies l.fn.store l.store l.missing l.set l.birth (take l.change-index l.changes) l.writes.items l.fn.replaced.items l.replaced.items
