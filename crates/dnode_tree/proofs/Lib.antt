@@ -5,6 +5,7 @@ pub mod Spans
 pub mod Collecting
 pub mod Fitting
 pub mod Kept
+pub mod Births
 pub mod Fills
 pub mod Exchanging
 pub mod NewArrays

@@ -1,5 +1,5 @@
 -- The parts below a root are rewritten one after the other.
-use Rattle.std.proofs.Common.{◌≡◌, ◌≢◌, ℕ, suc, ◌+◌, ◌*◌, ◌^◌, ◌<◌, ◌≤◌, List, [], ◌∷◌, ◌++◌, length, take, get_or, set, Option, inl, inr, refl, sym, ap, ◌∙◌, subst, arith, append_assoc, append-nil, length-append, get_or-set_same, get_or-set_other}
+use Rattle.std.proofs.Common.{◌≡◌, ◌≢◌, ℕ, suc, ◌+◌, ◌*◌, ◌^◌, ◌<◌, ◌≤◌, List, [], ◌∷◌, ◌++◌, length, take, get_or, set, Option, Some, inl, inr, refl, sym, ap, ◌∙◌, subst, arith, append_assoc, append-nil, length-append, get_or-set_same, get_or-set_other}
 use Rattle.std.proofs.lemmas.Bool.{cases_eq, cases_lt}
 use Rattle.std.proofs.lemmas.List.{take_all, get_or_append_left, length-set}
 use Rattle.std.proofs.lemmas.List.Concat.{flat_map-append}
@@ -17,7 +17,9 @@ use Rattle.dnode_tree.proofs.Exchanging.{nothing_exchanged, both_exchanged, bloc
 use Rattle.dnode_tree.proofs.Fills.{fill_bound, total_fits}
 use Rattle.dnode_tree.proofs.Kept.{subtree_as}
 use Rattle.dnode_tree.specs.declared.writes.CopyCounts.{CopyCounts}
-use Rattle.dnode_tree.specs.PartsRewritten.{IsPartRewritten, AreRewrittenTo, AreRewritten}
+use Rattle.dnode_tree.specs.Births.{AreBirths}
+use Rattle.dnode_tree.specs.PartsRewritten.{Ages, IsPartRewritten, AreRewrittenTo, AreRewritten}
+use Rattle.dnode_tree.proofs.Births.{births_as, births_later}
 use Rattle.dnode_tree.specs.Rewriting.{IsExchanged}
 use Rattle.dnode_tree.specs.Subtree.{asked_of, IsSubtree, AreParts, joined}
 use Rattle.dnode_tree.specs.Writes.{copies_at}
@@ -37,10 +39,11 @@ get_or-push_before parts part k j count low = get_or_append_left parts (part ∷
 get_or-push_here : (parts : List (List Block)) (part : List Block) (k : ℕ) → length parts ≡ k → get_or (parts ++ part ∷ []) k [] ≡ part
 get_or-push_here parts part k count = ap (λ n. get_or (parts ++ part ∷ []) n []) (sym count) ∙ get_or-append_seam parts part [] []
 
-pub rewriting_begins : {copies : CopyCounts} (stored planned : Contents) (property : ℕ → Property) (level first bound birth : ℕ) (pointers : List BlockPtr) (array new_array : ℕ → Option (List ℕ)) (parts : List (List Block)) (noted : List Block)
+pub rewriting_begins : {ages : Option Ages} {copies : CopyCounts} (stored planned : Contents) (property : ℕ → Property) (level first bound birth : ℕ) (pointers : List BlockPtr) (array new_array : ℕ → Option (List ℕ)) (parts : List (List Block)) (noted : List Block)
     → Extends stored planned → AreParts stored property level first bound pointers array parts
-    → AreRewrittenTo copies stored planned planned property level first bound birth pointers array new_array parts [] 0 noted noted
-rewriting_begins stored planned property level first bound birth pointers array new_array parts noted kept are = record {
+    → ((told : Ages) → ages ≡ Some told → (j : ℕ) → j < 128 → AreBirths stored level (first + j * 128 ^ level) (get_or pointers j Hole) told.old)
+    → AreRewrittenTo ages copies stored planned planned property level first bound birth pointers array new_array parts [] 0 noted noted
+rewriting_begins stored planned property level first bound birth pointers array new_array parts noted kept are aged = record {
   kept = extends_itself planned;
   pointer_count = are.pointer_count;
   count = are.count;
@@ -50,19 +53,23 @@ rewriting_begins stored planned property level first bound birth pointers array 
   gone = [];
   noted_are = sym (append-nil noted);
   exchanged = nothing_exchanged birth planned [];
+  renewed = λ told told_is j low. absurd (omega (arith, low));
+  aged = λ told told_is j from low. aged told told_is j low;
 }
 
-module _ {copies : CopyCounts} (stored planned now : Contents) (property : ℕ → Property) (level first bound birth : ℕ) (pointers : List BlockPtr) (array new_array : ℕ → Option (List ℕ))
+module _ {ages : Option Ages} {copies : CopyCounts} (stored planned now : Contents) (property : ℕ → Property) (level first bound birth : ℕ) (pointers : List BlockPtr) (array new_array : ℕ → Option (List ℕ))
     (before after : List (List Block)) (k : ℕ) (noted noted_now : List Block)
-    (so_far : AreRewrittenTo copies stored planned now property level first bound birth pointers array new_array before after k noted noted_now) (low : k < 128) where
+    (so_far : AreRewrittenTo ages copies stored planned now property level first bound birth pointers array new_array before after k noted noted_now) (low : k < 128) where
   taken : joined (take k before) ++ get_or before k [] ≡ joined (take (k + 1) before)
   taken = joined-take_more before k (omega (arith, low, so_far.count))
 
   -- the next part stays
   pub part_skipped : Extends stored now → bound ≤ birth
       → ((id : ℕ) → first + k * 128 ^ level ≤ id → id < first + k * 128 ^ level + 128 ^ level → array id ≡ new_array id)
-      → AreRewrittenTo copies stored planned now property level first bound birth pointers array new_array before (after ++ get_or before k [] ∷ []) (k + 1) noted noted_now
-  part_skipped there le same = record {
+      → ((told : Ages) → ages ≡ Some told → (deep from : ℕ) → deep ≤ level → first + k * 128 ^ level ≤ from → from + 128 ^ deep ≤ first + k * 128 ^ level + 128 ^ level
+      → told.old deep from ≡ told.new deep from)
+      → AreRewrittenTo ages copies stored planned now property level first bound birth pointers array new_array before (after ++ get_or before k [] ∷ []) (k + 1) noted noted_now
+  part_skipped there le same stays = record {
     kept = so_far.kept;
     pointer_count = so_far.pointer_count;
     count = so_far.count;
@@ -86,13 +93,21 @@ module _ {copies : CopyCounts} (stored planned now : Contents) (property : ℕ �
         (subst (λ blocks. IsExchanged copies birth planned now blocks (joined after ++ get_or before k []) (so_far.gone ++ [])) taken
         (both_exchanged birth planned now now (joined (take k before)) (joined after) so_far.gone (get_or before k []) (get_or before k []) [] so_far.kept (extends_itself now)
         so_far.exchanged (nothing_exchanged birth now (get_or before k [])))));
+    renewed = λ told told_is j under.
+        elim (cases_eq j k) [
+          | inl here ↦
+              subst (λ n. AreBirths now level (first + n * 128 ^ level) (get_or pointers n Hole) told.new) (sym here)
+              (births_as stored now there level (first + k * 128 ^ level) (get_or pointers k Hole) told.old told.new (stays told told_is) (so_far.aged told told_is k (omega arith) low))
+          | inr other ↦ so_far.renewed told told_is j (omega (arith, under, other))
+        ];
+    aged = λ told told_is j from under. so_far.aged told told_is j (omega (arith, from)) under;
   }
 
   -- the next part has a new root
   pub part_rewritten : (later : Contents) (block : Block) (run_array : ℕ → Option (List ℕ)) (noted_later : List Block)
       → ((id : ℕ) → first + k * 128 ^ level ≤ id → id < first + k * 128 ^ level + 128 ^ level → run_array id ≡ new_array id)
-      → (part : IsPartRewritten copies now later property level (first + k * 128 ^ level) birth (At block) run_array (get_or before k []) noted_now noted_later)
-      → AreRewrittenTo copies stored planned later property level first bound birth (set pointers k (At block)) array new_array before (after ++ part.blocks ∷ []) (k + 1) noted noted_later
+      → (part : IsPartRewritten ages copies now later property level (first + k * 128 ^ level) birth (At block) run_array (get_or before k []) noted_now noted_later)
+      → AreRewrittenTo ages copies stored planned later property level first bound birth (set pointers k (At block)) array new_array before (after ++ part.blocks ∷ []) (k + 1) noted noted_later
   part_rewritten later block run_array noted_later same part = record {
     kept = extends_on planned now later so_far.kept part.kept;
     pointer_count = length-set pointers k (At block) ∙ so_far.pointer_count;
@@ -122,12 +137,26 @@ module _ {copies : CopyCounts} (stored planned now : Contents) (property : ℕ �
         subst (λ blocks. IsExchanged copies birth planned later (joined (take (k + 1) before)) blocks (so_far.gone ++ part.gone)) (sym (joined-push after part.blocks))
         (subst (λ blocks. IsExchanged copies birth planned later blocks (joined after ++ part.blocks) (so_far.gone ++ part.gone)) taken
         (both_exchanged birth planned now later (joined (take k before)) (joined after) so_far.gone (get_or before k []) part.blocks part.gone so_far.kept part.kept so_far.exchanged part.exchanged));
+    renewed = λ told told_is j under.
+        elim (cases_eq j k) [
+          | inl here ↦
+              subst (λ n. AreBirths later level (first + n * 128 ^ level) (get_or (set pointers k (At block)) n Hole) told.new) (sym here)
+              (subst (λ pointer. AreBirths later level (first + k * 128 ^ level) pointer told.new)
+              (sym (get_or-set_same pointers k (At block) Hole (omega (arith, low, so_far.pointer_count)))) (part.renewed told told_is))
+          | inr other ↦
+              subst (λ pointer. AreBirths later level (first + j * 128 ^ level) pointer told.new) (sym (get_or-set_other pointers k j (At block) Hole other))
+              (births_later now later part.kept level (first + j * 128 ^ level) (get_or pointers j Hole) told.new (so_far.renewed told told_is j (omega (arith, under, other))))
+        ];
+    aged = λ told told_is j from under.
+        let other : j ≢ k = λ is. omega (arith, is, from) in
+        subst (λ pointer. AreBirths stored level (first + j * 128 ^ level) pointer told.old) (sym (get_or-set_other pointers k j (At block) Hole other))
+        (so_far.aged told told_is j (omega (arith, from)) under);
   }
 
 -- all parts are rewritten, and then the root
-module _ {copies : CopyCounts} (stored planned now : Contents) (property : ℕ → Property) (level first bound birth : ℕ) (pointers : List BlockPtr) (array new_array : ℕ → Option (List ℕ))
+module _ {ages : Option Ages} {copies : CopyCounts} (stored planned now : Contents) (property : ℕ → Property) (level first bound birth : ℕ) (pointers : List BlockPtr) (array new_array : ℕ → Option (List ℕ))
     (before after : List (List Block)) (k : ℕ) (noted noted_now : List Block)
-    (so_far : AreRewrittenTo copies stored planned now property level first bound birth pointers array new_array before after k noted noted_now) where
+    (so_far : AreRewrittenTo ages copies stored planned now property level first bound birth pointers array new_array before after k noted noted_now) where
   -- the fill counts of the pointers have a sum
   pub sum_fits : level < 5 → total_fill pointers < 2 ^ 64
   sum_fits low = total_fits pointers level so_far.pointer_count low (λ j under.
@@ -138,8 +167,9 @@ module _ {copies : CopyCounts} (stored planned now : Contents) (property : ℕ �
 
   pub root_rewritten : (later : Contents) (block : Block) (bytes : List ℕ) → k ≡ 128 → Adds now later block bytes → SpellsIndirect bytes pointers
       → Asks (asked_of (property (suc level)) birth) block → block.birth ≡ birth → block.fill ≡ total_fill pointers → length (dvas block.copies) ≡ copies_at copies block.property.level
-      → AreRewritten copies planned later property level first birth block new_array before noted noted_now
-  root_rewritten later block bytes all adds spells asks born filled copied = record {
+      → ((told : Ages) → ages ≡ Some told → told.new (suc level) first ≡ birth)
+      → AreRewritten ages copies planned later property level first birth block new_array before noted noted_now
+  root_rewritten later block bytes all adds spells asks born filled copied renewed = record {
     kept = extends_on planned now later so_far.kept adds.kept;
     after = after;
     part = record {
@@ -159,4 +189,15 @@ module _ {copies : CopyCounts} (stored planned now : Contents) (property : ℕ �
     noted_are = so_far.noted_are;
     exchanged = block_added birth planned now later (joined before) (joined after) so_far.gone block bytes so_far.kept
         (subst (λ parts. IsExchanged copies birth planned now (joined parts) (joined after) so_far.gone) (take_all k before (omega (arith, all, so_far.count))) so_far.exchanged) adds born copied;
+    renewed = λ told told_is. (
+      renewed told told_is ∙ sym born,
+      record {
+        bytes = bytes;
+        known = adds.added;
+        pointers = pointers;
+        spelled = spells;
+        below = λ j under. births_later now later adds.kept level (first + j * 128 ^ level) (get_or pointers j Hole) told.new
+            (so_far.renewed told told_is j (omega (arith, under, all)));
+      },
+    );
   }

@@ -1,5 +1,5 @@
 -- The writes of an object, a level after the other.
-use Rattle.std.proofs.Common.{◌≡◌, ℕ, ◌+◌, ◌-◌, ◌*◌, ◌^◌, ◌<◌, ◌≤◌, ◌≢◌, lit<, List, [], length, take, drop, get_or, Option, None, All, refl, sym, ap, ◌∙◌, subst, arith, add-one}
+use Rattle.std.proofs.Common.{◌≡◌, ℕ, suc, ◌+◌, ◌-◌, ◌*◌, ◌^◌, ◌<◌, ◌≤◌, ◌≢◌, lit<, List, [], length, take, drop, get_or, Option, Some, None, Bool, true, false, if◌then◌else◌, All, refl, sym, ap, ◌∙◌, subst, arith, add-one}
 use Rattle.std.proofs.lemmas.List.Elements.{All-take, All-drop, All-weaker}
 use Rattle.std.proofs.Math.Nat.{pow-le-pow_right}
 use Rattle.block_pointer.specs.declared.block.Block.{Block}
@@ -15,7 +15,13 @@ use Rattle.dnode_tree.specs.declared.writes.BlockWrite.{BlockWrite}
 use Rattle.dnode_tree.specs.declared.writes.CopyCounts.{CopyCounts}
 use Rattle.dnode_tree.specs.declared.writes.Rewrite.{Rewrite}
 use Rattle.block_store.specs.Steps.{OnlyReadsAndPlans, AnswersAreTrue, LossIsTolerable}
-use Rattle.dnode_tree.specs.PartsRewritten.{IsPartRewritten, HasWrites}
+use Rattle.dnode_tree.specs.Births.{AreBirths, HasBirths, height_of, is_above, reaches, births_after}
+use Rattle.dnode_tree.specs.PartsRewritten.{Ages, AgesOfParts, AreBirthsAfter, IsPartRewritten, HasWrites}
+use Rattle.dnode_tree.proofs.Births.{reaches_taken, reaches_dropped}
+use Rattle.dnode_tree.proofs.Spans.{span_positive}
+use Rattle.std.specs.Prelude.{nat_lt, ◌&&◌, ◌==◌}
+use Rattle.std.proofs.lemmas.Bool.{ne_eqb}
+use Rattle.std.proofs.lemmas.Bool.Decides.{nat_tests}
 use Rattle.dnode_tree.specs.Rewriting.{IsExchanged, IsRewritten}
 use Rattle.dnode_tree.specs.Subtree.{IsSubtree, HasProperty}
 use Rattle.dnode_tree.specs.Tree.{property_of, IsTree}
@@ -26,6 +32,12 @@ use Rattle.dnode_tree.proofs.Spans.{span_up}
 use Rattle.block_store.proofs.Steps.{steps_on}
 use Rattle.dnode_tree.proofs.Steps.{true_sooner, true_later, few_later}
 
+-- where births are told, they are those of the object, and after the writes
+abbrev pub AgesOfTree : ℕ → Contents → ObjectNode → List BlockWrite → Option Ages → Type 0
+AgesOfTree birth stored node writes ages =
+    (told : Ages) → ages ≡ Some told → HasBirths stored node told.old
+    × ((level first : ℕ) → told.new level first ≡ births_after (height_of node) writes birth told.old level first)
+
 -- the tree has that many levels above the data, and what its places have room for is written
 pub record IsRaising (copies : CopyCounts) (start now : Store) (missing : List ℕ) (node : ObjectNode) (level birth : ℕ) (pointer : BlockPtr) (writes rest : List BlockWrite) (noted_now : List Block) : Type 0 where
   pub steps : OnlyReadsAndPlans start now missing
@@ -35,17 +47,19 @@ pub record IsRaising (copies : CopyCounts) (start now : Store) (missing : List �
   pub between : AreBetween (128 ^ level) (128 ^ 5) rest
   pub order : AreInOrder rest
   pub whole : AreWholeBlocks node rest
-  pub rewriting : (stored planned : Contents) (array : ℕ → Option (List ℕ)) (blocks : List Block) → Plans start stored planned
+  pub reached : (low first : ℕ) → 128 ^ level ≤ first → reaches writes low first ≡ reaches rest low first
+  pub rewriting : (ages : Option Ages) (stored planned : Contents) (array : ℕ → Option (List ℕ)) (blocks : List Block) → Plans start stored planned
       → IsSubtree stored (property_of node) (levels_of node.highest - 1) 0 birth node.pointer array blocks
       → ((id : ℕ) → node.highest < id → array id ≡ None)
+      → AgesOfTree birth stored node writes ages
       → AnswersAreTrue start now
       → (present : Contents) × Plans now stored present
-      × IsPartRewritten copies planned present (property_of node) level 0 birth pointer (written writes array) blocks [] noted_now
+      × IsPartRewritten ages copies planned present (property_of node) level 0 birth pointer (written writes array) blocks [] noted_now
       × HasWrites (written writes array) array rest (128 ^ level) (128 ^ 5)
 
-pub part_as : {copies : CopyCounts} (planned later : Contents) (property : ℕ → Property) (level first birth : ℕ) (pointer : BlockPtr) (array other : ℕ → Option (List ℕ)) (before noted noted_later : List Block)
+pub part_as : {ages : Option Ages} {copies : CopyCounts} (planned later : Contents) (property : ℕ → Property) (level first birth : ℕ) (pointer : BlockPtr) (array other : ℕ → Option (List ℕ)) (before noted noted_later : List Block)
     → ((id : ℕ) → first ≤ id → id < first + 128 ^ level → array id ≡ other id)
-    → IsPartRewritten copies planned later property level first birth pointer array before noted noted_later → IsPartRewritten copies planned later property level first birth pointer other before noted noted_later
+    → IsPartRewritten ages copies planned later property level first birth pointer array before noted noted_later → IsPartRewritten ages copies planned later property level first birth pointer other before noted noted_later
 part_as planned later property level first birth pointer array other before noted noted_later same part = record {
   kept = part.kept;
   blocks = part.blocks;
@@ -53,7 +67,12 @@ part_as planned later property level first birth pointer array other before note
   gone = part.gone;
   noted_are = part.noted_are;
   exchanged = part.exchanged;
+  renewed = part.renewed;
 }
+
+-- where no births are told
+pub untold : (birth : ℕ) (stored : Contents) (node : ObjectNode) (writes : List BlockWrite) → AgesOfTree birth stored node writes None
+untold birth stored node writes told is = absurd (let clash : None ≡ Some told = is in cc)
 
 pub power_rises : (low high : ℕ) → low ≤ high → 128 ^ low ≤ 128 ^ high
 power_rises low high le = pow-le-pow_right (lit< tt) le
@@ -72,6 +91,26 @@ pub tree_later : (stored : Contents) (bound birth : ℕ) (node : ObjectNode) (ar
     → IsTree stored birth node array blocks
 tree_later stored bound birth node array blocks le tree = record { root = root_of stored bound birth node array blocks le tree; behind = tree.behind }
 
+lt_false : (a b : ℕ) → b ≤ a → nat_lt a b ≡ false
+lt_false a b le = grind (arith, nat_tests)
+
+lt_true : (a b : ℕ) → a < b → nat_lt a b ≡ true
+lt_true a b lt = grind (arith, nat_tests)
+
+and_false : (test : Bool) → (test && false) ≡ false
+and_false true = refl
+and_false false = refl
+
+-- a root that is not above the one before
+not_above : (height level first : ℕ) → level ≤ height → is_above height level first ≡ false
+not_above height level first le = ap (λ test. test && (first == 0)) (lt_false height level le)
+
+not_first : (height level first : ℕ) → 0 < first → is_above height level first ≡ false
+not_first height level first some = ap (λ test. nat_lt height level && test) (ne_eqb first 0 (λ is. omega (arith, is, some))) ∙ and_false (nat_lt height level)
+
+above_it : (height level : ℕ) → height < level → is_above height level 0 ≡ true
+above_it height level lt = ap (λ test. test && true) (lt_true height level lt)
+
 module _ (start now : Store) (missing : List ℕ) (node : ObjectNode) (birth : ℕ) (pointer : BlockPtr) (writes run rest : List BlockWrite) (n middle : ℕ) (noted_first noted_now : List Block)
     (sooner : All (λ write. write.id < middle) (take n writes)) (later : (other : BlockWrite) → n < length writes → middle ≤ (get_or writes n other).id)
     (run_is : run ≡ take n writes) (rest_is : rest ≡ drop n writes) (order : AreInOrder writes) (ids : All (λ write. write.id < 128 ^ 5) writes) where
@@ -84,10 +123,13 @@ module _ (start now : Store) (missing : List ℕ) (node : ObjectNode) (birth : �
   -- the writes that the root has places for are done
   pub raising_begins : {copies : CopyCounts} (level : ℕ) → level ≡ levels_of node.highest - 1 → middle ≡ 128 ^ level → middle ≤ 128 ^ 5 → noted_first ≡ [] → AreWholeBlocks node writes
       → OnlyReadsAndPlans start now missing → Fits pointer → HasProperty (property_of node (levels_of node.highest - 1)) pointer
-      → ((stored planned : Contents) (array : ℕ → Option (List ℕ)) (blocks : List Block) → Plans start stored planned
-      → IsSubtree stored (property_of node) (levels_of node.highest - 1) 0 birth node.pointer array blocks → AnswersAreTrue start now
+      → ((ages : Option Ages) (stored planned : Contents) (array : ℕ → Option (List ℕ)) (blocks : List Block) → Plans start stored planned
+      → IsSubtree stored (property_of node) (levels_of node.highest - 1) 0 birth node.pointer array blocks
+      → ((told : Ages) → ages ≡ Some told → AreBirths stored (levels_of node.highest - 1) 0 node.pointer told.old
+      × AreBirthsAfter birth run told.old told.new (levels_of node.highest - 1) 0 (0 + 128 ^ (levels_of node.highest - 1)))
+      → AnswersAreTrue start now
       → (present : Contents) × Plans now stored present
-      × IsPartRewritten copies planned present (property_of node) (levels_of node.highest - 1) 0 birth pointer (written run array) blocks noted_first noted_now)
+      × IsPartRewritten ages copies planned present (property_of node) (levels_of node.highest - 1) 0 birth pointer (written run array) blocks noted_first noted_now)
       → IsRaising copies start now missing node level birth pointer writes rest noted_now
   raising_begins {copies = copies} level level_is middle_is small none whole steps fits property step =
       subst (λ ws. IsRaising copies start now missing node level birth pointer writes ws noted_now) (sym rest_is)
@@ -99,11 +141,12 @@ module _ (start now : Store) (missing : List ℕ) (node : ObjectNode) (birth : �
         between = λ j other low. (omega (arith, behind j other low, bottom), All-drop (λ (write : BlockWrite). write.id < 128 ^ 5) n writes ids j other low);
         order = order_dropped writes n order;
         whole = All-drop (λ (write : BlockWrite). length write.bytes.items ≡ node.data_sectors * 512) n writes whole;
-        rewriting = λ stored planned array blocks plans root nothing honest.
-            let done = step stored planned array blocks plans root honest in (
+        reached = λ low first from. reaches_dropped writes n middle low first sooner (omega (arith, from, bottom));
+        rewriting = λ ages stored planned array blocks plans root nothing aged honest.
+            let done = step ages stored planned array blocks plans root (λ told told_is. ((aged told told_is).0, root_ages ages stored aged told told_is)) honest in (
               done.0,
               done.1,
-              subst (λ noted. IsPartRewritten copies planned done.0 (property_of node) (levels_of node.highest - 1) 0 birth pointer (written writes array) blocks noted noted_now) none
+              subst (λ noted. IsPartRewritten ages copies planned done.0 (property_of node) (levels_of node.highest - 1) 0 birth pointer (written writes array) blocks noted noted_now) none
                   (part_as planned done.0 (property_of node) (levels_of node.highest - 1) 0 birth pointer (written run array) (written writes array) blocks noted_first noted_now
                   (λ id from under. ap (λ ws. written ws array id) run_is
                   ∙ sym (has_before (written writes array) array writes n 0 middle (128 ^ 5) (all_writes array) sooner behind small id from (omega (arith, under, bottom)))) done.2),
@@ -114,6 +157,14 @@ module _ (start now : Store) (missing : List ℕ) (node : ObjectNode) (birth : �
     where
       bottom : middle ≡ 128 ^ (levels_of node.highest - 1)
       bottom = middle_is ∙ ap (λ l. 128 ^ l) level_is
+
+      root_ages : (ages : Option Ages) (stored : Contents) → AgesOfTree birth stored node writes ages → (told : Ages) → ages ≡ Some told
+          → AreBirthsAfter birth run told.old told.new (levels_of node.highest - 1) 0 (0 + 128 ^ (levels_of node.highest - 1))
+      root_ages ages stored aged told told_is low first under from before =
+          (aged told told_is).1 low first
+          ∙ ap (λ test. if test then birth else (if reaches writes low first then birth else told.old low first)) (not_above (height_of node) low first under)
+          ∙ ap (λ test. if test then birth else told.old low first)
+          (reaches_taken writes n middle low first behind (omega (arith, before, bottom)) ∙ ap (λ ws. reaches ws low first) (sym run_is))
 
 -- the writes of one more level
 module _ {copies : CopyCounts} (start now : Store) (missing : List ℕ) (node : ObjectNode) (level birth : ℕ) (pointer : BlockPtr) (writes rest run others : List BlockWrite) (noted_now : List Block) (n middle : ℕ)
@@ -138,12 +189,26 @@ module _ {copies : CopyCounts} (start now : Store) (missing : List ℕ) (node : 
         (subst (λ m. HasWrites new_array array (take n rest) (128 ^ level) m) middle_is
         (has_before new_array array rest n (128 ^ level) middle (128 ^ 5) has sooner level_behind small))
 
+    level_ages : (ages : Option Ages) (stored : Contents) → AgesOfTree birth stored node writes ages → AgesOfParts birth level 0 1 run ages
+    level_ages ages stored aged told told_is = (
+      (aged told told_is).1 (suc level) 0
+          ∙ ap (λ test. if test then birth else (if reaches writes (suc level) 0 then birth else told.old (suc level) 0))
+          (above_it (height_of node) (suc level) (omega (arith, so_far.above))),
+      λ low first under from before.
+          (aged told told_is).1 low first
+          ∙ ap (λ test. if test then birth else (if reaches writes low first then birth else told.old low first))
+          (not_first (height_of node) low first (omega (arith, from, span_positive level)))
+          ∙ ap (λ test. if test then birth else told.old low first)
+          (so_far.reached low first (omega (arith, from)) ∙ reaches_taken rest n middle low first level_behind (omega (arith, before, middle_is)) ∙ ap (λ ws. reaches ws low first) (sym run_is)),
+    )
+
     pub raising_goes_on : (new_pointer : BlockPtr) (noted_later : List Block) → Fits new_pointer → HasProperty (property_of node (level + 1)) new_pointer
-        → ((stored planned present : Contents) (array new_array : ℕ → Option (List ℕ)) (before noted : List Block) → Plans now stored present
-        → IsPartRewritten copies planned present (property_of node) level 0 birth pointer new_array before noted noted_now
-        → ((id : ℕ) → 128 ^ level ≤ id → array id ≡ None) → HasWrites new_array array run (128 ^ level) (128 * 128 ^ level) → AnswersAreTrue now after_write
+        → ((ages : Option Ages) (stored planned present : Contents) (array new_array : ℕ → Option (List ℕ)) (before noted : List Block) → Plans now stored present
+        → IsPartRewritten ages copies planned present (property_of node) level 0 birth pointer new_array before noted noted_now
+        → ((id : ℕ) → 128 ^ level ≤ id → array id ≡ None) → HasWrites new_array array run (128 ^ level) (128 * 128 ^ level)
+        → AgesOfParts birth level 0 1 run ages → AnswersAreTrue now after_write
         → (later : Contents) × Plans after_write stored later
-        × IsPartRewritten copies planned later (property_of node) (level + 1) 0 birth new_pointer new_array before noted noted_later)
+        × IsPartRewritten ages copies planned later (property_of node) (level + 1) 0 birth new_pointer new_array before noted noted_later)
         → IsRaising copies start after_write missing node (level + 1) birth new_pointer writes others noted_later
     raising_goes_on new_pointer noted_later fits property step =
         subst (λ ws. IsRaising copies start after_write missing node (level + 1) birth new_pointer writes ws noted_later) (sym others_are) (record {
@@ -157,10 +222,12 @@ module _ {copies : CopyCounts} (start now : Store) (missing : List ℕ) (node : 
           );
           order = order_dropped rest n so_far.order;
           whole = All-drop (λ (write : BlockWrite). length write.bytes.items ≡ node.data_sectors * 512) n rest so_far.whole;
-          rewriting = λ stored planned array blocks plans root nothing honest.
-              let there = so_far.rewriting stored planned array blocks plans root nothing (true_sooner start now after_write missing so_far.steps steps honest) in
-              let done = step stored planned there.0 array (written writes array) blocks [] there.1 there.2 (nothing_behind node array level enough so_far.above nothing)
-              (level_has (written writes array) array there.3) (true_later start now after_write missing so_far.steps steps honest) in (
+          reached = λ low first from.
+              so_far.reached low first (omega (arith, from, up, middle_is, span_positive level)) ∙ reaches_dropped rest n middle low first sooner (omega (arith, from, up));
+          rewriting = λ ages stored planned array blocks plans root nothing aged honest.
+              let there = so_far.rewriting ages stored planned array blocks plans root nothing aged (true_sooner start now after_write missing so_far.steps steps honest) in
+              let done = step ages stored planned there.0 array (written writes array) blocks [] there.1 there.2 (nothing_behind node array level enough so_far.above nothing)
+              (level_has (written writes array) array there.3) (level_ages ages stored aged) (true_later start now after_write missing so_far.steps steps honest) in (
                 done.0,
                 done.1,
                 done.2,
@@ -173,39 +240,62 @@ module _ {copies : CopyCounts} (start now : Store) (missing : List ℕ) (node : 
         up = middle_is ∙ omega (arith, span_up (level + 1) level (add-one level))
 
     pub raising_fails : (Refused : Type 0)
-        → ((stored planned present : Contents) (array new_array : ℕ → Option (List ℕ)) (before noted : List Block) → Plans now stored present
-        → IsPartRewritten copies planned present (property_of node) level 0 birth pointer new_array before noted noted_now
-        → ((id : ℕ) → 128 ^ level ≤ id → array id ≡ None) → HasWrites new_array array run (128 ^ level) (128 * 128 ^ level) → AnswersAreTrue now after_write
+        → ((ages : Option Ages) (stored planned present : Contents) (array new_array : ℕ → Option (List ℕ)) (before noted : List Block) → Plans now stored present
+        → IsPartRewritten ages copies planned present (property_of node) level 0 birth pointer new_array before noted noted_now
+        → ((id : ℕ) → 128 ^ level ≤ id → array id ≡ None) → HasWrites new_array array run (128 ^ level) (128 * 128 ^ level)
+        → AgesOfParts birth level 0 1 run ages → AnswersAreTrue now after_write
         → LossIsTolerable now after_write missing → Refused)
         → (stored planned : Contents) (bound : ℕ) (array : ℕ → Option (List ℕ)) (blocks : List Block) → Plans start stored planned → IsTree stored bound node array blocks → bound ≤ birth
         → AnswersAreTrue start after_write → LossIsTolerable start after_write missing → Refused
     raising_fails Refused step stored planned bound array blocks plans tree le honest few =
-        let there = so_far.rewriting stored planned array blocks plans (root_of stored bound birth node array blocks le tree) tree.behind (true_sooner start now after_write missing so_far.steps steps honest) in
-        step stored planned there.0 array (written writes array) blocks [] there.1 there.2 (nothing_behind node array level enough so_far.above tree.behind)
-        (level_has (written writes array) array there.3) (true_later start now after_write missing so_far.steps steps honest) (few_later start now after_write missing so_far.steps steps few)
+        let none : AgesOfTree birth stored node writes None = untold birth stored node writes in
+        let there = so_far.rewriting None stored planned array blocks plans (root_of stored bound birth node array blocks le tree) tree.behind none (true_sooner start now after_write missing so_far.steps steps honest) in
+        step None stored planned there.0 array (written writes array) blocks [] there.1 there.2 (nothing_behind node array level enough so_far.above tree.behind)
+        (level_has (written writes array) array there.3) (level_ages None stored none) (true_later start now after_write missing so_far.steps steps honest) (few_later start now after_write missing so_far.steps steps few)
 
 -- the tree with all writes
-pub tree_rewritten : {copies : CopyCounts} (start now : Store) (missing : List ℕ) (node : ObjectNode) (level birth : ℕ) (writes rest : List BlockWrite) (done : Rewrite)
-    → IsRaising copies start now missing node level birth done.node.pointer writes rest done.replaced.items
-    → property_of done.node ≡ property_of node → level ≡ levels_of done.node.highest - 1 → node.highest ≤ done.node.highest
-    → All (λ write. write.id ≤ done.node.highest) writes
-    → (stored planned : Contents) (bound : ℕ) (array : ℕ → Option (List ℕ)) (blocks : List Block) → Plans start stored planned → IsTree stored bound node array blocks → bound ≤ birth → AnswersAreTrue start now
-    → (present : Contents) × Plans now stored present × IsRewritten copies planned present birth done (written writes array) blocks
-tree_rewritten {copies = copies} start now missing node level birth writes rest done raising same level_is grown within stored planned bound array blocks plans tree le honest =
-    let there = raising.rewriting stored planned array blocks plans (root_of stored bound birth node array blocks le tree) tree.behind honest in
-    let made : IsSubtree there.0 (property_of done.node) level 0 birth done.node.pointer (written writes array) there.2.blocks =
-    subst (λ property. IsSubtree there.0 property level 0 birth done.node.pointer (written writes array) there.2.blocks) (sym same) there.2.part in (
-      there.0,
-      there.1,
-      record {
-        kept = there.2.kept;
-        blocks = there.2.blocks;
-        tree = record {
-          root = subst (λ l. IsSubtree there.0 (property_of done.node) l 0 birth done.node.pointer (written writes array) there.2.blocks) level_is made;
-          behind = λ id past.
-              written_others writes array id (All-weaker (λ w. w.id ≤ done.node.highest) (λ w. w.id ≢ id) (λ w under is. omega (arith, under, is, past)) writes within)
-              ∙ tree.behind id (omega (arith, grown, past));
-        };
-        exchanged = subst (λ gone. IsExchanged copies birth planned there.0 blocks there.2.blocks gone) (sym there.2.noted_are) there.2.exchanged;
-      },
-    )
+module _ {copies : CopyCounts} (start now : Store) (missing : List ℕ) (node : ObjectNode) (level birth : ℕ) (writes rest : List BlockWrite) (done : Rewrite)
+    (raising : IsRaising copies start now missing node level birth done.node.pointer writes rest done.replaced.items)
+    (same : property_of done.node ≡ property_of node) (level_is : level ≡ levels_of done.node.highest - 1) (grown : node.highest ≤ done.node.highest)
+    (within : All (λ write. write.id ≤ done.node.highest) writes) where
+  whole_tree : (ages : Option Ages) (stored planned : Contents) (bound : ℕ) (array : ℕ → Option (List ℕ)) (blocks : List Block) → Plans start stored planned → IsTree stored bound node array blocks → bound ≤ birth
+      → AgesOfTree birth stored node writes ages → AnswersAreTrue start now
+      → (present : Contents) × Plans now stored present × IsRewritten copies planned present birth done (written writes array) blocks
+      × ((told : Ages) → ages ≡ Some told → HasBirths present done.node told.new)
+  whole_tree ages stored planned bound array blocks plans tree le aged honest =
+      let there = raising.rewriting ages stored planned array blocks plans (root_of stored bound birth node array blocks le tree) tree.behind aged honest in
+      let made : IsSubtree there.0 (property_of done.node) level 0 birth done.node.pointer (written writes array) there.2.blocks =
+      subst (λ property. IsSubtree there.0 property level 0 birth done.node.pointer (written writes array) there.2.blocks) (sym same) there.2.part in (
+        there.0,
+        there.1,
+        record {
+          kept = there.2.kept;
+          blocks = there.2.blocks;
+          tree = record {
+            root = subst (λ l. IsSubtree there.0 (property_of done.node) l 0 birth done.node.pointer (written writes array) there.2.blocks) level_is made;
+            behind = λ id past.
+                written_others writes array id (All-weaker (λ w. w.id ≤ done.node.highest) (λ w. w.id ≢ id) (λ w under is. omega (arith, under, is, past)) writes within)
+                ∙ tree.behind id (omega (arith, grown, past));
+          };
+          exchanged = subst (λ gone. IsExchanged copies birth planned there.0 blocks there.2.blocks gone) (sym there.2.noted_are) there.2.exchanged;
+        },
+        λ told told_is. subst (λ l. AreBirths there.0 l 0 done.node.pointer told.new) level_is (there.2.renewed told told_is),
+      )
+
+  pub tree_rewritten : (stored planned : Contents) (bound : ℕ) (array : ℕ → Option (List ℕ)) (blocks : List Block) → Plans start stored planned → IsTree stored bound node array blocks → bound ≤ birth → AnswersAreTrue start now
+      → (present : Contents) × Plans now stored present × IsRewritten copies planned present birth done (written writes array) blocks
+  tree_rewritten stored planned bound array blocks plans tree le honest =
+      let there = whole_tree None stored planned bound array blocks plans tree le (untold birth stored node writes) honest in
+      (there.0, there.1, there.2)
+
+  pub tree_renewed : (stored planned : Contents) (bound : ℕ) (array : ℕ → Option (List ℕ)) (blocks : List Block) (births : ℕ → ℕ → ℕ) → Plans start stored planned → IsTree stored bound node array blocks
+      → HasBirths stored node births → bound ≤ birth → AnswersAreTrue start now
+      → (present : Contents) × Plans now stored present × IsRewritten copies planned present birth done (written writes array) blocks
+      × HasBirths present done.node (births_after (height_of node) writes birth births)
+  tree_renewed stored planned bound array blocks births plans tree were le honest =
+      let told : Ages = record { old = births; new = births_after (height_of node) writes birth births } in
+      let aged : AgesOfTree birth stored node writes (Some told) = λ other is.
+      (let e : told ≡ other = cc in
+      subst (λ (t : Ages). HasBirths stored node t.old × ((l f : ℕ) → t.new l f ≡ births_after (height_of node) writes birth t.old l f)) e (were, λ l f. refl)) in
+      let there = whole_tree (Some told) stored planned bound array blocks plans tree le aged honest in
+      (there.0, there.1, there.2, there.3 told refl)

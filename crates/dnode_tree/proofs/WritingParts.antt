@@ -1,5 +1,5 @@
 -- The loop over the parts below a root that are written.
-use Rattle.std.proofs.Common.{◌≡◌, ℕ, ◌+◌, ◌*◌, ◌^◌, ◌<◌, ◌≤◌, ◌⊎◌, List, [], ◌∷◌, ◌++◌, length, take, drop, get_or, set, Option, All, inl, inr, refl, sym, ap, ◌∙◌, subst, arith, length-take, length-drop}
+use Rattle.std.proofs.Common.{◌≡◌, ℕ, ◌+◌, ◌*◌, ◌^◌, ◌<◌, ◌≤◌, ◌⊎◌, List, [], ◌∷◌, ◌++◌, length, take, drop, get_or, set, Option, Some, if◌then◌else◌, All, inl, inr, refl, sym, ap, ◌∙◌, subst, arith, length-take, length-drop}
 use Rattle.std.proofs.lemmas.List.{length-set, nil_from_length, get_or_default}
 use Rattle.std.proofs.lemmas.List.Elements.{All-take, All-drop}
 use Rattle.block_pointer.specs.declared.block.Block.{Block}
@@ -13,7 +13,9 @@ use Rattle.block_store.specs.Store.{Store}
 use Rattle.dnode_tree.specs.declared.writes.BlockWrite.{BlockWrite}
 use Rattle.dnode_tree.specs.declared.writes.CopyCounts.{CopyCounts}
 use Rattle.block_store.specs.Steps.{OnlyReadsAndPlans, AnswersAreTrue, LossIsTolerable}
-use Rattle.dnode_tree.specs.PartsRewritten.{IsPartRewritten, AreRewrittenTo, HasWrites}
+use Rattle.dnode_tree.specs.Births.{AreBirths, reaches}
+use Rattle.dnode_tree.specs.PartsRewritten.{Ages, AgesOfParts, AreBirthsAfter, IsPartRewritten, AreRewrittenTo, HasWrites}
+use Rattle.dnode_tree.proofs.Births.{after_taken, after_dropped}
 use Rattle.dnode_tree.specs.Subtree.{IsSubtree}
 use Rattle.dnode_tree.specs.Tree.{property_of}
 use Rattle.dnode_tree.specs.Writes.{AreInOrder, AreBetween, AreWholeBlocks, written}
@@ -33,13 +35,15 @@ pub record IsWritingParts (copies : CopyCounts) (start now : Store) (missing : L
   pub whole : AreWholeBlocks node rest
   pub filled : (0 < length rest) ⊎ (0 < total_fill pointers)
   pub count : length pointers ≡ 128
-  pub rewriting : (stored planned begun : Contents) (array new_array : ℕ → Option (List ℕ)) (before after : List (List Block)) (noted : List Block) → Plans start stored begun
-      → AreRewrittenTo copies stored planned begun (property_of node) level first bound birth origin array new_array before after from noted noted_first
+  pub rewriting : (ages : Option Ages) (stored planned begun : Contents) (array new_array : ℕ → Option (List ℕ)) (before after : List (List Block)) (noted : List Block) → Plans start stored begun
+      → AreRewrittenTo ages copies stored planned begun (property_of node) level first bound birth origin array new_array before after from noted noted_first
       → HasWrites new_array array writes (first + from * 128 ^ level) (first + 128 * 128 ^ level)
+      → AgesOfParts birth level first from writes ages
       → AnswersAreTrue start now
       → (present : Contents) × (done : List (List Block)) × Plans now stored present
-      × AreRewrittenTo copies stored planned present (property_of node) level first bound birth pointers array new_array before done k noted noted_now
+      × AreRewrittenTo ages copies stored planned present (property_of node) level first bound birth pointers array new_array before done k noted noted_now
       × HasWrites new_array array rest (first + k * 128 ^ level) (first + 128 * 128 ^ level)
+      × AgesOfParts birth level first k rest ages
 
 -- those writes at the front that belong to the k-th part
 module _ (level first k n middle : ℕ) (rest : List BlockWrite) (middle_is : middle ≡ (first + k * 128 ^ level) + 128 ^ level)
@@ -77,9 +81,43 @@ module _ {copies : CopyCounts} (start now : Store) (missing : List ℕ) (node : 
   within : middle ≤ first + 128 * 128 ^ level
   within = omega (arith, middle_is, part_end k (128 ^ level) low)
 
+  all_behind : All (λ write. middle ≤ write.id) (drop n rest)
+  all_behind = behind_all rest n middle so_far.order later
+
+  -- what is left to be written behind the part
+  rest_ages : (ages : Option Ages) → AgesOfParts birth level first k rest ages → AgesOfParts birth level first (k + 1) (drop n rest) ages
+  rest_ages ages aged told told_is =
+      let both = aged told told_is in
+      (both.0, after_dropped birth rest told.old told.new level (first + k * 128 ^ level) (first + 128 * 128 ^ level) n middle both.1 sooner (first + (k + 1) * 128 ^ level) (omega arith) (omega (arith, middle_is)))
+
+  -- what is written in the part
+  taken_ages : (ages : Option Ages) → AgesOfParts birth level first k rest ages → (told : Ages) → ages ≡ Some told
+      → AreBirthsAfter birth (take n rest) told.old told.new level (first + k * 128 ^ level) ((first + k * 128 ^ level) + 128 ^ level)
+  taken_ages ages aged told told_is =
+      after_taken birth rest told.old told.new level (first + k * 128 ^ level) (first + 128 * 128 ^ level) n middle (aged told told_is).1 all_behind
+      (first + k * 128 ^ level) ((first + k * 128 ^ level) + 128 ^ level) (omega arith) (omega (arith, middle_is)) (omega (arith, part_end k (128 ^ level) low))
+
+  unreached : (ages : Option Ages) → take n rest ≡ [] → AgesOfParts birth level first k rest ages → (told : Ages) → ages ≡ Some told
+      → (deep from : ℕ) → deep ≤ level → first + k * 128 ^ level ≤ from → from + 128 ^ deep ≤ first + k * 128 ^ level + 128 ^ level → told.old deep from ≡ told.new deep from
+  unreached ages nothing aged told told_is deep from under above below =
+      sym (taken_ages ages aged told told_is deep from under above below
+      ∙ ap (λ ws. if reaches ws deep from then birth else told.old deep from) nothing)
+
+  run_ages : (ages : Option Ages) (stored planned present : Contents) (array new_array : ℕ → Option (List ℕ)) (before done : List (List Block)) (noted : List Block) (begin : ℕ) (child : BlockPtr) (run : List BlockWrite)
+      → AreRewrittenTo ages copies stored planned present (property_of node) level first bound birth pointers array new_array before done k noted noted_now
+      → AgesOfParts birth level first k rest ages → begin ≡ first + k * 128 ^ level → child ≡ get_or pointers k child → run ≡ take n rest
+      → (told : Ages) → ages ≡ Some told → AreBirths stored level begin child told.old × AreBirthsAfter birth run told.old told.new level begin (begin + 128 ^ level)
+  run_ages ages stored planned present array new_array before done noted begin child run rewritten aged begin_is child_is run_is told told_is = (
+    subst (λ n. AreBirths stored level n child told.old) (sym begin_is)
+        (subst (λ p. AreBirths stored level (first + k * 128 ^ level) p told.old)
+        (sym (child_is ∙ get_or_default pointers k child Hole (omega (arith, low, so_far.count)))) (rewritten.aged told told_is k (omega arith) low)),
+    subst (λ ws. AreBirthsAfter birth ws told.old told.new level begin (begin + 128 ^ level)) (sym run_is)
+        (subst (λ m. AreBirthsAfter birth (take n rest) told.old told.new level m (m + 128 ^ level)) (sym begin_is) (taken_ages ages aged told told_is)),
+  )
+
   -- the part as it was
-  part_left : (stored planned present : Contents) (array new_array : ℕ → Option (List ℕ)) (before done : List (List Block)) (noted : List Block) (begin : ℕ) (child : BlockPtr)
-      → AreRewrittenTo copies stored planned present (property_of node) level first bound birth pointers array new_array before done k noted noted_now
+  part_left : {ages : Option Ages} (stored planned present : Contents) (array new_array : ℕ → Option (List ℕ)) (before done : List (List Block)) (noted : List Block) (begin : ℕ) (child : BlockPtr)
+      → AreRewrittenTo ages copies stored planned present (property_of node) level first bound birth pointers array new_array before done k noted noted_now
       → begin ≡ first + k * 128 ^ level → child ≡ get_or pointers k child → IsSubtree stored (property_of node) level begin bound child array (get_or before k [])
   part_left stored planned present array new_array before done noted begin child rewritten begin_is child_is =
       subst (λ n. IsSubtree stored (property_of node) level n bound child array (get_or before k [])) (sym begin_is)
@@ -100,16 +138,18 @@ module _ {copies : CopyCounts} (start now : Store) (missing : List ℕ) (node : 
           | inr filled ↦ inr filled
         ];
         count = so_far.count;
-        rewriting = λ stored planned begun array new_array before after noted plans rewritten has honest.
-            let there = so_far.rewriting stored planned begun array new_array before after noted plans rewritten has honest in
+        rewriting = λ ages stored planned begun array new_array before after noted plans rewritten has aged honest.
+            let there = so_far.rewriting ages stored planned begun array new_array before after noted plans rewritten has aged honest in
             let nothing : take n rest ≡ [] = sym run_is ∙ nil_from_length run none in (
               there.0,
               there.1 ++ get_or before k [] ∷ [],
               there.2,
               part_skipped stored planned there.0 (property_of node) level first bound birth pointers array new_array before there.1 k noted noted_now there.3 low there.2.kept le
                   (λ id above below. sym (run_has level first k n middle rest middle_is so_far.between so_far.order sooner later new_array array within there.4 id above below
-                  ∙ ap (λ ws. written ws array id) nothing)),
+                  ∙ ap (λ ws. written ws array id) nothing))
+                  (λ told told_is deep from under above below. unreached ages nothing there.5 told told_is deep from under above below),
               rest_has level first k n middle rest middle_is so_far.between so_far.order sooner later new_array array there.4,
+              rest_ages ages there.5,
             );
       })
 
@@ -117,10 +157,12 @@ module _ {copies : CopyCounts} (start now : Store) (missing : List ℕ) (node : 
       (begin_is : begin ≡ first + k * 128 ^ level) (child_is : child ≡ get_or pointers k child) (run_is : run ≡ take n rest) where
     -- the part is written
     pub writing_goes_on : (block : Block) (new_pointers : List BlockPtr) (others : List BlockWrite) (noted_later : List Block) → new_pointers ≡ set pointers k (At block) → others ≡ drop n rest → 0 < block.fill
-        → ((stored planned : Contents) (array : ℕ → Option (List ℕ)) (blocks : List Block) → Plans now stored planned
-        → IsSubtree stored (property_of node) level begin bound child array blocks → AnswersAreTrue now after_write
+        → ((ages : Option Ages) (stored planned : Contents) (array : ℕ → Option (List ℕ)) (blocks : List Block) → Plans now stored planned
+        → IsSubtree stored (property_of node) level begin bound child array blocks
+        → ((told : Ages) → ages ≡ Some told → AreBirths stored level begin child told.old × AreBirthsAfter birth run told.old told.new level begin (begin + 128 ^ level))
+        → AnswersAreTrue now after_write
         → (later : Contents) × Plans after_write stored later
-        × IsPartRewritten copies planned later (property_of node) level begin birth (At block) (written run array) blocks noted_now noted_later)
+        × IsPartRewritten ages copies planned later (property_of node) level begin birth (At block) (written run array) blocks noted_now noted_later)
         → IsWritingParts copies start after_write missing node level first bound birth from origin new_pointers writes others (k + 1) noted_first noted_later
     writing_goes_on block new_pointers others noted_later new_is others_is some step =
         subst (λ ps. IsWritingParts copies start after_write missing node level first bound birth from origin ps writes others (k + 1) noted_first noted_later) (sym new_is)
@@ -131,12 +173,13 @@ module _ {copies : CopyCounts} (start now : Store) (missing : List ℕ) (node : 
           whole = All-drop (λ (write : BlockWrite). length write.bytes.items ≡ node.data_sectors * 512) n rest so_far.whole;
           filled = let room : k < length pointers = omega (arith, low, so_far.count) in inr (omega (arith, some, total_set pointers k (At block) room));
           count = length-set pointers k (At block) ∙ so_far.count;
-          rewriting = λ stored planned begun array new_array before after noted plans rewritten has honest.
-              let there = so_far.rewriting stored planned begun array new_array before after noted plans rewritten has (true_sooner start now after_write missing so_far.steps steps honest) in
+          rewriting = λ ages stored planned begun array new_array before after noted plans rewritten has aged honest.
+              let there = so_far.rewriting ages stored planned begun array new_array before after noted plans rewritten has aged (true_sooner start now after_write missing so_far.steps steps honest) in
               let part = part_left stored planned there.0 array new_array before there.1 noted begin child there.3 begin_is child_is in
-              let made = step stored there.0 array (get_or before k []) there.2 part (true_later start now after_write missing so_far.steps steps honest) in
-              let made_there : IsPartRewritten copies there.0 made.0 (property_of node) level (first + k * 128 ^ level) birth (At block) (written run array) (get_or before k []) noted_now noted_later =
-              subst (λ m. IsPartRewritten copies there.0 made.0 (property_of node) level m birth (At block) (written run array) (get_or before k []) noted_now noted_later) begin_is made.2 in (
+              let made = step ages stored there.0 array (get_or before k []) there.2 part
+              (run_ages ages stored planned there.0 array new_array before there.1 noted begin child run there.3 there.5 begin_is child_is run_is) (true_later start now after_write missing so_far.steps steps honest) in
+              let made_there : IsPartRewritten ages copies there.0 made.0 (property_of node) level (first + k * 128 ^ level) birth (At block) (written run array) (get_or before k []) noted_now noted_later =
+              subst (λ m. IsPartRewritten ages copies there.0 made.0 (property_of node) level m birth (At block) (written run array) (get_or before k []) noted_now noted_later) begin_is made.2 in (
                 made.0,
                 there.1 ++ made_there.blocks ∷ [],
                 made.1,
@@ -144,6 +187,7 @@ module _ {copies : CopyCounts} (start now : Store) (missing : List ℕ) (node : 
                     (λ id above below. ap (λ ws. written ws array id) run_is
                     ∙ sym (run_has level first k n middle rest middle_is so_far.between so_far.order sooner later new_array array within there.4 id above below)) made_there,
                 rest_has level first k n middle rest middle_is so_far.between so_far.order sooner later new_array array there.4,
+                rest_ages ages there.5,
               );
         }))
 
@@ -151,12 +195,12 @@ module _ {copies : CopyCounts} (start now : Store) (missing : List ℕ) (node : 
     pub writing_fails : (Refused : Type 0)
         → ((stored planned : Contents) (array : ℕ → Option (List ℕ)) (blocks : List Block) → Plans now stored planned
         → IsSubtree stored (property_of node) level begin bound child array blocks → AnswersAreTrue now after_write → LossIsTolerable now after_write missing → Refused)
-        → (stored planned begun : Contents) (array new_array : ℕ → Option (List ℕ)) (before after : List (List Block)) (noted : List Block) → Plans start stored begun
-        → AreRewrittenTo copies stored planned begun (property_of node) level first bound birth origin array new_array before after from noted noted_first
-        → HasWrites new_array array writes (first + from * 128 ^ level) (first + 128 * 128 ^ level)
+        → (ages : Option Ages) (stored planned begun : Contents) (array new_array : ℕ → Option (List ℕ)) (before after : List (List Block)) (noted : List Block) → Plans start stored begun
+        → AreRewrittenTo ages copies stored planned begun (property_of node) level first bound birth origin array new_array before after from noted noted_first
+        → HasWrites new_array array writes (first + from * 128 ^ level) (first + 128 * 128 ^ level) → AgesOfParts birth level first from writes ages
         → AnswersAreTrue start after_write → LossIsTolerable start after_write missing → Refused
-    writing_fails Refused step stored planned begun array new_array before after noted plans rewritten has honest few =
-        let there = so_far.rewriting stored planned begun array new_array before after noted plans rewritten has (true_sooner start now after_write missing so_far.steps steps honest) in
+    writing_fails Refused step ages stored planned begun array new_array before after noted plans rewritten has aged honest few =
+        let there = so_far.rewriting ages stored planned begun array new_array before after noted plans rewritten has aged (true_sooner start now after_write missing so_far.steps steps honest) in
         step stored there.0 array (get_or before k []) there.2 (part_left stored planned there.0 array new_array before there.1 noted begin child there.3 begin_is child_is)
         (true_later start now after_write missing so_far.steps steps honest) (few_later start now after_write missing so_far.steps steps few)
 

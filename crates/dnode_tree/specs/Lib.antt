@@ -1,3 +1,4 @@
+pub mod Births
 pub mod Freeing
 pub mod Laws
 pub mod PartsRewritten

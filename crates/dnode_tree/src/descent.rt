@@ -1,5 +1,5 @@
 //! The way down a tree.
-ghost use Rattle.std.specs.Prelude.{◌≡◌, ◌≢◌, ◌+◌, ◌*◌, ◌^◌, ◌<◌, ◌≤◌, ◌++◌, ℕ, List, Option, Some, IfOk, IfErr, length};
+ghost use Rattle.std.specs.Prelude.{◌≡◌, ◌≢◌, ◌+◌, ◌*◌, ◌^◌, ◌<◌, ◌≤◌, ◌++◌, ℕ, List, Option, Some, IfOk, IfErr, length, slice_index_or};
 ghost use Rattle.block_pointer.specs.declared.block.Block.{Block};
 ghost use Rattle.block_pointer.specs.declared.pointer.BlockPtr.{BlockPtr};
 ghost use Rattle.dnode.specs.Indirect.{SpellsIndirect};
@@ -7,6 +7,7 @@ ghost use Rattle.block_store.specs.Blocks.{Contents};
 ghost use Rattle.block_store.specs.Reading.{Asks};
 ghost use Rattle.block_store.specs.Store.{Holds};
 ghost use Rattle.block_store.specs.Steps.{OnlyReadsBlocks, AnswersAreTrue, LossIsTolerable};
+ghost use Rattle.dnode_tree.specs.Births.{AreBirths};
 ghost use Rattle.dnode_tree.specs.Subtree.{asked_of, AreParts, blocks_at, joined};
 ghost use Rattle.dnode_tree.specs.Tree.{property_of, IsPart};
 ghost use Rattle.dnode_tree.specs.Ways.{AreReadAs, IsBlockFault};
@@ -107,6 +108,11 @@ pub(crate) fn parts_of<D: Disk + Drop>(
     ensures level { IfOk result (λ parts. parts.level + 1 ≡ part.level) }
     ensures born { IfOk result (λ parts. parts.birth ≤ part.birth) }
     ensures count { IfOk result (λ parts. length parts.pointers ≡ 128) }
+    ensures births { IfOk result (λ parts. (stored : Contents) (first : ℕ) (births : ℕ → ℕ → ℕ)
+        → Holds store.old stored → AreBirths stored part.level first part.pointer births
+        → AnswersAreTrue store.old store.new → (k : ℕ) → k < 128
+        → AreBirths stored parts.level (first + k * 128 ^ parts.level)
+        (slice_index_or parts.pointers k BlockPtr.Hole) births) }
     ensures parts { IfOk result (λ parts. (stored : Contents) (first : ℕ) (array : ℕ → Option (List ℕ)) (blocks : List Block) → Holds store.old stored
         → IsPart stored node.now first part array blocks → AnswersAreTrue store.old store.new
         → (below : List (List Block)) × AreParts stored (property_of node.now) parts.level first parts.birth parts.pointers array below

@@ -7,6 +7,7 @@ ghost use Rattle.dnode.specs.Node.{FitsNode};
 ghost use Rattle.block_store.specs.Blocks.{Contents};
 ghost use Rattle.block_store.specs.Plans.{Plans};
 ghost use Rattle.block_store.specs.Steps.{OnlyReadsAndPlans, AnswersAreTrue, LossIsTolerable};
+ghost use Rattle.dnode_tree.specs.Births.{HasBirths, height_of, births_after};
 ghost use Rattle.dnode_tree.specs.PartsRewritten.{root_part, WritesPart, LacksRoomForPart, Raises, LacksRoomToRaise};
 ghost use Rattle.dnode_tree.specs.Rewriting.{IsGrown, IsRewritten};
 ghost use Rattle.dnode_tree.specs.Subtree.{HasProperty};
@@ -50,6 +51,15 @@ pub fn put_many<D: Disk + Drop>(
         → IsTree stored bound node.now array blocks → bound ≤ birth → AnswersAreTrue store.old store.new
         → (later : Contents) × Plans store.new stored later
         × IsRewritten copies planned later birth done (written writes.now array) blocks) }
+
+    // Only what a write reaches is planned, and the roots above the one that was there: all else is born when it was.
+    ensures ways { IfOk result (λ done. (stored planned : Contents) (bound : ℕ)
+        (array : ℕ → Option (List ℕ)) (blocks : List Block) (births : ℕ → ℕ → ℕ)
+        → Plans store.old stored planned → IsTree stored bound node.now array blocks
+        → HasBirths stored node.now births → bound ≤ birth → AnswersAreTrue store.old store.new
+        → (later : Contents) × Plans store.new stored later
+        × IsRewritten copies planned later birth done (written writes.now array) blocks
+        × HasBirths later done.node (births_after (height_of node.now) writes.now birth births)) }
     ensures no_room { IfErr result (λ refusal. refusal ≡ Refusal.NoSpace
         → HasNoRoom store.old store.new missing.now node.now copies) }
     ensures known { IfErr result (λ refusal. (stored planned : Contents) (bound : ℕ)

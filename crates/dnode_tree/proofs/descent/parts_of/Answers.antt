@@ -1,7 +1,10 @@
-use Rattle.std.proofs.Common.{◌≡◌, suc, ◌-◌, ◌++◌, subst, sym, ap, ◌∙◌, arith}
+use Rattle.std.proofs.Common.{◌≡◌, suc, get_or, ◌+◌, ◌*◌, ◌^◌, ◌-◌, ◌++◌, subst, sym, ap, ◌∙◌, arith}
 use Rattle.block_store.specs.Reading.{Asks}
 use Rattle.dnode_tree.proofs.Collecting.{parts_below}
-use Rattle.dnode_tree.proofs.Holes.{hole_parts}
+use Rattle.block_pointer.specs.declared.pointer.BlockPtr.TheVariants.{Hole}
+use Rattle.dnode_tree.proofs.Births.{births_at_hole, births_below}
+use Rattle.dnode_tree.proofs.Holes.{hole_parts, same_at}
+use Rattle.dnode_tree.specs.Births.{AreBirths}
 use Rattle.dnode_tree.proofs.Parts.{hole_part, indirect_part}
 use Rattle.dnode_tree.proofs.Refusing.{passed_on}
 use Rattle.dnode_tree.specs.Tree.{property_of}
@@ -35,3 +38,17 @@ returns-clause-parts g c =
       parts_below stored (property_of c.args.node.now) c.args.part.level (c.args.part.level - 1) first c.args.part.birth c.args.part.pointer c.in-Block.block array blocks _ e c.in-Block.is part read,
       there.blocks_are ∙ sym (ap (λ pointer. blocks_at pointer ++ joined there.parts) c.in-Block.is),
     )
+
+pub returns-in_default-clause-births : goal.returns-in_default-clause-births
+returns-in_default-clause-births g c = λ stored first births held were honest k low.
+    subst (λ p. AreBirths stored (c.args.part.level - 1) (first + k * 128 ^ (c.args.part.level - 1)) p births)
+    (sym (ap (λ ps. get_or ps k Hole) c.in_ok-holes.ensures ∙ same_at 128 k Hole))
+    (births_at_hole stored (c.args.part.level - 1) (first + k * 128 ^ (c.args.part.level - 1)) births)
+
+pub returns-clause-births : goal.returns-clause-births
+returns-clause-births g c =
+    let e : c.args.part.level ≡ suc (c.args.part.level - 1) = omega arith in
+    λ stored first births held were honest k low.
+    let there = births_below stored c.args.part.level (c.args.part.level - 1) first c.args.part.pointer c.in-Block.block births e c.in-Block.is were in
+    let read = c.in_ok-read_indirect.ensures.value stored there.bytes there.pointers held there.known there.spelled honest in
+    subst (λ ps. AreBirths stored (c.args.part.level - 1) (first + k * 128 ^ (c.args.part.level - 1)) (get_or ps k Hole) births) (sym read) (there.below k low)

@@ -4,7 +4,7 @@ use Rattle.dnode_tree.proofs.Refusing.{passed_on}
 use Rattle.dnode_tree.proofs.Spans.{span_up}
 use Rattle.block_store.proofs.Steps.{steps_on}
 use Rattle.dnode_tree.proofs.Steps.{no_room_on}
-use Rattle.dnode_tree.proofs.WholeTree.{raising_begins, raising_goes_on, raising_fails, power_rises, level_between, root_of, tree_rewritten}
+use Rattle.dnode_tree.proofs.WholeTree.{raising_begins, raising_goes_on, raising_fails, power_rises, level_between, root_of, tree_rewritten, tree_renewed}
 use Rattle.dnode_tree.proofs.putting.put_many.Goals as goal
 
 pub returns-in_err-pointer-clause-known : goal.returns-in_err-pointer-clause-known
@@ -74,3 +74,13 @@ returns-clause-rewritten g c =
     let at_end : c.loop-level.level ≡ c.levels_of-new_levels.result - 1 = omega (arith, c.loop-level-test.false, c.loop-level.auto.level-end rises) in
     let level_is = at_end ∙ ap (λ n. n - 1) c.levels_of-new_levels.ensures.value in
     tree_rewritten _ _ _ _ _ _ _ _ _ c.loop-level.invariant refl level_is c.highest_of-highest.ensures.from c.highest_of-highest.ensures.room
+
+pub returns-clause-ways : goal.returns-clause-ways
+returns-clause-ways g c =
+    let room : c.args.node.now.highest < 128 ^ (c.levels_of-new_levels.result - 1) = omega (arith, c.levels_of-new_levels.ensures.least.enough, c.highest_of-highest.ensures.from) in
+    let grown : c.levels_of-levels.result ≤ c.levels_of-new_levels.result =
+    c.levels_of-levels.ensures.least.least c.levels_of-new_levels.result c.levels_of-new_levels.ensures.least.one room in
+    let rises : c.levels_of-levels.result - 1 ≤ c.levels_of-new_levels.result - 1 = omega (arith, grown) in
+    let at_end : c.loop-level.level ≡ c.levels_of-new_levels.result - 1 = omega (arith, c.loop-level-test.false, c.loop-level.auto.level-end rises) in
+    let level_is = at_end ∙ ap (λ n. n - 1) c.levels_of-new_levels.ensures.value in
+    tree_renewed _ _ _ _ _ _ _ _ _ c.loop-level.invariant refl level_is c.highest_of-highest.ensures.from c.highest_of-highest.ensures.room

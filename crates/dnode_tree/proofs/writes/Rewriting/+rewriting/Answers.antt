@@ -1,7 +1,11 @@
-use Rattle.std.proofs.Common.{◌≡◌, suc, ◌+◌, ◌*◌, ◌^◌, ◌<◌, ◌≤◌, Some, [], length, get_or, inl, refl, sym, ap, ◌∙◌, subst, arith, rules, add-one}
+use Rattle.std.proofs.Common.{◌≡◌, ℕ, suc, ◌+◌, ◌*◌, ◌^◌, ◌<◌, ◌≤◌, Some, None, true, if◌then◌else◌, List, ◌∷◌, [], length, get_or, inl, refl, sym, ap, ◌∙◌, subst, arith, rules, add-one}
 use Rattle.std.proofs.lemmas.Result.{IfOk-weaker, IfErr-weaker}
 use Rattle.dnode.specs.Indirect.{SpellsIndirect}
 use Rattle.block_store.specs.Reading.{Asks}
+use Rattle.dnode_tree.proofs.Births.{ages_below, reaches_first}
+use Rattle.dnode_tree.specs.Births.{reaches}
+use Rattle.dnode_tree.specs.PartsRewritten.{Ages}
+use Rattle.dnode_tree.specs.declared.writes.BlockWrite.{BlockWrite}
 use Rattle.dnode_tree.proofs.Fitting.{indirect_sectors}
 use Rattle.dnode_tree.proofs.NewArrays.{written_first}
 use Rattle.dnode_tree.proofs.Refusing.{passed_on, ok_both}
@@ -22,16 +26,27 @@ write_part-returns-then-part-eq0-clause-rewritten g t c =
     let range = c.requires.between 0 c.index-writes-0.result c.requires.some in
     let here : (get_or c.args.writes.now 0 c.index-writes-0.result).id ≡ c.args.first = omega (arith, range.0, range.1, one) in
     IfOk-weaker c.plan_block.result _ _
-    (λ block made stored planned array blocks plans part honest.
+    (λ block made ages stored planned array blocks plans part aged honest.
     let added = made.0 stored planned plans in (
       added.0,
       added.1,
       leaf_rewritten stored planned added.0 (property_of c.args.self.node.now) c.args.part.level c.args.first c.args.part.birth c.args.self.birth c.args.part.pointer array (written c.args.writes.now array) blocks _ _
           block c.deref.result.now e part c.in_ok-note.ensures.ok added.2 made.1.0 made.1.1.0 made.1.1.1.0 made.1.1.1.1
-          (written_first c.args.writes.now array c.args.first c.index-writes-0.result c.requires.some here ∙ ap (λ bytes. Some bytes) (sym c.deref.ensures.value)),
+          (written_first c.args.writes.now array c.args.first c.index-writes-0.result c.requires.some here ∙ ap (λ bytes. Some bytes) (sym c.deref.ensures.value))
+          (λ told told_is.
+          (aged told told_is).1 c.args.part.level c.args.first (omega arith) (omega arith) (omega arith)
+          ∙ ap (λ test. if test then c.args.self.birth else told.old c.args.part.level c.args.first)
+          (reaches_first c.args.writes.now c.args.part.level c.args.first c.index-writes-0.result c.requires.some (omega (arith, range.0)) (omega (arith, range.1)))),
     ))
     (ok_both c.plan_block.result _ _ c.plan_block.ensures.planned
     (ok_both c.plan_block.result _ _ c.plan_block.ensures.asks (ok_both c.plan_block.result _ _ c.plan_block.ensures.fill (ok_both c.plan_block.result _ _ c.plan_block.ensures.birth c.plan_block.ensures.copies))))
+
+-- some write is in the part
+part_reached : (writes : List BlockWrite) (level first : ℕ) → 0 < length writes → AreBetween first (first + 128 ^ level) writes → reaches writes level first ≡ true
+part_reached [] level first some between = absurd (omega (arith, some))
+part_reached (write ∷ writes) level first some between =
+    let range = between 0 write (omega arith) in
+    reaches_first (write ∷ writes) level first write some (omega (arith, range.0)) (omega (arith, range.1))
 
 pub write_part-returns-in_err-parts-clause-known : goal.write_part-returns-in_err-parts-clause-known
 write_part-returns-in_err-parts-clause-known g t c =
@@ -46,12 +61,16 @@ write_part-returns-clause-rewritten g t c =
     let e : c.args.part.level ≡ suc c.in_ok-parts.parts.level = omega (arith, c.in_ok-parts.ensures.level) in
     let reads = steps_read _ _ _ c.in_ok-parts.ensures.reads in
     IfOk-weaker c.write_parts.result _ _
-    (λ block is stored planned array blocks plans part honest.
+    (λ block is ages stored planned array blocks plans part aged honest.
     let below = c.in_ok-parts.ensures.parts stored c.args.first array blocks plans.held part (true_sooner _ _ _ _ reads c.write_parts.ensures.steps honest) in
     let begun = rewriting_begins stored planned (property_of c.args.self.node.now) c.in_ok-parts.parts.level c.args.first c.in_ok-parts.parts.birth c.args.self.birth c.in_ok-parts.parts.pointers
-    array (written c.args.writes.now array) below.0 c.note.new.replaced.items plans.kept below.1 in
-    let done = is stored planned planned array (written c.args.writes.now array) below.0 [] c.note.new.replaced.items (c.in_ok-parts.ensures.reads.plans stored planned plans) begun
-    (λ id above under. refl) (true_later _ _ _ _ reads c.write_parts.ensures.steps honest) in (
+    array (written c.args.writes.now array) below.0 c.note.new.replaced.items plans.kept below.1
+    (λ told told_is. c.in_ok-parts.ensures.births stored c.args.first told.old plans.held (aged told told_is).0 (true_sooner _ _ _ _ reads c.write_parts.ensures.steps honest)) in
+    let reached : reaches c.args.writes.now c.args.part.level c.args.first ≡ true = part_reached c.args.writes.now c.args.part.level c.args.first c.requires.some c.requires.between in
+    let aged_below = λ (told : Ages) (told_is : ages ≡ Some told).
+    ages_below c.args.self.birth c.args.writes.now told.old told.new c.args.part.level c.in_ok-parts.parts.level c.args.first e (aged told told_is).1 reached in
+    let done = is ages stored planned planned array (written c.args.writes.now array) below.0 [] c.note.new.replaced.items (c.in_ok-parts.ensures.reads.plans stored planned plans) begun
+    (λ id above under. refl) aged_below (true_later _ _ _ _ reads c.write_parts.ensures.steps honest) in (
       done.0,
       done.1,
       part_has_root planned done.0 (property_of c.args.self.node.now) c.args.part.level c.in_ok-parts.parts.level c.args.first c.args.self.birth block c.args.part.pointer (written c.args.writes.now array) below.0
@@ -71,9 +90,9 @@ write_part-returns-clause-known g t c =
     (λ refusal is stored planned array blocks plans part honest few.
     let below = c.in_ok-parts.ensures.parts stored c.args.first array blocks plans.held part (true_sooner _ _ _ _ reads c.write_parts.ensures.steps honest) in
     let begun = rewriting_begins stored planned (property_of c.args.self.node.now) c.in_ok-parts.parts.level c.args.first c.in_ok-parts.parts.birth c.args.self.birth c.in_ok-parts.parts.pointers
-    array (written c.args.writes.now array) below.0 c.note.new.replaced.items plans.kept below.1 in
-    is stored planned planned array (written c.args.writes.now array) below.0 [] c.note.new.replaced.items (c.in_ok-parts.ensures.reads.plans stored planned plans) begun
-    (λ id above under. refl) (true_later _ _ _ _ reads c.write_parts.ensures.steps honest) (few_later _ _ _ _ reads c.write_parts.ensures.steps few))
+    array (written c.args.writes.now array) below.0 c.note.new.replaced.items plans.kept below.1 (λ told told_is. absurd cc) in
+    is None stored planned planned array (written c.args.writes.now array) below.0 [] c.note.new.replaced.items (c.in_ok-parts.ensures.reads.plans stored planned plans) begun
+    (λ id above under. refl) (λ told told_is. absurd cc) (true_later _ _ _ _ reads c.write_parts.ensures.steps honest) (few_later _ _ _ _ reads c.write_parts.ensures.steps few))
     c.write_parts.ensures.known
 
 pub write_parts-loop-place-preserved-then-is_empty : goal.write_parts-loop-place-preserved-then-is_empty
@@ -122,8 +141,8 @@ write_parts-loop-place-preserved g t c =
 
 pub write_parts-returns-in_default-clause-known : goal.write_parts-returns-in_default-clause-known
 write_parts-returns-in_default-clause-known g t c =
-    λ stored planned now array new_array before after noted plans rewritten has honest few.
-    let there = c.loop-place.invariant.rewriting stored planned now array new_array before after noted plans rewritten has honest in
+    λ ages stored planned now array new_array before after noted plans rewritten has aged honest few.
+    let there = c.loop-place.invariant.rewriting ages stored planned now array new_array before after noted plans rewritten has aged honest in
     let fits = sum_fits _ _ _ _ _ _ _ _ _ _ _ _ _ _ _ _ there.3 c.requires.low in
     absurd (omega (arith, fits, c.in_default.ensures.none.0 refl))
 
@@ -143,15 +162,15 @@ pub write_parts-returns-clause-rewritten : goal.write_parts-returns-clause-rewri
 write_parts-returns-clause-rewritten g t c =
     let all : c.loop-place.place ≡ 128 = omega (arith, c.loop-place-test.false, c.loop-place.auto.place-end, c.requires.from) in
     IfOk-weaker c.plan_block.result _ _
-    (λ block made stored planned now array new_array before after noted plans rewritten has honest.
+    (λ block made ages stored planned now array new_array before after noted plans rewritten has aged honest.
     let planned_step = c.plan_block.ensures.steps c.args.self.missing.now in
-    let there = c.loop-place.invariant.rewriting stored planned now array new_array before after noted plans rewritten has (true_sooner _ _ _ _ c.loop-place.invariant.steps planned_step honest) in
+    let there = c.loop-place.invariant.rewriting ages stored planned now array new_array before after noted plans rewritten has aged (true_sooner _ _ _ _ c.loop-place.invariant.steps planned_step honest) in
     let added = made.0.0 stored there.0 there.2 in
     let asks : Asks (asked_of (property_of c.args.self.node.now (suc c.args.parts.level)) c.args.self.birth) block = rw add-one at made.0.1 in (
       added.0,
       added.1,
       root_rewritten _ _ _ _ _ _ _ _ _ _ _ _ _ _ _ _ there.3 added.0 block _ all added.2 (subst (λ bytes. SpellsIndirect bytes c.loop-place.pointers) (sym c.deref.ensures.value) c.in_ok-bytes.ensures)
-          asks made.1.0 (made.1.1.0 ∙ c.in-Some.ensures.some) made.1.1.1,
+          asks made.1.0 (made.1.1.0 ∙ c.in-Some.ensures.some) made.1.1.1 (λ told told_is. (there.5 told told_is).0),
     ))
     (ok_both c.plan_block.result _ _ (ok_both c.plan_block.result _ _ c.plan_block.ensures.planned c.plan_block.ensures.asks) (ok_both c.plan_block.result _ _ c.plan_block.ensures.birth (ok_both c.plan_block.result _ _ c.plan_block.ensures.fill c.plan_block.ensures.copies)))
 
@@ -176,7 +195,7 @@ write_parts-loop-place-init g t c = record {
   whole = c.requires.whole;
   filled = c.requires.some;
   count = c.requires.count;
-  rewriting = λ stored planned begun array new_array before after noted plans rewritten has honest. (begun, after, plans, rewritten, has);
+  rewriting = λ ages stored planned begun array new_array before after noted plans rewritten has aged honest. (begun, after, plans, rewritten, has, aged);
 }
 
 pub write_parts-returns-clause-steps : goal.write_parts-returns-clause-steps

@@ -1,4 +1,7 @@
-use Rattle.std.proofs.Common.{◌≡◌, length, rules}
+use Rattle.std.proofs.Common.{◌≡◌, ◌-◌, ◌∙◌, length, if◌then◌else◌, sym, ap, rules}
+use Rattle.dnode.specs.Levels.{levels_of}
+use Rattle.dnode_tree.proofs.Births.{births_as}
+use Rattle.dnode_tree.specs.Births.{reaches}
 use Rattle.std.proofs.lemmas.List.{nil_from_length}
 use Rattle.block_store.proofs.Steps.{steps_none}
 use Rattle.dnode_tree.proofs.Raising.{root_stays}
@@ -8,10 +11,16 @@ use Rattle.dnode_tree.proofs.writes.Rewriting.write_root.Goals as goal
 pub returns-then-is_empty-clause-rewritten : goal.returns-then-is_empty-clause-rewritten
 returns-then-is_empty-clause-rewritten g c =
     let none : length c.args.writes.now ≡ 0 = search rules in
-    λ stored planned array blocks plans part honest. (
+    let nil = nil_from_length c.args.writes.now none in
+    λ ages stored planned array blocks plans part aged honest. (
       planned,
       plans,
-      root_stays stored planned _ _ 0 c.args.self.birth c.args.self.node.now.pointer array blocks _ _ plans.kept (nil_from_length c.args.writes.now none) part,
+      root_stays stored planned _ _ 0 c.args.self.birth c.args.self.node.now.pointer array blocks _ _ plans.kept nil part
+          (λ told told_is.
+          births_as stored planned plans.kept (levels_of c.args.self.node.now.highest - 1) 0 c.args.self.node.now.pointer told.old told.new
+          (λ low from under above before.
+          sym ((aged told told_is).1 low from under above before ∙ ap (λ ws. if reaches ws low from then c.args.self.birth else told.old low from) nil))
+          (aged told told_is).0),
     )
 
 pub returns-in_err-block-clause-known : goal.returns-in_err-block-clause-known
