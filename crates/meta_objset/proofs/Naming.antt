@@ -1,0 +1,61 @@
+-- Names and their padding.
+use Rattle.std.proofs.Common.{◌≡◌, ◌≢◌, ℕ, ◌+◌, ◌-◌, ◌<◌, List, ◌++◌, length, take, drop, get_or, inl, inr, sym, ap, ◌∙◌, arith}
+use Rattle.std.specs.Prelude.{replicate}
+use Rattle.std.proofs.Math.ListN.{get_or-append}
+use Rattle.std.proofs.lemmas.Bool.{cases_lt}
+use Rattle.std.proofs.lemmas.List.{take-append-drop, drop_at, length-append, length-replicate, length-take-le, length-drop, get_or-take, get_or-append-add, get_or-replicate}
+use Rattle.std.proofs.lemmas.List.Elements.{All-from_get_or, All-get_or}
+use Rattle.meta_objset.specs.Names.{IsNamed, IsName}
+
+-- what stands before the first zero is a name, where zeros follow
+pub named : (padded : List ℕ) (n : ℕ) → length padded ≡ 56 → 0 < n → n < 56 → ((k : ℕ) → k < n → get_or padded k 0 ≢ 0) → drop n padded ≡ replicate (length (drop n padded)) 0 → IsName padded
+named padded n len some few before zeros =
+    let taken : length (take n padded) ≡ n = length-take-le n padded (omega (arith, len, few)) in
+    let left : length (drop n padded) ≡ 56 - length (take n padded) = omega (arith, length-drop n padded, len, taken) in (
+      take n padded,
+      record {
+        some = omega (arith, taken, some);
+        few = omega (arith, taken, few);
+        no_zero = All-from_get_or (λ byte. byte ≢ 0) (take n padded) 0 (λ k lt is. before k (omega (arith, lt, taken)) (sym (get_or-take n padded k 0 (omega (arith, lt, taken))) ∙ is));
+        padded_is = sym (take-append-drop n padded) ∙ ap (λ (x : List ℕ). take n padded ++ x) (zeros ∙ ap (λ m. replicate m 0) left);
+      },
+    )
+
+-- a padded name has a zero behind the name, and none in it
+pub zero_behind : (padded name : List ℕ) → IsNamed padded name → get_or padded (length name) 0 ≡ 0
+zero_behind padded name is =
+    let none : ℕ = 0 in
+    let at : length name + 0 ≡ length name = omega arith in
+    ap (λ (x : List ℕ). get_or x (length name) none) is.padded_is
+    ∙ ap (λ n. get_or (name ++ replicate (56 - length name) none) n none) (sym at)
+    ∙ get_or-append-add name (replicate (56 - length name) none) 0 none ∙ get_or-replicate (56 - length name) 0 none none (omega (arith, is.few))
+
+pub no_zero_before : (padded name : List ℕ) (k : ℕ) → IsNamed padded name → k < length name → get_or padded k 0 ≢ 0
+no_zero_before padded name k is lt zero_there =
+    let none : ℕ = 0 in
+    All-get_or (λ byte. byte ≢ 0) name k none lt is.no_zero
+    (sym (get_or-append name (replicate (56 - length name) none) none k lt) ∙ ap (λ (x : List ℕ). get_or x k none) (sym is.padded_is) ∙ zero_there)
+
+pub padded_len : (padded name : List ℕ) → IsNamed padded name → length padded ≡ 56
+padded_len padded name is =
+    let none : ℕ = 0 in
+    omega (arith, ap length is.padded_is, length-append name (replicate (56 - length name) none), length-replicate (56 - length name) none, is.few)
+
+-- the first zero stands right behind the name
+pub first_zero_is : (padded name : List ℕ) (n : ℕ) → IsNamed padded name → get_or padded n 0 ≡ 0 → ((k : ℕ) → k < n → get_or padded k 0 ≢ 0) → n ≡ length name
+first_zero_is padded name n is there before =
+    elim (cases_lt n (length name)) [
+      | inl short ↦ absurd (no_zero_before padded name n is short there)
+      | inr long ↦ elim (cases_lt (length name) n) [
+        | inl over ↦ absurd (before (length name) over (zero_behind padded name is))
+        | inr most ↦ omega (arith, long, most)
+      ]
+    ]
+
+-- and only zeros are left there
+pub zeros_behind : (padded name : List ℕ) (n : ℕ) → IsNamed padded name → n ≡ length name → drop n padded ≡ replicate (length (drop n padded)) 0
+zeros_behind padded name n is e =
+    let none : ℕ = 0 in
+    let zeros : List ℕ = replicate (56 - length name) none in
+    let left : drop n padded ≡ zeros = ap (drop n) is.padded_is ∙ drop_at name zeros n (sym e) in
+    left ∙ ap (λ m. replicate m none) (sym (ap length left ∙ length-replicate (56 - length name) none))

@@ -1,0 +1,37 @@
+-- Names and the objects that they name.
+use Rattle.std.specs.Prelude.{ℕ, ◌≡◌, ◌^◌, ◌<◌, List, [], ◌∷◌, ◌++◌, All, AllPairs}
+use Rattle.std.specs.List.{flat_map}
+use Rattle.words.specs.Words.{word_bytes}
+use Rattle.object_table.specs.declared.shape.RowShape.{RowShape}
+use Rattle.object_table.specs.Rows.{SpellsRows}
+use Rattle.meta_objset.specs.declared.directory.DirectoryRow.{DirectoryRow}
+use Rattle.meta_objset.specs.Names.{IsName, IsBefore}
+
+-- a name, and the number of an object
+pub record FitsRow (row : DirectoryRow) : Type 0 where
+  pub name : IsName row.name
+  pub object : row.object < 2 ^ 64
+
+-- the names ascend, so each is there once
+pub record IsDirectory (rows : List DirectoryRow) : Type 0 where
+  pub each : All FitsRow rows
+  pub order : AllPairs (λ row later. IsBefore row.name later.name) rows
+
+-- 56 bytes of the name, and the number
+abbrev pub row_bytes : DirectoryRow → List ℕ
+row_bytes row = row.name ++ word_bytes (row.object ∷ [])
+
+-- these bytes, and no others, spell the row
+abbrev pub SpellsRow : List ℕ → DirectoryRow → Type 0
+SpellsRow bytes row = FitsRow row × (bytes ≡ row_bytes row)
+
+abbrev pub rows_bytes : List DirectoryRow → List ℕ
+rows_bytes rows = flat_map row_bytes rows
+
+-- rows of 64 bytes behind a first row of 64
+abbrev pub directory_shape : RowShape
+directory_shape = record { first_len = 64; row_len = 64 }
+
+-- the bytes of whole blocks, and no others, spell the directory
+abbrev pub SpellsDirectory : List ℕ → List DirectoryRow → Type 0
+SpellsDirectory bytes rows = IsDirectory rows × SpellsRows directory_shape bytes (rows_bytes rows)

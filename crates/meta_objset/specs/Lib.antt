@@ -1,0 +1,4 @@
+pub mod Config
+pub mod Directory
+pub mod Names
+pub mod Record

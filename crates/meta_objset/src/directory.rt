@@ -1,0 +1,187 @@
+//! The pool's directory: which object a name names.
+ghost use Rattle.std.specs.Prelude.{◌≡◌, ◌≢◌, ◌↔◌, ◌⊎◌, ◌^◌, ◌<◌, ◌++◌, ◌∷◌, [], ℕ, List, length, All, Contains, IsTrue, IfOk, IfErr, IfSome, IsOkAnd, IsErrOf, OnOk, OnErr};
+ghost use Rattle.object_table.specs.Rows.{SpellsRows};
+ghost use Rattle.meta_objset.specs.declared.directory.DirectoryRow.{DirectoryRow};
+ghost use Rattle.meta_objset.specs.Directory.{FitsRow, IsDirectory, SpellsRow, row_bytes, rows_bytes, SpellsDirectory};
+ghost use Rattle.meta_objset.specs.Names.{IsName, IsBefore};
+
+use crate::names::{is_before, is_name};
+use object_table::{Refusal, RowShape};
+use std::alloc::{AllocError, Global};
+use std::marker::Model;
+use words::{bytes_at, word_at};
+
+/// A row of the directory.
+#[derive(Clone, Copy, Debug, PartialEq, Eq)]
+pub struct DirectoryRow {
+    /// A name of 1 to 55 bytes that aren't zero, and zeros behind them.
+    pub name: [u8; 56],
+    /// The number of the object that has the name.
+    pub object: u64,
+}
+
+/// How many bytes a row has.
+const ROW_LEN: usize = 64;
+
+const SHAPE: RowShape = RowShape {
+    first_len: ROW_LEN,
+    row_len: ROW_LEN,
+};
+
+impl DirectoryRow {
+    /// Adds the one spelling of a row to bytes.
+    fn push_to(&self, bytes: &mut Vec<u8>) -> Result<(), AllocError>
+        ensures { OnOk result (bytes.new.items ≡ bytes.old.items ++ row_bytes self.now) }
+    {
+        bytes.extend_from_slice(&self.name)?;
+        bytes.extend_from_slice(&self.object.to_le_bytes())?;
+        Ok(())
+    }
+
+    /// The row that the bytes spell.
+    fn from_bytes(bytes: &[u8; 64]) -> Result<DirectoryRow, Refusal>
+        ensures found { IfOk result (SpellsRow bytes.now) }
+        ensures only { (row : DirectoryRow) → SpellsRow bytes.now row → result ≡ Ok row }
+        ensures refused { IfErr result (λ refusal. refusal ≡ Refusal.BadPointer) }
+    {
+        let name = bytes_at(bytes, 0);
+        if !is_name(&name) {
+            return Err(Refusal::BadPointer);
+        }
+        let object = word_at(bytes, 56);
+        Ok(DirectoryRow { name, object })
+    }
+}
+
+/// The row at the front of bytes, and the bytes after it.
+fn first_row(bytes: &[u8]) -> Result<(DirectoryRow, &[u8]), Refusal>
+    ensures fits { IfOk result (λ found. FitsRow found.0) }
+    ensures found { IfOk result (λ found. bytes.now ≡ row_bytes found.0 ++ found.1.now) }
+    ensures shorter { IfOk result (λ found. length found.1.now < length bytes.now) }
+    ensures only { (row : DirectoryRow) (rest : List ℕ) → FitsRow row
+        → bytes.now ≡ row_bytes row ++ rest
+        → IsOkAnd result (λ found. (found.0 ≡ row) × (found.1.now ≡ rest)) }
+    ensures refused { IfErr result (λ refusal. refusal ≡ Refusal.BadPointer) }
+{
+    let Some((first, rest)) = bytes.split_first_chunk::<64>() else {
+        return Err(Refusal::BadPointer);
+    };
+    let row = DirectoryRow::from_bytes(first)?;
+    Ok((row, rest))
+}
+
+/// Names and the objects that they name: the names ascend in byte order, so each is there once.
+#[derive(Debug, Drop)]
+pub struct Directory {
+    rows: Vec<DirectoryRow>,
+}
+
+impl Model for Directory {
+    ghost use Rattle.std.specs.Prelude.{List};
+    ghost use Rattle.meta_objset.specs.declared.directory.DirectoryRow.{DirectoryRow};
+    ghost use Rattle.meta_objset.specs.Directory.{IsDirectory};
+
+    ghost Value = { List DirectoryRow };
+
+    ghost view = { λ directory. directory.rows.items };
+
+    ghost invariant = { λ directory. IsDirectory directory.rows.items };
+}
+
+impl Directory {
+    /// A directory with no names.
+    pub fn new(alloc: Global) -> Directory
+        ensures { result ≡ [] }
+    {
+        Directory {
+            rows: Vec::new(alloc),
+        }
+    }
+
+    /// The rows in the order of their names.
+    pub fn rows(&self) -> &[DirectoryRow]
+        ensures value { result.now ≡ self.now }
+        ensures is { IsDirectory self.now }
+    {
+        let _ = &self.rows;
+        self.rows.as_slice()
+    }
+
+    /// The number of the object that has a name, if one has. The name is padded as in a row.
+    pub fn get(&self, name: &[u8; 56]) -> Option<u64>
+        ensures found { IfSome result (λ object. Contains self.now (record { name = name.now; object = object })) }
+        ensures none { result ≡ None → All (λ row. row.name ≢ name.now) self.now }
+    {
+        let row = self.rows.iter().find(|row| row.name == *name)?;
+        Some(row.object)
+    }
+
+    /// The directory whose rows the bytes of a table's rows spell.
+    fn from_rows(alloc: Global, bytes: &[u8]) -> Result<Directory, Refusal>
+        ensures found { IfOk result (λ rows. IsDirectory rows × (bytes.now ≡ rows_bytes rows)) }
+        ensures only { (rows : List DirectoryRow) → IsDirectory rows → bytes.now ≡ rows_bytes rows
+            → IfOk result (λ found. found ≡ rows) }
+        ensures bad { IsErrOf result Refusal.BadPointer → (rows : List DirectoryRow) → IsDirectory rows
+            → bytes.now ≢ rows_bytes rows }
+    {
+        let mut rows = Vec::new(alloc);
+        let mut rest = bytes;
+        while !rest.is_empty() {
+            let (row, after) = first_row(rest)?;
+            if !is_behind(&row, &rows) {
+                return Err(Refusal::BadPointer);
+            }
+            rows.push(row)?;
+            rest = after;
+        }
+        Ok(Directory { rows })
+    }
+
+    /// The directory that the bytes spell. `BadPointer` where they spell none: a name is out of order or there twice, has no
+    /// zero behind it or other bytes behind a zero, or the bytes are no such table.
+    pub fn decode(alloc: Global, bytes: &[u8]) -> Result<Directory, Refusal>
+        // What is found is spelled so, each byte of it.
+        ensures found { IfOk result (SpellsDirectory bytes.now) }
+        // What is spelled so is found, while there is memory.
+        ensures only { (rows : List DirectoryRow) → SpellsDirectory bytes.now rows
+            → IfOk result (λ found. found ≡ rows) }
+        ensures bad { IsErrOf result Refusal.BadPointer → (rows : List DirectoryRow)
+            → ¬ SpellsDirectory bytes.now rows }
+    {
+        let rows = object_table::decode(alloc, SHAPE, bytes)?;
+        Directory::from_rows(alloc, &rows)
+    }
+
+    /// The bytes of the rows, one after the other.
+    fn to_rows(&self, alloc: Global) -> Result<Vec<u8>, AllocError>
+        ensures { IfOk result (λ bytes. bytes.items ≡ rows_bytes self.now) }
+    {
+        let mut bytes = Vec::new(alloc);
+        for row in self.rows.as_slice() {
+            row.push_to(&mut bytes)?;
+        }
+        Ok(bytes)
+    }
+
+    /// The one spelling of a directory, in whole blocks.
+    pub fn encode(&self, alloc: Global) -> Result<Vec<u8>, Refusal>
+        requires { length self.now < 2 ^ 40 }
+        ensures spells { IfOk result (λ bytes. SpellsDirectory bytes.items self.now) }
+        ensures refused { IfErr result (λ refusal. refusal ≡ Refusal.NoMemory) }
+    {
+        let _ = &self.rows;
+        let rows = self.to_rows(alloc)?;
+        object_table::encode(alloc, SHAPE, &rows)
+    }
+}
+
+/// Whether the name of a row stands behind those of the rows so far.
+fn is_behind(row: &DirectoryRow, rows: &[DirectoryRow]) -> bool
+    requires { IsDirectory rows.now }
+    ensures { IsTrue result ↔ All (λ before. IsBefore before.name row.now.name) rows.now }
+{
+    match rows.last() {
+        None => true,
+        Some(last) => is_before(&last.name, &row.name),
+    }
+}

@@ -1,0 +1,13 @@
+//! The pool's own tables, in this project's profile: what their rows mean, and how they stand in the meta object set.
+#![tactic(auto)]
+
+mod config;
+mod directory;
+mod names;
+mod record;
+
+pub use config::{decode_config, encode_config};
+pub use directory::{Directory, DirectoryRow};
+pub use names::is_name;
+pub use object_table::Refusal;
+pub use record::{DatasetKind, DatasetRecord};

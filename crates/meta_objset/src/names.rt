@@ -1,0 +1,33 @@
+//! Names as they stand in rows of the directory.
+ghost use Rattle.std.specs.Prelude.{◌≡◌, ◌≢◌, ◌↔◌, ◌<◌, ℕ, length, slice_index, MatchOption, IsTrue};
+ghost use Rattle.meta_objset.specs.Names.{IsName, IsBefore};
+
+use std::cmp::Ordering;
+use words::is_zero;
+
+/// The index of the first zero.
+fn first_zero(bytes: &[u8]) -> Option<usize>
+    ensures { MatchOption result ((k : ℕ) → k < length bytes.now → slice_index bytes.now k ≢ 0)
+        (λ end. (end < length bytes.now) × (slice_index bytes.now end ≡ 0)
+        × ((k : ℕ) → k < end → slice_index bytes.now k ≢ 0)) }
+{
+    bytes.iter().position(|byte| *byte == 0)
+}
+
+/// Whether the bytes are a name as it stands in a row: 1 to 55 bytes that aren't zero, and zeros behind them.
+pub fn is_name(padded: &[u8; 56]) -> bool
+    ensures { IsTrue result ↔ IsName padded.now }
+{
+    let Some(end) = first_zero(padded) else {
+        return false;
+    };
+    let (_, zeros) = padded.split_at(end);
+    end > 0 && is_zero(zeros)
+}
+
+/// Whether a name stands before another in byte order.
+pub(crate) fn is_before(name: &[u8], other: &[u8]) -> bool
+    ensures { IsTrue result ↔ IsBefore name.now other.now }
+{
+    name.cmp(other) == Ordering::Less
+}
