@@ -8,7 +8,7 @@ use Rattle.pool_model.specs.Names.{same}
 use Rattle.pool_model.specs.Pools.{PlainPool, volume_at}
 use Rattle.group_volumes.specs.declared.volumes.NamedVolume.{NamedVolume}
 use Rattle.group_volumes.specs.Volumes.{SpellsVolume, SpellsVolumes}
-use Rattle.pool_now.proofs.Indexes.{same_is}
+use Rattle.pool_model.proofs.Places.{same_is}
 
 abbrev at : List ℕ → List PlainVolume → Option PlainVolume
 at name volumes = find (λ v. same v.name name) volumes

@@ -47,7 +47,7 @@ spelled_at stored birth volumes pool i named lt is spells =
     let there = spelled_within stored birth volumes pool i named lt spells in
     (there.0, subst (λ (n : NamedVolume). SpellsVolume stored birth n there.0) (sym is) there.1)
 
-pub spelled_in : (stored : Contents) (birth : ℕ) (volumes : List NamedVolume) (pool : PlainPool) (named : NamedVolume) → Contains volumes named
+pub spelled_in : (stored : Contents) (birth : ℕ) (volumes : List NamedVolume) (pool : List PlainVolume) (named : NamedVolume) → Contains volumes named
     → SpellsVolumes stored birth volumes pool → (volume : PlainVolume) × SpellsVolume stored birth named volume
 spelled_in stored birth volumes pool named (k, within, is) spells = spelled_at stored birth volumes pool k named within (sym is) spells
 

@@ -16,7 +16,7 @@ use Rattle.pool_commit.specs.Backs.{SpellsKept, kept_pool, pool_after}
 
 pub kept_stays : (before later : Contents) (group : ℕ) (volumes : Option GroupVolumes) (pool : Option PlainPool) → Extends before later
     → SpellsKept before group volumes pool → SpellsKept later group volumes pool
-kept_stays before later group (Some volumes) (Some pool) more spells = volumes_stay before later group group volumes.volumes.items pool more (omega arith) spells
+kept_stays before later group (Some volumes) (Some pool) more spells = volumes_stay before later group group volumes.volumes.items pool.volumes more (omega arith) spells
 kept_stays before later group None None more spells = tt
 kept_stays before later group (Some volumes) None more spells = absurd spells
 kept_stays before later group None (Some pool) more spells = absurd spells

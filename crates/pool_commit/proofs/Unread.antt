@@ -179,7 +179,7 @@ pub lost_under : (v : View) (old : State) (new : Store) (group : ℕ) (volumes :
     → IsLostUnder v old (record old { store = new }) group name offset len missing refusal
 lost_under v old new group volumes name offset len missing refusal backs kept reads spells is =
     let rest = is.unread.before.rest in
-    let here = spelled_in backs.blocks.stored group volumes.volumes.items (v.pools group) is.named is.has.0 spells in record {
+    let here = spelled_in backs.blocks.stored group volumes.volumes.items (v.pools group).volumes is.named is.has.0 spells in record {
       unread = record { volumes = volumes; kept = kept; unread = is };
       lost = subst (λ (r : Refusal). IsLost v missing old (record old { store = new }) is.unread.unread.block r) (sym is.answered)
           (unread_lost v old (record old { store = new }) missing is.unread.mid is.unread.unread.block
@@ -201,7 +201,7 @@ lost_for_plan v old new items refusal is backs reads pool spells =
     let begun : State = record old { store = is.begun; planned = None } in
     let first = is.unread in
     let one = first.unread.unread in
-    let here = spelled_in backs.blocks.stored (is.group - 1) old.kept.last.volumes.items pool first.named first.held spells in record {
+    let here = spelled_in backs.blocks.stored (is.group - 1) old.kept.last.volumes.items pool.volumes first.named first.held spells in record {
       unread = is;
       lost = subst (λ (r : Refusal). IsLost v [] old new one.unread.block r)
           (sym (is.answered ∙ ap of_volumes first.unread.answered ∙ same_answer first.unread.cause))
