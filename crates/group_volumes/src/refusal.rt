@@ -7,7 +7,7 @@ use std::alloc::{AllocError, AllocFailed};
 
 #[derive(Debug, Clone, Copy, PartialEq, Eq, Drop, thiserror::Error)]
 pub enum Refusal {
-    #[error("1 NoMemory")]
+    #[error("out of memory")]
     NoMemory,
     /// No copy of a block that a write reaches could be read: too many of its disks are absent.
     #[error("2 DiskFault")]

@@ -208,8 +208,12 @@ impl Machine {
 
     // The group after the committed one is synced, and has no plan.
     fn begin_sync(&mut self) -> Result<(), Refusal>
-        ensures begun { OnOk result ((v : View) → Represents self.old v → (timestamp : ℕ) → (refusal_of v (steps.Plan timestamp) ≡ None) × Represents self.new (taken v Unplanned)) }
-        ensures refused { IfErr result (λ cause. (v : View) → Represents self.old v → (timestamp : ℕ) → (refusal_of v (steps.Plan timestamp) ≡ Some cause) × Represents self.new v) }
+        ensures begun { OnOk result ((v : View) → Represents self.old v → (timestamp : ℕ) →
+            (refusal_of v (steps.Plan timestamp) ≡ None)
+            × Represents self.new (taken v Unplanned)) }
+        ensures refused { IfErr result (λ cause. (v : View) → Represents self.old v →
+            (timestamp : ℕ) → (refusal_of v (steps.Plan timestamp) ≡ Some cause)
+            × Represents self.new v) }
     {
         if self.planned.is_some() {
             return Err(Refusal::NotNow);
@@ -232,7 +236,8 @@ impl Machine {
 
     // The pool of a kept group.
     fn kept(&self, group: u64) -> Option<&Pool>
-        ensures { (v : View) → Represents self.now v → option_copied result ≡ (if is_kept v group then Some (v.pools group) else None) }
+        ensures { (v : View) → Represents self.now v →
+            option_copied result ≡ (if is_kept v group then Some (v.pools group) else None) }
     {
         let committed = self.pipeline.committed_group();
         if group == committed {
@@ -247,7 +252,8 @@ impl Machine {
 
     // The pool after the group that is synced, or where none is, after the committed one.
     fn synced(&self) -> Result<Pool, AllocError>
-        ensures { IfOk result (λ pool. (v : View) → Represents self.now v → pool ≡ upto v.committed (v.pools v.committed) v.ledger (taken_in v)) }
+        ensures { IfOk result (λ pool. (v : View) → Represents self.now v →
+            pool ≡ upto v.committed (v.pools v.committed) v.ledger (taken_in v)) }
     {
         let mut pool = self.last.copied(self.alloc)?;
         let Some(items) = self.pipeline.syncing_items() else {
@@ -259,7 +265,8 @@ impl Machine {
 
     // The pool after the waiting group, or where none waits, after the one before it.
     fn closed(&self) -> Result<Pool, AllocError>
-        ensures { IfOk result (λ pool. (v : View) → Represents self.now v → pool ≡ upto v.committed (v.pools v.committed) v.ledger (closed_in v)) }
+        ensures { IfOk result (λ pool. (v : View) → Represents self.now v →
+            pool ≡ upto v.committed (v.pools v.committed) v.ledger (closed_in v)) }
     {
         let mut pool = self.synced()?;
         let Some(items) = self.pipeline.waiting_items() else {

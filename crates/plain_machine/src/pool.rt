@@ -83,7 +83,8 @@ impl Pool {
         group: u64,
         actions: &[Action],
     ) -> Result<(), AllocError>
-        ensures { OnOk result (self.new ≡ fold (λ pool action. changed group pool action.change) self.old actions.now) }
+        ensures { OnOk result (self.new
+            ≡ fold (λ pool action. changed group pool action.change) self.old actions.now) }
     {
         for action in actions {
             self.change(alloc, group, &action.change)?;
@@ -123,7 +124,8 @@ impl Pool {
 
     // Where a volume of that name stands, or would stand.
     fn place_of(&self, name: &Name) -> usize
-        ensures value { result ≡ position_or_len (λ v. is_before name.now v.name) self.now.volumes }
+        ensures value { result
+            ≡ position_or_len (λ v. is_before name.now v.name) self.now.volumes }
         ensures bound { result ≤ length self.now.volumes }
     {
         self.volumes

@@ -39,7 +39,7 @@ written pool w = record pool { volumes = map (volume_after w) pool.volumes }
 abbrev pub created : ℕ → List ℕ → ℕ → ℕ → PlainVolume
 created group name size block_size = record { name = name; bytes = replicate size 0; block_size = block_size; group = group; kind = Volume }
 
--- with one volume more, at its place among the names
+-- with one volume more, before the first whose name comes after its own
 abbrev pub placed : PlainVolume → List PlainVolume → List PlainVolume
 placed volume volumes = insert volumes (position_or_len (λ v. is_before volume.name v.name) volumes) volume
 

@@ -49,15 +49,20 @@ pub fn pools_are_maps()
     ensures written { (pool : PlainPool) (w : Write) (name : List ℕ) →
         volume_at name (written pool w) ≡ option_map (volume_after w) (volume_at name pool) }
     ensures more { (pool : PlainPool) (volume : PlainVolume) (name : List ℕ) →
-        volume_at name (with_volume volume pool) ≡ option_or (volume_at name pool) (if same volume.name name then Some volume else None) }
+        volume_at name (with_volume volume pool)
+        ≡ option_or (volume_at name pool) (if same volume.name name then Some volume else None) }
 {}
 
 /// The volumes of a pool ascend by name: so they do at the start, and after each group where they did before it. Two such
 /// pools that have the same at each name are one.
 pub fn pools_ascend_by_name()
-    ensures start { (vdevs : List Vdev) (group : ℕ) → AreAscending ((started vdevs).pools group).volumes }
-    ensures applied { (group : ℕ) (pool : PlainPool) (entry : Entry) → AreAscending pool.volumes → AreAscending (applied group pool entry).volumes }
-    ensures upto { (base : ℕ) (pool : PlainPool) (ledger : Ledger) (n : ℕ) → AreAscending pool.volumes → AreAscending (upto base pool ledger n).volumes }
-    ensures equal { (pool other : PlainPool) → AreAscending pool.volumes → AreAscending other.volumes →
-        ((name : List ℕ) → volume_at name pool ≡ volume_at name other) → pool ≡ other }
+    ensures start { (vdevs : List Vdev) (group : ℕ) →
+        AreAscending ((started vdevs).pools group).volumes }
+    ensures applied { (group : ℕ) (pool : PlainPool) (entry : Entry) → AreAscending pool.volumes →
+        AreAscending (applied group pool entry).volumes }
+    ensures upto { (base : ℕ) (pool : PlainPool) (ledger : Ledger) (n : ℕ) →
+        AreAscending pool.volumes → AreAscending (upto base pool ledger n).volumes }
+    ensures equal { (pool other : PlainPool) → AreAscending pool.volumes →
+        AreAscending other.volumes → ((name : List ℕ) → volume_at name pool ≡ volume_at name other) →
+        pool ≡ other }
 {}

@@ -83,14 +83,16 @@ fn is_in_sectors(offset: u64, len: u64) -> bool
 }
 
 fn is_within(offset: u64, len: u64, size: u64) -> bool
-    ensures { (volume : PlainVolume) → size ≡ length volume.bytes → result ≡ is_in_range offset len volume }
+    ensures { (volume : PlainVolume) → size ≡ length volume.bytes →
+        result ≡ is_in_range offset len volume }
 {
     len <= size && offset <= size - len && len <= MOST_BYTES
 }
 
 /// Why a write under a hold of this group is refused, by the shape of the volume that has its name.
 pub fn against_write(write: &Write, group: u64, found: Option<VolumeShape>) -> Option<Refusal>
-    ensures { (volume : Option PlainVolume) → found ≡ option_map shape_of volume → result ≡ place_refusal write.now group volume }
+    ensures { (volume : Option PlainVolume) → found ≡ option_map shape_of volume →
+        result ≡ place_refusal write.now group volume }
 {
     let Some(volume) = found else {
         return Some(Refusal::NoSuchName);
@@ -137,7 +139,8 @@ pub fn against_change(change: &Change, index: &NameIndex) -> Option<Refusal>
 
 /// Why a read is refused, by the shape of the volume that has its name.
 pub fn against_read(offset: u64, len: u64, found: Option<VolumeShape>) -> Option<Refusal>
-    ensures { (volume : Option PlainVolume) → found ≡ option_map shape_of volume → result ≡ read_refusal offset len volume }
+    ensures { (volume : Option PlainVolume) → found ≡ option_map shape_of volume →
+        result ≡ read_refusal offset len volume }
 {
     let Some(volume) = found else {
         return Some(Refusal::NoSuchName);

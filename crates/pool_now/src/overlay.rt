@@ -19,7 +19,8 @@ use txg_pipeline::{Pending, Pipeline};
 /// offset on, and then has each write to that volume, in order, as far as it lies in the range.
 pub fn lay_over(writes: &[Write], name: &Name, size: u64, offset: u64, buffer: &mut [u8])
     requires { offset + length buffer.old ≤ size }
-    ensures { (volume : PlainVolume) → same volume.name name.now ≡ true → length volume.bytes ≡ size → HasRange buffer.old volume.bytes offset →
+    ensures { (volume : PlainVolume) → same volume.name name.now ≡ true →
+        length volume.bytes ≡ size → HasRange buffer.old volume.bytes offset →
         HasRange buffer.new (after_writes volume writes.now).bytes offset }
 {
     for write in writes {
@@ -40,8 +41,10 @@ pub fn read_pending(
     buffer: &mut [u8],
 )
     requires { offset + length buffer.old ≤ shape.size }
-    ensures { (v : View) (volume : PlainVolume) → Carries pipeline.now (flow_of v) → GroupsAreBelow v → volume_at name.now (now_of v) ≡ Some volume → shape_of volume ≡ shape →
-        HasRange buffer.old (base_of v name.now volume) offset → HasRange buffer.new volume.bytes offset }
+    ensures { (v : View) (volume : PlainVolume) → Carries pipeline.now (flow_of v) →
+        GroupsAreBelow v → volume_at name.now (now_of v) ≡ Some volume → shape_of volume ≡ shape →
+        HasRange buffer.old (base_of v name.now volume) offset →
+        HasRange buffer.new volume.bytes offset }
 {
     lay_syncing(pipeline, shape, name, offset, buffer);
     lay_waiting(pipeline, shape, name, offset, buffer);
@@ -50,7 +53,8 @@ pub fn read_pending(
 
 fn lay_syncing(pipeline: &Pipeline, shape: VolumeShape, name: &Name, offset: u64, buffer: &mut [u8])
     requires { offset + length buffer.old ≤ shape.size }
-    ensures { (v : View) → Carries pipeline.now (flow_of v) → GroupsAreBelow v → Lays v name.now shape offset v.committed (taken_in v) buffer.old buffer.new }
+    ensures { (v : View) → Carries pipeline.now (flow_of v) → GroupsAreBelow v →
+        Lays v name.now shape offset v.committed (taken_in v) buffer.old buffer.new }
 {
     let committed = pipeline.committed_group();
     if let Some(items) = pipeline.syncing_items() {
@@ -60,7 +64,8 @@ fn lay_syncing(pipeline: &Pipeline, shape: VolumeShape, name: &Name, offset: u64
 
 fn lay_waiting(pipeline: &Pipeline, shape: VolumeShape, name: &Name, offset: u64, buffer: &mut [u8])
     requires { offset + length buffer.old ≤ shape.size }
-    ensures { (v : View) → Carries pipeline.now (flow_of v) → GroupsAreBelow v → Lays v name.now shape offset (taken_in v) (closed_in v) buffer.old buffer.new }
+    ensures { (v : View) → Carries pipeline.now (flow_of v) → GroupsAreBelow v →
+        Lays v name.now shape offset (taken_in v) (closed_in v) buffer.old buffer.new }
 {
     let open = pipeline.open_group();
     if let Some(items) = pipeline.waiting_items() {
@@ -70,7 +75,8 @@ fn lay_waiting(pipeline: &Pipeline, shape: VolumeShape, name: &Name, offset: u64
 
 fn lay_open(pipeline: &Pipeline, shape: VolumeShape, name: &Name, offset: u64, buffer: &mut [u8])
     requires { offset + length buffer.old ≤ shape.size }
-    ensures { (v : View) → Carries pipeline.now (flow_of v) → GroupsAreBelow v → Lays v name.now shape offset (closed_in v) (open_group v) buffer.old buffer.new }
+    ensures { (v : View) → Carries pipeline.now (flow_of v) → GroupsAreBelow v →
+        Lays v name.now shape offset (closed_in v) (open_group v) buffer.old buffer.new }
 {
     let open = pipeline.open_group();
     lay_group(
@@ -93,9 +99,12 @@ fn lay_group(
     buffer: &mut [u8],
 )
     requires { offset + length buffer.old ≤ shape.size }
-    ensures { (pool : PlainPool) → IsMadeBy before pool → ComesTo shape (suc before) (volume_at name.now (applied (suc before) pool items.now)) →
+    ensures { (pool : PlainPool) → IsMadeBy before pool →
+        ComesTo shape (suc before) (volume_at name.now (applied (suc before) pool items.now)) →
         HasRange buffer.old (bytes_or_zeros (volume_at name.now pool) shape.size) offset →
-        HasRange buffer.new (bytes_or_zeros (volume_at name.now (applied (suc before) pool items.now)) shape.size) offset }
+        HasRange buffer.new
+            (bytes_or_zeros (volume_at name.now (applied (suc before) pool items.now)) shape.size)
+            offset }
 {
     if shape.group <= before {
         lay_over(items.writes(), name, shape.size, offset, buffer);
@@ -105,7 +114,8 @@ fn lay_group(
 // A write that doesn't lie within the volume changes nothing.
 fn lay_one(write: &Write, size: u64, offset: u64, buffer: &mut [u8])
     requires { offset + length buffer.old ≤ size }
-    ensures { (bytes : List ℕ) → length bytes ≡ size → HasRange buffer.old bytes offset → HasRange buffer.new (stored write.now.offset write.now.bytes bytes) offset }
+    ensures { (bytes : List ℕ) → length bytes ≡ size → HasRange buffer.old bytes offset →
+        HasRange buffer.new (stored write.now.offset write.now.bytes bytes) offset }
 {
     let len = write.bytes.len() as u64;
     if len > size || write.offset > size - len {

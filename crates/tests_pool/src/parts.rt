@@ -212,6 +212,24 @@ fn names_are_found(rt: HostRuntime) -> Result<(), Fail> {
     Ok(())
 }
 
+#[test]
+fn names_are_in_the_order_of_their_bytes(rt: HostRuntime) -> Result<(), Fail> {
+    for (first, second, wanted) in [
+        ("v", "w", true),
+        ("w", "v", false),
+        ("v", "v", false),
+        ("v", "v1", true),
+        ("v1", "v", false),
+        ("v-z", "v.a", true),
+        ("v10", "v2", true),
+    ] {
+        let first = name(rt.alloc(), first)?;
+        let second = name(rt.alloc(), second)?;
+        assert_eq!(rt; first.is_before(&second), wanted);
+    }
+    Ok(())
+}
+
 fn write_cause(
     alloc: Global,
     range: (u64, usize),
