@@ -15,10 +15,10 @@ use Rattle.pool_model.specs.declared.step.Step.TheVariants.{Hold, Write as Write
 use Rattle.pool_model.specs.declared.step.Reply.{Reply}
 use Rattle.pool_model.specs.declared.step.Reply.TheVariants.{Held, Receipt, Released, Closed, Quiesced, Planned, Committed, Bytes, Refused}
 use Rattle.pool_model.specs.Pools.{PlainPool, Ledger, applied, upto, volume_at}
-use Rattle.pool_model.specs.View.{View, Vdev, Sync, Idle, Unplanned, Left, is_syncing, is_planned, is_kept, is_held, is_quiescing, is_quiesced, hold_group, now_of, open_group, waiting_group, disks_of, is_away, disks_in_use, nothing_given}
+use Rattle.pool_model.specs.View.{View, Vdev, Sync, Idle, Unplanned, Due, is_syncing, is_planned, is_kept, is_held, is_quiescing, is_quiesced, hold_group, now_of, open_group, waiting_group, disks_of, is_away, disks_in_use, nothing_given}
 use Rattle.pool_model.specs.Flow.{flow_of}
 use Rattle.pool_model.specs.Refusals.{greatest, or_else, first_cause, read_refusal, refusal_of}
-use Rattle.pool_model.specs.Machine.{StepOf, IsPlan, MayLack, with_hold, without_hold, took, taken, left_waiting, committed_next, without_memory}
+use Rattle.pool_model.specs.Machine.{StepOf, IsPlan, MayLack, with_hold, without_hold, with_accepted, taken, left_waiting, committed_next, without_memory}
 use Rattle.pool_model.proofs.Plans.{nothing_quiet, may_nothing, same_elements}
 use Rattle.pool_model.proofs.SoundFlows.{taken_hold}
 use Rattle.pool_model.proofs.Uptos.{upto_one}
@@ -66,7 +66,7 @@ pub held : (m : Machine) (pipeline : Pipeline) (v : View) (writer group : ℕ) �
 held m pipeline v writer group r d =
     let g = d (flow_of v) r.flow in (
       with_hold v writer group,
-      inr (inr (record { none = hold_free v writer r.vdevs g.1.0; granted = (g.1.1, refl); calls = may_nothing (Hold writer) })),
+      inr (inr (record { none = hold_free v writer r.vdevs g.1.0; answered = (g.1.1, refl); calls = may_nothing (Hold writer) })),
       goes_on m pipeline v v.waiting _ v.next v.ledger r (λ s. refl) (subst (Carries pipeline) g.1.2 g.2),
     )
 
@@ -74,7 +74,7 @@ pub released : (m : Machine) (pipeline : Pipeline) (v : View) (writer : ℕ) →
 released m pipeline v writer r none d =
     let g = d (flow_of v) r.flow in (
       without_hold v writer,
-      inr (inr (record { none = none; granted = refl; calls = may_nothing (Release writer) })),
+      inr (inr (record { none = none; answered = refl; calls = may_nothing (Release writer) })),
       goes_on m pipeline v v.waiting _ v.next v.ledger r (λ s. refl) (subst (Carries pipeline) g.1 g.2),
     )
 
@@ -82,7 +82,7 @@ pub closed : (m : Machine) (pipeline : Pipeline) (v : View) (group : ℕ) → Re
 closed m pipeline v group r d =
     let g = d (flow_of v) r.flow in (
       record v { waiting = Some Quiescing },
-      inr (inr (record { none = close_free v r.vdevs g.1.0 g.1.1; granted = (g.1.2, refl); calls = may_nothing Close })),
+      inr (inr (record { none = close_free v r.vdevs g.1.0 g.1.1; answered = (g.1.2, refl); calls = may_nothing Close })),
       goes_on m pipeline v (Some Quiescing) v.holds v.next v.ledger r (λ s. refl) (subst (Carries pipeline) g.1.3 g.2),
     )
 
@@ -90,7 +90,7 @@ pub quiesced : (m : Machine) (pipeline : Pipeline) (v : View) (group : ℕ) → 
 quiesced m pipeline v group r d =
     let g = d (flow_of v) r.flow in (
       record v { waiting = Some QuiescedStage },
-      inr (inr (record { none = quiesce_free v r.vdevs g.1.0 g.1.1; granted = (g.1.2, refl); calls = may_nothing Quiesce })),
+      inr (inr (record { none = quiesce_free v r.vdevs g.1.0 g.1.1; answered = (g.1.2, refl); calls = may_nothing Quiesce })),
       goes_on m pipeline v (Some QuiescedStage) v.holds v.next v.ledger r (λ s. refl) (subst (Carries pipeline) g.1.3 g.2),
     )
 
@@ -98,8 +98,8 @@ pub wrote : (m : Machine) (pipeline : Pipeline) (v : View) (w : Write) (group : 
 wrote m pipeline v w group r none d =
     let g = d (flow_of v) r.flow in
     let takes = taken_hold (flow_of v) w.writer group v.holds r.sound.flow.holds g.1.0 in (
-      took v w.writer group (WriteItem w),
-      inr (inr (record { none = none; granted = (g.1.0, refl); calls = may_nothing (WriteStep w) })),
+      with_accepted v w.writer group (WriteItem w),
+      inr (inr (record { none = none; answered = (g.1.0, refl); calls = may_nothing (WriteStep w) })),
       goes_on m pipeline v v.waiting v.holds _ _ r (λ s. sym (kept_synced (flow_of v) group (WriteItem w) _ takes s refl)) (subst (Carries pipeline) g.1.3 g.2),
     )
 
@@ -107,8 +107,8 @@ pub acted : (m : Machine) (pipeline : Pipeline) (v : View) (a : Action) (group :
 acted m pipeline v a group r none d =
     let g = d (flow_of v) r.flow in
     let takes = taken_hold (flow_of v) a.writer group v.holds r.sound.flow.holds g.1.0 in (
-      took v a.writer group (ActionItem a),
-      inr (inr (record { none = none; granted = (g.1.0, refl); calls = may_nothing (Act a) })),
+      with_accepted v a.writer group (ActionItem a),
+      inr (inr (record { none = none; answered = (g.1.0, refl); calls = may_nothing (Act a) })),
       goes_on m pipeline v v.waiting v.holds _ _ r (λ s. sym (kept_synced (flow_of v) group (ActionItem a) _ takes s refl)) (subst (Carries pipeline) g.1.4 g.2),
     )
 
@@ -152,12 +152,12 @@ act_refused v a NotNow e n = refuses v (Act a) _ (act_late v a n.0 e n.1 n.2)
 pub idle_is : (sync : Sync) → is_syncing sync ≡ false → sync ≡ Idle
 idle_is Idle e = refl
 idle_is Unplanned e = absurd (true≢false e)
-idle_is (Left calls) e = absurd (true≢false e)
+idle_is (Due calls) e = absurd (true≢false e)
 
 pub unplanned_is : (sync : Sync) → is_syncing sync ≡ true → is_planned sync ≡ false → sync ≡ Unplanned
 unplanned_is Idle e p = absurd (true≢false (sym e))
 unplanned_is Unplanned e p = refl
-unplanned_is (Left calls) e p = absurd (true≢false p)
+unplanned_is (Due calls) e p = absurd (true≢false p)
 
 -- a group that is synced already, and has no plan, is taken as it is
 pub taken_already : (v : View) → v.sync ≡ Unplanned → taken v Unplanned ≡ v
@@ -184,13 +184,13 @@ begun m pipeline v r p idle k =
     }
 
 -- the group that is synced gets a plan, which has no device calls
-pub planned_step : (v : View) (timestamp group : ℕ) → v.vdevs ≡ [] → refusal_of v (Plan timestamp) ≡ None → group ≡ suc v.committed → StepOf v nothing_given (Plan timestamp) (Planned group) (taken v (Left []))
-planned_step v timestamp group e none g = inr (inr (record { none = none; granted = (g, [], empty, refl); calls = may_nothing (Plan timestamp) }))
+pub planned_step : (v : View) (timestamp group : ℕ) → v.vdevs ≡ [] → refusal_of v (Plan timestamp) ≡ None → group ≡ suc v.committed → StepOf v nothing_given (Plan timestamp) (Planned group) (taken v (Due []))
+planned_step v timestamp group e none g = inr (inr (record { none = none; answered = (g, [], empty, refl); calls = may_nothing (Plan timestamp) }))
   where
     empty : IsPlan v []
     empty = record { in_use = tt; numbered = λ disk. same_elements [] [] refl; flushes = same_elements [] (disks_in_use v) (sym (ap (λ (vdevs : List Vdev). filter (λ disk. not (is_away v disk)) (disks_of vdevs)) e)) }
 
-pub with_plan : (m : Machine) (v : View) (pool : PlainPool) → Represents m (taken v Unplanned) → pool ≡ upto v.committed (v.pools v.committed) v.ledger (suc v.committed) → Represents (record m { planned = Some pool }) (taken v (Left []))
+pub with_plan : (m : Machine) (v : View) (pool : PlainPool) → Represents m (taken v Unplanned) → pool ≡ upto v.committed (v.pools v.committed) v.ledger (suc v.committed) → Represents (record m { planned = Some pool }) (taken v (Due []))
 with_plan m v pool r e = record {
   sound = record { first = r.sound.first; flow = r.sound.flow };
   vdevs = r.vdevs;
@@ -213,7 +213,7 @@ commits m pipeline v group pool none last before earliest r was n l b e d =
     let p : IsPlanned v (Some pool) = subst (IsPlanned v) was r.planned in
     let flow : Carries pipeline (flow_of (committed_next v)) = subst (Carries pipeline) g.1.2 g.2 in (
       committed_next v,
-      inr (inr (record { none = device_free v r.vdevs (ap is_planned p.0); granted = (g.1.1, [], p.0, inl (refl, refl), refl, refl); calls = may_nothing Device })),
+      inr (inr (record { none = device_free v r.vdevs (ap is_planned p.0); answered = (g.1.1, [], p.0, inl (refl, refl), refl, refl); calls = may_nothing Device })),
       record {
         sound = record { first = let f = r.sound.first in omega arith; flow = flow.sound };
         vdevs = r.vdevs;
@@ -230,7 +230,7 @@ planned_syncs v planned pool p e = let q : IsPlanned v (Some pool) = subst (IsPl
 -- ---- reads
 
 pub read_now : (v : View) (name : List ℕ) (offset len : ℕ) (reply : Reply) → IsReadOf (now_of v) name offset len reply → StepOf v nothing_given (Read name offset len) reply v
-read_now v name offset len (Bytes bytes) h = inr (inr (record { none = h.0; granted = ((λ trusted. h.1), refl); calls = may_nothing (Read name offset len) }))
+read_now v name offset len (Bytes bytes) h = inr (inr (record { none = h.0; answered = ((λ trusted. h.1), refl); calls = may_nothing (Read name offset len) }))
 read_now v name offset len (Refused cause) h = ⊎_elim (λ e. subst (λ (x : Cause). StepOf v nothing_given (Read name offset len) (Refused x) v) (sym e) (lacks v (Read name offset len) refl)) (refuses v (Read name offset len) cause) h
 read_now v name offset len reply h = absurd h
 
@@ -238,7 +238,7 @@ kept_cause : (v : View) (group : ℕ) (name : List ℕ) (offset len : ℕ) → i
 kept_cause v group name offset len k = ap (λ b. or_else (first_cause ((not b, causes.GroupGone) ∷ [])) (read_refusal offset len (volume_at name (v.pools group)))) k
 
 pub read_kept : (v : View) (group : ℕ) (name : List ℕ) (offset len : ℕ) (reply : Reply) → is_kept v group ≡ true → IsReadOf (v.pools group) name offset len reply → StepOf v nothing_given (ReadUnder group name offset len) reply v
-read_kept v group name offset len (Bytes bytes) k h = inr (inr (record { none = kept_cause v group name offset len k ∙ h.0; granted = ((λ trusted. h.1), refl); calls = may_nothing (ReadUnder group name offset len) }))
+read_kept v group name offset len (Bytes bytes) k h = inr (inr (record { none = kept_cause v group name offset len k ∙ h.0; answered = ((λ trusted. h.1), refl); calls = may_nothing (ReadUnder group name offset len) }))
 read_kept v group name offset len (Refused cause) k h = ⊎_elim (λ e. subst (λ (x : Cause). StepOf v nothing_given (ReadUnder group name offset len) (Refused x) v) (sym e) (lacks v (ReadUnder group name offset len) refl)) (λ e. refuses v (ReadUnder group name offset len) cause (kept_cause v group name offset len k ∙ e)) h
 read_kept v group name offset len reply k h = absurd h
 

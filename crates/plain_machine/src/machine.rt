@@ -33,9 +33,9 @@ impl Machine {
     ghost use Rattle.pool_model.specs.Pools.{upto};
     ghost use Rattle.pool_model.specs.View.{View, Unplanned, started, now_of, is_kept};
     ghost use Rattle.pool_model.specs.Refusals.{refusal_of};
-    ghost use Rattle.pool_model.specs.Groups.{taken_in};
+    ghost use Rattle.pool_model.specs.Groups.{taken_upto};
     ghost use Rattle.pool_model.specs.Machine.{taken};
-    ghost use Rattle.plain_machine.specs.Represents.{Represents, Steps, closed_in};
+    ghost use Rattle.plain_machine.specs.Represents.{Represents, TakesStep, closed_in};
 
     /// A machine whose empty pool is committed as group 3.
     pub fn create(alloc: Global) -> Machine
@@ -54,7 +54,7 @@ impl Machine {
     /// One step of the machine. Where memory runs out nothing changes, but that a Plan may leave its group taken, without
     /// a plan.
     pub fn step(&mut self, step: Step) -> Reply
-        ensures { Steps self.old step result self.new }
+        ensures { TakesStep self.old step result self.new }
     {
         match step {
             Step::Hold(writer) => self.hold(writer),
@@ -76,7 +76,7 @@ impl Machine {
     }
 
     fn hold(&mut self, writer: u32) -> Reply
-        ensures { Steps self.old (steps.Hold writer) result self.new }
+        ensures { TakesStep self.old (steps.Hold writer) result self.new }
     {
         match self.pipeline.hold(writer) {
             Ok(group) => Reply::Held(group),
@@ -85,7 +85,7 @@ impl Machine {
     }
 
     fn write(&mut self, write: Write) -> Reply
-        ensures { Steps self.old (steps.Write write) result self.new }
+        ensures { TakesStep self.old (steps.Write write) result self.new }
     {
         let group = match self.pipeline.admitted(write.writer, write.number) {
             Ok(group) => group,
@@ -105,7 +105,7 @@ impl Machine {
     }
 
     fn act(&mut self, action: Action) -> Reply
-        ensures { Steps self.old (steps.Act action) result self.new }
+        ensures { TakesStep self.old (steps.Act action) result self.new }
     {
         let group = match self.pipeline.admitted(action.writer, action.number) {
             Ok(group) => group,
@@ -128,7 +128,7 @@ impl Machine {
     }
 
     fn release(&mut self, writer: u32) -> Reply
-        ensures { Steps self.old (steps.Release writer) result self.new }
+        ensures { TakesStep self.old (steps.Release writer) result self.new }
     {
         if self.pipeline.hold_of(writer).is_none() {
             return Reply::Refused(Refusal::NoHold);
@@ -140,7 +140,7 @@ impl Machine {
     }
 
     fn close(&mut self) -> Reply
-        ensures { Steps self.old steps.Close result self.new }
+        ensures { TakesStep self.old steps.Close result self.new }
     {
         match self.pipeline.close_open() {
             Ok(group) => Reply::Closed(group),
@@ -149,7 +149,7 @@ impl Machine {
     }
 
     fn quiesce(&mut self) -> Reply
-        ensures { Steps self.old steps.Quiesce result self.new }
+        ensures { TakesStep self.old steps.Quiesce result self.new }
     {
         match self.pipeline.mark_quiesced() {
             Ok(group) => Reply::Quiesced(group),
@@ -158,7 +158,7 @@ impl Machine {
     }
 
     fn plan(&mut self) -> Reply
-        ensures { (timestamp : ℕ) → Steps self.old (steps.Plan timestamp) result self.new }
+        ensures { (timestamp : ℕ) → TakesStep self.old (steps.Plan timestamp) result self.new }
     {
         match self.begin_sync() {
             Ok(()) => {}
@@ -173,7 +173,7 @@ impl Machine {
 
     // There are no disks, so that a planned group is committed at once.
     fn device(&mut self) -> Reply
-        ensures { Steps self.old steps.Device result self.new }
+        ensures { TakesStep self.old steps.Device result self.new }
     {
         let Some(planned) = self.planned.take() else {
             return Reply::Refused(Refusal::NotNow);
@@ -189,7 +189,7 @@ impl Machine {
     }
 
     fn read(&self, name: &Name, offset: u64, len: u64) -> Reply
-        ensures { Steps self.now (steps.Read name.now offset len) result self.now }
+        ensures { TakesStep self.now (steps.Read name.now offset len) result self.now }
     {
         let Ok(now) = self.now() else {
             return Reply::Refused(Refusal::NoMemory);
@@ -198,7 +198,7 @@ impl Machine {
     }
 
     fn read_under(&self, group: u64, name: &Name, offset: u64, len: u64) -> Reply
-        ensures { Steps self.now (steps.ReadUnder group name.now offset len) result self.now }
+        ensures { TakesStep self.now (steps.ReadUnder group name.now offset len) result self.now }
     {
         let Some(pool) = self.kept(group) else {
             return Reply::Refused(Refusal::GroupGone);
@@ -253,7 +253,7 @@ impl Machine {
     // The pool after the group that is synced, or where none is, after the committed one.
     fn synced(&self) -> Result<Pool, AllocError>
         ensures { IfOk result (λ pool. (v : View) → Represents self.now v →
-            pool ≡ upto v.committed (v.pools v.committed) v.ledger (taken_in v)) }
+            pool ≡ upto v.committed (v.pools v.committed) v.ledger (taken_upto v)) }
     {
         let mut pool = self.last.copied(self.alloc)?;
         let Some(items) = self.pipeline.syncing_items() else {

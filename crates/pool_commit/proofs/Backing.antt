@@ -13,7 +13,7 @@ use Rattle.block_store.specs.Store.{Store, is_out}
 use Rattle.group_volumes.specs.declared.volumes.GroupVolumes.{GroupVolumes}
 use Rattle.group_volumes.specs.Volumes.{SpellsPool}
 use Rattle.pool_model.specs.Pools.{PlainPool}
-use Rattle.pool_model.specs.View.{View, DueCall, Left, is_kept}
+use Rattle.pool_model.specs.View.{View, DueCall, Due, is_kept}
 use Rattle.pool_commit.specs.declared.kept.Kept.{Kept}
 use Rattle.pool_commit.specs.declared.kept.Planned.{Planned}
 use Rattle.pool_commit.specs.Backs.{Backs, SpellsKept, IsPlanOf, left_calls}
@@ -94,7 +94,7 @@ plan_stays : (s : State) (store : Store) (planned : Contents) (plan : Option Pla
 plan_stays s store planned None v due out reads is = is
 plan_stays s store planned (Some plan) v due out reads is = record {
   counts = is.counts;
-  sync = is.sync ∙ ap (λ (writes : List ColumnWrite). Left (left_calls is.counts writes plan.flushes.items)) (sym due);
+  sync = is.sync ∙ ap (λ (writes : List ColumnWrite). Due (left_calls is.counts writes plan.flushes.items)) (sym due);
   spells = is.spells;
   to_flush = λ disk in_use. ⊎_elim inl (λ flushed. inr (due ∙ flushed.0, flushed_still s.store.disks store.disks disk reads flushed.1)) (is.to_flush disk in_use);
   in_use = subst (λ (p : List Bool × List ColumnWrite). AllByRecursion (λ (call : DueCall). is_out p.0 call.disk ≡ false) (left_calls is.counts p.1 plan.flushes.items)) (λ i. (sym out i, sym due i)) is.in_use;

@@ -25,7 +25,7 @@ use Rattle.pool_model.specs.Flow.{counted_on}
 use Rattle.pool_model.specs.Machine.{due_write, due_flush, IsPlan}
 use Rattle.pool_model.proofs.Plans.{writes_on, is_plan as plan_of}
 use Rattle.pool_model.specs.Pools.{PlainPool, Entry, applied}
-use Rattle.pool_model.specs.View.{View, Vdev, DueCall, Sync, Left, is_planned, counted, disks_of, disks_in_use}
+use Rattle.pool_model.specs.View.{View, Vdev, DueCall, Sync, Due, is_planned, counted, disks_of, disks_in_use}
 use Rattle.pool_commit.specs.declared.kept.Planned.{Planned}
 use Rattle.pool_commit.specs.Backs.{Backs, IsPlanOf, left_calls}
 use Rattle.pool_commit.specs.Making.{writes_left}
@@ -204,7 +204,7 @@ pub plan_is_backed : (s : State) (new : Store) (group : ℕ) (last : GroupVolume
     → group ≡ suc v.committed → last ≡ s.kept.last → items ≡ v.ledger (suc v.committed)
     → plan.flushes.items ≡ filter (λ disk. not (is_out s.store.out disk)) (disks_of (vdevs_of s.store.spaces))
     → OnlyReadsAndPlans s.store new [] → AnswersAreTrue s.store new → IsAfter s.store new group last items plan.volumes
-    → (calls : List DueCall) × IsPlan v calls × Backs (record { store = new; kept = s.kept; planned = Some plan }) (record v { sync = Left calls })
+    → (calls : List DueCall) × IsPlan v calls × Backs (record { store = new; kept = s.kept; planned = Some plan }) (record v { sync = Due calls })
 plan_is_backed s new group last plan items v backs none next is_last are flushes kept honest after =
     let before : group - 1 ≡ v.committed = omega arith in
     let pool : PlainPool = v.pools v.committed in

@@ -44,7 +44,7 @@ use Rattle.pool_commit.specs.Backs.{Backs}
 use Rattle.pool_commit.specs.Calls.{unread_between}
 use Rattle.pool_commit.specs.Causes.{of_store, of_volumes}
 use Rattle.pool_commit.specs.Config.{shown, vdevs_of}
-use Rattle.pool_commit.specs.Reading.{AreTrue, IsReadFault, TooManyAreLost, IsLost, IsLostOn, IsLastVdev, IsUnreadOf, IsUnreadForPlan, IsLostUnder, IsLostForPlan, is_lost}
+use Rattle.pool_commit.specs.Reading.{PoolAnswersTruly, IsReadFault, TooManyAreLost, IsLost, IsLostOn, IsLastVdev, IsUnreadOf, IsUnreadForPlan, IsLostUnder, IsLostForPlan, is_lost}
 use Rattle.pool_commit.specs.State.{State, volumes_at}
 use Rattle.pool_commit.proofs.Planning.{same_vdevs}
 use Rattle.pool_commit.proofs.Refusing.{same_answer}
@@ -128,7 +128,7 @@ module _ (v : View) (old new : State) (missing : List ℕ) (mid : Store) (block 
 
   -- what was read of a block that is stored has another digest only where an answer was not true
   digest_untrue : (stored : Contents) (bytes : List ℕ) (refusal : StoreRefusal) (last : IsLastFault mid new.store (outs mid ++ missing) block refusal) → Holds old.store stored
-      → stored block ≡ Some bytes → HasNoChoice last.mid new.store.disks (outs mid ++ missing) block.checksum last.last.extent → ¬ AreTrue old new
+      → stored block ≡ Some bytes → HasNoChoice last.mid new.store.disks (outs mid ++ missing) block.checksum last.last.extent → ¬ PoolAnswersTruly old new
   digest_untrue stored bytes refusal last holds known none honest =
       let held : Holds mid stored = from.keeps stored holds in
       let extent : Extent = last.last.extent in
@@ -235,7 +235,7 @@ lost_too_many v missing old new vdev (held, many) =
 
 -- it is a fault of a read; and where the answers are true, too many disks are lost
 pub lost_fault : (v : View) (missing : List ℕ) (old new : State) (block : Block) (refusal : Refusal) → IsLost v missing old new block refusal
-    → IsReadFault refusal × (AreTrue old new → TooManyAreLost v missing old new)
+    → IsReadFault refusal × (PoolAnswersTruly old new → TooManyAreLost v missing old new)
 lost_fault v missing old new block DiskFault (vdev, last, many) = (inl refl, λ honest. lost_too_many v missing old new vdev many)
 lost_fault v missing old new block BadDigest untrue = (inr (inr refl), λ honest. absurd (untrue honest))
 lost_fault v missing old new block refusal is = absurd is

@@ -8,7 +8,7 @@ use Rattle.block_store.specs.Store.{Store, is_out}
 use Rattle.group_volumes.specs.declared.volumes.GroupVolumes.{GroupVolumes}
 use Rattle.group_volumes.specs.Volumes.{SpellsPool}
 use Rattle.pool_model.specs.Pools.{PlainPool, applied}
-use Rattle.pool_model.specs.View.{View, DueCall, Left, is_planned, is_kept, disks_in_use}
+use Rattle.pool_model.specs.View.{View, DueCall, Due, is_planned, is_kept, disks_in_use}
 use Rattle.pool_commit.specs.declared.kept.Planned.{Planned}
 use Rattle.pool_commit.specs.Calls.{IsFlushed}
 use Rattle.pool_commit.specs.Config.{vdevs_of}
@@ -41,7 +41,7 @@ IsToFlush store flushes disk = Contains flushes disk ⊎ ((store.due ≡ []) × 
 -- is flushed behind its last write or has its flush left, and no call that is left is on a disk that is out
 pub record HasPlan (s : State) (planned : Contents) (plan : Planned) (v : View) : Type 0 where
   pub counts : ℕ → ℕ
-  pub sync : v.sync ≡ Left (left_calls counts s.store.due plan.flushes.items)
+  pub sync : v.sync ≡ Due (left_calls counts s.store.due plan.flushes.items)
   pub spells : SpellsPool planned (suc v.committed) plan.volumes (pool_after v)
   pub to_flush : (disk : ℕ) → Contains (disks_in_use v) disk → IsToFlush s.store plan.flushes.items disk
   pub in_use : AllByRecursion (λ (call : DueCall). is_out s.store.out call.disk ≡ false) (left_calls counts s.store.due plan.flushes.items)

@@ -8,7 +8,7 @@ use Rattle.block_store.specs.Plans.{Plans}
 use Rattle.block_store.specs.Store.{Store}
 use Rattle.group_volumes.specs.declared.volumes.GroupVolumes.{GroupVolumes}
 use Rattle.pool_model.specs.declared.step.Phase.{Phase}
-use Rattle.pool_model.specs.View.{View, DueCall, Left, is_away, disks_in_use}
+use Rattle.pool_model.specs.View.{View, DueCall, Due, is_away, disks_in_use}
 use Rattle.pool_model.specs.Machine.{Makes, MakesAll, committed_next, dropped}
 use Rattle.pool_commit.specs.declared.device.Progress.{Progress}
 use Rattle.pool_commit.specs.declared.device.Progress.TheVariants.{Moved, Done, Dropped}
@@ -30,7 +30,7 @@ pub record MovesOn (old new : Disks) (v : View) (phase : Phase) : Type 0 where
   pub left : List DueCall
   pub made : List DueCall
   pub rest : List DueCall
-  pub planned : v.sync ≡ Left left
+  pub planned : v.sync ≡ Due left
   pub makes : Makes left made rest phase
   pub some : 0 < length rest
   pub faults : faults_between old new ≡ []
@@ -40,7 +40,7 @@ pub record MovesOn (old new : Disks) (v : View) (phase : Phase) : Type 0 where
 pub record EndsWell (old new : Disks) (v : View) : Type 0 where
   pub left : List DueCall
   pub made : List DueCall
-  pub planned : v.sync ≡ Left left
+  pub planned : v.sync ≡ Due left
   pub makes : MakesAll left made
   pub faults : faults_between old new ≡ []
   pub are_made : AreMade old new v made
@@ -54,7 +54,7 @@ pub record FailsAt (old new : Disks) (v : View) (disk : ℕ) : Type 0 where
   pub before : List DueCall
   pub call : DueCall
   pub on : call.disk ≡ disk
-  pub planned : v.sync ≡ Left left
+  pub planned : v.sync ≡ Due left
   pub last : made ≡ before ++ call ∷ []
   pub makes : Makes left made rest call.phase
   pub fault : faults_between old new ≡ disk_call call ∷ []
@@ -63,7 +63,7 @@ pub record FailsAt (old new : Disks) (v : View) (disk : ℕ) : Type 0 where
 -- From v the calls that were made, and no others, are calls of the plan, and nothing was read. Where one failed the plan is
 -- dropped; where none is left the group is committed.
 abbrev pub Progresses : State → Progress → State → View → Type 0
-Progresses old (Moved phase) new v = (on : MovesOn old.store.disks new.store.disks v phase) × Backs new (record v { sync = Left on.rest })
+Progresses old (Moved phase) new v = (on : MovesOn old.store.disks new.store.disks v phase) × Backs new (record v { sync = Due on.rest })
 Progresses old Done new v = EndsWell old.store.disks new.store.disks v × Backs new (committed_next v)
 Progresses old (Dropped disk) new v = FailsAt old.store.disks new.store.disks v disk × Backs new (dropped v disk)
 

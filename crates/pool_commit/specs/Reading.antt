@@ -28,8 +28,8 @@ use Rattle.pool_commit.specs.Room.{IsBegun}
 use Rattle.pool_commit.specs.State.{State, volumes_at}
 
 -- what the disks answered since is true
-abbrev pub AreTrue : State → State → Type 0
-AreTrue old new = IsHonestSince old.store.disks new.store.disks
+abbrev pub PoolAnswersTruly : State → State → Type 0
+PoolAnswersTruly old new = IsHonestSince old.store.disks new.store.disks
 
 -- nothing was done but reads, none of them on a disk that is out or missing, and each view that was backed is backed
 pub record OnlyReadsPool (old new : State) (missing : List ℕ) : Type 0 where
@@ -64,7 +64,7 @@ pub record IsLastVdev (v : View) (block : Block) (vdev : Vdev) : Type 0 where
 -- another digest, and then not all that the disks answered is true.
 abbrev pub IsLost : View → List ℕ → State → State → Block → Refusal → Type 0
 IsLost v missing old new block DiskFault = (vdev : Vdev) × IsLastVdev v block vdev × IsLostOn v missing old new vdev
-IsLost v missing old new block BadDigest = ¬ AreTrue old new
+IsLost v missing old new block BadDigest = ¬ PoolAnswersTruly old new
 IsLost v missing old new block refusal = ⊥
 
 -- a block of the volume of that name that lies partly in the range was read last, and could not be read: that is the answer

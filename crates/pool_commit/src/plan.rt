@@ -2,12 +2,12 @@
 ghost use Rattle.std.specs.Prelude.{[], ◌≡◌, ◌⊎◌, ◌<◌, ◌^◌, ℕ, suc, List, None, false, OnOk, OnErr, IfErr};
 ghost use Rattle.raidz_io.specs.Reads.{OnlyReads, AreUntouched};
 ghost use Rattle.block_store.specs.Store.{outs};
-ghost use Rattle.pool_model.specs.View.{View, DueCall, Unplanned, Left, is_planned};
+ghost use Rattle.pool_model.specs.View.{View, DueCall, Unplanned, Due, is_planned};
 ghost use Rattle.pool_model.specs.Machine.{IsPlan};
 ghost use Rattle.pool_now.specs.GoodChanges.{MakesGoodVolumes};
 ghost use Rattle.pool_commit.specs.Backs.{Backs};
 ghost use Rattle.pool_commit.specs.StateOf.{state_of};
-ghost use Rattle.pool_commit.specs.Reading.{AreTrue, IsReadFault, IsUnreadForPlan, IsLostForPlan};
+ghost use Rattle.pool_commit.specs.Reading.{PoolAnswersTruly, IsReadFault, IsUnreadForPlan, IsLostForPlan};
 ghost use Rattle.pool_commit.specs.Room.{LacksRoom};
 
 use crate::commit::Commit;
@@ -26,8 +26,8 @@ impl<D: Disk + Drop> Commit<D> {
         ensures untouched { AreUntouched (outs self.old.store) self.old.store.disks self.new.store.disks }
         ensures unplanned { OnErr result ((v : View) → Backs (state_of self.old) v → is_planned v.sync ≡ false → Backs (state_of self.new) v) }
         ensures dropped { OnErr result ((v : View) → Backs (state_of self.old) v → Backs (state_of self.new) (record v { sync = Unplanned })) }
-        ensures planned { OnOk result ((v : View) → Backs (state_of self.old) v → is_planned v.sync ≡ false → v.committed < 2 ^ 62 → items.now ≡ v.ledger (suc v.committed) → AreTrue (state_of self.old) (state_of self.new)
-            → (calls : List DueCall) × IsPlan v calls × Backs (state_of self.new) (record v { sync = Left calls })) }
+        ensures planned { OnOk result ((v : View) → Backs (state_of self.old) v → is_planned v.sync ≡ false → v.committed < 2 ^ 62 → items.now ≡ v.ledger (suc v.committed) → PoolAnswersTruly (state_of self.old) (state_of self.new)
+            → (calls : List DueCall) × IsPlan v calls × Backs (state_of self.new) (record v { sync = Due calls })) }
 
         // One of the group's own blocks finds no place, behind what is stored and others of them.
         ensures full { IfErr result (λ refusal. refusal ≡ Refusal.NoSpace

@@ -15,7 +15,7 @@ ghost use Rattle.pool_model.specs.Pools.{PlainPool};
 ghost use Rattle.pool_model.specs.Refusals.{read_refusal};
 ghost use Rattle.pool_commit.specs.Backs.{Backs};
 ghost use Rattle.pool_commit.specs.StateOf.{state_of};
-ghost use Rattle.pool_commit.specs.Reading.{AreTrue, OnlyReadsPool, IsReadFault, IsUnreadOf, IsUnreadUnder, IsLostUnder, HasNoCause, IsUnderCause, IsReadCause};
+ghost use Rattle.pool_commit.specs.Reading.{PoolAnswersTruly, OnlyReadsPool, IsReadFault, IsUnreadOf, IsUnreadUnder, IsLostUnder, HasNoCause, IsUnderCause, IsReadCause};
 
 use crate::commit::Commit;
 use crate::refusal::Refusal;
@@ -74,7 +74,7 @@ impl<D: Disk + Drop> Commit<D> {
     ) -> Result<Vec<u8>, Refusal>
         ensures reads { OnlyReadsPool (state_of self.old) (state_of self.new) missing.now }
         ensures bytes { IfOk result (λ bytes. (v : View) → Backs (state_of self.old) v → HasNoCause v group name.now offset len
-            × (AreTrue (state_of self.old) (state_of self.new) → AreBytesOf (v.pools group) name.now offset len bytes.items)) }
+            × (PoolAnswersTruly (state_of self.old) (state_of self.new) → AreBytesOf (v.pools group) name.now offset len bytes.items)) }
         ensures refused { IfErr result (λ refusal. (v : View) → Backs (state_of self.old) v
             → (refusal ≡ Refusal.NoMemory) ⊎ (IsUnderCause v group name.now offset len refusal
             ⊎ (HasNoCause v group name.now offset len
@@ -113,7 +113,7 @@ impl<D: Disk + Drop> Commit<D> {
         requires few { len ≤ 2 ^ 20 }
         ensures reads { OnlyReadsPool (state_of self.old) (state_of self.new) [] }
         ensures len { IfOk result (λ bytes. length bytes.items ≡ len) }
-        ensures bytes { IfOk result (λ bytes. (v : View) (volume : PlainVolume) → Backs (state_of self.old) v → GroupsAreBelow v → AreTrue (state_of self.old) (state_of self.new)
+        ensures bytes { IfOk result (λ bytes. (v : View) (volume : PlainVolume) → Backs (state_of self.old) v → GroupsAreBelow v → PoolAnswersTruly (state_of self.old) (state_of self.new)
             → volume_at name.now (now_of v) ≡ Some volume → shape_of volume ≡ shape → HasRange bytes.items (base_of v name.now volume) offset) }
         ensures refused { IfErr result (λ refusal. (v : View) (volume : PlainVolume) → Backs (state_of self.old) v → GroupsAreBelow v
             → volume_at name.now (now_of v) ≡ Some volume → shape_of volume ≡ shape

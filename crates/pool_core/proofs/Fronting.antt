@@ -12,7 +12,7 @@ use Rattle.pool_model.specs.declared.step.Reply.TheVariants.{Held, Committed, Re
 use Rattle.pool_model.specs.Pools.{PlainPool, applied}
 use Rattle.pool_model.specs.View.{View, Given, nothing_given, disks_of, disks_in_use, is_syncing, is_planned, is_suspended, is_quiescing, is_held, hold_group, open_group, waiting_group}
 use Rattle.pool_model.specs.Refusals.{greatest, first_cause, or_else, may_plan, refusal_of}
-use Rattle.pool_model.specs.Machine.{StepOf, Granted}
+use Rattle.pool_model.specs.Machine.{StepOf, MayAnswer}
 use Rattle.pool_model.proofs.Plans.{nothing_quiet, may_nothing}
 use Rattle.pool_intake.specs.declared.intake.Intake.{Intake}
 use Rattle.pool_intake.specs.Follows.{Follows, KeepsCommitted}
@@ -91,13 +91,13 @@ nothing_called (Hold writer) s intake = tt
 nothing_called step s intake = tt
 
 -- only a Device step commits
-granted_commits_none : (v : View) (given : Given) (step : Step) (group : ℕ) (w : View) → IsFrontStep step → Granted v given step (Committed group) w → ⊥
-granted_commits_none v given Device group w is g = is
-granted_commits_none v given (Hold writer) group w is g = g
-granted_commits_none v given step group w is g = g
+answers_commit_none : (v : View) (given : Given) (step : Step) (group : ℕ) (w : View) → IsFrontStep step → MayAnswer v given step (Committed group) w → ⊥
+answers_commit_none v given Device group w is g = is
+answers_commit_none v given (Hold writer) group w is g = g
+answers_commit_none v given step group w is g = g
 
 pub front_commits_none : (v : View) (given : Given) (step : Step) (reply : Reply) (w : View) (new : CoreState) → IsFrontStep step → StepOf v given step reply w → AreFlushed reply w new
-front_commits_none v given step (Committed group) w new is s = absurd (⊎_elim (λ r. let e = r.answer in cc) (λ o. ⊎_elim (λ l. let e = l.answer in cc) (λ g. granted_commits_none v given step group w is g.granted) o) s)
+front_commits_none v given step (Committed group) w new is s = absurd (⊎_elim (λ r. let e = r.answer in cc) (λ o. ⊎_elim (λ l. let e = l.answer in cc) (λ g. answers_commit_none v given step group w is g.answered) o) s)
 front_commits_none v given step (Held group) w new is s = tt
 front_commits_none v given step reply w new is s = tt
 

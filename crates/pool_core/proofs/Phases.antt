@@ -13,7 +13,7 @@ use Rattle.pool_model.specs.declared.step.Step.{Step}
 use Rattle.pool_model.specs.declared.step.Step.TheVariants.{Plan, Device}
 use Rattle.pool_model.specs.declared.step.Reply.{Reply}
 use Rattle.pool_model.specs.declared.step.Reply.TheVariants.{Planned, Moved, Replan, Committed, Refused}
-use Rattle.pool_model.specs.View.{View, Vdev, Given, DueCall, is_away, nothing_given, Sync, Unplanned, Left, is_syncing, is_planned, is_quiesced, is_suspended, open_after}
+use Rattle.pool_model.specs.View.{View, Vdev, Given, DueCall, is_away, nothing_given, Sync, Unplanned, Due, is_syncing, is_planned, is_quiesced, is_suspended, open_after}
 use Rattle.pool_model.specs.Pools.{Entry}
 use Rattle.pool_model.specs.Refusals.{greatest, first_cause, refusal_of}
 use Rattle.pool_model.specs.Machine.{StepOf, IsPlan, IsQuiet, FailsOn, IsUnreadable, taken, committed_next, dropped}
@@ -40,7 +40,7 @@ use Rattle.pool_commit.specs.declared.refusal.Refusal.TheVariants.{NoMemory, Dis
 use Rattle.pool_core.specs.Causes.{cause_of}
 use Rattle.pool_core.specs.Represents.{Represents}
 use Rattle.pool_core.specs.State.{CoreState, disks_of}
-use Rattle.pool_core.specs.Steps.{AwayIsUntouched, AreFlushed, AreTrue, fault_list, LosesBlock, FindsNoRoom, IsGiven, Goes}
+use Rattle.pool_core.specs.Steps.{AwayIsUntouched, AreFlushed, PoolAnswersTruly, fault_list, LosesBlock, FindsNoRoom, IsGiven, Goes}
 use Rattle.pool_core.proofs.Fronting.{nothing_is_given}
 
 -- ---- reads are no calls of a plan
@@ -115,7 +115,7 @@ this_lost : {P : Vdev → Type 0} (lost vdev : Vdev) → P lost → Some lost �
 this_lost {P} lost vdev p e = let same : lost ≡ vdev = cc in subst P same p
 
 pub under_given : (v : View) (old new : CoreState) (trusted : Bool) (group : ℕ) (name : List ℕ) (offset len : ℕ) (refusal : Refusal)
-    → IsLostUnder v old.commit new.commit group name offset len [] refusal → (trusted ≡ true → AreTrue old new)
+    → IsLostUnder v old.commit new.commit group name offset len [] refusal → (trusted ≡ true → PoolAnswersTruly old new)
     → GivesLost v old new trusted (cause_of refusal) (LosesUnder v old.commit new.commit group name offset len)
 under_given v old new trusted group name offset len DiskFault is honest = record {
   lost = Some is.lost.0;
@@ -126,7 +126,7 @@ under_given v old new trusted group name offset len BadDigest is honest = record
 under_given v old new trusted group name offset len refusal is honest = absurd is.lost
 
 pub plan_given : (v : View) (old new : CoreState) (trusted : Bool) (items : Entry) (refusal : Refusal)
-    → IsLostForPlan v old.commit new.commit items refusal → (trusted ≡ true → AreTrue old new)
+    → IsLostForPlan v old.commit new.commit items refusal → (trusted ≡ true → PoolAnswersTruly old new)
     → GivesLost v old new trusted (cause_of refusal) (LosesForPlan v old.commit new.commit items)
 plan_given v old new trusted items DiskFault is honest = record {
   lost = Some is.lost.0;
@@ -231,11 +231,11 @@ moves s commit v trusted phase r free p grew =
     record {
       given = device_given on.made None;
       trust = λ e. refl;
-      after = record v { sync = Left on.rest };
+      after = record v { sync = Due on.rest };
       link = record {
         is_given = device_is_given s new v on.made None on.are_made on.faults;
-        is_step = inr (inr (record { none = device_free v free (ap is_planned on.planned); granted = (on.left, on.rest, on.planned, on.makes, on.some, refl, refl); calls = refl }));
-        represents = record { follows = follows_on s.intake v (Left on.rest) v.out r.follows (ap is_syncing on.planned) refl; backs = p.1 };
+        is_step = inr (inr (record { none = device_free v free (ap is_planned on.planned); answered = (on.left, on.rest, on.planned, on.makes, on.some, refl, refl); calls = refl }));
+        represents = record { follows = follows_on s.intake v (Due on.rest) v.out r.follows (ap is_syncing on.planned) refl; backs = p.1 };
         flushed = tt;
         untouched = device_spares s new v on.made grew on.are_made;
         only = on.are_made.called;
@@ -253,7 +253,7 @@ commits s intake commit v trusted reply r free p grew is f =
       after = committed_next v;
       link = record {
         is_given = device_is_given s new v ends.made None ends.are_made ends.faults;
-        is_step = inr (inr (record { none = device_free v free (ap is_planned ends.planned); granted = (refl, ends.left, ends.planned, ends.makes, refl, refl); calls = refl }));
+        is_step = inr (inr (record { none = device_free v free (ap is_planned ends.planned); answered = (refl, ends.left, ends.planned, ends.makes, refl, refl); calls = refl }));
         represents = record { follows = f; backs = p.1 };
         flushed = ends.flushed;
         untouched = device_spares s new v ends.made grew ends.are_made;
@@ -308,10 +308,10 @@ drops s commit v trusted disk reply r free p grew is = go (is_suspended (dropped
     go : (b : Bool) → is_suspended (dropped v disk) ≡ b → reply ≡ (if is_suspended (dropped v disk) then Refused causes.Suspended else Replan disk) → Goes s v trusted Device reply new
     go true e x =
         subst (λ (y : Reply). Goes s v trusted Device y new) (sym (x ∙ ap (λ b. if b then Refused causes.Suspended else Replan disk) e))
-        (goes (Refused causes.Suspended) (inr (inr (record { none = device_free v free (ap is_planned p.0.planned); granted = (refl, disk, fails, e, refl); calls = refl }))) tt)
+        (goes (Refused causes.Suspended) (inr (inr (record { none = device_free v free (ap is_planned p.0.planned); answered = (refl, disk, fails, e, refl); calls = refl }))) tt)
     go false e x =
         subst (λ (y : Reply). Goes s v trusted Device y new) (sym (x ∙ ap (λ b. if b then Refused causes.Suspended else Replan disk) e))
-        (goes (Replan disk) (inr (inr (record { none = device_free v free (ap is_planned p.0.planned); granted = (fails, e, refl); calls = refl }))) tt)
+        (goes (Replan disk) (inr (inr (record { none = device_free v free (ap is_planned p.0.planned); answered = (fails, e, refl); calls = refl }))) tt)
 
 -- ---- plans
 
@@ -339,18 +339,18 @@ backs_taken s v backs none = record {
 -- a group is taken, and planned
 pub plans : (s : CoreState) (intake : Intake) (commit : State) (v : View) (trusted : Bool) (timestamp group : ℕ) (calls : List DueCall)
     → refusal_of v (Plan timestamp) ≡ None → Follows intake (taken v Unplanned) → group ≡ suc v.committed → IsPlan (taken v Unplanned) calls
-    → Backs commit (record (taken v Unplanned) { sync = Left calls }) → OnlyReads (disks_of s) commit.store.disks → AwayIsUntouched s v (record { intake = intake; commit = commit })
+    → Backs commit (record (taken v Unplanned) { sync = Due calls }) → OnlyReads (disks_of s) commit.store.disks → AwayIsUntouched s v (record { intake = intake; commit = commit })
     → Goes s v trusted (Plan timestamp) (Planned group) (record { intake = intake; commit = commit })
 plans s intake commit v trusted timestamp group calls none f is plan backs reads spared =
     let new : CoreState = record { intake = intake; commit = commit } in
     record {
       given = given_by_reads s new None trusted false;
       trust = λ e. e;
-      after = taken v (Left calls);
+      after = taken v (Due calls);
       link = record {
         is_given = reads_are_given s v (Plan timestamp) new None trusted false reads none_lost (λ e. absurd (true≢false (sym e)));
-        is_step = inr (inr (record { none = none; granted = (is, calls, record { in_use = plan.in_use; numbered = plan.numbered; flushes = plan.flushes }, refl); calls = reads_quiet s new None trusted false }));
-        represents = record { follows = follows_on intake (taken v Unplanned) (Left calls) v.out f refl refl; backs = backs };
+        is_step = inr (inr (record { none = none; answered = (is, calls, record { in_use = plan.in_use; numbered = plan.numbered; flushes = plan.flushes }, refl); calls = reads_quiet s new None trusted false }));
+        represents = record { follows = follows_on intake (taken v Unplanned) (Due calls) v.out f refl refl; backs = backs };
         flushed = tt;
         untouched = spared;
         only = tt;
@@ -360,7 +360,7 @@ plans s intake commit v trusted timestamp group calls none f is plan backs reads
 -- a plan that was refused, by its cause: its group is taken
 pub plan_refused : (s : CoreState) (intake : Intake) (commit : State) (v : View) (trusted : Bool) (timestamp : ℕ) (refusal : Refusal) (named : Cause) → named ≡ cause_of refusal
     → refusal_of v (Plan timestamp) ≡ None → Follows intake (taken v Unplanned) → Backs commit (taken v Unplanned) → OnlyReads (disks_of s) commit.store.disks → AwayIsUntouched s v (record { intake = intake; commit = commit })
-    → (trusted ≡ true → AreTrue s (record { intake = intake; commit = commit })) → (refusal ≡ NoSpace → LacksRoom s.commit (v.ledger (suc v.committed)))
+    → (trusted ≡ true → PoolAnswersTruly s (record { intake = intake; commit = commit })) → (refusal ≡ NoSpace → LacksRoom s.commit (v.ledger (suc v.committed)))
     → (refusal ≡ NoMemory) ⊎ (IsLostForPlan (taken v Unplanned) s.commit commit (v.ledger (suc v.committed)) refusal ⊎ (refusal ≡ NoSpace))
     → Goes s v trusted (Plan timestamp) (Refused named) (record { intake = intake; commit = commit })
 plan_refused s intake commit v trusted timestamp refusal named is none f backs reads spared honest full why =
@@ -372,9 +372,9 @@ plan_refused s intake commit v trusted timestamp refusal named is none f backs r
     (λ lost. let gives = plan_given (taken v Unplanned) s new trusted (v.ledger (suc v.committed)) refusal lost honest in
     goes gives.lost false (λ vdev e. let there = gives.loses vdev e in record { unread = there.unread; last = record { place = there.last.place; is_last = there.last.is_last; is_there = there.last.is_there } })
     (λ e. absurd (true≢false (sym e))) (cause_of refusal)
-    (inr (inr (record { none = none; granted = (inl (same_causes refusal gives.lost gives.unreadable), refl); calls = reads_quiet s new gives.lost trusted false }))))
+    (inr (inr (record { none = none; answered = (inl (same_causes refusal gives.lost gives.unreadable), refl); calls = reads_quiet s new gives.lost trusted false }))))
     (λ space. subst (λ (x : Refusal). Goes s v trusted (Plan timestamp) (Refused (cause_of x)) new) (sym space)
-    (goes None true none_lost (λ e. full space) causes.NoSpace (inr (inr (record { none = none; granted = (inr (refl, refl), refl); calls = reads_quiet s new None trusted true }))))) other) why)
+    (goes None true none_lost (λ e. full space) causes.NoSpace (inr (inr (record { none = none; answered = (inr (refl, refl), refl); calls = reads_quiet s new None trusted true }))))) other) why)
   where
     new : CoreState
     new = record { intake = intake; commit = commit }

@@ -18,7 +18,7 @@ use Rattle.pool_now.specs.Overlay.{HasRange}
 use Rattle.pool_now.specs.Shapes.{shape_of, shape_at}
 use Rattle.pool_commit.specs.declared.refusal.Refusal.{Refusal}
 use Rattle.pool_commit.specs.declared.refusal.Refusal.TheVariants.{NoMemory, NoSuchName, OutOfRange, GroupGone}
-use Rattle.pool_commit.specs.Reading.{AreTrue as AnswersAreTrue, HasNoCause, IsUnderCause, IsLostUnder, OnlyReadsPool}
+use Rattle.pool_commit.specs.Reading.{PoolAnswersTruly as AnswersAreTrue, HasNoCause, IsUnderCause, IsLostUnder, OnlyReadsPool}
 use Rattle.pool_commit.specs.State.{State}
 use Rattle.pool_core.specs.Causes.{cause_of}
 use Rattle.pool_core.specs.Represents.{Represents}
@@ -78,7 +78,7 @@ pub reads_under : (s : CoreState) (commit : State) (v : View) (trusted : Bool) (
     → Goes s v trusted (ReadUnder group name offset len) (Bytes bytes) (record s { commit = commit })
 reads_under s commit v trusted group name offset len bytes r reads none are =
     read_goes s commit v None trusted (ReadUnder group name offset len) (Bytes bytes) r reads tt none_lost
-    (inr (inr (record { none = none; granted = (are, refl); calls = reads_quiet s (record s { commit = commit }) None trusted false })))
+    (inr (inr (record { none = none; answered = (are, refl); calls = reads_quiet s (record s { commit = commit }) None trusted false })))
 
 pub refuses_under : (s : CoreState) (commit : State) (v : View) (trusted : Bool) (group : ℕ) (name : List ℕ) (offset len : ℕ) (cause : Cause) → Represents s v → OnlyReadsPool s.commit commit []
     → (trusted ≡ true → AnswersAreTrue s.commit commit) → IsUnderRefused v group name offset len [] s.commit commit cause
@@ -94,7 +94,7 @@ refuses_under s commit v trusted group name offset len cause r reads honest why 
         | inr lost ↦ let gives = under_given v s new trusted group name offset len lost.1.refusal lost.1.lost honest in
             subst (λ (c : Cause). Goes s v trusted step (Refused c) new) (sym lost.1.answered)
             (read_goes s commit v gives.lost trusted step (Refused (cause_of lost.1.refusal)) r reads tt gives.loses
-            (inr (inr (record { none = lost.0; granted = (gives.unreadable, refl); calls = reads_quiet s new gives.lost trusted false }))))
+            (inr (inr (record { none = lost.0; answered = (gives.unreadable, refl); calls = reads_quiet s new gives.lost trusted false }))))
       ]
     ]
 
@@ -114,7 +114,7 @@ pub reads_now : (s : CoreState) (commit : State) (v : View) (trusted : Bool) (na
 reads_now s commit v trusted name offset len bytes volume r reads none at count range =
     read_goes s commit v None trusted (Read name offset len) (Bytes bytes) r reads tt none_lost (inr (inr (record {
       none = none;
-      granted = ((λ e. (volume, at, range e ∙ ap (λ n. slice_range volume.bytes offset (offset + n)) count)), refl);
+      answered = ((λ e. (volume, at, range e ∙ ap (λ n. slice_range volume.bytes offset (offset + n)) count)), refl);
       calls = reads_quiet s (record s { commit = commit }) None trusted false;
     })))
 
@@ -129,5 +129,5 @@ refuses_now s commit v trusted name offset len refusal named is r reads none hon
       | inr lost ↦ let gives = under_given v s new trusted v.committed name offset len refusal lost honest in
           subst (λ (c : Cause). Goes s v trusted step (Refused c) new) (sym is)
           (read_goes s commit v gives.lost trusted step (Refused (cause_of refusal)) r reads tt gives.loses
-          (inr (inr (record { none = none; granted = (gives.unreadable, refl); calls = reads_quiet s new gives.lost trusted false }))))
+          (inr (inr (record { none = none; answered = (gives.unreadable, refl); calls = reads_quiet s new gives.lost trusted false }))))
     ]

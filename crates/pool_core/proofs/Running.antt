@@ -14,7 +14,7 @@ use Rattle.pool_commit.specs.Calls.{GrewTo}
 use Rattle.pool_commit.proofs.Made.{GrewTo-none, GrewTo-length}
 use Rattle.pool_core.specs.Runs.{Chain, RunsTo, Ran}
 use Rattle.pool_core.specs.State.{CoreState, disks_of}
-use Rattle.pool_core.specs.Steps.{IsPlanned, Link, Steps}
+use Rattle.pool_core.specs.Steps.{IsPlanned, Link, TakesStep}
 
 pub GrewTo-on : (old mid new : Disks) → GrewTo old mid → GrewTo mid new → GrewTo old new
 GrewTo-on old mid new first rest = record {
@@ -75,7 +75,7 @@ runs_none old before = (
 )
 
 pub runs_on : (old : CoreState) (steps : List Step) (before : List Reply) (mid : CoreState) (now : List Reply) (step : Step) (reply : Reply) (new : CoreState)
-    → RunsTo old steps before mid now → GrewTo (disks_of mid) (disks_of new) → Steps mid step reply new → RunsTo old (steps ++ step ∷ []) before new (now ++ reply ∷ [])
+    → RunsTo old steps before mid now → GrewTo (disks_of mid) (disks_of new) → TakesStep mid step reply new → RunsTo old (steps ++ step ∷ []) before new (now ++ reply ∷ [])
 runs_on old steps before mid now step reply new runs grew goes = (
   runs.0 ++ reply ∷ [],
   ap (λ xs. xs ++ reply ∷ []) runs.1 ∙ append_assoc before runs.0 (reply ∷ []),

@@ -9,7 +9,7 @@ use Rattle.pool_model.specs.Headline.{Headline}
 use Rattle.pool_commit.specs.Calls.{GrewTo}
 use Rattle.pool_core.specs.State.{CoreState, disks_of}
 use Rattle.pool_core.specs.Represents.{Represents}
-use Rattle.pool_core.specs.Steps.{AreTrue, IsPlanned, Link}
+use Rattle.pool_core.specs.Steps.{PoolAnswersTruly, IsPlanned, Link}
 
 -- One chain: each link leads from a core state and a view to the next ones, and the last are those of the end.
 abbrev pub Chain : CoreState → View → List Step → List Given → List Reply → CoreState → View → Type 0
@@ -37,11 +37,11 @@ PlansAreTrusted trusted replies = AllByRecursion (λ reply. IsPlanned reply → 
 -- so far
 abbrev pub RunsTo : CoreState → List Step → List Reply → CoreState → List Reply → Type 0
 RunsTo old steps before new after = (replies : List Reply) × (after ≡ before ++ replies) × GrewTo (disks_of old) (disks_of new)
-    × ((v : View) (trusted : Bool) → Represents old v → (trusted ≡ true → AreTrue old new) → PlansAreTrusted trusted replies → Links old v trusted steps replies new)
+    × ((v : View) (trusted : Bool) → Represents old v → (trusted ≡ true → PoolAnswersTruly old new) → PlansAreTrusted trusted replies → Links old v trusted steps replies new)
 
 -- The core took these steps and added their replies. From each view that it represented this is a chain to a view that it
 -- now represents; so it is a run of the machine, and tells what the headline says.
 abbrev pub Ran : CoreState → List Step → List Reply → CoreState → List Reply → Type 0
 Ran old steps before new after = (replies : List Reply) × (after ≡ before ++ replies) × GrewTo (disks_of old) (disks_of new)
-    × ((v : View) (trusted : Bool) → Represents old v → (trusted ≡ true → AreTrue old new) → PlansAreTrusted trusted replies
+    × ((v : View) (trusted : Bool) → Represents old v → (trusted ≡ true → PoolAnswersTruly old new) → PlansAreTrusted trusted replies
     → (links : Links old v trusted steps replies new) × Run v steps links.givens replies links.after × Headline v steps links.givens replies links.after)

@@ -15,8 +15,8 @@ use Rattle.pool_core.specs.State.{CoreState, disks_of}
 use Rattle.pool_core.specs.Represents.{Represents}
 
 -- what the disks answered since is true
-abbrev pub AreTrue : CoreState → CoreState → Type 0
-AreTrue old new = IsHonestSince (disks_of old) (disks_of new)
+abbrev pub PoolAnswersTruly : CoreState → CoreState → Type 0
+PoolAnswersTruly old new = IsHonestSince (disks_of old) (disks_of new)
 
 -- the steps that a suspended pool refuses
 abbrev pub is_barred : Step → Bool
@@ -87,11 +87,11 @@ IsPlanned reply = ⊥
 
 -- So it is from each view that old represents, whether or not the answers are known to be true; only a plan that is made
 -- asks for that.
-abbrev pub Steps : CoreState → Step → Reply → CoreState → Type 0
-Steps old step reply new = (v : View) (trusted : Bool) → Represents old v → (trusted ≡ true → AreTrue old new)
+abbrev pub TakesStep : CoreState → Step → Reply → CoreState → Type 0
+TakesStep old step reply new = (v : View) (trusted : Bool) → Represents old v → (trusted ≡ true → PoolAnswersTruly old new)
     → (IsPlanned reply → trusted ≡ true) → Goes old v trusted step reply new
 
 -- the same of a pool that is not suspended
-abbrev pub StepsUnlessSuspended : CoreState → Step → Reply → CoreState → Type 0
-StepsUnlessSuspended old step reply new = (v : View) (trusted : Bool) → Represents old v → is_suspended v ≡ false → (trusted ≡ true → AreTrue old new)
+abbrev pub TakesStepUnlessSuspended : CoreState → Step → Reply → CoreState → Type 0
+TakesStepUnlessSuspended old step reply new = (v : View) (trusted : Bool) → Represents old v → is_suspended v ≡ false → (trusted ≡ true → PoolAnswersTruly old new)
     → (IsPlanned reply → trusted ≡ true) → Goes old v trusted step reply new

@@ -9,7 +9,7 @@ ghost use Rattle.pool_commit.specs.Calls.{GrewTo};
 ghost use Rattle.pool_commit.specs.Config.{vdevs_from};
 ghost use Rattle.pool_core.specs.Represents.{Represents};
 ghost use Rattle.pool_core.specs.StateOf.{disks_in, state_of};
-ghost use Rattle.pool_core.specs.Steps.{Steps, is_barred as barred_step};
+ghost use Rattle.pool_core.specs.Steps.{TakesStep, is_barred as barred_step};
 
 use crate::refusal::named;
 use block_store::VdevConfig;
@@ -68,7 +68,7 @@ impl<D: Disk + Drop> Core<D> {
     /// One step of the machine. Release, Close, Quiesce and Device take no memory.
     pub fn step(&mut self, step: Step) -> Reply
         ensures grew { GrewTo (disks_in self.old) (disks_in self.new) }
-        ensures goes { Steps (state_of self.old) step result (state_of self.new) }
+        ensures goes { TakesStep (state_of self.old) step result (state_of self.new) }
     {
         if self.is_refused(&step) {
             return Reply::Refused(Refusal::Suspended);

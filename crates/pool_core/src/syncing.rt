@@ -9,7 +9,7 @@ ghost use Rattle.pool_commit.specs.Backs.{Backs};
 ghost use Rattle.pool_commit.specs.Calls.{GrewTo};
 ghost use Rattle.pool_intake.specs.Follows.{Follows};
 ghost use Rattle.pool_core.specs.StateOf.{disks_in, state_of};
-ghost use Rattle.pool_core.specs.Steps.{StepsUnlessSuspended};
+ghost use Rattle.pool_core.specs.Steps.{TakesStepUnlessSuspended};
 
 use crate::pool::Core;
 use crate::refusal::named;
@@ -21,7 +21,7 @@ impl<D: Disk + Drop> Core<D> {
     /// Takes the quiesced group to be synced, or the one whose plan was dropped, and plans it.
     pub(crate) fn plan(&mut self) -> Reply
         ensures grew { GrewTo (disks_in self.old) (disks_in self.new) }
-        ensures goes { (timestamp : ℕ) → StepsUnlessSuspended (state_of self.old) (steps.Plan timestamp) result (state_of self.new) }
+        ensures goes { (timestamp : ℕ) → TakesStepUnlessSuspended (state_of self.old) (steps.Plan timestamp) result (state_of self.new) }
     {
         if self.commit.is_planned() {
             return Reply::Refused(Refusal::NotNow);
@@ -42,7 +42,7 @@ impl<D: Disk + Drop> Core<D> {
     /// Makes the next device calls of the plan.
     pub(crate) fn device(&mut self) -> Reply
         ensures grew { GrewTo (disks_in self.old) (disks_in self.new) }
-        ensures goes { StepsUnlessSuspended (state_of self.old) steps.Device result (state_of self.new) }
+        ensures goes { TakesStepUnlessSuspended (state_of self.old) steps.Device result (state_of self.new) }
     {
         match self.commit.device() {
             None => Reply::Refused(Refusal::NotNow),

@@ -17,10 +17,10 @@ use Rattle.pool_model.specs.declared.step.Step.TheVariants.{Hold, Write as Write
 use Rattle.pool_model.specs.declared.step.Reply.{Reply}
 use Rattle.pool_model.specs.declared.step.Reply.TheVariants.{Held, Receipt, Released, Closed, Quiesced, Planned, Committed, Refused}
 use Rattle.pool_model.specs.Pools.{upto, PlainPool, Ledger, Entry, volume_at, changed, applied}
-use Rattle.pool_model.specs.View.{View, nothing_given, Sync, Idle, Unplanned, Left, is_syncing, is_planned, is_quiescing, is_quiesced, is_suspended, hold_group, is_held, now_of, open_group, waiting_group}
-use Rattle.pool_model.specs.Flow.{Flow, flow_of, opened, added, counted_on, ledger_took}
+use Rattle.pool_model.specs.View.{View, nothing_given, Sync, Idle, Unplanned, Due, is_syncing, is_planned, is_quiescing, is_quiesced, is_suspended, hold_group, is_held, now_of, open_group, waiting_group}
+use Rattle.pool_model.specs.Flow.{Flow, flow_of, opened, added, counted_on, ledger_accepted}
 use Rattle.pool_model.specs.Refusals.{greatest, change_refusal, refusal_of}
-use Rattle.pool_model.specs.Machine.{StepOf, Granted, MayLack, took, taken, left_waiting, committed_next, without_memory}
+use Rattle.pool_model.specs.Machine.{StepOf, MayAnswer, MayLack, with_accepted, taken, left_waiting, committed_next, without_memory}
 use Rattle.pool_model.proofs.Plans.{nothing_quiet, may_nothing}
 use Rattle.pool_model.proofs.SoundFlows.{all_snoc, taken_hold}
 use Rattle.pool_model.proofs.Sounds.{sound_step}
@@ -110,7 +110,7 @@ act_refused new v a NotNow r u n = refuses new v (Act a) causes.NotNow r (act_la
 abbrev moved : View → Option Stage → List Holder → (ℕ → ℕ) → Ledger → View
 moved v waiting holds next ledger = record v { waiting = waiting; holds = holds; next = next; ledger = ledger }
 
--- a granted step that leaves what is committed
+-- a answered step that leaves what is committed
 goes : (old new : Intake) (v : View) (step : Step) (reply : Reply) (waiting : Option Stage) (holds : List Holder) (next : ℕ → ℕ) (ledger : Ledger) → Follows old v
     → StepOf v nothing_given step reply (moved v waiting holds next ledger)
     → Carries new.pipeline (flow_of (moved v waiting holds next ledger))
@@ -134,14 +134,14 @@ goes old new v step reply waiting holds next ledger r s k n g same = (
 -- one that takes no action: the index stays
 goes_on : (pipeline other : Pipeline) (index : NameIndex) (v : View) (step : Step) (reply : Reply) (waiting : Option Stage) (holds : List Holder) (next : ℕ → ℕ) (ledger : Ledger) → Follows (record { pipeline = pipeline; index = index }) v
     → refusal_of v step ≡ None
-    → Granted v nothing_given step reply (moved v waiting holds next ledger)
+    → MayAnswer v nothing_given step reply (moved v waiting holds next ledger)
     → is_action_taken step reply ≡ false
     → Carries other (flow_of (moved v waiting holds next ledger))
     → ((group : ℕ) → MakesGoodVolumes (ledger group))
     → (is_syncing v.sync ≡ true → ledger (suc v.committed) ≡ v.ledger (suc v.committed))
     → Goes v step reply (record { pipeline = other; index = index })
-goes_on pipeline other index v step reply waiting holds next ledger r none granted a k g same =
-    let s : StepOf v nothing_given step reply (moved v waiting holds next ledger) = inr (inr (record { none = none; granted = granted; calls = may_nothing step })) in
+goes_on pipeline other index v step reply waiting holds next ledger r none answered a k g same =
+    let s : StepOf v nothing_given step reply (moved v waiting holds next ledger) = inr (inr (record { none = none; answered = answered; calls = may_nothing step })) in
     goes (record { pipeline = pipeline; index = index }) (record { pipeline = other; index = index }) v step reply waiting holds next ledger r s k (knows_step v nothing_given step reply (moved v waiting holds next ledger) index r.sound s a r.names) g same
 
 pub held : (pipeline other : Pipeline) (index : NameIndex) (v : View) (writer group : ℕ) → Follows (record { pipeline = pipeline; index = index }) v → is_suspended v ≡ false → Does pipeline (Hold writer) (Held group) other → Goes v (Hold writer) (Held group) (record { pipeline = other; index = index })
@@ -175,14 +175,14 @@ good_added : (entry : Entry) (item : Item) → IsGoodItem item → MakesGoodVolu
 good_added entry (WriteItem w) i g = g
 good_added entry (ActionItem a) i g = all_snoc (λ (x : Action). is_good_change x.change ≡ true) entry.actions a g i
 
-good_took : (ledger : Ledger) (group : ℕ) (item : Item) → IsGoodItem item → ((g : ℕ) → MakesGoodVolumes (ledger g)) → (g : ℕ) → MakesGoodVolumes (ledger_took ledger group item g)
+good_took : (ledger : Ledger) (group : ℕ) (item : Item) → IsGoodItem item → ((g : ℕ) → MakesGoodVolumes (ledger g)) → (g : ℕ) → MakesGoodVolumes (ledger_accepted ledger group item g)
 good_took ledger group item i good g = elim (g == group) as (λ b. MakesGoodVolumes (cond b (added (ledger g) item) (ledger g))) [ true ↦ good_added (ledger g) item i (good g) | false ↦ good g ]
 
 pub wrote : (pipeline other : Pipeline) (index : NameIndex) (v : View) (w : Write) (group : ℕ) → Follows (record { pipeline = pipeline; index = index }) v → refusal_of v (WriteStep w) ≡ None → Does pipeline (WriteStep w) (Receipt group) other → Goes v (WriteStep w) (Receipt group) (record { pipeline = other; index = index })
 wrote pipeline other index v w group r none d =
     let g = d (flow_of v) r.flow in
     let takes = taken_hold (flow_of v) w.writer group v.holds r.sound.flow.holds g.1.0 in
-    goes_on pipeline other index v (WriteStep w) (Receipt group) v.waiting v.holds (counted_on v.next w.writer) (ledger_took v.ledger group (WriteItem w)) r none (g.1.0, refl) refl (subst (Carries other) g.1.3 g.2) (good_took v.ledger group (WriteItem w) tt r.good) (λ s. sym (kept_synced (flow_of v) group (WriteItem w) _ takes s refl))
+    goes_on pipeline other index v (WriteStep w) (Receipt group) v.waiting v.holds (counted_on v.next w.writer) (ledger_accepted v.ledger group (WriteItem w)) r none (g.1.0, refl) refl (subst (Carries other) g.1.3 g.2) (good_took v.ledger group (WriteItem w) tt r.good) (λ s. sym (kept_synced (flow_of v) group (WriteItem w) _ takes s refl))
 
 -- the index knows the name that the action makes
 pub acted : (pipeline other : Pipeline) (index added_to : NameIndex) (v : View) (a : Action) (group : ℕ) (name : List ℕ) (shape : VolumeShape) → Follows (record { pipeline = pipeline; index = index }) v → is_suspended v ≡ false → refusal_of v (Act a) ≡ None → Does pipeline (Act a) (Receipt group) other
@@ -192,24 +192,24 @@ pub acted : (pipeline other : Pipeline) (index added_to : NameIndex) (v : View) 
 acted pipeline other index added_to v a group name shape r u none d is opened add =
     let g = d (flow_of v) r.flow in
     let takes = taken_hold (flow_of v) a.writer group v.holds r.sound.flow.holds g.1.0 in
-    let s : StepOf v nothing_given (Act a) (Receipt group) (took v a.writer group (ActionItem a)) = inr (inr (record { none = none; granted = (g.1.0, refl); calls = may_nothing (Act a) })) in
-    let moves = moves_now v nothing_given (Act a) (Receipt group) (took v a.writer group (ActionItem a)) r.sound s in
+    let s : StepOf v nothing_given (Act a) (Receipt group) (with_accepted v a.writer group (ActionItem a)) = inr (inr (record { none = none; answered = (g.1.0, refl); calls = may_nothing (Act a) })) in
+    let moves = moves_now v nothing_given (Act a) (Receipt group) (with_accepted v a.writer group (ActionItem a)) r.sound s in
     let free = change_free v a u none in
     let named : volume_at name (now_of v) ≡ None = name_free name shape.size shape.block_size (now_of v) (ap (λ (x : Change). change_refusal x (now_of v)) (sym is) ∙ free) in
-    let now : now_of (took v a.writer group (ActionItem a)) ≡ changed shape.group (now_of v) (Create name shape.size shape.block_size) = moves.1 ∙ (λ i. changed ((moves.0 ∙ sym opened) i) (now_of v) (is i)) in
-    goes (record { pipeline = pipeline; index = index }) (record { pipeline = other; index = added_to }) v (Act a) (Receipt group) v.waiting v.holds (counted_on v.next a.writer) (ledger_took v.ledger group (ActionItem a)) r s (subst (Carries other) g.1.4 g.2) (subst (Knows added_to) (sym now) (add (now_of v) r.names named)) (good_took v.ledger group (ActionItem a) (is_good a.change (now_of v) free) r.good) (λ s. sym (kept_synced (flow_of v) group (ActionItem a) _ takes s refl))
+    let now : now_of (with_accepted v a.writer group (ActionItem a)) ≡ changed shape.group (now_of v) (Create name shape.size shape.block_size) = moves.1 ∙ (λ i. changed ((moves.0 ∙ sym opened) i) (now_of v) (is i)) in
+    goes (record { pipeline = pipeline; index = index }) (record { pipeline = other; index = added_to }) v (Act a) (Receipt group) v.waiting v.holds (counted_on v.next a.writer) (ledger_accepted v.ledger group (ActionItem a)) r s (subst (Carries other) g.1.4 g.2) (subst (Knows added_to) (sym now) (add (now_of v) r.names named)) (good_took v.ledger group (ActionItem a) (is_good a.change (now_of v) free) r.good) (λ s. sym (kept_synced (flow_of v) group (ActionItem a) _ takes s refl))
 
 -- ---- the group that is synced
 
 idle_is : (sync : Sync) → is_syncing sync ≡ false → sync ≡ Idle
 idle_is Idle e = refl
 idle_is Unplanned e = absurd (true≢false e)
-idle_is (Left calls) e = absurd (true≢false e)
+idle_is (Due calls) e = absurd (true≢false e)
 
 unplanned_is : (sync : Sync) → is_syncing sync ≡ true → is_planned sync ≡ false → sync ≡ Unplanned
 unplanned_is Idle e p = absurd (true≢false (sym e))
 unplanned_is Unplanned e p = refl
-unplanned_is (Left calls) e p = absurd (true≢false p)
+unplanned_is (Due calls) e p = absurd (true≢false p)
 
 -- a group that is synced already, and has no plan, is taken as it is
 taken_already : (v : View) → v.sync ≡ Unplanned → taken v Unplanned ≡ v

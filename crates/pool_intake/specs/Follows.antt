@@ -32,9 +32,9 @@ pub record KeepsCommitted (v w : View) : Type 0 where
   pub synced : is_syncing v.sync ≡ true → w.ledger (suc v.committed) ≡ v.ledger (suc v.committed)
 
 -- in each view that old follows this is a step of the machine, with no call of a disk, to a view that new follows
-abbrev pub Steps : Intake → Step → Reply → Intake → Type 0
-Steps old step reply new = (v : View) → Follows old v → (w : View) × StepOf v nothing_given step reply w × Follows new w × KeepsCommitted v w
+abbrev pub TakesStep : Intake → Step → Reply → Intake → Type 0
+TakesStep old step reply new = (v : View) → Follows old v → (w : View) × StepOf v nothing_given step reply w × Follows new w × KeepsCommitted v w
 
 -- the same where the pool is not suspended
-abbrev pub StepsUnlessSuspended : Intake → Step → Reply → Intake → Type 0
-StepsUnlessSuspended old step reply new = (v : View) → Follows old v → is_suspended v ≡ false → (w : View) × StepOf v nothing_given step reply w × Follows new w × KeepsCommitted v w
+abbrev pub TakesStepUnlessSuspended : Intake → Step → Reply → Intake → Type 0
+TakesStepUnlessSuspended old step reply new = (v : View) → Follows old v → is_suspended v ≡ false → (w : View) × StepOf v nothing_given step reply w × Follows new w × KeepsCommitted v w

@@ -27,7 +27,7 @@ impl Intake {
     ghost use Rattle.pool_model.specs.Machine.{taken, committed_next};
     ghost use Rattle.pool_now.specs.Shapes.{shape_of, shape_at};
     ghost use Rattle.pool_now.specs.Overlay.{base_of, HasRange};
-    ghost use Rattle.pool_intake.specs.Follows.{Follows, Steps, StepsUnlessSuspended};
+    ghost use Rattle.pool_intake.specs.Follows.{Follows, TakesStep, TakesStepUnlessSuspended};
 
     /// An intake over an empty pool that is committed as group 3.
     pub fn new(alloc: Global) -> Intake
@@ -41,7 +41,7 @@ impl Intake {
 
     /// The writer takes a hold of the open group.
     pub fn hold(&mut self, writer: u32) -> Reply
-        ensures { StepsUnlessSuspended self.old (steps.Hold writer) result self.new }
+        ensures { TakesStepUnlessSuspended self.old (steps.Hold writer) result self.new }
     {
         match self.pipeline.hold(writer) {
             Ok(group) => Reply::Held(group),
@@ -51,7 +51,7 @@ impl Intake {
 
     /// A write joins the group of its writer's hold.
     pub fn write(&mut self, write: Write) -> Reply
-        ensures { StepsUnlessSuspended self.old (steps.Write write) result self.new }
+        ensures { TakesStepUnlessSuspended self.old (steps.Write write) result self.new }
     {
         if let Some(cause) = self.write_refusal(&write) {
             return Reply::Refused(cause);
@@ -64,7 +64,7 @@ impl Intake {
 
     /// An action joins the open group, and takes effect in NOW at once.
     pub fn act(&mut self, alloc: Global, action: Action) -> Reply
-        ensures { StepsUnlessSuspended self.old (steps.Act action) result self.new }
+        ensures { TakesStepUnlessSuspended self.old (steps.Act action) result self.new }
     {
         if let Some(cause) = self.action_refusal(&action) {
             return Reply::Refused(cause);
@@ -86,7 +86,7 @@ impl Intake {
 
     /// The writer gives its hold back, of a suspended pool too.
     pub fn release(&mut self, writer: u32) -> Reply
-        ensures { Steps self.old (steps.Release writer) result self.new }
+        ensures { TakesStep self.old (steps.Release writer) result self.new }
     {
         match self.pipeline.release(writer) {
             Ok(()) => Reply::Released,
@@ -96,7 +96,7 @@ impl Intake {
 
     /// The open group begins to wait, and the next one opens.
     pub fn close(&mut self) -> Reply
-        ensures { StepsUnlessSuspended self.old steps.Close result self.new }
+        ensures { TakesStepUnlessSuspended self.old steps.Close result self.new }
     {
         match self.pipeline.close_open() {
             Ok(group) => Reply::Closed(group),
@@ -106,7 +106,7 @@ impl Intake {
 
     /// The waiting group takes nothing more, where no hold is left in it.
     pub fn quiesce(&mut self) -> Reply
-        ensures { StepsUnlessSuspended self.old steps.Quiesce result self.new }
+        ensures { TakesStepUnlessSuspended self.old steps.Quiesce result self.new }
     {
         match self.pipeline.mark_quiesced() {
             Ok(group) => Reply::Quiesced(group),

@@ -8,20 +8,20 @@ use Rattle.pool_model.specs.declared.step.Reply.{Reply}
 use Rattle.pool_model.specs.declared.step.Reply.TheVariants.{Refused}
 use Rattle.pool_model.specs.View.{View, Given, DueCall, is_fault_on}
 use Rattle.pool_model.specs.Refusals.{refusal_of}
-use Rattle.pool_model.specs.Machine.{Granted, StepOf, Run}
+use Rattle.pool_model.specs.Machine.{MayAnswer, StepOf, Run}
 use Rattle.pool_model.specs.Headline.{IsRightlyAnswered, RightlyAnswered, OutsBy, OutsMove}
 use Rattle.pool_model.proofs.Moves.{NoFault, IsFaultOn, EachMove, by_move}
 
-granted_rightly : (v : View) (given : Given) (step : Step) (reply : Reply) (w : View) → refusal_of v step ≡ None → Granted v given step reply w → IsRightlyAnswered v given step reply w
-granted_rightly v given step (Refused cause) w n g = inr (inr (n, g))
-granted_rightly v given step reply w n g = n
+answered_rightly : (v : View) (given : Given) (step : Step) (reply : Reply) (w : View) → refusal_of v step ≡ None → MayAnswer v given step reply w → IsRightlyAnswered v given step reply w
+answered_rightly v given step (Refused cause) w n g = inr (inr (n, g))
+answered_rightly v given step reply w n g = n
 
 pub rightly : (v : View) (given : Given) (step : Step) (reply : Reply) (w : View) → StepOf v given step reply w → IsRightlyAnswered v given step reply w
 rightly v given step reply w s = ⊎_elim
     (λ r. subst (λ x. IsRightlyAnswered v given step x w) (sym r.answer) (inl (r.first, r.unchanged)))
     (λ s. ⊎_elim
     (λ l. subst (λ x. IsRightlyAnswered v given step x w) (sym l.answer) (inr (inl (refl, l.may))))
-    (λ g. granted_rightly v given step reply w g.none g.granted)
+    (λ g. answered_rightly v given step reply w g.none g.answered)
     s)
     s
 

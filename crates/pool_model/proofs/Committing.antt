@@ -8,7 +8,7 @@ use Rattle.pool_model.specs.declared.step.Reply.{Reply}
 use Rattle.pool_model.specs.declared.step.Reply.TheVariants.{Refused}
 use Rattle.pool_model.specs.declared.refusal.Refusal.{Refusal}
 use Rattle.pool_model.specs.Pools.{PlainPool, Ledger, applied, upto, volume_at}
-use Rattle.pool_model.specs.View.{View, Given, DueCall, Left, is_kept}
+use Rattle.pool_model.specs.View.{View, Given, DueCall, Due, is_kept}
 use Rattle.pool_model.specs.Machine.{committed_next, StepOf, Run}
 use Rattle.pool_model.specs.Flow.{flow_of}
 use Rattle.pool_model.specs.Sound.{IsSound}
@@ -19,8 +19,8 @@ use Rattle.pool_model.proofs.Told.{IsShut, told_shut, was_shut}
 use Rattle.pool_model.proofs.Uptos.{upto_from, upto_one, itself, not_above, above}
 
 -- the group that is synced is shut
-shut_next : (v : View) (left : List DueCall) → IsSound (record v { sync = Left left }) → IsShut (flow_of (committed_next v)) (suc v.committed)
-shut_next v left s = let h = was_shut (flow_of (record v { sync = Left left })) (suc v.committed) s.flow (inl (omega arith)) in record { below = h.below; free = h.free }
+shut_next : (v : View) (left : List DueCall) → IsSound (record v { sync = Due left }) → IsShut (flow_of (committed_next v)) (suc v.committed)
+shut_next v left s = let h = was_shut (flow_of (record v { sync = Due left })) (suc v.committed) s.flow (inl (omega arith)) in record { below = h.below; free = h.free }
 
 -- the new pool is made by its items
 at_next : (v : View) (ledger : Ledger) → ledger (suc v.committed) ≡ v.ledger (suc v.committed) → pool_by (committed_next v) ledger (suc v.committed) ≡ pool_by v ledger (suc v.committed)

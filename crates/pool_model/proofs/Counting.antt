@@ -10,7 +10,7 @@ use Rattle.pool_model.specs.declared.step.Reply.{Reply}
 use Rattle.pool_model.specs.View.{View, Given, Idle, Unplanned, is_syncing, is_quiesced, waiting_group, open_group}
 use Rattle.pool_model.specs.Machine.{Run}
 use Rattle.pool_model.specs.Accepted.{CountsFrom}
-use Rattle.pool_model.specs.Groups.{Counters, taken_in, counters_of, AreInOrder, TakesNext, MovesRefused, MovesBy, GroupsMove, commits}
+use Rattle.pool_model.specs.Groups.{Counters, taken_upto, counters_of, AreInOrder, TakesNext, MovesRefused, MovesBy, GroupsMove, commits}
 use Rattle.pool_model.proofs.Moves.{IsPlanFault, MayStay, EachMove, by_move}
 
 refused_moves : (c : Counters) (step : Step) (cause : Refusal) → MayStay step cause → MovesRefused c step cause c
@@ -27,12 +27,12 @@ plan_takes c timestamp NotNow d is t = absurd is
 plan_takes c timestamp cause d is t = t
 
 -- the waiting group is the one after those that were taken
-waiting_taken : (v : View) → waiting_group v ≡ suc (taken_in v)
+waiting_taken : (v : View) → waiting_group v ≡ suc (taken_upto v)
 waiting_taken v = elim (is_syncing v.sync) as (λ b. cond b (suc (suc v.committed)) (suc v.committed) ≡ suc (cond b (suc v.committed) v.committed)) [ true ↦ refl | false ↦ refl ]
 
 -- the open group is the one after those that were closed
 open_closed : (v : View) → open_group v ≡ suc (counters_of v).closed
-open_closed v = let e = waiting_taken v in elim (is_some v.waiting) as (λ b. cond b (suc (waiting_group v)) (waiting_group v) ≡ suc (cond b (suc (taken_in v)) (taken_in v))) [ true ↦ ap suc e | false ↦ e ]
+open_closed v = let e = waiting_taken v in elim (is_some v.waiting) as (λ b. cond b (suc (waiting_group v)) (waiting_group v) ≡ suc (cond b (suc (taken_upto v)) (taken_upto v))) [ true ↦ ap suc e | false ↦ e ]
 
 unplanned_low : (v : View) → suc v.committed ≤ (counters_of (record v { sync = Unplanned })).quiesced
 unplanned_low v = elim (is_quiesced v.waiting) as (λ b. suc v.committed ≤ cond b (suc (suc v.committed)) (suc v.committed)) [ true ↦ omega arith | false ↦ omega arith ]

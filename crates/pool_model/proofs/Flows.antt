@@ -14,7 +14,7 @@ use Rattle.pool_model.specs.declared.refusal.Refusal.{Refusal}
 use Rattle.pool_model.specs.declared.refusal.Refusal.TheVariants.{Suspended, NotNow}
 use Rattle.pool_model.specs.View.{hold_group, is_held}
 use Rattle.pool_model.specs.Refusals.{greatest}
-use Rattle.pool_model.specs.Flow.{Flow, waits, opened, held_by, released_by, flow_took, TakesGroup, FlowStep}
+use Rattle.pool_model.specs.Flow.{Flow, waiting_in, opened, held_by, released_by, flow_accepted, TakesGroup, FlowStep}
 
 -- a property of steps, proved of each way to go on
 pub record EachFlow (P : Flow → Step → Reply → Flow → Type 0) : Type 0 where
@@ -25,11 +25,11 @@ pub record EachFlow (P : Flow → Step → Reply → Flow → Type 0) : Type 0 w
   pub read : (f : Flow) (name : List ℕ) (offset len : ℕ) (bytes : List ℕ) → P f (Read name offset len) (Bytes bytes) f
   pub read_under : (f : Flow) (group : ℕ) (name : List ℕ) (offset len : ℕ) (bytes : List ℕ) → P f (ReadUnder group name offset len) (Bytes bytes) f
   pub held : (f : Flow) (writer : ℕ) → hold_group writer f.holds ≡ None → P f (Hold writer) (Held (opened f)) (record f { holds = held_by f.holds writer (opened f) })
-  pub wrote : (f : Flow) (w : Write) (group : ℕ) → hold_group w.writer f.holds ≡ Some group → w.number ≡ f.next w.writer → w.number ≤ greatest → P f (WriteStep w) (Receipt group) (flow_took f w.writer group (WriteItem w))
-  pub acted : (f : Flow) (a : Action) (group : ℕ) → hold_group a.writer f.holds ≡ Some group → a.number ≡ f.next a.writer → a.number ≤ greatest → P f (Act a) (Receipt group) (flow_took f a.writer group (ActionItem a))
+  pub wrote : (f : Flow) (w : Write) (group : ℕ) → hold_group w.writer f.holds ≡ Some group → w.number ≡ f.next w.writer → w.number ≤ greatest → P f (WriteStep w) (Receipt group) (flow_accepted f w.writer group (WriteItem w))
+  pub acted : (f : Flow) (a : Action) (group : ℕ) → hold_group a.writer f.holds ≡ Some group → a.number ≡ f.next a.writer → a.number ≤ greatest → P f (Act a) (Receipt group) (flow_accepted f a.writer group (ActionItem a))
   pub released : (f : Flow) (writer : ℕ) → P f (Release writer) Released (record f { holds = released_by f.holds writer })
-  pub closed : (f : Flow) → waits f < greatest → P (record f { waiting = None }) Close (Closed (waits f)) (record f { waiting = Some Quiescing })
-  pub quiesced : (f : Flow) → is_held (waits f) f.holds ≡ false → P (record f { waiting = Some Quiescing }) Quiesce (Quiesced (waits f)) (record f { waiting = Some QuiescedStage })
+  pub closed : (f : Flow) → waiting_in f < greatest → P (record f { waiting = None }) Close (Closed (waiting_in f)) (record f { waiting = Some Quiescing })
+  pub quiesced : (f : Flow) → is_held (waiting_in f) f.holds ≡ false → P (record f { waiting = Some Quiescing }) Quiesce (Quiesced (waiting_in f)) (record f { waiting = Some QuiescedStage })
   pub planned : (f : Flow) (timestamp : ℕ) → P (record f { syncing = false; waiting = Some QuiescedStage }) (Plan timestamp) (Planned (suc f.committed)) (record f { syncing = true; waiting = None })
   pub replanned_group : (f : Flow) (timestamp : ℕ) → P f (Plan timestamp) (Planned (suc f.committed)) f
   pub committed : (f : Flow) → P (record f { syncing = true }) Device (Committed (suc f.committed)) (record f { committed = suc f.committed; syncing = false })
@@ -50,12 +50,12 @@ by_flow P m f (WriteStep x) (Receipt group) g s = subst (P f (WriteStep x) (Rece
 by_flow P m f (Act a) (Receipt group) g s = subst (P f (Act a) (Receipt group)) (sym s.4) (m.acted f a group s.0 s.1 s.2)
 by_flow P m f (Release writer) Released g s = subst (P f (Release writer) Released) (sym s) (m.released f writer)
 by_flow P m f Close (Closed group) g s =
-    let same : opened f ≡ waits f = ap (λ o. opened (record f { waiting = o })) s.0 in
+    let same : opened f ≡ waiting_in f = ap (λ o. opened (record f { waiting = o })) s.0 in
     let lt = s.1 in
-    let below : waits f < greatest = omega arith in
-    subst (P f Close (Closed group)) (sym s.3) (subst (λ k. P f Close (Closed k) (record f { waiting = Some Quiescing })) (sym (s.2 ∙ same)) (at_waiting P f Close (Closed (waits f)) (record f { waiting = Some Quiescing }) None s.0 (m.closed f below)))
+    let below : waiting_in f < greatest = omega arith in
+    subst (P f Close (Closed group)) (sym s.3) (subst (λ k. P f Close (Closed k) (record f { waiting = Some Quiescing })) (sym (s.2 ∙ same)) (at_waiting P f Close (Closed (waiting_in f)) (record f { waiting = Some Quiescing }) None s.0 (m.closed f below)))
 by_flow P m f Quiesce (Quiesced group) g s =
-    subst (P f Quiesce (Quiesced group)) (sym s.3) (subst (λ k. P f Quiesce (Quiesced k) (record f { waiting = Some QuiescedStage })) (sym s.2) (at_waiting P f Quiesce (Quiesced (waits f)) (record f { waiting = Some QuiescedStage }) (Some Quiescing) s.0 (m.quiesced f s.1)))
+    subst (P f Quiesce (Quiesced group)) (sym s.3) (subst (λ k. P f Quiesce (Quiesced k) (record f { waiting = Some QuiescedStage })) (sym s.2) (at_waiting P f Quiesce (Quiesced (waiting_in f)) (record f { waiting = Some QuiescedStage }) (Some Quiescing) s.0 (m.quiesced f s.1)))
 by_flow P m f (Plan timestamp) (Planned group) g s =
     subst (λ k. P f (Plan timestamp) (Planned k) g) (sym s.0) (takes P f (Plan timestamp) (Planned (suc f.committed)) g (m.replanned_group f timestamp) (m.planned f timestamp) s.1)
 by_flow P m f (Plan timestamp) (Refused Suspended) g s = subst (P f (Plan timestamp) (Refused Suspended)) (sym s) (m.stays f (Plan timestamp) Suspended)

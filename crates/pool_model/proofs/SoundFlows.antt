@@ -12,7 +12,7 @@ use Rattle.pool_model.specs.declared.step.Step.{Step}
 use Rattle.pool_model.specs.declared.step.Reply.{Reply}
 use Rattle.pool_model.specs.View.{hold_group, is_held}
 use Rattle.pool_model.specs.Refusals.{greatest}
-use Rattle.pool_model.specs.Flow.{Flow, waits, opened, flow_took, FlowStep, FlowRun, Takes, IsSoundFlow}
+use Rattle.pool_model.specs.Flow.{Flow, waiting_in, opened, flow_accepted, FlowStep, FlowRun, Takes, IsSoundFlow}
 use Rattle.pool_model.proofs.Flows.{EachFlow, by_flow}
 
 pub all_snoc : {A : Type 0} (P : A → Type 0) (xs : List A) (x : A) → AllByRecursion P xs → P x → AllByRecursion P (xs ++ x ∷ [])
@@ -31,7 +31,7 @@ all_map P Q f (x ∷ xs) h = (f x h.0, all_map P Q f xs h.1)
 pub takes_below : (v : Flow) (group : ℕ) → Takes v group → group ≤ opened v
 takes_below v group t = ⊎_elim (λ e. omega arith) (λ q. below q.0 q.1) t
   where
-    below : v.waiting ≡ Some Quiescing → group ≡ waits v → group ≤ opened v
+    below : v.waiting ≡ Some Quiescing → group ≡ waiting_in v → group ≤ opened v
     below e f = rw e (omega arith)
 
 here : (v : Flow) (writer group : ℕ) (h : Holder) (hs : List Holder) (b : Bool) → Takes v h.group → (hold_group writer hs ≡ Some group → Takes v group) → option_map (λ k. k.group) (cond b (Some h) (find (λ k. k.writer == writer) hs)) ≡ Some group → Takes v group
@@ -44,7 +44,7 @@ taken_hold v writer group [] a e = absurd (cc)
 taken_hold v writer group (h ∷ hs) a e = here v writer group h hs (h.writer == writer) a.0 (taken_hold v writer group hs a.1) e
 
 -- where no hold is left in the quiescing group, each is of the open one
-all_open : (v : Flow) (hs : List Holder) → is_held (waits v) hs ≡ false → AllByRecursion (λ h. Takes (record v { waiting = Some Quiescing }) h.group) hs → AllByRecursion (λ h. h.group ≡ suc (waits v)) hs
+all_open : (v : Flow) (hs : List Holder) → is_held (waiting_in v) hs ≡ false → AllByRecursion (λ h. Takes (record v { waiting = Some Quiescing }) h.group) hs → AllByRecursion (λ h. h.group ≡ suc (waiting_in v)) hs
 all_open v [] n a = tt
 all_open v (h ∷ hs) n a = (⊎_elim (λ e. e) (λ q. absurd (let e = q.1 in grind (arith, nat_tests, e, n))) a.0, all_open v hs (grind (arith, nat_tests, n)) a.1)
 
@@ -55,10 +55,10 @@ not_quiescing e = cc
 from_quiesced : (v : Flow) → IsSoundFlow (record v { syncing = false; waiting = Some QuiescedStage }) → AllByRecursion (λ h. h.group ≡ suc (suc v.committed)) v.holds
 from_quiesced v s = all_map (λ h. Takes (record v { syncing = false; waiting = Some QuiescedStage }) h.group) (λ h. h.group ≡ suc (suc v.committed)) (λ h t. ⊎_elim (λ e. e) (λ q. absurd (not_quiescing q.0)) t) v.holds s.holds
 
-next_numbers : (v : Flow) (writer group : ℕ) (item : Item) → IsSoundFlow v → v.next writer ≤ greatest → (w : ℕ) → (flow_took v writer group item).next w ≤ suc greatest
+next_numbers : (v : Flow) (writer group : ℕ) (item : Item) → IsSoundFlow v → v.next writer ≤ greatest → (w : ℕ) → (flow_accepted v writer group item).next w ≤ suc greatest
 next_numbers v writer group item s le w = let old = s.numbers w in grind (arith, nat_tests, old, le)
 
-pub sound_took : (v : Flow) (writer group : ℕ) (item : Item) → hold_group writer v.holds ≡ Some group → v.next writer ≤ greatest → IsSoundFlow v → IsSoundFlow (flow_took v writer group item)
+pub sound_took : (v : Flow) (writer group : ℕ) (item : Item) → hold_group writer v.holds ≡ Some group → v.next writer ≤ greatest → IsSoundFlow v → IsSoundFlow (flow_accepted v writer group item)
 sound_took v writer group item h le s = record {
   holds = s.holds;
   beyond = λ g lt. let t = taken_hold v writer group v.holds s.holds h in let low = takes_below v group t in let e = s.beyond g lt in grind (arith, nat_tests, e, low, lt);
@@ -79,7 +79,7 @@ sound_flows = record {
   acted = λ v a group h n le s. sound_took v a.writer group (ActionItem a) h (omega arith) s;
   released = λ v writer s. record { holds = all_filter (λ h. Takes v h.group) (λ h. not (h.writer == writer)) v.holds s.holds; beyond = s.beyond; groups = s.groups; numbers = s.numbers };
   closed = λ v below s. record { holds = all_map (λ h. Takes (record v { waiting = None }) h.group) (λ h. Takes (record v { waiting = Some Quiescing }) h.group) (λ h t. ⊎_elim (λ e. inr (refl, e)) (λ q. inr (refl, q.1)) t) v.holds s.holds; beyond = λ g lt. s.beyond g (omega arith); groups = omega arith; numbers = s.numbers };
-  quiesced = λ v free s. record { holds = all_map (λ h. h.group ≡ suc (waits v)) (λ h. Takes (record v { waiting = Some QuiescedStage }) h.group) (λ h e. inl e) v.holds (all_open v v.holds free s.holds); beyond = s.beyond; groups = s.groups; numbers = s.numbers };
+  quiesced = λ v free s. record { holds = all_map (λ h. h.group ≡ suc (waiting_in v)) (λ h. Takes (record v { waiting = Some QuiescedStage }) h.group) (λ h e. inl e) v.holds (all_open v v.holds free s.holds); beyond = s.beyond; groups = s.groups; numbers = s.numbers };
   planned = λ v t s. record { holds = all_map (λ h. h.group ≡ suc (suc v.committed)) (λ h. Takes (record v { syncing = true; waiting = None }) h.group) (λ h e. inl e) v.holds (from_quiesced v s); beyond = s.beyond; groups = s.groups; numbers = s.numbers };
   replanned_group = λ v t s. s;
   committed = λ v s. record { holds = s.holds; beyond = s.beyond; groups = s.groups; numbers = s.numbers };

@@ -15,7 +15,7 @@ use Rattle.pool_model.specs.declared.step.Reply.TheVariants.{Receipt, Refused}
 use Rattle.pool_model.specs.declared.refusal.Refusal.{Refusal}
 use Rattle.pool_model.specs.Pools.{Ledger, Entry}
 use Rattle.pool_model.specs.View.{hold_group, is_held}
-use Rattle.pool_model.specs.Flow.{Flow, waits, opened, added, FlowRun, Takes, IsSoundFlow}
+use Rattle.pool_model.specs.Flow.{Flow, waiting_in, opened, added, FlowRun, Takes, IsSoundFlow}
 use Rattle.pool_model.specs.Accepted.{Accepted, with_item, accepted, with_front, items_in, ledger_with, numbers_of, CountsFrom, hold_then, IsForHold, AreForHold, NoReceipt, StaysQuiesced, WasShut}
 use Rattle.pool_model.proofs.Flows.{EachFlow, by_flow}
 
@@ -219,7 +219,7 @@ quiesced_moves = record {
   acted = λ v a g h n le replies f c. c;
   released = λ v by replies f h. h;
   closed = λ v b replies f h. h;
-  quiesced = λ v free replies f h. (f (waits v) (record { below = omega arith; free = free }), h);
+  quiesced = λ v free replies f h. (f (waiting_in v) (record { below = omega arith; free = free }), h);
   planned = λ v t replies f h. h;
   replanned_group = λ v t replies f h. h;
   committed = λ v replies f h. h;
@@ -238,10 +238,10 @@ pub free_of : (v : Flow) (group : ℕ) → ((g : ℕ) → Takes v g → g ≢ gr
 free_of v group f [] a = refl
 free_of v group f (h ∷ hs) a = let rest = free_of v group f hs a.1 in let off = f h.group a.0 in grind (arith, nat_tests, rest, off)
 
-waiting_below : (v : Flow) → waits v ≤ opened v
-waiting_below v = elim (is_some v.waiting) as (λ b. waits v ≤ cond b (suc (waits v)) (waits v)) [ true ↦ omega arith | false ↦ omega arith ]
+waiting_below : (v : Flow) → waiting_in v ≤ opened v
+waiting_below v = elim (is_some v.waiting) as (λ b. waiting_in v ≤ cond b (suc (waiting_in v)) (waiting_in v)) [ true ↦ omega arith | false ↦ omega arith ]
 
-some_quiesced : (v : Flow) → v.waiting ≡ Some QuiescedStage → waits v < opened v
+some_quiesced : (v : Flow) → v.waiting ≡ Some QuiescedStage → waiting_in v < opened v
 some_quiesced v e = rw e (omega arith)
 
 not_quiescing : (v : Flow) → v.waiting ≡ Some QuiescedStage → v.waiting ≡ Some Quiescing → ⊥

@@ -26,8 +26,8 @@ pub record Flow : Type 0 where
 abbrev pub flow_of : View → Flow
 flow_of v = record { committed = v.committed; syncing = is_syncing v.sync; waiting = v.waiting; holds = v.holds; next = v.next; ledger = v.ledger }
 
-abbrev pub waits : Flow → ℕ
-waits f = waiting_after f.committed f.syncing
+abbrev pub waiting_in : Flow → ℕ
+waiting_in f = waiting_after f.committed f.syncing
 
 abbrev pub opened : Flow → ℕ
 opened f = open_after f.committed f.syncing (is_some f.waiting)
@@ -51,12 +51,12 @@ abbrev pub counted_on : (ℕ → ℕ) → ℕ → ℕ → ℕ
 counted_on next writer w = if w == writer then suc (next w) else next w
 
 -- a group has accepted an item
-abbrev pub ledger_took : Ledger → ℕ → Item → Ledger
-ledger_took ledger group item g = if g == group then added (ledger g) item else ledger g
+abbrev pub ledger_accepted : Ledger → ℕ → Item → Ledger
+ledger_accepted ledger group item g = if g == group then added (ledger g) item else ledger g
 
 -- a group has accepted an item of a writer
-abbrev pub flow_took : Flow → ℕ → ℕ → Item → Flow
-flow_took f writer group item = record f { next = counted_on f.next writer; ledger = ledger_took f.ledger group item }
+abbrev pub flow_accepted : Flow → ℕ → ℕ → Item → Flow
+flow_accepted f writer group item = record f { next = counted_on f.next writer; ledger = ledger_accepted f.ledger group item }
 
 -- the group after the committed one is synced: it was, or it is the quiesced one, which is taken
 abbrev pub TakesGroup : Flow → Flow → Type 0
@@ -65,11 +65,11 @@ TakesGroup f g = ((f.syncing ≡ true) × (g ≡ f)) ⊎ ((f.syncing ≡ false) 
 -- what a step and its reply make of groups, holds and pending items
 abbrev pub FlowStep : Flow → Step → Reply → Flow → Type 0
 FlowStep f (Hold writer) (Held group) g = (hold_group writer f.holds ≡ None) × (group ≡ opened f) × (g ≡ record f { holds = held_by f.holds writer group })
-FlowStep f (WriteStep x) (Receipt group) g = (hold_group x.writer f.holds ≡ Some group) × (x.number ≡ f.next x.writer) × (x.number ≤ greatest) × (g ≡ flow_took f x.writer group (WriteItem x))
-FlowStep f (Act a) (Receipt group) g = (hold_group a.writer f.holds ≡ Some group) × (a.number ≡ f.next a.writer) × (a.number ≤ greatest) × (group ≡ opened f) × (g ≡ flow_took f a.writer group (ActionItem a))
+FlowStep f (WriteStep x) (Receipt group) g = (hold_group x.writer f.holds ≡ Some group) × (x.number ≡ f.next x.writer) × (x.number ≤ greatest) × (g ≡ flow_accepted f x.writer group (WriteItem x))
+FlowStep f (Act a) (Receipt group) g = (hold_group a.writer f.holds ≡ Some group) × (a.number ≡ f.next a.writer) × (a.number ≤ greatest) × (group ≡ opened f) × (g ≡ flow_accepted f a.writer group (ActionItem a))
 FlowStep f (Release writer) Released g = g ≡ record f { holds = released_by f.holds writer }
 FlowStep f Close (Closed group) g = (f.waiting ≡ None) × (opened f < greatest) × (group ≡ opened f) × (g ≡ record f { waiting = Some Quiescing })
-FlowStep f Quiesce (Quiesced group) g = (f.waiting ≡ Some Quiescing) × (is_held (waits f) f.holds ≡ false) × (group ≡ waits f) × (g ≡ record f { waiting = Some QuiescedStage })
+FlowStep f Quiesce (Quiesced group) g = (f.waiting ≡ Some Quiescing) × (is_held (waiting_in f) f.holds ≡ false) × (group ≡ waiting_in f) × (g ≡ record f { waiting = Some QuiescedStage })
 FlowStep f (Plan timestamp) (Planned group) g = (group ≡ suc f.committed) × TakesGroup f g
 FlowStep f (Plan timestamp) (Refused Suspended) g = g ≡ f
 FlowStep f (Plan timestamp) (Refused NotNow) g = g ≡ f
@@ -91,7 +91,7 @@ FlowRun f steps replies g = ⊥
 
 -- a group that may take items: the open one, and the waiting one while it quiesces
 abbrev pub Takes : Flow → ℕ → Type 0
-Takes f group = (group ≡ opened f) ⊎ ((f.waiting ≡ Some Quiescing) × (group ≡ waits f))
+Takes f group = (group ≡ opened f) ⊎ ((f.waiting ≡ Some Quiescing) × (group ≡ waiting_in f))
 
 pub record IsSoundFlow (f : Flow) : Type 0 where
   -- each hold is in the open or the quiescing group

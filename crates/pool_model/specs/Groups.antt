@@ -17,15 +17,15 @@ pub record Counters : Type 0 where
   pub closed : ℕ
   pub planned : Bool
 
-abbrev pub taken_in : View → ℕ
-taken_in v = if is_syncing v.sync then suc v.committed else v.committed
+abbrev pub taken_upto : View → ℕ
+taken_upto v = if is_syncing v.sync then suc v.committed else v.committed
 
 abbrev pub counters_of : View → Counters
 counters_of v = record {
   committed = v.committed;
-  taken = taken_in v;
-  quiesced = if is_quiesced v.waiting then suc (taken_in v) else taken_in v;
-  closed = if is_some v.waiting then suc (taken_in v) else taken_in v;
+  taken = taken_upto v;
+  quiesced = if is_quiesced v.waiting then suc (taken_upto v) else taken_upto v;
+  closed = if is_some v.waiting then suc (taken_upto v) else taken_upto v;
   planned = is_planned v.sync;
 }
 

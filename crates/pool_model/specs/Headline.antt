@@ -8,7 +8,7 @@ use Rattle.pool_model.specs.declared.step.Reply.TheVariants.{Closed, Bytes, Refu
 use Rattle.pool_model.specs.Pools.{PlainPool, Ledger, upto}
 use Rattle.pool_model.specs.View.{View, Given, open_group, is_fault_on}
 use Rattle.pool_model.specs.Refusals.{refusal_of}
-use Rattle.pool_model.specs.Machine.{AreBytesOf, Granted, MayLack, StepOf}
+use Rattle.pool_model.specs.Machine.{AreBytesOf, MayAnswer, MayLack, StepOf}
 use Rattle.pool_model.specs.Sound.{IsSound}
 use Rattle.pool_model.specs.Flow.{flow_of}
 use Rattle.pool_model.specs.Accepted.{with_item, ledger_with, CountsFrom, OnceInOrder}
@@ -45,7 +45,7 @@ ReadsNow c pool ledger opened steps givens replies = ⊥
 -- a refusal names the first cause; or it is want of memory, in a step that takes some; or, where the view has no cause,
 -- what was given is one. Any other reply is given only where there is no cause.
 abbrev pub IsRightlyAnswered : View → Given → Step → Reply → View → Type 0
-IsRightlyAnswered v given step (Refused cause) w = ((refusal_of v step ≡ Some cause) × (w ≡ v)) ⊎ (((cause ≡ NoMemory) × MayLack v step) ⊎ ((refusal_of v step ≡ None) × Granted v given step (Refused cause) w))
+IsRightlyAnswered v given step (Refused cause) w = ((refusal_of v step ≡ Some cause) × (w ≡ v)) ⊎ (((cause ≡ NoMemory) × MayLack v step) ⊎ ((refusal_of v step ≡ None) × MayAnswer v given step (Refused cause) w))
 IsRightlyAnswered v given step reply w = refusal_of v step ≡ None
 
 -- so it is at each step, on the views of the run, from the first to the last

@@ -15,9 +15,9 @@ use Rattle.pool_model.specs.declared.refusal.Refusal.{Refusal}
 use Rattle.pool_model.specs.declared.refusal.Refusal.TheVariants.{NoMemory, DiskFault, NoSpace, Suspended, BadPointer, BadDigest, BadMap}
 use Rattle.pool_model.specs.declared.volume.PlainVolume.{PlainVolume}
 use Rattle.pool_model.specs.Pools.{PlainPool, volume_at, applied}
-use Rattle.pool_model.specs.View.{View, Vdev, Given, DueCall, Sync, Idle, Unplanned, Left, waiting_group, open_group, hold_group, now_of, is_suspended, is_missing, lost_in, counted, disks_in_use}
+use Rattle.pool_model.specs.View.{View, Vdev, Given, DueCall, Sync, Idle, Unplanned, Due, waiting_group, open_group, hold_group, now_of, is_suspended, is_missing, lost_in, counted, disks_in_use}
 use Rattle.pool_model.specs.Refusals.{refusal_of, takes_memory}
-use Rattle.pool_model.specs.Flow.{held_by, released_by, counted_on, ledger_took}
+use Rattle.pool_model.specs.Flow.{held_by, released_by, counted_on, ledger_accepted}
 
 -- ---- what a step changes
 
@@ -29,14 +29,14 @@ abbrev pub without_hold : View → ℕ → View
 without_hold v writer = record v { holds = released_by v.holds writer }
 
 -- a group has accepted an item of a writer
-abbrev pub took : View → ℕ → ℕ → Item → View
-took v writer group item = record v { next = counted_on v.next writer; ledger = ledger_took v.ledger group item }
+abbrev pub with_accepted : View → ℕ → ℕ → Item → View
+with_accepted v writer group item = record v { next = counted_on v.next writer; ledger = ledger_accepted v.ledger group item }
 
 -- a waiting group that is quiesced, and not being synced, is taken to be synced
 abbrev pub left_waiting : Sync → Option Stage → Option Stage
 left_waiting Idle waiting = None
 left_waiting Unplanned waiting = waiting
-left_waiting (Left calls) waiting = waiting
+left_waiting (Due calls) waiting = waiting
 
 -- the group after the committed one is synced, and as far as this
 abbrev pub taken : View → Sync → View
@@ -99,7 +99,7 @@ pub record FailsOn (v : View) (given : Given) (disk : ℕ) : Type 0 where
   pub before : List DueCall
   pub call : DueCall
   pub on : call.disk ≡ disk
-  pub planned : v.sync ≡ Left left
+  pub planned : v.sync ≡ Due left
   pub last : given.made ≡ before ++ call ∷ []
   pub makes : Makes left given.made rest call.phase
   pub fault : given.fault ≡ Some call
@@ -142,24 +142,24 @@ IsUnreadable v given BadMap = given.trusted ≡ false
 IsUnreadable v given cause = ⊥
 
 -- what a step against which the view has nothing may be answered, and what it then changes
-abbrev pub Granted : View → Given → Step → Reply → View → Type 0
-Granted v given (Hold writer) (Held group) w = (group ≡ open_group v) × (w ≡ with_hold v writer group)
-Granted v given (WriteStep x) (Receipt group) w = (hold_group x.writer v.holds ≡ Some group) × (w ≡ took v x.writer group (WriteItem x))
-Granted v given (Act a) (Receipt group) w = (hold_group a.writer v.holds ≡ Some group) × (w ≡ took v a.writer group (ActionItem a))
-Granted v given (Release writer) Released w = w ≡ without_hold v writer
-Granted v given Close (Closed group) w = (group ≡ open_group v) × (w ≡ record v { waiting = Some Quiescing })
-Granted v given Quiesce (Quiesced group) w = (group ≡ waiting_group v) × (w ≡ record v { waiting = Some QuiescedStage })
-Granted v given (Plan timestamp) (Planned group) w = (group ≡ suc v.committed) × (calls : List DueCall) × IsPlan v calls × (w ≡ taken v (Left calls))
-Granted v given (Plan timestamp) (Refused cause) w = (IsUnreadable v given cause ⊎ ((cause ≡ NoSpace) × (given.full ≡ true))) × (w ≡ taken v Unplanned)
-Granted v given Device (Moved phase) w = (left rest : List DueCall) × (v.sync ≡ Left left) × Makes left given.made rest phase × (0 < length rest) × (given.fault ≡ None) × (w ≡ record v { sync = Left rest })
-Granted v given Device (Committed group) w = (group ≡ suc v.committed) × (left : List DueCall) × (v.sync ≡ Left left) × MakesAll left given.made × (given.fault ≡ None) × (w ≡ committed_next v)
-Granted v given Device (Replan disk) w = FailsOn v given disk × (is_suspended (dropped v disk) ≡ false) × (w ≡ dropped v disk)
-Granted v given Device (Refused cause) w = (cause ≡ Suspended) × (disk : ℕ) × FailsOn v given disk × (is_suspended (dropped v disk) ≡ true) × (w ≡ dropped v disk)
-Granted v given (Read name offset len) (Bytes bytes) w = (given.trusted ≡ true → AreBytesOf (now_of v) name offset len bytes) × (w ≡ v)
-Granted v given (Read name offset len) (Refused cause) w = IsUnreadable v given cause × (w ≡ v)
-Granted v given (ReadUnder group name offset len) (Bytes bytes) w = (given.trusted ≡ true → AreBytesOf (v.pools group) name offset len bytes) × (w ≡ v)
-Granted v given (ReadUnder group name offset len) (Refused cause) w = IsUnreadable v given cause × (w ≡ v)
-Granted v given step reply w = ⊥
+abbrev pub MayAnswer : View → Given → Step → Reply → View → Type 0
+MayAnswer v given (Hold writer) (Held group) w = (group ≡ open_group v) × (w ≡ with_hold v writer group)
+MayAnswer v given (WriteStep x) (Receipt group) w = (hold_group x.writer v.holds ≡ Some group) × (w ≡ with_accepted v x.writer group (WriteItem x))
+MayAnswer v given (Act a) (Receipt group) w = (hold_group a.writer v.holds ≡ Some group) × (w ≡ with_accepted v a.writer group (ActionItem a))
+MayAnswer v given (Release writer) Released w = w ≡ without_hold v writer
+MayAnswer v given Close (Closed group) w = (group ≡ open_group v) × (w ≡ record v { waiting = Some Quiescing })
+MayAnswer v given Quiesce (Quiesced group) w = (group ≡ waiting_group v) × (w ≡ record v { waiting = Some QuiescedStage })
+MayAnswer v given (Plan timestamp) (Planned group) w = (group ≡ suc v.committed) × (calls : List DueCall) × IsPlan v calls × (w ≡ taken v (Due calls))
+MayAnswer v given (Plan timestamp) (Refused cause) w = (IsUnreadable v given cause ⊎ ((cause ≡ NoSpace) × (given.full ≡ true))) × (w ≡ taken v Unplanned)
+MayAnswer v given Device (Moved phase) w = (left rest : List DueCall) × (v.sync ≡ Due left) × Makes left given.made rest phase × (0 < length rest) × (given.fault ≡ None) × (w ≡ record v { sync = Due rest })
+MayAnswer v given Device (Committed group) w = (group ≡ suc v.committed) × (left : List DueCall) × (v.sync ≡ Due left) × MakesAll left given.made × (given.fault ≡ None) × (w ≡ committed_next v)
+MayAnswer v given Device (Replan disk) w = FailsOn v given disk × (is_suspended (dropped v disk) ≡ false) × (w ≡ dropped v disk)
+MayAnswer v given Device (Refused cause) w = (cause ≡ Suspended) × (disk : ℕ) × FailsOn v given disk × (is_suspended (dropped v disk) ≡ true) × (w ≡ dropped v disk)
+MayAnswer v given (Read name offset len) (Bytes bytes) w = (given.trusted ≡ true → AreBytesOf (now_of v) name offset len bytes) × (w ≡ v)
+MayAnswer v given (Read name offset len) (Refused cause) w = IsUnreadable v given cause × (w ≡ v)
+MayAnswer v given (ReadUnder group name offset len) (Bytes bytes) w = (given.trusted ≡ true → AreBytesOf (v.pools group) name offset len bytes) × (w ≡ v)
+MayAnswer v given (ReadUnder group name offset len) (Refused cause) w = IsUnreadable v given cause × (w ≡ v)
+MayAnswer v given step reply w = ⊥
 
 -- memory may run out in a step that takes some; in a plan, only where the view has nothing against it
 abbrev pub MayLack : View → Step → Type 0
@@ -172,7 +172,7 @@ without_memory v (Plan timestamp) = taken v Unplanned
 without_memory v step = v
 
 -- the step is refused for its first cause: it writes nothing, and changes nothing
-pub record Refuses (v : View) (given : Given) (step : Step) (reply : Reply) (w : View) : Type 0 where
+pub record IsRefused (v : View) (given : Given) (step : Step) (reply : Reply) (w : View) : Type 0 where
   pub cause : Refusal
   pub first : refusal_of v step ≡ Some cause
   pub answer : reply ≡ Refused cause
@@ -187,14 +187,14 @@ pub record LacksMemory (v : View) (given : Given) (step : Step) (reply : Reply) 
   pub calls : MayCall step given
 
 -- nothing that the view tells speaks against the step
-pub record Grants (v : View) (given : Given) (step : Step) (reply : Reply) (w : View) : Type 0 where
+pub record IsAnswered (v : View) (given : Given) (step : Step) (reply : Reply) (w : View) : Type 0 where
   pub none : refusal_of v step ≡ None
-  pub granted : Granted v given step reply w
+  pub answered : MayAnswer v given step reply w
   pub calls : MayCall step given
 
 -- from v, with this given, the machine may answer the step so, and go on to w
 abbrev pub StepOf : View → Given → Step → Reply → View → Type 0
-StepOf v given step reply w = Refuses v given step reply w ⊎ (LacksMemory v given step reply w ⊎ Grants v given step reply w)
+StepOf v given step reply w = IsRefused v given step reply w ⊎ (LacksMemory v given step reply w ⊎ IsAnswered v given step reply w)
 
 -- the machine may give these replies to these steps, one after another
 abbrev pub Run : View → List Step → List Given → List Reply → View → Type 0

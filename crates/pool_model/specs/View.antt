@@ -25,14 +25,14 @@ pub record DueCall : Type 0 where
 pub data Sync : Type 0 where
   Idle : Sync
   Unplanned : Sync
-  Left : List DueCall → Sync
+  Due : List DueCall → Sync
 
 pub record View : Type 0 where
   pub vdevs : List Vdev
   pub first : ℕ  -- the group that was committed as the machine started
   pub committed : ℕ  -- the group that was committed last
   pub sync : Sync
-  pub waiting : Option Stage  -- how far the waiting group is, if one waits
+  pub waiting : Option Stage  -- how far the waiting group is, if one waiting_in
   pub holds : List Holder  -- oldest first
   pub next : ℕ → ℕ  -- each writer's next number
   pub ledger : Ledger  -- what each group above the committed one has accepted
@@ -48,12 +48,12 @@ started vdevs = record { vdevs = vdevs; first = 3; committed = 3; sync = Idle; w
 abbrev pub is_syncing : Sync → Bool
 is_syncing Idle = false
 is_syncing Unplanned = true
-is_syncing (Left calls) = true
+is_syncing (Due calls) = true
 
 abbrev pub is_planned : Sync → Bool
 is_planned Idle = false
 is_planned Unplanned = false
-is_planned (Left calls) = true
+is_planned (Due calls) = true
 
 abbrev pub is_quiescing : Option Stage → Bool
 is_quiescing (Some Quiescing) = true
@@ -70,7 +70,7 @@ abbrev pub waiting_after : ℕ → Bool → ℕ
 waiting_after committed syncing = if syncing then suc (suc committed) else suc committed
 
 abbrev pub open_after : ℕ → Bool → Bool → ℕ
-open_after committed syncing waits = if waits then suc (waiting_after committed syncing) else waiting_after committed syncing
+open_after committed syncing has_waiting = if has_waiting then suc (waiting_after committed syncing) else waiting_after committed syncing
 
 abbrev pub waiting_group : View → ℕ
 waiting_group v = waiting_after v.committed (is_syncing v.sync)

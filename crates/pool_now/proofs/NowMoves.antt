@@ -12,10 +12,10 @@ use Rattle.pool_model.specs.declared.step.Step.TheVariants.{Hold, Write as Write
 use Rattle.pool_model.specs.declared.step.Reply.{Reply}
 use Rattle.pool_model.specs.declared.step.Reply.TheVariants.{Receipt, Refused}
 use Rattle.pool_model.specs.Pools.{PlainPool, Ledger, no_items, written, changed, applied, upto}
-use Rattle.pool_model.specs.View.{View, Given, Sync, Idle, Unplanned, Left, is_syncing, is_planned, is_quiesced, waiting_after, open_after, open_group, now_of}
+use Rattle.pool_model.specs.View.{View, Given, Sync, Idle, Unplanned, Due, is_syncing, is_planned, is_quiesced, waiting_after, open_after, open_group, now_of}
 use Rattle.pool_model.specs.Refusals.{may_plan}
-use Rattle.pool_model.specs.Flow.{added, ledger_took}
-use Rattle.pool_model.specs.Machine.{with_hold, without_hold, took, taken, left_waiting, dropped, committed_next, StepOf}
+use Rattle.pool_model.specs.Flow.{added, ledger_accepted}
+use Rattle.pool_model.specs.Machine.{with_hold, without_hold, with_accepted, taken, left_waiting, dropped, committed_next, StepOf}
 use Rattle.pool_model.specs.Sound.{IsSound}
 use Rattle.pool_model.proofs.Moves.{EachMove, by_move}
 use Rattle.pool_model.proofs.Told.{stays}
@@ -34,12 +34,12 @@ shapes_upto c pool ledger other (suc n) f name =
     let rest = shapes_applied (suc n) (upto c pool ledger n) (upto c pool other n) (ledger (suc n)) (other (suc n)) (f (suc n)) (shapes_upto c pool ledger other n f) name in
     elim (nat_le (suc n) c) as (λ b. shape_at name (cond b pool (applied (suc n) (upto c pool ledger n) (ledger (suc n)))) ≡ shape_at name (cond b pool (applied (suc n) (upto c pool other n) (other (suc n))))) [ true ↦ refl | false ↦ rest ]
 
-actions_stay : (ledger : Ledger) (group : ℕ) (x : Write) (g : ℕ) → (ledger_took ledger group (WriteItem x) g).actions ≡ (ledger g).actions
+actions_stay : (ledger : Ledger) (group : ℕ) (x : Write) (g : ℕ) → (ledger_accepted ledger group (WriteItem x) g).actions ≡ (ledger g).actions
 actions_stay ledger group x g = elim (g == group) as (λ b. (cond b (added (ledger g) (WriteItem x)) (ledger g)).actions ≡ (ledger g).actions) [ true ↦ refl | false ↦ refl ]
 
 -- a write that is accepted leaves every shape
-pub now_wrote : (v : View) (writer group : ℕ) (x : Write) → HaveSameShapes (now_of (took v writer group (WriteItem x))) (now_of v)
-now_wrote v writer group x = shapes_upto v.committed (v.pools v.committed) (ledger_took v.ledger group (WriteItem x)) v.ledger (open_group v) (actions_stay v.ledger group x)
+pub now_wrote : (v : View) (writer group : ℕ) (x : Write) → HaveSameShapes (now_of (with_accepted v writer group (WriteItem x))) (now_of v)
+now_wrote v writer group x = shapes_upto v.committed (v.pools v.committed) (ledger_accepted v.ledger group (WriteItem x)) v.ledger (open_group v) (actions_stay v.ledger group x)
 
 -- ---- actions
 
@@ -47,24 +47,24 @@ pub fold_push : {A B : Type 0} (f : B → A → B) (z : B) (xs : List A) (y : A)
 fold_push f z [] y = refl
 fold_push f z (x ∷ xs) y = fold_push f (f z x) xs y
 
-upto_acted : (c n : ℕ) (pool : PlainPool) (ledger : Ledger) (a : Action) → c ≤ n → upto c pool (ledger_took ledger (suc n) (ActionItem a)) (suc n) ≡ changed (suc n) (upto c pool ledger (suc n)) a.change
+upto_acted : (c n : ℕ) (pool : PlainPool) (ledger : Ledger) (a : Action) → c ≤ n → upto c pool (ledger_accepted ledger (suc n) (ActionItem a)) (suc n) ≡ changed (suc n) (upto c pool ledger (suc n)) a.change
 upto_acted c n pool ledger a le =
-    upto_above c n pool (ledger_took ledger (suc n) (ActionItem a)) le
+    upto_above c n pool (ledger_accepted ledger (suc n) (ActionItem a)) le
     ∙ ((λ i. applied (suc n) (below i) (cond (itself (suc n) i) (added (ledger (suc n)) (ActionItem a)) (ledger (suc n))))
     ∙ (fold_push (λ p (x : Action). changed (suc n) p x.change) (fold written (upto c pool ledger n) (ledger (suc n)).writes) (ledger (suc n)).actions a
     ∙ ap (λ p. changed (suc n) p a.change) (sym (upto_above c n pool ledger le))))
   where
-    below : upto c pool (ledger_took ledger (suc n) (ActionItem a)) n ≡ upto c pool ledger n
-    below = upto_agree c pool (ledger_took ledger (suc n) (ActionItem a)) ledger n (λ g h. stays ledger g (suc n) (added (ledger g) (ActionItem a)) (λ e. absurd (omega arith)))
+    below : upto c pool (ledger_accepted ledger (suc n) (ActionItem a)) n ≡ upto c pool ledger n
+    below = upto_agree c pool (ledger_accepted ledger (suc n) (ActionItem a)) ledger n (λ g h. stays ledger g (suc n) (added (ledger g) (ActionItem a)) (λ e. absurd (omega arith)))
 
-open_acted : (c : ℕ) (pool : PlainPool) (ledger : Ledger) (a : Action) (s w : Bool) → upto c pool (ledger_took ledger (open_after c s w) (ActionItem a)) (open_after c s w) ≡ changed (open_after c s w) (upto c pool ledger (open_after c s w)) a.change
+open_acted : (c : ℕ) (pool : PlainPool) (ledger : Ledger) (a : Action) (s w : Bool) → upto c pool (ledger_accepted ledger (open_after c s w) (ActionItem a)) (open_after c s w) ≡ changed (open_after c s w) (upto c pool ledger (open_after c s w)) a.change
 open_acted c pool ledger a true true = upto_acted c (suc (suc c)) pool ledger a (omega arith)
 open_acted c pool ledger a true false = upto_acted c (suc c) pool ledger a (omega arith)
 open_acted c pool ledger a false true = upto_acted c (suc c) pool ledger a (omega arith)
 open_acted c pool ledger a false false = upto_acted c c pool ledger a (omega arith)
 
 -- an action that the open group accepts takes effect
-pub now_acted : (v : View) (writer : ℕ) (a : Action) → now_of (took v writer (open_group v) (ActionItem a)) ≡ changed (open_group v) (now_of v) a.change
+pub now_acted : (v : View) (writer : ℕ) (a : Action) → now_of (with_accepted v writer (open_group v) (ActionItem a)) ≡ changed (open_group v) (now_of v) a.change
 now_acted v writer a = open_acted v.committed (v.pools v.committed) v.ledger a (is_syncing v.sync) (is_some v.waiting)
 
 -- ---- holds and groups
@@ -103,7 +103,7 @@ open_taken c sync Idle None e t = absurd (true≢false (sym t))
 open_taken c sync Idle (Some Quiescing) e t = absurd (true≢false (sym t))
 open_taken c sync Idle (Some QuiescedStage) e t = ap (λ b. open_after c b false) e
 open_taken c sync Unplanned o e t = ap (λ b. open_after c b (is_some o)) e
-open_taken c sync (Left calls) o e t = absurd (true≢false (sym t))
+open_taken c sync (Due calls) o e t = absurd (true≢false (sym t))
 
 -- a group that may be planned is taken to be synced
 pub now_taken : (v : View) (sync : Sync) → may_plan v ≡ true → is_syncing sync ≡ true → now_of (taken v sync) ≡ now_of v
@@ -150,13 +150,13 @@ now_moves = record {
   read_under = λ v given g name offset len bytes k a s. refl;
   held = λ v given by n s. refl;
   wrote = λ v given x g h n le s. now_wrote v x.writer g x;
-  acted = λ v given a g h n le op s. (op, subst (λ k. now_of (took v a.writer k (ActionItem a)) ≡ changed k (now_of v) a.change) (sym op) (now_acted v a.writer a));
+  acted = λ v given a g h n le op s. (op, subst (λ k. now_of (with_accepted v a.writer k (ActionItem a)) ≡ changed k (now_of v) a.change) (sym op) (now_acted v a.writer a));
   released = λ v given by s. refl;
   closed = λ v given b s. now_closed (record v { waiting = None }) s refl;
   quiesced = λ v given e s. refl;
   planned = λ v given t calls s. refl;
   replanned_group = λ v given t calls s. refl;
-  committed = λ v given left e s. now_committed (record v { sync = Left left }) refl;
+  committed = λ v given left e s. now_committed (record v { sync = Due left }) refl;
 }
 
 pub moves_now : (v : View) (given : Given) (step : Step) (reply : Reply) (w : View) → IsSound v → StepOf v given step reply w → MovesNow v step reply w

@@ -3,7 +3,7 @@ use Rattle.std.proofs.Common.{◌≡◌, ℕ, zero, suc, ◌-◌, ◌<◌, ◌�
 use Rattle.std.specs.Prelude.{cond, is_some, nat_le}
 use Rattle.std.proofs.lemmas.Bool.Decides.{nat_tests}
 use Rattle.pool_model.specs.declared.volume.PlainVolume.{PlainVolume}
-use Rattle.pool_model.specs.Groups.{taken_in}
+use Rattle.pool_model.specs.Groups.{taken_upto}
 use Rattle.pool_model.specs.Pools.{PlainPool, Ledger, Entry, volume_at, applied, upto}
 use Rattle.pool_model.specs.View.{View, Given, Vdev, started, is_syncing, waiting_after, waiting_group, open_group, now_of}
 use Rattle.pool_model.specs.declared.step.Step.{Step}
@@ -47,33 +47,33 @@ lays_one v name shape offset n before items old new le at is m f = λ h r.
 
 -- ---- the groups, one after another
 
-pub lays_syncing : (v : View) (name : List ℕ) (shape : VolumeShape) (offset before : ℕ) (items : Entry) (old new : List ℕ) → is_syncing v.sync ≡ true → before ≡ v.committed → items ≡ v.ledger (suc v.committed) → GroupsAreBelow v → LaysGroup name shape offset before items old new → Lays v name shape offset v.committed (taken_in v) old new
+pub lays_syncing : (v : View) (name : List ℕ) (shape : VolumeShape) (offset before : ℕ) (items : Entry) (old new : List ℕ) → is_syncing v.sync ≡ true → before ≡ v.committed → items ≡ v.ledger (suc v.committed) → GroupsAreBelow v → LaysGroup name shape offset before items old new → Lays v name shape offset v.committed (taken_upto v) old new
 lays_syncing v name shape offset before items old new s at is m f = subst (λ b. Lays v name shape offset v.committed (cond b (suc v.committed) v.committed) old new) (sym s) (lays_one v name shape offset v.committed before items old new (omega arith) at is m f)
 
-pub lays_no_syncing : (v : View) (name : List ℕ) (shape : VolumeShape) (offset : ℕ) (buffer : List ℕ) → is_syncing v.sync ≡ false → Lays v name shape offset v.committed (taken_in v) buffer buffer
+pub lays_no_syncing : (v : View) (name : List ℕ) (shape : VolumeShape) (offset : ℕ) (buffer : List ℕ) → is_syncing v.sync ≡ false → Lays v name shape offset v.committed (taken_upto v) buffer buffer
 lays_no_syncing v name shape offset buffer s = subst (λ b. Lays v name shape offset v.committed (cond b (suc v.committed) v.committed) buffer buffer) (sym s) (λ h r. r)
 
-waits_after : (v : View) → waiting_group v ≡ suc (taken_in v)
+waits_after : (v : View) → waiting_group v ≡ suc (taken_upto v)
 waits_after v = elim (is_syncing v.sync) as (λ b. waiting_after v.committed b ≡ suc (cond b (suc v.committed) v.committed)) [ true ↦ refl | false ↦ refl ]
 
 opens_after : (v : View) → open_group v ≡ suc (closed_in v)
-opens_after v = let e = waits_after v in elim (is_some v.waiting) as (λ b. cond b (suc (waiting_group v)) (waiting_group v) ≡ suc (cond b (suc (taken_in v)) (taken_in v))) [ true ↦ ap suc e | false ↦ e ]
+opens_after v = let e = waits_after v in elim (is_some v.waiting) as (λ b. cond b (suc (waiting_group v)) (waiting_group v) ≡ suc (cond b (suc (taken_upto v)) (taken_upto v))) [ true ↦ ap suc e | false ↦ e ]
 
-taken_above : (v : View) → v.committed ≤ taken_in v
+taken_above : (v : View) → v.committed ≤ taken_upto v
 taken_above v = elim (is_syncing v.sync) as (λ b. v.committed ≤ cond b (suc v.committed) v.committed) [ true ↦ omega arith | false ↦ omega arith ]
 
-closed_above : (v : View) → taken_in v ≤ closed_in v
-closed_above v = elim (is_some v.waiting) as (λ b. taken_in v ≤ cond b (suc (taken_in v)) (taken_in v)) [ true ↦ omega arith | false ↦ omega arith ]
+closed_above : (v : View) → taken_upto v ≤ closed_in v
+closed_above v = elim (is_some v.waiting) as (λ b. taken_upto v ≤ cond b (suc (taken_upto v)) (taken_upto v)) [ true ↦ omega arith | false ↦ omega arith ]
 
-pub lays_waiting : (v : View) (name : List ℕ) (shape : VolumeShape) (offset opened before : ℕ) (items : Entry) (old new : List ℕ) → is_some v.waiting ≡ true → opened ≡ open_group v → before ≡ opened - 2 → items ≡ v.ledger (waiting_group v) → GroupsAreBelow v → LaysGroup name shape offset before items old new → Lays v name shape offset (taken_in v) (closed_in v) old new
+pub lays_waiting : (v : View) (name : List ℕ) (shape : VolumeShape) (offset opened before : ℕ) (items : Entry) (old new : List ℕ) → is_some v.waiting ≡ true → opened ≡ open_group v → before ≡ opened - 2 → items ≡ v.ledger (waiting_group v) → GroupsAreBelow v → LaysGroup name shape offset before items old new → Lays v name shape offset (taken_upto v) (closed_in v) old new
 lays_waiting v name shape offset opened before items old new w o at is m f =
-    subst (λ b. Lays v name shape offset (taken_in v) (cond b (suc (taken_in v)) (taken_in v)) old new) (sym w)
-    (lays_one v name shape offset (taken_in v) before items old new (taken_above v)
-    (let last : open_group v ≡ suc (suc (taken_in v)) = ap (λ b. cond b (suc (waiting_group v)) (waiting_group v)) w ∙ ap suc (waits_after v) in omega arith)
+    subst (λ b. Lays v name shape offset (taken_upto v) (cond b (suc (taken_upto v)) (taken_upto v)) old new) (sym w)
+    (lays_one v name shape offset (taken_upto v) before items old new (taken_above v)
+    (let last : open_group v ≡ suc (suc (taken_upto v)) = ap (λ b. cond b (suc (waiting_group v)) (waiting_group v)) w ∙ ap suc (waits_after v) in omega arith)
     (is ∙ ap v.ledger (waits_after v)) m f)
 
-pub lays_no_waiting : (v : View) (name : List ℕ) (shape : VolumeShape) (offset : ℕ) (buffer : List ℕ) → is_some v.waiting ≡ false → Lays v name shape offset (taken_in v) (closed_in v) buffer buffer
-lays_no_waiting v name shape offset buffer w = subst (λ b. Lays v name shape offset (taken_in v) (cond b (suc (taken_in v)) (taken_in v)) buffer buffer) (sym w) (λ h r. r)
+pub lays_no_waiting : (v : View) (name : List ℕ) (shape : VolumeShape) (offset : ℕ) (buffer : List ℕ) → is_some v.waiting ≡ false → Lays v name shape offset (taken_upto v) (closed_in v) buffer buffer
+lays_no_waiting v name shape offset buffer w = subst (λ b. Lays v name shape offset (taken_upto v) (cond b (suc (taken_upto v)) (taken_upto v)) buffer buffer) (sym w) (λ h r. r)
 
 pub lays_open : (v : View) (name : List ℕ) (shape : VolumeShape) (offset opened before : ℕ) (items : Entry) (old new : List ℕ) → opened ≡ open_group v → before ≡ opened - 1 → items ≡ v.ledger (open_group v) → GroupsAreBelow v → LaysGroup name shape offset before items old new → Lays v name shape offset (closed_in v) (open_group v) old new
 lays_open v name shape offset opened before items old new o at is m f =
@@ -89,14 +89,14 @@ comes_down v name shape n le h = comes_back name shape n (upto v.committed (v.po
 pub comes_closed : (v : View) (name : List ℕ) (shape : VolumeShape) → ComesTo shape (open_group v) (reached v name (open_group v)) → ComesTo shape (closed_in v) (reached v name (closed_in v))
 comes_closed v name shape h = comes_down v name shape (closed_in v) (let a = taken_above v in let b = closed_above v in omega arith) (subst (λ n. ComesTo shape n (reached v name n)) (opens_after v) h)
 
-pub comes_taken : (v : View) (name : List ℕ) (shape : VolumeShape) → ComesTo shape (closed_in v) (reached v name (closed_in v)) → ComesTo shape (taken_in v) (reached v name (taken_in v))
+pub comes_taken : (v : View) (name : List ℕ) (shape : VolumeShape) → ComesTo shape (closed_in v) (reached v name (closed_in v)) → ComesTo shape (taken_upto v) (reached v name (taken_upto v))
 comes_taken v name shape h = cases (is_some v.waiting) h
   where
-    cases : (b : Bool) → ComesTo shape (cond b (suc (taken_in v)) (taken_in v)) (reached v name (cond b (suc (taken_in v)) (taken_in v))) → ComesTo shape (taken_in v) (reached v name (taken_in v))
-    cases true k = comes_down v name shape (taken_in v) (taken_above v) k
+    cases : (b : Bool) → ComesTo shape (cond b (suc (taken_upto v)) (taken_upto v)) (reached v name (cond b (suc (taken_upto v)) (taken_upto v))) → ComesTo shape (taken_upto v) (reached v name (taken_upto v))
+    cases true k = comes_down v name shape (taken_upto v) (taken_above v) k
     cases false k = k
 
-pub comes_committed : (v : View) (name : List ℕ) (shape : VolumeShape) → ComesTo shape (taken_in v) (reached v name (taken_in v)) → ComesTo shape v.committed (reached v name v.committed)
+pub comes_committed : (v : View) (name : List ℕ) (shape : VolumeShape) → ComesTo shape (taken_upto v) (reached v name (taken_upto v)) → ComesTo shape v.committed (reached v name v.committed)
 comes_committed v name shape h = cases (is_syncing v.sync) h
   where
     cases : (b : Bool) → ComesTo shape (cond b (suc v.committed) v.committed) (reached v name (cond b (suc v.committed) v.committed)) → ComesTo shape v.committed (reached v name v.committed)
@@ -111,7 +111,7 @@ comes_now v name volume shape e s = subst (ComesTo shape (open_group v)) (sym e)
 
 -- the three parts of the pending writes make the volume's bytes of the bytes under them
 pub pending_laid : (v : View) (name : List ℕ) (volume : PlainVolume) (shape : VolumeShape) (offset : ℕ) (old first second new : List ℕ) → volume_at name (now_of v) ≡ Some volume → shape_of volume ≡ shape
-    → Lays v name shape offset v.committed (taken_in v) old first → Lays v name shape offset (taken_in v) (closed_in v) first second → Lays v name shape offset (closed_in v) (open_group v) second new
+    → Lays v name shape offset v.committed (taken_upto v) old first → Lays v name shape offset (taken_upto v) (closed_in v) first second → Lays v name shape offset (closed_in v) (open_group v) second new
     → HasRange old (base_of v name volume) offset → HasRange new volume.bytes offset
 pending_laid v name volume shape offset old first second new e s a b d r =
     let at_open = comes_now v name volume shape e s in

@@ -1,7 +1,7 @@
 //! Pending writes laid over the bytes that lie under them.
 ghost use Rattle.std.specs.Prelude.{◌≡◌, ℕ, suc, ◌+◌, ◌≤◌, List, length, true, Some};
 ghost use Rattle.pool_model.specs.declared.volume.PlainVolume.{PlainVolume};
-ghost use Rattle.pool_model.specs.Groups.{taken_in};
+ghost use Rattle.pool_model.specs.Groups.{taken_upto};
 ghost use Rattle.pool_model.specs.Names.{same, stored};
 ghost use Rattle.pool_model.specs.Pools.{PlainPool, applied, volume_at};
 ghost use Rattle.pool_model.specs.View.{View, now_of, open_group};
@@ -54,7 +54,7 @@ pub fn read_pending(
 fn lay_syncing(pipeline: &Pipeline, shape: VolumeShape, name: &Name, offset: u64, buffer: &mut [u8])
     requires { offset + length buffer.old ≤ shape.size }
     ensures { (v : View) → Carries pipeline.now (flow_of v) → GroupsAreBelow v →
-        Lays v name.now shape offset v.committed (taken_in v) buffer.old buffer.new }
+        Lays v name.now shape offset v.committed (taken_upto v) buffer.old buffer.new }
 {
     let committed = pipeline.committed_group();
     if let Some(items) = pipeline.syncing_items() {
@@ -65,7 +65,7 @@ fn lay_syncing(pipeline: &Pipeline, shape: VolumeShape, name: &Name, offset: u64
 fn lay_waiting(pipeline: &Pipeline, shape: VolumeShape, name: &Name, offset: u64, buffer: &mut [u8])
     requires { offset + length buffer.old ≤ shape.size }
     ensures { (v : View) → Carries pipeline.now (flow_of v) → GroupsAreBelow v →
-        Lays v name.now shape offset (taken_in v) (closed_in v) buffer.old buffer.new }
+        Lays v name.now shape offset (taken_upto v) (closed_in v) buffer.old buffer.new }
 {
     let open = pipeline.open_group();
     if let Some(items) = pipeline.waiting_items() {

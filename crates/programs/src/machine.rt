@@ -36,13 +36,13 @@ pub trait StepMachine: Drop {
 impl StepMachine for Machine {
     ghost use Rattle.std.specs.Prelude.{[]};
     ghost use Rattle.pool_model.specs.View.{started};
-    ghost use Rattle.plain_machine.specs.Represents.{Represents, Steps};
+    ghost use Rattle.plain_machine.specs.Represents.{Represents, TakesStep};
 
     ghost creates = { λ _ machine. Represents machine (started []) };
 
     ghost refuses = { λ _ _. ⊥ };
 
-    ghost steps = { Steps };
+    ghost steps = { TakesStep };
 
     fn create(alloc: Global, _line: &PoolLine) -> Result<Machine, Refusal> {
         Ok(Machine::create(alloc))

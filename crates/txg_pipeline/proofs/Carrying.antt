@@ -9,7 +9,7 @@ use Rattle.pool_model.specs.declared.item.Item.{Item}
 use Rattle.pool_model.specs.Pools.{Entry}
 use Rattle.pool_model.specs.View.{waiting_after, open_after}
 use Rattle.pool_model.specs.Refusals.{greatest}
-use Rattle.pool_model.specs.Flow.{Flow, opened, waits, added, counted_on, ledger_took, Takes}
+use Rattle.pool_model.specs.Flow.{Flow, opened, waiting_in, added, counted_on, ledger_accepted, Takes}
 
 pub quiescing_is : (waiting : Option Stage) → is_quiescing waiting ≡ true → waiting ≡ Some Quiescing
 quiescing_is (Some Quiescing) e = refl
@@ -25,11 +25,11 @@ pub none_is : {A : Type 0} (o : Option A) → is_some o ≡ false → o ≡ None
 none_is None e = refl
 none_is (Some x) e = absurd (true≢false e)
 
-pub waits_open : (f : Flow) (o : Option Stage) → f.waiting ≡ o → is_some o ≡ true → opened f ≡ suc (waits f)
+pub waits_open : (f : Flow) (o : Option Stage) → f.waiting ≡ o → is_some o ≡ true → opened f ≡ suc (waiting_in f)
 waits_open f None e s = absurd (true≢false (sym s))
 waits_open f (Some stage) e s = rw e refl
 
-pub none_open : (f : Flow) → f.waiting ≡ None → opened f ≡ waits f
+pub none_open : (f : Flow) → f.waiting ≡ None → opened f ≡ waiting_in f
 none_open f e = rw e refl
 
 pub on_ok : {T E P : Type 0} (r : Result T E) → is_ok r ≡ true → OnOk r P → P
@@ -50,34 +50,34 @@ next_taken new old next writer number u h e w = cases (nat_eq writer w) refl
         ap (λ o. unwrap_or o 1) (u w ∙ ap (λ b. cond b (Some (number + 1)) (old w)) t) ∙ (h w ∙ sym (ap (λ b. cond b (suc (next w)) (next w)) test))
 
 -- an item joins a group's entry, or leaves it
-joined : (ledger : ℕ → Entry) (g group : ℕ) (item : Item) (old new : Entry) (b : Bool) → (g == group) ≡ b → new ≡ cond b (added old item) old → old ≡ ledger g → new ≡ ledger_took ledger group item g
+joined : (ledger : ℕ → Entry) (g group : ℕ) (item : Item) (old new : Entry) (b : Bool) → (g == group) ≡ b → new ≡ cond b (added old item) old → old ≡ ledger g → new ≡ ledger_accepted ledger group item g
 joined ledger g group item old new b t n k = n ∙ (ap (λ x. cond b (added x item) x) k ∙ sym (ap (λ b. cond b (added (ledger g) item) (ledger g)) t))
 
-pub kept_accepting : (f : Flow) (group : ℕ) (item : Item) (old new : Entry) (kept is_open : Bool) → kept ≡ true → is_open ≡ (group == opened f) → new ≡ cond (kept && is_open) (added old item) old → old ≡ f.ledger (opened f) → new ≡ ledger_took f.ledger group item (opened f)
+pub kept_accepting : (f : Flow) (group : ℕ) (item : Item) (old new : Entry) (kept is_open : Bool) → kept ≡ true → is_open ≡ (group == opened f) → new ≡ cond (kept && is_open) (added old item) old → old ≡ f.ledger (opened f) → new ≡ ledger_accepted f.ledger group item (opened f)
 kept_accepting f group item old new true is_open e o n k = joined f.ledger (opened f) group item old new is_open (let t : (opened f == group) ≡ (group == opened f) = grind (arith, nat_tests) in t ∙ sym o) n k
 kept_accepting f group item old new false is_open e o n k = absurd (true≢false (sym e))
 
 -- the group of an item is the open one or the waiting one
-pub kept_waited : (f : Flow) (group : ℕ) (item : Item) (old new : Entry) (kept is_open : Bool) → Takes f group → is_some f.waiting ≡ true → kept ≡ true → is_open ≡ (group == opened f) → new ≡ cond (kept && not is_open) (added old item) old → old ≡ f.ledger (waits f) → new ≡ ledger_took f.ledger group item (waits f)
-kept_waited f group item old new true is_open t some e o n k = joined f.ledger (waits f) group item old new (not is_open) (test is_open o) n k
+pub kept_waited : (f : Flow) (group : ℕ) (item : Item) (old new : Entry) (kept is_open : Bool) → Takes f group → is_some f.waiting ≡ true → kept ≡ true → is_open ≡ (group == opened f) → new ≡ cond (kept && not is_open) (added old item) old → old ≡ f.ledger (waiting_in f) → new ≡ ledger_accepted f.ledger group item (waiting_in f)
+kept_waited f group item old new true is_open t some e o n k = joined f.ledger (waiting_in f) group item old new (not is_open) (test is_open o) n k
   where
-    next : opened f ≡ suc (waits f)
+    next : opened f ≡ suc (waiting_in f)
     next = waits_open f f.waiting refl some
 
-    test : (b : Bool) → b ≡ (group == opened f) → (waits f == group) ≡ not b
+    test : (b : Bool) → b ≡ (group == opened f) → (waiting_in f == group) ≡ not b
     test true q = let same : group ≡ opened f = grind (arith, nat_tests, q) in let h = next in grind (arith, nat_tests, same, h)
     test false q = ⊎_elim (λ same. absurd (let f' : (group == opened f) ≡ true = grind (arith, nat_tests, same) in true≢false (sym f' ∙ sym q))) (λ w. let same = w.1 in grind (arith, nat_tests, same)) t
 kept_waited f group item old new false is_open t some e o n k = absurd (true≢false (sym e))
 
 -- the group that is synced takes nothing
-pub kept_synced : (f : Flow) (group : ℕ) (item : Item) (old : Entry) → Takes f group → f.syncing ≡ true → old ≡ f.ledger (suc f.committed) → old ≡ ledger_took f.ledger group item (suc f.committed)
+pub kept_synced : (f : Flow) (group : ℕ) (item : Item) (old : Entry) → Takes f group → f.syncing ≡ true → old ≡ f.ledger (suc f.committed) → old ≡ ledger_accepted f.ledger group item (suc f.committed)
 kept_synced f group item old t s k = joined f.ledger (suc f.committed) group item old old false off refl k
   where
-    high : waits f ≡ suc (suc f.committed)
+    high : waiting_in f ≡ suc (suc f.committed)
     high = rw s refl
 
-    low : waits f ≤ opened f
-    low = elim (is_some f.waiting) as (λ b. waits f ≤ cond b (suc (waits f)) (waits f)) [ true ↦ omega arith | false ↦ omega arith ]
+    low : waiting_in f ≤ opened f
+    low = elim (is_some f.waiting) as (λ b. waiting_in f ≤ cond b (suc (waiting_in f)) (waiting_in f)) [ true ↦ omega arith | false ↦ omega arith ]
 
     off : (suc f.committed == group) ≡ false
     off = let h = high in let l = low in let ne : suc f.committed < group = ⊎_elim (λ same. omega arith) (λ w. let same = w.1 in omega arith) t in grind (arith, nat_tests, ne)

@@ -8,7 +8,7 @@ use Rattle.pool_model.specs.declared.step.Reply.{Reply}
 use Rattle.pool_model.specs.declared.step.Reply.TheVariants as replies
 use Rattle.pool_model.specs.View.{hold_group, is_held, is_quiescing, is_quiesced}
 use Rattle.pool_model.specs.Refusals.{greatest}
-use Rattle.pool_model.specs.Flow.{Flow, opened, waits, FlowStep}
+use Rattle.pool_model.specs.Flow.{Flow, opened, waiting_in, FlowStep}
 use Rattle.pool_model.specs.Accepted.{OnceInOrder}
 use Rattle.txg_pipeline.specs.declared.calls.Answer.{Answer}
 use Rattle.txg_pipeline.specs.declared.calls.Answer.TheVariants.{Held, Receipt, Released, Closed, Quiesced, Taken, Committed, Refused}
@@ -54,7 +54,7 @@ IsCallCause f (Hold writer) AlreadyHeld = is_some (hold_group writer f.holds) �
 IsCallCause f (Accept item) cause = IsNotAccepted f item cause
 IsCallCause f (Release writer) NoHold = hold_group writer f.holds ≡ None
 IsCallCause f Close NotNow = (is_some f.waiting ≡ true) ⊎ (greatest ≤ opened f)
-IsCallCause f Quiesce NotNow = (is_quiescing f.waiting ≡ false) ⊎ (is_held (waits f) f.holds ≡ true)
+IsCallCause f Quiesce NotNow = (is_quiescing f.waiting ≡ false) ⊎ (is_held (waiting_in f) f.holds ≡ true)
 IsCallCause f Take NotNow = (f.syncing ≡ true) ⊎ (is_quiesced f.waiting ≡ false)
 IsCallCause f Commit NotNow = f.syncing ≡ false
 IsCallCause f call cause = ⊥

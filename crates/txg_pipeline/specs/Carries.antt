@@ -11,7 +11,7 @@ use Rattle.pool_model.specs.declared.step.Reply.{Reply}
 use Rattle.pool_model.specs.Pools.{no_items}
 use Rattle.pool_model.specs.View.{hold_group}
 use Rattle.pool_model.specs.Refusals.{greatest}
-use Rattle.pool_model.specs.Flow.{Flow, opened, waits, FlowStep, IsSoundFlow}
+use Rattle.pool_model.specs.Flow.{Flow, opened, waiting_in, FlowStep, IsSoundFlow}
 use Rattle.pool_model.specs.Accepted.{writer_of, number_of}
 use Rattle.txg_pipeline.specs.declared.pipeline.Pipeline.{Pipeline}
 use Rattle.txg_pipeline.specs.declared.refusal.Refusal.{Refusal}
@@ -30,7 +30,7 @@ pub record Carries (pipeline : Pipeline) (f : Flow) : Type 0 where
   pub holds : pipeline.holds.items ≡ f.holds
   pub next : (writer : ℕ) → next_of pipeline.next writer ≡ f.next writer
   pub accepting : pipeline.accepting ≡ f.ledger (opened f)
-  pub waited : is_some f.waiting ≡ true → pipeline.waited ≡ f.ledger (waits f)
+  pub waited : is_some f.waiting ≡ true → pipeline.waited ≡ f.ledger (waiting_in f)
   pub synced : f.syncing ≡ true → pipeline.synced ≡ f.ledger (suc f.committed)
 
 -- nothing above the committed group was accepted, and nobody has a hold

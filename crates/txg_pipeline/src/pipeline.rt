@@ -35,7 +35,7 @@ impl Pipeline {
     ghost use Rattle.std.specs.Prelude.{◌<◌, ◌⊎◌, ℕ, suc, ◌==◌, true, false, IfSome, IfOk, OnOk, IfErr, OnErr};
     ghost use Rattle.pool_model.specs.declared.step.Step.TheVariants.{Hold, Release, Close, Quiesce, Plan, Device};
     ghost use Rattle.pool_model.specs.declared.step.Reply.TheVariants.{Held, Receipt, Released, Closed, Quiesced, Planned, Committed};
-    ghost use Rattle.pool_model.specs.Flow.{Flow, opened, waits, flow_took};
+    ghost use Rattle.pool_model.specs.Flow.{Flow, opened, waiting_in, flow_accepted};
     ghost use Rattle.txg_pipeline.specs.Carries.{Carries, next_of, empty_after, Does, IsUnchanged, IsAdmitted, IsNotAdmitted, IsNotAccepted, step_of_item};
     ghost use Rattle.txg_pipeline.specs.declared.refusal.Refusal.TheVariants.{NoMemory, AlreadyHeld, NoHold, NotNow};
 
@@ -135,7 +135,7 @@ impl Pipeline {
     /// What the waiting group has accepted.
     pub fn waiting_items(&self) -> Option<&Pending>
         ensures some { (f : Flow) → Carries self.now f → is_some result ≡ is_some f.waiting }
-        ensures items { IfSome result (λ items. (f : Flow) → Carries self.now f → items.now ≡ f.ledger (waits f)) }
+        ensures items { IfSome result (λ items. (f : Flow) → Carries self.now f → items.now ≡ f.ledger (waiting_in f)) }
     {
         if self.waiting.is_some() {
             Some(&self.waited)
@@ -223,7 +223,7 @@ impl Pipeline {
     /// The waiting group takes nothing more, where no hold is left in it.
     pub fn mark_quiesced(&mut self) -> Result<u64, Refusal>
         ensures quiesced { IfOk result (λ group. Does self.old Quiesce (Quiesced group) self.new) }
-        ensures refused { IfErr result (λ cause. (cause ≡ NotNow) × ((f : Flow) → Carries self.old f → (is_quiescing f.waiting ≡ false) ⊎ (is_held (waits f) f.holds ≡ true))) }
+        ensures refused { IfErr result (λ cause. (cause ≡ NotNow) × ((f : Flow) → Carries self.old f → (is_quiescing f.waiting ≡ false) ⊎ (is_held (waiting_in f) f.holds ≡ true))) }
         ensures err { OnErr result (IsUnchanged self.old self.new) }
     {
         let group = self.waiting_number();
@@ -269,7 +269,7 @@ impl Pipeline {
     fn keep(&mut self, is_open: bool, writer: u32, number: u64, item: Item) -> bool
         requires { number ≤ greatest }
         ensures kept { result ≡ true → (f : Flow) → Carries self.old f → (group : ℕ) → IsAdmitted f writer number group → (is_open ≡ (group == opened f)) →
-            Carries self.new (flow_took f writer group item) }
+            Carries self.new (flow_accepted f writer group item) }
         ensures refused { result ≡ false → IsUnchanged self.old self.new }
     {
         if self.next.try_reserve(1).is_err() {

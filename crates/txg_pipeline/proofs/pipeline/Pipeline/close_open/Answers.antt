@@ -3,7 +3,7 @@ use Rattle.pool_model.specs.declared.group.Stage.TheVariants.{Quiescing}
 use Rattle.pool_model.specs.declared.step.Step.TheVariants.{Close}
 use Rattle.pool_model.specs.declared.step.Reply.TheVariants.{Closed}
 use Rattle.pool_model.specs.Refusals.{greatest}
-use Rattle.pool_model.specs.Flow.{opened, waits, FlowStep}
+use Rattle.pool_model.specs.Flow.{opened, waiting_in, FlowStep}
 use Rattle.pool_model.proofs.SoundFlows.{sound_flow}
 use Rattle.txg_pipeline.proofs.Carrying.{none_is, none_open, opened_is, may_close}
 use Rattle.txg_pipeline.proofs.pipeline.Pipeline.close_open.Goals as goal
@@ -26,7 +26,7 @@ returns-clause-closed c = λ f k.
         waiting = refl;
         holds = k.holds;
         next = k.next;
-        accepting = c.replace.ensures.after ∙ (c.new.ensures ∙ sym (k.sound.beyond (suc (waits f)) (let e = none_open f none in omega arith)));
+        accepting = c.replace.ensures.after ∙ (c.new.ensures ∙ sym (k.sound.beyond (suc (waiting_in f)) (let e = none_open f none in omega arith)));
         waited = λ _. c.replace.ensures.value ∙ (k.accepting ∙ ap f.ledger (none_open f none));
         synced = k.synced;
       },
