@@ -17,10 +17,15 @@ use Rattle.group_volumes.specs.Room.{TookEach, LacksRoom}
 use Rattle.group_volumes.specs.Unread.{IsUnreadOfVolume}
 
 -- one volume more
-pub took_more : (before mid after : List VdevSpace) (volumes : List NamedVolume) (named : NamedVolume) (writes : List Write) → TookEach before volumes writes mid
+took_next : (before mid after : List VdevSpace) (volumes : List NamedVolume) (named : NamedVolume) (writes : List Write) → TookEach before volumes writes mid
     → TookChanged mid named.blocks named.name writes after → TookEach before (volumes ++ named ∷ []) writes after
-took_more before mid after [] named writes same next = (after, subst (λ (s : List VdevSpace). TookChanged s named.blocks named.name writes after) same next, refl)
-took_more before mid after (first ∷ volumes) named writes (between, took, rest) next = (between, took, took_more between mid after volumes named writes rest next)
+took_next before mid after [] named writes same next = (after, subst (λ (s : List VdevSpace). TookChanged s named.blocks named.name writes after) same next, refl)
+took_next before mid after (first ∷ volumes) named writes (between, took, rest) next = (between, took, took_next between mid after volumes named writes rest next)
+
+pub took_more : (before mid after : List VdevSpace) (volumes items : List NamedVolume) (named : NamedVolume) (writes : List Write) → items ≡ volumes ++ named ∷ []
+    → TookEach before volumes writes mid → TookChanged mid named.blocks named.name writes after → TookEach before items writes after
+took_more before mid after volumes items named writes more so_far next =
+    subst (λ (v : List NamedVolume). TookEach before v writes after) (sym more) (took_next before mid after volumes named writes so_far next)
 
 pub lacks_room : (before mid : List VdevSpace) (volumes : GroupVolumes) (items : List NamedVolume) (i : ℕ) (named : NamedVolume) (writes : List Write) → items ≡ volumes.volumes.items
     → i < length items → named ≡ get_or items i named → TookEach before (take i items) writes mid → LacksRoomFor mid named.blocks named.name writes → LacksRoom before volumes writes

@@ -103,14 +103,15 @@ impl NamedVolume {
             → SpellsVolume stored (group - 1) self.now volume → AnswersAreTrue store.old store.new
             → (later : Stored) × Plans store.new stored later × Extends planned later × SpellsVolume later group after (after_writes volume writes.now)) }
         ensures changes { IfOk result (IsRewritten writes.now group self.now) }
-        ensures places { OnOk result
-            (TookChanged store.old.spaces self.now.blocks self.now.name writes.now store.new.spaces) }
+        ensures places { OnOk result (TookChanged store.old.spaces self.now.blocks self.now.name
+            writes.now store.new.spaces) }
         ensures refused { IfErr result (λ refusal. (refusal ≡ Refusal.NoMemory)
             ⊎ (((refusal ≡ Refusal.NoSpace)
             × LacksRoomFor store.old.spaces self.now.blocks self.now.name writes.now)
             ⊎ IsUnreadOfVolume store.old store.new self.now writes.now group refusal)) }
         ensures known { IfErr result (λ refusal. (stored : Stored) (volume : PlainVolume) → Holds store.old stored → SpellsVolume stored (group - 1) self.now volume
-            → AnswersAreTrue store.old store.new → LossIsTolerable store.old store.new [] → (refusal ≡ Refusal.NoMemory) ⊎ (refusal ≡ Refusal.NoSpace)) }
+            → AnswersAreTrue store.old store.new → LossIsTolerable store.old store.new []
+            → (refusal ≡ Refusal.NoMemory) ⊎ (refusal ≡ Refusal.NoSpace)) }
     {
         let name = self.name.copied(alloc)?;
         let blocks = self
@@ -169,7 +170,7 @@ impl GroupVolumes {
         ensures places { OnOk result
             (TookAll store.old.spaces self.now items.now.writes store.new.spaces) }
 
-        // One of these blocks finds no place behind those before it, or was read last and could not be read.
+        // One of these blocks finds no place behind those before it, or could not be read.
         ensures refused { IfErr result (λ refusal. (refusal ≡ Refusal.NoMemory)
             ⊎ (((refusal ≡ Refusal.NoSpace) × LacksRoom store.old.spaces self.now items.now.writes)
             ⊎ (((refusal ≡ Refusal.BadConfig) × ¬ MakesGoodVolumes items.now)
@@ -177,7 +178,8 @@ impl GroupVolumes {
 
         // No block is unread, where no vdev misses more disks than it has parities and what they answer is true.
         ensures known { IfErr result (λ refusal. (stored : Stored) (pool : PlainPool) → Holds store.old stored → SpellsPool stored (group - 1) self.now pool
-            → MakesGoodVolumes items.now → AnswersAreTrue store.old store.new → LossIsTolerable store.old store.new [] → (refusal ≡ Refusal.NoMemory) ⊎ (refusal ≡ Refusal.NoSpace)) }
+            → MakesGoodVolumes items.now → AnswersAreTrue store.old store.new
+            → LossIsTolerable store.old store.new [] → (refusal ≡ Refusal.NoMemory) ⊎ (refusal ≡ Refusal.NoSpace)) }
     {
         let mut after = self.written(store, alloc, group, items.writes())?;
         after.make(alloc, group, items.actions())?;
@@ -203,7 +205,8 @@ impl GroupVolumes {
             ⊎ (((refusal ≡ Refusal.NoSpace) × LacksRoom store.old.spaces self.now writes.now)
             ⊎ IsUnreadFor store.old store.new self.now writes.now group refusal)) }
         ensures known { IfErr result (λ refusal. (stored : Stored) (pool : PlainPool) → Holds store.old stored → SpellsPool stored (group - 1) self.now pool
-            → AnswersAreTrue store.old store.new → LossIsTolerable store.old store.new [] → (refusal ≡ Refusal.NoMemory) ⊎ (refusal ≡ Refusal.NoSpace)) }
+            → AnswersAreTrue store.old store.new → LossIsTolerable store.old store.new []
+            → (refusal ≡ Refusal.NoMemory) ⊎ (refusal ≡ Refusal.NoSpace)) }
     {
         let mut after = GroupVolumes::new(alloc);
         for volume in &self.volumes {

@@ -1,5 +1,5 @@
 -- Blocks that could not be read, and why.
-use Rattle.std.proofs.Common.{ℕ, zero, suc, ◌≡◌, ⊎_elim, inl, inr, ◌/◌, ◌-◌, ◌<◌, ◌≤◌, nat_le, Bool, true, List, [], ◌++◌, length, Option, Some, None, Contains, refl, sym, ap, ◌∙◌, subst, arith, append-nil}
+use Rattle.std.proofs.Common.{ℕ, zero, suc, ◌≡◌, ◌⊎◌, ⊎_elim, inl, inr, ◌/◌, ◌-◌, ◌<◌, ◌≤◌, nat_le, Bool, true, List, [], ◌++◌, length, Option, Some, None, Contains, refl, sym, ap, ◌∙◌, subst, arith, append-nil}
 use Rattle.std.specs.Prelude.{slice_get}
 use Rattle.std.proofs.lemmas.Bool.{cases_lt}
 use Rattle.std.proofs.lemmas.List.Elements.{Contains-append_left}
@@ -222,7 +222,7 @@ lost_for_plan v old new items refusal is backs reads pool spells =
 -- ---- what follows from such a cause
 
 -- then the vdevs together are not tolerable
-lost_too_many : (v : View) (missing : List ℕ) (old new : State) (vdev : Vdev) → IsLostOn v missing old new vdev → TooManyAreLost v missing old new
+pub lost_too_many : (v : View) (missing : List ℕ) (old new : State) (vdev : Vdev) → IsLostOn v missing old new vdev → TooManyAreLost v missing old new
 lost_too_many v missing old new vdev (held, many) =
     let lost : ℕ → Bool = is_lost v missing (unread_between old.store.disks new.store.disks) in
     let at = found_at v.vdevs vdev held in
@@ -232,6 +232,13 @@ lost_too_many v missing old new vdev (held, many) =
     (all_at (λ (one : Vdev). nat_le (lost_in lost one.first one.children) one.parity) v.vdevs at.0 vdev tolerable at.1) in
     absurd (omega (arith, few, many)))
     (λ no. no) (true_or_false (is_tolerable v.vdevs lost))
+
+-- too many disks are lost, or an answer was not true
+pub lost_cases : (v : View) (missing : List ℕ) (old new : State) (block : Block) (refusal : Refusal) → IsLost v missing old new block refusal
+    → ((refusal ≡ DiskFault) × TooManyAreLost v missing old new) ⊎ ((refusal ≡ BadDigest) × ¬ AreTrue old new)
+lost_cases v missing old new block DiskFault (vdev, last, many) = inl (refl, lost_too_many v missing old new vdev many)
+lost_cases v missing old new block BadDigest untrue = inr (refl, untrue)
+lost_cases v missing old new block refusal is = absurd is
 
 -- it is a fault of a read; and where the answers are true, too many disks are lost
 pub lost_fault : (v : View) (missing : List ℕ) (old new : State) (block : Block) (refusal : Refusal) → IsLost v missing old new block refusal

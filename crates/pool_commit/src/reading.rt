@@ -44,9 +44,11 @@ fn read_of<D: Disk + Drop>(
     ensures refused { IfErr result (λ refusal. (stored : Contents) (pool : PlainPool) → Holds store.old stored → SpellsPool stored birth volumes.now pool
         → (refusal ≡ Refusal.NoMemory) ⊎ (IsReadCause (read_refusal offset len (volume_at name.now pool)) refusal
         ⊎ ((read_refusal offset len (volume_at name.now pool) ≡ None)
-        × IsUnreadOf store.old store.new volumes.now birth name.now offset len missing.now refusal))) }
+        × IsUnreadOf store.old store.new volumes.now birth name.now offset len missing.now
+        refusal))) }
     ensures unread { IfErr result (λ refusal. IsReadFault refusal
-        → IsUnreadOf store.old store.new volumes.now birth name.now offset len missing.now refusal) }
+        → IsUnreadOf store.old store.new volumes.now birth name.now offset len missing.now
+        refusal) }
 {
     let Some(volume) = volumes.find(name) else {
         return Err(Refusal::NoSuchName);
@@ -78,11 +80,13 @@ impl<D: Disk + Drop> Commit<D> {
         ensures refused { IfErr result (λ refusal. (v : View) → Backs (state_of self.old) v
             → (refusal ≡ Refusal.NoMemory) ⊎ (IsUnderCause v group name.now offset len refusal
             ⊎ (HasNoCause v group name.now offset len
-            × IsLostUnder v (state_of self.old) (state_of self.new) group name.now offset len missing.now refusal))) }
+            × IsLostUnder v (state_of self.old) (state_of self.new) group name.now offset len
+            missing.now refusal))) }
 
         // A block in which the range lies was read last, and could not be read.
-        ensures unread { IfErr result (λ refusal. IsReadFault refusal → IsUnreadUnder (state_of self.old)
-            (state_of self.new) group name.now offset len missing.now refusal) }
+        ensures unread { IfErr result (λ refusal. IsReadFault refusal
+            → IsUnreadUnder (state_of self.old) (state_of self.new) group name.now offset len
+            missing.now refusal) }
     {
         let Some(volumes) = self.kept.volumes(group) else {
             return Err(Refusal::GroupGone);
@@ -117,10 +121,12 @@ impl<D: Disk + Drop> Commit<D> {
             → volume_at name.now (now_of v) ≡ Some volume → shape_of volume ≡ shape → HasRange bytes.items (base_of v name.now volume) offset) }
         ensures refused { IfErr result (λ refusal. (v : View) (volume : PlainVolume) → Backs (state_of self.old) v → GroupsAreBelow v
             → volume_at name.now (now_of v) ≡ Some volume → shape_of volume ≡ shape
-            → (refusal ≡ Refusal.NoMemory) ⊎ IsLostUnder v (state_of self.old) (state_of self.new)
-            v.committed name.now offset len [] refusal) }
-        ensures unread { IfErr result (λ refusal. IsReadFault refusal → IsUnreadUnder (state_of self.old)
-            (state_of self.new) (state_of self.old).kept.committed name.now offset len [] refusal) }
+            → (refusal ≡ Refusal.NoMemory)
+            ⊎ IsLostUnder v (state_of self.old) (state_of self.new) v.committed name.now offset len
+            [] refusal) }
+        ensures unread { IfErr result (λ refusal. IsReadFault refusal
+            → IsUnreadUnder (state_of self.old) (state_of self.new)
+            (state_of self.old).kept.committed name.now offset len [] refusal) }
     {
         let committed = self.kept.committed();
         if shape.group > committed {

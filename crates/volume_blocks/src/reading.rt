@@ -40,7 +40,8 @@ impl VolumeBlocks {
 
         // And it is read, where no vdev misses more disks than it has parities and what they answer is true.
         ensures known { IfErr result (λ refusal. (stored : Contents) (array : List ℕ) → Holds store.old stored → Spells stored birth self.now array
-            → AnswersAreTrue store.old store.new → LossIsTolerable store.old store.new missing.now → refusal ≡ Refusal.NoMemory) }
+            → AnswersAreTrue store.old store.new → LossIsTolerable store.old store.new missing.now
+            → refusal ≡ Refusal.NoMemory) }
     {
         let block_size = self.block_size();
         let mut read = Vec::new(alloc);

@@ -46,17 +46,19 @@ impl VolumeBlocks {
             → (later : Contents) × Plans store.new stored later × Extends planned later
             × Spells later birth after (after_writes volume writes.now).bytes) }
 
-        // Places are taken for the blocks that the writes change and for nothing else; so it is where one finds none.
+        // Places are taken for the blocks that the writes change, and for nothing else.
         ensures places { OnOk result
             (TookChanged store.old.spaces self.now name.now writes.now store.new.spaces) }
         ensures refused { IfErr result (λ refusal. (refusal ≡ Refusal.NoMemory)
-            ⊎ (((refusal ≡ Refusal.NoSpace) × LacksRoom store.old.spaces self.now name.now writes.now)
+            ⊎ (((refusal ≡ Refusal.NoSpace)
+            × LacksRoom store.old.spaces self.now name.now writes.now)
             ⊎ IsUnreadOf store.old store.new self.now name.now writes.now birth_before refusal)) }
 
         // No block is unread, where no vdev misses more disks than it has parities and what they answer is true.
         ensures known { IfErr result (λ refusal. (stored : Contents) (volume : PlainVolume) → Holds store.old stored
             → volume.name ≡ name.now → Spells stored birth_before self.now volume.bytes → AnswersAreTrue store.old store.new
-            → LossIsTolerable store.old store.new [] → (refusal ≡ Refusal.NoMemory) ⊎ (refusal ≡ Refusal.NoSpace)) }
+            → LossIsTolerable store.old store.new []
+            → (refusal ≡ Refusal.NoMemory) ⊎ (refusal ≡ Refusal.NoSpace)) }
     {
         let ids = self.changed_ids(alloc, name, writes)?;
         let mut after = self.copied()?;
@@ -86,7 +88,8 @@ impl VolumeBlocks {
             → bytes.items ≡ part (after_writes volume writes.now).bytes (block_size_of self.now) id) }
         ensures refused { IfErr result (λ refusal. (refusal ≡ Refusal.NoMemory) ⊎ IsUnread store.old store.new self.now birth id [] refusal) }
         ensures known { IfErr result (λ refusal. (stored : Contents) (array : List ℕ) → Holds store.old stored → Spells stored birth self.now array
-            → AnswersAreTrue store.old store.new → LossIsTolerable store.old store.new [] → refusal ≡ Refusal.NoMemory) }
+            → AnswersAreTrue store.old store.new → LossIsTolerable store.old store.new []
+            → refusal ≡ Refusal.NoMemory) }
     {
         let mut bytes = self.block_bytes(store, alloc, birth, id, &[])?;
         let offset = id * self.block_size();
@@ -112,7 +115,8 @@ impl VolumeBlocks {
         ensures place { OnOk result
             (TookFor store.old.spaces (block_size_of self.now / 512 ∷ []) store.new.spaces) }
         ensures refused { IfErr result (λ refusal. (refusal ≡ Refusal.NoMemory)
-            ⊎ ((refusal ≡ Refusal.NoSpace) × NoPlaceIsLeft store.old.spaces (block_size_of self.now / 512))) }
+            ⊎ ((refusal ≡ Refusal.NoSpace)
+            × NoPlaceIsLeft store.old.spaces (block_size_of self.now / 512))) }
     {
         let new = NewBlock {
             property: self.property(),

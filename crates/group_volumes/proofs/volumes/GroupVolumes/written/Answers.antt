@@ -64,9 +64,8 @@ loop-volume-preserved g c =
     take_more volumes c.loop-volume.volume-index named c.loop-volume-test.true ∙ ap (λ (n : NamedVolume). take c.loop-volume.volume-index volumes ++ n ∷ []) (sym c.volume-item.is) in
     record {
       kept = steps_on c.args.store.now c.loop-volume.store c.written.new.store [] c.loop-volume.invariant.kept c.written.ensures.kept;
-      places = subst (λ (v : List NamedVolume). TookEach c.args.store.now.spaces v c.args.writes.now c.written.new.store.spaces) (sym more)
-          (took_more c.args.store.now.spaces c.loop-volume.store.spaces c.written.new.store.spaces (take c.loop-volume.volume-index volumes) named c.args.writes.now
-          c.loop-volume.invariant.places c.in_ok-written.ensures.places);
+      places = took_more c.args.store.now.spaces c.loop-volume.store.spaces c.written.new.store.spaces (take c.loop-volume.volume-index volumes)
+          (take (c.loop-volume.volume-index + 1) volumes) named c.args.writes.now more c.loop-volume.invariant.places c.in_ok-written.ensures.places;
       planned = λ stored planned pool held spells honest.
           planned_more stored planned c.loop-volume.store c.written.new.store (c.args.group - 1) c.args.group (take c.loop-volume.volume-index volumes) named
           c.in_ok-written.written c.loop-volume.after (record { volumes = c.push.new.self }) c.args.writes.now pool c.in_ok-push.ensures.items
