@@ -35,7 +35,7 @@ fn main(rt: HostRuntime) -> ExitCode {
         Ok(status) => status,
         Err(error) => {
             let fault = if error.kind() == ErrorKind::OutOfMemory {
-                "memory"
+                "out of memory"
             } else {
                 "output"
             };

@@ -1,4 +1,6 @@
 mod Chains
+mod Faulting
 mod Leading
 mod Playing
+mod Pools
 mod Reading

@@ -10,13 +10,13 @@ are_lines_more : (bytes : List ℕ) (lines more : List Line) (rest end : List �
 are_lines_more bytes [] more rest end h k = subst (λ (b : List ℕ). AreLines b more end) (sym h) k
 are_lines_more bytes (line ∷ lines) more rest end h k = (h.0, h.1, are_lines_more (drop_through 10 bytes) lines more rest end h.2 k)
 
-reads_lines_more : (old between new : Option (List ℕ)) (lines more : List Line) → ReadsLines old lines between → ReadsLines between more new → ReadsLines old (lines ++ more) new
+pub reads_lines_more : (old between new : Option (List ℕ)) (lines more : List Line) → ReadsLines old lines between → ReadsLines between more new → ReadsLines old (lines ++ more) new
 reads_lines_more None between new lines more h k = tt
 reads_lines_more (Some bytes) None new lines more h k = absurd h
 reads_lines_more (Some bytes) (Some rest) None lines more h k = absurd k
 reads_lines_more (Some bytes) (Some rest) (Some end) lines more h k = are_lines_more bytes lines more rest end h k
 
-commands_append : (lines more : List Line) → commands_of (lines ++ more) ≡ commands_of lines ++ commands_of more
+pub commands_append : (lines more : List Line) → commands_of (lines ++ more) ≡ commands_of lines ++ commands_of more
 commands_append [] more = refl
 commands_append (Skipped ∷ lines) more = commands_append lines more
 commands_append (CommandLine command ∷ lines) more = ap (λ (commands : List Command). command ∷ commands) (commands_append lines more)

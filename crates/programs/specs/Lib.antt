@@ -1,4 +1,5 @@
 pub mod Answers
+pub mod Faults
 pub mod Lengths
 pub mod Plays
 pub mod Reads

@@ -5,4 +5,4 @@ use Rattle.programs.specs.declared.status.ExitStatus.TheVariants.{Done, Fault}
 
 abbrev pub status_number : ExitStatus → ℕ
 status_number Done = 0
-status_number Fault = 2
+status_number (Fault cause) = 2

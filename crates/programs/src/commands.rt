@@ -14,7 +14,8 @@ use std::alloc::{AllocError, Global};
 const TIMESTAMP: u64 = 0;
 
 fn write_step(alloc: Global, line: WriteLine) -> Result<Step, AllocError>
-    ensures { IfOk result (λ s. (n : ℕ) × StandsFor line.len n × (s ≡ step.Write (write_of line n))) }
+    ensures { IfOk result (λ s. (n : ℕ) × StandsFor line.len n
+        × (s ≡ step.Write (write_of line n))) }
 {
     let bytes = vec![in alloc; line.byte; written_len(line.len)]?;
     Ok(Step::Write(Write {
@@ -123,7 +124,9 @@ pub fn answer<P: StepMachine>(
     pool: &mut P,
     command: Command,
 ) -> Result<Option<Reply>, AllocError>
-    ensures ok { IfOk result (λ found. MatchOption found (IsFirst command × (pool.new ≡ pool.old)) (λ last. Answers P.steps pool.old command last pool.new)) }
+    ensures ok { IfOk result (λ found. MatchOption found
+        (IsFirst command × (pool.new ≡ pool.old))
+        (λ last. Answers P.steps pool.old command last pool.new)) }
     ensures err { OnErr result (pool.new ≡ pool.old) }
 {
     let goes_on = runs_on(&command);

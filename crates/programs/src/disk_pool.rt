@@ -1,72 +1,77 @@
 //! The pool's core over memory disks, as a machine for schedules.
-ghost use Rattle.std.specs.Prelude.{◌≡◌, ◌⊎◌, ℕ, List, [], ◌∷◌};
+ghost use Rattle.std.specs.Prelude.{ℕ, List, [], ◌∷◌, IfSome, IfNone};
+ghost use Rattle.std.specs.Option.{SomeIff};
 ghost use Rattle.pool_model.specs.View.{View};
 ghost use Rattle.pool_core.specs.Represents.{Represents};
 ghost use Rattle.pool_core.specs.StateOf.{state_of};
 ghost use Rattle.programs.specs.Plays.{Plays};
 ghost use Rattle.programs.specs.Runs.{StepsTruly, IsOneRun};
+ghost use Rattle.programs.specs.Vdevs.{AreAllowedSizes, IsAllowedPool, IsVdevOf, metaslabs_over};
 ghost use Rattle.schedule_lines.specs.declared.command.Command.{Command};
 
 use crate::machine::StepMachine;
-use block_store::VdevConfig;
+use block_store::{MAX_METASLAB_SHIFT, MIN_METASLAB_SHIFT, VdevConfig, sectors_for_blocks};
 use model_disk::MemDisk;
 use pool_core::Core;
 use pool_model::{Refusal, Reply, Step};
-use raidz_map::Geometry;
+use raidz_map::{Geometry, SECTOR_SHIFT};
 use schedule_lines::PoolLine;
 use std::alloc::Global;
 
-/// Sectors have 2 to this power bytes.
-const SECTOR_SHIFT: u32 = 9;
+/// How many metaslabs a vdev has over disks of that size in bytes, where they are neither too small nor
+/// too large.
+fn metaslabs(vdev: VdevConfig, bytes: u64) -> Option<u64>
+    ensures { SomeIff result (AreAllowedSizes bytes vdev.metaslab_shift)
+        (metaslabs_over vdev.geometry.children bytes vdev.metaslab_shift) }
+{
+    if vdev.metaslab_shift < MIN_METASLAB_SHIFT || MAX_METASLAB_SHIFT < vdev.metaslab_shift {
+        return None;
+    }
+    let sectors = u64::from(vdev.geometry.children) * sectors_for_blocks(bytes)?;
+    Some(sectors >> vdev.metaslab_shift)
+}
 
-const SECTOR_BYTES: u64 = 1 << SECTOR_SHIFT;
-
-/// The bytes of a disk are used in multiples of this.
-const DISK_UNIT: u64 = 0x40000;
-
-/// At most so many bytes of a disk are used.
-const MAX_DISK: u64 = 1 << 43;
-
-/// How many bytes of a disk are for labels.
-const LABEL_BYTES: u64 = 0x480000;
-
-/// How many metaslabs the vdev of the line has.
-fn metaslabs(line: &PoolLine) -> u64 {
-    let used = (line.bytes / DISK_UNIT * DISK_UNIT).min(MAX_DISK);
-    let sectors = used.saturating_sub(LABEL_BYTES) / SECTOR_BYTES * u64::from(line.disks.min(32));
-    sectors >> line.metaslab_shift.min(20)
+/// The vdev that the line asks for, where a pool may have it.
+fn vdev_of(line: &PoolLine) -> Option<VdevConfig>
+    ensures some { IfSome result (λ vdev. IsVdevOf line.now vdev) }
+    ensures none { IfNone result (¬ IsAllowedPool line.now) }
+{
+    let Ok(geometry) = Geometry::new(line.disks, line.parities, SECTOR_SHIFT) else {
+        return None;
+    };
+    let vdev = VdevConfig {
+        geometry,
+        metaslab_shift: line.metaslab_shift,
+    };
+    let own = u64::from(line.meta_metaslabs);
+    if own == 0 || metaslabs(vdev, line.bytes)? <= own {
+        return None;
+    }
+    Some(vdev)
 }
 
 impl StepMachine for Core<MemDisk> {
-    ghost use Rattle.pool_model.specs.declared.refusal.Refusal.TheVariants.{NoMemory, BadConfig};
     ghost use Rattle.pool_model.specs.View.{started};
     ghost use Rattle.pool_core.specs.Represents.{Represents};
     ghost use Rattle.pool_core.specs.StateOf.{state_of};
     ghost use Rattle.programs.specs.Runs.{StepsTruly};
-    ghost use Rattle.programs.specs.Vdevs.{vdev_of};
+    ghost use Rattle.programs.specs.Vdevs.{vdev_of, RefusesPool};
 
     ghost creates = { λ line core. Represents (state_of core) (started (vdev_of line ∷ [])) };
 
-    ghost refuses = { λ _ cause. (cause ≡ NoMemory) ⊎ (cause ≡ BadConfig) };
+    ghost refuses = { RefusesPool };
 
     // Disks in memory answer truly, so that nothing is asked of them.
     ghost steps = { λ old step reply new. StepsTruly (state_of old) step reply (state_of new) };
 
-    /// At least one metaslab is for the pool's own blocks, and one for others.
+    /// At least one metaslab is for the pool's own blocks, and one for others: else it is `BadConfig`, as
+    /// where a size or the shape isn't allowed.
     fn create(alloc: Global, line: &PoolLine) -> Result<Core<MemDisk>, Refusal> {
-        let Ok(geometry) = Geometry::new(line.disks, line.parities, SECTOR_SHIFT) else {
+        let Some(vdev) = vdev_of(line) else {
             return Err(Refusal::BadConfig);
         };
-        let meta = u64::from(line.meta_metaslabs);
-        if line.bytes / DISK_UNIT * DISK_UNIT > MAX_DISK || meta == 0 || metaslabs(line) <= meta {
-            return Err(Refusal::BadConfig);
-        }
         let Ok(disks) = MemDisk::several(alloc, line.disks as usize, line.bytes as usize) else {
             return Err(Refusal::NoMemory);
-        };
-        let vdev = VdevConfig {
-            geometry,
-            metaslab_shift: line.metaslab_shift,
         };
         Core::create(alloc, disks, &[vdev])
     }
@@ -78,11 +83,13 @@ impl StepMachine for Core<MemDisk> {
     }
 }
 
-/// A law: the commands of a schedule that a pool over disks in memory answers are one run of it, from each view that it
-/// represents, with the whole headline.
+/// A law: the commands of a schedule that a pool over disks in memory answers are one run of it, from
+/// each view that it represents, with the whole headline.
 pub fn schedules_are_runs(first: &Core<MemDisk>)
-    ensures { (last : _) (v : View) (commands : List Command) (text : List ℕ) → Represents (state_of first.now) v
-        → Plays (λ old step reply new. StepsTruly (state_of old) step reply (state_of new)) first.now commands text last
+    ensures { (last : _) (v : View) (commands : List Command) (text : List ℕ)
+        → Represents (state_of first.now) v
+        → Plays (λ old step reply new. StepsTruly (state_of old) step reply (state_of new))
+        first.now commands text last
         → IsOneRun (state_of first.now) v commands text (state_of last) }
 {
     let _ = first;

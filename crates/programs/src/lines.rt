@@ -1,8 +1,9 @@
 //! The lines of a schedule, read one by one.
-ghost use Rattle.std.specs.Prelude.{◌≡◌, [], ◌∷◌, MatchOption, IfOk};
+ghost use Rattle.std.specs.Prelude.{◌≡◌, ◌+◌, [], ◌∷◌, MatchOption, IfOk, IfErr};
 ghost use Rattle.std.specs.Io.BufRead.{strip_last};
 ghost use Rattle.std.specs.Io.KnownBytes.{IsAtEnd};
-ghost use Rattle.programs.specs.Reads.{IsSchedule, Reads, ReadsLines};
+ghost use Rattle.programs.specs.Faults.{IsLineFault, IsNextFault, ReadsCommand, counted};
+ghost use Rattle.programs.specs.Reads.{IsSchedule, ReadsLines};
 
 use crate::refusal::Refusal;
 use schedule_lines::{Command, Line, parse};
@@ -29,7 +30,8 @@ pub struct Lines<R> {
 
 impl<R: BufRead + Drop> Lines<R> {
     pub fn new(alloc: Global, input: R) -> Lines<R>
-        ensures { result.input ≡ input }
+        ensures input { result.input ≡ input }
+        ensures count { result.count ≡ 0 }
     {
         Lines {
             input,
@@ -39,15 +41,20 @@ impl<R: BufRead + Drop> Lines<R> {
     }
 
     /// The refusal of the line that was read last.
-    pub fn fault(&self) -> Refusal {
+    pub fn fault(&self) -> Refusal
+        ensures { result ≡ Refusal.Line self.now.count }
+    {
         Refusal::Line(self.count)
     }
 
     /// The command of the next line that isn't skipped, or none at the end of the input.
     pub fn next_command(&mut self, alloc: Global) -> Result<Option<Command>, Refusal>
-        ensures { IfOk result (λ found. MatchOption found
+        ensures found { IfOk result (λ found. MatchOption found
             (IsSchedule (R.remaining self.old.input) [])
-            (λ command. Reads (R.remaining self.old.input) (command ∷ []) (R.remaining self.new.input))) }
+            (λ command. ReadsCommand (R.remaining self.old.input) self.old.count command
+            (R.remaining self.new.input) self.new.count)) }
+        ensures fault { IfErr result
+            (IsLineFault (R.remaining self.old.input) self.old.count) }
     {
         for _ in 0..u64::MAX {
             match self.next_line(alloc)? {
@@ -61,9 +68,11 @@ impl<R: BufRead + Drop> Lines<R> {
 
     /// What the next line says, or none at the end of the input.
     fn next_line(&mut self, alloc: Global) -> Result<Option<Line>, Refusal>
-        ensures { IfOk result (λ found. MatchOption found
+        ensures found { IfOk result (λ found. MatchOption found
             (IsAtEnd (R.remaining self.old.input))
-            (λ line. ReadsLines (R.remaining self.old.input) (line ∷ []) (R.remaining self.new.input))) }
+            (λ line. ReadsLines (R.remaining self.old.input) (line ∷ [])
+            (R.remaining self.new.input) × (self.new.count ≡ counted (self.old.count + 1)))) }
+        ensures fault { IfErr result (IsNextFault (R.remaining self.old.input) self.old.count) }
     {
         self.line.clear();
         match self.input.read_until(b'\n', &mut self.line) {

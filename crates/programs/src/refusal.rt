@@ -16,7 +16,7 @@ pub enum Refusal {
     #[error("output")]
     Output,
     /// Memory ran out in the program itself.
-    #[error("memory")]
+    #[error("out of memory")]
     Memory,
 }
 

@@ -1,7 +1,8 @@
 //! Running a schedule.
-ghost use Rattle.std.specs.Prelude.{◌≡◌, ℕ, List, [], ◌∷◌, ◌++◌, OnOk};
+ghost use Rattle.std.specs.Prelude.{ℕ, List, [], ◌∷◌, ◌++◌, OnOk, IfErr};
 ghost use Rattle.std.specs.Io.KnownBytes.{Appends};
 ghost use Rattle.schedule_lines.specs.Replies.{IsReplyText};
+ghost use Rattle.programs.specs.Faults.{EndsAs, IsFaultOf, IsNoLine, IsPoolFault};
 ghost use Rattle.programs.specs.Plays.{AnswersAll, RunsSchedule};
 
 use crate::commands::answer;
@@ -15,7 +16,9 @@ use std::alloc::Global;
 use std::io::{BufRead, Write};
 
 fn print<W: Write>(output: &mut W, text: &str) -> Result<(), Refusal>
-    ensures { OnOk result (Appends (W.contents output.old) (W.contents output.new) (text.now ++ (10 ∷ []))) }
+    ensures ok { OnOk result
+        (Appends (W.contents output.old) (W.contents output.new) (text.now ++ (10 ∷ []))) }
+    ensures fault { IfErr result IsNoLine }
 {
     output
         .write_all(text.as_bytes())
@@ -25,7 +28,9 @@ fn print<W: Write>(output: &mut W, text: &str) -> Result<(), Refusal>
 }
 
 fn print_reply<W: Write>(alloc: Global, output: &mut W, reply: &Reply) -> Result<(), Refusal>
-    ensures { OnOk result ((line : List ℕ) × IsReplyText reply.now line × Appends (W.contents output.old) (W.contents output.new) (line ++ (10 ∷ []))) }
+    ensures ok { OnOk result ((line : List ℕ) × IsReplyText reply.now line
+        × Appends (W.contents output.old) (W.contents output.new) (line ++ (10 ∷ []))) }
+    ensures fault { IfErr result IsNoLine }
 {
     let text = reply_text(alloc, reply)?;
     print(output, text.as_str())
@@ -38,7 +43,11 @@ fn run_lines<P: StepMachine, R: BufRead + Drop, W: Write>(
     lines: &mut Lines<R>,
     output: &mut W,
 ) -> Result<(), Refusal>
-    ensures { OnOk result (AnswersAll P.steps pool (R.remaining lines.old.input) (W.contents output.old) (W.contents output.new)) }
+    ensures ok { OnOk result (AnswersAll P.steps pool (R.remaining lines.old.input)
+        (W.contents output.old) (W.contents output.new)) }
+    ensures fault { IfErr result (IsPoolFault P.steps pool
+        (R.remaining lines.old.input) lines.old.count
+        (W.contents output.old) (W.contents output.new)) }
 {
     for _ in 0..u64::MAX {
         let Some(command) = lines.next_command(alloc)? else {
@@ -57,13 +66,17 @@ fn run_schedule<P: StepMachine, R: BufRead + Drop, W: Write>(
     input: R,
     output: &mut W,
 ) -> Result<(), Refusal>
-    ensures { OnOk result (RunsSchedule P.creates P.refuses P.steps (R.remaining input) (W.contents output.old) (W.contents output.new)) }
+    ensures ok { OnOk result (RunsSchedule P.creates P.refuses P.steps
+        (R.remaining input) (W.contents output.old) (W.contents output.new)) }
+    ensures fault { IfErr result (IsFaultOf P.creates P.refuses P.steps
+        (R.remaining input) (W.contents output.old) (W.contents output.new)) }
 {
     let mut lines = Lines::new(alloc, input);
-    let line = match lines.next_command(alloc)? {
-        None => return Ok(()),
-        Some(Command::Pool(line)) => line,
-        Some(_) => return Err(lines.fault()),
+    let Some(command) = lines.next_command(alloc)? else {
+        return Ok(());
+    };
+    let Command::Pool(line) = command else {
+        return Err(lines.fault());
     };
     match P::create(alloc, &line) {
         Ok(pool) => {
@@ -72,7 +85,8 @@ fn run_schedule<P: StepMachine, R: BufRead + Drop, W: Write>(
         }
         Err(refusal) => {
             print_reply(alloc, output, &Reply::Refused(refusal))?;
-            match lines.next_command(alloc)? {
+            let later = lines.next_command(alloc)?;
+            match later {
                 None => Ok(()),
                 Some(_) => Err(lines.fault()),
             }
@@ -83,7 +97,7 @@ fn run_schedule<P: StepMachine, R: BufRead + Drop, W: Write>(
 /// Runs the schedule of an input against a pool of its own: a reply a line on the output, which is flushed after each.
 ///
 /// It ends at the first fault, which is told on `errors` as `poolrun: line N`, where lines are counted from 1, or as
-/// `poolrun: input`, `poolrun: output` or `poolrun: memory`; what stands on the output by then stays. Where the pool
+/// `poolrun: input`, `poolrun: output` or `poolrun: out of memory`; what stands on the output by then stays. Where the pool
 /// can't be made, its refusal is printed, and each later line that isn't skipped is a fault.
 pub fn schedule<P: StepMachine, R: BufRead + Drop, W: Write, E: Write>(
     alloc: Global,
@@ -92,7 +106,9 @@ pub fn schedule<P: StepMachine, R: BufRead + Drop, W: Write, E: Write>(
     errors: &mut E,
 ) -> ExitStatus
     // The lines were read to their end, and what was printed is what the pool answers to them.
-    ensures done { result ≡ ExitStatus.Done → RunsSchedule P.creates P.refuses P.steps (R.remaining input) (W.contents output.old) (W.contents output.new) }
+    // Or there is a cause why not: a line that can't be run, behind lines that were.
+    ensures { EndsAs P.creates P.refuses P.steps
+        (R.remaining input) (W.contents output.old) (W.contents output.new) result }
 {
     match run_schedule::<P, R, W>(alloc, input, output) {
         Ok(()) => ExitStatus::Done,
@@ -100,7 +116,7 @@ pub fn schedule<P: StepMachine, R: BufRead + Drop, W: Write, E: Write>(
             // Where this can't be told either, the status still says it.
             let _ = writeln!(errors, "poolrun: {refusal}");
             let _ = errors.flush();
-            ExitStatus::Fault
+            ExitStatus::Fault(refusal)
         }
     }
 }

@@ -2,12 +2,14 @@
 ghost use Rattle.std.specs.Prelude.{◌≡◌};
 ghost use Rattle.programs.specs.Statuses.{status_number};
 
+use crate::refusal::Refusal;
+
 /// How a program ended.
 #[derive(Clone, Copy, Debug, PartialEq, Eq)]
 pub enum ExitStatus {
     Done,
     /// A line that it can't run, input or output that fails, or want of memory in the program itself.
-    Fault,
+    Fault(Refusal),
 }
 
 impl ExitStatus {
@@ -17,7 +19,7 @@ impl ExitStatus {
     {
         match self {
             ExitStatus::Done => 0,
-            ExitStatus::Fault => 2,
+            ExitStatus::Fault(_) => 2,
         }
     }
 }

@@ -5,7 +5,7 @@ ghost use Rattle.pool_model.specs.declared.refusal.Refusal.TheVariants.{BadConfi
 use crate::telling::{told, told_of};
 use plain_machine::Machine;
 use pool_model::{Phase, Refusal, Reply, Step};
-use programs::{ExitStatus, StepMachine, schedule, written_len};
+use programs::{ExitStatus, Refusal as Cause, StepMachine, schedule, written_len};
 use schedule_lines::PoolLine;
 use std::alloc::Global;
 use std::io;
@@ -170,11 +170,11 @@ impl Write for Narrow {
 
 /// Room and flushes of the output, room of what is told of faults, and the end: 22 bytes are printed.
 const WRITERS: [((usize, bool), usize, ExitStatus); 6] = [
-    ((0, true), 100, ExitStatus::Fault),
-    ((14, true), 100, ExitStatus::Fault),
-    ((20, true), 100, ExitStatus::Fault),
-    ((100, false), 100, ExitStatus::Fault),
-    ((14, true), 0, ExitStatus::Fault),
+    ((0, true), 100, ExitStatus::Fault(Cause::Output)),
+    ((14, true), 100, ExitStatus::Fault(Cause::Output)),
+    ((20, true), 100, ExitStatus::Fault(Cause::Output)),
+    ((100, false), 100, ExitStatus::Fault(Cause::Output)),
+    ((14, true), 0, ExitStatus::Fault(Cause::Output)),
     ((22, true), 0, ExitStatus::Done),
 ];
 

@@ -1,28 +1,53 @@
-use Rattle.std.proofs.Common.{[], ◌∷◌, ◌++◌}
-use Rattle.programs.specs.Answers.{Answers}
-use Rattle.programs.specs.Reads.{Reads, IsSchedule}
-use Rattle.programs.proofs.Playing.{appends_more, plays_more, schedule_ends, if_none}
-use Rattle.programs.proofs.Reading.{reads_append}
+use Rattle.std.proofs.Common.{◌≡◌, [], sym, subst}
+use Rattle.programs.specs.declared.refusal.Refusal.TheVariants.{Line as LineFault}
+use Rattle.programs.specs.Answers.{Answers, IsFirst}
+use Rattle.programs.specs.Faults.{ReadsCommand, IsPoolFault}
+use Rattle.programs.specs.Reads.{IsSchedule}
+use Rattle.programs.proofs.Playing.{if_none}
+use Rattle.programs.proofs.Faulting.{ran_none, ran_all, ran_fault, ran_misplaced, ran_more, passed_on}
 use Rattle.programs.proofs.running.run_lines.Goals as goal
 
-pub returns-in_default : goal.returns-in_default
-returns-in_default g c =
-    let so_far = c.loop.invariant in
-    let ended : IsSchedule (g.R.Read.remaining c.loop.lines.input) [] = if_none c.in_ok-command.field-0 (IsSchedule (g.R.Read.remaining c.loop.lines.input) []) (λ command. Reads (g.R.Read.remaining c.loop.lines.input) (command ∷ []) (g.R.Read.remaining c.next_command.new.self.input)) c.in_ok-command.ensures c.in_default.not-Some in
-    (so_far.0, so_far.1, c.loop.pool, schedule_ends (g.R.Read.remaining c.args.lines.now.input) (g.R.Read.remaining c.loop.lines.input) so_far.0 so_far.2 ended, so_far.3, so_far.4)
+pub loop-init : goal.loop-init
+loop-init g c = ran_none g.P.StepMachine.steps c.args.pool (g.R.Read.remaining c.args.lines.now.input) c.args.lines.now.count (g.W.Write.contents c.args.output.now)
+
+pub returns-in_default-clause-ok : goal.returns-in_default-clause-ok
+returns-in_default-clause-ok g c =
+    let rest = g.R.Read.remaining c.loop.lines.input in
+    let behind = g.R.Read.remaining c.next_command.new.self.input in
+    let ended : IsSchedule rest [] = if_none c.in_ok-command.field-0 (IsSchedule rest [])
+    (λ command. ReadsCommand rest c.loop.lines.count command behind c.next_command.new.self.count) c.in_ok-command.ensures.found c.in_default.not-Some in
+    ran_all g.P.StepMachine.steps c.args.pool (g.R.Read.remaining c.args.lines.now.input) c.args.lines.now.count (g.W.Write.contents c.args.output.now)
+    c.loop.pool rest c.loop.lines.count (g.W.Write.contents c.loop.output) c.loop.invariant ended
+
+pub returns-in_err-command-clause-fault : goal.returns-in_err-command-clause-fault
+returns-in_err-command-clause-fault g c =
+    passed_on _ _ _ c.from_residual.ensures.1
+    (ran_fault g.P.StepMachine.steps c.args.pool (g.R.Read.remaining c.args.lines.now.input) c.args.lines.now.count (g.W.Write.contents c.args.output.now)
+    c.loop.pool (g.R.Read.remaining c.loop.lines.input) c.loop.lines.count (g.W.Write.contents c.loop.output) _ c.loop.invariant c.in_err-command.ensures.fault)
+
+pub returns-in_default-2-clause-fault : goal.returns-in_default-2-clause-fault
+returns-in_default-2-clause-fault g c =
+    let input = g.R.Read.remaining c.args.lines.now.input in
+    let rest = g.R.Read.remaining c.loop.lines.input in
+    let behind = g.R.Read.remaining c.next_command.new.self.input in
+    let old = g.W.Write.contents c.args.output.now in
+    let now = g.W.Write.contents c.loop.output in
+    let command = c.in-Some.command in
+    let found : ReadsCommand rest c.loop.lines.count command behind c.next_command.new.self.count = rw c.in-Some.is at c.in_ok-command.ensures.found in
+    let first = if_none c.in_ok-reply.field-0 (IsFirst command × (c.answer.new.pool ≡ c.loop.pool))
+    (λ last. Answers g.P.StepMachine.steps c.loop.pool command last c.answer.new.pool) c.in_ok-reply.ensures.ok c.in_default-2.not-Some in
+    let stops : IsPoolFault g.P.StepMachine.steps c.args.pool input c.args.lines.now.count old now (LineFault c.next_command.new.self.count) =
+    ran_misplaced g.P.StepMachine.steps c.args.pool input c.args.lines.now.count old c.loop.pool rest behind c.loop.lines.count c.next_command.new.self.count now command c.loop.invariant found first.0 in
+    subst (λ cause. IsPoolFault g.P.StepMachine.steps c.args.pool input c.args.lines.now.count old now cause) (sym c.fault.ensures) stops
 
 pub loop-preserved : goal.loop-preserved
 loop-preserved g c =
-    let so_far = c.loop.invariant in
     let command = c.in-Some.command in
-    let told = c.in_ok-print_reply.ensures in
-    let between = g.R.Read.remaining c.loop.lines.input in
+    let told = c.in_ok-print_reply.ensures.ok in
+    let rest = g.R.Read.remaining c.loop.lines.input in
     let behind = g.R.Read.remaining c.next_command.new.self.input in
-    let read : Reads between (command ∷ []) behind = rw c.in-Some.is at c.in_ok-command.ensures in
-    let answered : Answers g.P.StepMachine.steps c.loop.pool command c.in-Some-2.reply c.answer.new.pool = rw c.in-Some-2.is at c.in_ok-reply.ensures.ok in (
-      so_far.0 ++ command ∷ [],
-      so_far.1 ++ (told.0 ++ 10 ∷ []),
-      reads_append (g.R.Read.remaining c.args.lines.now.input) between behind so_far.0 (command ∷ []) so_far.2 read,
-      plays_more g.P.StepMachine.steps so_far.0 c.args.pool c.loop.pool c.answer.new.pool so_far.1 command c.in-Some-2.reply told.0 so_far.3 answered told.1,
-      appends_more (g.W.Write.contents c.args.output.now) (g.W.Write.contents c.loop.output) (g.W.Write.contents c.print_reply.new.output) so_far.1 (told.0 ++ 10 ∷ []) so_far.4 told.2,
-    )
+    let found : ReadsCommand rest c.loop.lines.count command behind c.next_command.new.self.count = rw c.in-Some.is at c.in_ok-command.ensures.found in
+    let answered : Answers g.P.StepMachine.steps c.loop.pool command c.in-Some-2.reply c.answer.new.pool = rw c.in-Some-2.is at c.in_ok-reply.ensures.ok in
+    ran_more g.P.StepMachine.steps c.args.pool (g.R.Read.remaining c.args.lines.now.input) c.args.lines.now.count (g.W.Write.contents c.args.output.now)
+    c.loop.pool c.answer.new.pool rest behind c.loop.lines.count c.next_command.new.self.count (g.W.Write.contents c.loop.output)
+    (g.W.Write.contents c.print_reply.new.output) command c.in-Some-2.reply told.0 c.loop.invariant found answered told.1 told.2
