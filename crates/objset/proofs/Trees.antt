@@ -1,5 +1,5 @@
 -- One object whose tree was rewritten or freed.
-use Rattle.std.proofs.Common.{◌≡◌, ℕ, List, [], ◌++◌, Option, Some, None, refl, sym, ap, ◌∙◌, subst}
+use Rattle.std.proofs.Common.{◌≡◌, ℕ, List, [], ◌++◌, Option, Some, None, refl, sym, ap, ◌∙◌, subst, append_assoc, append-nil}
 use Rattle.std.specs.Prelude.{Vec}
 use Rattle.std.specs.declared.alloc.Global.{Global}
 use Rattle.block_pointer.specs.declared.block.Block.{Block}
@@ -14,6 +14,7 @@ use Rattle.dnode_tree.specs.declared.writes.CopyCounts.{CopyCounts}
 use Rattle.dnode_tree.specs.declared.writes.Rewrite.{Rewrite}
 use Rattle.dnode_tree.specs.Rewriting.{IsExchanged, IsRewritten}
 use Rattle.dnode_tree.specs.Writes.{written}
+use Rattle.dnode_tree.proofs.Exchanging.{front_gone}
 use Rattle.objset.proofs.Exchanged.{all_gone}
 use Rattle.objset.proofs.Kept.{HasTree, no_object}
 use Rattle.objset.specs.declared.changes.Change.{Change}
@@ -53,6 +54,20 @@ tree_freed copies planned birth blocks noted noted_later noted_are = record {
   exchanged = all_gone copies birth planned blocks;
 }
 
+-- an object that is written anew: the blocks before were noted first
+pub tree_replaced : (copies : CopyCounts) (planned later : Contents) (birth : ℕ) (after : Dnode) (object : Option Object) (blocks noted noted_mid noted_later : List Block) → noted_mid ≡ noted ++ blocks
+    → IsObjectChanged copies planned later birth after object [] noted_mid noted_later
+    → IsObjectChanged copies planned later birth after object blocks noted noted_later
+tree_replaced copies planned later birth after object blocks noted noted_mid noted_later mid_is made = record {
+  kept = made.kept;
+  blocks = made.blocks;
+  is = made.is;
+  gone = blocks ++ made.gone;
+  noted_are = made.noted_are ∙ ap (λ front. front ++ made.gone) mid_is ∙ append_assoc noted blocks made.gone;
+  exchanged = subst (λ before. IsExchanged copies birth planned later before made.blocks (blocks ++ made.gone)) (append-nil blocks)
+      (front_gone birth planned later [] made.blocks made.gone blocks made.exchanged);
+}
+
 -- the change may be made, and was
 abbrev pub MayAndIs : CopyCounts → Store → Contents → Contents → ℕ → Dnode → Change → Option Object → List Block → List Block → List Block → Type 0
 MayAndIs copies store stored planned birth after change object blocks noted noted_later =
@@ -85,6 +100,20 @@ module _ (copies : CopyCounts) (store : Store) (stored planned : Contents) (boun
         made.1,
         subst (λ ws. IsObjectChanged copies planned made.0 birth after (Some (record has.there { array = written ws has.there.array })) blocks noted noted_later) items
             (subst (λ it. IsObjectChanged copies planned made.0 birth after (Some it) blocks noted noted_later) (object_is node has.there (written list has.there.array) has.object_type has.data_sectors) made.2),
+      ))
+
+  pub is_replaced : (node : ObjectNode) (writes : Vec BlockWrite Global) (list : List BlockWrite) → change ≡ changes.Replace writes → (has : HasTree stored bound node object blocks) → list ≡ writes.items
+      → AreWhole node.data_sectors list
+      → (later : Contents) × Plans store stored later × IsObjectChanged copies planned later birth after (Some (object_of node (written list (λ id. None)))) blocks noted noted_later
+      → MayAndIs copies store stored planned birth after change object blocks noted noted_later
+  is_replaced node writes list is has items whole made =
+      subst (λ it. MayAndIs copies store stored planned birth after it object blocks noted noted_later) (sym is)
+      (subst (λ it. MayAndIs copies store stored planned birth after (changes.Replace writes) it blocks noted noted_later) (sym has.is) (
+        subst (λ ws. AreWhole has.there.data_sectors ws) items (subst (λ sectors. AreWhole sectors list) (sym has.data_sectors) whole),
+        made.0,
+        made.1,
+        subst (λ ws. IsObjectChanged copies planned made.0 birth after (Some (record has.there { array = written ws (λ id. None) })) blocks noted noted_later) items
+            (subst (λ it. IsObjectChanged copies planned made.0 birth after (Some it) blocks noted noted_later) (object_is node has.there (written list (λ id. None)) has.object_type has.data_sectors) made.2),
       ))
 
   pub is_freed : (node : ObjectNode) → change ≡ changes.Free → after ≡ Free → HasTree stored bound node object blocks → Plans store stored planned → noted_later ≡ noted ++ blocks

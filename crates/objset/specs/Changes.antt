@@ -12,7 +12,7 @@ use Rattle.dnode_tree.specs.declared.writes.CopyCounts.{CopyCounts}
 use Rattle.dnode_tree.specs.Rewriting.{IsExchanged}
 use Rattle.dnode_tree.specs.Writes.{AreInOrder, written}
 use Rattle.objset.specs.declared.changes.Change.{Change}
-use Rattle.objset.specs.declared.changes.Change.TheVariants.{Create, Put, Free}
+use Rattle.objset.specs.declared.changes.Change.TheVariants.{Create, Put, Free, Replace}
 use Rattle.objset.specs.declared.changes.ObjectChange.{ObjectChange}
 use Rattle.objset.specs.declared.changes.SetCopies.{SetCopies}
 use Rattle.objset.specs.Objects.{Object, AreObjects}
@@ -30,6 +30,7 @@ abbrev pub IsGoodChange : Change → Type 0
 IsGoodChange (Create object_type sectors writes) = AreGoodWrites writes.items × (0 < object_type) × (0 < sectors) × (sectors ≤ 256) × AreWhole sectors writes.items
 IsGoodChange (Put writes) = AreGoodWrites writes.items
 IsGoodChange Free = Unit {0}
+IsGoodChange (Replace writes) = AreGoodWrites writes.items
 
 -- what becomes of an object by a change
 abbrev pub after_change : Change → Option Object → Option Object
@@ -38,12 +39,16 @@ after_change (Create object_type sectors writes) object =
 after_change (Put writes) (Some object) = Some (record object { array = written writes.items object.array })
 after_change (Put writes) None = None
 after_change Free object = None
+after_change (Replace writes) (Some object) = Some (record object { array = written writes.items (λ id. None) })
+after_change (Replace writes) None = None
 
--- the change may be made of what is there: an object is created where there is none, and written (whole blocks) or freed where there is one
+-- the change may be made of what is there: an object is created where there is none, and written (whole blocks), freed or replaced (by whole blocks)
+-- where there is one
 abbrev pub MayChange : Change → Option Object → Type 0
 MayChange (Create object_type sectors writes) object = object ≡ None
 MayChange (Put writes) object = IsSomeAnd object (λ there. AreWhole there.data_sectors writes.items)
 MayChange Free object = object ≢ None
+MayChange (Replace writes) object = IsSomeAnd object (λ there. AreWhole there.data_sectors writes.items)
 
 -- the objects after changes
 abbrev pub changed : List ObjectChange → (ℕ → Option Object) → ℕ → Option Object

@@ -1,5 +1,5 @@
 -- Objects while they are changed. Only the crate's own functions say these.
-use Rattle.std.specs.Prelude.{ℕ, ◌≡◌, ◌≢◌, ◌⊎◌, ◌≤◌, List, ◌++◌, Option, Some, All, Any}
+use Rattle.std.specs.Prelude.{ℕ, ◌≡◌, ◌≢◌, ◌⊎◌, ◌≤◌, List, ◌++◌, Option, Some, None, All, Any}
 use Rattle.block_pointer.specs.declared.block.Block.{Block}
 use Rattle.block_store.specs.declared.refusal.Refusal.{Refusal}
 use Rattle.block_store.specs.declared.refusal.Refusal.TheVariants.{BadPointer}
@@ -96,6 +96,14 @@ WritesObject this old new node writes noted noted_later after =
     → IsTree stored bound node array blocks → bound ≤ this.birth → AnswersAreTrue old new
     → (later : Contents) × Plans new stored later
     × IsObjectChanged (object_copies this.copies) planned later this.birth after (Some (object_of node (written writes array))) blocks noted noted_later
+
+-- the same where it has the writes alone
+abbrev pub ReplacesObject : Changing → Store → Store → ObjectNode → List BlockWrite → List Block → List Block → Dnode → Type 0
+ReplacesObject this old new node writes noted noted_later after =
+    (stored planned : Contents) (bound : ℕ) (array : ℕ → Option (List ℕ)) (blocks : List Block) → Plans old stored planned
+    → IsTree stored bound node array blocks → bound ≤ this.birth → AnswersAreTrue old new
+    → (later : Contents) × Plans new stored later
+    × IsObjectChanged (object_copies this.copies) planned later this.birth after (Some (object_of node (written writes (λ id. None)))) blocks noted noted_later
 
 -- where the store has such a tree, its answers are true and few disks are lost, the refusal is want of memory or of room
 abbrev pub LacksRoomForObject : Changing → Store → Store → ObjectNode → Refusal → Type 0

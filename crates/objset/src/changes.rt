@@ -20,6 +20,11 @@ pub enum Change {
     },
     /// An object goes, with all its blocks.
     Free,
+    /// An object is written anew: it keeps its type and the size of its data blocks, and has these blocks alone, as those of
+    /// `Put`. Its highest block id is that of the last of them, 0 where there is none.
+    Replace {
+        writes: Vec<BlockWrite>,
+    },
 }
 
 /// A change of one object.

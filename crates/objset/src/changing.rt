@@ -11,7 +11,7 @@ ghost use Rattle.dnode_slots.specs.Writes.{AreNodeWrites};
 ghost use Rattle.dnode_tree.specs.Tree.{IsTree};
 ghost use Rattle.dnode_tree.specs.Writes.{IsForRoom};
 ghost use Rattle.objset.specs.Changes.{AreWhole, AreGoodWrites, IsGoodChange, MayChange, changed, AreChanged, IsGrownFor, HasNoRoom};
-ghost use Rattle.objset.specs.Changing.{ChangesEach, IsEachRefused, ChangesOne, IsOneRefused, ChangesNode, IsNodeRefused, WritesObject, LacksRoomForObject};
+ghost use Rattle.objset.specs.Changing.{ChangesEach, IsEachRefused, ChangesOne, IsOneRefused, ChangesNode, IsNodeRefused, WritesObject, ReplacesObject, LacksRoomForObject};
 ghost use Rattle.objset.specs.Objects.{Object, AreObjects};
 
 use crate::changes::{Change, Changing, ObjectChange, SetCopies};
@@ -200,7 +200,48 @@ impl<'a> Changing<'a> {
                 };
                 free_object(&node, store, alloc, self.birth, self.missing, replaced)
             }
+            Change::Replace { writes } => {
+                let Dnode::Object(node) = dnode else {
+                    return Err(Refusal::BadPointer);
+                };
+                if !are_whole(&node, writes) {
+                    return Err(Refusal::BadPointer);
+                }
+                self.replace_object(&node, store, alloc, writes, replaced)
+            }
         }
+    }
+
+    /// Plans an object of the type and size of another that has these data blocks alone. All blocks of the other are named
+    /// as replaced.
+    fn replace_object<D: Disk + Drop>(
+        self,
+        node: &ObjectNode,
+        store: &mut BlockStore<D>,
+        alloc: Global,
+        writes: &[BlockWrite],
+        replaced: &mut Vec<Block>,
+    ) -> Result<Dnode, Refusal>
+        requires node { FitsNode node.now }
+        requires good { AreGoodWrites writes.now }
+        requires whole { AreWhole node.now.data_sectors writes.now }
+        requires born { 0 < self.birth }
+        ensures steps { OnlyReadsAndPlans store.old store.new self.entry.missing.now }
+        ensures fits { IfOk result FitsDnode }
+        ensures changed { IfOk result (ReplacesObject self.entry store.old store.new node.now writes.now
+            replaced.old.items replaced.new.items) }
+        ensures no_room { IfErr result (λ refusal. refusal ≡ Refusal.NoSpace
+            → HasNoRoom store.old store.new self.entry.missing.now self.entry.copies) }
+        ensures known { IfErr result (LacksRoomForObject self.entry store.old store.new node.now) }
+    {
+        free_object(node, store, alloc, self.birth, self.missing, replaced)?;
+        let empty = ObjectNode {
+            object_type: node.object_type,
+            data_sectors: node.data_sectors,
+            highest: 0,
+            pointer: BlockPtr::Hole,
+        };
+        self.write_object(&empty, store, alloc, writes, replaced)
     }
 
     /// Plans the tree of an object in which data blocks are written.

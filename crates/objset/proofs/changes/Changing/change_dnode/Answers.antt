@@ -5,7 +5,7 @@ use Rattle.dnode.specs.declared.node.ObjectNode.{ObjectNode}
 use Rattle.dnode_tree.proofs.Refusing.{ok_both}
 use Rattle.dnode_tree.proofs.Standing.{empty_trees}
 use Rattle.objset.proofs.Kept.{object_there}
-use Rattle.objset.proofs.Trees.{is_created, is_put, is_freed}
+use Rattle.objset.proofs.Trees.{is_created, is_put, is_replaced, is_freed}
 use Rattle.objset.specs.Changes.{AreWhole, object_copies}
 use Rattle.block_store.proofs.Steps.{steps_none}
 use Rattle.objset.proofs.changes.Changing.change_dnode.Goals as goal
@@ -71,3 +71,27 @@ returns-then-not-are_whole-clause-steps g c = steps_none _ _
 
 pub returns-in_default-dnode-2-clause-steps : goal.returns-in_default-dnode-2-clause-steps
 returns-in_default-dnode-2-clause-steps g c = steps_none _ _
+
+pub returns-in_default-dnode-3-clause-steps : goal.returns-in_default-dnode-3-clause-steps
+returns-in_default-dnode-3-clause-steps g c = steps_none _ _
+
+pub returns-then-not-are_whole-2-clause-steps : goal.returns-then-not-are_whole-2-clause-steps
+returns-then-not-are_whole-2-clause-steps g c = steps_none _ _
+
+pub returns-else-not-are_whole-2-clause-changed : goal.returns-else-not-are_whole-2-clause-changed
+returns-else-not-are_whole-2-clause-changed g c =
+    IfOk-weaker c.replace_object.result _ _
+    (λ after is stored planned bound object blocks plans there le honest.
+    let has = object_there stored bound c.args.dnode c.args.dnode c.in-Object-dnode-2.node object blocks refl c.in-Object-dnode-2.is there in
+    is_replaced (object_copies c.args.self.copies) _ stored planned bound c.args.self.birth after c.args.change.now object blocks _ _ c.in-Object-dnode-2.node c.in-Replace.writes c.deref-in-Replace-2.result.now
+    c.in-Replace.is has c.deref-in-Replace-2.ensures.value
+    (subst (λ ws. AreWhole c.in-Object-dnode-2.node.data_sectors ws) (c.deref-in-Replace.ensures.value ∙ sym c.deref-in-Replace-2.ensures.value) (c.if-not-are_whole-2.ensures.0 refl)) (is stored planned bound has.there.array blocks plans has.tree le honest))
+    c.replace_object.ensures.changed
+
+pub returns-else-not-are_whole-2-clause-known : goal.returns-else-not-are_whole-2-clause-known
+returns-else-not-are_whole-2-clause-known g c =
+    IfErr-weaker c.replace_object.result _ _
+    (λ refusal is stored planned bound object blocks plans there le honest few.
+    let has = object_there stored bound c.args.dnode c.args.dnode c.in-Object-dnode-2.node object blocks refl c.in-Object-dnode-2.is there in
+    inl (is stored planned bound has.there.array blocks plans has.tree le honest few))
+    c.replace_object.ensures.known

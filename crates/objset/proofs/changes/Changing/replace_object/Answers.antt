@@ -1,0 +1,47 @@
+use Rattle.std.proofs.Common.{[], None, refl}
+use Rattle.std.proofs.lemmas.Result.{IfOk-weaker, IfErr-weaker}
+use Rattle.block_pointer.specs.declared.pointer.BlockPtr.TheVariants.{Hole}
+use Rattle.block_store.proofs.Steps.{steps_on}
+use Rattle.dnode.specs.declared.node.ObjectNode.{ObjectNode}
+use Rattle.dnode_tree.proofs.Refusing.{passed_on}
+use Rattle.dnode_tree.proofs.Standing.{empty_trees}
+use Rattle.dnode_tree.proofs.Steps.{true_sooner, true_later, few_later}
+use Rattle.dnode_tree.specs.Writes.{IsForRoom}
+use Rattle.objset.proofs.Room.{no_room_sooner}
+use Rattle.objset.proofs.Trees.{tree_replaced}
+use Rattle.objset.specs.Changes.{object_copies}
+use Rattle.std.proofs.Common.{inl}
+use Rattle.objset.proofs.changes.Changing.replace_object.Goals as goal
+
+pub returns-in_err-free_object-clause-known : goal.returns-in_err-free_object-clause-known
+returns-in_err-free_object-clause-known g c =
+    passed_on _ _ _ c.from_residual.ensures.1
+    (λ stored planned bound array blocks plans tree le honest few. inl (c.in_err-free_object.ensures.known stored planned bound array blocks plans tree le honest few))
+
+pub returns-clause-steps : goal.returns-clause-steps
+returns-clause-steps g c = steps_on _ _ _ _ c.in_ok-free_object.ensures.steps c.write_object.ensures.steps
+
+pub returns-clause-changed : goal.returns-clause-changed
+returns-clause-changed g c =
+    IfOk-weaker c.write_object.result _ _
+    (λ after is stored planned bound array blocks plans tree le honest.
+    let mid = c.in_ok-free_object.ensures.noted stored planned bound array blocks plans tree le (true_sooner _ _ _ _ c.in_ok-free_object.ensures.steps c.write_object.ensures.steps honest) in
+    let made = is stored planned bound (λ id. None) [] mid.0 (empty_trees stored bound _ refl) le (true_later _ _ _ _ c.in_ok-free_object.ensures.steps c.write_object.ensures.steps honest) in (
+      made.0,
+      made.1,
+      tree_replaced (object_copies c.args.self.copies) planned made.0 c.args.self.birth after _ blocks _ _ _ mid.1 made.2,
+    ))
+    c.write_object.ensures.changed
+
+pub returns-clause-no_room : goal.returns-clause-no_room
+returns-clause-no_room g c =
+    IfErr-weaker c.write_object.result _ _ (λ refusal is none. no_room_sooner _ _ _ _ _ c.in_ok-free_object.ensures.steps (is none)) c.write_object.ensures.no_room
+
+pub returns-clause-known : goal.returns-clause-known
+returns-clause-known g c =
+    IfErr-weaker c.write_object.result _ _
+    (λ refusal is stored planned bound array blocks plans tree le honest few.
+    let mid = c.in_ok-free_object.ensures.noted stored planned bound array blocks plans tree le (true_sooner _ _ _ _ c.in_ok-free_object.ensures.steps c.write_object.ensures.steps honest) in
+    is stored planned bound (λ id. None) [] mid.0 (empty_trees stored bound _ refl) le (true_later _ _ _ _ c.in_ok-free_object.ensures.steps c.write_object.ensures.steps honest)
+    (few_later _ _ _ _ c.in_ok-free_object.ensures.steps c.write_object.ensures.steps few))
+    c.write_object.ensures.known
