@@ -22,3 +22,4 @@ pub mod Standing
 pub mod Leaving
 pub mod SameBlocks
 pub mod Replacing
+pub mod Counts

@@ -7,3 +7,4 @@ pub mod Subtree
 pub mod Tree
 pub mod Writes
 pub mod Ways
+pub mod Within

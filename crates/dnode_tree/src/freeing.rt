@@ -82,7 +82,7 @@ fn set_of(alloc: Global, blocks: &[Block]) -> Result<HashSet<Block>, AllocError>
 }
 
 /// Adds a block to a set, and says whether it is new there.
-fn add(blocks: &mut HashSet<Block>, block: Block) -> Result<bool, AllocError>
+pub(crate) fn add(blocks: &mut HashSet<Block>, block: Block) -> Result<bool, AllocError>
     ensures new { IfOk result (λ is_new. MatchBool is_new (¬ Contains blocks.old.keys block) (Contains blocks.old.keys block)) }
     ensures kept { IfOk result (λ is_new. (other : Block) → Contains blocks.new.keys other ↔ ((other ≡ block) ⊎ Contains blocks.old.keys other)) }
 {

@@ -10,6 +10,7 @@ mod putting;
 mod reading;
 mod subtree;
 mod walking;
+mod within;
 mod writes;
 mod writing;
 
@@ -22,4 +23,5 @@ pub use laws::{
 pub use putting::put_many;
 pub use reading::get;
 pub use walking::walk;
+pub use within::walk_within;
 pub use writes::{BlockWrite, CopyCounts, Rewrite};

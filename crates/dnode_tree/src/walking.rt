@@ -94,7 +94,7 @@ fn collect_below<D: Disk + Drop>(
 }
 
 /// Whether the pointer is one that its parent may have.
-fn asks(block: &Block, asked: Asked) -> bool
+pub(crate) fn asks(block: &Block, asked: Asked) -> bool
     ensures { IsTrue result ↔ Asks asked block.now }
 {
     block.property == asked.property && block.birth <= asked.birth

@@ -1,0 +1,123 @@
+use Rattle.std.proofs.Common.{◌≡◌, ℕ, zero, ap, [], ◌∷◌, ◌++◌, List, inl, inr, IsTrue, append-nil, suc, ◌+◌, ◌-◌, refl, subst, sym, ◌∙◌, arith, cond, length}
+use Rattle.std.specs.Prelude.{not, ◌==◌}
+use Rattle.block_store.specs.Reading.{Asks}
+use Rattle.block_store.proofs.Steps.{reads_none, reads_on}
+use Rattle.dnode_tree.proofs.Refusing.{passed_on}
+use Rattle.dnode_tree.proofs.Exchanging.{count_by-append}
+use Rattle.dnode_tree.specs.Tree.{property_of}
+use Rattle.dnode_tree.specs.Ways.{AreReadAs}
+use Rattle.dnode_tree.specs.Within.{indirect_count}
+use Rattle.block_pointer.specs.declared.block.Block.{Block}
+use Rattle.block_pointer.specs.declared.pointer.BlockPtr.{BlockPtr}
+use Rattle.block_store.specs.declared.block.Asked.{Asked}
+use Rattle.block_store.specs.declared.refusal.Refusal.TheVariants.{BadPointer}
+use Rattle.block_store.specs.declared.space.VdevSpace.{VdevSpace}
+use Rattle.dnode_tree.proofs.WayLemmas.{refused_data, refused_indirect}
+use Rattle.dnode_tree.proofs.Walks.{HaveWalked, walked_hole, walked_data, none_walked, one_more_walked, all_walked, refused_here, refused_for_memory, refused_in_child}
+use Rattle.dnode_tree.proofs.Counts.{data_counted, indirect_counted}
+use Rattle.dnode_tree.proofs.within.+collect_within.Goals as goal
+
+read_there : (spaces : List VdevSpace) (asked other : Asked) (block : Block) (found items : List BlockPtr) → asked ≡ other → items ≡ found → AreReadAs spaces asked block found → AreReadAs spaces other block items
+read_there spaces asked other block found items e same read = subst (λ a. AreReadAs spaces a block items) e (subst (λ x. AreReadAs spaces asked block x) (sym same) read)
+
+pub loop-pointer-init : goal.loop-pointer-init
+loop-pointer-init g t c = (reads_none _ _, none_walked _ _ _ _ _ _, refl, omega arith)
+
+pub loop-pointer-preserved : goal.loop-pointer-preserved
+loop-pointer-preserved g t c =
+    let spaces = ap (λ store. store.spaces) c.loop-pointer.invariant.0.rest in
+    let items : List BlockPtr = c.pointers-pointer-items.result.now in
+    let (more, added, walked) = c.in_ok-collect_within.ensures.found in (
+      reads_on _ _ _ _ c.loop-pointer.invariant.0 c.in_ok-collect_within.ensures.reads,
+      one_more_walked c.read_indirect.new.store.spaces _ (property_of c.args.node.now) (c.args.part.level - 1) c.in-Block.block.birth items c.loop-pointer.pointer-index
+          c.push.new.blocks.items c.loop-pointer.found.items c.collect_within.new.found.items more _ _ spaces c.loop-pointer.invariant.1 c.loop-pointer-test.true refl added walked,
+      c.loop-pointer.invariant.2 ∙ c.in_ok-collect_within.ensures.count,
+      omega (arith, c.loop-pointer.invariant.3, c.in_ok-collect_within.ensures.fewer),
+    )
+
+pub returns-in_err-collect_within-clause-reads : goal.returns-in_err-collect_within-clause-reads
+returns-in_err-collect_within-clause-reads g t c =
+    reads_on _ _ _ _ c.in_ok-children.ensures.reads (reads_on _ _ _ _ c.loop-pointer.invariant.0 c.in_err-collect_within.ensures.reads)
+
+pub returns-clause-reads : goal.returns-clause-reads
+returns-clause-reads g t c = reads_on _ _ _ _ c.in_ok-children.ensures.reads c.loop-pointer.invariant.0
+
+pub returns-in_default-clause-found : goal.returns-in_default-clause-found
+returns-in_default-clause-found g t c =
+    ([], sym (append-nil c.args.found.now.items), walked_hole c.args.store.now.spaces (property_of c.args.node.now) c.args.part.level c.args.part.birth c.args.part.pointer c.in_default.is)
+
+pub returns-in_err-push-clause-refused : goal.returns-in_err-push-clause-refused
+returns-in_err-push-clause-refused g t c =
+    passed_on _ _ _ c.from_residual.ensures.1
+    (inl (refused_for_memory c.args.store.now c.args.store.now c.args.missing.now (property_of c.args.node.now) c.args.part.level c.args.part.birth c.args.part.pointer))
+
+pub returns-then-not-asks-clause-refused : goal.returns-then-not-asks-clause-refused
+returns-then-not-asks-clause-refused g t c =
+    inl
+    (refused_here c.args.store.now c.args.store.now c.args.missing.now (property_of c.args.node.now) c.args.part.level c.args.part.birth c.args.part.pointer BadPointer
+    (refused_data c.args.store.now c.args.store.now c.args.missing.now (property_of c.args.node.now) c.args.part.level c.args.part.birth c.args.part.pointer 0 c.in-Block.block
+    c.asked_at-asked.result BadPointer c.asked_at-asked.ensures c.in-Block.is
+    (inr (inl (refl, λ readable. let test : IsTrue c.asks.result = c.asks.ensures.1 readable.asks in absurd cc)))))
+
+pub returns-in_err-children-clause-refused : goal.returns-in_err-children-clause-refused
+returns-in_err-children-clause-refused g t c =
+    passed_on _ _ _ c.from_residual-in_err-children.ensures.1
+    (inl
+    (refused_here c.args.store.now c.read_indirect.new.store c.args.missing.now (property_of c.args.node.now) c.args.part.level c.args.part.birth c.args.part.pointer _
+    (refused_indirect c.args.store.now c.read_indirect.new.store c.args.missing.now (property_of c.args.node.now) c.args.part.level c.args.part.birth c.args.part.pointer 0
+    c.in-Block.block c.asked_at-asked.result _ (omega arith) c.asked_at-asked.ensures c.in-Block.is c.in_err-children.ensures.refused)))
+
+pub returns-in_err-collect_within-clause-refused : goal.returns-in_err-collect_within-clause-refused
+returns-in_err-collect_within-clause-refused g t c =
+    let e : c.args.part.level ≡ suc (c.args.part.level - 1) = omega arith in
+    let items : List BlockPtr = c.pointers-pointer-items.result.now in
+    let read = read_there c.args.store.now.spaces _ _ c.in-Block.block _ items c.asked_at-asked.ensures c.pointers-pointer-items.ensures.value c.in_ok-children.ensures.read in
+    passed_on _ _ _ c.from_residual-in_err-collect_within.ensures.1
+    (elim c.in_err-collect_within.ensures.refused [
+      | inl below ↦ inl
+          (refused_in_child c.args.store.now c.loop-pointer.store c.collect_within.new.store c.args.missing.now (property_of c.args.node.now) c.args.part.level (c.args.part.level - 1) c.args.part.birth c.args.part.pointer
+          c.in-Block.block items c.loop-pointer.pointer-index _ _ e c.in-Block.is read c.loop-pointer-test.true refl
+          (reads_on _ _ _ _ c.in_ok-children.ensures.reads c.loop-pointer.invariant.0) _ below)
+      | inr none ↦ inr none
+    ])
+
+pub returns-clause-found : goal.returns-clause-found
+returns-clause-found g t c =
+    let e : c.args.part.level ≡ suc (c.args.part.level - 1) = omega arith in
+    let items : List BlockPtr = c.pointers-pointer-items.result.now in
+    let read = read_there c.args.store.now.spaces _ _ c.in-Block.block _ items c.asked_at-asked.ensures c.pointers-pointer-items.ensures.value c.in_ok-children.ensures.read in
+    let spaces = ap (λ store. store.spaces) c.in_ok-children.ensures.reads.rest in
+    let walked = subst (λ s. HaveWalked s (property_of c.args.node.now) (c.args.part.level - 1) c.in-Block.block.birth items c.loop-pointer.pointer-index c.push.new.blocks.items c.loop-pointer.found.items)
+    spaces c.loop-pointer.invariant.1 in
+    let (blocks, are, added) = all_walked c.args.store.now.spaces (property_of c.args.node.now) c.args.part.level (c.args.part.level - 1) c.args.part.birth c.args.part.pointer c.in-Block.block items
+    c.loop-pointer.pointer-index c.args.found.now.items c.push.new.blocks.items c.loop-pointer.found.items e c.in-Block.is read walked c.loop-pointer-test.false c.loop-pointer.auto.pointer-index-end
+    c.in_ok-push.ensures.ok in
+    (blocks, added, are)
+
+pub returns-then-part-eq0-clause-found : goal.returns-then-part-eq0-clause-found
+returns-then-part-eq0-clause-found g t c =
+    let test : IsTrue c.asks.result = c.if-not-asks.false in (
+      c.in-Block.block ∷ [],
+      c.in_ok-push.ensures.ok,
+      walked_data c.args.store.now.spaces (property_of c.args.node.now) c.args.part.level c.args.part.birth c.args.part.pointer c.in-Block.block c.if-part-eq0.true c.in-Block.is
+          (subst (λ asked. Asks asked c.in-Block.block) c.asked_at-asked.ensures (c.asks.ensures.0 test)),
+    )
+
+pub returns-then-part-eq0-clause-count : goal.returns-then-part-eq0-clause-count
+returns-then-part-eq0-clause-count g t c =
+    let test : IsTrue c.asks.result = c.if-not-asks.false in
+    let asks : Asks c.asked_at-asked.result c.in-Block.block = c.asks.ensures.0 test in
+    omega (
+      arith,
+      data_counted c.args.node.now c.args.part.level c.args.part.birth c.in-Block.block c.asked_at-asked.result c.args.found.now.items c.push.new.blocks.items
+          c.if-part-eq0.true c.asked_at-asked.ensures asks.property c.in_ok-push.ensures.ok,
+    )
+
+pub returns-clause-count : goal.returns-clause-count
+returns-clause-count g t c =
+    omega (
+      arith,
+      c.loop-pointer.invariant.2,
+      indirect_counted c.args.node.now c.args.part.level c.args.part.birth c.in-Block.block c.asked_at-asked.result c.args.found.now.items c.push.new.blocks.items
+          (omega arith) c.asked_at-asked.ensures c.in_ok-children.ensures.asks.property c.in_ok-push.ensures.ok,
+    )

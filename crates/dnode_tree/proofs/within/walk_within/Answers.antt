@@ -1,0 +1,51 @@
+use Rattle.std.proofs.Common.{◌≡◌, ◌-◌, ◌+◌, ◌++◌, inl, inr, refl, subst, sym, ap, ◌∙◌, arith, []}
+use Rattle.std.proofs.Common.{IsTrue}
+use Rattle.dnode_tree.proofs.Refusing.{passed_on}
+use Rattle.dnode_tree.proofs.Walks.{refused_for_memory}
+use Rattle.dnode_tree.specs.Rewriting.{AreDistinct}
+use Rattle.dnode_tree.specs.Tree.{property_of}
+use Rattle.dnode.specs.Levels.{levels_of}
+use Rattle.dnode_tree.specs.Ways.{reached, IsWalked, IsWalkRefused, AreWalked}
+use Rattle.dnode_tree.specs.Within.{IsWithinRefused, indirect_count}
+use Rattle.dnode_tree.proofs.within.walk_within.Goals as goal
+
+pub returns-in_err-collect_within-clause-refused : goal.returns-in_err-collect_within-clause-refused
+returns-in_err-collect_within-clause-refused g c =
+    passed_on _ _ _ c.from_residual.ensures.1
+    (elim c.in_err-collect_within.ensures.refused [
+      | inl why ↦ inl
+          (subst (λ n. IsWalkRefused c.args.store.now c.collect_within.new.store c.args.missing.now (property_of c.args.node.now) (reached (n - 1) c.args.node.now.pointer c.args.birth) c.in_err-collect_within.field-0.0)
+          c.levels.ensures why)
+      | inr none ↦ inr (none.0, inl none.1)
+    ])
+
+pub returns-clause-found : goal.returns-clause-found
+returns-clause-found g c =
+    let (blocks, added, are) = c.in_ok-collect_within.ensures.found in
+    subst (λ found. IsWalked c.args.store.now.spaces (property_of c.args.node.now) (levels_of c.args.node.now.highest - 1) c.args.birth c.args.node.now.pointer found)
+    (sym (added ∙ ap (λ earlier. earlier ++ blocks) c.new-found.ensures.items))
+    (subst (λ n. IsWalked c.args.store.now.spaces (property_of c.args.node.now) (n - 1) c.args.birth c.args.node.now.pointer blocks) c.levels.ensures are)
+
+pub returns-clause-count : goal.returns-clause-count
+returns-clause-count g c =
+    omega (arith, c.in_ok-collect_within.ensures.count, ap indirect_count c.new-found.ensures.items)
+
+pub returns-in_err-is_once-clause-refused : goal.returns-in_err-is_once-clause-refused
+returns-in_err-is_once-clause-refused g c =
+    passed_on _ _ _ c.from_residual-in_err-is_once.ensures.1
+    (inl (refused_for_memory c.args.store.now c.collect_within.new.store c.args.missing.now (property_of c.args.node.now) (levels_of c.args.node.now.highest - 1) c.args.birth c.args.node.now.pointer))
+
+pub returns-then-not-is_once-clause-refused : goal.returns-then-not-is_once-clause-refused
+returns-then-not-is_once-clause-refused g c =
+    let (blocks, added, are) = c.in_ok-collect_within.ensures.found in
+    inr (
+      refl,
+      inr (
+        blocks,
+        subst (λ n. IsWalked c.args.store.now.spaces (property_of c.args.node.now) (n - 1) c.args.birth c.args.node.now.pointer blocks) c.levels.ensures are,
+        λ distinct.
+            let same : blocks ≡ c.deref.result.now = sym (c.deref.ensures.value ∙ added ∙ ap (λ earlier. earlier ++ blocks) c.new-found.ensures.items) in
+            let told : IsTrue c.in_ok-is_once.is_once = c.in_ok-is_once.ensures.1 (subst (λ bs. AreDistinct bs) same distinct) in
+            absurd cc,
+      ),
+    )

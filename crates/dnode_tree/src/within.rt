@@ -1,0 +1,117 @@
+//! A walk over a tree that need not be one: so many blocks are read at most.
+ghost use Rattle.std.specs.Prelude.{◌≡◌, ◌≢◌, ◌⊎◌, ◌↔◌, ◌+◌, ◌++◌, ◌^◌, ◌<◌, ◌≤◌, List, OnOk, IfOk, IfErr, IsTrue};
+ghost use Rattle.block_pointer.specs.declared.block.Block.{Block};
+ghost use Rattle.block_store.specs.Steps.{OnlyReadsBlocks};
+ghost use Rattle.dnode_tree.specs.Rewriting.{AreDistinct};
+ghost use Rattle.dnode_tree.specs.Tree.{property_of};
+ghost use Rattle.dnode_tree.specs.Ways.{reached, IsWalked, IsWalkRefused, AreWalked};
+ghost use Rattle.dnode_tree.specs.Within.{indirect_count, IsWithinRefused};
+
+use crate::descent::{asked_at, read_indirect};
+use crate::freeing::add;
+use crate::subtree::Subtree;
+use crate::walking::{asks, push};
+use block_pointer::{Block, BlockPtr};
+use block_store::{BlockStore, Refusal};
+use dnode::ObjectNode;
+use model_disk::Disk;
+use std::alloc::{AllocError, Global};
+use std::collections::HashSet;
+
+/// All blocks of an object, as `walk` finds them, of an object that may be forged: at most as many blocks are read as are
+/// left to be read, and each that is read is counted off. `BadPointer` also where none is left, and where a block is
+/// there twice.
+pub fn walk_within<D: Disk + Drop>(
+    node: &ObjectNode,
+    store: &mut BlockStore<D>,
+    alloc: Global,
+    birth: u64,
+    left: &mut u64,
+    missing: &[usize],
+) -> Result<Vec<Block>, Refusal>
+    requires { node.now.highest < 128 ^ 5 }
+    ensures reads { OnlyReadsBlocks store.old store.new missing.now }
+    ensures fewer { left.new ≤ left.old }
+    ensures found { IfOk result (λ found. AreWalked store.old.spaces node.now birth found.items) }
+    ensures once { IfOk result (λ found. AreDistinct found.items) }
+
+    // The blocks that were read are those above the data.
+    ensures count { IfOk result (λ found. left.old ≡ left.new + indirect_count found.items) }
+    ensures refused { IfErr result (IsWithinRefused store.old store.new missing.now node.now birth left.new) }
+    ensures cause { IfErr result (λ refusal. refusal ≢ Refusal.NoSpace) }
+{
+    let root = Subtree {
+        level: node.levels() - 1,
+        pointer: node.pointer,
+        birth,
+    };
+    let mut found = Vec::new(alloc);
+    collect_within(node, store, alloc, root, missing, &mut found, left)?;
+    let is_once = are_distinct(alloc, &found)?;
+    if !is_once {
+        return Err(Refusal::BadPointer);
+    }
+    Ok(found)
+}
+
+/// Adds all blocks of a part of a tree, of which so many may be read.
+fn collect_within<D: Disk + Drop>(
+    node: &ObjectNode,
+    store: &mut BlockStore<D>,
+    alloc: Global,
+    part: Subtree,
+    missing: &[usize],
+    found: &mut Vec<Block>,
+    left: &mut u64,
+) -> Result<(), Refusal>
+    ensures reads { OnlyReadsBlocks store.old store.new missing.now }
+    ensures fewer { left.new ≤ left.old }
+    ensures found { OnOk result ((blocks : List Block) × (found.new.items ≡ found.old.items ++ blocks)
+        × IsWalked store.old.spaces (property_of node.now) part.level part.birth part.pointer blocks) }
+    ensures count { OnOk result
+        (left.old + indirect_count found.old.items ≡ left.new + indirect_count found.new.items) }
+    ensures refused { IfErr result (λ refusal. IsWalkRefused store.old store.new missing.now
+        (property_of node.now) (reached part.level part.pointer part.birth) refusal
+        ⊎ ((refusal ≡ Refusal.BadPointer) × (left.new ≡ 0))) }
+    ensures cause { IfErr result (λ refusal. refusal ≢ Refusal.NoSpace) }
+{
+    let BlockPtr::Block(block) = part.pointer else {
+        return Ok(());
+    };
+    push(found, block)?;
+    let asked = asked_at(node, part.level, part.birth);
+    if part.level == 0 {
+        if !asks(&block, asked) {
+            return Err(Refusal::BadPointer);
+        }
+        return Ok(());
+    }
+    if *left == 0 {
+        return Err(Refusal::BadPointer);
+    }
+    *left -= 1;
+    let children = read_indirect(store, alloc, &block, asked, missing)?;
+    for pointer in children.pointers() {
+        let child = Subtree {
+            level: part.level - 1,
+            pointer: *pointer,
+            birth: block.birth,
+        };
+        collect_within(node, store, alloc, child, missing, found, left)?;
+    }
+    Ok(())
+}
+
+/// Whether no block is there twice.
+fn are_distinct(alloc: Global, blocks: &[Block]) -> Result<bool, AllocError>
+    ensures { IfOk result (λ test. IsTrue test ↔ AreDistinct blocks.now) }
+{
+    let mut seen = HashSet::new(alloc);
+    for block in blocks {
+        let is_new = add(&mut seen, *block)?;
+        if !is_new {
+            return Ok(false);
+        }
+    }
+    Ok(true)
+}
