@@ -3,3 +3,4 @@ pub mod Changing
 pub mod Found
 pub mod Laws
 pub mod Objects
+pub mod Shapes

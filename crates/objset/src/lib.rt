@@ -3,13 +3,17 @@
 
 mod changes;
 mod changing;
+mod finding;
 mod laws;
 mod reading;
+mod shape;
 
 pub use block_store::Refusal;
 pub use changes::{Change, ObjectChange, SetCopies};
 pub use changing::change;
 pub use dnode_slots::SetRewrite;
 pub use dnode_tree::BlockWrite;
+pub use finding::find;
 pub use laws::objects_stand_on_their_blocks;
 pub use reading::{get, walk};
+pub use shape::ObjectShape;

@@ -1,0 +1,26 @@
+-- Objects by their shapes.
+use Rattle.std.specs.Prelude.{ℕ, ◌≡◌, ◌<◌, Option, Some, None, List}
+use Rattle.block_store.specs.declared.space.VdevSpace.{VdevSpace}
+use Rattle.dnode.specs.declared.dnode.Dnode.{Dnode}
+use Rattle.dnode.specs.declared.dnode.Dnode.TheVariants.{Free, Object as Node}
+use Rattle.dnode.specs.declared.object_set.ObjectSet.{ObjectSet}
+use Rattle.dnode_slots.specs.Found.{IsNodeFound}
+use Rattle.objset.specs.declared.shape.ObjectShape.{ObjectShape}
+use Rattle.objset.specs.Objects.{Object}
+
+-- the shape of the object that a dnode is in use for
+abbrev pub shape_of_dnode : Dnode → Option ObjectShape
+shape_of_dnode Free = None
+shape_of_dnode (Node node) = Some (record { object_type = node.object_type; data_sectors = node.data_sectors; highest = node.highest })
+
+-- An object has this type and this block size, and reads as nothing behind this block id. No object has no shape.
+abbrev pub HasShape : Option Object → Option ObjectShape → Type 0
+HasShape None None = Unit {0}
+HasShape None (Some shape) = ⊥
+HasShape (Some object) None = ⊥
+HasShape (Some object) (Some shape) =
+    (object.object_type ≡ shape.object_type) × (object.data_sectors ≡ shape.data_sectors) × ((id : ℕ) → shape.highest < id → object.array id ≡ None)
+
+-- the shape is that of the dnode that was read
+abbrev pub IsShapeFound : List VdevSpace → ObjectSet → ℕ → ℕ → Option ObjectShape → Type 0
+IsShapeFound spaces set birth number found = (dnode : Dnode) × IsNodeFound spaces set birth number dnode × (found ≡ shape_of_dnode dnode)
