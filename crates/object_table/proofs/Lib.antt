@@ -1,1 +1,3 @@
 pub mod Seams
+pub mod Tables
+pub mod Written

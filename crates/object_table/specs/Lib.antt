@@ -1,2 +1,4 @@
+pub mod Made
 pub mod Rows
 pub mod Shape
+pub mod Tables

@@ -2,10 +2,16 @@
 //! a fixed width.
 #![tactic(auto)]
 
+mod kind;
+mod making;
+mod reading;
 mod refusal;
 mod rows;
 mod shape;
 
+pub use kind::TableKind;
+pub use making::creation;
+pub use reading::read;
 pub use refusal::Refusal;
 pub use rows::{BLOCK_LEN, decode, encode};
 pub use shape::RowShape;

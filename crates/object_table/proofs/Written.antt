@@ -1,0 +1,89 @@
+-- Blocks that are written one after the other.
+use Rattle.std.proofs.Common.{◌≡◌, ◌≢◌, ℕ, zero, suc, ◌+◌, ◌-◌, ◌*◌, ◌/◌, ◌%◌, ◌^◌, ◌<◌, ◌≤◌, ◌==◌, List, [], ◌∷◌, ◌++◌, length, take, drop, get_or, All, Option, Some, None, if◌then◌else◌, refl, sym, ap, subst, ◌∙◌, eq-eqb, arith}
+use Rattle.std.specs.Prelude.{replicate}
+use Rattle.std.proofs.Math.Seq.{take-add, take-length}
+use Rattle.std.proofs.lemmas.Bool.{ne_eqb}
+use Rattle.std.proofs.lemmas.List.{length-append, length-drop, length-replicate, length-take-le}
+use Rattle.std.proofs.lemmas.List.Elements.{All-nil, All-head, All-tail, All-push, All-weaker}
+use Rattle.std.proofs.lemmas.List.Quantifiers.{all_pairs_push}
+use Rattle.dnode_tree.proofs.NewArrays.{written_others}
+use Rattle.dnode_tree.specs.declared.writes.BlockWrite.{BlockWrite}
+use Rattle.dnode_tree.specs.Writes.{AreInOrder, written}
+use Rattle.object_table.specs.declared.shape.RowShape.{RowShape}
+use Rattle.object_table.specs.Made.{AreBlocksOf}
+use Rattle.object_table.specs.Rows.{SpellsRows}
+use Rattle.object_table.specs.Shape.{FitsShape}
+use Rattle.object_table.specs.Tables.{bytes_at, bytes_to, IsFront}
+use Rattle.object_table.proofs.Tables.{one_more}
+use Rattle.words.specs.Words.{word_bytes}
+use Rattle.words.proofs.WordLemmas.{length-word_bytes}
+
+written_more : (writes : List BlockWrite) (last : BlockWrite) (array : ℕ → Option (List ℕ)) (id : ℕ) → id ≢ last.id → written (writes ++ last ∷ []) array id ≡ written writes array id
+written_more [] last array id other = ap (λ is. if is then Some last.bytes.items else array id) (ne_eqb last.id id (λ e. other (sym e)))
+written_more (write ∷ writes) last array id other = ap (λ found. if write.id == id then Some write.bytes.items else found) (written_more writes last array id other)
+
+written_last : (writes : List BlockWrite) (last : BlockWrite) (array : ℕ → Option (List ℕ)) → All (λ write. write.id < last.id) writes → written (writes ++ last ∷ []) array last.id ≡ Some last.bytes.items
+written_last [] last array below = ap (λ is. if is then Some last.bytes.items else array last.id) (eq-eqb last.id last.id refl)
+written_last (write ∷ writes) last array below =
+    let first : write.id < last.id = All-head (λ (w : BlockWrite). w.id < last.id) write writes below in
+    ap (λ is. if is then Some write.bytes.items else written (writes ++ last ∷ []) array last.id) (ne_eqb write.id last.id (λ e. absurd (omega (arith, e, first))))
+    ∙ written_last writes last array (All-tail (λ (w : BlockWrite). w.id < last.id) write writes below)
+
+bytes_to_same : (array other : ℕ → Option (List ℕ)) (count : ℕ) → ((id : ℕ) → id < count → other id ≡ array id) → bytes_to other count ≡ bytes_to array count
+bytes_to_same array other zero same = refl
+bytes_to_same array other (suc count) same =
+    ap (λ (front : List ℕ). front ++ bytes_at (other count)) (bytes_to_same array other count (λ id lt. same id (omega (arith, lt))))
+    ∙ ap (λ found. bytes_to array count ++ bytes_at found) (same count (omega arith))
+
+front_same : (array other : ℕ → Option (List ℕ)) (count : ℕ) (bytes : List ℕ) → ((id : ℕ) → id < count → other id ≡ array id) → IsFront array count bytes → IsFront other count bytes
+front_same array other count bytes same front = (λ id lt none. front.0 id lt (sym (same id lt) ∙ none), front.1 ∙ sym (bytes_to_same array other count same))
+
+pub no_blocks : (bytes : List ℕ) → AreBlocksOf bytes 0 []
+no_blocks bytes = record {
+  order = λ i j d lt below. absurd (omega (arith, below));
+  ids = All-nil (λ (write : BlockWrite). write.id < 0);
+  whole = All-nil (λ (write : BlockWrite). length write.bytes.items ≡ 8 * 512);
+  front = (λ id lt. absurd (omega (arith, lt)), refl);
+}
+
+pub next_block : (bytes : List ℕ) (count : ℕ) (writes : List BlockWrite) (last : BlockWrite) → AreBlocksOf bytes count writes → last.id ≡ count → last.bytes.items ≡ take 4096 (drop (count * 4096) bytes)
+    → count * 4096 + 4096 ≤ length bytes → AreBlocksOf bytes (count + 1) (writes ++ last ∷ [])
+next_block bytes count writes last so_far id_is is room =
+    let none : ℕ → Option (List ℕ) = λ id. None in
+    let array : ℕ → Option (List ℕ) = written (writes ++ last ∷ []) none in
+    let below : All (λ (write : BlockWrite). write.id < last.id) writes = subst (λ n. All (λ (write : BlockWrite). write.id < n) writes) (sym id_is) so_far.ids in
+    let at : array count ≡ Some last.bytes.items = subst (λ n. array n ≡ Some last.bytes.items) id_is (written_last writes last none below) in
+    let before : IsFront array count (take (count * 4096) bytes) =
+    front_same (written writes none) array count (take (count * 4096) bytes) (λ id lt. written_more writes last none id (λ e. absurd (omega (arith, lt, e, id_is)))) so_far.front in
+    let end : count * 4096 + 4096 ≡ (count + 1) * 4096 = omega arith in
+    let joined : take (count * 4096) bytes ++ last.bytes.items ≡ take ((count + 1) * 4096) bytes =
+    ap (λ (x : List ℕ). take (count * 4096) bytes ++ x) is ∙ sym (take-add (count * 4096) 4096 bytes) ∙ ap (λ n. take n bytes) end in
+    let len : length last.bytes.items ≡ 4096 = ap length is ∙ length-take-le 4096 (drop (count * 4096) bytes) (omega (arith, length-drop (count * 4096) bytes, room)) in
+    record {
+      order = all_pairs_push (λ (write later : BlockWrite). write.id < later.id) writes last so_far.order (λ k d lt. below k d lt);
+      ids = All-push (λ (write : BlockWrite). write.id < count + 1) writes last
+          (All-weaker (λ (write : BlockWrite). write.id < count) (λ (write : BlockWrite). write.id < count + 1) (λ write lt. omega (arith, lt)) writes so_far.ids) (omega (arith, id_is));
+      whole = All-push (λ (write : BlockWrite). length write.bytes.items ≡ 8 * 512) writes last so_far.whole len;
+      front = subst (λ (front : List ℕ). IsFront array (count + 1) front) joined (one_more array count (take (count * 4096) bytes) last.bytes.items before (sym at));
+    }
+
+-- nothing is written behind the blocks
+pub none_behind : (bytes : List ℕ) (count : ℕ) (writes : List BlockWrite) (id : ℕ) → AreBlocksOf bytes count writes → count ≤ id → written writes (λ id. None) id ≡ None
+none_behind bytes count writes id are le =
+    written_others writes (λ id. None) id
+    (All-weaker (λ (write : BlockWrite). write.id < count) (λ (write : BlockWrite). write.id ≢ id) (λ write lt e. absurd (omega (arith, lt, e, le))) writes are.ids)
+
+-- the blocks of whole blocks are all of them
+pub all_blocks : (bytes : List ℕ) (count : ℕ) (writes : List BlockWrite) → AreBlocksOf bytes count writes → count * 4096 ≡ length bytes → IsFront (written writes (λ id. None)) count bytes
+all_blocks bytes count writes are len =
+    subst (λ (front : List ℕ). IsFront (written writes (λ id. None)) count front) (ap (λ n. take n bytes) len ∙ take-length bytes) are.front
+
+-- how long a table is
+pub table_len : (shape : RowShape) (bytes rows : List ℕ) → FitsShape shape → SpellsRows shape bytes rows → length bytes < shape.first_len + length rows + 4096
+table_len shape bytes rows fits spells =
+    let none : ℕ = 0 in
+    let word = word_bytes (spells.count ∷ []) in
+    let blank : List ℕ = replicate (shape.first_len - 8) none in
+    let zeros : List ℕ = replicate spells.zeros none in
+    omega (arith, ap length spells.spelled, length-append word (blank ++ (rows ++ zeros)), length-append blank (rows ++ zeros), length-append rows zeros, length-word_bytes (spells.count ∷ []),
+    length-replicate (shape.first_len - 8) none, length-replicate spells.zeros none, fits.word, spells.few)

@@ -1,0 +1,74 @@
+use Rattle.std.proofs.Common.{◌≡◌, ℕ, List, inl, inr, ⊎_elim, sym, ap, subst, ◌∙◌, arith}
+use Rattle.std.proofs.lemmas.Result.{IfOk-weaker, IfErr-weaker}
+use Rattle.block_store.proofs.Steps.{reads_on}
+use Rattle.dnode_tree.proofs.FurtherReads.{true_before, true_after, few_before, few_after}
+use Rattle.dnode_tree.proofs.Refusing.{passed_on}
+use Rattle.object_table.specs.Rows.{SpellsRows}
+use Rattle.object_table.specs.Tables.{bytes_to}
+use Rattle.object_table.proofs.Tables.{table_of, ok_for_all}
+use Rattle.object_table.proofs.reading.read.Goals as goal
+
+pub returns-in_err-count-clause-known : goal.returns-in_err-count-clause-known
+returns-in_err-count-clause-known g c =
+    passed_on _ _ _ c.from_residual.ensures.1 (λ stored objects own blocks held are honest few. c.in_err-count.ensures.known stored objects own blocks held are honest few)
+
+pub returns-in_err-bytes-clause-reads : goal.returns-in_err-bytes-clause-reads
+returns-in_err-bytes-clause-reads g c = reads_on _ _ _ _ c.in_ok-count.ensures.reads c.in_err-bytes.ensures.reads
+
+pub returns-in_err-bytes-clause-known : goal.returns-in_err-bytes-clause-known
+returns-in_err-bytes-clause-known g c =
+    let first = c.in_ok-count.ensures.reads in
+    let rest = c.in_err-bytes.ensures.reads in
+    passed_on _ _ _ c.from_residual-in_err-bytes.ensures.1
+    (λ stored objects own blocks held are honest few.
+    let object = c.in_ok-count.ensures.value stored objects own blocks held are (true_before _ _ _ _ first rest honest) in
+    ⊎_elim (λ memory. inl memory)
+    (λ bad. inr (bad.0, λ rows has. (table_of _ _ _ object.0 object.1 rows object.2 has).0 bad.1.0 (omega (arith, bad.1.1, object.3)) bad.1.2))
+    (c.in_err-bytes.ensures.known stored objects own blocks (first.keeps stored held) are (true_after _ _ _ _ first rest honest) (few_after _ _ _ _ first rest few) object.1 object.2.there_is))
+
+pub returns-clause-reads : goal.returns-clause-reads
+returns-clause-reads g c = reads_on _ _ _ _ c.in_ok-count.ensures.reads c.in_ok-bytes.ensures.reads
+
+pub returns-clause-value : goal.returns-clause-value
+returns-clause-value g c =
+    let first = c.in_ok-count.ensures.reads in
+    let rest = c.in_ok-bytes.ensures.reads in
+    IfOk-weaker c.rows_of.result _ _
+    (λ rows spells stored objects own blocks held are honest.
+    let object = c.in_ok-count.ensures.value stored objects own blocks held are (true_before _ _ _ _ first rest honest) in
+    let front = c.in_ok-bytes.ensures.value stored objects own blocks (first.keeps stored held) are (true_after _ _ _ _ first rest honest) object.1 object.2.there_is in
+    record {
+      shape = object.0;
+      there = object.1;
+      is = object.2;
+      no_hole = λ id le. front.0 id (omega (arith, le, object.3));
+      spelled = subst (λ (bytes : List ℕ). SpellsRows c.args.kind.rows bytes rows.items) (c.deref.ensures.value ∙ front.1 ∙ ap (bytes_to object.1.array) (sym object.3)) spells;
+    })
+    c.rows_of.ensures.found
+
+pub returns-clause-known : goal.returns-clause-known
+returns-clause-known g c =
+    let first = c.in_ok-count.ensures.reads in
+    let rest = c.in_ok-bytes.ensures.reads in
+    IfErr-weaker c.rows_of.result _ _
+    (λ refusal why stored objects own blocks held are honest few.
+    let object = c.in_ok-count.ensures.value stored objects own blocks held are (true_before _ _ _ _ first rest honest) in
+    let front = c.in_ok-bytes.ensures.value stored objects own blocks (first.keeps stored held) are (true_after _ _ _ _ first rest honest) object.1 object.2.there_is in
+    ⊎_elim (λ memory. inl memory)
+    (λ bad. inr (
+      bad.0,
+      λ rows has. bad.1 rows (subst (λ (bytes : List ℕ). SpellsRows c.args.kind.rows bytes rows) (sym (c.deref.ensures.value ∙ front.1 ∙ ap (bytes_to object.1.array) (sym object.3))) (table_of _ _ _ object.0 object.1 rows object.2 has).1),
+    ))
+    why)
+    c.rows_of.ensures.refused
+
+pub returns-clause-one : goal.returns-clause-one
+returns-clause-one g c =
+    let first = c.in_ok-count.ensures.reads in
+    let rest = c.in_ok-bytes.ensures.reads in
+    IfOk-weaker c.rows_of.result _ _
+    (λ rows one stored objects own blocks held are honest other has.
+    let object = c.in_ok-count.ensures.value stored objects own blocks held are (true_before _ _ _ _ first rest honest) in
+    let front = c.in_ok-bytes.ensures.value stored objects own blocks (first.keeps stored held) are (true_after _ _ _ _ first rest honest) object.1 object.2.there_is in
+    one other (subst (λ (bytes : List ℕ). SpellsRows c.args.kind.rows bytes other) (sym (c.deref.ensures.value ∙ front.1 ∙ ap (bytes_to object.1.array) (sym object.3))) (table_of _ _ _ object.0 object.1 other object.2 has).1))
+    (ok_for_all c.rows_of.result (λ (rows : List ℕ). SpellsRows c.args.kind.rows c.deref.result.now rows) (λ found rows. found.items ≡ rows) c.rows_of.ensures.only)
