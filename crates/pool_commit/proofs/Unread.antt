@@ -235,7 +235,7 @@ lost_too_many v missing old new vdev (held, many) =
 
 -- too many disks are lost, or an answer was not true
 pub lost_cases : (v : View) (missing : List ℕ) (old new : State) (block : Block) (refusal : Refusal) → IsLost v missing old new block refusal
-    → ((refusal ≡ DiskFault) × TooManyAreLost v missing old new) ⊎ ((refusal ≡ BadDigest) × ¬ AreTrue old new)
+    → ((refusal ≡ DiskFault) × TooManyAreLost v missing old new) ⊎ ((refusal ≡ BadDigest) × ¬ PoolAnswersTruly old new)
 lost_cases v missing old new block DiskFault (vdev, last, many) = inl (refl, lost_too_many v missing old new vdev many)
 lost_cases v missing old new block BadDigest untrue = inr (refl, untrue)
 lost_cases v missing old new block refusal is = absurd is

@@ -26,7 +26,7 @@ use Rattle.pool_commit.specs.declared.kept.Planned.{Planned as PlannedGroup}
 use Rattle.pool_commit.specs.Backs.{Backs, IsPlanOf}
 use Rattle.pool_commit.specs.Calls.{disk_call, plan_call, fault_call, unread_call, told_since, made_between, faults_between, unread_between, GrewTo, which_call, called_between}
 use Rattle.pool_commit.specs.Progress.{AreMade, Progresses}
-use Rattle.pool_commit.specs.Reading.{IsLostUnder, IsLostForPlan, LosesUnder, LosesForPlan}
+use Rattle.pool_commit.specs.Reading.{IsLostUnder, IsLostForPlan}
 use Rattle.pool_commit.specs.Room.{LacksRoom}
 use Rattle.pool_commit.specs.State.{State}
 use Rattle.pool_commit.proofs.Made.{told_by_none}
@@ -38,6 +38,7 @@ use Rattle.std.specs.List.{AllByRecursion}
 use Rattle.pool_commit.specs.declared.refusal.Refusal.{Refusal}
 use Rattle.pool_commit.specs.declared.refusal.Refusal.TheVariants.{NoMemory, DiskFault, NoSpace, BadPointer, BadDigest}
 use Rattle.pool_core.specs.Causes.{cause_of}
+use Rattle.pool_core.specs.Reading.{LosesUnder, LosesForPlan}
 use Rattle.pool_core.specs.Represents.{Represents}
 use Rattle.pool_core.specs.State.{CoreState, disks_of}
 use Rattle.pool_core.specs.Steps.{AwayIsUntouched, AreFlushed, PoolAnswersTruly, fault_list, LosesBlock, FindsNoRoom, IsGiven, Goes}
@@ -105,24 +106,24 @@ pub record GivesLost (v : View) (old new : CoreState) (trusted : Bool) (cause : 
   pub loses : (vdev : Vdev) → lost ≡ Some vdev → Loses vdev
 
 untrusted : {P : Type 0} (trusted : Bool) → (trusted ≡ true → P) → ¬ P → trusted ≡ false
-untrusted true honest no = absurd (no (honest refl))
-untrusted false honest no = refl
+untrusted true honest lies = absurd (lies (honest refl))
+untrusted false honest lies = refl
 
-none_lost : {P : Vdev → Type 0} (vdev : Vdev) → None ≡ Some vdev → P vdev
-none_lost vdev e = absurd (cc)
+none_lost : (P : Vdev → Type 0) (vdev : Vdev) → None ≡ Some vdev → P vdev
+none_lost P vdev e = absurd (cc)
 
-this_lost : {P : Vdev → Type 0} (lost vdev : Vdev) → P lost → Some lost ≡ Some vdev → P vdev
-this_lost {P} lost vdev p e = let same : lost ≡ vdev = cc in subst P same p
+this_lost : (P : Vdev → Type 0) (lost vdev : Vdev) → P lost → Some lost ≡ Some vdev → P vdev
+this_lost P lost vdev p e = let same : lost ≡ vdev = cc in subst P same p
 
 pub under_given : (v : View) (old new : CoreState) (trusted : Bool) (group : ℕ) (name : List ℕ) (offset len : ℕ) (refusal : Refusal)
     → IsLostUnder v old.commit new.commit group name offset len [] refusal → (trusted ≡ true → PoolAnswersTruly old new)
     → GivesLost v old new trusted (cause_of refusal) (LosesUnder v old.commit new.commit group name offset len)
 under_given v old new trusted group name offset len DiskFault is honest = record {
   lost = Some is.lost.0;
-  unreadable = (is.lost.0, refl, record { there = is.lost.2; more = is.lost.3 });
-  loses = λ vdev e. this_lost is.lost.0 vdev (record { unread = is.unread; last = is.lost.1 }) e;
+  unreadable = (is.lost.0, refl, record { there = is.lost.2.0; more = is.lost.2.1 });
+  loses = λ vdev e. this_lost (LosesUnder v old.commit new.commit group name offset len) is.lost.0 vdev (record { unread = is.unread; last = is.lost.1 }) e;
 }
-under_given v old new trusted group name offset len BadDigest is honest = record { lost = None; unreadable = untrusted trusted honest is.lost; loses = none_lost }
+under_given v old new trusted group name offset len BadDigest is honest = record { lost = None; unreadable = untrusted trusted honest is.lost; loses = none_lost _ }
 under_given v old new trusted group name offset len refusal is honest = absurd is.lost
 
 pub plan_given : (v : View) (old new : CoreState) (trusted : Bool) (items : Entry) (refusal : Refusal)
@@ -130,10 +131,10 @@ pub plan_given : (v : View) (old new : CoreState) (trusted : Bool) (items : Entr
     → GivesLost v old new trusted (cause_of refusal) (LosesForPlan v old.commit new.commit items)
 plan_given v old new trusted items DiskFault is honest = record {
   lost = Some is.lost.0;
-  unreadable = (is.lost.0, refl, record { there = is.lost.2; more = is.lost.3 });
-  loses = λ vdev e. this_lost is.lost.0 vdev (record { unread = is.unread; last = is.lost.1 }) e;
+  unreadable = (is.lost.0, refl, record { there = is.lost.2.0; more = is.lost.2.1 });
+  loses = λ vdev e. this_lost (LosesForPlan v old.commit new.commit items) is.lost.0 vdev (record { unread = is.unread; last = is.lost.1 }) e;
 }
-plan_given v old new trusted items BadDigest is honest = record { lost = None; unreadable = untrusted trusted honest is.lost; loses = none_lost }
+plan_given v old new trusted items BadDigest is honest = record { lost = None; unreadable = untrusted trusted honest is.lost; loses = none_lost _ }
 plan_given v old new trusted items refusal is honest = absurd is.lost
 
 -- reads and plans that touch no disk that is out
@@ -188,7 +189,7 @@ device_given made fault = record { made = made; fault = fault; unread = []; lost
 device_is_given : (old new : CoreState) (v : View) (made : List DueCall) (fault : Option DueCall) → AreMade (disks_of old) (disks_of new) v made
     → faults_between (disks_of old) (disks_of new) ≡ map disk_call (fault_list fault) → IsGiven old v Device new (device_given made fault)
 device_is_given old new v made fault are faults =
-    record { made = are.seen; fault = sym faults; unread = sym are.unread; lost = none_lost; full = λ e. absurd (true≢false (sym e)) }
+    record { made = are.seen; fault = sym faults; unread = sym are.unread; lost = none_lost _; full = λ e. absurd (true≢false (sym e)) }
 
 late : (m n : ℕ) → m ≤ n → nat_le m n ≡ true
 late m n h = grind (arith, nat_tests)
@@ -348,7 +349,7 @@ plans s intake commit v trusted timestamp group calls none f is plan backs reads
       trust = λ e. e;
       after = taken v (Due calls);
       link = record {
-        is_given = reads_are_given s v (Plan timestamp) new None trusted false reads none_lost (λ e. absurd (true≢false (sym e)));
+        is_given = reads_are_given s v (Plan timestamp) new None trusted false reads (none_lost _) (λ e. absurd (true≢false (sym e)));
         is_step = inr (inr (record { none = none; answered = (is, calls, record { in_use = plan.in_use; numbered = plan.numbered; flushes = plan.flushes }, refl); calls = reads_quiet s new None trusted false }));
         represents = record { follows = follows_on intake (taken v Unplanned) (Due calls) v.out f refl refl; backs = backs };
         flushed = tt;
@@ -366,7 +367,7 @@ pub plan_refused : (s : CoreState) (intake : Intake) (commit : State) (v : View)
 plan_refused s intake commit v trusted timestamp refusal named is none f backs reads spared honest full why =
     subst (λ (c : Cause). Goes s v trusted (Plan timestamp) (Refused c) new) (sym is) (⊎_elim
     (λ memory. subst (λ (x : Refusal). Goes s v trusted (Plan timestamp) (Refused (cause_of x)) new) (sym memory)
-    (goes None false none_lost (λ e. absurd (true≢false (sym e))) causes.NoMemory
+    (goes None false (none_lost _) (λ e. absurd (true≢false (sym e))) causes.NoMemory
     (inr (inl (record { may = none; answer = refl; leaves = refl; calls = reads_quiet s new None trusted false })))))
     (λ other. ⊎_elim
     (λ lost. let gives = plan_given (taken v Unplanned) s new trusted (v.ledger (suc v.committed)) refusal lost honest in
@@ -374,7 +375,7 @@ plan_refused s intake commit v trusted timestamp refusal named is none f backs r
     (λ e. absurd (true≢false (sym e))) (cause_of refusal)
     (inr (inr (record { none = none; answered = (inl (same_causes refusal gives.lost gives.unreadable), refl); calls = reads_quiet s new gives.lost trusted false }))))
     (λ space. subst (λ (x : Refusal). Goes s v trusted (Plan timestamp) (Refused (cause_of x)) new) (sym space)
-    (goes None true none_lost (λ e. full space) causes.NoSpace (inr (inr (record { none = none; answered = (inr (refl, refl), refl); calls = reads_quiet s new None trusted true }))))) other) why)
+    (goes None true (none_lost _) (λ e. full space) causes.NoSpace (inr (inr (record { none = none; answered = (inr (refl, refl), refl); calls = reads_quiet s new None trusted true }))))) other) why)
   where
     new : CoreState
     new = record { intake = intake; commit = commit }
@@ -418,7 +419,7 @@ idles s commit v trusted r free none backs same =
           made = sym (ap (λ (d : Disks). made_between (disks_of s) d) same ∙ told_by_none plan_call (disks_of s));
           fault = sym (ap (λ (d : Disks). faults_between (disks_of s) d) same ∙ told_by_none fault_call (disks_of s));
           unread = sym (ap (λ (d : Disks). unread_between (disks_of s) d) same ∙ told_by_none unread_call (disks_of s));
-          lost = none_lost;
+          lost = none_lost _;
           full = λ e. absurd (true≢false (sym e));
         };
         is_step = inl (record { cause = causes.NotNow; first = device_early v free none; answer = refl; unchanged = refl; quiet = nothing_quiet; calls = refl });

@@ -70,14 +70,14 @@ read_goes s commit v lost trusted step reply r reads is_front loses is_step = re
   };
 }
 
-none_lost : {P : Vdev → Type 0} (vdev : Vdev) → None ≡ Some vdev → P vdev
-none_lost vdev e = absurd (cc)
+none_lost : (P : Vdev → Type 0) (vdev : Vdev) → None ≡ Some vdev → P vdev
+none_lost P vdev e = absurd (cc)
 
 pub reads_under : (s : CoreState) (commit : State) (v : View) (trusted : Bool) (group : ℕ) (name : List ℕ) (offset len : ℕ) (bytes : List ℕ) → Represents s v → OnlyReadsPool s.commit commit []
     → refusal_of v (ReadUnder group name offset len) ≡ None → (trusted ≡ true → AreBytesOf (v.pools group) name offset len bytes)
     → Goes s v trusted (ReadUnder group name offset len) (Bytes bytes) (record s { commit = commit })
 reads_under s commit v trusted group name offset len bytes r reads none are =
-    read_goes s commit v None trusted (ReadUnder group name offset len) (Bytes bytes) r reads tt none_lost
+    read_goes s commit v None trusted (ReadUnder group name offset len) (Bytes bytes) r reads tt (none_lost _)
     (inr (inr (record { none = none; answered = (are, refl); calls = reads_quiet s (record s { commit = commit }) None trusted false })))
 
 pub refuses_under : (s : CoreState) (commit : State) (v : View) (trusted : Bool) (group : ℕ) (name : List ℕ) (offset len : ℕ) (cause : Cause) → Represents s v → OnlyReadsPool s.commit commit []
@@ -87,9 +87,9 @@ refuses_under s commit v trusted group name offset len cause r reads honest why 
     let new : CoreState = record s { commit = commit } in
     let step : Step = ReadUnder group name offset len in
     let quiet = reads_quiet s new None trusted false in elim why [
-      | inl memory ↦ read_goes s commit v None trusted step (Refused cause) r reads tt none_lost (inr (inl (record { may = refl; answer = ap Refused memory; leaves = refl; calls = quiet })))
+      | inl memory ↦ read_goes s commit v None trusted step (Refused cause) r reads tt (none_lost _) (inr (inl (record { may = refl; answer = ap Refused memory; leaves = refl; calls = quiet })))
       | inr other ↦ elim other [
-        | inl first ↦ read_goes s commit v None trusted step (Refused cause) r reads tt none_lost
+        | inl first ↦ read_goes s commit v None trusted step (Refused cause) r reads tt (none_lost _)
             (inl (record { cause = cause; first = first; answer = refl; unchanged = refl; quiet = quiet; calls = quiet }))
         | inr lost ↦ let gives = under_given v s new trusted group name offset len lost.1.refusal lost.1.lost honest in
             subst (λ (c : Cause). Goes s v trusted step (Refused c) new) (sym lost.1.answered)
@@ -112,7 +112,7 @@ pub reads_now : (s : CoreState) (commit : State) (v : View) (trusted : Bool) (na
     → refusal_of v (Read name offset len) ≡ None → volume_at name (now_of v) ≡ Some volume → length bytes ≡ len → (trusted ≡ true → HasRange bytes volume.bytes offset)
     → Goes s v trusted (Read name offset len) (Bytes bytes) (record s { commit = commit })
 reads_now s commit v trusted name offset len bytes volume r reads none at count range =
-    read_goes s commit v None trusted (Read name offset len) (Bytes bytes) r reads tt none_lost (inr (inr (record {
+    read_goes s commit v None trusted (Read name offset len) (Bytes bytes) r reads tt (none_lost _) (inr (inr (record {
       none = none;
       answered = ((λ e. (volume, at, range e ∙ ap (λ n. slice_range volume.bytes offset (offset + n)) count)), refl);
       calls = reads_quiet s (record s { commit = commit }) None trusted false;
@@ -124,7 +124,7 @@ pub refuses_now : (s : CoreState) (commit : State) (v : View) (trusted : Bool) (
 refuses_now s commit v trusted name offset len refusal named is r reads none honest why =
     let new : CoreState = record s { commit = commit } in
     let step : Step = Read name offset len in elim why [
-      | inl memory ↦ read_goes s commit v None trusted step (Refused named) r reads tt none_lost
+      | inl memory ↦ read_goes s commit v None trusted step (Refused named) r reads tt (none_lost _)
           (inr (inl (record { may = refl; answer = ap Refused (is ∙ ap cause_of memory); leaves = refl; calls = reads_quiet s new None trusted false })))
       | inr lost ↦ let gives = under_given v s new trusted v.committed name offset len refusal lost honest in
           subst (λ (c : Cause). Goes s v trusted step (Refused c) new) (sym is)

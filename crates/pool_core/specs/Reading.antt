@@ -1,9 +1,11 @@
--- Reads under a kept group that are refused.
-use Rattle.std.specs.Prelude.{ℕ, ◌≡◌, List}
+-- Reads that are refused, and blocks that could not be read.
+use Rattle.std.specs.Prelude.{ℕ, ◌≡◌, List, []}
 use Rattle.pool_model.specs.declared.refusal.Refusal.{Refusal as Cause}
-use Rattle.pool_model.specs.View.{View}
+use Rattle.pool_model.specs.Pools.{Entry}
+use Rattle.pool_model.specs.View.{View, Vdev}
 use Rattle.pool_commit.specs.declared.refusal.Refusal.{Refusal}
-use Rattle.pool_commit.specs.Reading.{IsLostUnder}
+use Rattle.pool_commit.specs.declared.refusal.Refusal.TheVariants.{DiskFault}
+use Rattle.pool_commit.specs.Reading.{IsUnreadUnder, IsUnreadForPlan, IsLastVdev, IsLostUnder}
 use Rattle.pool_commit.specs.State.{State}
 use Rattle.pool_core.specs.Causes.{cause_of}
 
@@ -12,3 +14,13 @@ pub record IsLostAnswer (v : View) (old new : State) (group : ℕ) (name : List 
   pub refusal : Refusal
   pub answered : cause ≡ cause_of refusal
   pub lost : IsLostUnder v old new group name offset len missing refusal
+
+-- a block in which the range lies could not be read, and this is the vdev of its last copy
+pub record LosesUnder (v : View) (old new : State) (group : ℕ) (name : List ℕ) (offset len : ℕ) (vdev : Vdev) : Type 0 where
+  pub unread : IsUnreadUnder old new group name offset len [] DiskFault
+  pub last : IsLastVdev v unread.unread.unread.unread.block vdev
+
+-- so it is of a block that a group's items change
+pub record LosesForPlan (v : View) (old new : State) (items : Entry) (vdev : Vdev) : Type 0 where
+  pub unread : IsUnreadForPlan old new items DiskFault
+  pub last : IsLastVdev v unread.unread.unread.unread.unread.block vdev

@@ -9,8 +9,8 @@ use Rattle.pool_model.specs.declared.step.Reply.TheVariants.{Planned, Committed}
 use Rattle.pool_model.specs.View.{View, Vdev, Given, DueCall, is_away, disks_in_use, is_suspended}
 use Rattle.pool_model.specs.Machine.{StepOf}
 use Rattle.pool_commit.specs.Calls.{disk_call, made_between, faults_between, unread_between, called_between, IsFlushed}
-use Rattle.pool_commit.specs.Reading.{LosesUnder, LosesForPlan}
 use Rattle.pool_commit.specs.Room.{LacksRoom}
+use Rattle.pool_core.specs.Reading.{LosesUnder, LosesForPlan}
 use Rattle.pool_core.specs.State.{CoreState, disks_of}
 use Rattle.pool_core.specs.Represents.{Represents}
 

@@ -3,6 +3,7 @@ use Rattle.pool_model.specs.declared.step.Step.TheVariants as steps
 use Rattle.pool_model.specs.View.{is_syncing}
 use Rattle.pool_commit.specs.declared.device.Progress.{Progress}
 use Rattle.pool_commit.specs.Progress.{Progresses}
+use Rattle.pool_commit.specs.State.{State}
 use Rattle.pool_commit.specs.StateOf.{state_of as commit_state}
 use Rattle.pool_core.specs.StateOf.{state_of}
 use Rattle.pool_core.specs.Steps.{Goes}
@@ -25,7 +26,7 @@ returns-in-Some-Done-clause-goes g c v trusted r free honest plans =
     let p = c.in-Some-Done.ensures.some v r.backs (group_low c.args.self.now.intake v r.follows) in
     let done = subst (λ (x : Progress). Progresses (commit_state c.args.self.now.commit) x (commit_state c.device.new.self) v) c.in-Some-Done.field-0-is p.1 in
     let both = c.commit_group.ensures.committed v r.follows (ap is_syncing done.0.planned) in
-    subst (λ commit. Goes (state_of c.args.self.now) v trusted steps.Device c.commit_group.result (record { intake = c.commit_group.new.self.intake; commit = commit_state commit })) (sym c.commit_group.ensures.commit)
+    subst (λ (commit : State). Goes (state_of c.args.self.now) v trusted steps.Device c.commit_group.result (record { intake = c.commit_group.new.self.intake; commit = commit })) (sym c.commit_group.ensures.commit)
     (commits (state_of c.args.self.now) c.commit_group.new.self.intake (commit_state c.device.new.self) v trusted c.commit_group.result r
     free done c.in-Some-Done.ensures.grew both.0 both.1)
 
