@@ -158,10 +158,10 @@ fn byte_at(
     }
 }
 
-fn walked(set: &ObjectSet, store: &mut Store, alloc: Global, number: u64) -> usize
+fn walked(set: &ObjectSet, store: &mut Store, alloc: Global, number: u64, birth: u64) -> usize
     requires { FitsObjectSet set.now }
 {
-    match walk(set, store, alloc, number, 1, &[]) {
+    match walk(set, store, alloc, number, birth, &[]) {
         Ok(blocks) => blocks.len(),
         Err(Refusal::BadPointer) => BAD,
         Err(_) => OTHER,
@@ -178,7 +178,10 @@ fn made(store: &mut Store, alloc: Global) -> Result<(usize, [usize; 4], [usize; 
         byte_at(&set, store, alloc, (40, 0), 2, 1),
         byte_at(&set, store, alloc, (4, 0), 1, 1),
     ];
-    let blocks = [walked(&set, store, alloc, 3), walked(&set, store, alloc, 4)];
+    let blocks = [
+        walked(&set, store, alloc, 3, 1),
+        walked(&set, store, alloc, 4, 1),
+    ];
     Ok((replaced, bytes, blocks))
 }
 
@@ -242,6 +245,64 @@ fn the_set_before_stays(rt: HostRuntime) -> Result<(), Fail> {
     // Three blocks of 3, the one of 40, and those of the dnodes: two of 32 dnodes each, and the root above them.
     assert_eq!(rt; replaced, 7);
     assert_eq!(rt; bytes, [7, BAD, 5, 6]);
+    Ok(())
+}
+
+/// The object 3 is written anew by one block, and a block of the object 40 is written.
+fn replace_and_write(
+    set: &ObjectSet,
+    store: &mut Store,
+    alloc: Global,
+) -> Result<SetRewrite, Refusal>
+    requires { FitsObjectSet set.now }
+    ensures { IfOk result (λ done. FitsObjectSet done.set) }
+{
+    let first = ObjectChange {
+        number: 3,
+        change: Change::Replace {
+            writes: block_of(alloc, 2, 9, 1)?,
+        },
+    };
+    let case = Case {
+        number: 40,
+        is_new: false,
+        id: 0,
+        byte: 8,
+        sectors: 2,
+    };
+    let second = change_of(alloc, case)?;
+    change_both(set, store, alloc, first, second, 2)
+}
+
+/// Of an object that is written anew beside another: how many blocks gave way, bytes after and before, and how many blocks
+/// the object has.
+fn replaced(store: &mut Store, alloc: Global) -> Result<(usize, [usize; 4], usize), Refusal> {
+    let old = two_objects(store, alloc)?.set;
+    let SetRewrite { set, replaced } = replace_and_write(&old, store, alloc)?;
+    let replaced = replaced.len();
+    let bytes = [
+        byte_at(&set, store, alloc, (3, 2), 1, 2),
+        byte_at(&set, store, alloc, (3, 200), 1, 2),
+        byte_at(&set, store, alloc, (40, 0), 2, 2),
+        byte_at(&old, store, alloc, (3, 200), 1, 1),
+    ];
+    let blocks = walked(&set, store, alloc, 3, 2);
+    Ok((replaced, bytes, blocks))
+}
+
+fn replaced_in_memory(alloc: Global) -> Result<(usize, [usize; 4], usize), Fail> {
+    let mut store = new_store(alloc)?;
+    Ok(replaced(&mut store, alloc)?)
+}
+
+#[test]
+fn an_object_becomes_shorter(rt: HostRuntime) -> Result<(), Fail> {
+    let (replaced, bytes, blocks) = replaced_in_memory(rt.alloc())?;
+    // Three blocks of 3, the one of 40, and those of the dnodes: two of 32 dnodes each, and the root above them.
+    assert_eq!(rt; replaced, 7);
+    assert_eq!(rt; bytes, [9, HOLE, 8, 5]);
+    // Its root and the block.
+    assert_eq!(rt; blocks, 2);
     Ok(())
 }
 

@@ -7,7 +7,9 @@ use crate::stores::{Store, new_store, store_plan};
 use block_pointer::{Block, BlockPtr};
 use block_store::CopyCount;
 use dnode::ObjectNode;
-use dnode_tree::{BlockWrite, CopyCounts, Refusal, Rewrite, free_blocks, get, put_many, walk};
+use dnode_tree::{
+    BlockWrite, CopyCounts, Refusal, Rewrite, free_blocks, get, put_many, walk, walk_within,
+};
 use std::alloc::{AllocError, Global};
 use std::test::Fail;
 
@@ -321,6 +323,42 @@ fn an_object_grows_and_reads_as_it_was_written(rt: HostRuntime) -> Result<(), Fa
     assert_eq!(rt; bytes, [1, 239, HOLE, HOLE]);
     // A root, and below it for each of the two blocks two indirect blocks and the block itself.
     assert_eq!(rt; walked, 7);
+    Ok(())
+}
+
+/// How many blocks a walk finds that may read so many, if it is not refused, and how many it may still read.
+fn within(node: &ObjectNode, store: &mut Store, alloc: Global, reads: u64) -> (Option<usize>, u64)
+    requires { node.now.highest < 128 ^ 5 }
+{
+    let mut left = reads;
+    let found = match walk_within(node, store, alloc, 1, &mut left, &[]) {
+        Ok(blocks) => Some(blocks.len()),
+        Err(_) => None,
+    };
+    (found, left)
+}
+
+/// Walks over an object with five indirect blocks and two of data, that may read more, as many, and fewer.
+fn walks_within(store: &mut Store, alloc: Global) -> Result<[(Option<usize>, u64); 3], Refusal> {
+    let node = put(&ONE_PLACE, store, alloc, (0, 20_000, 2), 1)?.node;
+    Ok([
+        within(&node, store, alloc, 9),
+        within(&node, store, alloc, 5),
+        within(&node, store, alloc, 4),
+    ])
+}
+
+fn walks_within_in_memory(alloc: Global) -> Result<[(Option<usize>, u64); 3], Fail> {
+    let mut store = new_store(alloc)?;
+    Ok(walks_within(&mut store, alloc)?)
+}
+
+#[test]
+fn a_walk_reads_as_many_blocks_as_it_may(rt: HostRuntime) -> Result<(), Fail> {
+    let [more, enough, fewer] = walks_within_in_memory(rt.alloc())?;
+    assert_eq!(rt; more, (Some(7), 4));
+    assert_eq!(rt; enough, (Some(7), 0));
+    assert_eq!(rt; fewer, (None, 0));
     Ok(())
 }
 
