@@ -1,4 +1,4 @@
 pub mod Naming
-pub mod Reading
+pub mod InOrder
 pub mod Records
 pub mod Rows

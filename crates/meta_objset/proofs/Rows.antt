@@ -13,7 +13,7 @@ use Rattle.meta_objset.specs.declared.directory.DirectoryRow.{DirectoryRow}
 use Rattle.meta_objset.specs.Directory.{FitsRow, IsDirectory, SpellsRow, row_bytes, rows_bytes}
 use Rattle.meta_objset.specs.Names.{IsBefore}
 use Rattle.meta_objset.proofs.Naming.{padded_len}
-use Rattle.meta_objset.proofs.Reading.{AreRead, first_left}
+use Rattle.meta_objset.proofs.InOrder.{AreRead, first_left}
 
 pub name_len : (row : DirectoryRow) → FitsRow row → length row.name ≡ 56
 name_len row fits = padded_len row.name fits.name.0 fits.name.1

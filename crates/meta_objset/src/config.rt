@@ -8,7 +8,7 @@ use object_table::{Refusal, RowShape};
 use std::alloc::Global;
 use vdev_label::Config;
 
-const SHAPE: RowShape = RowShape {
+pub(crate) const SHAPE: RowShape = RowShape {
     first_len: 8,
     row_len: 1,
 };
@@ -25,7 +25,7 @@ pub fn encode_config(alloc: Global, config: &Config) -> Result<Vec<u8>, Refusal>
 }
 
 /// The configuration that the rows encode.
-fn config_in(alloc: Global, rows: &[u8]) -> Result<Config, Refusal>
+pub(crate) fn config_in(alloc: Global, rows: &[u8]) -> Result<Config, Refusal>
     ensures found { IfOk result (λ config. SpellsConfig rows.now (config_view config)) }
     ensures only { (vdevs : List PlainVdev) → SpellsConfig rows.now vdevs
         → IfOk result (λ config. config_view config ≡ vdevs) }

@@ -23,7 +23,7 @@ pub struct DirectoryRow {
 /// How many bytes a row has.
 const ROW_LEN: usize = 64;
 
-const SHAPE: RowShape = RowShape {
+pub(crate) const SHAPE: RowShape = RowShape {
     first_len: ROW_LEN,
     row_len: ROW_LEN,
 };
@@ -117,7 +117,7 @@ impl Directory {
     }
 
     /// The directory whose rows the bytes of a table's rows spell.
-    fn from_rows(alloc: Global, bytes: &[u8]) -> Result<Directory, Refusal>
+    pub(crate) fn from_rows(alloc: Global, bytes: &[u8]) -> Result<Directory, Refusal>
         ensures found { IfOk result (λ rows. IsDirectory rows × (bytes.now ≡ rows_bytes rows)) }
         ensures only { (rows : List DirectoryRow) → IsDirectory rows → bytes.now ≡ rows_bytes rows
             → IfOk result (λ found. found ≡ rows) }

@@ -4,10 +4,12 @@
 mod config;
 mod directory;
 mod names;
+mod reading;
 mod record;
 
 pub use config::{decode_config, encode_config};
 pub use directory::{Directory, DirectoryRow};
 pub use names::is_name;
 pub use object_table::Refusal;
+pub use reading::{read_config, read_directory};
 pub use record::{DatasetKind, DatasetRecord};

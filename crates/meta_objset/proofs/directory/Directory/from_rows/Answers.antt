@@ -3,7 +3,7 @@ use Rattle.std.proofs.lemmas.Bool.Decides.{nat_tests}
 use Rattle.std.proofs.lemmas.List.{append-nil}
 use Rattle.meta_objset.specs.declared.directory.DirectoryRow.{DirectoryRow}
 use Rattle.meta_objset.specs.Directory.{FitsRow, row_bytes}
-use Rattle.meta_objset.proofs.Reading.{reading_goes_on, reading_stops}
+use Rattle.meta_objset.proofs.InOrder.{reading_goes_on, reading_stops}
 use Rattle.meta_objset.proofs.Rows.{Before, IsUnderway, next_is_behind, pushed_order, none_left}
 use Rattle.meta_objset.proofs.directory.Directory.from_rows.Goals as goal
 

@@ -1,0 +1,30 @@
+use Rattle.std.proofs.Common.{◌≡◌, ℕ, List, inl, inr, ⊎_elim, sym, subst, ◌∙◌}
+use Rattle.std.proofs.lemmas.Result.{IfOk-weaker, IfErr-weaker}
+use Rattle.dnode_tree.proofs.Refusing.{passed_on}
+use Rattle.object_table.specs.Tables.{HasTable}
+use Rattle.objset.specs.Shapes.{shape_of_dnode}
+use Rattle.meta_objset.specs.Reading.{directory_kind}
+use Rattle.meta_objset.proofs.reading.read_directory.Goals as goal
+
+pub returns-in_err-rows-clause-known : goal.returns-in_err-rows-clause-known
+returns-in_err-rows-clause-known g c =
+    passed_on _ _ _ c.from_residual.ensures.1
+    (λ stored objects own blocks held are honest few.
+    ⊎_elim (λ memory. inl memory) (λ bad. inr (bad.0, λ rows has. bad.1 _ has.1)) (c.in_err-rows.ensures.known stored objects own blocks held are honest few))
+
+pub returns-clause-value : goal.returns-clause-value
+returns-clause-value g c =
+    IfOk-weaker c.directory_of.result _ _
+    (λ directory is stored objects own blocks held are honest.
+    let rows = c.in_ok-rows.ensures.value stored objects own blocks held are honest in
+    (is.0, subst (λ (bytes : List ℕ). HasTable directory_kind (shape_of_dnode (are.nodes 1)) (objects 1) bytes) (sym c.deref.ensures.value ∙ is.1) rows))
+    c.directory_of.ensures.found
+
+pub returns-clause-known : goal.returns-clause-known
+returns-clause-known g c =
+    IfErr-weaker c.directory_of.result _ _
+    (λ refusal why stored objects own blocks held are honest few.
+    ⊎_elim (λ memory. inl memory)
+    (λ bad. inr (bad.0, λ rows has. bad.1 rows has.0 (c.deref.ensures.value ∙ c.in_ok-rows.ensures.one stored objects own blocks held are honest _ has.1)))
+    why)
+    c.directory_of.ensures.refused

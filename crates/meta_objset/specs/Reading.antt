@@ -1,0 +1,26 @@
+-- The pool's tables in the meta object set.
+use Rattle.std.specs.Prelude.{ℕ, List, Option}
+use Rattle.objset.specs.declared.shape.ObjectShape.{ObjectShape}
+use Rattle.objset.specs.Objects.{Object}
+use Rattle.object_table.specs.declared.kind.TableKind.{TableKind}
+use Rattle.object_table.specs.Tables.{HasTable}
+use Rattle.vdev_label.specs.Config.{FitsConfig, config_bytes}
+use Rattle.vdev_label.specs.Plain.{PlainVdev}
+use Rattle.meta_objset.specs.declared.directory.DirectoryRow.{DirectoryRow}
+use Rattle.meta_objset.specs.Config.{config_shape}
+use Rattle.meta_objset.specs.Directory.{IsDirectory, rows_bytes, directory_shape}
+
+-- the directory has type 200, and the configuration 203
+abbrev pub directory_kind : TableKind
+directory_kind = record { object_type = 200; rows = directory_shape }
+
+abbrev pub config_kind : TableKind
+config_kind = record { object_type = 203; rows = config_shape }
+
+-- the object has the table of this directory
+abbrev pub HasDirectory : Option ObjectShape → Option Object → List DirectoryRow → Type 0
+HasDirectory found object rows = IsDirectory rows × HasTable directory_kind found object (rows_bytes rows)
+
+-- or of this configuration
+abbrev pub HasConfig : Option ObjectShape → Option Object → List PlainVdev → Type 0
+HasConfig found object vdevs = FitsConfig vdevs × HasTable config_kind found object (config_bytes vdevs)

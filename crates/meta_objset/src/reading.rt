@@ -1,0 +1,138 @@
+//! The pool's tables are read.
+ghost use Rattle.std.specs.Prelude.{◌≡◌, ◌≢◌, ◌⊎◌, ℕ, List, Option, IfOk, IfErr};
+ghost use Rattle.block_pointer.specs.declared.block.Block.{Block};
+ghost use Rattle.block_store.specs.Blocks.{Contents};
+ghost use Rattle.block_store.specs.Steps.{OnlyReadsBlocks, AnswersAreTrue, LossIsTolerable};
+ghost use Rattle.block_store.specs.Store.{Holds};
+ghost use Rattle.dnode.specs.ObjectSet.{FitsObjectSet};
+ghost use Rattle.objset.specs.Objects.{Object, AreObjects};
+ghost use Rattle.objset.specs.Shapes.{shape_of_dnode};
+ghost use Rattle.meta_objset.specs.declared.directory.DirectoryRow.{DirectoryRow};
+ghost use Rattle.meta_objset.specs.Directory.{IsDirectory, rows_bytes};
+ghost use Rattle.meta_objset.specs.Reading.{HasDirectory, HasConfig};
+ghost use Rattle.vdev_label.specs.Config.{SpellsConfig};
+ghost use Rattle.vdev_label.specs.Plain.{PlainVdev, config_view};
+
+use crate::config::{SHAPE as CONFIG_SHAPE, config_in};
+use crate::directory::{Directory, SHAPE as DIRECTORY_SHAPE};
+use block_store::{BlockStore, Refusal};
+use dnode::ObjectSet;
+use model_disk::Disk;
+use object_table::TableKind;
+use std::alloc::Global;
+use vdev_label::Config;
+
+/// The number of the directory's object.
+const DIRECTORY: u64 = 1;
+
+const DIRECTORY_KIND: TableKind = TableKind {
+    object_type: 200,
+    rows: DIRECTORY_SHAPE,
+};
+
+/// The directory of a meta object set. `BadPointer` where object 1 is no directory. The set's blocks were born in the
+/// transaction group `birth` or before. The disks that are named are taken as missing.
+pub fn read_directory<D: Disk + Drop>(
+    set: &ObjectSet,
+    store: &mut BlockStore<D>,
+    alloc: Global,
+    birth: u64,
+    missing: &[usize],
+) -> Result<Directory, Refusal>
+    requires { FitsObjectSet set.now }
+    ensures reads { OnlyReadsBlocks store.old store.new missing.now }
+    ensures value { IfOk result (λ directory. (stored : Contents) (objects : ℕ → Option Object) (own : List Block)
+        (blocks : ℕ → List Block) → Holds store.old stored
+        → (are : AreObjects stored birth set.now objects own blocks) → AnswersAreTrue store.old store.new
+        → HasDirectory (shape_of_dnode (are.nodes 1)) (objects 1) directory) }
+    ensures cause { IfErr result (λ refusal. refusal ≢ Refusal.NoSpace) }
+    ensures known { IfErr result (λ refusal. (stored : Contents) (objects : ℕ → Option Object) (own : List Block)
+        (blocks : ℕ → List Block) → Holds store.old stored
+        → (are : AreObjects stored birth set.now objects own blocks) → AnswersAreTrue store.old store.new
+        → LossIsTolerable store.old store.new missing.now
+        → (refusal ≡ Refusal.NoMemory) ⊎ ((refusal ≡ Refusal.BadPointer)
+        × ((rows : List DirectoryRow) → ¬ HasDirectory (shape_of_dnode (are.nodes 1)) (objects 1) rows))) }
+{
+    let rows = object_table::read(
+        set,
+        store,
+        alloc,
+        DIRECTORY_KIND,
+        DIRECTORY,
+        birth,
+        missing,
+    )?;
+    directory_of(alloc, &rows)
+}
+
+/// The directory whose rows these are.
+fn directory_of(alloc: Global, rows: &[u8]) -> Result<Directory, Refusal>
+    ensures found { IfOk result (λ found. IsDirectory found × (rows.now ≡ rows_bytes found)) }
+    ensures cause { IfErr result (λ refusal. refusal ≢ Refusal.NoSpace) }
+    ensures refused { IfErr result (λ refusal. (refusal ≡ Refusal.NoMemory) ⊎ ((refusal ≡ Refusal.BadPointer)
+        × ((found : List DirectoryRow) → IsDirectory found → rows.now ≢ rows_bytes found))) }
+{
+    match Directory::from_rows(alloc, rows) {
+        Ok(directory) => Ok(directory),
+        Err(object_table::Refusal::BadPointer) => Err(Refusal::BadPointer),
+        Err(object_table::Refusal::NoMemory) => Err(Refusal::NoMemory),
+    }
+}
+
+/// The number of the configuration's object.
+const CONFIG: u64 = 2;
+
+const CONFIG_KIND: TableKind = TableKind {
+    object_type: 203,
+    rows: CONFIG_SHAPE,
+};
+
+/// The configuration in a meta object set. What its values are is not judged here. `BadPointer` where object 2 is no
+/// configuration. The set's blocks were born in the transaction group `birth` or before. The disks that are named are taken as
+/// missing.
+pub fn read_config<D: Disk + Drop>(
+    set: &ObjectSet,
+    store: &mut BlockStore<D>,
+    alloc: Global,
+    birth: u64,
+    missing: &[usize],
+) -> Result<Config, Refusal>
+    requires { FitsObjectSet set.now }
+    ensures reads { OnlyReadsBlocks store.old store.new missing.now }
+    ensures value { IfOk result (λ config. (stored : Contents) (objects : ℕ → Option Object) (own : List Block)
+        (blocks : ℕ → List Block) → Holds store.old stored
+        → (are : AreObjects stored birth set.now objects own blocks) → AnswersAreTrue store.old store.new
+        → HasConfig (shape_of_dnode (are.nodes 2)) (objects 2) (config_view config)) }
+    ensures cause { IfErr result (λ refusal. refusal ≢ Refusal.NoSpace) }
+    ensures known { IfErr result (λ refusal. (stored : Contents) (objects : ℕ → Option Object) (own : List Block)
+        (blocks : ℕ → List Block) → Holds store.old stored
+        → (are : AreObjects stored birth set.now objects own blocks) → AnswersAreTrue store.old store.new
+        → LossIsTolerable store.old store.new missing.now
+        → (refusal ≡ Refusal.NoMemory) ⊎ ((refusal ≡ Refusal.BadPointer)
+        × ((vdevs : List PlainVdev) → ¬ HasConfig (shape_of_dnode (are.nodes 2)) (objects 2) vdevs))) }
+{
+    let rows = object_table::read(
+        set,
+        store,
+        alloc,
+        CONFIG_KIND,
+        CONFIG,
+        birth,
+        missing,
+    )?;
+    config_of(alloc, &rows)
+}
+
+/// The configuration whose bytes these are.
+fn config_of(alloc: Global, rows: &[u8]) -> Result<Config, Refusal>
+    ensures found { IfOk result (λ config. SpellsConfig rows.now (config_view config)) }
+    ensures cause { IfErr result (λ refusal. refusal ≢ Refusal.NoSpace) }
+    ensures refused { IfErr result (λ refusal. (refusal ≡ Refusal.NoMemory) ⊎ ((refusal ≡ Refusal.BadPointer)
+        × ((vdevs : List PlainVdev) → ¬ SpellsConfig rows.now vdevs))) }
+{
+    match config_in(alloc, rows) {
+        Ok(config) => Ok(config),
+        Err(object_table::Refusal::BadPointer) => Err(Refusal::BadPointer),
+        Err(object_table::Refusal::NoMemory) => Err(Refusal::NoMemory),
+    }
+}
