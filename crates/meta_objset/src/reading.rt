@@ -53,15 +53,7 @@ pub fn read_directory<D: Disk + Drop>(
         → (refusal ≡ Refusal.NoMemory) ⊎ ((refusal ≡ Refusal.BadPointer)
         × ((rows : List DirectoryRow) → ¬ HasDirectory (shape_of_dnode (are.nodes 1)) (objects 1) rows))) }
 {
-    let rows = object_table::read(
-        set,
-        store,
-        alloc,
-        DIRECTORY_KIND,
-        DIRECTORY,
-        birth,
-        missing,
-    )?;
+    let rows = object_table::read(set, store, alloc, DIRECTORY_KIND, DIRECTORY, birth, missing)?;
     directory_of(alloc, &rows)
 }
 
@@ -111,15 +103,7 @@ pub fn read_config<D: Disk + Drop>(
         → (refusal ≡ Refusal.NoMemory) ⊎ ((refusal ≡ Refusal.BadPointer)
         × ((vdevs : List PlainVdev) → ¬ HasConfig (shape_of_dnode (are.nodes 2)) (objects 2) vdevs))) }
 {
-    let rows = object_table::read(
-        set,
-        store,
-        alloc,
-        CONFIG_KIND,
-        CONFIG,
-        birth,
-        missing,
-    )?;
+    let rows = object_table::read(set, store, alloc, CONFIG_KIND, CONFIG, birth, missing)?;
     config_of(alloc, &rows)
 }
 

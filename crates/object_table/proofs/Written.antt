@@ -85,5 +85,15 @@ table_len shape bytes rows fits spells =
     let word = word_bytes (spells.count ∷ []) in
     let blank : List ℕ = replicate (shape.first_len - 8) none in
     let zeros : List ℕ = replicate spells.zeros none in
-    omega (arith, ap length spells.spelled, length-append word (blank ++ (rows ++ zeros)), length-append blank (rows ++ zeros), length-append rows zeros, length-word_bytes (spells.count ∷ []),
-    length-replicate (shape.first_len - 8) none, length-replicate spells.zeros none, fits.word, spells.few)
+    omega (
+      arith,
+      ap length spells.spelled,
+      length-append word (blank ++ (rows ++ zeros)),
+      length-append blank (rows ++ zeros),
+      length-append rows zeros,
+      length-word_bytes (spells.count ∷ []),
+      length-replicate (shape.first_len - 8) none,
+      length-replicate spells.zeros none,
+      fits.word,
+      spells.few,
+    )

@@ -21,10 +21,10 @@ returns-then-not-is_of_kind-clause-known g c = λ stored objects own blocks held
     inr (
       refl,
       λ rows has.
-      let both : Some c.in-Some.shape ≡ Some has.shape = sym c.in-Some.is ∙ known.0 ∙ has.is.shape_is in
-      let same : c.in-Some.shape ≡ has.shape = cc in
-      let test = c.is_of_kind.ensures.1 (ap (λ (s : ObjectShape). s.object_type) same ∙ has.is.object_type, ap (λ (s : ObjectShape). s.data_sectors) same ∙ has.is.sectors) in
-      absurd cc,
+          let both : Some c.in-Some.shape ≡ Some has.shape = sym c.in-Some.is ∙ known.0 ∙ has.is.shape_is in
+          let same : c.in-Some.shape ≡ has.shape = cc in
+          let test = c.is_of_kind.ensures.1 (ap (λ (s : ObjectShape). s.object_type) same ∙ has.is.object_type, ap (λ (s : ObjectShape). s.data_sectors) same ∙ has.is.sectors) in
+          absurd cc,
     )
 
 pub overflow_add-result : goal.overflow_add-result
