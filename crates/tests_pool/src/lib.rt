@@ -3,6 +3,8 @@
 #![tactic(auto)]
 
 #[cfg(test)]
+mod changed_disks;
+#[cfg(test)]
 mod faulty_pool;
 #[cfg(test)]
 mod parts;
