@@ -4,7 +4,6 @@ ghost use Rattle.std.specs.List.{list_all};
 ghost use Rattle.std.specs.Option.{option_copied};
 ghost use Rattle.pool_model.specs.Names.{is_name_letter, is_name, is_block_size};
 ghost use Rattle.pool_model.specs.Refusals.{is_aligned, is_in_range, place_refusal, change_refusal, read_refusal};
-ghost use Rattle.txg_pipeline.specs.Calls.{cause_of};
 
 use crate::pool::Pool;
 use pool_model::{Change, Name, PlainVolume, Refusal, Write};
@@ -14,19 +13,6 @@ const MOST_BYTES: u64 = 1 << 20;
 
 /// The most bytes that a volume may have: 1 TiB.
 const LARGEST_VOLUME: u64 = 1 << 40;
-
-/// What the pipeline refuses a call for, as the machine names it.
-pub fn named(cause: txg_pipeline::Refusal) -> Refusal
-    ensures { result ≡ cause_of cause }
-{
-    match cause {
-        txg_pipeline::Refusal::NoMemory => Refusal::NoMemory,
-        txg_pipeline::Refusal::AlreadyHeld => Refusal::AlreadyHeld,
-        txg_pipeline::Refusal::NoHold => Refusal::NoHold,
-        txg_pipeline::Refusal::OutOfOrder { expected } => Refusal::OutOfOrder { expected },
-        txg_pipeline::Refusal::NotNow => Refusal::NotNow,
-    }
-}
 
 fn is_letter_of_name(c: u8) -> bool
     ensures { result ≡ is_name_letter c }

@@ -3,7 +3,7 @@ ghost use Rattle.std.specs.Prelude.{◌≡◌};
 ghost use Rattle.std.specs.Option.{option_copied};
 ghost use Rattle.plain_machine.specs.Reading.{IsReadOf};
 
-use crate::causes::{against_change, against_read, against_write, named};
+use crate::causes::{against_change, against_read, against_write};
 use crate::pool::Pool;
 use pool_model::{Action, Item, Name, PlainVolume, Refusal, Reply, Step, Write};
 use std::alloc::{AllocError, Global};
@@ -80,7 +80,7 @@ impl Machine {
     {
         match self.pipeline.hold(writer) {
             Ok(group) => Reply::Held(group),
-            Err(cause) => Reply::Refused(named(cause)),
+            Err(cause) => Reply::Refused(Refusal::from(cause)),
         }
     }
 
@@ -89,7 +89,7 @@ impl Machine {
     {
         let group = match self.pipeline.admitted(write.writer, write.number) {
             Ok(group) => group,
-            Err(cause) => return Reply::Refused(named(cause)),
+            Err(cause) => return Reply::Refused(Refusal::from(cause)),
         };
         let Ok(now) = self.now() else {
             return Reply::Refused(Refusal::NoMemory);
@@ -100,7 +100,7 @@ impl Machine {
         }
         match self.pipeline.accept(Item::Write(write)) {
             Ok(group) => Reply::Receipt(group),
-            Err(cause) => Reply::Refused(named(cause)),
+            Err(cause) => Reply::Refused(Refusal::from(cause)),
         }
     }
 
@@ -109,7 +109,7 @@ impl Machine {
     {
         let group = match self.pipeline.admitted(action.writer, action.number) {
             Ok(group) => group,
-            Err(cause) => return Reply::Refused(named(cause)),
+            Err(cause) => return Reply::Refused(Refusal::from(cause)),
         };
         if group != self.pipeline.open_group() {
             return Reply::Refused(Refusal::NotNow);
@@ -123,7 +123,7 @@ impl Machine {
         }
         match self.pipeline.accept(Item::Action(action)) {
             Ok(group) => Reply::Receipt(group),
-            Err(cause) => Reply::Refused(named(cause)),
+            Err(cause) => Reply::Refused(Refusal::from(cause)),
         }
     }
 
@@ -135,7 +135,7 @@ impl Machine {
         }
         match self.pipeline.release(writer) {
             Ok(()) => Reply::Released,
-            Err(cause) => Reply::Refused(named(cause)),
+            Err(cause) => Reply::Refused(Refusal::from(cause)),
         }
     }
 
@@ -144,7 +144,7 @@ impl Machine {
     {
         match self.pipeline.close_open() {
             Ok(group) => Reply::Closed(group),
-            Err(cause) => Reply::Refused(named(cause)),
+            Err(cause) => Reply::Refused(Refusal::from(cause)),
         }
     }
 
@@ -153,7 +153,7 @@ impl Machine {
     {
         match self.pipeline.mark_quiesced() {
             Ok(group) => Reply::Quiesced(group),
-            Err(cause) => Reply::Refused(named(cause)),
+            Err(cause) => Reply::Refused(Refusal::from(cause)),
         }
     }
 
@@ -184,7 +184,7 @@ impl Machine {
                 self.earliest = mem::replace(&mut self.before, Some(last));
                 Reply::Committed(group)
             }
-            Err(cause) => Reply::Refused(named(cause)),
+            Err(cause) => Reply::Refused(Refusal::from(cause)),
         }
     }
 
@@ -223,7 +223,7 @@ impl Machine {
         }
         match self.pipeline.take() {
             Ok(_) => Ok(()),
-            Err(cause) => Err(named(cause)),
+            Err(cause) => Err(Refusal::from(cause)),
         }
     }
 

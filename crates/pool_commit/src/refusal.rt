@@ -75,3 +75,23 @@ impl From<group_volumes::Refusal> for Refusal {
         }
     }
 }
+
+impl From<Refusal> for pool_model::Refusal {
+    ghost use Rattle.pool_commit.specs.Causes.{cause_of};
+
+    ghost from_gives = { λ cause refusal. refusal ≡ cause_of cause };
+
+    fn from(cause: Refusal) -> pool_model::Refusal {
+        match cause {
+            Refusal::NoMemory => pool_model::Refusal::NoMemory,
+            Refusal::DiskFault => pool_model::Refusal::DiskFault,
+            Refusal::NoSpace => pool_model::Refusal::NoSpace,
+            Refusal::BadPointer => pool_model::Refusal::BadPointer,
+            Refusal::BadDigest => pool_model::Refusal::BadDigest,
+            Refusal::NoSuchName => pool_model::Refusal::NoSuchName,
+            Refusal::OutOfRange => pool_model::Refusal::OutOfRange,
+            Refusal::GroupGone => pool_model::Refusal::GroupGone,
+            Refusal::BadConfig => pool_model::Refusal::BadConfig,
+        }
+    }
+}

@@ -37,7 +37,7 @@ use Rattle.std.proofs.lemmas.List.Elements.{Contains-append_left, Contains-appen
 use Rattle.std.specs.List.{AllByRecursion}
 use Rattle.pool_commit.specs.declared.refusal.Refusal.{Refusal}
 use Rattle.pool_commit.specs.declared.refusal.Refusal.TheVariants.{NoMemory, DiskFault, NoSpace, BadPointer, BadDigest}
-use Rattle.pool_core.specs.Causes.{cause_of}
+use Rattle.pool_commit.specs.Causes.{cause_of}
 use Rattle.pool_core.specs.Reading.{LosesUnder, LosesForPlan}
 use Rattle.pool_core.specs.Represents.{Represents}
 use Rattle.pool_core.specs.State.{CoreState, disks_of}

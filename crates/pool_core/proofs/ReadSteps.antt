@@ -20,7 +20,7 @@ use Rattle.pool_commit.specs.declared.refusal.Refusal.{Refusal}
 use Rattle.pool_commit.specs.declared.refusal.Refusal.TheVariants.{NoMemory, NoSuchName, OutOfRange, GroupGone}
 use Rattle.pool_commit.specs.Reading.{PoolAnswersTruly as AnswersAreTrue, HasNoCause, IsUnderCause, IsLostUnder, OnlyReadsPool}
 use Rattle.pool_commit.specs.State.{State}
-use Rattle.pool_core.specs.Causes.{cause_of}
+use Rattle.pool_commit.specs.Causes.{cause_of}
 use Rattle.pool_core.specs.Represents.{Represents}
 use Rattle.pool_core.specs.State.{CoreState}
 use Rattle.pool_core.specs.Steps.{LosesBlock, Goes}

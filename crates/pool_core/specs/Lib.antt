@@ -1,4 +1,3 @@
-pub mod Causes
 pub mod State
 pub mod StateOf
 pub mod Represents

@@ -7,7 +7,7 @@ use Rattle.pool_commit.specs.declared.refusal.Refusal.{Refusal}
 use Rattle.pool_commit.specs.declared.refusal.Refusal.TheVariants.{DiskFault}
 use Rattle.pool_commit.specs.Reading.{IsUnreadUnder, IsUnreadForPlan, IsLastVdev, IsLostUnder}
 use Rattle.pool_commit.specs.State.{State}
-use Rattle.pool_core.specs.Causes.{cause_of}
+use Rattle.pool_commit.specs.Causes.{cause_of}
 
 -- a block in which the range lies could not be read, and that is the answer
 pub record IsLostAnswer (v : View) (old new : State) (group : ℕ) (name : List ℕ) (offset len : ℕ) (missing : List ℕ) (cause : Cause) : Type 0 where

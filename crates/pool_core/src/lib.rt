@@ -5,7 +5,6 @@
 mod honest;
 mod pool;
 mod reading;
-mod refusal;
 mod runs;
 mod syncing;
 

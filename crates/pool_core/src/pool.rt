@@ -11,7 +11,6 @@ ghost use Rattle.pool_core.specs.Represents.{Represents};
 ghost use Rattle.pool_core.specs.StateOf.{disks_in, state_of};
 ghost use Rattle.pool_core.specs.Steps.{TakesStep, is_barred as barred_step};
 
-use crate::refusal::named;
 use block_store::VdevConfig;
 use model_disk::Disk;
 use pool_commit::Commit;
@@ -53,7 +52,7 @@ impl<D: Disk + Drop> Core<D> {
                 intake: Intake::new(alloc),
                 commit,
             }),
-            Err(refusal) => Err(named(refusal)),
+            Err(refusal) => Err(Refusal::from(refusal)),
         }
     }
 

@@ -12,7 +12,6 @@ ghost use Rattle.pool_core.specs.StateOf.{disks_in, state_of};
 ghost use Rattle.pool_core.specs.Steps.{PoolAnswersTruly, TakesStep};
 
 use crate::pool::Core;
-use crate::refusal::named;
 use model_disk::Disk;
 use pool_model::{Bytes, Name, Refusal, Reply};
 use pool_now::against_read;
@@ -40,7 +39,7 @@ impl<D: Disk + Drop> Core<D> {
                     .read_pending(shape, name, offset, bytes.as_mut_slice());
                 Reply::Bytes(Bytes::new(bytes))
             }
-            Err(refusal) => Reply::Refused(named(refusal)),
+            Err(refusal) => Reply::Refused(Refusal::from(refusal)),
         }
     }
 
@@ -80,7 +79,7 @@ impl<D: Disk + Drop> Core<D> {
             .read_under(self.alloc, group, name, offset, len, missing);
         match read {
             Ok(bytes) => Ok(Bytes::new(bytes)),
-            Err(refusal) => Err(named(refusal)),
+            Err(refusal) => Err(Refusal::from(refusal)),
         }
     }
 }

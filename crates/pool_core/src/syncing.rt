@@ -12,7 +12,6 @@ ghost use Rattle.pool_core.specs.StateOf.{disks_in, state_of};
 ghost use Rattle.pool_core.specs.Steps.{TakesStepUnlessSuspended};
 
 use crate::pool::Core;
-use crate::refusal::named;
 use model_disk::Disk;
 use pool_commit::Progress;
 use pool_model::{Refusal, Reply};
@@ -35,7 +34,7 @@ impl<D: Disk + Drop> Core<D> {
         };
         match self.commit.plan(self.alloc, items) {
             Ok(()) => Reply::Planned(self.intake.committed_group().saturating_add(1)),
-            Err(refusal) => Reply::Refused(named(refusal)),
+            Err(refusal) => Reply::Refused(Refusal::from(refusal)),
         }
     }
 

@@ -4,7 +4,7 @@ ghost use Rattle.pool_model.specs.declared.item.Change.TheVariants.{Create};
 ghost use Rattle.pool_model.specs.declared.volume.VolumeKind.TheVariants.{Volume};
 
 use pool_model::{Action, Change, Item, Name, Refusal, Reply, VolumeKind, Write};
-use pool_now::{NameIndex, VolumeShape, against_change, against_write, named, read_pending};
+use pool_now::{NameIndex, VolumeShape, against_change, against_write, read_pending};
 use std::alloc::{AllocError, Global};
 use txg_pipeline::{Pending, Pipeline};
 
@@ -45,7 +45,7 @@ impl Intake {
     {
         match self.pipeline.hold(writer) {
             Ok(group) => Reply::Held(group),
-            Err(cause) => Reply::Refused(named(cause)),
+            Err(cause) => Reply::Refused(Refusal::from(cause)),
         }
     }
 
@@ -58,7 +58,7 @@ impl Intake {
         }
         match self.pipeline.accept(Item::Write(write)) {
             Ok(group) => Reply::Receipt(group),
-            Err(cause) => Reply::Refused(named(cause)),
+            Err(cause) => Reply::Refused(Refusal::from(cause)),
         }
     }
 
@@ -80,7 +80,7 @@ impl Intake {
                 self.index.add(name, shape);
                 Reply::Receipt(group)
             }
-            Err(cause) => Reply::Refused(named(cause)),
+            Err(cause) => Reply::Refused(Refusal::from(cause)),
         }
     }
 
@@ -90,7 +90,7 @@ impl Intake {
     {
         match self.pipeline.release(writer) {
             Ok(()) => Reply::Released,
-            Err(cause) => Reply::Refused(named(cause)),
+            Err(cause) => Reply::Refused(Refusal::from(cause)),
         }
     }
 
@@ -100,7 +100,7 @@ impl Intake {
     {
         match self.pipeline.close_open() {
             Ok(group) => Reply::Closed(group),
-            Err(cause) => Reply::Refused(named(cause)),
+            Err(cause) => Reply::Refused(Refusal::from(cause)),
         }
     }
 
@@ -110,7 +110,7 @@ impl Intake {
     {
         match self.pipeline.mark_quiesced() {
             Ok(group) => Reply::Quiesced(group),
-            Err(cause) => Reply::Refused(named(cause)),
+            Err(cause) => Reply::Refused(Refusal::from(cause)),
         }
     }
 
@@ -124,7 +124,7 @@ impl Intake {
         }
         match self.pipeline.take() {
             Ok(_) => Ok(()),
-            Err(cause) => Err(named(cause)),
+            Err(cause) => Err(Refusal::from(cause)),
         }
     }
 
@@ -150,7 +150,7 @@ impl Intake {
     {
         match self.pipeline.committed() {
             Ok(group) => Ok(group),
-            Err(cause) => Err(named(cause)),
+            Err(cause) => Err(Refusal::from(cause)),
         }
     }
 
@@ -178,7 +178,7 @@ impl Intake {
     {
         match self.pipeline.admitted(write.writer, write.number) {
             Ok(group) => against_write(write, group, self.index.find(&write.volume)),
-            Err(cause) => Some(named(cause)),
+            Err(cause) => Some(Refusal::from(cause)),
         }
     }
 
@@ -189,7 +189,7 @@ impl Intake {
         match self.pipeline.admitted(action.writer, action.number) {
             Ok(group) if group != self.pipeline.open_group() => Some(Refusal::NotNow),
             Ok(_) => against_change(&action.change, &self.index),
-            Err(cause) => Some(named(cause)),
+            Err(cause) => Some(Refusal::from(cause)),
         }
     }
 }

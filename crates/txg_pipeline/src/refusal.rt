@@ -2,7 +2,7 @@
 
 #[derive(Clone, Copy, Debug, PartialEq, Eq, Drop, thiserror::Error)]
 pub enum Refusal {
-    #[error("memory ran out")]
+    #[error("out of memory")]
     NoMemory,
     #[error("the writer has a hold")]
     AlreadyHeld,
@@ -14,4 +14,21 @@ pub enum Refusal {
     /// No group is in the state that the call asks for.
     #[error("no group is in the state that is asked for")]
     NotNow,
+}
+
+impl From<Refusal> for pool_model::Refusal {
+    ghost use Rattle.std.specs.Prelude.{◌≡◌};
+    ghost use Rattle.txg_pipeline.specs.Calls.{cause_of};
+
+    ghost from_gives = { λ cause refusal. refusal ≡ cause_of cause };
+
+    fn from(cause: Refusal) -> pool_model::Refusal {
+        match cause {
+            Refusal::NoMemory => pool_model::Refusal::NoMemory,
+            Refusal::AlreadyHeld => pool_model::Refusal::AlreadyHeld,
+            Refusal::NoHold => pool_model::Refusal::NoHold,
+            Refusal::OutOfOrder { expected } => pool_model::Refusal::OutOfOrder { expected },
+            Refusal::NotNow => pool_model::Refusal::NotNow,
+        }
+    }
 }

@@ -10,7 +10,7 @@ use Rattle.pool_model.specs.View.{nothing_given}
 use Rattle.plain_machine.proofs.machine.Machine.act.Goals as goal
 
 pub returns-in-Err : goal.returns-in-Err
-returns-in-Err c = λ v r. (v, subst (λ (x : Cause). StepOf v nothing_given (Act c.args.action) (Refused x) v) (sym c.named.ensures) (refuses v (Act c.args.action) _ (act_barred v c.args.action c.in-Err.cause r.vdevs (c.in-Err.ensures.refused (flow_of v) r.flow))), r)
+returns-in-Err c = λ v r. (v, subst (λ (x : Cause). StepOf v nothing_given (Act c.args.action) (Refused x) v) (sym c.from.ensures) (refuses v (Act c.args.action) _ (act_barred v c.args.action c.in-Err.cause r.vdevs (c.in-Err.ensures.refused (flow_of v) r.flow))), r)
 
 pub returns-then-group-open_group : goal.returns-then-group-open_group
 returns-then-group-open_group c = λ v r. (v, refuses v (Act c.args.action) _ (act_late v c.args.action c.in-Ok.group r.vdevs (c.in-Ok.ensures.ok (flow_of v) r.flow) (λ e. c.if-group-open_group.true (e ∙ sym (c.open_group.ensures (flow_of v) r.flow)))), r)
@@ -29,4 +29,4 @@ returns-in-Ok-accept c = λ v r.
     acted c.args.self.now _ v c.args.action _ r (cause ∙ c.in-None.is) c.in-Ok-accept.ensures.accepted
 
 pub returns : goal.returns
-returns c = λ v r. refused c.args.self.now _ v (Act c.args.action) c.in-Err-accept.cause _ r c.in-Err-accept.ensures.err c.named-in-Err-accept.ensures (act_refused v c.args.action c.in-Err-accept.cause r.vdevs (c.in-Err-accept.ensures.refused (flow_of v) r.flow))
+returns c = λ v r. refused c.args.self.now _ v (Act c.args.action) c.in-Err-accept.cause _ r c.in-Err-accept.ensures.err c.from-in-Err-accept.ensures (act_refused v c.args.action c.in-Err-accept.cause r.vdevs (c.in-Err-accept.ensures.refused (flow_of v) r.flow))

@@ -23,4 +23,4 @@ returns-in-Err-clause-refused c = λ v r timestamp.
     let none = none_planned v c.args.self.now.planned r.planned (sym c.is_some.ensures ∙ c.if-is_some.false) in
     let idle = sym (c.is_syncing.ensures (flow_of v) r.flow) ∙ c.if-is_syncing.false in
     let h = c.in-Err.ensures.refused in
-    (takes_none v timestamp c.in-Err.cause _ r.vdevs none idle c.named.ensures h.0 (h.1 (flow_of v) r.flow), stays c.args.self.now _ v r c.in-Err.ensures.err)
+    (takes_none v timestamp c.in-Err.cause _ r.vdevs none idle c.from.ensures h.0 (h.1 (flow_of v) r.flow), stays c.args.self.now _ v r c.in-Err.ensures.err)

@@ -11,7 +11,7 @@ use Rattle.pool_model.specs.View.{nothing_given}
 use Rattle.plain_machine.proofs.machine.Machine.write.Goals as goal
 
 pub returns-in-Err : goal.returns-in-Err
-returns-in-Err c = λ v r. (v, subst (λ (x : Cause). StepOf v nothing_given (WriteStep c.args.write) (Refused x) v) (sym c.named.ensures) (refuses v (WriteStep c.args.write) _ (write_barred v c.args.write c.in-Err.cause r.vdevs (c.in-Err.ensures.refused (flow_of v) r.flow))), r)
+returns-in-Err c = λ v r. (v, subst (λ (x : Cause). StepOf v nothing_given (WriteStep c.args.write) (Refused x) v) (sym c.from.ensures) (refuses v (WriteStep c.args.write) _ (write_barred v c.args.write c.in-Err.cause r.vdevs (c.in-Err.ensures.refused (flow_of v) r.flow))), r)
 
 pub returns-in_default : goal.returns-in_default
 returns-in_default c = λ v r. (v, lacks v (WriteStep c.args.write) refl, r)
@@ -27,4 +27,4 @@ returns-in-Ok-accept c = λ v r.
     wrote c.args.self.now _ v c.args.write _ r (cause ∙ c.in-None.is) c.in-Ok-accept.ensures.accepted
 
 pub returns : goal.returns
-returns c = λ v r. refused c.args.self.now _ v (WriteStep c.args.write) c.in-Err-accept.cause _ r c.in-Err-accept.ensures.err c.named-in-Err-accept.ensures (write_refused v c.args.write c.in-Err-accept.cause r.vdevs (c.in-Err-accept.ensures.refused (flow_of v) r.flow))
+returns c = λ v r. refused c.args.self.now _ v (WriteStep c.args.write) c.in-Err-accept.cause _ r c.in-Err-accept.ensures.err c.from-in-Err-accept.ensures (write_refused v c.args.write c.in-Err-accept.cause r.vdevs (c.in-Err-accept.ensures.refused (flow_of v) r.flow))

@@ -52,7 +52,7 @@ returns-in-Err-plan-clause-goes g c timestamp v trusted r free honest plans_trus
     let good = subst MakesGoodVolumes (sym items) (begun.1.good (suc v.committed)) in
     let why = c.in-Err-plan.ensures.refused (taken v Unplanned) backed refl low items good in
     let after = c.in-Err-plan.ensures.unplanned (taken v Unplanned) backed refl in
-    plan_refused (state_of c.args.self.now) c.begin_sync.new.self (commit_state c.plan.new.self) v trusted timestamp c.in-Err-plan.refusal c.named.result c.named.ensures begun.0 begun.1 after c.in-Err-plan.ensures.reads
+    plan_refused (state_of c.args.self.now) c.begin_sync.new.self (commit_state c.plan.new.self) v trusted timestamp c.in-Err-plan.refusal c.from.result c.from.ensures begun.0 begun.1 after c.in-Err-plan.ensures.reads
     (plan_spares (state_of c.args.self.now) (commit_state c.plan.new.self) c.begin_sync.new.self v r c.in-Err-plan.ensures.untouched)
     honest
     (λ space. subst (λ (entry : Entry). LacksRoom (commit_state c.args.self.now.commit) entry) items (c.in-Err-plan.ensures.full space))

@@ -53,6 +53,6 @@ returns-in-Ok-clause-goes g c v trusted r honest plans =
 pub returns-in-Err-clause-goes : goal.returns-in-Err-clause-goes
 returns-in-Err-clause-goes g c v trusted r honest plans =
     let found = shape_there c.args.name.now (now_of v) c.in-Some-found.shape (sym c.in-Some-found.is ∙ c.find-found.ensures v r.follows) in
-    refuses_now (state_of c.args.self.now) (commit_state c.read_committed.new.self) v trusted c.args.name.now c.args.offset c.args.len c.in-Err.refusal c.named.result c.named.ensures r c.in-Err.ensures.reads
+    refuses_now (state_of c.args.self.now) (commit_state c.read_committed.new.self) v trusted c.args.name.now c.args.offset c.args.len c.in-Err.refusal c.from.result c.from.ensures r c.in-Err.ensures.reads
     (sym (c.against_read.ensures (volume_at c.args.name.now (now_of v)) (c.find-found.ensures v r.follows)) ∙ c.in-None.is)
     honest (c.in-Err.ensures.refused v found.0 r.backs r.follows.made found.1 found.2)

@@ -12,4 +12,4 @@ returns-in-Ok-clause-bytes g c v r =
 pub returns-in-Err-clause-refused : goal.returns-in-Err-clause-refused
 returns-in-Err-clause-refused g c v r =
     under_refused v c.args.group c.args.name.now c.args.offset c.args.len c.args.missing.now (commit_state c.args.self.now.commit) (commit_state c.read_under-read.new.self)
-    c.in-Err.refusal c.named.result c.named.ensures (c.in-Err.ensures.refused v r.backs)
+    c.in-Err.refusal c.from.result c.from.ensures (c.in-Err.ensures.refused v r.backs)

@@ -13,4 +13,4 @@ returns-in-Ok-accept c = λ v r u.
 pub returns-in-Err : goal.returns-in-Err
 returns-in-Err c = λ v r u.
     let knows = knows_on _ _ _ v r (c.in-Ok.ensures.same (now_of v)).0 in
-    as_named _ v _ c.in-Err.cause _ c.named.ensures (act_refused _ v c.args.action c.in-Err.cause (stays _ _ _ v knows c.in-Err.ensures.err) u (c.in-Err.ensures.refused (flow_of v) r.flow))
+    as_named _ v _ c.in-Err.cause _ c.from.ensures (act_refused _ v c.args.action c.in-Err.cause (stays _ _ _ v knows c.in-Err.ensures.err) u (c.in-Err.ensures.refused (flow_of v) r.flow))

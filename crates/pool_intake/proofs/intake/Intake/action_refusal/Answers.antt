@@ -14,4 +14,4 @@ returns-in-Ok-2 c = λ v r u.
     ∙ sym (act_placed v c.args.action.now c.in-Ok.group u (c.in-Ok.ensures.ok (flow_of v) r.flow) (c.if-group-open_group.false ∙ c.open_group.ensures (flow_of v) r.flow))
 
 pub returns-in-Err : goal.returns-in-Err
-returns-in-Err c = λ v r u. ap Some c.named.ensures ∙ sym (act_barred v c.args.action.now c.in-Err.cause u (c.in-Err.ensures.refused (flow_of v) r.flow))
+returns-in-Err c = λ v r u. ap Some c.from.ensures ∙ sym (act_barred v c.args.action.now c.in-Err.cause u (c.in-Err.ensures.refused (flow_of v) r.flow))

@@ -12,4 +12,4 @@ returns-in-Ok-clause-begun c = λ v timestamp r u p. takes_group _ _ _ v timesta
 pub returns-in-Err-clause-refused : goal.returns-in-Err-clause-refused
 returns-in-Err-clause-refused c = λ v timestamp r u p.
     let h = c.in-Err.ensures.refused in
-    (takes_none v timestamp c.in-Err.cause _ u p (sym (c.is_syncing.ensures (flow_of v) r.flow) ∙ c.if-is_syncing.false) c.named.ensures h.0 (h.1 (flow_of v) r.flow), stays _ _ _ v r c.in-Err.ensures.err)
+    (takes_none v timestamp c.in-Err.cause _ u p (sym (c.is_syncing.ensures (flow_of v) r.flow) ∙ c.if-is_syncing.false) c.from.ensures h.0 (h.1 (flow_of v) r.flow), stays _ _ _ v r c.in-Err.ensures.err)

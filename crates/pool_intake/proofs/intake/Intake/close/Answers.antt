@@ -6,4 +6,4 @@ pub returns-in-Ok : goal.returns-in-Ok
 returns-in-Ok c = λ v r u. closed _ _ _ v _ r u c.in-Ok.ensures.closed
 
 pub returns-in-Err : goal.returns-in-Err
-returns-in-Err c = λ v r u. let h = c.in-Err.ensures.refused in as_named _ v _ c.in-Err.cause _ c.named.ensures (close_refused _ v c.in-Err.cause (stays _ _ _ v r c.in-Err.ensures.err) u h.0 (h.1 (flow_of v) r.flow))
+returns-in-Err c = λ v r u. let h = c.in-Err.ensures.refused in as_named _ v _ c.in-Err.cause _ c.from.ensures (close_refused _ v c.in-Err.cause (stays _ _ _ v r c.in-Err.ensures.err) u h.0 (h.1 (flow_of v) r.flow))

@@ -12,4 +12,4 @@ returns-in-Ok c = λ v r u.
     ∙ sym (write_placed v c.args.write.now c.in-Ok.group u (c.in-Ok.ensures.ok (flow_of v) r.flow))
 
 pub returns-in-Err : goal.returns-in-Err
-returns-in-Err c = λ v r u. ap Some c.named.ensures ∙ sym (write_barred v c.args.write.now c.in-Err.cause u (c.in-Err.ensures.refused (flow_of v) r.flow))
+returns-in-Err c = λ v r u. ap Some c.from.ensures ∙ sym (write_barred v c.args.write.now c.in-Err.cause u (c.in-Err.ensures.refused (flow_of v) r.flow))
