@@ -37,17 +37,21 @@ impl<'a> Rewriting<'a> {
         requires size { length bytes.now ≡ (property_of self.node.now level).sectors * 512 }
         ensures steps { (missing : List ℕ) → OnlyReadsAndPlans store.old store.new missing }
         ensures fits { IfOk result FitsBlock }
-        ensures property { IfOk result (λ block. block.property ≡ property_of self.entry.node.now level) }
-        ensures asks { IfOk result (Asks (asked_of (property_of self.entry.node.now level) self.entry.birth)) }
+        ensures property { IfOk result (λ block.
+            block.property ≡ property_of self.entry.node.now level) }
+        ensures asks { IfOk result
+            (Asks (asked_of (property_of self.entry.node.now level) self.entry.birth)) }
         ensures birth { IfOk result (λ block. block.birth ≡ self.entry.birth) }
         ensures fill { IfOk result (λ block. block.fill ≡ fill) }
         ensures copies { IfOk result (λ block.
             length (dvas block.copies) ≡ copies_at self.entry.copies block.property.level) }
-        ensures planned { IfOk result (λ block. (stored planned : Contents) → Plans store.old stored planned
-            → (later : Contents) × Plans store.new stored later × Adds planned later block bytes.now) }
+        ensures planned { IfOk result (λ block. (stored planned : Contents)
+            → Plans store.old stored planned → (later : Contents) × Plans store.new stored later
+            × Adds planned later block bytes.now) }
         ensures refused { IfErr result IsForRoom }
         ensures no_room { IfErr result (λ refusal. refusal ≡ Refusal.NoSpace
-            → (missing : List ℕ) → HasNoRoom store.old store.new missing self.entry.node.now self.entry.copies) }
+            → (missing : List ℕ)
+            → HasNoRoom store.old store.new missing self.entry.node.now self.entry.copies) }
     {
         let block = NewBlock {
             property: property_at(self.node, level),

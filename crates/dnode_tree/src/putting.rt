@@ -2,7 +2,6 @@
 ghost use Rattle.std.specs.Prelude.{◌≡◌, ◌-◌, ◌+◌, ◌*◌, ◌^◌, ◌<◌, ◌≤◌, ℕ, List, Option, All, IfOk, IfErr};
 ghost use Rattle.block_pointer.specs.declared.block.Block.{Block};
 ghost use Rattle.block_pointer.specs.Pointer.{Fits};
-ghost use Rattle.dnode.specs.Levels.{levels_of as the_levels_of};
 ghost use Rattle.dnode.specs.Node.{FitsNode};
 ghost use Rattle.block_store.specs.Blocks.{Contents};
 ghost use Rattle.block_store.specs.Plans.{Plans};
@@ -48,8 +47,8 @@ pub fn put_many<D: Disk + Drop>(
     ensures grown { IfOk result (λ done. IsGrown node.now done.node writes.now) }
     ensures rewritten { IfOk result (λ done. (stored planned : Contents) (bound : ℕ)
         (array : ℕ → Option (List ℕ)) (blocks : List Block) → Plans store.old stored planned
-        → IsTree stored bound node.now array blocks → bound ≤ birth → AnswersAreTrue store.old store.new
-        → (later : Contents) × Plans store.new stored later
+        → IsTree stored bound node.now array blocks → bound ≤ birth
+        → AnswersAreTrue store.old store.new → (later : Contents) × Plans store.new stored later
         × IsRewritten copies planned later birth done (written writes.now array) blocks) }
 
     // Only what a write reaches is planned, and the roots above the one that was there: all else is born when it was.
@@ -64,7 +63,8 @@ pub fn put_many<D: Disk + Drop>(
         → HasNoRoom store.old store.new missing.now node.now copies) }
     ensures known { IfErr result (λ refusal. (stored planned : Contents) (bound : ℕ)
         (array : ℕ → Option (List ℕ)) (blocks : List Block) → Plans store.old stored planned
-        → IsTree stored bound node.now array blocks → bound ≤ birth → AnswersAreTrue store.old store.new
+        → IsTree stored bound node.now array blocks → bound ≤ birth
+        → AnswersAreTrue store.old store.new
         → LossIsTolerable store.old store.new missing.now → IsForRoom refusal) }
 {
     let rewriting = Rewriting {
@@ -103,19 +103,21 @@ impl<'a> Rewriting<'a> {
         replaced: &mut Vec<Block>,
     ) -> Result<BlockPtr, Refusal>
         requires node { FitsNode self.node.now }
-        requires between { AreBetween 0 (128 ^ (the_levels_of self.node.now.highest - 1)) writes.now }
+        requires between { AreBetween 0 (128 ^ height_of self.node.now) writes.now }
         requires order { AreInOrder writes.now }
         requires whole { AreWholeBlocks self.node.now writes.now }
         requires born { 0 < self.birth }
         ensures steps { OnlyReadsAndPlans store.old store.new self.entry.missing.now }
         ensures fits { IfOk result Fits }
         ensures property { IfOk result
-            (HasProperty (property_of self.entry.node.now (the_levels_of self.entry.node.now.highest - 1))) }
-        ensures rewritten { IfOk result (WritesPart self.entry store.old store.new (root_part self.entry) 0 writes.now
-            replaced.old.items replaced.new.items) }
+            (HasProperty (property_of self.entry.node.now (height_of self.entry.node.now))) }
+        ensures rewritten { IfOk result (WritesPart self.entry store.old store.new
+            (root_part self.entry) 0 writes.now replaced.old.items replaced.new.items) }
         ensures no_room { IfErr result (λ refusal. refusal ≡ Refusal.NoSpace
-            → HasNoRoom store.old store.new self.entry.missing.now self.entry.node.now self.entry.copies) }
-        ensures known { IfErr result (LacksRoomForPart self.entry store.old store.new (root_part self.entry) 0) }
+            → HasNoRoom store.old store.new self.entry.missing.now
+            self.entry.node.now self.entry.copies) }
+        ensures known { IfErr result
+            (LacksRoomForPart self.entry store.old store.new (root_part self.entry) 0) }
     {
         if writes.is_empty() {
             return Ok(self.node.pointer);
@@ -149,12 +151,13 @@ impl<'a> Rewriting<'a> {
         ensures steps { OnlyReadsAndPlans store.old store.new self.entry.missing.now }
         ensures fits { IfOk result Fits }
         ensures property { IfOk result (HasProperty (property_of self.entry.node.now (level + 1))) }
-        ensures rewritten { IfOk result (Raises self.entry store.old store.new root level writes.now
-            replaced.old.items replaced.new.items) }
+        ensures rewritten { IfOk result (Raises self.entry store.old store.new root level
+            writes.now replaced.old.items replaced.new.items) }
         ensures no_room { IfErr result (λ refusal. refusal ≡ Refusal.NoSpace
-            → HasNoRoom store.old store.new self.entry.missing.now self.entry.node.now self.entry.copies) }
-        ensures known { IfErr result (LacksRoomToRaise self.entry store.old store.new root level writes.now
-            replaced.old.items) }
+            → HasNoRoom store.old store.new self.entry.missing.now
+            self.entry.node.now self.entry.copies) }
+        ensures known { IfErr result (LacksRoomToRaise self.entry store.old store.new root level
+            writes.now replaced.old.items) }
     {
         if root.is_hole() && writes.is_empty() {
             return Ok(BlockPtr::Hole);
@@ -178,7 +181,8 @@ fn highest_of(before: u64, writes: &[BlockWrite]) -> u64
     ensures small { result < 128 ^ 5 }
     ensures from { before ≤ result }
     ensures room { All (λ write. write.id ≤ result) writes.now }
-    ensures least { (highest : ℕ) → before ≤ highest → All (λ write. write.id ≤ highest) writes.now → result ≤ highest }
+    ensures least { (highest : ℕ) → before ≤ highest → All (λ write. write.id ≤ highest) writes.now
+        → result ≤ highest }
 {
     let mut highest = before;
     for write in writes {

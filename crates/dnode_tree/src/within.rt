@@ -37,7 +37,8 @@ pub fn walk_within<D: Disk + Drop>(
 
     // The blocks that were read are those above the data.
     ensures count { IfOk result (λ found. left.old ≡ left.new + indirect_count found.items) }
-    ensures refused { IfErr result (IsWithinRefused store.old store.new missing.now node.now birth left.new) }
+    ensures refused { IfErr result
+        (IsWithinRefused store.old store.new missing.now node.now birth left.new) }
     ensures cause { IfErr result (λ refusal. refusal ≢ Refusal.NoSpace) }
 {
     let root = Subtree {
@@ -66,8 +67,10 @@ fn collect_within<D: Disk + Drop>(
 ) -> Result<(), Refusal>
     ensures reads { OnlyReadsBlocks store.old store.new missing.now }
     ensures fewer { left.new ≤ left.old }
-    ensures found { OnOk result ((blocks : List Block) × (found.new.items ≡ found.old.items ++ blocks)
-        × IsWalked store.old.spaces (property_of node.now) part.level part.birth part.pointer blocks) }
+    ensures found { OnOk result ((blocks : List Block)
+        × (found.new.items ≡ found.old.items ++ blocks)
+        × IsWalked store.old.spaces (property_of node.now) part.level part.birth part.pointer
+        blocks) }
     ensures count { OnOk result
         (left.old + indirect_count found.old.items ≡ left.new + indirect_count found.new.items) }
     ensures refused { IfErr result (λ refusal. IsWalkRefused store.old store.new missing.now

@@ -45,11 +45,13 @@ impl<'a> Rewriting<'a> {
         requires bound { part.birth ≤ self.birth }
         ensures steps { OnlyReadsAndPlans store.old store.new self.entry.missing.now }
         ensures fits { IfOk result FitsBlock }
-        ensures property { IfOk result (λ block. block.property ≡ property_of self.entry.node.now part.level) }
-        ensures rewritten { IfOk result (λ block. WritesPart self.entry store.old store.new part first writes.now
-            replaced.old.items replaced.new.items (BlockPtr.Block block)) }
+        ensures property { IfOk result (λ block.
+            block.property ≡ property_of self.entry.node.now part.level) }
+        ensures rewritten { IfOk result (λ block. WritesPart self.entry store.old store.new part
+            first writes.now replaced.old.items replaced.new.items (BlockPtr.Block block)) }
         ensures no_room { IfErr result (λ refusal. refusal ≡ Refusal.NoSpace
-            → HasNoRoom store.old store.new self.entry.missing.now self.entry.node.now self.entry.copies) }
+            → HasNoRoom store.old store.new self.entry.missing.now
+            self.entry.node.now self.entry.copies) }
         ensures known { IfErr result (LacksRoomForPart self.entry store.old store.new part first) }
     {
         note(replaced, part.pointer)?;
@@ -78,20 +80,23 @@ impl<'a> Rewriting<'a> {
         requires from { from ≤ 128 }
         requires count { length parts.pointers ≡ 128 }
         requires some { (0 < length writes.now) ⊎ (0 < total_fill parts.pointers) }
-        requires between { AreBetween (first + from * 128 ^ parts.level) (first + 128 * 128 ^ parts.level) writes.now }
+        requires between { AreBetween (first + from * 128 ^ parts.level)
+            (first + 128 * 128 ^ parts.level) writes.now }
         requires order { AreInOrder writes.now }
         requires whole { AreWholeBlocks self.node.now writes.now }
         requires born { 0 < self.birth }
         requires bound { parts.birth ≤ self.birth }
         ensures steps { OnlyReadsAndPlans store.old store.new self.entry.missing.now }
         ensures fits { IfOk result FitsBlock }
-        ensures property { IfOk result (λ block. block.property ≡ property_of self.entry.node.now (parts.level + 1)) }
-        ensures rewritten { IfOk result (WritesParts self.entry store.old store.new parts first from writes.now
-            replaced.old.items replaced.new.items) }
+        ensures property { IfOk result (λ block.
+            block.property ≡ property_of self.entry.node.now (parts.level + 1)) }
+        ensures rewritten { IfOk result (WritesParts self.entry store.old store.new parts first from
+            writes.now replaced.old.items replaced.new.items) }
         ensures no_room { IfErr result (λ refusal. refusal ≡ Refusal.NoSpace
-            → HasNoRoom store.old store.new self.entry.missing.now self.entry.node.now self.entry.copies) }
-        ensures known { IfErr result (LacksRoomForParts self.entry store.old store.new parts first from writes.now
-            replaced.old.items) }
+            → HasNoRoom store.old store.new self.entry.missing.now
+            self.entry.node.now self.entry.copies) }
+        ensures known { IfErr result (LacksRoomForParts self.entry store.old store.new parts first
+            from writes.now replaced.old.items) }
     {
         let Parts {
             mut pointers,
@@ -126,7 +131,8 @@ impl<'a> Rewriting<'a> {
 pub(crate) fn count_before(writes: &[BlockWrite], end: u64) -> usize
     ensures within { result ≤ length writes.now }
     ensures before { All (λ write. write.id < end) (take result writes.now) }
-    ensures behind { (other : BlockWrite) → result < length writes.now → end ≤ (slice_index_or writes.now result other).id }
+    ensures behind { (other : BlockWrite) → result < length writes.now
+        → end ≤ (slice_index_or writes.now result other).id }
 {
     for (i, write) in writes.iter().enumerate() {
         if write.id >= end {

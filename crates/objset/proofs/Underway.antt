@@ -118,6 +118,7 @@ module _ (copies : CopyCounts) (planned mid later : Contents) (birth : ℕ) (cha
     exchanged = exchanged_last copies birth planned mid later changes last before after_last so_far.gone step.gone
         (exchanged_as copies birth planned mid changes before so_far.after after_last so_far.gone
         (All-weaker (λ (c : ObjectChange). c.number < last.number) (λ c. after_last c.number ≡ so_far.after c.number) (λ c low. is_other c.number (λ e. absurd (omega (arith, low, e)))) changes sooner) so_far.exchanged)
+        step.kept
         (subst (λ blocks. IsExchanged copies birth mid later (before last.number) blocks step.gone) (sym (is_last last.number refl)) step.exchanged);
   }
 
@@ -198,6 +199,8 @@ set_changed copies planned mid later birth rewrite done changes writes nodes obj
   own_gone = rewrite.replaced.items;
   of_objects = so_far.exchanged;
   of_dnodes = step.exchanged;
+  kept_first = so_far.kept;
+  kept_last = step.kept;
   kept = λ block bytes known. step.kept block bytes (so_far.kept block bytes known);
   replaced = replaced ∙ ap (λ front. front ++ rewrite.replaced.items) so_far.noted_are;
 }

@@ -67,7 +67,7 @@ dnode_copies copies = record { «data» = copies.other; indirect = copies.other 
 abbrev pub AreExchanged : CopyCounts → ℕ → Contents → Contents → List ObjectChange → (ℕ → List Block) → (ℕ → List Block) → List Block → Type 0
 AreExchanged copies birth planned later [] before after gone = (later ≡ planned) × (gone ≡ [])
 AreExchanged copies birth planned later (change ∷ changes) before after gone =
-    (mid : Contents) × (first : List Block) × (rest : List Block) × IsExchanged copies birth planned mid (before change.number) (after change.number) first
+    (mid : Contents) × (first : List Block) × (rest : List Block) × Extends planned mid × IsExchanged copies birth planned mid (before change.number) (after change.number) first
     × AreExchanged copies birth mid later changes before after rest × (gone ≡ first ++ rest)
 
 -- The set has the objects now. Objects that aren't changed keep their blocks. Of the blocks of those that are changed and of the dnodes some
@@ -82,6 +82,8 @@ pub record AreChanged (copies : SetCopies) (planned later : Contents) (birth : �
   pub own_gone : List Block
   pub of_objects : AreExchanged (object_copies copies) birth planned mid changes before after gone
   pub of_dnodes : IsExchanged (dnode_copies copies) birth mid later own own_after own_gone
+  pub kept_first : Extends planned mid
+  pub kept_last : Extends mid later
   pub kept : Extends planned later
   pub replaced : done.replaced.items ≡ gone ++ own_gone
 

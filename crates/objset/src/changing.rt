@@ -39,7 +39,8 @@ pub fn change<D: Disk + Drop>(
     missing: &[usize],
 ) -> Result<SetRewrite, Refusal>
     requires set { FitsObjectSet set.now }
-    requires numbers { All (λ change. (0 < change.number) × (change.number < 32 * 128 ^ 5)) changes.now }
+    requires numbers { All (λ change. (0 < change.number) × (change.number < 32 * 128 ^ 5))
+        changes.now }
     requires order { AllPairs (λ change later. change.number < later.number) changes.now }
     requires good { All (λ change. IsGoodChange change.change) changes.now }
     requires born { 0 < birth }
@@ -53,7 +54,8 @@ pub fn change<D: Disk + Drop>(
         → bound ≤ birth → AnswersAreTrue store.old store.new
         → All (λ change. MayChange change.change (objects change.number)) changes.now
         × (later : Contents) × Plans store.new stored later
-        × AreChanged copies planned later birth done changes.now (changed changes.now objects) own before) }
+        × AreChanged copies planned later birth done changes.now (changed changes.now objects)
+        own before) }
     ensures no_room { IfErr result (λ refusal. refusal ≡ Refusal.NoSpace
         → HasNoRoom store.old store.new missing.now copies) }
     ensures known { IfErr result (λ refusal. (stored planned : Contents) (bound : ℕ)
@@ -99,19 +101,22 @@ impl<'a> Changing<'a> {
         replaced: &mut Vec<Block>,
     ) -> Result<Vec<NodeWrite>, Refusal>
         requires set { FitsObjectSet set.now }
-        requires numbers { All (λ change. (0 < change.number) × (change.number < 32 * 128 ^ 5)) changes.now }
+        requires numbers { All (λ change. (0 < change.number) × (change.number < 32 * 128 ^ 5))
+            changes.now }
         requires order { AllPairs (λ change later. change.number < later.number) changes.now }
         requires good { All (λ change. IsGoodChange change.change) changes.now }
         requires born { 0 < self.birth }
         ensures steps { OnlyReadsAndPlans store.old store.new self.entry.missing.now }
         ensures writes { IfOk result (λ writes. AreNodeWrites writes.items) }
-        ensures numbers { IfOk result (λ writes. (number : ℕ) → All (λ change. change.number < number) changes.now
+        ensures numbers { IfOk result (λ writes. (number : ℕ)
+            → All (λ change. change.number < number) changes.now
             ↔ All (λ write. write.number < number) writes.items) }
-        ensures changed { IfOk result (λ writes. ChangesEach self.entry store.old store.new set.now changes.now
-            replaced.old.items replaced.new.items writes.items) }
+        ensures changed { IfOk result (λ writes. ChangesEach self.entry store.old store.new set.now
+            changes.now replaced.old.items replaced.new.items writes.items) }
         ensures no_room { IfErr result (λ refusal. refusal ≡ Refusal.NoSpace
             → HasNoRoom store.old store.new self.entry.missing.now self.entry.copies) }
-        ensures known { IfErr result (IsEachRefused self.entry store.old store.new set.now changes.now) }
+        ensures known { IfErr result
+            (IsEachRefused self.entry store.old store.new set.now changes.now) }
     {
         let mut writes = Vec::new(alloc);
         for change in changes {
@@ -136,11 +141,12 @@ impl<'a> Changing<'a> {
         ensures steps { OnlyReadsAndPlans store.old store.new self.entry.missing.now }
         ensures number { IfOk result (λ write. write.number ≡ change.now.number) }
         ensures fits { IfOk result (λ write. FitsDnode write.node) }
-        ensures changed { IfOk result (λ write. ChangesOne self.entry store.old store.new set.now change.now
-            replaced.old.items replaced.new.items write.node) }
+        ensures changed { IfOk result (λ write. ChangesOne self.entry store.old store.new set.now
+            change.now replaced.old.items replaced.new.items write.node) }
         ensures no_room { IfErr result (λ refusal. refusal ≡ Refusal.NoSpace
             → HasNoRoom store.old store.new self.entry.missing.now self.entry.copies) }
-        ensures known { IfErr result (IsOneRefused self.entry store.old store.new set.now change.now) }
+        ensures known { IfErr result
+            (IsOneRefused self.entry store.old store.new set.now change.now) }
     {
         let number = change.number;
         let dnode = dnode_slots::get(set, store, alloc, number, self.birth, self.missing)?;
@@ -166,7 +172,8 @@ impl<'a> Changing<'a> {
             replaced.old.items replaced.new.items) }
         ensures no_room { IfErr result (λ refusal. refusal ≡ Refusal.NoSpace
             → HasNoRoom store.old store.new self.entry.missing.now self.entry.copies) }
-        ensures known { IfErr result (IsNodeRefused self.entry store.old store.new dnode change.now) }
+        ensures known { IfErr result
+            (IsNodeRefused self.entry store.old store.new dnode change.now) }
     {
         match change {
             Change::Create {
@@ -228,8 +235,8 @@ impl<'a> Changing<'a> {
         requires born { 0 < self.birth }
         ensures steps { OnlyReadsAndPlans store.old store.new self.entry.missing.now }
         ensures fits { IfOk result FitsDnode }
-        ensures changed { IfOk result (ReplacesObject self.entry store.old store.new node.now writes.now
-            replaced.old.items replaced.new.items) }
+        ensures changed { IfOk result (ReplacesObject self.entry store.old store.new node.now
+            writes.now replaced.old.items replaced.new.items) }
         ensures no_room { IfErr result (λ refusal. refusal ≡ Refusal.NoSpace
             → HasNoRoom store.old store.new self.entry.missing.now self.entry.copies) }
         ensures known { IfErr result (LacksRoomForObject self.entry store.old store.new node.now) }
@@ -259,8 +266,8 @@ impl<'a> Changing<'a> {
         requires born { 0 < self.birth }
         ensures steps { OnlyReadsAndPlans store.old store.new self.entry.missing.now }
         ensures fits { IfOk result FitsDnode }
-        ensures changed { IfOk result (WritesObject self.entry store.old store.new node.now writes.now
-            replaced.old.items replaced.new.items) }
+        ensures changed { IfOk result (WritesObject self.entry store.old store.new node.now
+            writes.now replaced.old.items replaced.new.items) }
         ensures no_room { IfErr result (λ refusal. refusal ≡ Refusal.NoSpace
             → HasNoRoom store.old store.new self.entry.missing.now self.entry.copies) }
         ensures known { IfErr result (LacksRoomForObject self.entry store.old store.new node.now) }
@@ -310,12 +317,14 @@ fn free_object<D: Disk + Drop>(
     ensures free { IfOk result (λ after. after ≡ Dnode.Free) }
     ensures noted { IfOk result (λ _. (stored planned : Contents) (bound : ℕ)
         (array : ℕ → Option (List ℕ)) (blocks : List Block) → Plans store.old stored planned
-        → IsTree stored bound node.now array blocks → bound ≤ birth → AnswersAreTrue store.old store.new
-        → Plans store.new stored planned × (replaced.new.items ≡ replaced.old.items ++ blocks)) }
+        → IsTree stored bound node.now array blocks → bound ≤ birth
+        → AnswersAreTrue store.old store.new → Plans store.new stored planned
+        × (replaced.new.items ≡ replaced.old.items ++ blocks)) }
     ensures cause { IfErr result (λ refusal. refusal ≢ Refusal.NoSpace) }
     ensures known { IfErr result (λ refusal. (stored planned : Contents) (bound : ℕ)
         (array : ℕ → Option (List ℕ)) (blocks : List Block) → Plans store.old stored planned
-        → IsTree stored bound node.now array blocks → bound ≤ birth → AnswersAreTrue store.old store.new
+        → IsTree stored bound node.now array blocks → bound ≤ birth
+        → AnswersAreTrue store.old store.new
         → LossIsTolerable store.old store.new missing.now → refusal ≡ Refusal.NoMemory) }
 {
     let blocks = dnode_tree::walk(node, store, alloc, birth, missing)?;

@@ -1,7 +1,13 @@
 //! What follows from the definitions, as functions with no body.
-ghost use Rattle.objset.specs.Laws.{ObjectsStandOnTheirBlocks};
+ghost use Rattle.objset.specs.Laws.{ObjectsStandOnTheirBlocks, ReplacedOfSetsAreFreed};
 
 /// Objects stay what they are whatever becomes of other blocks.
 pub fn objects_stand_on_their_blocks()
     ensures { ObjectsStandOnTheirBlocks }
+{}
+
+/// The blocks that `change` names as replaced are those that the set before has and the set after hasn't: of a set that has
+/// each block once, as an empty one, and so has the set that `change` makes of it.
+pub fn replaced_blocks_of_sets_are_freed()
+    ensures { ReplacedOfSetsAreFreed }
 {}

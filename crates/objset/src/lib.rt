@@ -14,6 +14,6 @@ pub use changing::change;
 pub use dnode_slots::SetRewrite;
 pub use dnode_tree::BlockWrite;
 pub use finding::find;
-pub use laws::objects_stand_on_their_blocks;
+pub use laws::{objects_stand_on_their_blocks, replaced_blocks_of_sets_are_freed};
 pub use reading::{get, walk};
 pub use shape::ObjectShape;
