@@ -46,7 +46,8 @@ pub(crate) fn first_fit(runs: &[Run], sectors: u64) -> Option<Run>
 fn put_pieces(runs: &mut Vec<Run>, index: usize, left: Run, right: Run) -> Result<(), AllocError>
     requires { index < vec_len runs.old }
     ensures ok { OnOk result (runs.new.items
-        ≡ take index runs.old.items ++ ((not_empty left ++ not_empty right) ++ drop (index + 1) runs.old.items)) }
+        ≡ take index runs.old.items
+        ++ ((not_empty left ++ not_empty right) ++ drop (index + 1) runs.old.items)) }
     ensures err { OnErr result (runs.new.items ≡ runs.old.items) }
 {
     if left.len > 0 {
@@ -71,7 +72,8 @@ fn put_merged(runs: &mut Vec<Run>, first: usize, last: usize, merged: Run) -> Re
     requires order { first ≤ last }
     requires few { last ≤ first + 2 }
     requires len { last ≤ vec_len runs.old }
-    ensures ok { OnOk result (runs.new.items ≡ take first runs.old.items ++ ((merged ∷ []) ++ drop last runs.old.items)) }
+    ensures ok { OnOk result (runs.new.items
+        ≡ take first runs.old.items ++ ((merged ∷ []) ++ drop last runs.old.items)) }
     ensures err { OnErr result (runs.new.items ≡ runs.old.items) }
 {
     if first == last {
@@ -93,9 +95,11 @@ pub(crate) fn take_run(runs: &mut Vec<Run>, run: Run, sectors: u64) -> Result<()
     requires few { sectors < 2 ^ 47 }
     requires not_empty { 0 < run.len }
     requires within { run.start + run.len ≤ sectors }
-    ensures ok { OnOk result ((s : ℕ) → contains runs.new.items s ≡ changed false run (contains runs.old.items s) s) }
+    ensures ok { OnOk result ((s : ℕ)
+        → contains runs.new.items s ≡ changed false run (contains runs.old.items s) s) }
     ensures was { OnOk result ((s : ℕ) → IsTrue (names run s) → contains runs.old.items s ≡ true) }
-    ensures bad { IsErrOf result Refusal.BadMap → (s : ℕ) × IsTrue (names run s) × (contains runs.old.items s ≡ false) }
+    ensures bad { IsErrOf result Refusal.BadMap → (s : ℕ)
+        × IsTrue (names run s) × (contains runs.old.items s ≡ false) }
     ensures apart { AreBetween 0 (sectors + 1) runs.new.items }
     ensures err { OnErr result (runs.new.items ≡ runs.old.items) }
 {
@@ -180,9 +184,11 @@ pub(crate) fn give_run(runs: &mut Vec<Run>, run: Run, sectors: u64) -> Result<()
     requires few { sectors < 2 ^ 47 }
     requires not_empty { 0 < run.len }
     requires within { run.start + run.len ≤ sectors }
-    ensures ok { OnOk result ((s : ℕ) → contains runs.new.items s ≡ changed true run (contains runs.old.items s) s) }
+    ensures ok { OnOk result ((s : ℕ)
+        → contains runs.new.items s ≡ changed true run (contains runs.old.items s) s) }
     ensures was { OnOk result ((s : ℕ) → IsTrue (names run s) → contains runs.old.items s ≡ false) }
-    ensures bad { IsErrOf result Refusal.BadMap → (s : ℕ) × IsTrue (names run s) × (contains runs.old.items s ≡ true) }
+    ensures bad { IsErrOf result Refusal.BadMap → (s : ℕ)
+        × IsTrue (names run s) × (contains runs.old.items s ≡ true) }
     ensures apart { AreBetween 0 (sectors + 1) runs.new.items }
     ensures err { OnErr result (runs.new.items ≡ runs.old.items) }
 {

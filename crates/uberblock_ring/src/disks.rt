@@ -29,7 +29,8 @@ pub fn write_slot<D: Disk + Drop>(
     requires size { LABELS * LABEL_LEN ≤ size_of disks.old which }
     requires fits { Fits uberblock.now }
     ensures starts { disks.new.starts ≡ disks.old.starts }
-    ensures call { let at = slot_at (size_of disks.old which) label (slot_number uberblock.now.group) in
+    ensures call { let at = slot_at
+        (size_of disks.old which) label (slot_number uberblock.now.group) in
         disks.new.calls ≡ on which (write_call result at (slot_bytes uberblock.now))
         ∷ disks.old.calls }
 {

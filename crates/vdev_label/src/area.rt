@@ -45,7 +45,8 @@ pub(crate) fn write_area<D: Disk + Drop>(
     requires len { length area.now ≡ AREA_LEN }
     ensures starts { disks.new.starts ≡ disks.old.starts }
     ensures calls { disks.new.calls
-        ≡ on which (write_call result (place_of disks.old which number) area.now) ∷ disks.old.calls }
+        ≡ on which (write_call result (place_of disks.old which number) area.now)
+        ∷ disks.old.calls }
     ensures fault { IfErr result (λ refusal. refusal ≡ Refusal.DiskFault) }
 {
     let at = area_offset(disks.size(which), number);

@@ -56,8 +56,10 @@ pub fn write_label<D: Disk + Drop>(
     requires size { LABELS * LABEL_LEN ≤ length (bytes_of disks.old.starts which) }
     requires room { HasRoom (label_pairs (label_view label.now)) }
     ensures starts { disks.new.starts ≡ disks.old.starts }
-    ensures calls { WritesArea disks.old disks.new which number (area_of (label_view label.now)) result }
-    ensures stands { OnOk result (Stands disks.new which (place_of disks.old which number) (area_of (label_view label.now))) }
+    ensures calls { WritesArea disks.old disks.new which number
+        (area_of (label_view label.now)) result }
+    ensures stands { OnOk result (Stands disks.new which
+        (place_of disks.old which number) (area_of (label_view label.now))) }
     ensures elsewhere { KeepsElsewhere disks.old disks.new which number }
 {
     let area = encode_area(alloc, label)?;
