@@ -8,7 +8,6 @@ use pool_intake::Intake;
 use pool_model::{Action, Bytes, Change, Item, Name, Refusal, Reply, Step, VolumeKind, Write};
 use pool_now::{
     NameIndex, VolumeShape, against_change, against_read, against_write, is_good_shape, lay_over,
-    named,
 };
 use raidz_map::Geometry;
 use std::alloc::{AllocError, Global};
@@ -286,7 +285,7 @@ fn changes_are_refused(rt: HostRuntime) -> Result<(), Fail> {
     }
     assert!(rt; is_good_shape(1024, 512) && !is_good_shape(1024, 2048));
     let cause = txg_pipeline::Refusal::OutOfOrder { expected: 7 };
-    assert_eq!(rt; named(cause), Refusal::OutOfOrder { expected: 7 });
+    assert_eq!(rt; Refusal::from(cause), Refusal::OutOfOrder { expected: 7 });
     Ok(())
 }
 
