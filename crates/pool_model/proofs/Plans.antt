@@ -93,14 +93,18 @@ numbers_count_up disk counts (d ∷ disks) flushes = one (d == disk) refl (numbe
     one : (same : Bool) → (d == disk) ≡ same → (n : ℕ) × (numbers_on disk (writes_on (counted_on counts d) disks ++ map due_flush flushes) ≡ count_up (counted_on counts d disk) n)
         → (n : ℕ) × (numbers_on disk (writes_on counts (d ∷ disks) ++ map due_flush flushes) ≡ count_up (counts disk) n)
     one true e rest =
-        let is : d ≡ disk = eqb-true d disk e in
-        (suc rest.0, ap (λ b. map (λ (call : DueCall). call.number) (if b then due_write d (counts d) ∷ filter (λ call. not (is_flush call) && (call.disk == disk)) (writes_on (counted_on counts d) disks ++ map due_flush flushes)
-            else filter (λ call. not (is_flush call) && (call.disk == disk)) (writes_on (counted_on counts d) disks ++ map due_flush flushes))) e
-            ∙ ap (λ ns. counts d ∷ ns) (rest.1 ∙ ap (λ k. count_up k rest.0) (ap (λ b. if b then suc (counts disk) else counts disk) (eq-eqb disk d (sym is)))) ∙ ap (λ k. k ∷ count_up (suc (counts disk)) rest.0) (ap counts is))
-    one false e rest =
-        (rest.0, ap (λ b. map (λ (call : DueCall). call.number) (if b then due_write d (counts d) ∷ filter (λ call. not (is_flush call) && (call.disk == disk)) (writes_on (counted_on counts d) disks ++ map due_flush flushes)
-            else filter (λ call. not (is_flush call) && (call.disk == disk)) (writes_on (counted_on counts d) disks ++ map due_flush flushes))) e
-            ∙ rest.1 ∙ ap (λ k. count_up k rest.0) (ap (λ b. if b then suc (counts disk) else counts disk) (not_same disk d (λ same. true≢false (sym (eq-eqb d disk (sym same)) ∙ e)))))
+        let is : d ≡ disk = eqb-true d disk e in (
+          suc rest.0,
+          ap (λ b. map (λ (call : DueCall). call.number) (if b then due_write d (counts d) ∷ filter (λ call. not (is_flush call) && (call.disk == disk)) (writes_on (counted_on counts d) disks ++ map due_flush flushes)
+              else filter (λ call. not (is_flush call) && (call.disk == disk)) (writes_on (counted_on counts d) disks ++ map due_flush flushes))) e
+              ∙ ap (λ ns. counts d ∷ ns) (rest.1 ∙ ap (λ k. count_up k rest.0) (ap (λ b. if b then suc (counts disk) else counts disk) (eq-eqb disk d (sym is)))) ∙ ap (λ k. k ∷ count_up (suc (counts disk)) rest.0) (ap counts is),
+        )
+    one false e rest = (
+      rest.0,
+      ap (λ b. map (λ (call : DueCall). call.number) (if b then due_write d (counts d) ∷ filter (λ call. not (is_flush call) && (call.disk == disk)) (writes_on (counted_on counts d) disks ++ map due_flush flushes)
+          else filter (λ call. not (is_flush call) && (call.disk == disk)) (writes_on (counted_on counts d) disks ++ map due_flush flushes))) e
+          ∙ rest.1 ∙ ap (λ k. count_up k rest.0) (ap (λ b. if b then suc (counts disk) else counts disk) (not_same disk d (λ same. true≢false (sym (eq-eqb d disk (sym same)) ∙ e)))),
+    )
 
 length_up : (first n : ℕ) → length (count_up first n) ≡ n
 length_up first zero = refl

@@ -15,7 +15,7 @@ mod volume;
 pub use group::{Holder, Stage};
 pub use item::{Action, Change, Item, Write};
 pub use laws::{
-    flows_are_once_in_order, headline_of_runs, pools_ascend_by_name, pools_are_maps,
+    flows_are_once_in_order, headline_of_runs, pools_are_maps, pools_ascend_by_name,
     runs_keep_flows_sound, runs_keep_views_sound, steps_follow_runs,
 };
 pub use refusal::Refusal;

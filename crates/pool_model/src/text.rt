@@ -51,7 +51,10 @@ impl Name {
     pub fn is_before(&self, other: &Name) -> bool
         ensures { result ≡ is_before self.now other.now }
     {
-        self.letters.as_slice().cmp(other.letters.as_slice()).is_lt()
+        self.letters
+            .as_slice()
+            .cmp(other.letters.as_slice())
+            .is_lt()
     }
 
     pub fn copied(&self, alloc: Global) -> Result<Name, AllocError>

@@ -103,8 +103,8 @@ fn lay_group(
         ComesTo shape (suc before) (volume_at name.now (applied (suc before) pool items.now)) →
         HasRange buffer.old (bytes_or_zeros (volume_at name.now pool) shape.size) offset →
         HasRange buffer.new
-            (bytes_or_zeros (volume_at name.now (applied (suc before) pool items.now)) shape.size)
-            offset }
+        (bytes_or_zeros (volume_at name.now (applied (suc before) pool items.now)) shape.size)
+        offset }
 {
     if shape.group <= before {
         lay_over(items.writes(), name, shape.size, offset, buffer);
