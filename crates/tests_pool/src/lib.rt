@@ -1,5 +1,5 @@
-//! Tests of the machine, the pool and its programs: schedules with their replies, over disks in memory that fail as they
-//! are told, and what only code can say. Nothing here is proved but that it is safe.
+//! Tests of the machine and the pool: schedules with their replies, over disks in memory that fail as they are told and files
+//! that are changed behind the pool's back, and what only code can say. Nothing here is proved but that it is safe.
 #![tactic(auto)]
 
 #[cfg(test)]
@@ -10,14 +10,6 @@ mod faulty_pool;
 mod parts;
 #[cfg(test)]
 mod playing;
-#[cfg(test)]
-mod programs_tests;
-#[cfg(test)]
-mod random_schedules;
-#[cfg(test)]
-mod rows;
-#[cfg(test)]
-mod schedule_words;
 #[cfg(test)]
 mod schedules;
 #[cfg(test)]

@@ -1,59 +1,9 @@
-//! What running a schedule tells.
+//! What a line is replied.
 use pool_model::{Refusal, Reply};
-use programs::{StepMachine, answer, schedule};
+use programs::{StepMachine, answer};
 use schedule_lines::{Line, parse};
 use std::alloc::Global;
-use std::io::BufRead;
 use std::test::Fail;
-
-/// The lines of rows `LINE -> REPLY`.
-fn fronts(alloc: Global, parts: &[&str]) -> Result<String, Fail> {
-    let mut text = String::new(alloc);
-    for rows in parts {
-        for row in rows.lines() {
-            let (line, _) = row.split_once(" -> ").unwrap_or((row, ""));
-            text.push_str(line)?;
-            text.push_str("\n")?;
-        }
-    }
-    Ok(text)
-}
-
-/// The replies of rows, and that the schedule was run to its end.
-fn backs(alloc: Global, parts: &[&str]) -> Result<String, Fail> {
-    let mut text = String::new(alloc);
-    for rows in parts {
-        for row in rows.lines() {
-            let (_, reply) = row.split_once(" -> ").unwrap_or(("", row));
-            text.push_str(reply)?;
-            text.push_str("\n")?;
-        }
-    }
-    text.push_str("0")?;
-    Ok(text)
-}
-
-/// The output, then what is told of a fault, then the number that the process ends with.
-pub fn told<P: StepMachine>(alloc: Global, input: &str) -> Result<String, Fail> {
-    told_of::<P, _>(alloc, input.as_bytes())
-}
-
-/// The same of any reader.
-pub fn told_of<P: StepMachine, R: BufRead + Drop>(alloc: Global, input: R) -> Result<String, Fail> {
-    let mut output = Vec::new(alloc);
-    let mut errors = Vec::new(alloc);
-    let status = schedule::<P, _, _, _>(alloc, input, &mut output, &mut errors);
-    let output = String::from_utf8(output)?;
-    let errors = String::from_utf8(errors)?;
-    Ok(format!(in alloc; "{output}{errors}{}", status.number())?)
-}
-
-/// What running rows tells, and what they say that it does.
-pub fn ran<P: StepMachine>(alloc: Global, parts: &[&str]) -> Result<(String, String), Fail> {
-    let input = fronts(alloc, parts)?;
-    let told = told::<P>(alloc, input.as_str())?;
-    Ok((told, backs(alloc, parts)?))
-}
 
 /// What a pool replies to a line.
 pub fn reply_to<P: StepMachine>(alloc: Global, pool: &mut P, line: &str) -> Result<Reply, Fail> {
