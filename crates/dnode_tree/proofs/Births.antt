@@ -72,12 +72,12 @@ all_behind (write ∷ writes) level first behind =
     behind_it write writes level first (All-head (λ (w : BlockWrite). first + 128 ^ level ≤ w.id) write writes behind)
     ∙ all_behind writes level first (All-tail (λ (w : BlockWrite). first + 128 ^ level ≤ w.id) write writes behind)
 
-behind_others : (writes rest : List BlockWrite) (level first : ℕ) → All (λ write. first + 128 ^ level ≤ write.id) rest → reaches (writes ++ rest) level first ≡ reaches writes level first
+pub behind_others : (writes rest : List BlockWrite) (level first : ℕ) → All (λ write. first + 128 ^ level ≤ write.id) rest → reaches (writes ++ rest) level first ≡ reaches writes level first
 behind_others [] rest level first behind = all_behind rest level first behind
 behind_others (write ∷ writes) rest level first behind =
     ap (λ found. if nat_lt write.id first then found else (if nat_lt write.id (first + 128 ^ level) then true else found)) (behind_others writes rest level first behind)
 
-before_others : (writes rest : List BlockWrite) (level first : ℕ) → All (λ write. write.id < first) writes → reaches (writes ++ rest) level first ≡ reaches rest level first
+pub before_others : (writes rest : List BlockWrite) (level first : ℕ) → All (λ write. write.id < first) writes → reaches (writes ++ rest) level first ≡ reaches rest level first
 before_others [] rest level first before = refl
 before_others (write ∷ writes) rest level first before =
     before_it write (writes ++ rest) level first (All-head (λ (w : BlockWrite). w.id < first) write writes before)

@@ -9,6 +9,7 @@ pub mod Births
 pub mod Fills
 pub mod Exchanging
 pub mod NewArrays
+pub mod Spots
 pub mod Steps
 pub mod Rewriting
 pub mod Holes
@@ -16,6 +17,7 @@ pub mod Roots
 pub mod WritingParts
 pub mod Raising
 pub mod WholeTree
+pub mod Raised
 pub mod WayLemmas
 pub mod Walks
 pub mod Standing

@@ -3,6 +3,7 @@ pub mod Freeing
 pub mod Laws
 pub mod PartsRewritten
 pub mod Rewriting
+pub mod Spots
 pub mod Subtree
 pub mod Tree
 pub mod Writes

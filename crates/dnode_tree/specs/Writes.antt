@@ -1,5 +1,5 @@
 -- Writes of data blocks.
-use Rattle.std.specs.Prelude.{ℕ, ◌≡◌, ◌⊎◌, ◌*◌, ◌<◌, ◌≤◌, ◌==◌, cond, List, [], ◌∷◌, length, Option, Some, All, AllPairs, if◌then◌else◌}
+use Rattle.std.specs.Prelude.{ℕ, ◌≡◌, ◌⊎◌, ◌*◌, ◌<◌, ◌≤◌, ◌==◌, cond, max, List, [], ◌∷◌, length, Option, Some, All, AllPairs, if◌then◌else◌}
 use Rattle.dnode.specs.declared.node.ObjectNode.{ObjectNode}
 use Rattle.block_store.specs.declared.refusal.Refusal.{Refusal}
 use Rattle.block_store.specs.declared.refusal.Refusal.TheVariants.{NoMemory, NoSpace}
@@ -26,6 +26,11 @@ AreWholeBlocks node writes = All (λ write. length write.bytes.items ≡ node.da
 abbrev pub written : List BlockWrite → (ℕ → Option (List ℕ)) → ℕ → Option (List ℕ)
 written [] array id = array id
 written (write ∷ writes) array id = if write.id == id then Some write.bytes.items else written writes array id
+
+-- the highest id of what is written, and of the one that there was
+abbrev pub highest_with : List BlockWrite → ℕ → ℕ
+highest_with [] highest = highest
+highest_with (write ∷ writes) highest = highest_with writes (max highest write.id)
 
 -- how many copies the blocks of a level have
 abbrev pub copies_at : CopyCounts → ℕ → ℕ

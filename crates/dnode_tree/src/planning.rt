@@ -1,5 +1,5 @@
 //! One block of an object that is planned.
-ghost use Rattle.std.specs.Prelude.{◌≡◌, ◌*◌, ◌^◌, ◌<◌, ℕ, List, length, IfOk, IfErr};
+ghost use Rattle.std.specs.Prelude.{◌≡◌, ◌*◌, ◌^◌, ◌<◌, ◌∷◌, [], ℕ, List, length, OnOk, IfOk, IfErr};
 ghost use Rattle.std.specs.List.{AllByRecursion};
 ghost use Rattle.block_pointer.specs.Block.{FitsBlock};
 ghost use Rattle.block_pointer.specs.Copies.{dvas};
@@ -8,6 +8,7 @@ ghost use Rattle.block_store.specs.Blocks.{Contents, Adds};
 ghost use Rattle.block_store.specs.Plans.{Plans};
 ghost use Rattle.block_store.specs.Reading.{Asks};
 ghost use Rattle.block_store.specs.Steps.{OnlyReadsAndPlans};
+ghost use Rattle.dnode_tree.specs.Spots.{HavePlaces, LacksPlaces};
 ghost use Rattle.dnode_tree.specs.Subtree.{asked_of};
 ghost use Rattle.dnode_tree.specs.Tree.{property_of};
 ghost use Rattle.dnode_tree.specs.Writes.{copies_at, HasNoRoom, IsForRoom};
@@ -52,6 +53,12 @@ impl<'a> Rewriting<'a> {
         ensures no_room { IfErr result (λ refusal. refusal ≡ Refusal.NoSpace
             → (missing : List ℕ)
             → HasNoRoom store.old store.new missing self.entry.node.now self.entry.copies) }
+        ensures place { OnOk result ((first : ℕ)
+            → HavePlaces self.entry.node.now self.entry.copies store.old.spaces
+            ((record { level = level; first = first }) ∷ []) store.new.spaces) }
+        ensures no_place { IfErr result (λ refusal. refusal ≡ Refusal.NoSpace → (first : ℕ)
+            → LacksPlaces self.entry.node.now self.entry.copies store.old.spaces
+            ((record { level = level; first = first }) ∷ []) store.new.spaces) }
     {
         let block = NewBlock {
             property: property_at(self.node, level),

@@ -1,5 +1,5 @@
 //! Several data blocks of an object are written at once.
-ghost use Rattle.std.specs.Prelude.{◌≡◌, ◌-◌, ◌+◌, ◌*◌, ◌^◌, ◌<◌, ◌≤◌, ℕ, List, Option, All, IfOk, IfErr};
+ghost use Rattle.std.specs.Prelude.{◌≡◌, ◌-◌, ◌+◌, ◌*◌, ◌^◌, ◌<◌, ◌≤◌, ◌||◌, ℕ, List, Option, All, OnOk, IfOk, IfErr};
 ghost use Rattle.block_pointer.specs.declared.block.Block.{Block};
 ghost use Rattle.block_pointer.specs.Pointer.{Fits};
 ghost use Rattle.dnode.specs.Node.{FitsNode};
@@ -9,9 +9,10 @@ ghost use Rattle.block_store.specs.Steps.{OnlyReadsAndPlans, AnswersAreTrue, Los
 ghost use Rattle.dnode_tree.specs.Births.{HasBirths, height_of, births_after};
 ghost use Rattle.dnode_tree.specs.PartsRewritten.{root_part, WritesPart, LacksRoomForPart, Raises, LacksRoomToRaise};
 ghost use Rattle.dnode_tree.specs.Rewriting.{IsGrown, IsRewritten};
+ghost use Rattle.dnode_tree.specs.Spots.{spots_in, spots_of, spots_of_raise, is_there, has_some, HavePlaces, LacksPlaces};
 ghost use Rattle.dnode_tree.specs.Subtree.{HasProperty};
 ghost use Rattle.dnode_tree.specs.Tree.{property_of, IsTree};
-ghost use Rattle.dnode_tree.specs.Writes.{AreInOrder, AreBetween, AreWholeBlocks, written, HasNoRoom, IsForRoom};
+ghost use Rattle.dnode_tree.specs.Writes.{AreInOrder, AreBetween, AreWholeBlocks, written, highest_with, HasNoRoom, IsForRoom};
 
 use crate::descent::span;
 use crate::subtree::{Parts, Subtree};
@@ -66,6 +67,13 @@ pub fn put_many<D: Disk + Drop>(
         → IsTree stored bound node.now array blocks → bound ≤ birth
         → AnswersAreTrue store.old store.new
         → LossIsTolerable store.old store.new missing.now → IsForRoom refusal) }
+
+    // For each of these blocks places are taken, once, and for nothing else; where there is no room, it is so behind the first
+    // of them.
+    ensures places { OnOk result (HavePlaces node.now copies store.old.spaces
+        (spots_of node.now writes.now) store.new.spaces) }
+    ensures no_place { IfErr result (λ refusal. refusal ≡ Refusal.NoSpace → LacksPlaces node.now
+        copies store.old.spaces (spots_of node.now writes.now) store.new.spaces) }
 {
     let rewriting = Rewriting {
         node,
@@ -118,6 +126,14 @@ impl<'a> Rewriting<'a> {
             self.entry.node.now self.entry.copies) }
         ensures known { IfErr result
             (LacksRoomForPart self.entry store.old store.new (root_part self.entry) 0) }
+        ensures there { IfOk result (λ pointer. is_there pointer
+            ≡ (is_there self.entry.node.now.pointer || has_some writes.now)) }
+        ensures places { OnOk result (HavePlaces self.entry.node.now self.entry.copies
+            store.old.spaces (spots_in writes.now (height_of self.entry.node.now) 0)
+            store.new.spaces) }
+        ensures no_place { IfErr result (λ refusal. refusal ≡ Refusal.NoSpace
+            → LacksPlaces self.entry.node.now self.entry.copies store.old.spaces
+            (spots_in writes.now (height_of self.entry.node.now) 0) store.new.spaces) }
     {
         if writes.is_empty() {
             return Ok(self.node.pointer);
@@ -158,6 +174,13 @@ impl<'a> Rewriting<'a> {
             self.entry.node.now self.entry.copies) }
         ensures known { IfErr result (LacksRoomToRaise self.entry store.old store.new root level
             writes.now replaced.old.items) }
+        ensures there { IfOk result (λ pointer.
+            is_there pointer ≡ (is_there root || has_some writes.now)) }
+        ensures places { OnOk result (HavePlaces self.entry.node.now self.entry.copies
+            store.old.spaces (spots_of_raise root writes.now level) store.new.spaces) }
+        ensures no_place { IfErr result (λ refusal. refusal ≡ Refusal.NoSpace
+            → LacksPlaces self.entry.node.now self.entry.copies store.old.spaces
+            (spots_of_raise root writes.now level) store.new.spaces) }
     {
         if root.is_hole() && writes.is_empty() {
             return Ok(BlockPtr::Hole);
@@ -183,6 +206,7 @@ fn highest_of(before: u64, writes: &[BlockWrite]) -> u64
     ensures room { All (λ write. write.id ≤ result) writes.now }
     ensures least { (highest : ℕ) → before ≤ highest → All (λ write. write.id ≤ highest) writes.now
         → result ≤ highest }
+    ensures value { result ≡ highest_with writes.now before }
 {
     let mut highest = before;
     for write in writes {

@@ -1,5 +1,7 @@
 use Rattle.std.proofs.Common.{◌≡◌, ℕ, suc, ◌+◌, ◌*◌, ◌^◌, ◌<◌, ◌≤◌, Some, None, true, if◌then◌else◌, List, ◌∷◌, [], length, get_or, inl, refl, sym, ap, ◌∙◌, subst, arith, rules, add-one}
-use Rattle.std.proofs.lemmas.Result.{IfOk-weaker, IfErr-weaker}
+use Rattle.std.proofs.lemmas.Result.{IfOk-weaker, IfErr-weaker, on_ok_weaker}
+use Rattle.block_store.specs.Steps.{OnlyReadsBlocks}
+use Rattle.block_store.specs.Store.{Store}
 use Rattle.dnode.specs.Indirect.{SpellsIndirect}
 use Rattle.block_store.specs.Reading.{Asks}
 use Rattle.dnode_tree.proofs.Births.{ages_below, reaches_first}
@@ -7,9 +9,11 @@ use Rattle.dnode_tree.specs.Births.{reaches}
 use Rattle.dnode_tree.specs.PartsRewritten.{Ages}
 use Rattle.dnode_tree.specs.declared.writes.BlockWrite.{BlockWrite}
 use Rattle.dnode_tree.proofs.Fitting.{indirect_sectors}
-use Rattle.dnode_tree.proofs.NewArrays.{written_first}
+use Rattle.dnode_tree.proofs.NewArrays.{written_first, behind_all}
 use Rattle.dnode_tree.proofs.Refusing.{passed_on, ok_both}
 use Rattle.dnode_tree.proofs.Rewriting.{rewriting_begins, sum_fits, root_rewritten}
+use Rattle.dnode_tree.proofs.Spots.{parts_begin, parts_fail, parts_end, root_fails, reached_leaf, reached_below}
+use Rattle.dnode_tree.specs.Spots.{HavePlaces, LacksPlaces, spots_in, spots_below}
 use Rattle.dnode_tree.proofs.Roots.{indirect_length, leaf_rewritten, part_has_root}
 use Rattle.block_store.proofs.Steps.{steps_none, steps_on, steps_read}
 use Rattle.dnode_tree.proofs.Steps.{true_sooner, true_later, few_later, no_room_on}
@@ -137,7 +141,7 @@ write_parts-loop-place-preserved g t c =
     omega (arith, c.start_of-start.ensures.value, c.span.ensures.value) in
     writing_goes_on _ _ _ _ _ _ _ _ _ _ _ _ _ _ _ _ c.loop-place.invariant c.loop-place-test.true c.requires.bound _ _ middle_is c.count_before.ensures.before c.count_before.ensures.behind
     _ _ _ _ c.in_ok-block.ensures.steps c.start_of-start.ensures.value c.get.ensures.value c.split_at.ensures.front
-    _ _ _ _ c.set.ensures c.split_at.ensures.back c.in_ok-block.ensures.fits.filled c.in_ok-block.ensures.rewritten
+    _ _ _ _ c.set.ensures c.split_at.ensures.back c.in_ok-block.ensures.fits.filled c.in_ok-block.ensures.places c.in_ok-block.ensures.rewritten
 
 pub write_parts-returns-in_default-clause-known : goal.write_parts-returns-in_default-clause-known
 write_parts-returns-in_default-clause-known g t c =
@@ -195,8 +199,84 @@ write_parts-loop-place-init g t c = record {
   whole = c.requires.whole;
   filled = c.requires.some;
   count = c.requires.count;
+  placed = parts_begin _ _ _ _ _ _ _;
   rewriting = λ ages stored planned begun array new_array before after noted plans rewritten has aged honest. (begun, after, plans, rewritten, has, aged);
 }
 
 pub write_parts-returns-clause-steps : goal.write_parts-returns-clause-steps
 write_parts-returns-clause-steps g t c = steps_on _ _ _ _ c.loop-place.invariant.steps (c.plan_block.ensures.steps c.args.self.missing.now)
+
+-- ---- places
+
+pub write_part-returns-then-part-eq0-clause-places : goal.write_part-returns-then-part-eq0-clause-places
+write_part-returns-then-part-eq0-clause-places g t c =
+    let reached : reaches c.args.writes.now c.args.part.level c.args.first ≡ true = part_reached c.args.writes.now c.args.part.level c.args.first c.requires.some c.requires.between in
+    on_ok_weaker c.plan_block.result
+    (λ have.
+    subst (λ spots. HavePlaces c.args.self.node.now c.args.self.copies c.args.store.now.spaces spots c.plan_block.new.store.spaces)
+    (sym (reached_leaf c.args.writes.now c.args.part.level c.args.first c.if-part-eq0.true reached)) (have c.args.first))
+    c.plan_block.ensures.place
+
+pub write_part-returns-then-part-eq0-clause-no_place : goal.write_part-returns-then-part-eq0-clause-no_place
+write_part-returns-then-part-eq0-clause-no_place g t c =
+    let reached : reaches c.args.writes.now c.args.part.level c.args.first ≡ true = part_reached c.args.writes.now c.args.part.level c.args.first c.requires.some c.requires.between in
+    IfErr-weaker c.plan_block.result _ _
+    (λ refusal is none.
+    subst (λ spots. LacksPlaces c.args.self.node.now c.args.self.copies c.args.store.now.spaces spots c.plan_block.new.store.spaces)
+    (sym (reached_leaf c.args.writes.now c.args.part.level c.args.first c.if-part-eq0.true reached)) (is none c.args.first))
+    c.plan_block.ensures.no_place
+
+-- reads take no places
+same_spaces : (old new : Store) (missing : List ℕ) → OnlyReadsBlocks old new missing → new.spaces ≡ old.spaces
+same_spaces old new missing reads = ap (λ (s : Store). s.spaces) reads.rest
+
+pub write_part-returns-clause-places : goal.write_part-returns-clause-places
+write_part-returns-clause-places g t c =
+    let e : c.args.part.level ≡ suc c.in_ok-parts.parts.level = omega (arith, c.in_ok-parts.ensures.level) in
+    let reached : reaches c.args.writes.now c.args.part.level c.args.first ≡ true = part_reached c.args.writes.now c.args.part.level c.args.first c.requires.some c.requires.between in
+    let spaces = same_spaces _ _ _ c.in_ok-parts.ensures.reads in
+    on_ok_weaker c.write_parts.result
+    (λ have.
+    subst (λ spots. HavePlaces c.args.self.node.now c.args.self.copies c.args.store.now.spaces spots c.write_parts.new.store.spaces)
+    (sym (reached_below c.args.writes.now c.args.part.level c.in_ok-parts.parts.level c.args.first e reached))
+    (subst (λ before. HavePlaces c.args.self.node.now c.args.self.copies before (spots_below c.args.writes.now c.in_ok-parts.parts.level c.args.first 0 128) c.write_parts.new.store.spaces) spaces have))
+    c.write_parts.ensures.places
+
+pub write_part-returns-clause-no_place : goal.write_part-returns-clause-no_place
+write_part-returns-clause-no_place g t c =
+    let e : c.args.part.level ≡ suc c.in_ok-parts.parts.level = omega (arith, c.in_ok-parts.ensures.level) in
+    let reached : reaches c.args.writes.now c.args.part.level c.args.first ≡ true = part_reached c.args.writes.now c.args.part.level c.args.first c.requires.some c.requires.between in
+    let spaces = same_spaces _ _ _ c.in_ok-parts.ensures.reads in
+    IfErr-weaker c.write_parts.result _ _
+    (λ refusal is none.
+    subst (λ spots. LacksPlaces c.args.self.node.now c.args.self.copies c.args.store.now.spaces spots c.write_parts.new.store.spaces)
+    (sym (reached_below c.args.writes.now c.args.part.level c.in_ok-parts.parts.level c.args.first e reached))
+    (subst (λ before. LacksPlaces c.args.self.node.now c.args.self.copies before (spots_below c.args.writes.now c.in_ok-parts.parts.level c.args.first 0 128) c.write_parts.new.store.spaces) spaces (is none)))
+    c.write_parts.ensures.no_place
+
+pub write_parts-returns-in_err-block-clause-no_place : goal.write_parts-returns-in_err-block-clause-no_place
+write_parts-returns-in_err-block-clause-no_place g t c =
+    let middle_is : c.start_of-start.result + c.span.result ≡ (c.args.first + c.loop-place.place * 128 ^ c.args.parts.level) + 128 ^ c.args.parts.level =
+    omega (arith, c.start_of-start.ensures.value, c.span.ensures.value) in
+    passed_on _ _ _ c.from_residual.ensures.1
+    (λ none.
+    parts_fail _ _ _ _ _ _ _ _ _ _ c.loop-place.invariant.placed c.loop-place-test.true _ _ middle_is c.count_before.ensures.before
+    (behind_all _ _ _ c.loop-place.invariant.order c.count_before.ensures.behind) _
+    (subst (λ ws. LacksPlaces c.args.self.node.now c.args.self.copies c.loop-place.store.spaces (spots_in ws c.args.parts.level (c.args.first + c.loop-place.place * 128 ^ c.args.parts.level)) c.write_part.new.store.spaces)
+    c.split_at.ensures.front
+    (subst (λ n. LacksPlaces c.args.self.node.now c.args.self.copies c.loop-place.store.spaces (spots_in c.split_at.result.0.now c.args.parts.level n) c.write_part.new.store.spaces)
+    c.start_of-start.ensures.value (c.in_err-block.ensures.no_place none))))
+
+pub write_parts-returns-clause-places : goal.write_parts-returns-clause-places
+write_parts-returns-clause-places g t c =
+    let all : c.loop-place.place ≡ 128 = omega (arith, c.loop-place-test.false, c.loop-place.auto.place-end, c.requires.from) in
+    on_ok_weaker c.plan_block.result
+    (λ have. parts_end _ _ _ _ _ _ _ _ _ _ _ c.loop-place.invariant.placed all (rw add-one at (have c.args.first)))
+    c.plan_block.ensures.place
+
+pub write_parts-returns-clause-no_place : goal.write_parts-returns-clause-no_place
+write_parts-returns-clause-no_place g t c =
+    let all : c.loop-place.place ≡ 128 = omega (arith, c.loop-place-test.false, c.loop-place.auto.place-end, c.requires.from) in
+    IfErr-weaker c.plan_block.result _ _
+    (λ refusal is none. root_fails _ _ _ _ _ _ _ _ _ _ _ c.loop-place.invariant.placed all (rw add-one at (is none c.args.first)))
+    c.plan_block.ensures.no_place

@@ -1,4 +1,5 @@
-use Rattle.std.proofs.Common.{◌<◌, ◌∙◌, ap, sym, subst, arith}
+use Rattle.block_pointer.specs.Copies.{dvas}
+use Rattle.std.proofs.Common.{◌<◌, ◌∙◌, [], ap, sym, subst, arith}
 use Rattle.block_store.specs.Blocks.{count_of}
 use Rattle.block_store.specs.Places.{RanOut}
 use Rattle.block_pointer.specs.Property.{FitsProperty}
@@ -6,6 +7,8 @@ use Rattle.dnode_tree.proofs.Fitting.{chosen_fit, property_fits}
 use Rattle.dnode_tree.proofs.Refusing.{passed_on, only_no_space}
 use Rattle.block_store.proofs.Steps.{no_room_now, steps_plan}
 use Rattle.dnode_tree.specs.Tree.{property_of}
+use Rattle.block_store.specs.Places.{AreChosen}
+use Rattle.dnode_tree.proofs.Spots.{one_placed, none_placed}
 use Rattle.dnode_tree.proofs.writes.Rewriting.plan_block.Goals as goal
 
 pub returns-clause-fits : goal.returns-clause-fits
@@ -44,3 +47,18 @@ pub returns-clause-steps : goal.returns-clause-steps
 returns-clause-steps g c =
     λ missing. steps_plan _ _ missing _ _ _ c.plan_write.result _ c.plan_write.ensures.disks c.plan_write.ensures.out c.plan_write.ensures.spans c.plan_write.ensures.shapes c.plan_write.ensures.keeps
     c.plan_write.ensures.places c.plan_write.ensures.err_spaces c.plan_write.ensures.due c.plan_write.ensures.err_due c.plan_write.ensures.planned c.plan_write.ensures.err
+
+pub returns-in_err-planned-clause-no_place : goal.returns-in_err-planned-clause-no_place
+returns-in_err-planned-clause-no_place g c =
+    passed_on _ _ _ c.from_residual.ensures.1
+    (λ is first.
+    none_placed c.args.self.node.now c.args.self.copies _ _ c.args.level first
+    (subst (λ n. RanOut c.args.store.now.spaces (property_of c.args.self.node.now c.args.level).sectors n c.plan_write.new.self.spaces) c.at.ensures
+    (subst (λ p. RanOut c.args.store.now.spaces p.sectors (count_of c.at.result) c.plan_write.new.self.spaces) c.property_at.ensures
+    (only_no_space _ _ c.in_err-planned.ensures.refused is))))
+
+pub returns-clause-place : goal.returns-clause-place
+returns-clause-place g c =
+    λ first.
+    one_placed c.args.self.node.now c.args.self.copies _ _ c.args.level first _ (c.in_ok-planned.ensures.block.count ∙ c.at.ensures)
+    (subst (λ p. AreChosen c.args.store.now.spaces [] p.sectors (dvas c.in_ok-planned.planned.copies) c.plan_write.new.self.spaces) c.property_at.ensures c.in_ok-planned.ensures.places)

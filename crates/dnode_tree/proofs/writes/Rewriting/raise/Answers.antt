@@ -1,10 +1,13 @@
 use Rattle.std.proofs.lemmas.List.{nil_from_length}
 use Rattle.block_pointer.specs.declared.pointer.BlockPtr.TheVariants.{Hole}
-use Rattle.std.proofs.Common.{◌≡◌, length, rules, [], ◌∷◌, replicate, set, ap, ◌∙◌, arith}
+use Rattle.std.proofs.Common.{◌≡◌, ◌≢◌, ◌<◌, ◌||◌, inl, inr, true, if◌then◌else◌, refl, sym, subst, length, rules, [], ◌∷◌, replicate, set, ap, ◌∙◌, arith}
 use Rattle.block_store.proofs.Steps.{steps_none}
 use Rattle.dnode_tree.proofs.Raising.{raising_begins, raised, hole_raised, six_levels}
 use Rattle.dnode_tree.proofs.Refusing.{passed_on}
 use Rattle.dnode_tree.specs.Tree.{property_of}
+use Rattle.dnode_tree.specs.Spots.{spots_below, spots_of_raise, is_there, has_some, HavePlaces, LacksPlaces}
+use Rattle.dnode_tree.proofs.Raised.{test_passes}
+use Rattle.dnode_tree.proofs.writes.Rewriting.raise.Goals.{else-is_hole-via-then-is_hole+else-is_empty, else-is_hole-via-else-is_hole}
 use Rattle.dnode_tree.proofs.writes.Rewriting.raise.Goals as goal
 
 pub write_parts-requires-clause-room : goal.write_parts-requires-clause-room
@@ -52,3 +55,47 @@ returns-then-is_empty-clause-rewritten g c =
       plans,
       hole_raised planned now (property_of c.args.self.node.now) c.args.level c.args.self.birth c.args.root array new_array before noted _ c.args.writes.now is (nil_from_length c.args.writes.now none) behind has part,
     )
+
+pub returns-then-is_empty-clause-places : goal.returns-then-is_empty-clause-places
+returns-then-is_empty-clause-places g c =
+    let is : c.args.root ≡ Hole = search rules in
+    let none : length c.args.writes.now ≡ 0 = search rules in
+    subst (λ spots. HavePlaces c.args.self.node.now c.args.self.copies c.args.store.now.spaces spots c.args.store.now.spaces)
+    (sym (ap (λ p. spots_of_raise p c.args.writes.now c.args.level) is ∙ ap (λ ws. spots_of_raise Hole ws c.args.level) (nil_from_length c.args.writes.now none))) refl
+
+pub returns-then-is_empty-clause-there : goal.returns-then-is_empty-clause-there
+returns-then-is_empty-clause-there g c =
+    let is : c.args.root ≡ Hole = search rules in
+    let none : length c.args.writes.now ≡ 0 = search rules in
+    sym (ap (λ p. is_there p || has_some c.args.writes.now) is ∙ ap has_some (nil_from_length c.args.writes.now none))
+
+pub returns-in_err-block-clause-no_place : goal.returns-in_err-block-clause-no_place
+returns-in_err-block-clause-no_place g c =
+    let passes : (is_there c.args.root || has_some c.args.writes.now) ≡ true =
+    test_passes c.args.root c.args.writes.now (elim c.else-is_hole.branch [
+      | else-is_hole-via-then-is_hole+else-is_empty w ↦ inr (let some : 0 < length c.args.writes.now = search rules in some)
+      | else-is_hole-via-else-is_hole w ↦ inl (let other : c.args.root ≢ Hole = search rules in other)
+    ]) in
+    passed_on _ _ _ c.from_residual-in_err-block.ensures.1
+    (λ none.
+    subst (λ test. LacksPlaces c.args.self.node.now c.args.self.copies c.args.store.now.spaces (if test then spots_below c.args.writes.now c.args.level 0 1 127 else []) c.write_parts.new.store.spaces)
+    (sym passes) (c.in_err-block.ensures.no_place none))
+
+pub returns-clause-places : goal.returns-clause-places
+returns-clause-places g c =
+    let passes : (is_there c.args.root || has_some c.args.writes.now) ≡ true =
+    test_passes c.args.root c.args.writes.now (elim c.else-is_hole.branch [
+      | else-is_hole-via-then-is_hole+else-is_empty w ↦ inr (let some : 0 < length c.args.writes.now = search rules in some)
+      | else-is_hole-via-else-is_hole w ↦ inl (let other : c.args.root ≢ Hole = search rules in other)
+    ]) in
+    subst (λ test. HavePlaces c.args.self.node.now c.args.self.copies c.args.store.now.spaces (if test then spots_below c.args.writes.now c.args.level 0 1 127 else []) c.write_parts.new.store.spaces)
+    (sym passes) c.in_ok-block.ensures.places
+
+pub returns-clause-there : goal.returns-clause-there
+returns-clause-there g c =
+    let passes : (is_there c.args.root || has_some c.args.writes.now) ≡ true =
+    test_passes c.args.root c.args.writes.now (elim c.else-is_hole.branch [
+      | else-is_hole-via-then-is_hole+else-is_empty w ↦ inr (let some : 0 < length c.args.writes.now = search rules in some)
+      | else-is_hole-via-else-is_hole w ↦ inl (let other : c.args.root ≢ Hole = search rules in other)
+    ]) in
+    sym passes

@@ -1,4 +1,4 @@
-use Rattle.std.proofs.Common.{◌≡◌, ◌-◌, ◌∙◌, length, if◌then◌else◌, sym, ap, rules}
+use Rattle.std.proofs.Common.{◌≡◌, ◌-◌, ◌∙◌, ◌||◌, refl, subst, length, if◌then◌else◌, sym, ap, rules}
 use Rattle.dnode.specs.Levels.{levels_of}
 use Rattle.dnode_tree.proofs.Births.{births_as}
 use Rattle.dnode_tree.specs.Births.{reaches}
@@ -6,6 +6,10 @@ use Rattle.std.proofs.lemmas.List.{nil_from_length}
 use Rattle.block_store.proofs.Steps.{steps_none}
 use Rattle.dnode_tree.proofs.Raising.{root_stays}
 use Rattle.dnode_tree.proofs.Refusing.{passed_on}
+use Rattle.dnode_tree.specs.Births.{height_of}
+use Rattle.dnode_tree.specs.Spots.{spots_in, is_there, has_some, HavePlaces}
+use Rattle.dnode_tree.proofs.Raised.{or_false, or_true}
+use Rattle.dnode_tree.proofs.Spots.{unreached}
 use Rattle.dnode_tree.proofs.writes.Rewriting.write_root.Goals as goal
 
 pub returns-then-is_empty-clause-rewritten : goal.returns-then-is_empty-clause-rewritten
@@ -31,3 +35,16 @@ returns-clause-rewritten g c = rw c.levels.ensures at c.in_ok-block.ensures.rewr
 
 pub returns-then-is_empty-clause-steps : goal.returns-then-is_empty-clause-steps
 returns-then-is_empty-clause-steps g c = steps_none _ _
+
+pub returns-then-is_empty-clause-places : goal.returns-then-is_empty-clause-places
+returns-then-is_empty-clause-places g c =
+    let none : length c.args.writes.now ≡ 0 = search rules in
+    let nil = nil_from_length c.args.writes.now none in
+    subst (λ spots. HavePlaces c.args.self.node.now c.args.self.copies c.args.store.now.spaces spots c.args.store.now.spaces)
+    (sym (ap (λ ws. spots_in ws (height_of c.args.self.node.now) 0) nil ∙ unreached (height_of c.args.self.node.now) 0)) refl
+
+pub returns-then-is_empty-clause-there : goal.returns-then-is_empty-clause-there
+returns-then-is_empty-clause-there g c =
+    let none : length c.args.writes.now ≡ 0 = search rules in
+    let nil = nil_from_length c.args.writes.now none in
+    sym (ap (λ ws. is_there c.args.self.node.now.pointer || has_some ws) nil ∙ or_false (is_there c.args.self.node.now.pointer))
