@@ -1,7 +1,6 @@
 -- Refusals and disks that are out.
-use Rattle.std.proofs.Common.{◌≡◌, ⊎_elim, inl, inr, ℕ, List, [], ◌∷◌, Bool, Option, Some, None, refl, sym, ap, ◌∙◌, subst}
+use Rattle.std.proofs.Common.{◌≡◌, ⊎_elim, inl, inr, ℕ, List, [], ◌∷◌, Bool, Option, None, refl, sym, ap, ◌∙◌, subst}
 use Rattle.std.specs.Prelude.{◌==◌, ◌||◌}
-use Rattle.pool_model.specs.declared.step.Phase.{Phase}
 use Rattle.pool_model.specs.declared.step.Step.{Step}
 use Rattle.pool_model.specs.declared.step.Step.TheVariants.{Hold, Device}
 use Rattle.pool_model.specs.declared.step.Reply.{Reply}

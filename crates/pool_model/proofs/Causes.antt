@@ -64,5 +64,5 @@ act_open_some a expected opened group now f =
 pub act_open : (a : Action) (expected opened group : ℕ) (now : PlainPool) {hold : Option ℕ} → hold ≡ Some group → act_refusal a expected opened now hold ≡ None → group ≡ opened
 act_open a expected opened group now h e = act_open_some a expected opened group now (subst (λ o. act_refusal a expected opened now o ≡ None) h e)
 
-pub closed_below : (opened waiting : ℕ) → nat_le greatest opened ≡ false → opened ≡ waiting → waiting < greatest
-closed_below opened waiting h e = grind (arith, nat_tests, h, e)
+pub below_greatest : (opened : ℕ) → nat_le greatest opened ≡ false → opened < greatest
+below_greatest opened h = grind (arith, nat_tests, h)

@@ -8,7 +8,7 @@ use Rattle.pool_model.specs.declared.step.Step.{Step}
 use Rattle.pool_model.specs.declared.step.Step.TheVariants.{Hold, Plan, Device}
 use Rattle.pool_model.specs.declared.step.Reply.{Reply}
 use Rattle.pool_model.specs.View.{View, Given, Idle, Unplanned, is_syncing, is_quiesced, waiting_group, open_group}
-use Rattle.pool_model.specs.Machine.{Run}
+use Rattle.pool_model.specs.Machine.{StepOf, Run}
 use Rattle.pool_model.specs.Accepted.{CountsFrom}
 use Rattle.pool_model.specs.Groups.{Counters, taken_upto, counters_of, AreInOrder, TakesNext, MovesRefused, MovesBy, GroupsMove, commits}
 use Rattle.pool_model.proofs.Moves.{IsPlanFault, MayStay, EachMove, by_move}
@@ -58,10 +58,13 @@ move_moves = record {
   committed = λ v given left e. (refl, refl, refl, refl);
 }
 
+pub group_step : (v : View) (given : Given) (step : Step) (reply : Reply) (w : View) → StepOf v given step reply w → MovesBy (counters_of v) step reply (counters_of w)
+group_step v given step reply w s = by_move (λ v given step reply w. MovesBy (counters_of v) step reply (counters_of w)) move_moves v given step reply w s
+
 pub told_moves : (v : View) (steps : List Step) (givens : List Given) (replies : List Reply) (w : View) → Run v steps givens replies w → GroupsMove (counters_of v) steps replies (counters_of w)
 told_moves v [] [] [] w r = ap counters_of r
 told_moves v (step ∷ steps) (given ∷ givens) (reply ∷ replies) w r =
-    (counters_of r.0, by_move (λ v given step reply w. MovesBy (counters_of v) step reply (counters_of w)) move_moves v given step reply r.0 r.1, told_moves r.0 steps givens replies w r.2)
+    (counters_of r.0, group_step v given step reply r.0 r.1, told_moves r.0 steps givens replies w r.2)
 told_moves v steps givens replies w r = absurd r
 
 in_order_by : (c : ℕ) (s q w : Bool) → (q ≡ true → w ≡ true) → AreInOrder (record { committed = c; taken = cond s (suc c) c; quiesced = cond q (suc (cond s (suc c) c)) (cond s (suc c) c); closed = cond w (suc (cond s (suc c) c)) (cond s (suc c) c); planned = false })

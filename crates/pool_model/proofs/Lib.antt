@@ -12,4 +12,5 @@ pub mod Committing
 pub mod Nows
 pub mod Counting
 pub mod Answered
+pub mod Answering
 pub mod Whole

@@ -1,6 +1,6 @@
 -- The ways in which the machine may go on, each from a view that shows what it needs.
 use Rattle.std.proofs.Common.{◌≡◌, ◌⊎◌, ⊎_elim, inl, inr, ◌≤◌, ◌<◌, ℕ, suc, List, [], ◌∷◌, Bool, true, false, true≢false, Option, Some, None, refl, sym, ap, ◌∙◌, subst}
-use Rattle.std.specs.Prelude.{nat_le, not, ◌&&◌, ◌||◌}
+use Rattle.std.specs.Prelude.{not, ◌&&◌, ◌||◌}
 use Rattle.pool_model.specs.declared.group.Stage.{Stage}
 use Rattle.pool_model.specs.declared.group.Stage.TheVariants.{Quiescing, Quiesced as QuiescedStage}
 use Rattle.pool_model.specs.declared.item.Action.{Action}
@@ -15,8 +15,9 @@ use Rattle.pool_model.specs.declared.refusal.Refusal.{Refusal}
 use Rattle.pool_model.specs.declared.refusal.Refusal.TheVariants.{NoMemory, DiskFault, NoSpace, Suspended, NotNow, BadPointer, BadDigest, BadMap}
 use Rattle.pool_model.specs.View.{View, Given, DueCall, Sync, Idle, Unplanned, Due, is_syncing, is_planned, is_quiesced, is_suspended, waiting_group, open_group, is_kept, hold_group, is_held, now_of}
 use Rattle.pool_model.specs.Refusals.{greatest, first_cause, may_plan, refusal_of}
-use Rattle.pool_model.specs.Machine.{with_hold, without_hold, with_accepted, taken, left_waiting, dropped, committed_next, IsQuiet, IsUnreadable, MayLack, without_memory, AreBytesOf, MayAnswer, StepOf}
-use Rattle.pool_model.proofs.Causes.{or_none, none_of, first_none, not_false, write_none, act_none, act_open, closed_below, quiescing}
+use Rattle.pool_model.specs.Flow.{Flow, flow_of, with_hold, without_hold, with_accepted}
+use Rattle.pool_model.specs.Machine.{with_flow, taken, dropped, committed_next, IsQuiet, IsUnreadable, MayLack, without_memory, AreBytesOf, MayAnswer, StepOf}
+use Rattle.pool_model.proofs.Causes.{or_none, first_none, not_false}
 
 -- a Plan that is refused leaves its group taken, unless the pool is suspended or no group is due
 abbrev pub IsPlanFault : Refusal → Type 0
@@ -43,15 +44,15 @@ pub record EachMove (P : View → Given → Step → Reply → View → Type 0) 
   pub stays : (v : View) (given : Given) (step : Step) (cause : Refusal) → MayStay step cause → NoFault step given → P v given step (Refused cause) v
   pub begun : (v : View) (given : Given) (timestamp : ℕ) (cause : Refusal) → IsPlanFault cause → P (record v { sync = Idle; waiting = Some QuiescedStage }) given (Plan timestamp) (Refused cause) (record v { sync = Unplanned; waiting = None })
   pub again : (v : View) (given : Given) (timestamp : ℕ) (cause : Refusal) → IsPlanFault cause → P (record v { sync = Unplanned }) given (Plan timestamp) (Refused cause) (record v { sync = Unplanned })
-  pub failed : (v : View) (given : Given) (disk : ℕ) (left : List DueCall) → IsFaultOn given disk → P (record v { sync = Due left }) given Device (Refused Suspended) (dropped v disk)
-  pub replanned : (v : View) (given : Given) (disk : ℕ) (left : List DueCall) → IsFaultOn given disk → P (record v { sync = Due left }) given Device (Replan disk) (dropped v disk)
+  pub failed : (v : View) (given : Given) (disk : ℕ) (left : List DueCall) → IsFaultOn given disk → P (record v { sync = Due left }) given Device (Refused Suspended) (dropped (record v { sync = Due left }) disk)
+  pub replanned : (v : View) (given : Given) (disk : ℕ) (left : List DueCall) → IsFaultOn given disk → P (record v { sync = Due left }) given Device (Replan disk) (dropped (record v { sync = Due left }) disk)
   pub moved : (v : View) (given : Given) (phase : Phase) (left rest : List DueCall) → given.fault ≡ None → P (record v { sync = Due left }) given Device (Moved phase) (record v { sync = Due rest })
   pub read : (v : View) (given : Given) (name : List ℕ) (offset len : ℕ) (bytes : List ℕ) → (given.trusted ≡ true → AreBytesOf (now_of v) name offset len bytes) → P v given (Read name offset len) (Bytes bytes) v
   pub read_under : (v : View) (given : Given) (group : ℕ) (name : List ℕ) (offset len : ℕ) (bytes : List ℕ) → is_kept v group ≡ true → (given.trusted ≡ true → AreBytesOf (v.pools group) name offset len bytes) → P v given (ReadUnder group name offset len) (Bytes bytes) v
-  pub held : (v : View) (given : Given) (writer : ℕ) → hold_group writer v.holds ≡ None → P v given (Hold writer) (Held (open_group v)) (with_hold v writer (open_group v))
-  pub wrote : (v : View) (given : Given) (w : Write) (group : ℕ) → hold_group w.writer v.holds ≡ Some group → w.number ≡ v.next w.writer → w.number ≤ greatest → P v given (WriteStep w) (Receipt group) (with_accepted v w.writer group (WriteItem w))
-  pub acted : (v : View) (given : Given) (a : Action) (group : ℕ) → hold_group a.writer v.holds ≡ Some group → a.number ≡ v.next a.writer → a.number ≤ greatest → group ≡ open_group v → P v given (Act a) (Receipt group) (with_accepted v a.writer group (ActionItem a))
-  pub released : (v : View) (given : Given) (writer : ℕ) → P v given (Release writer) Released (without_hold v writer)
+  pub held : (v : View) (given : Given) (writer : ℕ) → hold_group writer v.holds ≡ None → P v given (Hold writer) (Held (open_group v)) (with_flow v (with_hold (flow_of v) writer (open_group v)))
+  pub wrote : (v : View) (given : Given) (w : Write) (group : ℕ) → hold_group w.writer v.holds ≡ Some group → w.number ≡ v.next w.writer → w.number ≤ greatest → P v given (WriteStep w) (Receipt group) (with_flow v (with_accepted (flow_of v) w.writer group (WriteItem w)))
+  pub acted : (v : View) (given : Given) (a : Action) (group : ℕ) → hold_group a.writer v.holds ≡ Some group → a.number ≡ v.next a.writer → a.number ≤ greatest → group ≡ open_group v → P v given (Act a) (Receipt group) (with_flow v (with_accepted (flow_of v) a.writer group (ActionItem a)))
+  pub released : (v : View) (given : Given) (writer : ℕ) → P v given (Release writer) Released (with_flow v (without_hold (flow_of v) writer))
   pub closed : (v : View) (given : Given) → waiting_group v < greatest → P (record v { waiting = None }) given Close (Closed (waiting_group v)) (record v { waiting = Some Quiescing })
   pub quiesced : (v : View) (given : Given) → is_held (waiting_group v) v.holds ≡ false → P (record v { waiting = Some Quiescing }) given Quiesce (Quiesced (waiting_group v)) (record v { waiting = Some QuiescedStage })
   pub planned : (v : View) (given : Given) (timestamp : ℕ) (calls : List DueCall) → P (record v { sync = Idle; waiting = Some QuiescedStage }) given (Plan timestamp) (Planned (suc v.committed)) (record v { sync = Due calls; waiting = None })
@@ -59,7 +60,7 @@ pub record EachMove (P : View → Given → Step → Reply → View → Type 0) 
   pub committed : (v : View) (given : Given) (left : List DueCall) → given.fault ≡ None → P (record v { sync = Due left }) given Device (Committed (suc v.committed)) (committed_next v)
 
 -- where nothing speaks against planning, there is a group to be planned
-plan_none : (v : View) (timestamp : ℕ) → refusal_of v (Plan timestamp) ≡ None → may_plan v ≡ true
+pub plan_none : (v : View) (timestamp : ℕ) → refusal_of v (Plan timestamp) ≡ None → may_plan v ≡ true
 plan_none v timestamp n =
     let one = first_none _ _ _ n in
     let two = first_none _ _ _ one.1 in
@@ -73,9 +74,9 @@ takes_group : (P : View → Given → Step → Reply → View → Type 0) (v : V
 takes_group P v given timestamp reply sync next again Idle None es eo t = absurd (true≢false (sym t))
 takes_group P v given timestamp reply sync next again Idle (Some Quiescing) es eo t = absurd (true≢false (sym t))
 takes_group P v given timestamp reply sync next again Idle (Some QuiescedStage) es eo t =
-    subst (λ (p : Sync × Option Stage). P (record v { sync = p.0; waiting = p.1 }) given (Plan timestamp) reply (record v { sync = sync; waiting = left_waiting p.0 p.1 })) (λ i. (sym es i, sym eo i)) (next v refl)
+    subst (λ (p : Sync × Option Stage). P (record v { sync = p.0; waiting = p.1 }) given (Plan timestamp) reply (taken (record v { sync = p.0; waiting = p.1 }) sync)) (λ i. (sym es i, sym eo i)) (next v refl)
 takes_group P v given timestamp reply sync next again Unplanned o es eo t =
-    subst (λ (s : Sync). P (record v { sync = s }) given (Plan timestamp) reply (record v { sync = sync; waiting = left_waiting s v.waiting })) (sym es) (again v refl)
+    subst (λ (s : Sync). P (record v { sync = s }) given (Plan timestamp) reply (taken (record v { sync = s }) sync)) (sym es) (again v refl)
 takes_group P v given timestamp reply sync next again (Due calls) o es eo t = absurd (true≢false (sym t))
 
 begins : (P : View → Given → Step → Reply → View → Type 0) → EachMove P → (v : View) (given : Given) (timestamp : ℕ) (cause : Refusal) → IsPlanFault cause → may_plan v ≡ true → P v given (Plan timestamp) (Refused cause) (taken v Unplanned)
@@ -129,53 +130,47 @@ plan_fault v given cause h = ⊎_elim (λ r. read_fault v given cause r) (λ r. 
 at_left : (P : View → Given → Step → Reply → View → Type 0) (v : View) (given : Given) (step : Step) (reply : Reply) (w : View) (left : List DueCall) → v.sync ≡ Due left → P (record v { sync = Due left }) given step reply w → P v given step reply w
 at_left P v given step reply w left e p = subst (λ (s : Sync). P (record v { sync = s }) given step reply w) (sym e) p
 
+-- one that is dropped
+at_dropped : (P : View → Given → Step → Reply → View → Type 0) (v : View) (given : Given) (reply : Reply) (disk : ℕ) (left : List DueCall) → v.sync ≡ Due left → P (record v { sync = Due left }) given Device reply (dropped (record v { sync = Due left }) disk) → P v given Device reply (dropped v disk)
+at_dropped P v given reply disk left e p = subst (λ (s : Sync). P (record v { sync = s }) given Device reply (dropped (record v { sync = s }) disk)) (sym e) p
+
 at_waiting : (P : View → Given → Step → Reply → View → Type 0) (v : View) (given : Given) (step : Step) (reply : Reply) (w : View) (o : Option Stage) → v.waiting ≡ o → P (record v { waiting = o }) given step reply w → P v given step reply w
 at_waiting P v given step reply w o e p = subst (λ (s : Option Stage). P (record v { waiting = s }) given step reply w) (sym e) p
 
+-- the view after a step of groups, holds and items alone
+only_flows : (v w : View) (f : Flow) → flow_of w ≡ f → w ≡ with_flow v (flow_of w) → w ≡ with_flow v f
+only_flows v w f e only = only ∙ ap (with_flow v) e
+
 answers_by : (P : View → Given → Step → Reply → View → Type 0) → EachMove P → (v : View) (given : Given) (step : Step) (reply : Reply) (w : View) → refusal_of v step ≡ None → MayAnswer v given step reply w → P v given step reply w
 answers_by P m v given (Hold writer) (Held group) w n g =
-    let one = first_none _ _ _ n in
-    let two = first_none _ _ _ one.1 in
-    subst (P v given (Hold writer) (Held group)) (sym g.1) (subst (λ k. P v given (Hold writer) (Held k) (with_hold v writer k)) (sym g.0) (m.held v given writer (none_of _ two.0)))
+    subst (P v given (Hold writer) (Held group)) (sym (only_flows v w (with_hold (flow_of v) writer group) g.0.2 g.1))
+    (subst (λ k. P v given (Hold writer) (Held k) (with_flow v (with_hold (flow_of v) writer k))) (sym g.0.1) (m.held v given writer g.0.0))
 answers_by P m v given (WriteStep x) (Receipt group) w n g =
-    let one = or_none _ _ n in
-    let two = write_none x _ _ _ one.1 in
-    subst (P v given (WriteStep x) (Receipt group)) (sym g.1) (m.wrote v given x group g.0 two.0 two.1)
+    subst (P v given (WriteStep x) (Receipt group)) (sym (only_flows v w (with_accepted (flow_of v) x.writer group (WriteItem x)) g.0.3 g.1)) (m.wrote v given x group g.0.0 g.0.1 g.0.2)
 answers_by P m v given (Act a) (Receipt group) w n g =
-    let one = or_none _ _ n in
-    let two = act_none a _ _ _ _ one.1 in
-    subst (P v given (Act a) (Receipt group)) (sym g.1) (m.acted v given a group g.0 two.0 two.1 (act_open a _ _ _ _ g.0 one.1))
-answers_by P m v given (Release writer) Released w n g = subst (P v given (Release writer) Released) (sym g) (m.released v given writer)
+    subst (P v given (Act a) (Receipt group)) (sym (only_flows v w (with_accepted (flow_of v) a.writer group (ActionItem a)) g.0.4 g.1)) (m.acted v given a group g.0.0 g.0.1 g.0.2 g.0.3)
+answers_by P m v given (Release writer) Released w n g =
+    subst (P v given (Release writer) Released) (sym (only_flows v w (without_hold (flow_of v) writer) g.0 g.1)) (m.released v given writer)
 answers_by P m v given Close (Closed group) w n g =
-    let zero = first_none _ _ _ n in
-    let one = first_none _ _ _ zero.1 in
-    let three = first_none _ _ _ one.1 in
-    let none : v.waiting ≡ None = none_of _ one.0 in
-    let two : nat_le greatest (open_group v) ≡ false = three.0 in
-    let opened : open_group v ≡ waiting_group v = ap (λ o. open_group (record v { waiting = o })) none in
-    let below : waiting_group v < greatest = closed_below (open_group v) (waiting_group v) two opened in
-    subst (P v given Close (Closed group)) (sym g.1)
-    (subst (λ k. P v given Close (Closed k) (record v { waiting = Some Quiescing })) (sym (g.0 ∙ opened)) (at_waiting P v given Close (Closed (waiting_group v)) (record v { waiting = Some Quiescing }) None none (m.closed v given below)))
+    let opened : open_group v ≡ waiting_group v = ap (λ o. open_group (record v { waiting = o })) g.0.0 in
+    subst (P v given Close (Closed group)) (sym (only_flows v w (record (flow_of v) { waiting = Some Quiescing }) g.0.3 g.1))
+    (subst (λ k. P v given Close (Closed k) (record v { waiting = Some Quiescing })) (sym (g.0.2 ∙ opened)) (at_waiting P v given Close (Closed (waiting_group v)) (record v { waiting = Some Quiescing }) None g.0.0 (m.closed v given (subst (λ k. k < greatest) opened g.0.1))))
 answers_by P m v given Quiesce (Quiesced group) w n g =
-    let zero = first_none _ _ _ n in
-    let one = first_none _ _ _ zero.1 in
-    let two = first_none _ _ _ one.1 in
-    let some : v.waiting ≡ Some Quiescing = quiescing _ (not_false _ one.0) in
-    subst (P v given Quiesce (Quiesced group)) (sym g.1)
-    (subst (λ k. P v given Quiesce (Quiesced k) (record v { waiting = Some QuiescedStage })) (sym g.0) (at_waiting P v given Quiesce (Quiesced (waiting_group v)) (record v { waiting = Some QuiescedStage }) (Some Quiescing) some (m.quiesced v given two.0)))
+    subst (P v given Quiesce (Quiesced group)) (sym (only_flows v w (record (flow_of v) { waiting = Some QuiescedStage }) g.0.3 g.1))
+    (subst (λ k. P v given Quiesce (Quiesced k) (record v { waiting = Some QuiescedStage })) (sym g.0.2) (at_waiting P v given Quiesce (Quiesced (waiting_group v)) (record v { waiting = Some QuiescedStage }) (Some Quiescing) g.0.0 (m.quiesced v given g.0.1)))
 answers_by P m v given (Plan timestamp) (Planned group) w n g =
-    subst (P v given (Plan timestamp) (Planned group)) (sym g.3) (subst (λ k. P v given (Plan timestamp) (Planned k) (taken v (Due g.1))) (sym g.0) (plans P m v given timestamp g.1 (plan_none v timestamp n)))
+    subst (P v given (Plan timestamp) (Planned group)) (sym g.3) (subst (λ k. P v given (Plan timestamp) (Planned k) (taken v (Due g.1))) (sym g.0.0) (plans P m v given timestamp g.1 (plan_none v timestamp n)))
 answers_by P m v given (Plan timestamp) (Refused cause) w n g =
     subst (P v given (Plan timestamp) (Refused cause)) (sym g.1) (begins P m v given timestamp cause (plan_fault v given cause g.0) (plan_none v timestamp n))
 answers_by P m v given Device (Moved phase) w n g =
     subst (P v given Device (Moved phase)) (sym g.6) (at_left P v given Device (Moved phase) (record v { sync = Due g.1 }) g.0 g.2 (m.moved v given phase g.0 g.1 g.5))
 answers_by P m v given Device (Committed group) w n g =
-    subst (P v given Device (Committed group)) (sym g.5) (subst (λ k. P v given Device (Committed k) (committed_next v)) (sym g.0) (at_left P v given Device (Committed (suc v.committed)) (committed_next v) g.1 g.2 (m.committed v given g.1 g.4)))
+    subst (P v given Device (Committed group)) (sym g.5) (subst (λ k. P v given Device (Committed k) (committed_next v)) (sym g.0.1) (at_left P v given Device (Committed (suc v.committed)) (committed_next v) g.1 g.2 (m.committed v given g.1 g.4)))
 answers_by P m v given Device (Replan disk) w n g =
-    subst (P v given Device (Replan disk)) (sym g.2) (at_left P v given Device (Replan disk) (dropped v disk) g.0.left g.0.planned (m.replanned v given disk g.0.left (g.0.call, g.0.fault, g.0.on)))
+    subst (P v given Device (Replan disk)) (sym g.2) (at_dropped P v given (Replan disk) disk g.0.left g.0.planned (m.replanned v given disk g.0.left (g.0.call, g.0.fault, g.0.on)))
 answers_by P m v given Device (Refused cause) w n g =
     subst (λ c. P v given Device (Refused c) w) (sym g.0)
-    (subst (P v given Device (Refused Suspended)) (sym g.4) (at_left P v given Device (Refused Suspended) (dropped v g.1) g.2.left g.2.planned (m.failed v given g.1 g.2.left (g.2.call, g.2.fault, g.2.on))))
+    (subst (P v given Device (Refused Suspended)) (sym g.4) (at_dropped P v given (Refused Suspended) g.1 g.2.left g.2.planned (m.failed v given g.1 g.2.left (g.2.call, g.2.fault, g.2.on))))
 answers_by P m v given (Read name offset len) (Bytes bytes) w n g = subst (P v given (Read name offset len) (Bytes bytes)) (sym g.1) (m.read v given name offset len bytes g.0)
 answers_by P m v given (Read name offset len) (Refused cause) w n g = subst (P v given (Read name offset len) (Refused cause)) (sym g.1) (m.stays v given (Read name offset len) cause tt tt)
 answers_by P m v given (ReadUnder group name offset len) (Bytes bytes) w n g =

@@ -10,8 +10,8 @@ use Rattle.pool_model.specs.declared.step.Reply.TheVariants.{Refused}
 use Rattle.pool_model.specs.declared.refusal.Refusal.{Refusal}
 use Rattle.pool_model.specs.Pools.{PlainPool, Ledger, applied, upto, volume_at}
 use Rattle.pool_model.specs.View.{View, Given, is_syncing, waiting_group, open_group, now_of}
-use Rattle.pool_model.specs.Machine.{with_accepted, committed_next, Run}
-use Rattle.pool_model.specs.Flow.{opened, flow_of, Takes}
+use Rattle.pool_model.specs.Machine.{with_flow, committed_next, Run}
+use Rattle.pool_model.specs.Flow.{opened, flow_of, with_accepted, Takes}
 use Rattle.pool_model.specs.Sound.{IsSound}
 use Rattle.pool_model.specs.Accepted.{ledger_with}
 use Rattle.pool_model.specs.Headline.{ReadsNow}
@@ -45,15 +45,15 @@ based_on : (v : View) (c : ℕ) (pool : PlainPool) (ledger : Ledger) → IsBased
 based_on v c pool ledger b = subst (λ (l : Ledger). IsBased v c pool l) (λ i group. no_more ledger group i) b
 
 -- the base with one more item
-based_took : (v : View) (c : ℕ) (pool : PlainPool) (ledger : Ledger) (writer g : ℕ) (item : Item) → ((group : ℕ) → ledger_with (with_accepted v writer g item).ledger [] group ≡ ledger_with v.ledger (record { item = item; group = g } ∷ []) group) → v.committed < g → IsBased v c pool ledger → IsBased (with_accepted v writer g item) c pool (ledger_with ledger (record { item = item; group = g } ∷ []))
+based_took : (v : View) (c : ℕ) (pool : PlainPool) (ledger : Ledger) (writer g : ℕ) (item : Item) → ((group : ℕ) → ledger_with (with_flow v (with_accepted (flow_of v) writer g item)).ledger [] group ≡ ledger_with v.ledger (record { item = item; group = g } ∷ []) group) → v.committed < g → IsBased v c pool ledger → IsBased (with_flow v (with_accepted (flow_of v) writer g item)) c pool (ledger_with ledger (record { item = item; group = g } ∷ []))
 based_took v c pool ledger writer g item joins above b = record {
   below = b.below;
   same = same;
   made = upto_agree c pool (ledger_with ledger (record { item = item; group = g } ∷ [])) ledger v.committed (λ group le. same group ∙ (stays v.ledger group g _ (λ e. absurd (omega arith)) ∙ sym (b.same group))) ∙ b.made;
 }
   where
-    same : (group : ℕ) → ledger_with ledger (record { item = item; group = g } ∷ []) group ≡ (with_accepted v writer g item).ledger group
-    same group = (λ i. ledger_with (λ n. b.same n i) (record { item = item; group = g } ∷ []) group) ∙ (sym (joins group) ∙ sym (no_more (with_accepted v writer g item).ledger group))
+    same : (group : ℕ) → ledger_with ledger (record { item = item; group = g } ∷ []) group ≡ (with_flow v (with_accepted (flow_of v) writer g item)).ledger group
+    same group = (λ i. ledger_with (λ n. b.same n i) (record { item = item; group = g } ∷ []) group) ∙ (sym (joins group) ∙ sym (no_more (with_flow v (with_accepted (flow_of v) writer g item)).ledger group))
 
 -- the base after a commit
 based_next : (v : View) (c : ℕ) (pool : PlainPool) (ledger : Ledger) → IsBased v c pool ledger → IsBased (committed_next v) c pool ledger

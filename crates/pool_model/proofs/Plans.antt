@@ -4,7 +4,6 @@ use Rattle.std.specs.Prelude.{map, filter, not, Contains, IsPermutation}
 use Rattle.std.proofs.lemmas.Bool.{eq-eqb, eqb-true}
 use Rattle.std.proofs.lemmas.Bool.Decides.{nat_tests}
 use Rattle.std.specs.List.{AllByRecursion}
-use Rattle.pool_model.specs.declared.step.Phase.{Phase}
 use Rattle.pool_model.specs.declared.step.Phase.TheVariants.{Blocks, BlocksFlush}
 use Rattle.pool_model.specs.declared.step.Step.{Step}
 use Rattle.pool_model.specs.declared.step.Step.TheVariants.{Hold, Device, Plan, Read, ReadUnder}

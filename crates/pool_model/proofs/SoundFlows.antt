@@ -12,7 +12,7 @@ use Rattle.pool_model.specs.declared.step.Step.{Step}
 use Rattle.pool_model.specs.declared.step.Reply.{Reply}
 use Rattle.pool_model.specs.View.{hold_group, is_held}
 use Rattle.pool_model.specs.Refusals.{greatest}
-use Rattle.pool_model.specs.Flow.{Flow, waiting_in, opened, flow_accepted, FlowStep, FlowRun, Takes, IsSoundFlow}
+use Rattle.pool_model.specs.Flow.{Flow, waiting_in, opened, with_accepted, FlowStep, FlowRun, Takes, IsSoundFlow}
 use Rattle.pool_model.proofs.Flows.{EachFlow, by_flow}
 
 pub all_snoc : {A : Type 0} (P : A → Type 0) (xs : List A) (x : A) → AllByRecursion P xs → P x → AllByRecursion P (xs ++ x ∷ [])
@@ -55,10 +55,10 @@ not_quiescing e = cc
 from_quiesced : (v : Flow) → IsSoundFlow (record v { syncing = false; waiting = Some QuiescedStage }) → AllByRecursion (λ h. h.group ≡ suc (suc v.committed)) v.holds
 from_quiesced v s = all_map (λ h. Takes (record v { syncing = false; waiting = Some QuiescedStage }) h.group) (λ h. h.group ≡ suc (suc v.committed)) (λ h t. ⊎_elim (λ e. e) (λ q. absurd (not_quiescing q.0)) t) v.holds s.holds
 
-next_numbers : (v : Flow) (writer group : ℕ) (item : Item) → IsSoundFlow v → v.next writer ≤ greatest → (w : ℕ) → (flow_accepted v writer group item).next w ≤ suc greatest
+next_numbers : (v : Flow) (writer group : ℕ) (item : Item) → IsSoundFlow v → v.next writer ≤ greatest → (w : ℕ) → (with_accepted v writer group item).next w ≤ suc greatest
 next_numbers v writer group item s le w = let old = s.numbers w in grind (arith, nat_tests, old, le)
 
-pub sound_took : (v : Flow) (writer group : ℕ) (item : Item) → hold_group writer v.holds ≡ Some group → v.next writer ≤ greatest → IsSoundFlow v → IsSoundFlow (flow_accepted v writer group item)
+pub sound_took : (v : Flow) (writer group : ℕ) (item : Item) → hold_group writer v.holds ≡ Some group → v.next writer ≤ greatest → IsSoundFlow v → IsSoundFlow (with_accepted v writer group item)
 sound_took v writer group item h le s = record {
   holds = s.holds;
   beyond = λ g lt. let t = taken_hold v writer group v.holds s.holds h in let low = takes_below v group t in let e = s.beyond g lt in grind (arith, nat_tests, e, low, lt);

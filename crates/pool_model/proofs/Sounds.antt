@@ -29,8 +29,8 @@ plan_takes f timestamp cause g is t = t
 flow_moves : EachMove (λ v given step reply w. FlowStep (flow_of v) step reply (flow_of w))
 flow_moves = record {
   stays = λ v given step cause may e. refused_flow (flow_of v) step cause may;
-  begun = λ v given t cause is. plan_takes (flow_of (record v { sync = Idle; waiting = Some QuiescedStage })) t cause (flow_of (record v { sync = Unplanned; waiting = None })) is (inr (refl, refl, refl));
-  again = λ v given t cause is. plan_takes (flow_of (record v { sync = Unplanned })) t cause (flow_of (record v { sync = Unplanned })) is (inl (refl, refl));
+  begun = λ v given t cause is. plan_takes (flow_of (record v { sync = Idle; waiting = Some QuiescedStage })) t cause (flow_of (record v { sync = Unplanned; waiting = None })) is (inr refl, refl);
+  again = λ v given t cause is. plan_takes (flow_of (record v { sync = Unplanned })) t cause (flow_of (record v { sync = Unplanned })) is (inl refl, refl);
   failed = λ v given disk left e. refl;
   replanned = λ v given disk left e. refl;
   moved = λ v given phase left rest e. refl;
@@ -42,8 +42,8 @@ flow_moves = record {
   released = λ v given by. refl;
   closed = λ v given b. (refl, b, refl, refl);
   quiesced = λ v given e. (refl, e, refl, refl);
-  planned = λ v given t calls. (refl, inr (refl, refl, refl));
-  replanned_group = λ v given t calls. (refl, inl (refl, refl));
+  planned = λ v given t calls. (refl, (inr refl, refl));
+  replanned_group = λ v given t calls. (refl, (inl refl, refl));
   committed = λ v given left e. (refl, refl, refl);
 }
 

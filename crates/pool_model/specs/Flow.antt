@@ -39,12 +39,16 @@ abbrev pub added : Entry → Item → Entry
 added entry (WriteItem w) = record entry { writes = entry.writes ++ w ∷ [] }
 added entry (ActionItem a) = record entry { actions = entry.actions ++ a ∷ [] }
 
--- the writer's hold is the newest
-abbrev pub held_by : List Holder → ℕ → ℕ → List Holder
-held_by holds writer group = holds ++ record { writer = writer; group = group } ∷ []
+-- the writer has this hold, the newest
+abbrev pub with_hold : Flow → ℕ → ℕ → Flow
+with_hold f writer group = record f { holds = f.holds ++ record { writer = writer; group = group } ∷ [] }
 
 abbrev pub released_by : List Holder → ℕ → List Holder
 released_by holds writer = filter (λ h. not (h.writer == writer)) holds
+
+-- the writer has no hold
+abbrev pub without_hold : Flow → ℕ → Flow
+without_hold f writer = record f { holds = released_by f.holds writer }
 
 -- the writer's next number is one more
 abbrev pub counted_on : (ℕ → ℕ) → ℕ → ℕ → ℕ
@@ -55,26 +59,34 @@ abbrev pub ledger_accepted : Ledger → ℕ → Item → Ledger
 ledger_accepted ledger group item g = if g == group then added (ledger g) item else ledger g
 
 -- a group has accepted an item of a writer
-abbrev pub flow_accepted : Flow → ℕ → ℕ → Item → Flow
-flow_accepted f writer group item = record f { next = counted_on f.next writer; ledger = ledger_accepted f.ledger group item }
+abbrev pub with_accepted : Flow → ℕ → ℕ → Item → Flow
+with_accepted f writer group item = record f { next = counted_on f.next writer; ledger = ledger_accepted f.ledger group item }
 
--- the group after the committed one is synced: it was, or it is the quiesced one, which is taken
+-- the group after the committed one is synced: it was, or it is the waiting one, which waits no more
+abbrev pub with_taken : Flow → Flow
+with_taken f = record f { syncing = true; waiting = if f.syncing then f.waiting else None }
+
+-- the group that was synced is committed
+abbrev pub with_committed : Flow → Flow
+with_committed f = record f { committed = suc f.committed; syncing = false }
+
+-- a group is taken to be synced: one that was before, or the quiesced one
 abbrev pub TakesGroup : Flow → Flow → Type 0
-TakesGroup f g = ((f.syncing ≡ true) × (g ≡ f)) ⊎ ((f.syncing ≡ false) × (f.waiting ≡ Some QuiescedStage) × (g ≡ record f { syncing = true; waiting = None }))
+TakesGroup f g = ((f.syncing ≡ true) ⊎ (f.waiting ≡ Some QuiescedStage)) × (g ≡ with_taken f)
 
--- what a step and its reply make of groups, holds and pending items
+-- what a step and its reply make of groups, holds and pending items, and what of these they need
 abbrev pub FlowStep : Flow → Step → Reply → Flow → Type 0
-FlowStep f (Hold writer) (Held group) g = (hold_group writer f.holds ≡ None) × (group ≡ opened f) × (g ≡ record f { holds = held_by f.holds writer group })
-FlowStep f (WriteStep x) (Receipt group) g = (hold_group x.writer f.holds ≡ Some group) × (x.number ≡ f.next x.writer) × (x.number ≤ greatest) × (g ≡ flow_accepted f x.writer group (WriteItem x))
-FlowStep f (Act a) (Receipt group) g = (hold_group a.writer f.holds ≡ Some group) × (a.number ≡ f.next a.writer) × (a.number ≤ greatest) × (group ≡ opened f) × (g ≡ flow_accepted f a.writer group (ActionItem a))
-FlowStep f (Release writer) Released g = g ≡ record f { holds = released_by f.holds writer }
+FlowStep f (Hold writer) (Held group) g = (hold_group writer f.holds ≡ None) × (group ≡ opened f) × (g ≡ with_hold f writer group)
+FlowStep f (WriteStep x) (Receipt group) g = (hold_group x.writer f.holds ≡ Some group) × (x.number ≡ f.next x.writer) × (x.number ≤ greatest) × (g ≡ with_accepted f x.writer group (WriteItem x))
+FlowStep f (Act a) (Receipt group) g = (hold_group a.writer f.holds ≡ Some group) × (a.number ≡ f.next a.writer) × (a.number ≤ greatest) × (group ≡ opened f) × (g ≡ with_accepted f a.writer group (ActionItem a))
+FlowStep f (Release writer) Released g = g ≡ without_hold f writer
 FlowStep f Close (Closed group) g = (f.waiting ≡ None) × (opened f < greatest) × (group ≡ opened f) × (g ≡ record f { waiting = Some Quiescing })
 FlowStep f Quiesce (Quiesced group) g = (f.waiting ≡ Some Quiescing) × (is_held (waiting_in f) f.holds ≡ false) × (group ≡ waiting_in f) × (g ≡ record f { waiting = Some QuiescedStage })
 FlowStep f (Plan timestamp) (Planned group) g = (group ≡ suc f.committed) × TakesGroup f g
 FlowStep f (Plan timestamp) (Refused Suspended) g = g ≡ f
 FlowStep f (Plan timestamp) (Refused NotNow) g = g ≡ f
 FlowStep f (Plan timestamp) (Refused cause) g = TakesGroup f g
-FlowStep f Device (Committed group) g = (f.syncing ≡ true) × (group ≡ suc f.committed) × (g ≡ record f { committed = suc f.committed; syncing = false })
+FlowStep f Device (Committed group) g = (f.syncing ≡ true) × (group ≡ suc f.committed) × (g ≡ with_committed f)
 FlowStep f Device (Moved phase) g = g ≡ f
 FlowStep f Device (Replan disk) g = g ≡ f
 FlowStep f (Read name offset len) (Bytes bytes) g = g ≡ f

@@ -1,4 +1,5 @@
--- How groups move: four counters, each of which a reply raises by one.
+-- How groups move: four counters, each of which a reply raises by one. That each step of the machine moves them so follows
+-- from what Machine and Flow say of it.
 use Rattle.std.specs.Prelude.{◌≡◌, ◌⊎◌, ℕ, suc, ◌≤◌, List, [], ◌∷◌, Bool, true, false, is_some, if◌then◌else◌}
 use Rattle.pool_model.specs.declared.step.Step.{Step}
 use Rattle.pool_model.specs.declared.step.Step.TheVariants.{Plan, Device}

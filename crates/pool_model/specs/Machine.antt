@@ -1,10 +1,6 @@
--- The machine: what each step is answered, and what it changes.
-use Rattle.std.specs.Prelude.{◌≡◌, ◌⊎◌, ℕ, suc, ◌+◌, ◌≤◌, ◌<◌, List, [], ◌∷◌, ◌++◌, length, map, slice_range, Contains, Bool, true, false, IsTrue, Option, Some, None, filter, not, IsPermutation, ◌==◌, ◌&&◌, ◌||◌, if◌then◌else◌}
+-- The machine: what each step is answered, and what it changes. What becomes of groups, holds and items is said in Flow.
+use Rattle.std.specs.Prelude.{◌≡◌, ◌⊎◌, ℕ, suc, ◌+◌, ◌≤◌, ◌<◌, List, [], ◌∷◌, ◌++◌, length, map, slice_range, Contains, Bool, true, false, IsTrue, Some, None, filter, not, IsPermutation, ◌==◌, ◌&&◌, ◌||◌, if◌then◌else◌}
 use Rattle.std.specs.List.{AllByRecursion}
-use Rattle.pool_model.specs.declared.group.Stage.{Stage}
-use Rattle.pool_model.specs.declared.group.Stage.TheVariants.{Quiescing, Quiesced as QuiescedStage}
-use Rattle.pool_model.specs.declared.item.Item.{Item}
-use Rattle.pool_model.specs.declared.item.Item.TheVariants.{Write as WriteItem, Action as ActionItem}
 use Rattle.pool_model.specs.declared.step.Phase.{Phase}
 use Rattle.pool_model.specs.declared.step.Phase.TheVariants.{Blocks, BlocksFlush}
 use Rattle.pool_model.specs.declared.step.Step.{Step}
@@ -15,41 +11,37 @@ use Rattle.pool_model.specs.declared.refusal.Refusal.{Refusal}
 use Rattle.pool_model.specs.declared.refusal.Refusal.TheVariants.{NoMemory, DiskFault, NoSpace, Suspended, BadPointer, BadDigest, BadMap}
 use Rattle.pool_model.specs.declared.volume.PlainVolume.{PlainVolume}
 use Rattle.pool_model.specs.Pools.{PlainPool, volume_at, applied}
-use Rattle.pool_model.specs.View.{View, Vdev, Given, DueCall, Sync, Idle, Unplanned, Due, waiting_group, open_group, hold_group, now_of, is_suspended, is_missing, lost_in, counted, disks_in_use}
+use Rattle.pool_model.specs.View.{View, Vdev, Given, DueCall, Sync, Idle, Unplanned, Due, now_of, is_suspended, is_missing, lost_in, counted, disks_in_use}
 use Rattle.pool_model.specs.Refusals.{refusal_of, takes_memory}
-use Rattle.pool_model.specs.Flow.{held_by, released_by, counted_on, ledger_accepted}
+use Rattle.pool_model.specs.Flow.{Flow, flow_of, with_taken, with_committed, FlowStep}
 
 -- ---- what a step changes
 
--- a writer has a hold of the open group
-abbrev pub with_hold : View → ℕ → ℕ → View
-with_hold v writer group = record v { holds = held_by v.holds writer group }
+-- the view with these groups, holds and items; how far the group that is synced is stays
+abbrev pub with_flow : View → Flow → View
+with_flow v f = record v { committed = f.committed; waiting = f.waiting; holds = f.holds; next = f.next; ledger = f.ledger }
 
-abbrev pub without_hold : View → ℕ → View
-without_hold v writer = record v { holds = released_by v.holds writer }
+-- groups, holds and items go on by the step and its reply, and nothing else changes
+abbrev pub OnlyFlows : View → Step → Reply → View → Type 0
+OnlyFlows v step reply w = FlowStep (flow_of v) step reply (flow_of w) × (w ≡ with_flow v (flow_of w))
 
--- a group has accepted an item of a writer
-abbrev pub with_accepted : View → ℕ → ℕ → Item → View
-with_accepted v writer group item = record v { next = counted_on v.next writer; ledger = ledger_accepted v.ledger group item }
-
--- a waiting group that is quiesced, and not being synced, is taken to be synced
-abbrev pub left_waiting : Sync → Option Stage → Option Stage
-left_waiting Idle waiting = None
-left_waiting Unplanned waiting = waiting
-left_waiting (Due calls) waiting = waiting
-
--- the group after the committed one is synced, and as far as this
+-- the group after the committed one is taken to be synced, and is synced as far as this
 abbrev pub taken : View → Sync → View
-taken v sync = record v { sync = sync; waiting = left_waiting v.sync v.waiting }
+taken v sync = record (with_flow v (with_taken (flow_of v))) { sync = sync }
 
--- a disk is out, and the plan is dropped
+-- without its plan, where it has one
+abbrev pub without_plan : Sync → Sync
+without_plan Idle = Idle
+without_plan Unplanned = Unplanned
+without_plan (Due calls) = Unplanned
+
+-- a disk is out, and where there is a plan it is dropped
 abbrev pub dropped : View → ℕ → View
-dropped v disk = record v { out = λ d. (d == disk) || v.out d; sync = Unplanned }
+dropped v disk = record v { out = λ d. (d == disk) || v.out d; sync = without_plan v.sync }
 
 -- the group after the committed one is committed: what it accepted has taken effect
 abbrev pub committed_next : View → View
-committed_next v = record v {
-  committed = suc v.committed;
+committed_next v = record (with_flow v (with_committed (flow_of v))) {
   sync = Idle;
   pools = λ g. if g == suc v.committed then applied g (v.pools v.committed) (v.ledger g) else v.pools g;
 }
@@ -143,16 +135,16 @@ IsUnreadable v given cause = ⊥
 
 -- what a step against which the view has nothing may be answered, and what it then changes
 abbrev pub MayAnswer : View → Given → Step → Reply → View → Type 0
-MayAnswer v given (Hold writer) (Held group) w = (group ≡ open_group v) × (w ≡ with_hold v writer group)
-MayAnswer v given (WriteStep x) (Receipt group) w = (hold_group x.writer v.holds ≡ Some group) × (w ≡ with_accepted v x.writer group (WriteItem x))
-MayAnswer v given (Act a) (Receipt group) w = (hold_group a.writer v.holds ≡ Some group) × (w ≡ with_accepted v a.writer group (ActionItem a))
-MayAnswer v given (Release writer) Released w = w ≡ without_hold v writer
-MayAnswer v given Close (Closed group) w = (group ≡ open_group v) × (w ≡ record v { waiting = Some Quiescing })
-MayAnswer v given Quiesce (Quiesced group) w = (group ≡ waiting_group v) × (w ≡ record v { waiting = Some QuiescedStage })
-MayAnswer v given (Plan timestamp) (Planned group) w = (group ≡ suc v.committed) × (calls : List DueCall) × IsPlan v calls × (w ≡ taken v (Due calls))
+MayAnswer v given (Hold writer) (Held group) w = OnlyFlows v (Hold writer) (Held group) w
+MayAnswer v given (WriteStep x) (Receipt group) w = OnlyFlows v (WriteStep x) (Receipt group) w
+MayAnswer v given (Act a) (Receipt group) w = OnlyFlows v (Act a) (Receipt group) w
+MayAnswer v given (Release writer) Released w = OnlyFlows v (Release writer) Released w
+MayAnswer v given Close (Closed group) w = OnlyFlows v Close (Closed group) w
+MayAnswer v given Quiesce (Quiesced group) w = OnlyFlows v Quiesce (Quiesced group) w
+MayAnswer v given (Plan timestamp) (Planned group) w = FlowStep (flow_of v) (Plan timestamp) (Planned group) (flow_of w) × (calls : List DueCall) × IsPlan v calls × (w ≡ taken v (Due calls))
 MayAnswer v given (Plan timestamp) (Refused cause) w = (IsUnreadable v given cause ⊎ ((cause ≡ NoSpace) × (given.full ≡ true))) × (w ≡ taken v Unplanned)
 MayAnswer v given Device (Moved phase) w = (left rest : List DueCall) × (v.sync ≡ Due left) × Makes left given.made rest phase × (0 < length rest) × (given.fault ≡ None) × (w ≡ record v { sync = Due rest })
-MayAnswer v given Device (Committed group) w = (group ≡ suc v.committed) × (left : List DueCall) × (v.sync ≡ Due left) × MakesAll left given.made × (given.fault ≡ None) × (w ≡ committed_next v)
+MayAnswer v given Device (Committed group) w = FlowStep (flow_of v) Device (Committed group) (flow_of w) × (left : List DueCall) × (v.sync ≡ Due left) × MakesAll left given.made × (given.fault ≡ None) × (w ≡ committed_next v)
 MayAnswer v given Device (Replan disk) w = FailsOn v given disk × (is_suspended (dropped v disk) ≡ false) × (w ≡ dropped v disk)
 MayAnswer v given Device (Refused cause) w = (cause ≡ Suspended) × (disk : ℕ) × FailsOn v given disk × (is_suspended (dropped v disk) ≡ true) × (w ≡ dropped v disk)
 MayAnswer v given (Read name offset len) (Bytes bytes) w = (given.trusted ≡ true → AreBytesOf (now_of v) name offset len bytes) × (w ≡ v)

@@ -1,15 +1,20 @@
 //! Laws of the machine, over every run: functions with no code, whose contracts are proved of the definitions.
-ghost use Rattle.std.specs.Prelude.{ℕ, List, [], ◌∷◌, ◌++◌, ◌≡◌, Some, None, if◌then◌else◌};
+ghost use Rattle.std.specs.Prelude.{ℕ, suc, List, [], ◌∷◌, ◌++◌, ◌≡◌, false, Some, None, if◌then◌else◌};
 ghost use Rattle.std.specs.Option.{option_map, option_or};
 ghost use Rattle.pool_model.specs.declared.step.Step.{Step};
+ghost use Rattle.pool_model.specs.declared.step.Step.TheVariants as steps;
 ghost use Rattle.pool_model.specs.declared.step.Reply.{Reply};
+ghost use Rattle.pool_model.specs.declared.step.Reply.TheVariants.{Held, Receipt, Released, Closed, Quiesced, Planned};
+ghost use Rattle.pool_model.specs.declared.item.Action.{Action};
 ghost use Rattle.pool_model.specs.declared.item.Write.{Write};
 ghost use Rattle.pool_model.specs.declared.volume.PlainVolume.{PlainVolume};
 ghost use Rattle.pool_model.specs.Names.{same};
 ghost use Rattle.pool_model.specs.Pools.{PlainPool, Entry, Ledger, AreAscending, volume_at, volume_after, written, with_volume, applied, upto};
-ghost use Rattle.pool_model.specs.View.{View, Given, Vdev, started};
-ghost use Rattle.pool_model.specs.Machine.{StepOf, Run};
-ghost use Rattle.pool_model.specs.Flow.{Flow, FlowStep, FlowRun, IsSoundFlow};
+ghost use Rattle.pool_model.specs.View.{View, Given, Vdev, DueCall, Unplanned, Due, nothing_given, started, is_planned, open_group, waiting_group};
+ghost use Rattle.pool_model.specs.Refusals.{refusal_of};
+ghost use Rattle.pool_model.specs.Machine.{IsAnswered, StepOf, Run, dropped};
+ghost use Rattle.pool_model.specs.Flow.{Flow, flow_of, FlowStep, FlowRun, IsSoundFlow};
+ghost use Rattle.pool_model.specs.Groups.{counters_of, MovesBy};
 ghost use Rattle.pool_model.specs.Accepted.{OnceInOrder};
 ghost use Rattle.pool_model.specs.Sound.{IsSound};
 ghost use Rattle.pool_model.specs.Headline.{Headline};
@@ -24,6 +29,45 @@ pub fn headline_of_runs()
 pub fn runs_keep_views_sound()
     ensures step { (v : View) (given : Given) (step : Step) (reply : Reply) (w : View) → IsSound v → StepOf v given step reply w → IsSound w }
     ensures start { (vdevs : List Vdev) → IsSound (started vdevs) }
+{}
+
+/// Each step, refused ones too, moves groups, holds and items as the part of a view that a pipeline keeps, and moves the
+/// four counters of groups as its reply tells.
+pub fn steps_move_groups()
+    ensures flow { (v : View) (given : Given) (step : Step) (reply : Reply) (w : View) →
+        StepOf v given step reply w → FlowStep (flow_of v) step reply (flow_of w) }
+    ensures counters { (v : View) (given : Given) (step : Step) (reply : Reply) (w : View) →
+        StepOf v given step reply w → MovesBy (counters_of v) step reply (counters_of w) }
+{}
+
+/// A step of groups, holds and items that the view names no cause against may be answered: what its definition needs of
+/// them is no further cause.
+pub fn steps_without_a_cause_may_be_answered()
+    ensures hold { (v : View) (writer : ℕ) → refusal_of v (steps.Hold writer) ≡ None →
+        (w : View) × IsAnswered v nothing_given (steps.Hold writer) (Held (open_group v)) w }
+    ensures write { (v : View) (write : Write) → refusal_of v (steps.Write write) ≡ None →
+        (group : ℕ) × (w : View) × IsAnswered v nothing_given (steps.Write write) (Receipt group) w }
+    ensures act { (v : View) (action : Action) → refusal_of v (steps.Act action) ≡ None →
+        (group : ℕ) × (w : View) × IsAnswered v nothing_given (steps.Act action) (Receipt group) w }
+    ensures release { (v : View) (writer : ℕ) → refusal_of v (steps.Release writer) ≡ None →
+        (w : View) × IsAnswered v nothing_given (steps.Release writer) Released w }
+    ensures close { (v : View) → refusal_of v steps.Close ≡ None →
+        (w : View) × IsAnswered v nothing_given steps.Close (Closed (open_group v)) w }
+    ensures quiesce { (v : View) → refusal_of v steps.Quiesce ≡ None →
+        (w : View) × IsAnswered v nothing_given steps.Quiesce (Quiesced (waiting_group v)) w }
+    ensures plan { (v : View) (timestamp : ℕ) → refusal_of v (steps.Plan timestamp) ≡ None →
+        (w : View) × IsAnswered v nothing_given (steps.Plan timestamp) (Planned (suc v.committed)) w }
+{}
+
+/// A disk that goes out drops the plan, where there is one: its group stays taken. Where there is none the sync stays, so
+/// that an idle pool stays idle. No group, hold or item changes.
+pub fn dropped_plans_leave_their_groups()
+    ensures stays { (v : View) (disk : ℕ) → is_planned v.sync ≡ false → (dropped v disk).sync ≡ v.sync }
+    ensures unplanned { (v : View) (disk : ℕ) (calls : List DueCall) → v.sync ≡ Due calls →
+        (dropped v disk).sync ≡ Unplanned }
+    ensures flow { (v : View) (disk : ℕ) → flow_of (dropped v disk) ≡ flow_of v }
+    ensures counters { (v : View) (disk : ℕ) →
+        counters_of (dropped v disk) ≡ record (counters_of v) { planned = false } }
 {}
 
 /// A run goes on by a step.

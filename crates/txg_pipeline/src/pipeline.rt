@@ -35,7 +35,7 @@ impl Pipeline {
     ghost use Rattle.std.specs.Prelude.{◌<◌, ◌⊎◌, ℕ, suc, ◌==◌, true, false, IfSome, IfOk, OnOk, IfErr, OnErr};
     ghost use Rattle.pool_model.specs.declared.step.Step.TheVariants.{Hold, Release, Close, Quiesce, Plan, Device};
     ghost use Rattle.pool_model.specs.declared.step.Reply.TheVariants.{Held, Receipt, Released, Closed, Quiesced, Planned, Committed};
-    ghost use Rattle.pool_model.specs.Flow.{Flow, opened, waiting_in, flow_accepted};
+    ghost use Rattle.pool_model.specs.Flow.{Flow, opened, waiting_in, with_accepted};
     ghost use Rattle.txg_pipeline.specs.Carries.{Carries, next_of, empty_after, Does, IsUnchanged, IsAdmitted, IsNotAdmitted, IsNotAccepted, step_of_item};
     ghost use Rattle.txg_pipeline.specs.declared.refusal.Refusal.TheVariants.{NoMemory, AlreadyHeld, NoHold, NotNow};
 
@@ -269,7 +269,7 @@ impl Pipeline {
     fn keep(&mut self, is_open: bool, writer: u32, number: u64, item: Item) -> bool
         requires { number ≤ greatest }
         ensures kept { result ≡ true → (f : Flow) → Carries self.old f → (group : ℕ) → IsAdmitted f writer number group → (is_open ≡ (group == opened f)) →
-            Carries self.new (flow_accepted f writer group item) }
+            Carries self.new (with_accepted f writer group item) }
         ensures refused { result ≡ false → IsUnchanged self.old self.new }
     {
         if self.next.try_reserve(1).is_err() {

@@ -1,5 +1,5 @@
 use Rattle.std.proofs.Common.{◌≡◌, ◌+◌, suc, true, false, Some, None, inr, refl, sym, ap, ◌∙◌, arith}
-use Rattle.std.specs.Prelude.{is_some}
+use Rattle.std.specs.Prelude.{is_some, if◌then◌else◌}
 use Rattle.pool_model.specs.declared.group.Stage.TheVariants.{Quiesced as QuiescedStage}
 use Rattle.pool_model.specs.declared.step.Step.TheVariants.{Plan}
 use Rattle.pool_model.specs.declared.step.Reply.TheVariants.{Planned}
@@ -15,7 +15,7 @@ returns-clause-taken c = λ timestamp f k.
     let waits_is : waiting_in f ≡ suc f.committed = rw idle refl in
     let open_is : opened f ≡ suc (suc f.committed) = waits_open f (Some QuiescedStage) some refl ∙ ap suc waits_is in
     let group : c.args.self.now.committed + 1 ≡ suc f.committed = let e = k.committed in omega arith in
-    let moves : FlowStep f (Plan timestamp) (Planned (c.args.self.now.committed + 1)) (record f { syncing = true; waiting = None }) = (group, inr (idle, some, refl)) in (
+    let moves : FlowStep f (Plan timestamp) (Planned (c.args.self.now.committed + 1)) (record f { syncing = true; waiting = None }) = (group, (inr some, ap (λ b. record f { syncing = true; waiting = if b then f.waiting else None }) (sym idle))) in (
       record f { syncing = true; waiting = None },
       moves,
       record {
