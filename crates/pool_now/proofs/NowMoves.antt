@@ -1,6 +1,6 @@
 -- How each step moves NOW.
 use Rattle.std.proofs.Common.{◌≡◌, ℕ, zero, suc, ◌≤◌, Bool, true, false, true≢false, List, [], ◌∷◌, ◌++◌, Option, Some, None, refl, sym, ap, ◌∙◌, subst, arith}
-use Rattle.std.specs.Prelude.{cond, fold, is_some, nat_le, not, ◌==◌, ◌&&◌, ◌||◌}
+use Rattle.std.specs.Prelude.{cond, fold, is_some, nat_le, not, ◌==◌, ◌&&◌, ◌||◌, if◌then◌else◌}
 use Rattle.pool_model.specs.declared.group.Stage.{Stage}
 use Rattle.pool_model.specs.declared.group.Stage.TheVariants.{Quiescing, Quiesced as QuiescedStage}
 use Rattle.pool_model.specs.declared.item.Action.{Action}
@@ -14,9 +14,10 @@ use Rattle.pool_model.specs.declared.step.Reply.TheVariants.{Receipt, Refused}
 use Rattle.pool_model.specs.Pools.{PlainPool, Ledger, no_items, written, changed, applied, upto}
 use Rattle.pool_model.specs.View.{View, Given, Sync, Idle, Unplanned, Due, is_syncing, is_planned, is_quiesced, waiting_after, open_after, open_group, now_of}
 use Rattle.pool_model.specs.Refusals.{may_plan}
-use Rattle.pool_model.specs.Flow.{added, ledger_accepted}
-use Rattle.pool_model.specs.Machine.{with_hold, without_hold, with_accepted, taken, left_waiting, dropped, committed_next, StepOf}
+use Rattle.pool_model.specs.Flow.{flow_of, added, ledger_accepted, with_hold, without_hold, with_accepted}
+use Rattle.pool_model.specs.Machine.{with_flow, taken, dropped, committed_next, StepOf}
 use Rattle.pool_model.specs.Sound.{IsSound}
+use Rattle.pool_model.proofs.Answering.{syncs_without_plan}
 use Rattle.pool_model.proofs.Moves.{EachMove, by_move}
 use Rattle.pool_model.proofs.Told.{stays}
 use Rattle.pool_model.proofs.Uptos.{upto_above, upto_agree, upto_from, itself}
@@ -38,7 +39,7 @@ actions_stay : (ledger : Ledger) (group : ℕ) (x : Write) (g : ℕ) → (ledger
 actions_stay ledger group x g = elim (g == group) as (λ b. (cond b (added (ledger g) (WriteItem x)) (ledger g)).actions ≡ (ledger g).actions) [ true ↦ refl | false ↦ refl ]
 
 -- a write that is accepted leaves every shape
-pub now_wrote : (v : View) (writer group : ℕ) (x : Write) → HaveSameShapes (now_of (with_accepted v writer group (WriteItem x))) (now_of v)
+pub now_wrote : (v : View) (writer group : ℕ) (x : Write) → HaveSameShapes (now_of (with_flow v (with_accepted (flow_of v) writer group (WriteItem x)))) (now_of v)
 now_wrote v writer group x = shapes_upto v.committed (v.pools v.committed) (ledger_accepted v.ledger group (WriteItem x)) v.ledger (open_group v) (actions_stay v.ledger group x)
 
 -- ---- actions
@@ -64,15 +65,15 @@ open_acted c pool ledger a false true = upto_acted c (suc c) pool ledger a (omeg
 open_acted c pool ledger a false false = upto_acted c c pool ledger a (omega arith)
 
 -- an action that the open group accepts takes effect
-pub now_acted : (v : View) (writer : ℕ) (a : Action) → now_of (with_accepted v writer (open_group v) (ActionItem a)) ≡ changed (open_group v) (now_of v) a.change
+pub now_acted : (v : View) (writer : ℕ) (a : Action) → now_of (with_flow v (with_accepted (flow_of v) writer (open_group v) (ActionItem a))) ≡ changed (open_group v) (now_of v) a.change
 now_acted v writer a = open_acted v.committed (v.pools v.committed) v.ledger a (is_syncing v.sync) (is_some v.waiting)
 
 -- ---- holds and groups
 
-pub now_held : (v : View) (writer group : ℕ) → now_of (with_hold v writer group) ≡ now_of v
+pub now_held : (v : View) (writer group : ℕ) → now_of (with_flow v (with_hold (flow_of v) writer group)) ≡ now_of v
 now_held v writer group = refl
 
-pub now_released : (v : View) (writer : ℕ) → now_of (without_hold v writer) ≡ now_of v
+pub now_released : (v : View) (writer : ℕ) → now_of (with_flow v (without_hold (flow_of v) writer)) ≡ now_of v
 now_released v writer = refl
 
 waiting_above : (c : ℕ) (s : Bool) → c ≤ waiting_after c s
@@ -98,7 +99,7 @@ now_closed v s e =
 pub now_quiesced : (v : View) → v.waiting ≡ Some Quiescing → now_of (record v { waiting = Some QuiescedStage }) ≡ now_of v
 now_quiesced v e = ap (λ o. upto v.committed (v.pools v.committed) v.ledger (open_after v.committed (is_syncing v.sync) (is_some o))) (sym e)
 
-open_taken : (c : ℕ) (sync s : Sync) (o : Option Stage) → is_syncing sync ≡ true → (not (is_planned s) && (is_syncing s || is_quiesced o)) ≡ true → open_after c (is_syncing sync) (is_some (left_waiting s o)) ≡ open_after c (is_syncing s) (is_some o)
+open_taken : (c : ℕ) (sync s : Sync) (o : Option Stage) → is_syncing sync ≡ true → (not (is_planned s) && (is_syncing s || is_quiesced o)) ≡ true → open_after c (is_syncing sync) (is_some (if is_syncing s then o else None)) ≡ open_after c (is_syncing s) (is_some o)
 open_taken c sync Idle None e t = absurd (true≢false (sym t))
 open_taken c sync Idle (Some Quiescing) e t = absurd (true≢false (sym t))
 open_taken c sync Idle (Some QuiescedStage) e t = ap (λ b. open_after c b false) e
@@ -113,8 +114,8 @@ now_taken v sync m e = ap (upto v.committed (v.pools v.committed) v.ledger) (ope
 pub now_synced : (v : View) (sync : Sync) → is_syncing v.sync ≡ true → is_syncing sync ≡ true → now_of (record v { sync = sync }) ≡ now_of v
 now_synced v sync e f = ap (λ b. upto v.committed (v.pools v.committed) v.ledger (open_after v.committed b (is_some v.waiting))) (f ∙ sym e)
 
-pub now_dropped : (v : View) (disk : ℕ) → is_syncing v.sync ≡ true → now_of (dropped v disk) ≡ now_of v
-now_dropped v disk e = now_synced v Unplanned e refl
+pub now_dropped : (v : View) (disk : ℕ) → now_of (dropped v disk) ≡ now_of v
+now_dropped v disk = ap (λ b. upto v.committed (v.pools v.committed) v.ledger (open_after v.committed b (is_some v.waiting))) (syncs_without_plan v.sync)
 
 open_above : (c : ℕ) (w : Bool) → suc c ≤ open_after c true w
 open_above c true = omega arith
@@ -150,7 +151,7 @@ now_moves = record {
   read_under = λ v given g name offset len bytes k a s. refl;
   held = λ v given by n s. refl;
   wrote = λ v given x g h n le s. now_wrote v x.writer g x;
-  acted = λ v given a g h n le op s. (op, subst (λ k. now_of (with_accepted v a.writer k (ActionItem a)) ≡ changed k (now_of v) a.change) (sym op) (now_acted v a.writer a));
+  acted = λ v given a g h n le op s. (op, subst (λ k. now_of (with_flow v (with_accepted (flow_of v) a.writer k (ActionItem a))) ≡ changed k (now_of v) a.change) (sym op) (now_acted v a.writer a));
   released = λ v given by s. refl;
   closed = λ v given b s. now_closed (record v { waiting = None }) s refl;
   quiesced = λ v given e s. refl;

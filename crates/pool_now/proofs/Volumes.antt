@@ -1,5 +1,5 @@
 -- What writes and actions make of the volume of a name.
-use Rattle.std.proofs.Common.{◌≡◌, ℕ, ◌+◌, ◌≤◌, Bool, true, false, List, [], ◌∷◌, ◌++◌, length, take, drop, replicate, Option, Some, None, refl, sym, ap, ◌∙◌, subst, arith}
+use Rattle.std.proofs.Common.{◌≡◌, ℕ, ◌+◌, ◌≤◌, Bool, true, false, List, [], ◌∷◌, ◌++◌, length, take, drop, Option, Some, None, refl, sym, ap, ◌∙◌, subst, arith}
 use Rattle.std.specs.Prelude.{cond, fold, nat_le}
 use Rattle.std.specs.Option.{option_map, option_or}
 use Rattle.std.proofs.lemmas.Bool.Decides.{nat_tests}
@@ -11,7 +11,7 @@ use Rattle.pool_model.specs.declared.item.Write.{Write}
 use Rattle.pool_model.specs.declared.volume.PlainVolume.{PlainVolume}
 use Rattle.pool_model.specs.Names.{same, stored}
 use Rattle.pool_model.specs.Pools.{PlainPool, Entry, volume_at, volume_after, written, created, with_volume, changed, applied}
-use Rattle.pool_model.proofs.Places.{name_after, volume_more, volume_written}
+use Rattle.pool_model.proofs.Places.{volume_more, volume_written}
 use Rattle.pool_now.specs.Shapes.{shape_of, shape_at, HaveSameShapes}
 
 -- ---- a write

@@ -13,7 +13,8 @@ ghost use Rattle.pool_model.specs.Pools.{PlainPool, Entry, volume_at, changed, a
 ghost use Rattle.pool_model.specs.View.{View, Given, Sync, Vdev, started, is_syncing, open_group, now_of};
 ghost use Rattle.pool_model.specs.Refusals.{may_plan, change_refusal};
 ghost use Rattle.pool_now.specs.GoodChanges.{is_good_change};
-ghost use Rattle.pool_model.specs.Machine.{with_hold, without_hold, with_accepted, taken, dropped, committed_next, StepOf};
+ghost use Rattle.pool_model.specs.Flow.{flow_of, with_hold, without_hold, with_accepted};
+ghost use Rattle.pool_model.specs.Machine.{with_flow, taken, dropped, committed_next, StepOf};
 ghost use Rattle.pool_model.specs.Sound.{IsSound};
 ghost use Rattle.pool_now.specs.declared.index.NameIndex.{NameIndex};
 ghost use Rattle.pool_now.specs.Shapes.{HaveSameShapes};
@@ -31,12 +32,15 @@ pub fn steps_move_now()
 /// The same of each change of a view that a step may make.
 pub fn changes_move_now()
     ensures wrote { (v : View) (writer group : ℕ) (write : WriteValue) →
-        HaveSameShapes (now_of (with_accepted v writer group (WriteItem write))) (now_of v) }
+        HaveSameShapes (now_of (with_flow v (with_accepted (flow_of v) writer group (WriteItem write))))
+        (now_of v) }
     ensures acted { (v : View) (writer : ℕ) (action : ActionValue) →
-        now_of (with_accepted v writer (open_group v) (ActionItem action))
+        now_of (with_flow v (with_accepted (flow_of v) writer (open_group v) (ActionItem action)))
         ≡ changed (open_group v) (now_of v) action.change }
-    ensures held { (v : View) (writer group : ℕ) → now_of (with_hold v writer group) ≡ now_of v }
-    ensures released { (v : View) (writer : ℕ) → now_of (without_hold v writer) ≡ now_of v }
+    ensures held { (v : View) (writer group : ℕ) →
+        now_of (with_flow v (with_hold (flow_of v) writer group)) ≡ now_of v }
+    ensures released { (v : View) (writer : ℕ) →
+        now_of (with_flow v (without_hold (flow_of v) writer)) ≡ now_of v }
     ensures closed { (v : View) → IsSound v → v.waiting ≡ None →
         now_of (record v { waiting = Some Quiescing }) ≡ now_of v }
     ensures quiesced { (v : View) → v.waiting ≡ Some Quiescing →
@@ -45,8 +49,7 @@ pub fn changes_move_now()
         now_of (taken v sync) ≡ now_of v }
     ensures synced { (v : View) (sync : Sync) → is_syncing v.sync ≡ true → is_syncing sync ≡ true →
         now_of (record v { sync = sync }) ≡ now_of v }
-    ensures dropped { (v : View) (disk : ℕ) → is_syncing v.sync ≡ true →
-        now_of (dropped v disk) ≡ now_of v }
+    ensures dropped { (v : View) (disk : ℕ) → now_of (dropped v disk) ≡ now_of v }
     ensures committed { (v : View) → is_syncing v.sync ≡ true →
         now_of (committed_next v) ≡ now_of v }
 {}
