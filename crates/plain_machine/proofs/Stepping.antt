@@ -15,10 +15,11 @@ use Rattle.pool_model.specs.declared.step.Step.TheVariants.{Hold, Write as Write
 use Rattle.pool_model.specs.declared.step.Reply.{Reply}
 use Rattle.pool_model.specs.declared.step.Reply.TheVariants.{Held, Receipt, Released, Closed, Quiesced, Planned, Committed, Bytes, Refused}
 use Rattle.pool_model.specs.Pools.{PlainPool, Ledger, applied, upto, volume_at}
-use Rattle.pool_model.specs.View.{View, Vdev, Sync, Idle, Unplanned, Due, is_syncing, is_planned, is_kept, is_held, is_quiescing, is_quiesced, hold_group, now_of, open_group, waiting_group, disks_of, is_away, disks_in_use, nothing_given}
-use Rattle.pool_model.specs.Flow.{flow_of}
+use Rattle.pool_model.specs.View.{View, Vdev, Unplanned, Due, is_syncing, is_planned, is_kept, is_held, is_quiescing, is_quiesced, hold_group, now_of, open_group, waiting_group, disks_of, is_away, disks_in_use, nothing_given}
+use Rattle.pool_model.specs.Flow.{flow_of, with_hold, without_hold, with_accepted, with_taken}
 use Rattle.pool_model.specs.Refusals.{greatest, or_else, first_cause, read_refusal, refusal_of}
-use Rattle.pool_model.specs.Machine.{StepOf, IsPlan, MayLack, with_hold, without_hold, with_accepted, taken, left_waiting, committed_next, without_memory}
+use Rattle.pool_model.specs.Machine.{StepOf, IsPlan, MayLack, with_flow, taken, committed_next, without_memory}
+use Rattle.pool_model.proofs.Answering.{takes_due}
 use Rattle.pool_model.proofs.Plans.{nothing_quiet, may_nothing, same_elements}
 use Rattle.pool_model.proofs.SoundFlows.{taken_hold}
 use Rattle.pool_model.proofs.Uptos.{upto_one}
@@ -65,16 +66,16 @@ stays m pipeline v r u = goes_on m pipeline v v.waiting v.holds v.next v.ledger 
 pub held : (m : Machine) (pipeline : Pipeline) (v : View) (writer group : ℕ) → Represents m v → Does m.pipeline (Hold writer) (Held group) pipeline → Goes v (Hold writer) (Held group) (record m { pipeline = pipeline })
 held m pipeline v writer group r d =
     let g = d (flow_of v) r.flow in (
-      with_hold v writer group,
-      inr (inr (record { none = hold_free v writer r.vdevs g.1.0; answered = (g.1.1, refl); calls = may_nothing (Hold writer) })),
+      with_flow v (with_hold (flow_of v) writer group),
+      inr (inr (record { none = hold_free v writer r.vdevs g.1.0; answered = ((g.1.0, g.1.1, refl), refl); calls = may_nothing (Hold writer) })),
       goes_on m pipeline v v.waiting _ v.next v.ledger r (λ s. refl) (subst (Carries pipeline) g.1.2 g.2),
     )
 
 pub released : (m : Machine) (pipeline : Pipeline) (v : View) (writer : ℕ) → Represents m v → refusal_of v (Release writer) ≡ None → Does m.pipeline (Release writer) Released pipeline → Goes v (Release writer) Released (record m { pipeline = pipeline })
 released m pipeline v writer r none d =
     let g = d (flow_of v) r.flow in (
-      without_hold v writer,
-      inr (inr (record { none = none; answered = refl; calls = may_nothing (Release writer) })),
+      with_flow v (without_hold (flow_of v) writer),
+      inr (inr (record { none = none; answered = (refl, refl); calls = may_nothing (Release writer) })),
       goes_on m pipeline v v.waiting _ v.next v.ledger r (λ s. refl) (subst (Carries pipeline) g.1 g.2),
     )
 
@@ -82,7 +83,7 @@ pub closed : (m : Machine) (pipeline : Pipeline) (v : View) (group : ℕ) → Re
 closed m pipeline v group r d =
     let g = d (flow_of v) r.flow in (
       record v { waiting = Some Quiescing },
-      inr (inr (record { none = close_free v r.vdevs g.1.0 g.1.1; answered = (g.1.2, refl); calls = may_nothing Close })),
+      inr (inr (record { none = close_free v r.vdevs g.1.0 g.1.1; answered = ((g.1.0, g.1.1, g.1.2, refl), refl); calls = may_nothing Close })),
       goes_on m pipeline v (Some Quiescing) v.holds v.next v.ledger r (λ s. refl) (subst (Carries pipeline) g.1.3 g.2),
     )
 
@@ -90,7 +91,7 @@ pub quiesced : (m : Machine) (pipeline : Pipeline) (v : View) (group : ℕ) → 
 quiesced m pipeline v group r d =
     let g = d (flow_of v) r.flow in (
       record v { waiting = Some QuiescedStage },
-      inr (inr (record { none = quiesce_free v r.vdevs g.1.0 g.1.1; answered = (g.1.2, refl); calls = may_nothing Quiesce })),
+      inr (inr (record { none = quiesce_free v r.vdevs g.1.0 g.1.1; answered = ((g.1.0, g.1.1, g.1.2, refl), refl); calls = may_nothing Quiesce })),
       goes_on m pipeline v (Some QuiescedStage) v.holds v.next v.ledger r (λ s. refl) (subst (Carries pipeline) g.1.3 g.2),
     )
 
@@ -98,8 +99,8 @@ pub wrote : (m : Machine) (pipeline : Pipeline) (v : View) (w : Write) (group : 
 wrote m pipeline v w group r none d =
     let g = d (flow_of v) r.flow in
     let takes = taken_hold (flow_of v) w.writer group v.holds r.sound.flow.holds g.1.0 in (
-      with_accepted v w.writer group (WriteItem w),
-      inr (inr (record { none = none; answered = (g.1.0, refl); calls = may_nothing (WriteStep w) })),
+      with_flow v (with_accepted (flow_of v) w.writer group (WriteItem w)),
+      inr (inr (record { none = none; answered = ((g.1.0, g.1.1, g.1.2, refl), refl); calls = may_nothing (WriteStep w) })),
       goes_on m pipeline v v.waiting v.holds _ _ r (λ s. sym (kept_synced (flow_of v) group (WriteItem w) _ takes s refl)) (subst (Carries pipeline) g.1.3 g.2),
     )
 
@@ -107,8 +108,8 @@ pub acted : (m : Machine) (pipeline : Pipeline) (v : View) (a : Action) (group :
 acted m pipeline v a group r none d =
     let g = d (flow_of v) r.flow in
     let takes = taken_hold (flow_of v) a.writer group v.holds r.sound.flow.holds g.1.0 in (
-      with_accepted v a.writer group (ActionItem a),
-      inr (inr (record { none = none; answered = (g.1.0, refl); calls = may_nothing (Act a) })),
+      with_flow v (with_accepted (flow_of v) a.writer group (ActionItem a)),
+      inr (inr (record { none = none; answered = ((g.1.0, g.1.1, g.1.2, g.1.3, refl), refl); calls = may_nothing (Act a) })),
       goes_on m pipeline v v.waiting v.holds _ _ r (λ s. sym (kept_synced (flow_of v) group (ActionItem a) _ takes s refl)) (subst (Carries pipeline) g.1.4 g.2),
     )
 
@@ -149,43 +150,23 @@ act_refused v a NotNow e n = refuses v (Act a) _ (act_late v a n.0 e n.1 n.2)
 
 -- ---- plans and commits
 
-pub idle_is : (sync : Sync) → is_syncing sync ≡ false → sync ≡ Idle
-idle_is Idle e = refl
-idle_is Unplanned e = absurd (true≢false e)
-idle_is (Due calls) e = absurd (true≢false e)
-
-pub unplanned_is : (sync : Sync) → is_syncing sync ≡ true → is_planned sync ≡ false → sync ≡ Unplanned
-unplanned_is Idle e p = absurd (true≢false (sym e))
-unplanned_is Unplanned e p = refl
-unplanned_is (Due calls) e p = absurd (true≢false p)
-
--- a group that is synced already, and has no plan, is taken as it is
-pub taken_already : (v : View) → v.sync ≡ Unplanned → taken v Unplanned ≡ v
-taken_already v e = λ i. record v { sync = sym e i; waiting = left e i }
-  where
-    left : (e : v.sync ≡ Unplanned) → left_waiting v.sync v.waiting ≡ v.waiting
-    left e = ap (λ s. left_waiting s v.waiting) e
-
 unplanned_now : (v : View) (planned : Option PlainPool) → IsPlanned v planned → is_planned v.sync ≡ false → IsPlanned (taken v Unplanned) planned
 unplanned_now v None p e = refl
 unplanned_now v (Some pool) p e = absurd (true≢false (sym (ap is_planned p.0) ∙ e))
 
 -- the quiesced group begins to be synced
-pub begun : (m : Machine) (pipeline : Pipeline) (v : View) → Represents m v → is_planned v.sync ≡ false → is_syncing v.sync ≡ false → Carries pipeline (record (flow_of v) { syncing = true; waiting = None }) → Represents (record m { pipeline = pipeline }) (taken v Unplanned)
-begun m pipeline v r p idle k =
-    let none : left_waiting v.sync v.waiting ≡ None = ap (λ s. left_waiting s v.waiting) (idle_is v.sync idle) in
-    let flow : Carries pipeline (flow_of (taken v Unplanned)) = subst (λ (w : Option Stage). Carries pipeline (record (flow_of v) { syncing = true; waiting = w })) (sym none) k in
-    record {
-      sound = record { first = r.sound.first; flow = flow.sound };
-      vdevs = r.vdevs;
-      flow = flow;
-      planned = unplanned_now v m.planned r.planned p;
-      kept = r.kept;
-    }
+pub begun : (m : Machine) (pipeline : Pipeline) (v : View) → Represents m v → is_planned v.sync ≡ false → Carries pipeline (with_taken (flow_of v)) → Represents (record m { pipeline = pipeline }) (taken v Unplanned)
+begun m pipeline v r p flow = record {
+  sound = record { first = r.sound.first; flow = flow.sound };
+  vdevs = r.vdevs;
+  flow = flow;
+  planned = unplanned_now v m.planned r.planned p;
+  kept = r.kept;
+}
 
 -- the group that is synced gets a plan, which has no device calls
 pub planned_step : (v : View) (timestamp group : ℕ) → v.vdevs ≡ [] → refusal_of v (Plan timestamp) ≡ None → group ≡ suc v.committed → StepOf v nothing_given (Plan timestamp) (Planned group) (taken v (Due []))
-planned_step v timestamp group e none g = inr (inr (record { none = none; answered = (g, [], empty, refl); calls = may_nothing (Plan timestamp) }))
+planned_step v timestamp group e none g = inr (inr (record { none = none; answered = ((g, (takes_due v timestamp none, refl)), [], empty, refl); calls = may_nothing (Plan timestamp) }))
   where
     empty : IsPlan v []
     empty = record { in_use = tt; numbered = λ disk. same_elements [] [] refl; flushes = same_elements [] (disks_in_use v) (sym (ap (λ (vdevs : List Vdev). filter (λ disk. not (is_away v disk)) (disks_of vdevs)) e)) }
@@ -213,7 +194,7 @@ commits m pipeline v group pool none last before earliest r was n l b e d =
     let p : IsPlanned v (Some pool) = subst (IsPlanned v) was r.planned in
     let flow : Carries pipeline (flow_of (committed_next v)) = subst (Carries pipeline) g.1.2 g.2 in (
       committed_next v,
-      inr (inr (record { none = device_free v r.vdevs (ap is_planned p.0); answered = (g.1.1, [], p.0, inl (refl, refl), refl, refl); calls = may_nothing Device })),
+      inr (inr (record { none = device_free v r.vdevs (ap is_planned p.0); answered = ((g.1.0, g.1.1, refl), [], p.0, inl (refl, refl), refl, refl); calls = may_nothing Device })),
       record {
         sound = record { first = let f = r.sound.first in omega arith; flow = flow.sound };
         vdevs = r.vdevs;
@@ -268,9 +249,9 @@ pub takes_group : (m : Machine) (pipeline : Pipeline) (v : View) (timestamp grou
 takes_group m pipeline v timestamp group r p idle d =
     let g = d (flow_of v) r.flow in
     ⊎_elim
-    (λ x. absurd (true≢false (sym x.0 ∙ idle)))
-    (λ x. (plan_free v timestamp r.vdevs p (inr (ap is_quiesced x.1)), begun m pipeline v r p idle (subst (Carries pipeline) x.2 g.2)))
-    g.1.1
+    (λ s. absurd (true≢false (sym s ∙ idle)))
+    (λ q. (plan_free v timestamp r.vdevs p (inr (ap is_quiesced q)), begun m pipeline v r p (subst (Carries pipeline) g.1.1.1 g.2)))
+    g.1.1.0
 
 -- it had none to take
 pub takes_none : (v : View) (timestamp : ℕ) (cause : Refusal) (named : Cause) → v.vdevs ≡ [] → is_planned v.sync ≡ false → is_syncing v.sync ≡ false → named ≡ cause_of cause → cause ≡ NotNow → (is_syncing v.sync ≡ true) ⊎ (is_quiesced v.waiting ≡ false) → refusal_of v (Plan timestamp) ≡ Some named
