@@ -17,10 +17,11 @@ use Rattle.pool_model.specs.declared.step.Step.TheVariants.{Hold, Write as Write
 use Rattle.pool_model.specs.declared.step.Reply.{Reply}
 use Rattle.pool_model.specs.declared.step.Reply.TheVariants.{Held, Receipt, Released, Closed, Quiesced, Planned, Committed, Refused}
 use Rattle.pool_model.specs.Pools.{upto, PlainPool, Ledger, Entry, volume_at, changed, applied}
-use Rattle.pool_model.specs.View.{View, nothing_given, Sync, Idle, Unplanned, Due, is_syncing, is_planned, is_quiescing, is_quiesced, is_suspended, hold_group, is_held, now_of, open_group, waiting_group}
-use Rattle.pool_model.specs.Flow.{Flow, flow_of, opened, added, counted_on, ledger_accepted}
+use Rattle.pool_model.specs.View.{View, nothing_given, Unplanned, is_syncing, is_planned, is_quiescing, is_quiesced, is_suspended, hold_group, is_held, now_of, open_group, waiting_group}
+use Rattle.pool_model.specs.Flow.{Flow, flow_of, opened, added, counted_on, ledger_accepted, with_hold, without_hold, with_accepted, with_taken}
 use Rattle.pool_model.specs.Refusals.{greatest, change_refusal, refusal_of}
-use Rattle.pool_model.specs.Machine.{StepOf, MayAnswer, MayLack, with_accepted, taken, left_waiting, committed_next, without_memory}
+use Rattle.pool_model.specs.Machine.{StepOf, MayAnswer, MayLack, with_flow, taken, committed_next, without_memory}
+use Rattle.pool_model.proofs.Answering.{taken_already}
 use Rattle.pool_model.proofs.Plans.{nothing_quiet, may_nothing}
 use Rattle.pool_model.proofs.SoundFlows.{all_snoc, taken_hold}
 use Rattle.pool_model.proofs.Sounds.{sound_step}
@@ -147,22 +148,22 @@ goes_on pipeline other index v step reply waiting holds next ledger r none answe
 pub held : (pipeline other : Pipeline) (index : NameIndex) (v : View) (writer group : ℕ) → Follows (record { pipeline = pipeline; index = index }) v → is_suspended v ≡ false → Does pipeline (Hold writer) (Held group) other → Goes v (Hold writer) (Held group) (record { pipeline = other; index = index })
 held pipeline other index v writer group r u d =
     let g = d (flow_of v) r.flow in
-    goes_on pipeline other index v (Hold writer) (Held group) v.waiting _ v.next v.ledger r (hold_free v writer u g.1.0) (g.1.1, refl) refl (subst (Carries other) g.1.2 g.2) r.good (λ s. refl)
+    goes_on pipeline other index v (Hold writer) (Held group) v.waiting (with_hold (flow_of v) writer group).holds v.next v.ledger r (hold_free v writer u g.1.0) ((g.1.0, g.1.1, refl), refl) refl (subst (Carries other) g.1.2 g.2) r.good (λ s. refl)
 
 pub released : (pipeline other : Pipeline) (index : NameIndex) (v : View) (writer : ℕ) → Follows (record { pipeline = pipeline; index = index }) v → refusal_of v (Release writer) ≡ None → Does pipeline (Release writer) Released other → Goes v (Release writer) Released (record { pipeline = other; index = index })
 released pipeline other index v writer r none d =
     let g = d (flow_of v) r.flow in
-    goes_on pipeline other index v (Release writer) Released v.waiting _ v.next v.ledger r none refl refl (subst (Carries other) g.1 g.2) r.good (λ s. refl)
+    goes_on pipeline other index v (Release writer) Released v.waiting (without_hold (flow_of v) writer).holds v.next v.ledger r none (refl, refl) refl (subst (Carries other) g.1 g.2) r.good (λ s. refl)
 
 pub closed : (pipeline other : Pipeline) (index : NameIndex) (v : View) (group : ℕ) → Follows (record { pipeline = pipeline; index = index }) v → is_suspended v ≡ false → Does pipeline Close (Closed group) other → Goes v Close (Closed group) (record { pipeline = other; index = index })
 closed pipeline other index v group r u d =
     let g = d (flow_of v) r.flow in
-    goes_on pipeline other index v Close (Closed group) (Some Quiescing) v.holds v.next v.ledger r (close_free v u g.1.0 g.1.1) (g.1.2, refl) refl (subst (Carries other) g.1.3 g.2) r.good (λ s. refl)
+    goes_on pipeline other index v Close (Closed group) (Some Quiescing) v.holds v.next v.ledger r (close_free v u g.1.0 g.1.1) ((g.1.0, g.1.1, g.1.2, refl), refl) refl (subst (Carries other) g.1.3 g.2) r.good (λ s. refl)
 
 pub quiesced : (pipeline other : Pipeline) (index : NameIndex) (v : View) (group : ℕ) → Follows (record { pipeline = pipeline; index = index }) v → is_suspended v ≡ false → Does pipeline Quiesce (Quiesced group) other → Goes v Quiesce (Quiesced group) (record { pipeline = other; index = index })
 quiesced pipeline other index v group r u d =
     let g = d (flow_of v) r.flow in
-    goes_on pipeline other index v Quiesce (Quiesced group) (Some QuiescedStage) v.holds v.next v.ledger r (quiesce_free v u g.1.0 g.1.1) (g.1.2, refl) refl (subst (Carries other) g.1.3 g.2) r.good (λ s. refl)
+    goes_on pipeline other index v Quiesce (Quiesced group) (Some QuiescedStage) v.holds v.next v.ledger r (quiesce_free v u g.1.0 g.1.1) ((g.1.0, g.1.1, g.1.2, refl), refl) refl (subst (Carries other) g.1.3 g.2) r.good (λ s. refl)
 
 -- ---- items
 
@@ -182,7 +183,7 @@ pub wrote : (pipeline other : Pipeline) (index : NameIndex) (v : View) (w : Writ
 wrote pipeline other index v w group r none d =
     let g = d (flow_of v) r.flow in
     let takes = taken_hold (flow_of v) w.writer group v.holds r.sound.flow.holds g.1.0 in
-    goes_on pipeline other index v (WriteStep w) (Receipt group) v.waiting v.holds (counted_on v.next w.writer) (ledger_accepted v.ledger group (WriteItem w)) r none (g.1.0, refl) refl (subst (Carries other) g.1.3 g.2) (good_took v.ledger group (WriteItem w) tt r.good) (λ s. sym (kept_synced (flow_of v) group (WriteItem w) _ takes s refl))
+    goes_on pipeline other index v (WriteStep w) (Receipt group) v.waiting v.holds (counted_on v.next w.writer) (ledger_accepted v.ledger group (WriteItem w)) r none ((g.1.0, g.1.1, g.1.2, refl), refl) refl (subst (Carries other) g.1.3 g.2) (good_took v.ledger group (WriteItem w) tt r.good) (λ s. sym (kept_synced (flow_of v) group (WriteItem w) _ takes s refl))
 
 -- the index knows the name that the action makes
 pub acted : (pipeline other : Pipeline) (index added_to : NameIndex) (v : View) (a : Action) (group : ℕ) (name : List ℕ) (shape : VolumeShape) → Follows (record { pipeline = pipeline; index = index }) v → is_suspended v ≡ false → refusal_of v (Act a) ≡ None → Does pipeline (Act a) (Receipt group) other
@@ -192,58 +193,35 @@ pub acted : (pipeline other : Pipeline) (index added_to : NameIndex) (v : View) 
 acted pipeline other index added_to v a group name shape r u none d is opened add =
     let g = d (flow_of v) r.flow in
     let takes = taken_hold (flow_of v) a.writer group v.holds r.sound.flow.holds g.1.0 in
-    let s : StepOf v nothing_given (Act a) (Receipt group) (with_accepted v a.writer group (ActionItem a)) = inr (inr (record { none = none; answered = (g.1.0, refl); calls = may_nothing (Act a) })) in
-    let moves = moves_now v nothing_given (Act a) (Receipt group) (with_accepted v a.writer group (ActionItem a)) r.sound s in
+    let s : StepOf v nothing_given (Act a) (Receipt group) (with_flow v (with_accepted (flow_of v) a.writer group (ActionItem a))) = inr (inr (record { none = none; answered = ((g.1.0, g.1.1, g.1.2, g.1.3, refl), refl); calls = may_nothing (Act a) })) in
+    let moves = moves_now v nothing_given (Act a) (Receipt group) (with_flow v (with_accepted (flow_of v) a.writer group (ActionItem a))) r.sound s in
     let free = change_free v a u none in
     let named : volume_at name (now_of v) ≡ None = name_free name shape.size shape.block_size (now_of v) (ap (λ (x : Change). change_refusal x (now_of v)) (sym is) ∙ free) in
-    let now : now_of (with_accepted v a.writer group (ActionItem a)) ≡ changed shape.group (now_of v) (Create name shape.size shape.block_size) = moves.1 ∙ (λ i. changed ((moves.0 ∙ sym opened) i) (now_of v) (is i)) in
+    let now : now_of (with_flow v (with_accepted (flow_of v) a.writer group (ActionItem a))) ≡ changed shape.group (now_of v) (Create name shape.size shape.block_size) = moves.1 ∙ (λ i. changed ((moves.0 ∙ sym opened) i) (now_of v) (is i)) in
     goes (record { pipeline = pipeline; index = index }) (record { pipeline = other; index = added_to }) v (Act a) (Receipt group) v.waiting v.holds (counted_on v.next a.writer) (ledger_accepted v.ledger group (ActionItem a)) r s (subst (Carries other) g.1.4 g.2) (subst (Knows added_to) (sym now) (add (now_of v) r.names named)) (good_took v.ledger group (ActionItem a) (is_good a.change (now_of v) free) r.good) (λ s. sym (kept_synced (flow_of v) group (ActionItem a) _ takes s refl))
 
 -- ---- the group that is synced
 
-idle_is : (sync : Sync) → is_syncing sync ≡ false → sync ≡ Idle
-idle_is Idle e = refl
-idle_is Unplanned e = absurd (true≢false e)
-idle_is (Due calls) e = absurd (true≢false e)
-
-unplanned_is : (sync : Sync) → is_syncing sync ≡ true → is_planned sync ≡ false → sync ≡ Unplanned
-unplanned_is Idle e p = absurd (true≢false (sym e))
-unplanned_is Unplanned e p = refl
-unplanned_is (Due calls) e p = absurd (true≢false p)
-
--- a group that is synced already, and has no plan, is taken as it is
-taken_already : (v : View) → v.sync ≡ Unplanned → taken v Unplanned ≡ v
-taken_already v e = λ i. record v { sync = sym e i; waiting = left e i }
-  where
-    left : (e : v.sync ≡ Unplanned) → left_waiting v.sync v.waiting ≡ v.waiting
-    left e = ap (λ s. left_waiting s v.waiting) e
-
 pub takes_again : (new : Intake) (v : View) (timestamp : ℕ) → Follows new v → is_suspended v ≡ false → is_planned v.sync ≡ false → is_syncing v.sync ≡ true → (refusal_of v (Plan timestamp) ≡ None) × Follows new (taken v Unplanned)
-takes_again new v timestamp r u p s = (plan_free v timestamp u p (inl s), subst (Follows new) (sym (taken_already v (unplanned_is v.sync s p))) r)
+takes_again new v timestamp r u p s = (plan_free v timestamp u p (inl s), subst (Follows new) (sym (taken_already v s p)) r)
 
 -- the quiesced group begins to be synced
 pub takes_group : (pipeline other : Pipeline) (index : NameIndex) (v : View) (timestamp group : ℕ) → Follows (record { pipeline = pipeline; index = index }) v → is_suspended v ≡ false → is_planned v.sync ≡ false → is_syncing v.sync ≡ false → Does pipeline (Plan 0) (Planned group) other → (refusal_of v (Plan timestamp) ≡ None) × Follows (record { pipeline = other; index = index }) (taken v Unplanned)
 takes_group pipeline other index v timestamp group r u p idle d =
     let g = d (flow_of v) r.flow in
     ⊎_elim
-    (λ x. absurd (true≢false (sym x.0 ∙ idle)))
-    (λ x. (
-      plan_free v timestamp u p (inr (ap is_quiesced x.1)),
-      begun (subst (Carries other) x.2 g.2) (ap is_quiesced x.1),
-    ))
-    g.1.1
+    (λ s. absurd (true≢false (sym s ∙ idle)))
+    (λ q. (plan_free v timestamp u p (inr (ap is_quiesced q)), begun (subst (Carries other) g.1.1.1 g.2) (ap is_quiesced q)))
+    g.1.1.0
   where
-    begun : Carries other (record (flow_of v) { syncing = true; waiting = None }) → is_quiesced v.waiting ≡ true → Follows (record { pipeline = other; index = index }) (taken v Unplanned)
-    begun k q =
-        let none : left_waiting v.sync v.waiting ≡ None = ap (λ s. left_waiting s v.waiting) (idle_is v.sync idle) in
-        let flow : Carries other (flow_of (taken v Unplanned)) = subst (λ (w : Option Stage). Carries other (record (flow_of v) { syncing = true; waiting = w })) (sym none) k in
-        record {
-          sound = record { first = r.sound.first; flow = flow.sound };
-          flow = flow;
-          names = subst (Knows index) (sym (now_taken v Unplanned (λ i. not (p i) && (idle i || q i)) refl)) r.names;
-          made = r.made;
-          good = r.good;
-        }
+    begun : Carries other (with_taken (flow_of v)) → is_quiesced v.waiting ≡ true → Follows (record { pipeline = other; index = index }) (taken v Unplanned)
+    begun flow q = record {
+      sound = record { first = r.sound.first; flow = flow.sound };
+      flow = flow;
+      names = subst (Knows index) (sym (now_taken v Unplanned (λ i. not (p i) && (idle i || q i)) refl)) r.names;
+      made = r.made;
+      good = r.good;
+    }
 
 -- there was none to take
 pub takes_none : (v : View) (timestamp : ℕ) (cause : Refusal) (named : Cause) → is_suspended v ≡ false → is_planned v.sync ≡ false → is_syncing v.sync ≡ false → named ≡ cause_of cause → cause ≡ NotNow → (is_syncing v.sync ≡ true) ⊎ (is_quiesced v.waiting ≡ false) → refusal_of v (Plan timestamp) ≡ Some named
