@@ -17,6 +17,7 @@ use Rattle.raidz_io.proofs.Calls.{Contains-none}
 use Rattle.raidz_io.specs.declared.writes.ColumnWrite.{ColumnWrite}
 use Rattle.pool_model.specs.View.{View, DueCall}
 use Rattle.pool_model.specs.Machine.{due_flush, Makes, MakesAll, committed_next, dropped}
+use Rattle.pool_model.proofs.Answering.{none_planned}
 use Rattle.pool_model.proofs.Plans.{makes_writes, makes_flushes}
 use Rattle.pool_commit.specs.declared.device.Progress.{Progress}
 use Rattle.pool_commit.specs.declared.device.Progress.TheVariants.{Moved, Done, Dropped}
@@ -257,7 +258,7 @@ drops old mid plan v phase disk new backs failed next drop kept none =
           planned = backs.blocks.stored;
           plans = drop.plans backs.blocks.stored backs.blocks.planned (failed.same.plans backs.blocks.stored backs.blocks.planned backs.blocks.plans);
           kept = subst (λ (k : Kept). (group : ℕ) → SpellsKept backs.blocks.stored group (volumes_at k group) (kept_pool v group)) (sym kept) backs.blocks.kept;
-          plan = subst (λ (o : Option Planned). IsPlanOf new backs.blocks.stored o (dropped v disk)) (sym none) refl;
+          plan = subst (λ (o : Option Planned). IsPlanOf new backs.blocks.stored o (dropped v disk)) (sym none) (none_planned v.sync);
         };
       },
     )
