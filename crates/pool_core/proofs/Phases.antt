@@ -16,7 +16,8 @@ use Rattle.pool_model.specs.declared.step.Reply.TheVariants.{Planned, Moved, Rep
 use Rattle.pool_model.specs.View.{View, Vdev, Given, DueCall, is_away, nothing_given, Sync, Unplanned, Due, is_syncing, is_planned, is_quiesced, is_suspended, open_after}
 use Rattle.pool_model.specs.Pools.{Entry}
 use Rattle.pool_model.specs.Refusals.{greatest, first_cause, refusal_of}
-use Rattle.pool_model.specs.Machine.{StepOf, IsPlan, IsQuiet, FailsOn, IsUnreadable, taken, committed_next, dropped}
+use Rattle.pool_model.specs.Machine.{StepOf, IsPlan, IsQuiet, FailsOn, IsUnreadable, taken, committed_next, without_plan, dropped}
+use Rattle.pool_model.proofs.Answering.{takes_due, syncs_without_plan}
 use Rattle.pool_model.proofs.Plans.{nothing_quiet}
 use Rattle.pool_intake.specs.declared.intake.Intake.{Intake}
 use Rattle.pool_intake.specs.Follows.{Follows}
@@ -254,7 +255,7 @@ commits s intake commit v trusted reply r free p grew is f =
       after = committed_next v;
       link = record {
         is_given = device_is_given s new v ends.made None ends.are_made ends.faults;
-        is_step = inr (inr (record { none = device_free v free (ap is_planned ends.planned); answered = (refl, ends.left, ends.planned, ends.makes, refl, refl); calls = refl }));
+        is_step = inr (inr (record { none = device_free v free (ap is_planned ends.planned); answered = ((ap is_syncing ends.planned, refl, refl), ends.left, ends.planned, ends.makes, refl, refl); calls = refl }));
         represents = record { follows = f; backs = p.1 };
         flushed = ends.flushed;
         untouched = device_spares s new v ends.made grew ends.are_made;
@@ -289,7 +290,7 @@ drops s commit v trusted disk reply r free p grew is = go (is_suspended (dropped
     }
 
     after : Represents new (dropped v disk)
-    after = record { follows = follows_on s.intake v Unplanned (dropped v disk).out r.follows (ap is_syncing p.0.planned) refl; backs = p.1 }
+    after = record { follows = follows_on s.intake v (without_plan v.sync) (dropped v disk).out r.follows (ap is_syncing p.0.planned) (syncs_without_plan v.sync ∙ ap is_syncing p.0.planned); backs = p.1 }
 
     goes : (answer : Reply) → StepOf v given Device answer (dropped v disk) → AreFlushed answer (dropped v disk) new → Goes s v trusted Device answer new
     goes answer step flushed = record {
@@ -350,7 +351,7 @@ plans s intake commit v trusted timestamp group calls none f is plan backs reads
       after = taken v (Due calls);
       link = record {
         is_given = reads_are_given s v (Plan timestamp) new None trusted false reads (none_lost _) (λ e. absurd (true≢false (sym e)));
-        is_step = inr (inr (record { none = none; answered = (is, calls, record { in_use = plan.in_use; numbered = plan.numbered; flushes = plan.flushes }, refl); calls = reads_quiet s new None trusted false }));
+        is_step = inr (inr (record { none = none; answered = ((is, (takes_due v timestamp none, refl)), calls, record { in_use = plan.in_use; numbered = plan.numbered; flushes = plan.flushes }, refl); calls = reads_quiet s new None trusted false }));
         represents = record { follows = follows_on intake (taken v Unplanned) (Due calls) v.out f refl refl; backs = backs };
         flushed = tt;
         untouched = spared;
