@@ -1,0 +1,12 @@
+pub mod BlockData
+mod Changed
+mod Dividing
+pub mod Ids
+mod Laying
+pub mod Made
+pub mod Putting
+mod Ranges
+pub mod Refusing
+pub mod Sizes
+pub mod Standing
+mod Untouched

@@ -1,0 +1,51 @@
+use Rattle.std.proofs.Common.{[], inl, inr, ⊎_elim, refl, subst}
+use Rattle.block_store.proofs.Steps.{steps_on, true_before, no_room_now, no_room_on}
+use Rattle.objset.specs.Changes.{AreChanged, changed}
+use Rattle.objset.specs.declared.changes.SetCopies.{SetCopies}
+use Rattle.volume.specs.Placing.{data_change}
+use Rattle.volume.proofs.Putting.{not_refused}
+use Rattle.volume.proofs.Refusing.{passed_on}
+use Rattle.volume.proofs.placing.plan_change.Goals as goal
+
+pub returns-in_err-rewrite-clause-known : goal.returns-in_err-rewrite-clause-known
+returns-in_err-rewrite-clause-known g c =
+    passed_on _ _ _ c.from_residual.ensures.1 (λ stored planned bound objects own before plans are le may honest few.
+    ⊎_elim (λ room. room) (λ bad. not_refused c.args.change objects may bad.1)
+    (c.in_err-rewrite.ensures.known stored planned bound objects own before plans are le honest few))
+
+pub returns-in_err-block-clause-steps : goal.returns-in_err-block-clause-steps
+returns-in_err-block-clause-steps g c = steps_on _ _ _ _ c.in_ok-rewrite.ensures.steps c.plan_set.ensures.steps
+
+pub returns-in_err-block-clause-no_room : goal.returns-in_err-block-clause-no_room
+returns-in_err-block-clause-no_room g c =
+    passed_on _ _ _ c.from_residual-in_err-block.ensures.1
+    (λ is. inr (no_room_on c.args.store.now c.change.new.store c.plan_set.new.store [] 2 2 c.in_ok-rewrite.ensures.steps
+    (no_room_now c.change.new.store c.plan_set.new.store [] 2 2 (c.in_err-block.ensures.no_room is))))
+
+pub returns-in_err-block-clause-known : goal.returns-in_err-block-clause-known
+returns-in_err-block-clause-known g c =
+    passed_on _ _ _ c.from_residual-in_err-block.ensures.1 (λ stored planned bound objects own before plans are le may honest few. c.in_err-block.ensures.refused)
+
+pub returns-clause-steps : goal.returns-clause-steps
+returns-clause-steps g c = steps_on _ _ _ _ c.in_ok-rewrite.ensures.steps c.plan_set.ensures.steps
+
+pub returns-clause-value : goal.returns-clause-value
+returns-clause-value g c = λ stored planned bound objects own before plans are le honest.
+    let one = c.in_ok-rewrite.ensures.changed stored planned bound objects own before plans are le
+    (true_before c.args.store.now c.change.new.store c.plan_set.new.store c.plan_set.ensures.steps.reads honest) in
+    let two = c.in_ok-block.ensures.planned stored one.1 one.2 in (
+      two.0,
+      two.1,
+      record {
+        mid = one.1;
+        rewrite = c.in_ok-rewrite.rewrite;
+        objects_are = subst (λ (copies : SetCopies). AreChanged copies planned one.1 c.args.birth c.in_ok-rewrite.rewrite (data_change c.args.change) (changed (data_change c.args.change) objects) own before)
+            c.dataset_copies.ensures.are one.3;
+        kind = c.in_ok-rewrite.ensures.kind;
+        adds = two.2;
+        is_set = two.3;
+        born = c.in_ok-block.ensures.birth;
+        copies = c.in_ok-block.ensures.copies;
+        gone_are = refl;
+      },
+    )

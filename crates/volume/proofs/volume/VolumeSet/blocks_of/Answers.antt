@@ -1,0 +1,60 @@
+use Rattle.std.proofs.Common.{◌≡◌, ◌∙◌, inl, inr, ⊎_elim, ℕ, List, Option, length, ap, subst, arith}
+use Rattle.std.proofs.lemmas.List.{take_all}
+use Rattle.std.proofs.lemmas.List.Elements.{Contains-get_or}
+use Rattle.block_store.proofs.Steps.{reads_none, reads_on}
+use Rattle.block_store.specs.declared.space.VdevSpace.{VdevSpace}
+use Rattle.dnode_tree.proofs.FurtherReads.{true_before, true_after, few_after}
+use Rattle.dnode_tree.specs.declared.writes.BlockWrite.{BlockWrite}
+use Rattle.pool_now.specs.Overlay.{after_writes}
+use Rattle.volume.specs.Reading.{IsFound}
+use Rattle.volume.specs.Volume.{part}
+use Rattle.volume.proofs.Ids.{one_id_more, all_more}
+use Rattle.volume.proofs.Refusing.{passed_on}
+use Rattle.volume.proofs.volume.VolumeSet.blocks_of.Goals as goal
+
+pub changed_block-requires-clause-id : goal.changed_block-requires-clause-id
+changed_block-requires-clause-id g c = c.requires.ids c.loop-id.id-index 0 c.loop-id-test.true
+
+pub returns-in_err-block-clause-reads : goal.returns-in_err-block-clause-reads
+returns-in_err-block-clause-reads g c = reads_on _ _ _ _ c.loop-id.invariant.reads c.changed_block.ensures.reads
+
+pub returns-in_err-push-clause-reads : goal.returns-in_err-push-clause-reads
+returns-in_err-push-clause-reads g c = reads_on _ _ _ _ c.loop-id.invariant.reads c.changed_block.ensures.reads
+
+pub returns-in_err-block-clause-refused : goal.returns-in_err-block-clause-refused
+returns-in_err-block-clause-refused g c =
+    passed_on _ _ _ c.from_residual.ensures.1
+    (⊎_elim (λ memory. inl memory) (λ why. inr (record {
+      id = _;
+      is_wanted = Contains-get_or c.args.ids.now c.loop-id.id-index 0 c.loop-id-test.true;
+      mid = c.loop-id.store;
+      before = c.loop-id.invariant.reads;
+      why = why;
+    })) c.in_err-block.ensures.refused)
+
+pub returns-in_err-block-clause-known : goal.returns-in_err-block-clause-known
+returns-in_err-block-clause-known g c =
+    passed_on _ _ _ c.from_residual.ensures.1 (λ stored array held has honest few.
+    c.in_err-block.ensures.known stored array (c.loop-id.invariant.reads.keeps stored held) has
+    (true_after _ _ _ _ c.loop-id.invariant.reads c.changed_block.ensures.reads honest) (few_after _ _ _ _ c.loop-id.invariant.reads c.changed_block.ensures.reads few))
+
+pub loop-id-preserved : goal.loop-id-preserved
+loop-id-preserved g c =
+    let so_far : List BlockWrite = c.loop-id.blocks.items in
+    let block : BlockWrite = c.in_ok-block.block in
+    let now : List BlockWrite = c.push.new.blocks.items in
+    let reads = c.changed_block.ensures.reads in
+    record {
+      reads = reads_on _ _ _ _ c.loop-id.invariant.reads reads;
+      ids = one_id_more so_far now block c.args.ids.now c.loop-id.id-index c.in_ok-push.ensures c.in_ok-block.ensures.id c.loop-id-test.true c.loop-id.invariant.ids;
+      whole = all_more (λ b. length b.bytes.items ≡ c.args.self.now.block_size) so_far now block c.in_ok-push.ensures c.loop-id.invariant.whole c.in_ok-block.ensures.len;
+      value = λ stored volume held named has honest.
+          all_more (λ b. b.bytes.items ≡ part (after_writes volume c.args.changes.now.writes.now).bytes c.args.self.now.block_size b.id) so_far now block c.in_ok-push.ensures
+          (c.loop-id.invariant.value stored volume held named has (true_before _ _ _ _ c.loop-id.invariant.reads reads honest))
+          (c.in_ok-block.ensures.value stored volume (c.loop-id.invariant.reads.keeps stored held) named has (true_after _ _ _ _ c.loop-id.invariant.reads reads honest));
+      found = all_more (λ b. (found : Option (List ℕ)) × IsFound c.args.store.now.spaces c.args.self.now c.args.set.now b.id found) so_far now block c.in_ok-push.ensures c.loop-id.invariant.found
+          (subst (λ (spaces : List VdevSpace). (found : Option (List ℕ)) × IsFound spaces c.args.self.now c.args.set.now block.id found) (ap (λ store. store.spaces) c.loop-id.invariant.reads.rest) c.in_ok-block.ensures.found);
+    }
+
+pub returns-clause-ids : goal.returns-clause-ids
+returns-clause-ids g c = c.loop-id.invariant.ids ∙ take_all c.loop-id.id-index c.args.ids.now c.loop-id-test.false

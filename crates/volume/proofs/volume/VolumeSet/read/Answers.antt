@@ -1,0 +1,47 @@
+use Rattle.std.proofs.Common.{inl, inr, ⊎_elim, sym, subst}
+use Rattle.std.proofs.lemmas.Result.{IfOk-weaker, IfErr-weaker}
+use Rattle.block_store.proofs.Steps.{reads_on}
+use Rattle.dnode.specs.declared.object_set.ObjectSet.{ObjectSet}
+use Rattle.dnode_tree.proofs.FurtherReads.{true_before, true_after, few_after}
+use Rattle.volume.specs.Volume.{HasData}
+use Rattle.volume.proofs.Refusing.{passed_on}
+use Rattle.volume.proofs.volume.VolumeSet.read.Goals as goal
+
+pub returns-in_err-set-clause-refused : goal.returns-in_err-set-clause-refused
+returns-in_err-set-clause-refused g c = passed_on _ _ _ c.from_residual.ensures.1 (inr (inl c.in_err-set.ensures.refused))
+
+pub returns-in_err-set-clause-known : goal.returns-in_err-set-clause-known
+returns-in_err-set-clause-known g c =
+    passed_on _ _ _ c.from_residual.ensures.1 (λ stored array held is honest few. c.in_err-set.ensures.known stored is.set held is.is_set honest few)
+
+pub returns-clause-reads : goal.returns-clause-reads
+returns-clause-reads g c = reads_on _ _ _ _ c.in_ok-set.ensures.reads c.read_data.ensures.reads
+
+pub returns-clause-value : goal.returns-clause-value
+returns-clause-value g c =
+    let first = c.in_ok-set.ensures.reads in
+    let rest = c.read_data.ensures.reads in
+    IfOk-weaker c.read_data.result _ _
+    (λ read value stored array held is honest.
+    value stored array (first.keeps stored held)
+    (subst (λ (set : ObjectSet). HasData stored _ set _ _ array) (sym (c.in_ok-set.ensures.value stored is.set held is.is_set (true_before _ _ _ _ first rest honest))) is.has)
+    (true_after _ _ _ _ first rest honest))
+    c.read_data.ensures.value
+
+pub returns-clause-refused : goal.returns-clause-refused
+returns-clause-refused g c =
+    IfErr-weaker c.read_data.result _ _
+    (λ refusal why. ⊎_elim (λ memory. inl memory)
+    (λ unread. inr (inr (record { set = c.in_ok-set.set; is_set = c.in_ok-set.ensures.found; mid = c.read_set.new.store; before = c.in_ok-set.ensures.reads; unread = unread }))) why)
+    c.read_data.ensures.refused
+
+pub returns-clause-known : goal.returns-clause-known
+returns-clause-known g c =
+    let first = c.in_ok-set.ensures.reads in
+    let rest = c.read_data.ensures.reads in
+    IfErr-weaker c.read_data.result _ _
+    (λ refusal known stored array held is honest few.
+    known stored array (first.keeps stored held)
+    (subst (λ (set : ObjectSet). HasData stored _ set _ _ array) (sym (c.in_ok-set.ensures.value stored is.set held is.is_set (true_before _ _ _ _ first rest honest))) is.has)
+    (true_after _ _ _ _ first rest honest) (few_after _ _ _ _ first rest few))
+    c.read_data.ensures.known

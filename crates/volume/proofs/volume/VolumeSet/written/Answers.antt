@@ -1,0 +1,53 @@
+use Rattle.std.proofs.Common.{◌≡◌, ◌∙◌, [], inl, inr, refl}
+use Rattle.std.proofs.lemmas.Result.{IfOk-weaker, IfErr-weaker}
+use Rattle.block_store.proofs.Steps.{steps_read, steps_on, true_before, true_after, few_after}
+use Rattle.pool_now.specs.Overlay.{after_writes}
+use Rattle.volume.proofs.Ids.{no_blocks}
+use Rattle.volume.proofs.Putting.{lacks_on}
+use Rattle.volume.proofs.Refusing.{passed_on}
+use Rattle.volume.proofs.volume.VolumeSet.written.Goals as goal
+
+pub returns-in_err-blocks-clause-steps : goal.returns-in_err-blocks-clause-steps
+returns-in_err-blocks-clause-steps g c = steps_read _ _ _ c.in_err-blocks.ensures.reads
+
+pub returns-in_err-blocks-clause-known : goal.returns-in_err-blocks-clause-known
+returns-in_err-blocks-clause-known g c =
+    passed_on _ _ _ c.from_residual.ensures.1 (λ stored planned array plans is le honest few. inl (c.in_err-blocks.ensures.known stored array plans.held is honest few))
+
+pub returns-clause-steps : goal.returns-clause-steps
+returns-clause-steps g c = steps_on _ _ _ _ (steps_read _ _ _ c.in_ok-blocks.ensures.reads) c.placed.ensures.steps
+
+pub returns-clause-idle : goal.returns-clause-idle
+returns-clause-idle g c = λ none.
+    (c.placed.ensures.idle (no_blocks c.in_ok-blocks.blocks.items (λ id has. none id ((c.in_ok-blocks.ensures.changed id).0 has)))).0 ∙ c.in_ok-blocks.ensures.idle none
+
+pub returns-clause-value : goal.returns-clause-value
+returns-clause-value g c =
+    let first = steps_read c.args.store.now c.changed_blocks.new.store [] c.in_ok-blocks.ensures.reads in
+    IfOk-weaker c.placed.result _ _
+    (λ done value stored planned volume plans named is le honest.
+    let did = value stored planned c.args.birth_before volume.bytes (c.in_ok-blocks.ensures.reads.plans stored planned plans) is le
+    (true_after c.args.store.now c.changed_blocks.new.store c.placed.new.store first.reads honest) in (
+      did.0,
+      did.1,
+      did.2,
+      did.3 (after_writes volume c.args.changes.now.writes.now).bytes (c.in_ok-blocks.ensures.value stored volume plans.held named is
+          (true_before c.args.store.now c.changed_blocks.new.store c.placed.new.store c.placed.ensures.steps.reads honest)),
+    ))
+    c.placed.ensures.value
+
+pub returns-clause-no_room : goal.returns-clause-no_room
+returns-clause-no_room g c =
+    IfErr-weaker c.placed.result _ _
+    (λ refusal lacks is. lacks_on c.args.store.now c.changed_blocks.new.store c.placed.new.store (steps_read _ _ _ c.in_ok-blocks.ensures.reads) (lacks is))
+    c.placed.ensures.no_room
+
+pub returns-clause-known : goal.returns-clause-known
+returns-clause-known g c =
+    let first = steps_read c.args.store.now c.changed_blocks.new.store [] c.in_ok-blocks.ensures.reads in
+    IfErr-weaker c.placed.result _ _
+    (λ refusal known stored planned array plans is le honest few.
+    known stored planned c.args.birth_before array (c.in_ok-blocks.ensures.reads.plans stored planned plans) is le
+    (true_after c.args.store.now c.changed_blocks.new.store c.placed.new.store first.reads honest)
+    (few_after c.args.store.now c.changed_blocks.new.store c.placed.new.store [] first.reads first.out first.shapes few))
+    c.placed.ensures.known

@@ -1,0 +1,5 @@
+pub mod Laws
+pub mod Placing
+pub mod Reading
+pub mod Volume
+pub mod Writing

@@ -1,0 +1,74 @@
+//! A volume is made.
+ghost use Rattle.std.specs.Prelude.{◌≡◌, ◌%◌, ◌≤◌, ◌<◌, ◌^◌, [], IsTrue, IfOk, IfErr, replicate};
+ghost use Rattle.block_store.specs.Blocks.{Contents, Extends};
+ghost use Rattle.block_store.specs.Plans.{Plans};
+ghost use Rattle.block_store.specs.Steps.{OnlyReadsAndPlans, AnswersAreTrue, LossIsTolerable};
+ghost use Rattle.dnode_tree.specs.Writes.{IsForRoom};
+ghost use Rattle.pool_model.specs.Names.{is_block_size};
+ghost use Rattle.volume.specs.Placing.{IsMade, LacksRoom};
+ghost use Rattle.volume.specs.Volume.{HasShape, Spells};
+
+use crate::placing::plan_change;
+use crate::volume::VolumeSet;
+use block_pointer::BlockPtr;
+use block_store::{BlockStore, Refusal};
+use dnode::{ObjectNode, ObjectSet, ObjectSetKind};
+use model_disk::Disk;
+use objset::Change;
+use std::alloc::Global;
+
+/// The type of the object that has a volume's data.
+const VOLUME_TYPE: u8 = 23;
+
+/// A volume's object set with no object.
+const EMPTY: ObjectSet = ObjectSet {
+    dnodes: ObjectNode {
+        object_type: 10,
+        data_sectors: 32,
+        highest: 0,
+        pointer: BlockPtr::Hole,
+    },
+    kind: ObjectSetKind::Volume,
+    objects: 1,
+};
+
+impl VolumeSet {
+    /// Plans a volume of zeros in the transaction group `birth`, with no blocks of data: `size` and `block_size` in bytes.
+    ///
+    /// After an error blocks may be planned that no volume has: begin another plan.
+    pub fn create<D: Disk + Drop>(
+        store: &mut BlockStore<D>,
+        alloc: Global,
+        size: u64,
+        block_size: u64,
+        birth: u64,
+    ) -> Result<VolumeSet, Refusal>
+        requires block_sized { IsTrue (is_block_size block_size) }
+        requires whole { size % block_size ≡ 0 }
+        requires least { block_size ≤ size }
+        requires most { size ≤ 2 ^ 40 }
+        requires born { 0 < birth }
+        ensures steps { OnlyReadsAndPlans store.old store.new [] }
+        ensures shape { IfOk result (λ volume. HasShape volume size block_size) }
+        ensures value { IfOk result (λ volume. (stored planned : Contents)
+            → Plans store.old stored planned → AnswersAreTrue store.old store.new
+            → (later : Contents) × Plans store.new stored later × Extends planned later
+            × Spells later birth volume (replicate size 0)
+            × IsMade planned later birth volume) }
+        ensures no_room { IfErr result (λ refusal. refusal ≡ Refusal.NoSpace
+            → LacksRoom store.old store.new) }
+
+        // Only room is wanting, where no vdev misses more disks than it has parities and what they answer is true.
+        ensures known { IfErr result (λ refusal. (stored planned : Contents)
+            → Plans store.old stored planned → AnswersAreTrue store.old store.new
+            → LossIsTolerable store.old store.new [] → IsForRoom refusal) }
+    {
+        let creation = Change::Create {
+            object_type: VOLUME_TYPE,
+            data_sectors: (block_size / 512) as u32,
+            writes: Vec::new(alloc),
+        };
+        let planned = plan_change(&EMPTY, store, alloc, creation, birth)?;
+        Ok(VolumeSet::new(size, block_size, planned.block))
+    }
+}

@@ -1,0 +1,12 @@
+//! What follows from the definitions, as functions with no body.
+ghost use Rattle.volume.specs.Laws.{VolumesStandOnTheirBlocks, VolumesStay};
+
+/// A volume reads as it does whatever becomes of blocks that aren't its own.
+pub fn volumes_stand_on_their_blocks()
+    ensures { VolumesStandOnTheirBlocks }
+{}
+
+/// A volume reads as it does where more blocks are known, and for a later group.
+pub fn volumes_stay()
+    ensures { VolumesStay }
+{}

@@ -1,0 +1,17 @@
+//! A volume's data as an object set on disk: what it reads as, the blocks that a group's writes change, and the object set
+//! after them.
+#![tactic(auto)]
+
+mod creating;
+mod laws;
+mod placing;
+mod reading;
+mod volume;
+mod writing;
+
+pub use block_store::Refusal;
+pub use dnode_tree::BlockWrite;
+pub use laws::{volumes_stand_on_their_blocks, volumes_stay};
+pub use placing::{Rewritten, dataset_copies};
+pub use volume::VolumeSet;
+pub use writing::GroupWrites;

@@ -1,0 +1,227 @@
+//! A volume with other blocks of data.
+ghost use Rattle.std.specs.Prelude.{◌≡◌, ◌≢◌, ◌⊎◌, ◌≤◌, ◌<◌, ◌++◌, ◌∷◌, [], ℕ, List, Option, IfOk, IfErr, IsOkAnd};
+ghost use Rattle.block_pointer.specs.declared.block.Block.{Block};
+ghost use Rattle.block_store.specs.Blocks.{Contents, Extends, count_of};
+ghost use Rattle.block_store.specs.Plans.{Plans};
+ghost use Rattle.block_store.specs.Steps.{OnlyReadsAndPlans, AnswersAreTrue, LossIsTolerable};
+ghost use Rattle.dnode.specs.ObjectSet.{FitsObjectSet};
+ghost use Rattle.dnode_tree.specs.Writes.{IsForRoom};
+ghost use Rattle.objset.specs.Changes.{IsGoodChange, MayChange};
+ghost use Rattle.objset.specs.Objects.{Object, AreObjects};
+ghost use Rattle.volume.specs.Placing.{copies_of_datasets, IsPlaced, IsSetPlanned, LacksRoom};
+ghost use Rattle.volume.specs.Volume.{size_of, block_size_of, block_of, HasData, HasShape, Spells};
+ghost use Rattle.volume.specs.Writing.{AreBlocksOf, IsArrayWith, IsChanged};
+ghost use Rattle.pool_model.specs.declared.volume.PlainVolume.{PlainVolume};
+ghost use Rattle.pool_now.specs.Overlay.{after_writes};
+
+use crate::reading::DATA;
+use crate::volume::VolumeSet;
+use crate::writing::GroupWrites;
+use block_pointer::Block;
+use block_store::{BlockStore, CopyCount, Refusal};
+use dnode::ObjectSet;
+use dnode_slots::{plan_set, read_set};
+use dnode_tree::BlockWrite;
+use model_disk::Disk;
+use objset::{Change, ObjectChange, SetCopies};
+use std::alloc::{AllocError, Global};
+
+/// A volume after some of its blocks were written anew.
+#[derive(Debug, Drop)]
+pub struct Rewritten {
+    pub volume: VolumeSet,
+    /// The blocks of the volume before that gave way to others.
+    pub replaced: Vec<Block>,
+}
+
+/// An object set that is planned.
+#[derive(Debug, Drop)]
+pub(crate) struct PlannedSet {
+    pub block: Block,
+    /// The blocks of the objects before that gave way to others.
+    pub replaced: Vec<Block>,
+}
+
+/// How many copies the blocks of a dataset have.
+pub fn dataset_copies() -> SetCopies
+    ensures are { result ≡ copies_of_datasets }
+    ensures data { count_of result.data ≡ 1 }
+    ensures other { count_of result.other ≡ 2 }
+{
+    SetCopies {
+        data: CopyCount::One,
+        other: CopyCount::Two,
+    }
+}
+
+impl VolumeSet {
+    /// Plans the volume with these blocks in the transaction group `birth`: each of them once, what is above them, and the
+    /// block of the object set. With no blocks nothing is planned, and the volume stays the same. The volume before stays as
+    /// it was: its blocks were born in the group `birth` or before.
+    ///
+    /// After an error blocks may be planned that no volume has: begin another plan.
+    pub fn placed<D: Disk + Drop>(
+        &self,
+        store: &mut BlockStore<D>,
+        alloc: Global,
+        blocks: Vec<BlockWrite>,
+        birth: u64,
+    ) -> Result<Rewritten, Refusal>
+        requires blocks { AreBlocksOf self.now blocks.items }
+        requires born { 0 < birth }
+        ensures steps { OnlyReadsAndPlans store.old store.new [] }
+        ensures idle { blocks.items ≡ [] → (store.new ≡ store.old) × IsOkAnd result (λ done.
+            (done.volume ≡ self.now) × (done.replaced.items ≡ [])) }
+        ensures shape { IfOk result (λ done.
+            HasShape done.volume (size_of self.now) (block_size_of self.now)) }
+        ensures value { IfOk result (λ done. (stored planned : Contents) (bound : ℕ) (array : List ℕ)
+            → Plans store.old stored planned → (is : Spells stored bound self.now array)
+            → bound ≤ birth → AnswersAreTrue store.old store.new
+            → (later : Contents) × Plans store.new stored later × Extends planned later
+            × ((after : List ℕ) → IsArrayWith array (block_size_of self.now) blocks.items after
+            → Spells later birth done.volume after)
+            × (blocks.items ≢ [] → IsPlaced stored planned later bound birth self.now array is
+            blocks done)) }
+        ensures no_room { IfErr result (λ refusal. refusal ≡ Refusal.NoSpace
+            → LacksRoom store.old store.new) }
+
+        // Only room is wanting, where no vdev misses more disks than it has parities and what they answer is true.
+        ensures known { IfErr result (λ refusal. (stored planned : Contents) (bound : ℕ)
+            (array : List ℕ) → Plans store.old stored planned
+            → Spells stored bound self.now array → bound ≤ birth
+            → AnswersAreTrue store.old store.new → LossIsTolerable store.old store.new []
+            → IsForRoom refusal) }
+    {
+        if blocks.is_empty() {
+            return Ok(Rewritten {
+                volume: *self,
+                replaced: Vec::new(alloc),
+            });
+        }
+        self.put(store, alloc, blocks, birth)
+    }
+
+    /// Plans the volume after the writes of the group `birth`, once all blocks that they change were read: as `placed` of
+    /// `changed_blocks`. The volume before was born in the group `birth_before` or before.
+    pub fn written<D: Disk + Drop>(
+        &self,
+        store: &mut BlockStore<D>,
+        alloc: Global,
+        changes: &GroupWrites,
+        birth_before: u64,
+        birth: u64,
+    ) -> Result<Rewritten, Refusal>
+        requires born { 0 < birth }
+        ensures steps { OnlyReadsAndPlans store.old store.new [] }
+        ensures idle { ((id : ℕ) → ¬ IsChanged self.now changes.now.name.now changes.now.writes.now id)
+            → store.new ≡ store.old }
+        ensures shape { IfOk result (λ done.
+            HasShape done.volume (size_of self.now) (block_size_of self.now)) }
+        ensures value { IfOk result (λ done. (stored planned : Contents) (volume : PlainVolume)
+            → Plans store.old stored planned → volume.name ≡ changes.now.name.now
+            → Spells stored birth_before self.now volume.bytes → birth_before ≤ birth
+            → AnswersAreTrue store.old store.new
+            → (later : Contents) × Plans store.new stored later × Extends planned later
+            × Spells later birth done.volume
+            (after_writes volume changes.now.writes.now).bytes) }
+        ensures no_room { IfErr result (λ refusal. refusal ≡ Refusal.NoSpace
+            → LacksRoom store.old store.new) }
+        ensures known { IfErr result (λ refusal. (stored planned : Contents) (array : List ℕ)
+            → Plans store.old stored planned → Spells stored birth_before self.now array
+            → birth_before ≤ birth → AnswersAreTrue store.old store.new
+            → LossIsTolerable store.old store.new [] → IsForRoom refusal) }
+    {
+        let blocks = self.changed_blocks(store, alloc, birth_before, changes)?;
+        self.placed(store, alloc, blocks, birth)
+    }
+
+    /// Plans the volume with these blocks, also where there are none.
+    fn put<D: Disk + Drop>(
+        &self,
+        store: &mut BlockStore<D>,
+        alloc: Global,
+        blocks: Vec<BlockWrite>,
+        birth: u64,
+    ) -> Result<Rewritten, Refusal>
+        requires blocks { AreBlocksOf self.now blocks.items }
+        requires born { 0 < birth }
+        ensures steps { OnlyReadsAndPlans store.old store.new [] }
+        ensures shape { IfOk result (λ done.
+            HasShape done.volume (size_of self.now) (block_size_of self.now)) }
+        ensures value { IfOk result (λ done. (stored planned : Contents) (bound : ℕ) (array : List ℕ)
+            → Plans store.old stored planned → (is : Spells stored bound self.now array)
+            → bound ≤ birth → AnswersAreTrue store.old store.new
+            → (later : Contents) × Plans store.new stored later × Extends planned later
+            × ((after : List ℕ) → IsArrayWith array (block_size_of self.now) blocks.items after
+            → Spells later birth done.volume after)
+            × IsPlaced stored planned later bound birth self.now array is blocks done) }
+        ensures no_room { IfErr result (λ refusal. refusal ≡ Refusal.NoSpace
+            → LacksRoom store.old store.new) }
+        ensures known { IfErr result (λ refusal. (stored planned : Contents) (bound : ℕ)
+            (array : List ℕ) → Plans store.old stored planned
+            → Spells stored bound self.now array → bound ≤ birth
+            → AnswersAreTrue store.old store.new → LossIsTolerable store.old store.new []
+            → IsForRoom refusal) }
+    {
+        let set = read_set(store, alloc, &self.block, birth, &[])?;
+        let change = Change::Put { writes: blocks };
+        let planned = plan_change(&set, store, alloc, change, birth)?;
+        Ok(self.rewritten(planned)?)
+    }
+
+    /// The volume with an object set that is planned.
+    fn rewritten(&self, planned: PlannedSet) -> Result<Rewritten, AllocError>
+        ensures shape { IfOk result (λ done.
+            HasShape done.volume (size_of self.now) (block_size_of self.now)) }
+        ensures block { IfOk result (λ done. block_of done.volume ≡ planned.block) }
+        ensures replaced { IfOk result (λ done.
+            done.replaced.items ≡ planned.replaced.items ++ block_of self.now ∷ []) }
+    {
+        let mut replaced = planned.replaced;
+        replaced.extend_from_slice(&[self.block])?;
+        Ok(Rewritten {
+            volume: self.with_block(planned.block),
+            replaced,
+        })
+    }
+}
+
+/// Plans a set with one change of its object 1, and the set's block.
+pub(crate) fn plan_change<D: Disk + Drop>(
+    set: &ObjectSet,
+    store: &mut BlockStore<D>,
+    alloc: Global,
+    change: Change,
+    birth: u64,
+) -> Result<PlannedSet, Refusal>
+    requires set { FitsObjectSet set.now }
+    requires good { IsGoodChange change }
+    requires born { 0 < birth }
+    ensures steps { OnlyReadsAndPlans store.old store.new [] }
+    ensures born { IfOk result (λ done. done.block.birth ≡ birth) }
+    ensures value { IfOk result (λ done. (stored planned : Contents) (bound : ℕ)
+        (objects : ℕ → Option Object) (own : List Block) (before : ℕ → List Block)
+        → Plans store.old stored planned → AreObjects stored bound set.now objects own before
+        → bound ≤ birth → AnswersAreTrue store.old store.new
+        → (later : Contents) × Plans store.new stored later
+        × IsSetPlanned planned later birth set.now change objects own before done.block
+        done.replaced.items) }
+    ensures no_room { IfErr result (λ refusal. refusal ≡ Refusal.NoSpace
+        → LacksRoom store.old store.new) }
+    ensures known { IfErr result (λ refusal. (stored planned : Contents) (bound : ℕ)
+        (objects : ℕ → Option Object) (own : List Block) (before : ℕ → List Block)
+        → Plans store.old stored planned → AreObjects stored bound set.now objects own before
+        → bound ≤ birth → MayChange change (objects 1) → AnswersAreTrue store.old store.new
+        → LossIsTolerable store.old store.new [] → IsForRoom refusal) }
+{
+    let changes = [ObjectChange {
+        number: DATA,
+        change,
+    }];
+    let rewrite = objset::change(set, store, alloc, &changes, birth, dataset_copies(), &[])?;
+    let block = plan_set(&rewrite.set, store, alloc, birth, CopyCount::Two)?;
+    Ok(PlannedSet {
+        block,
+        replaced: rewrite.replaced,
+    })
+}

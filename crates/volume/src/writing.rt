@@ -1,0 +1,205 @@
+//! The blocks that a group's writes change.
+ghost use Rattle.std.specs.Prelude.{◌≡◌, ◌⊎◌, ◌↔◌, ◌/◌, ◌<◌, ◌++◌, ◌∷◌, [], ℕ, List, IfOk, IfErr, OnOk, length, map, Option, Contains, All};
+ghost use Rattle.std.specs.List.Sorted.{IsStrictlyIncreasing};
+ghost use Rattle.pool_model.specs.declared.volume.PlainVolume.{PlainVolume};
+ghost use Rattle.pool_now.specs.Overlay.{after_writes};
+ghost use Rattle.block_store.specs.Blocks.{Contents};
+ghost use Rattle.block_store.specs.Steps.{OnlyReadsBlocks, AnswersAreTrue, LossIsTolerable};
+ghost use Rattle.block_store.specs.Store.{Holds};
+ghost use Rattle.dnode.specs.ObjectSet.{FitsObjectSet};
+ghost use Rattle.dnode_tree.specs.declared.writes.BlockWrite.{BlockWrite};
+ghost use Rattle.volume.specs.Reading.{IsBlockRefused, IsFound, IsReadRefused, IsUnread, IsWayRead};
+ghost use Rattle.volume.specs.Volume.{size_of, block_size_of, block_of, part, HasData, Spells};
+ghost use Rattle.volume.specs.Writing.{Reaches, IsChanged, HasId, AreBlocksOf, IsArrayWith};
+
+use crate::volume::VolumeSet;
+use block_store::{BlockStore, Refusal};
+use dnode::ObjectSet;
+use dnode_slots::read_set;
+use dnode_tree::BlockWrite;
+use model_disk::Disk;
+use pool_model::{Name, Write};
+use pool_now::lay_over;
+use std::alloc::{AllocError, Global};
+
+/// What a group writes, and the name of a volume. Writes to other volumes don't count.
+#[derive(Clone, Copy, Debug)]
+pub struct GroupWrites<'a> {
+    pub name: &'a Name,
+    pub writes: &'a [Write],
+}
+
+impl VolumeSet {
+    /// The blocks that writes change, whole, in the order of their ids. It only reads: the block of the object set once, and
+    /// the way to each of these blocks; nothing where no block is changed. The set's block was born in the transaction group
+    /// `birth` or before. `BadPointer` where the set spells no volume there: no object set, no object 1, or a block of
+    /// another size.
+    pub fn changed_blocks<D: Disk + Drop>(
+        &self,
+        store: &mut BlockStore<D>,
+        alloc: Global,
+        birth: u64,
+        changes: &GroupWrites,
+    ) -> Result<Vec<BlockWrite>, Refusal>
+        ensures reads { OnlyReadsBlocks store.old store.new [] }
+        ensures idle { ((id : ℕ) → ¬ IsChanged self.now changes.now.name.now changes.now.writes.now id)
+            → store.new ≡ store.old }
+        ensures blocks { IfOk result (λ blocks. AreBlocksOf self.now blocks.items) }
+        ensures changed { IfOk result (λ blocks. (id : ℕ) → HasId blocks.items id
+            ↔ IsChanged self.now changes.now.name.now changes.now.writes.now id) }
+
+        // They turn the volume's bytes into those after the writes.
+        ensures value { IfOk result (λ blocks. (stored : Contents) (volume : PlainVolume)
+            → Holds store.old stored → volume.name ≡ changes.now.name.now
+            → Spells stored birth self.now volume.bytes → AnswersAreTrue store.old store.new
+            → IsArrayWith volume.bytes (block_size_of self.now) blocks.items
+            (after_writes volume changes.now.writes.now).bytes) }
+
+        // Whatever the volume is: what was read, and on a refusal its cause.
+        ensures found { IfOk result (λ blocks.
+            All (λ block. IsWayRead store.old.spaces self.now birth block.id) blocks.items) }
+        ensures refused { IfErr result (λ refusal. (refusal ≡ Refusal.NoMemory)
+            ⊎ IsReadRefused store.old store.new [] self.now birth
+            (IsChanged self.now changes.now.name.now changes.now.writes.now) refusal) }
+
+        // And they are read, where no vdev misses more disks than it has parities and what they answer is true.
+        ensures known { IfErr result (λ refusal. (stored : Contents) (array : List ℕ)
+            → Holds store.old stored → Spells stored birth self.now array
+            → AnswersAreTrue store.old store.new
+            → LossIsTolerable store.old store.new [] → refusal ≡ Refusal.NoMemory) }
+    {
+        let ids = self.changed_ids(alloc, changes.name, changes.writes)?;
+        if ids.is_empty() {
+            return Ok(Vec::new(alloc));
+        }
+        let set = read_set(store, alloc, &self.block, birth, &[])?;
+        self.blocks_of(&set, store, alloc, changes, &ids)
+    }
+
+    /// The blocks of these ids after the writes.
+    fn blocks_of<D: Disk + Drop>(
+        &self,
+        set: &ObjectSet,
+        store: &mut BlockStore<D>,
+        alloc: Global,
+        changes: &GroupWrites,
+        ids: &[u64],
+    ) -> Result<Vec<BlockWrite>, Refusal>
+        requires set { FitsObjectSet set.now }
+        requires once { IsStrictlyIncreasing ids.now }
+        requires ids { All (λ id. id < size_of self.now / block_size_of self.now) ids.now }
+        ensures reads { OnlyReadsBlocks store.old store.new [] }
+        ensures ids { IfOk result (λ blocks. map (λ block. block.id) blocks.items ≡ ids.now) }
+        ensures whole { IfOk result (λ blocks. All (λ block.
+            length block.bytes.items ≡ block_size_of self.now) blocks.items) }
+        ensures value { IfOk result (λ blocks. (stored : Contents) (volume : PlainVolume)
+            → Holds store.old stored → volume.name ≡ changes.now.name.now
+            → HasData stored (block_of self.now).birth set.now (size_of self.now)
+            (block_size_of self.now) volume.bytes → AnswersAreTrue store.old store.new
+            → All (λ block. block.bytes.items ≡ part (after_writes volume changes.now.writes.now).bytes
+            (block_size_of self.now) block.id) blocks.items) }
+        ensures found { IfOk result (λ blocks. All (λ block. (found : Option (List ℕ))
+            × IsFound store.old.spaces self.now set.now block.id found) blocks.items) }
+        ensures refused { IfErr result (λ refusal. (refusal ≡ Refusal.NoMemory)
+            ⊎ IsUnread store.old store.new [] self.now set.now (Contains ids.now) refusal) }
+        ensures known { IfErr result (λ refusal. (stored : Contents) (array : List ℕ)
+            → Holds store.old stored → HasData stored (block_of self.now).birth set.now
+            (size_of self.now) (block_size_of self.now) array → AnswersAreTrue store.old store.new
+            → LossIsTolerable store.old store.new [] → refusal ≡ Refusal.NoMemory) }
+    {
+        let mut blocks = Vec::new(alloc);
+        for id in ids {
+            let block = self.changed_block(set, store, alloc, changes, *id)?;
+            push(&mut blocks, block)?;
+        }
+        Ok(blocks)
+    }
+
+    /// A block after the writes.
+    fn changed_block<D: Disk + Drop>(
+        &self,
+        set: &ObjectSet,
+        store: &mut BlockStore<D>,
+        alloc: Global,
+        changes: &GroupWrites,
+        id: u64,
+    ) -> Result<BlockWrite, Refusal>
+        requires set { FitsObjectSet set.now }
+        requires id { id < size_of self.now / block_size_of self.now }
+        ensures reads { OnlyReadsBlocks store.old store.new [] }
+        ensures id { IfOk result (λ block. block.id ≡ id) }
+        ensures len { IfOk result (λ block. length block.bytes.items ≡ block_size_of self.now) }
+        ensures value { IfOk result (λ block. (stored : Contents) (volume : PlainVolume)
+            → Holds store.old stored → volume.name ≡ changes.now.name.now
+            → HasData stored (block_of self.now).birth set.now (size_of self.now)
+            (block_size_of self.now) volume.bytes → AnswersAreTrue store.old store.new
+            → block.bytes.items ≡ part (after_writes volume changes.now.writes.now).bytes
+            (block_size_of self.now) block.id) }
+        ensures found { IfOk result (λ block. (found : Option (List ℕ))
+            × IsFound store.old.spaces self.now set.now block.id found) }
+        ensures refused { IfErr result (λ refusal. (refusal ≡ Refusal.NoMemory)
+            ⊎ IsBlockRefused store.old store.new [] self.now set.now id refusal) }
+        ensures known { IfErr result (λ refusal. (stored : Contents) (array : List ℕ)
+            → Holds store.old stored → HasData stored (block_of self.now).birth set.now
+            (size_of self.now) (block_size_of self.now) array → AnswersAreTrue store.old store.new
+            → LossIsTolerable store.old store.new [] → refusal ≡ Refusal.NoMemory) }
+    {
+        let mut bytes = self.block_bytes(set, store, alloc, id, &[])?;
+        let offset = id * self.block_size();
+        lay_over(
+            changes.writes,
+            changes.name,
+            self.size(),
+            offset,
+            bytes.as_mut_slice(),
+        );
+        Ok(BlockWrite { id, bytes })
+    }
+
+    /// The ids of the blocks that writes to the volume reach, in order.
+    fn changed_ids(
+        &self,
+        alloc: Global,
+        name: &Name,
+        writes: &[Write],
+    ) -> Result<Vec<u64>, AllocError>
+        ensures ids { IfOk result (λ ids. (id : ℕ) → Contains ids.items id
+            ↔ IsChanged self.now name.now writes.now id) }
+        ensures once { IfOk result (λ ids. IsStrictlyIncreasing ids.items) }
+    {
+        let mut ids = Vec::new(alloc);
+        for write in writes {
+            if write.volume.is(name) {
+                self.add_reached(write, &mut ids)?;
+            }
+        }
+        ids.as_mut_slice().sort_unstable();
+        ids.dedup();
+        Ok(ids)
+    }
+
+    /// Adds the ids of the blocks that the write reaches.
+    fn add_reached(&self, write: &Write, ids: &mut Vec<u64>) -> Result<(), AllocError>
+        ensures { OnOk result ((id : ℕ) → Contains ids.new.items id ↔ (Contains ids.old.items id
+            ⊎ Reaches (size_of self.now) (block_size_of self.now) write.now id)) }
+    {
+        let len = write.bytes.len() as u64;
+        if len == 0 || len > self.size() || write.offset > self.size() - len {
+            return Ok(());
+        }
+        let block_size = self.block_size();
+        let end = (write.offset + len - 1) / block_size + 1;
+        for id in write.offset / block_size..end {
+            ids.push(id)?;
+        }
+        Ok(())
+    }
+}
+
+/// Adds a block to a list.
+fn push(blocks: &mut Vec<BlockWrite>, block: BlockWrite) -> Result<(), AllocError>
+    ensures { OnOk result (blocks.new.items ≡ blocks.old.items ++ block ∷ []) }
+{
+    blocks.push(block)?;
+    Ok(())
+}
