@@ -29,6 +29,12 @@ pub record IsReadable (spaces : List VdevSpace) (asked : Asked) (block : Block) 
   pub asks : Asks asked block
   pub places : (place : Dva) → Contains (dvas block.copies) place → IsPlaceIn spaces block.property.sectors place
 
+-- these bytes were read for the pointer: it may be read, and they have its size and its digest
+pub record IsReadAs (spaces : List VdevSpace) (asked : Asked) (block : Block) (bytes : List ℕ) : Type 0 where
+  pub readable : IsReadable spaces asked block
+  pub size : length bytes ≡ block.property.sectors * 512
+  pub digest : sha256 bytes ≡ block.checksum
+
 -- the absent disks of the vdev are no more than its parities
 pub record FewAreAbsent (vdev : Vdev) (absent : List ℕ) : Type 0 where
   pub disks : List ℕ

@@ -8,9 +8,8 @@ use Rattle.block_store.specs.Blocks.{Contents}
 use Rattle.block_store.specs.declared.refusal.Refusal.{Refusal}
 use Rattle.block_store.specs.declared.refusal.Refusal.TheVariants.{NoMemory, BadPointer}
 use Rattle.block_store.specs.declared.space.VdevSpace.{VdevSpace}
-use Rattle.block_store.specs.Reading.{Asks, IsReadable, IsLastFault}
+use Rattle.block_store.specs.Reading.{Asks, IsReadable, IsReadAs, IsLastFault}
 use Rattle.block_store.specs.Store.{Store, outs}
-use Rattle.dnode_tree.specs.Ways.{IsReadAs}
 
 -- what a pointer to an object set is asked: level 0, the type 11, 1,024 bytes, and the latest birth
 abbrev pub asked_of_set : ℕ → Asked

@@ -9,11 +9,11 @@ use Rattle.block_store.specs.declared.block.Asked.{Asked}
 use Rattle.block_store.specs.declared.refusal.Refusal.{Refusal}
 use Rattle.block_store.specs.declared.refusal.Refusal.TheVariants.{NoMemory, DiskFault, NoSpace, BadPointer, BadDigest, BadConfig}
 use Rattle.block_store.specs.declared.space.VdevSpace.{VdevSpace}
-use Rattle.block_store.specs.Reading.{IsReadable, IsLastFault}
+use Rattle.block_store.specs.Reading.{IsReadable, IsReadAs, IsLastFault}
 use Rattle.block_store.specs.Store.{Store, outs}
 use Rattle.block_store.specs.Steps.{OnlyReadsBlocks}
 use Rattle.dnode_tree.specs.Subtree.{asked_of}
-use Rattle.dnode_tree.specs.Ways.{IsReadAs, AreReadAs, Reached, reached, asked_there, ComesTo, SpellsNoPointers, IsBad, IsCause, IsBlockFault, IsFoundBelow, IsRefusedBelow}
+use Rattle.dnode_tree.specs.Ways.{AreReadAs, Reached, reached, asked_there, ComesTo, SpellsNoPointers, IsBad, IsCause, IsBlockFault, IsFoundBelow, IsRefusedBelow}
 use Rattle.block_store.proofs.Steps.{reads_none, reads_on}
 
 pub comes_at_once : (spaces : List VdevSpace) (property : ℕ → Property) (level birth : ℕ) (pointer : BlockPtr) (place : ℕ)

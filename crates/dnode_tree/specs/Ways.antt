@@ -2,7 +2,6 @@
 use Rattle.std.specs.Option.{option_map}
 use Rattle.std.specs.declared.alloc.Global.{Global}
 use Rattle.std.specs.Prelude.{ℕ, Vec, zero, suc, ◌≡◌, ◌⊎◌, ◌*◌, ◌/◌, ◌%◌, ◌^◌, ◌<◌, ◌≤◌, ◌++◌, ◌-◌, List, [], ◌∷◌, length, slice_index_or, Option, Some, None}
-use Rattle.sha2.specs.Sha256.{sha256}
 use Rattle.block_pointer.specs.declared.block.Block.{Block}
 use Rattle.block_pointer.specs.declared.pointer.BlockPtr.{BlockPtr}
 use Rattle.block_pointer.specs.declared.pointer.BlockPtr.TheVariants.{Hole, Block as At}
@@ -14,17 +13,11 @@ use Rattle.block_store.specs.declared.block.Asked.{Asked}
 use Rattle.block_store.specs.declared.refusal.Refusal.{Refusal}
 use Rattle.block_store.specs.declared.refusal.Refusal.TheVariants.{NoMemory, DiskFault, NoSpace, BadPointer, BadDigest, BadConfig}
 use Rattle.block_store.specs.declared.space.VdevSpace.{VdevSpace}
-use Rattle.block_store.specs.Reading.{Asks, IsReadable, IsLastFault}
+use Rattle.block_store.specs.Reading.{Asks, IsReadable, IsReadAs, IsLastFault}
 use Rattle.block_store.specs.Store.{Store, outs}
 use Rattle.block_store.specs.Steps.{OnlyReadsBlocks}
 use Rattle.dnode_tree.specs.Subtree.{asked_of, joined}
 use Rattle.dnode_tree.specs.Tree.{property_of}
-
--- These bytes were read for the pointer: it may be read, and they have its size and its digest.
-pub record IsReadAs (spaces : List VdevSpace) (asked : Asked) (block : Block) (bytes : List ℕ) : Type 0 where
-  pub readable : IsReadable spaces asked block
-  pub size : length bytes ≡ block.property.sectors * 512
-  pub digest : sha256 bytes ≡ block.checksum
 
 -- these pointers were read for the pointer
 pub record AreReadAs (spaces : List VdevSpace) (asked : Asked) (block : Block) (pointers : List BlockPtr) : Type 0 where

@@ -1,13 +1,13 @@
 use Rattle.std.proofs.Common.{◌≡◌, suc, ◌+◌, ◌-◌, ◌*◌, ◌/◌, ◌%◌, ◌^◌, ◌<◌, ap, sym, subst, ◌∙◌, arith}
 use Rattle.std.proofs.lemmas.Result.{IfOk-weaker, IfErr-weaker}
-use Rattle.block_store.specs.Reading.{Asks}
+use Rattle.block_store.specs.Reading.{Asks, IsReadAs}
 use Rattle.block_store.proofs.Steps.{reads_on}
 use Rattle.dnode_tree.proofs.FurtherReads.{true_before, true_after, few_after}
 use Rattle.dnode_tree.proofs.Parts.{data_part, indirect_part, child_part, child_low, child_place}
 use Rattle.dnode_tree.proofs.Refusing.{passed_on}
 use Rattle.dnode_tree.specs.Subtree.{asked_of}
 use Rattle.dnode_tree.specs.Tree.{property_of}
-use Rattle.dnode_tree.specs.Ways.{reached, bytes_of, IsReadAs, AreReadAs, IsFoundBelow}
+use Rattle.dnode_tree.specs.Ways.{reached, bytes_of, AreReadAs, IsFoundBelow}
 use Rattle.dnode_tree.proofs.WayLemmas.{found_hole, found_data, found_down, refused_data, refused_indirect, refused_down}
 use Rattle.dnode_tree.proofs.reading.+get_below.Goals as goal
 
