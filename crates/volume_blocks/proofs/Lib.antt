@@ -1,8 +1,10 @@
 mod Changed
+mod Changing
 mod Dividing
 mod Laying
 mod Planning
 mod Ranges
+mod ReadBlocks
 mod Rewriting
 pub mod Refusing
 mod Sizes

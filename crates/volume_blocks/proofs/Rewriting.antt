@@ -5,19 +5,18 @@ use Rattle.std.proofs.lemmas.Bool.{cases_eq, cases_lt}
 use Rattle.std.proofs.lemmas.List.Elements.{Contains-get_or, Contains-append_left, Contains-push, Contains-push_cases}
 use Rattle.block_pointer.specs.declared.block.Block.{Block}
 use Rattle.pool_model.specs.declared.item.Write.{Write}
-use Rattle.pool_model.specs.declared.volume.PlainVolume.{PlainVolume}
-use Rattle.pool_now.specs.Overlay.{after_writes}
-use Rattle.pool_now.proofs.Overlays.{length_after_writes}
 use Rattle.block_store.specs.Blocks.{Contents, Extends, Adds}
-use Rattle.block_store.specs.Plans.{Plans, KeepsPlans}
+use Rattle.block_store.specs.Plans.{Plans}
 use Rattle.block_store.specs.Reading.{Asks}
 use Rattle.block_store.specs.Store.{Store}
 use Rattle.volume_blocks.specs.declared.volume.VolumeBlocks.{VolumeBlocks}
+use Rattle.volume_blocks.specs.declared.writing.ChangedBlock.{ChangedBlock}
 use Rattle.volume_blocks.specs.Volume.{HasShape, block_at, asked_of, HasBytes, part, Spells}
-use Rattle.volume_blocks.specs.Writing.{IsChanged, ChangesOnly}
-use Rattle.volume_blocks.proofs.Ranges.{block_fits}
+use Rattle.volume_blocks.specs.Changing.{ids_of, AreOfVolume, IsLaidOver}
+use Rattle.volume_blocks.specs.Writing.{IsChanged}
+use Rattle.volume_blocks.proofs.Changing.{id_within}
 use Rattle.volume_blocks.proofs.Spelled.{more_known}
-use Rattle.volume_blocks.proofs.Untouched.{after_others, changed_below, held_or_not}
+use Rattle.volume_blocks.proofs.Untouched.{held_or_not}
 
 -- these blocks are planned, with their parts of the array
 pub record Rewrites (stored planned : Contents) (store : Store) (block_size birth : ℕ) (blocks : ℕ → Option Block) (ids : List ℕ) (array : List ℕ) : Type 0 where
@@ -38,17 +37,17 @@ put_apart : (blocks : ℕ → Option Block) (id other : ℕ) (block : Block) →
 put_apart blocks id other block apart = grind (arith, apart)
 
 -- one block more is planned
-pub rewrites_more : (stored planned : Contents) (old mid new : Store) (block_size birth : ℕ) (blocks after : ℕ → Option Block) (ids items : List ℕ) (array bytes : List ℕ) (id : ℕ) (block : Block)
-    → items ≡ ids ++ id ∷ [] → KeepsPlans old mid
-    → ((stored planned : Contents) → Plans mid stored planned → (later : Contents) × Plans new stored later × Adds planned later block bytes)
+pub rewrites_more : (stored planned : Contents) (old new : Store) (block_size birth : ℕ) (blocks after : ℕ → Option Block) (ids items : List ℕ) (array bytes : List ℕ) (id : ℕ) (block : Block)
+    → items ≡ ids ++ id ∷ []
+    → ((stored planned : Contents) → Plans old stored planned → (later : Contents) × Plans new stored later × Adds planned later block bytes)
     → Asks (asked_of block_size birth) block → bytes ≡ part array block_size id
     → ((other : ℕ) → after other ≡ (if other == id then Some block else blocks other))
     → Rewrites stored planned old block_size birth blocks ids array → Rewrites stored planned new block_size birth after items array
-rewrites_more stored planned old mid new block_size birth blocks after ids items array bytes id block is keeps plans asks part_is puts so_far =
+rewrites_more stored planned old new block_size birth blocks after ids items array bytes id block is plans asks part_is puts so_far =
     record { later = there.0; plans = there.1; kept = λ b bs e. there.2.kept b bs (so_far.kept b bs e); known = λ other held. cases other (subst (λ (xs : List ℕ). Contains xs other) is held) (cases_eq other id) }
   where
     there : (later : Contents) × Plans new stored later × Adds so_far.later later block bytes
-    there = plans stored so_far.later (keeps stored so_far.later so_far.plans)
+    there = plans stored so_far.later so_far.plans
 
     cases : (other : ℕ) → Contains (ids ++ id ∷ []) other → (other ≡ id) ⊎ (other ≡ id → ⊥) → HasBytes there.0 block_size birth (after other) (part array block_size other)
     cases other held (inl same) =
@@ -83,43 +82,35 @@ puts_more old blocks after birth ids items id block is born puts so_far = record
     others other none (inl same) = absurd (none (subst (λ (x : ℕ). Contains (ids ++ id ∷ []) x) (sym same) (Contains-push ids id)))
     others other none (inr apart) = puts other ∙ put_apart blocks id other block apart ∙ so_far.others other (λ held. none (Contains-append_left ids (id ∷ []) other held))
 
--- all are put
-pub puts_all : (volume after : VolumeBlocks) (name : List ℕ) (writes : List Write) (birth : ℕ) (ids : List ℕ) → HasShape after volume.size volume.block_size
-    → ((id : ℕ) → Contains ids id ↔ IsChanged volume name writes id) → Puts (block_at volume) (block_at after) birth ids → ChangesOnly volume name writes birth after
-puts_all volume after name writes birth ids shape are puts =
-    record { shape = shape; changed = λ id changed. puts.done id ((are id).1 changed); others = λ id same. puts.others id (λ held. same ((are id).0 held)) }
-
--- the blocks spell the bytes after the writes
-pub rewrites_all : (stored planned : Contents) (store : Store) (volume after : VolumeBlocks) (name : List ℕ) (writes : List Write) (plain : PlainVolume) (before birth : ℕ) (ids : List ℕ)
-    → HasShape after volume.size volume.block_size → ((id : ℕ) → Contains ids id ↔ IsChanged volume name writes id)
-    → Puts (block_at volume) (block_at after) birth ids → plain.name ≡ name → Extends stored planned → Spells stored before volume plain.bytes → before ≤ birth
-    → Rewrites stored planned store volume.block_size birth (block_at after) ids (after_writes plain writes).bytes
-    → (later : Contents) × Plans store stored later × Extends planned later × Spells later birth after (after_writes plain writes).bytes
-rewrites_all stored planned store volume after name writes plain before birth ids shape are puts named extends spells le rewrites = (
+-- the blocks spell what they are laid over to make
+pub rewrites_all : (stored planned : Contents) (store : Store) (volume after : VolumeBlocks) (blocks : List ChangedBlock) (old new : List ℕ) (before birth : ℕ)
+    → AreOfVolume volume blocks → HasShape after volume.size volume.block_size → Puts (block_at volume) (block_at after) birth (ids_of blocks)
+    → Extends stored planned → Spells stored before volume old → before ≤ birth → IsLaidOver volume blocks old new
+    → Rewrites stored planned store volume.block_size birth (block_at after) (ids_of blocks) new
+    → (later : Contents) × Plans store stored later × Extends planned later × Spells later birth after new
+rewrites_all stored planned store volume after blocks old new before birth fit shape puts extends spells le laid rewrites = (
   rewrites.later,
   rewrites.plans,
   rewrites.kept,
   record {
-    size = length_after_writes plain writes ∙ spells.size ∙ sym shape.0;
-    blocks = λ id lt. subst (λ (n : ℕ). HasBytes rewrites.later n birth (block_at after id) (part (after_writes plain writes).bytes n id)) (sym shape.1)
-        (cases id (subst (λ (n : ℕ). id < volume.size / n) shape.1 (subst (λ (n : ℕ). id < n / after.block_size) shape.0 lt)) (held_or_not ids id));
-    behind = λ id past. past_end id (subst (λ (n : ℕ). volume.size / n ≤ id) shape.1 (subst (λ (n : ℕ). n / after.block_size ≤ id) shape.0 past)) (held_or_not ids id);
+    size = laid.size ∙ spells.size ∙ sym shape.0;
+    blocks = λ id lt. subst (λ (n : ℕ). HasBytes rewrites.later n birth (block_at after id) (part new n id)) (sym shape.1)
+        (cases id (subst (λ (n : ℕ). id < volume.size / n) shape.1 (subst (λ (n : ℕ). id < n / after.block_size) shape.0 lt)) (held_or_not (ids_of blocks) id));
+    behind = λ id past. past_end id (subst (λ (n : ℕ). volume.size / n ≤ id) shape.1 (subst (λ (n : ℕ). n / after.block_size ≤ id) shape.0 past)) (held_or_not (ids_of blocks) id);
   },
 )
   where
-    cases : (id : ℕ) → id < volume.size / volume.block_size → Contains ids id ⊎ (Contains ids id → ⊥)
-        → HasBytes rewrites.later volume.block_size birth (block_at after id) (part (after_writes plain writes).bytes volume.block_size id)
+    cases : (id : ℕ) → id < volume.size / volume.block_size → Contains (ids_of blocks) id ⊎ (Contains (ids_of blocks) id → ⊥)
+        → HasBytes rewrites.later volume.block_size birth (block_at after id) (part new volume.block_size id)
     cases id lt (inl held) = rewrites.known id held
     cases id lt (inr none) =
-        let same : part (after_writes plain writes).bytes volume.block_size id ≡ part plain.bytes volume.block_size id =
-        after_others plain name writes volume.size volume.block_size id named spells.size (block_fits id volume.size volume.block_size lt) (λ changed. none ((are id).1 changed)) in
-        subst (λ (o : Option Block). HasBytes rewrites.later volume.block_size birth o (part (after_writes plain writes).bytes volume.block_size id)) (sym (puts.others id none))
-        (subst (λ (bytes : List ℕ). HasBytes rewrites.later volume.block_size birth (block_at volume id) bytes) (sym same)
-        (more_known stored rewrites.later volume.block_size before birth (block_at volume id) (part plain.bytes volume.block_size id)
+        subst (λ (o : Option Block). HasBytes rewrites.later volume.block_size birth o (part new volume.block_size id)) (sym (puts.others id none))
+        (subst (λ (bytes : List ℕ). HasBytes rewrites.later volume.block_size birth (block_at volume id) bytes) (sym (laid.others id lt none))
+        (more_known stored rewrites.later volume.block_size before birth (block_at volume id) (part old volume.block_size id)
         (λ block bytes is. rewrites.kept block bytes (extends block bytes is)) le (spells.blocks id lt)))
 
-    past_end : (id : ℕ) → volume.size / volume.block_size ≤ id → Contains ids id ⊎ (Contains ids id → ⊥) → block_at after id ≡ None
-    past_end id past (inl held) = let lt : id < volume.size / volume.block_size = changed_below volume name writes id ((are id).0 held) in absurd (omega arith)
+    past_end : (id : ℕ) → volume.size / volume.block_size ≤ id → Contains (ids_of blocks) id ⊎ (Contains (ids_of blocks) id → ⊥) → block_at after id ≡ None
+    past_end id past (inl held) = let lt : id < volume.size / volume.block_size = id_within volume blocks id fit held in absurd (omega arith)
     past_end id past (inr none) = puts.others id none ∙ spells.behind id past
 
 -- each id of the list is that of a block that is changed

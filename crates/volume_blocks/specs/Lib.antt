@@ -1,3 +1,4 @@
+pub mod Changing
 pub mod Reading
 pub mod Room
 pub mod Volume

@@ -25,12 +25,19 @@ pub record TookChanged (before : List VdevSpace) (volume : VolumeBlocks) (name :
   pub are : (id : ℕ) → Contains ids id ↔ IsChanged volume name writes id
   pub took : TookFor before (sizes_of volume ids) after
 
--- some blocks that the writes change were placed, each once, in order, and then no free place was left for the next of them
-pub record LacksRoom (before : List VdevSpace) (volume : VolumeBlocks) (name : List ℕ) (writes : List Write) : Type 0 where
+-- the first of the blocks of these ids were placed, in order, and then no free place was left for the next of them
+pub record FindsNoPlace (before : List VdevSpace) (volume : VolumeBlocks) (ids : List ℕ) : Type 0 where
   pub placed : List ℕ
   pub next : ℕ
-  pub in_order : IsStrictlyIncreasing (placed ++ next ∷ [])
-  pub are : (id : ℕ) → Contains (placed ++ next ∷ []) id → IsChanged volume name writes id
+  pub later : List ℕ
+  pub are : ids ≡ placed ++ next ∷ later
   pub after : List VdevSpace
   pub took : TookFor before (sizes_of volume placed) after
   pub none_left : NoPlaceIsLeft after (volume.block_size / 512)
+
+-- so it is of the blocks that the writes change, each once, in order
+pub record LacksRoom (before : List VdevSpace) (volume : VolumeBlocks) (name : List ℕ) (writes : List Write) : Type 0 where
+  pub ids : List ℕ
+  pub in_order : IsStrictlyIncreasing ids
+  pub are : (id : ℕ) → Contains ids id ↔ IsChanged volume name writes id
+  pub room : FindsNoPlace before volume ids

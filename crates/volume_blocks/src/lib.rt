@@ -8,3 +8,4 @@ mod writing;
 
 pub use laws::what_volumes_spell;
 pub use volume::VolumeBlocks;
+pub use writing::ChangedBlock;

@@ -1,10 +1,13 @@
 //! Reads of a volume.
-ghost use Rattle.std.specs.Prelude.{◌≡◌, ◌⊎◌, ◌+◌, ◌*◌, ◌/◌, ◌≤◌, ◌<◌, ◌^◌, ℕ, None, List, length, IfOk, IfErr, slice_range};
+ghost use Rattle.std.specs.Prelude.{◌≡◌, ◌⊎◌, ◌+◌, ◌*◌, ◌/◌, ◌≤◌, ◌<◌, ◌^◌, ℕ, None, List, length};
+ghost use Rattle.std.specs.Prelude.{IfOk, IfErr, OnOk, slice_range};
 ghost use Rattle.block_store.specs.Blocks.{Contents};
 ghost use Rattle.block_store.specs.Steps.{OnlyReadsBlocks, AnswersAreTrue, LossIsTolerable};
 ghost use Rattle.block_store.specs.Store.{Holds};
+ghost use Rattle.volume_blocks.specs.Changing.{WasRead};
 ghost use Rattle.volume_blocks.specs.Reading.{IsUnread, IsUnreadIn};
-ghost use Rattle.volume_blocks.specs.Volume.{size_of, block_size_of, block_at, asked_of, HasBytes, Spells};
+ghost use Rattle.volume_blocks.specs.Volume.{size_of, block_size_of, block_at, asked_of};
+ghost use Rattle.volume_blocks.specs.Volume.{HasBytes, Spells};
 
 use crate::volume::VolumeBlocks;
 use block_pointer::Property;
@@ -31,15 +34,20 @@ impl VolumeBlocks {
         requires few { len ≤ 2 ^ 20 }
         ensures reads { OnlyReadsBlocks store.old store.new missing.now }
         ensures len { IfOk result (λ read. length read.items ≡ len) }
-        ensures value { IfOk result (λ read. (stored : Contents) (array : List ℕ) → Holds store.old stored → Spells stored birth self.now array
-            → AnswersAreTrue store.old store.new → read.items ≡ slice_range array offset (offset + len)) }
-        ensures holes { ((id : ℕ) → id * block_size_of self.now < offset + len → offset < id * block_size_of self.now + block_size_of self.now
+        ensures value { IfOk result (λ read. (stored : Contents) (array : List ℕ)
+            → Holds store.old stored → Spells stored birth self.now array
+            → AnswersAreTrue store.old store.new
+            → read.items ≡ slice_range array offset (offset + len)) }
+        ensures holes { ((id : ℕ) → id * block_size_of self.now < offset + len
+            → offset < id * block_size_of self.now + block_size_of self.now
             → block_at self.now id ≡ None) → store.new ≡ store.old }
         ensures refused { IfErr result (λ refusal. (refusal ≡ Refusal.NoMemory)
-            ⊎ IsUnreadIn store.old store.new self.now birth offset (offset + len) missing.now refusal) }
+            ⊎ IsUnreadIn store.old store.new self.now birth offset (offset + len) missing.now
+            refusal) }
 
         // And it is read, where no vdev misses more disks than it has parities and what they answer is true.
-        ensures known { IfErr result (λ refusal. (stored : Contents) (array : List ℕ) → Holds store.old stored → Spells stored birth self.now array
+        ensures known { IfErr result (λ refusal. (stored : Contents) (array : List ℕ)
+            → Holds store.old stored → Spells stored birth self.now array
             → AnswersAreTrue store.old store.new → LossIsTolerable store.old store.new missing.now
             → refusal ≡ Refusal.NoMemory) }
     {
@@ -68,11 +76,17 @@ impl VolumeBlocks {
         ensures reads { OnlyReadsBlocks store.old store.new missing.now }
         ensures hole { block_at self.now id ≡ None → store.new ≡ store.old }
         ensures len { IfOk result (λ found. length found.items ≡ block_size_of self.now) }
-        ensures refused { IfErr result (λ refusal. (refusal ≡ Refusal.NoMemory) ⊎ IsUnread store.old store.new self.now birth id missing.now refusal) }
-        ensures value { IfOk result (λ found. (stored : Contents) (bytes : List ℕ) → Holds store.old stored
-            → HasBytes stored (block_size_of self.now) birth (block_at self.now id) bytes → AnswersAreTrue store.old store.new → found.items ≡ bytes) }
-        ensures known { IfErr result (λ refusal. (stored : Contents) (bytes : List ℕ) → Holds store.old stored
-            → HasBytes stored (block_size_of self.now) birth (block_at self.now id) bytes → AnswersAreTrue store.old store.new
+        ensures read { OnOk result (WasRead store.old.spaces self.now birth id) }
+        ensures refused { IfErr result (λ refusal. (refusal ≡ Refusal.NoMemory)
+            ⊎ IsUnread store.old store.new self.now birth id missing.now refusal) }
+        ensures value { IfOk result (λ found. (stored : Contents) (bytes : List ℕ)
+            → Holds store.old stored
+            → HasBytes stored (block_size_of self.now) birth (block_at self.now id) bytes
+            → AnswersAreTrue store.old store.new → found.items ≡ bytes) }
+        ensures known { IfErr result (λ refusal. (stored : Contents) (bytes : List ℕ)
+            → Holds store.old stored
+            → HasBytes stored (block_size_of self.now) birth (block_at self.now id) bytes
+            → AnswersAreTrue store.old store.new
             → LossIsTolerable store.old store.new missing.now → refusal ≡ Refusal.NoMemory) }
     {
         match self.block(id) {

@@ -78,7 +78,8 @@ impl VolumeBlocks {
     /// Puts a block in place of the one of that id.
     pub(crate) fn put(&mut self, id: u64, block: Block) -> Result<(), AllocError>
         ensures shape { HasShape self.new (size_of self.old) (block_size_of self.old) }
-        ensures blocks { OnOk result ((other : ℕ) → block_at self.new other ≡ (if other == id then Some block else block_at self.old other)) }
+        ensures blocks { OnOk result ((other : ℕ) → block_at self.new other
+            ≡ (if other == id then Some block else block_at self.old other)) }
     {
         self.table.insert(id, block)?;
         Ok(())
