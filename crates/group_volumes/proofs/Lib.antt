@@ -4,3 +4,4 @@ mod Placing
 mod Sharing
 pub mod Spelling
 mod Writing
+mod Zipping

@@ -1,3 +1,4 @@
+pub mod Changing
 pub mod Refusals
 pub mod Room
 pub mod Sharing

@@ -1,7 +1,7 @@
 -- Blocks that a group's writes change, and that could not be read.
 use Rattle.std.specs.Prelude.{ℕ, ◌≡◌, ◌-◌, List, [], Contains}
 use Rattle.block_store.specs.declared.refusal.Refusal.{Refusal as Cause}
-use Rattle.block_store.specs.Steps.{OnlyReadsAndPlans}
+use Rattle.block_store.specs.Steps.{OnlyReadsBlocks}
 use Rattle.block_store.specs.Store.{Store}
 use Rattle.pool_model.specs.declared.item.Write.{Write}
 use Rattle.volume_blocks.specs.Writing.{IsUnreadOf}
@@ -20,7 +20,7 @@ pub record IsUnreadOfVolume (old new : Store) (named : NamedVolume) (writes : Li
 pub record IsUnreadFor (old new : Store) (volumes : GroupVolumes) (writes : List Write) (group : ℕ) (refusal : Refusal) : Type 0 where
   pub named : NamedVolume
   pub held : Contains volumes.volumes.items named
-  -- as the blocks of the volumes before it were read and planned
+  -- as the blocks of the volumes before it were read
   pub mid : Store
-  pub before : OnlyReadsAndPlans old mid []
+  pub before : OnlyReadsBlocks old mid []
   pub unread : IsUnreadOfVolume mid new named writes group refusal

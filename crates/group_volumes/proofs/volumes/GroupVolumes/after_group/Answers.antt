@@ -39,7 +39,7 @@ returns-clause-places g c =
 pub returns-in_err-after-clause-refused : goal.returns-in_err-after-clause-refused
 returns-in_err-after-clause-refused g c =
     passed_on c.from_residual.result c.in_err-after.field-0.0 _ c.from_residual.ensures.1 (⊎_elim (λ memory. inl memory) (λ other. inr (⊎_elim
-    (λ space. inl (space.0, subst (λ (writes : List Write). LacksRoom c.args.store.now.spaces c.args.self.now writes) c.writes.ensures space.1))
+    (λ space. inl (space.0, subst (λ (writes : List Write). LacksRoom c.args.store.now.spaces c.args.self.now writes c.args.group) c.writes.ensures space.1))
     (λ unread. inr (inr (subst (λ (writes : List Write). IsUnreadFor c.args.store.now c.written.new.store c.args.self.now writes c.args.group c.in_err-after.field-0.0) c.writes.ensures unread)))
     other)) c.in_err-after.ensures.refused)
 

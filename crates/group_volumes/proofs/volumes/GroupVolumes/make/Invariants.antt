@@ -1,4 +1,4 @@
-use Rattle.std.proofs.Common.{◌≡◌, ℕ, List, ◌++◌, take}
+use Rattle.std.proofs.Common.{ℕ, List, ◌++◌, take}
 use Rattle.std.specs.Prelude.{fold, IsPermutation}
 use Rattle.block_store.specs.Blocks.{Contents}
 use Rattle.pool_model.specs.Pools.{PlainPool, changed}
