@@ -57,7 +57,7 @@ same_answer store.BadConfig = refl
 abbrev pub IsPlanRefused : Store → Store → GroupVolumes → Entry → ℕ → VolumesRefusal → Type 0
 IsPlanRefused old new last items group refusal =
     (refusal ≡ volumes.NoMemory)
-    ⊎ (((refusal ≡ volumes.NoSpace) × LacksRoomFor old.spaces last items.writes)
+    ⊎ (((refusal ≡ volumes.NoSpace) × LacksRoomFor old.spaces last items.writes group)
     ⊎ (((refusal ≡ volumes.BadConfig) × ¬ MakesGoodVolumes items) ⊎ IsUnreadFor old new last items.writes group refusal))
 
 unread_fault : (old new : Store) (last : GroupVolumes) (items : Entry) (group : ℕ) (refusal : VolumesRefusal) → IsUnreadFor old new last items.writes group refusal → IsReadFault (of_volumes refusal)
@@ -66,7 +66,7 @@ unread_fault old new last items group refusal is =
     (subst IsReadFault (sym (same_answer is.unread.cause)) (read_fault is.unread.cause (unread_cause is.unread.unread.unread)))
 
 pub only_space : (old new : Store) (last : GroupVolumes) (items : Entry) (group : ℕ) (refusal : VolumesRefusal) → of_volumes refusal ≡ NoSpace
-    → IsPlanRefused old new last items group refusal → LacksRoomFor old.spaces last items.writes
+    → IsPlanRefused old new last items group refusal → LacksRoomFor old.spaces last items.writes group
 only_space old new last items group refusal is (inl memory) = absurd (let e : of_volumes refusal ≡ NoMemory = ap of_volumes memory in cc)
 only_space old new last items group refusal is (inr (inl space)) = space.1
 only_space old new last items group refusal is (inr (inr (inl config))) = absurd (let e : of_volumes refusal ≡ BadConfig = ap of_volumes config.0 in cc)

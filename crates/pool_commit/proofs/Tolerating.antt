@@ -1,7 +1,7 @@
 -- Disks that are lost, and disks that are absent.
-use Rattle.std.proofs.Common.{ℕ, zero, suc, ◌≡◌, ◌⊎◌, ⊎_elim, ◌+◌, ◌≤◌, ◌<◌, ◌==◌, ◌&&◌, ◌||◌, nat_le, if◌then◌else◌, Bool, true, false, List, [], ◌∷◌, ◌++◌, length, Some, Contains, refl, sym, ap, ◌∙◌, subst, inl, inr, arith}
+use Rattle.std.proofs.Common.{ℕ, zero, suc, ◌≡◌, ⊎_elim, ◌+◌, ◌≤◌, ◌<◌, ◌==◌, ◌&&◌, ◌||◌, nat_le, if◌then◌else◌, Bool, true, false, List, [], ◌∷◌, ◌++◌, length, Some, Contains, refl, sym, ap, ◌∙◌, subst, arith}
 use Rattle.std.specs.Prelude.{slice_get}
-use Rattle.std.specs.List.{list_any, list_all}
+use Rattle.std.specs.List.{list_any}
 use Rattle.std.specs.Option.{option_map}
 use Rattle.std.proofs.lemmas.Bool.{eq-eqb, cases_lt}
 use Rattle.std.proofs.lemmas.Bool.Decides.{nat_tests}
@@ -56,30 +56,12 @@ among_lost lost first (suc n) child below is =
     (subst (λ (k : ℕ). Contains (one_if (lost (first + k)) (first + k)) (first + child)) last (in_one (lost (first + child)) (first + child) is)))
     (cases_lt child n)
 
--- ---- the vdevs of a tolerable pool
-
-both_left : (a b : Bool) → (a && b) ≡ true → a ≡ true
-both_left true b is = refl
-both_left false b is = is
-
-both_right : (a b : Bool) → (a && b) ≡ true → b ≡ true
-both_right true b is = is
-both_right false b is = absurd (cc)
-
-pub all_at : {A : Type 0} (test : A → Bool) (xs : List A) (i : ℕ) (x : A) → list_all test xs ≡ true → slice_get xs i ≡ Some x → test x ≡ true
-all_at test [] i x all found = absurd (cc)
-all_at test (first ∷ xs) zero x all found =
-    let same : first ≡ x = cc in
-    subst (λ y. test y ≡ true) same (both_left (test first) (list_all test xs) all)
-all_at test (first ∷ xs) (suc i) x all found = all_at test xs i x (both_right (test first) (list_all test xs) all) found
+-- ---- the vdevs of a pool
 
 pub vdev_at : (spaces : List VdevSpace) (v : ℕ) (space : VdevSpace) → slice_get spaces v ≡ Some space → slice_get (vdevs_of spaces) v ≡ Some (shown space.shape.vdev)
 vdev_at spaces v space found =
     slice_get-map (λ (shape : VdevShape). shown shape.vdev) (shapes_of spaces) v
     ∙ ap (option_map (λ (shape : VdevShape). shown shape.vdev)) (slice_get-map (λ (s : VdevSpace). s.shape) spaces v ∙ ap (option_map (λ (s : VdevSpace). s.shape)) found)
-
-pub at_most : (a b : ℕ) → nat_le a b ≡ true → a ≤ b
-at_most a b is = grind (arith, nat_tests, is)
 
 -- ---- absent disks are lost
 
@@ -141,7 +123,3 @@ absent_is_lost old v missing new reads out disk held =
     (failed_is_unread (length old.disks.calls) reads.newer old.disks.calls disk (omega arith) reads.are_reads
     (subst (λ (calls : List JointCall). Contains (failed_since (length old.disks.calls) calls) disk) reads.calls since))))))
     (Contains-append_cases (outs old ++ missing) (failed_since (length old.disks.calls) new.calls) disk held)
-
-pub true_or_false : (b : Bool) → (b ≡ true) ⊎ (b ≡ false)
-true_or_false true = inl refl
-true_or_false false = inr refl

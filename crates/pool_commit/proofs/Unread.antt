@@ -1,5 +1,5 @@
 -- Blocks that could not be read, and why.
-use Rattle.std.proofs.Common.{ℕ, zero, suc, ◌≡◌, ◌⊎◌, ⊎_elim, inl, inr, ◌/◌, ◌-◌, ◌<◌, ◌≤◌, nat_le, Bool, true, List, [], ◌++◌, length, Option, Some, None, Contains, refl, sym, ap, ◌∙◌, subst, arith, append-nil}
+use Rattle.std.proofs.Common.{ℕ, zero, suc, ◌≡◌, ⊎_elim, ◌/◌, ◌-◌, ◌<◌, ◌≤◌, Bool, true, List, [], ◌++◌, length, Option, Some, None, Contains, refl, sym, ap, ◌∙◌, subst, arith, append-nil}
 use Rattle.std.specs.Prelude.{slice_get}
 use Rattle.std.proofs.lemmas.Bool.{cases_lt}
 use Rattle.std.proofs.lemmas.List.Elements.{Contains-append_left}
@@ -29,12 +29,11 @@ use Rattle.block_store.proofs.Lost.{lost_is_out}
 use Rattle.block_store.proofs.ReadingLost.{absent_earlier, honest_later, stands_later}
 use Rattle.block_store.proofs.ReadingSteps.{reads_on}
 use Rattle.block_store.proofs.ReadingWhole.{stored_is_readable}
-use Rattle.block_store.proofs.Writing.{found_at}
 use Rattle.group_volumes.specs.declared.volumes.GroupVolumes.{GroupVolumes}
 use Rattle.group_volumes.specs.Volumes.{SpellsPool}
 use Rattle.group_volumes.proofs.Spelling.{spelled_in}
 use Rattle.pool_model.specs.Pools.{PlainPool, Entry}
-use Rattle.pool_model.specs.View.{View, Vdev, lost_in, is_tolerable}
+use Rattle.pool_model.specs.View.{View, Vdev, lost_in}
 use Rattle.volume_blocks.specs.declared.volume.VolumeBlocks.{VolumeBlocks}
 use Rattle.volume_blocks.specs.Reading.{IsUnread}
 use Rattle.volume_blocks.specs.Volume.{block_at, asked_of, part, HasBytes, Spells}
@@ -44,11 +43,11 @@ use Rattle.pool_commit.specs.Backs.{Backs}
 use Rattle.pool_commit.specs.Calls.{unread_between}
 use Rattle.pool_commit.specs.Causes.{of_store, of_volumes}
 use Rattle.pool_commit.specs.Config.{shown, vdevs_of}
-use Rattle.pool_commit.specs.Reading.{PoolAnswersTruly, IsReadFault, TooManyAreLost, IsLost, IsLostOn, IsLastVdev, IsUnreadOf, IsUnreadForPlan, IsLostUnder, IsLostForPlan, is_lost}
+use Rattle.pool_commit.specs.Reading.{PoolAnswersTruly, IsLost, IsLastVdev, IsUnreadOf, IsUnreadForPlan, IsLostUnder, IsLostForPlan, is_lost}
 use Rattle.pool_commit.specs.State.{State, volumes_at}
 use Rattle.pool_commit.proofs.Planning.{same_vdevs}
 use Rattle.pool_commit.proofs.Refusing.{same_answer}
-use Rattle.pool_commit.proofs.Tolerating.{vdev_at, lost_disks, length_lost, among_lost, absent_is_lost, all_at, at_most, true_or_false}
+use Rattle.pool_commit.proofs.Tolerating.{vdev_at, lost_disks, length_lost, among_lost, absent_is_lost}
 
 -- copies that failed were only read
 reads_of_failed : (spaces : List VdevSpace) (absent : List ℕ) (block : Block) (n : ℕ) (old new : Disks) → HaveFailed spaces absent block n old new → OnlyReads old new
@@ -210,39 +209,11 @@ lost_for_plan v old new items refusal is backs reads pool spells =
           (record {
             vdevs = backs.vdevs;
             out = backs.out;
-            same_out = one.before.out ∙ first.before.out;
-            shapes = one.before.shapes ∙ first.before.shapes;
+            same_out = ap (λ (s : Store). s.out) one.before.rest ∙ ap (λ (s : Store). s.out) first.before.rest;
+            shapes = ap (λ (s : Store). shapes_of s.spaces) one.before.rest ∙ ap (λ (s : Store). shapes_of s.spaces) first.before.rest;
             before = reads_on is.begun.disks first.mid.disks one.mid.disks first.before.reads one.before.reads;
             keeps = λ stored held. one.before.keeps stored (first.before.keeps stored held);
             all = reads;
           })
           first.named.blocks (is.group - 1) one.id backs.blocks.stored here.0.bytes first.unread.cause one.unread refl backs.blocks.plans.held here.1.bytes));
     }
-
--- ---- what follows from such a cause
-
--- then the vdevs together are not tolerable
-pub lost_too_many : (v : View) (missing : List ℕ) (old new : State) (vdev : Vdev) → IsLostOn v missing old new vdev → TooManyAreLost v missing old new
-lost_too_many v missing old new vdev (held, many) =
-    let lost : ℕ → Bool = is_lost v missing (unread_between old.store.disks new.store.disks) in
-    let at = found_at v.vdevs vdev held in
-    ⊎_elim
-    (λ tolerable. let few : lost_in lost vdev.first vdev.children ≤ vdev.parity =
-    at_most (lost_in lost vdev.first vdev.children) vdev.parity
-    (all_at (λ (one : Vdev). nat_le (lost_in lost one.first one.children) one.parity) v.vdevs at.0 vdev tolerable at.1) in
-    absurd (omega (arith, few, many)))
-    (λ no. no) (true_or_false (is_tolerable v.vdevs lost))
-
--- too many disks are lost, or an answer was not true
-pub lost_cases : (v : View) (missing : List ℕ) (old new : State) (block : Block) (refusal : Refusal) → IsLost v missing old new block refusal
-    → ((refusal ≡ DiskFault) × TooManyAreLost v missing old new) ⊎ ((refusal ≡ BadDigest) × ¬ PoolAnswersTruly old new)
-lost_cases v missing old new block DiskFault (vdev, last, many) = inl (refl, lost_too_many v missing old new vdev many)
-lost_cases v missing old new block BadDigest untrue = inr (refl, untrue)
-lost_cases v missing old new block refusal is = absurd is
-
--- it is a fault of a read; and where the answers are true, too many disks are lost
-pub lost_fault : (v : View) (missing : List ℕ) (old new : State) (block : Block) (refusal : Refusal) → IsLost v missing old new block refusal
-    → IsReadFault refusal × (PoolAnswersTruly old new → TooManyAreLost v missing old new)
-lost_fault v missing old new block DiskFault (vdev, last, many) = (inl refl, λ honest. lost_too_many v missing old new vdev many)
-lost_fault v missing old new block BadDigest untrue = (inr (inr refl), λ honest. absurd (untrue honest))
-lost_fault v missing old new block refusal is = absurd is

@@ -1,5 +1,5 @@
 -- Reads of a pool, and what they leave.
-use Rattle.std.specs.Prelude.{ℕ, suc, ◌≡◌, ◌++◌, ◌+◌, ◌-◌, ◌^◌, ◌<◌, ◌⊎◌, List, [], length, slice_get, Contains, Bool, false, Option, Some, None, ◌||◌, ◌==◌}
+use Rattle.std.specs.Prelude.{ℕ, suc, ◌≡◌, ◌++◌, ◌+◌, ◌-◌, ◌^◌, ◌<◌, ◌⊎◌, List, [], length, slice_get, Contains, Bool, Option, Some, None, ◌||◌, ◌==◌}
 use Rattle.std.specs.List.{list_any}
 use Rattle.raidz_io.specs.Reads.{OnlyReads, AreUntouched, IsHonestSince}
 use Rattle.block_pointer.specs.declared.block.Block.{Block}
@@ -14,7 +14,7 @@ use Rattle.group_volumes.specs.Unread.{IsUnreadFor}
 use Rattle.group_volumes.specs.Volumes.{HasVolume}
 use Rattle.volume_blocks.specs.Reading.{IsUnreadIn}
 use Rattle.pool_model.specs.Pools.{Entry}
-use Rattle.pool_model.specs.View.{View, Vdev, is_away, is_tolerable, lost_in}
+use Rattle.pool_model.specs.View.{View, Vdev, is_away, lost_in}
 use Rattle.pool_model.specs.declared.refusal.Refusal.TheVariants as causes
 use Rattle.pool_model.specs.declared.refusal.Refusal.{Refusal as Cause}
 use Rattle.pool_model.specs.declared.step.Step.TheVariants.{ReadUnder}
@@ -40,10 +40,6 @@ pub record OnlyReadsPool (old new : State) (missing : List ℕ) : Type 0 where
 -- the disks that are missing for a read: away, named, or failing in it
 abbrev pub is_lost : View → List ℕ → List ℕ → ℕ → Bool
 is_lost v missing unread disk = is_away v disk || (list_any (λ d. d == disk) missing || list_any (λ d. d == disk) unread)
-
--- what was written can't be read: a vdev misses more disks than it has parities
-abbrev pub TooManyAreLost : View → List ℕ → State → State → Type 0
-TooManyAreLost v missing old new = is_tolerable v.vdevs (is_lost v missing (unread_between old.store.disks new.store.disks)) ≡ false
 
 -- a block could not be read
 abbrev pub IsReadFault : Refusal → Type 0

@@ -1,5 +1,6 @@
 //! The committed half of a core.
-ghost use Rattle.std.specs.Prelude.{ℕ, List, ◌≡◌, ◌⊎◌, ◌<◌, ◌≤◌, ◌+◌, ◌-◌, ◌^◌, ◌++◌, not, filter, length, map, slice_get, Some, None, is_some, false, OnOk, IfOk, IfErr, IsTrue, nat_le};
+ghost use Rattle.std.specs.Prelude.{ℕ, List, ◌≡◌, ◌⊎◌, ◌<◌, ◌≤◌, ◌+◌, ◌-◌, ◌^◌, ◌++◌, not, filter};
+ghost use Rattle.std.specs.Prelude.{length, map, slice_get, Some, false, OnOk, IfOk, IfErr};
 ghost use Rattle.model_disk.specs.Joint.{calls_on, log_of};
 ghost use Rattle.block_store.specs.declared.shape.VdevShape.{VdevShape as ShapeOf};
 ghost use Rattle.block_store.specs.Config.{AreShapes, IsFewVdevs};
@@ -32,15 +33,20 @@ pub struct Commit<D: Disk + Drop> {
 impl<D: Disk + Drop> Commit<D> {
     ghost use Rattle.pool_model.specs.View.{is_suspended, is_planned};
     ghost use Rattle.pool_commit.specs.Backs.{Backs};
-    ghost use Rattle.pool_commit.specs.StateOf.{state_of};
+    ghost use Rattle.pool_commit.specs.State.{has_plan, HasNoPlan};
+    ghost use Rattle.pool_commit.specs.StateOf.{state_of, disks_in};
 
     /// The empty pool, committed as group 3. The vdevs take the disks in order, each as many as it has children.
     pub fn new(alloc: Global, disks: Vec<D>, vdevs: &[VdevConfig]) -> Result<Self, Refusal>
-        ensures starts { IfOk result (λ commit. commit.store.disks.starts ≡ map D.start disks.items) }
-        ensures calls { IfOk result (λ commit. (which : ℕ) → calls_on which commit.store.disks.calls ≡ log_of (map D.calls disks.items) which) }
-        ensures backs { IfOk result (λ commit. Backs (state_of commit) (started (vdevs_from 0 vdevs.now))) }
+        ensures starts { IfOk result (λ commit.
+            (disks_in commit).starts ≡ map D.start disks.items) }
+        ensures calls { IfOk result (λ commit. (which : ℕ)
+            → calls_on which (disks_in commit).calls ≡ log_of (map D.calls disks.items) which) }
+        ensures backs { IfOk result (λ commit.
+            Backs (state_of commit) (started (vdevs_from 0 vdevs.now))) }
         ensures refused { IfErr result (λ refusal. (refusal ≡ Refusal.NoMemory)
-            ⊎ ((refusal ≡ Refusal.BadConfig) × ((shapes : List ShapeOf) → ¬ (IsFewVdevs vdevs.now × AreShapes (map D.start disks.items) 0 vdevs.now shapes)))) }
+            ⊎ ((refusal ≡ Refusal.BadConfig) × ((shapes : List ShapeOf) → ¬ (IsFewVdevs vdevs.now
+            × AreShapes (map D.start disks.items) 0 vdevs.now shapes)))) }
     {
         let store = match BlockStore::new(alloc, disks, vdevs) {
             Ok(store) => store,
@@ -63,15 +69,16 @@ impl<D: Disk + Drop> Commit<D> {
 
     /// Whether the group that is synced has a plan.
     pub fn is_planned(&self) -> bool
-        ensures planned { result ≡ is_some self.now.planned }
-        ensures unplanned { result ≡ false → self.now.planned ≡ None }
+        ensures planned { result ≡ has_plan (state_of self.now) }
+        ensures unplanned { result ≡ false → HasNoPlan (state_of self.now) }
         ensures view { (v : View) → Backs (state_of self.now) v → result ≡ is_planned v.sync }
     {
         self.planned.is_some()
     }
 
     fn is_tolerable(&self) -> bool
-        ensures { result ≡ is_tolerable (vdevs_of self.now.store.spaces) (is_out self.now.store.out) }
+        ensures { result
+            ≡ is_tolerable (vdevs_of self.now.store.spaces) (is_out self.now.store.out) }
     {
         for index in 0..self.store.vdev_count() {
             let vdev = self.vdev(index);
@@ -85,9 +92,11 @@ impl<D: Disk + Drop> Commit<D> {
     /// A vdev of the pool. Its disks are in the array.
     fn vdev(&self, index: usize) -> Vdev
         requires { index < length self.now.store.spaces }
-        ensures there { slice_get (vdevs_of self.now.store.spaces) index ≡ Some (shown result) }
+        ensures there { slice_get (vdevs_of self.now.store.spaces) index
+            ≡ Some (shown result) }
         ensures few { result.first + result.geometry.children ≤ 2 ^ 64 - 1 }
-        ensures disks { result.first + result.geometry.children ≤ length self.now.store.disks.starts }
+        ensures disks { result.first + result.geometry.children
+            ≤ length self.now.store.disks.starts }
     {
         // Numbers of disks are below their count, which a usize holds.
         let _count = self.store.disk_count();
@@ -97,7 +106,8 @@ impl<D: Disk + Drop> Commit<D> {
     /// How many disks of a vdev are out.
     fn count_out(&self, vdev: Vdev) -> u32
         requires { vdev.first + vdev.geometry.children ≤ 2 ^ 64 - 1 }
-        ensures { result ≡ lost_in (is_out self.now.store.out) vdev.first vdev.geometry.children }
+        ensures { result
+            ≡ lost_in (is_out self.now.store.out) vdev.first vdev.geometry.children }
     {
         let mut count = 0;
         for child in 0..vdev.geometry.children {
@@ -110,8 +120,11 @@ impl<D: Disk + Drop> Commit<D> {
 
     /// The disks that are not out, in order.
     pub(crate) fn disks_in_use(&self, alloc: Global) -> Result<VecDeque<usize>, AllocError>
-        ensures disks { IfOk result (λ disks. disks.items ≡ filter (λ disk. not (is_out self.now.store.out disk)) (disks_of (vdevs_of self.now.store.spaces))) }
-        ensures there { IfOk result (λ disks. AreBelow (length self.now.store.disks.starts) disks.items) }
+        ensures disks { IfOk result (λ disks. disks.items
+            ≡ filter (λ disk. not (is_out self.now.store.out disk))
+            (disks_of (vdevs_of self.now.store.spaces))) }
+        ensures there { IfOk result (λ disks.
+            AreBelow (length self.now.store.disks.starts) disks.items) }
     {
         let mut disks = VecDeque::new(alloc);
         for index in 0..self.store.vdev_count() {
@@ -123,7 +136,9 @@ impl<D: Disk + Drop> Commit<D> {
     /// Adds the disks of a vdev that are not out.
     fn add_in_use(&self, vdev: Vdev, disks: &mut VecDeque<usize>) -> Result<(), AllocError>
         requires few { vdev.first + vdev.geometry.children ≤ 2 ^ 64 - 1 }
-        ensures { OnOk result (disks.new.items ≡ disks.old.items ++ filter (λ disk. not (is_out self.now.store.out disk)) (counted vdev.first vdev.geometry.children)) }
+        ensures { OnOk result (disks.new.items ≡ disks.old.items
+            ++ filter (λ disk. not (is_out self.now.store.out disk))
+            (counted vdev.first vdev.geometry.children)) }
     {
         for child in 0..vdev.geometry.children {
             let disk = vdev.first + child as usize;

@@ -1,10 +1,12 @@
 //! The device calls of a plan.
-ghost use Rattle.std.specs.Prelude.{◌≡◌, ◌<◌, ◌≤◌, ◌^◌, ℕ, min, length, false, true, [], Some, None, OnOk, IfErr, IfSome, IfNone};
+ghost use Rattle.std.specs.Prelude.{◌≡◌, ◌<◌, ◌≤◌, ◌^◌, ℕ, min, length, false, true, []};
+ghost use Rattle.std.specs.Prelude.{Some, None, OnOk, IfErr, IfSome, IfNone};
 ghost use Rattle.pool_model.specs.View.{View, is_planned};
 ghost use Rattle.pool_commit.specs.Backs.{Backs};
-ghost use Rattle.pool_commit.specs.StateOf.{state_of};
+ghost use Rattle.pool_commit.specs.StateOf.{state_of, disks_in};
 ghost use Rattle.pool_commit.specs.Calls.{GrewTo};
-ghost use Rattle.pool_commit.specs.Making.{MadeWrites, MadeFlushes, FailedWrite, FailedFlush, FlushesMove};
+ghost use Rattle.pool_commit.specs.Making.{MadeWrites, MadeFlushes};
+ghost use Rattle.pool_commit.specs.Making.{FailedWrite, FailedFlush, FlushesMove};
 ghost use Rattle.pool_commit.specs.declared.device.Progress.TheVariants as progress;
 ghost use Rattle.pool_commit.specs.Progress.{Progresses, DropsPlan, GoesOn, with_plan};
 ghost use Rattle.pool_commit.specs.HasDisks.{AreBelow, HasDisks};
@@ -50,11 +52,14 @@ fn make_flushes<D: Disk + Drop>(
     flushes: &mut VecDeque<usize>,
 ) -> Result<(), FailedDisk>
     requires { AreBelow (length store.old.disks.starts) flushes.old.items }
-    ensures made { OnOk result (MadeFlushes store.old store.new flushes.old.items flushes.new.items (min (length flushes.old.items) 4)) }
+    ensures made { OnOk result (MadeFlushes store.old store.new flushes.old.items
+        flushes.new.items (min (length flushes.old.items) 4)) }
     ensures due { store.new.due ≡ store.old.due }
-    ensures flushed { OnOk result (FlushesMove store.old store.new flushes.old.items flushes.new.items) }
+    ensures flushed { OnOk result
+        (FlushesMove store.old store.new flushes.old.items flushes.new.items) }
     ensures there { OnOk result (AreBelow (length store.old.disks.starts) flushes.new.items) }
-    ensures failed { IfErr result (λ failed. FailedFlush store.old store.new flushes.old.items failed.disk) }
+    ensures failed { IfErr result (λ failed.
+        FailedFlush store.old store.new flushes.old.items failed.disk) }
 {
     for _ in 0..flushes.len().min(MOST_CALLS) {
         let Some(disk) = flushes.pop_front() else {
@@ -71,10 +76,13 @@ impl<D: Disk + Drop> Commit<D> {
     /// Makes the next device calls of the plan: up to four writes, or where none is left up to four flushes. The first
     /// fault ends them. Where there is no plan the answer is `None`.
     pub fn device(&mut self) -> Option<Progress>
-        ensures grew { GrewTo self.old.store.disks self.new.store.disks }
-        ensures idle { IfNone result (self.new.store.disks ≡ self.old.store.disks) }
-        ensures none { IfNone result ((v : View) → Backs (state_of self.old) v → (is_planned v.sync ≡ false) × Backs (state_of self.new) v) }
-        ensures some { IfSome result (λ progress. (v : View) → Backs (state_of self.old) v → v.committed < 2 ^ 62 → (is_planned v.sync ≡ true) × Progresses (state_of self.old) progress (state_of self.new) v) }
+        ensures grew { GrewTo (disks_in self.old) (disks_in self.new) }
+        ensures idle { IfNone result (disks_in self.new ≡ disks_in self.old) }
+        ensures none { IfNone result ((v : View) → Backs (state_of self.old) v
+            → (is_planned v.sync ≡ false) × Backs (state_of self.new) v) }
+        ensures some { IfSome result (λ progress. (v : View) → Backs (state_of self.old) v
+            → v.committed < 2 ^ 62 → (is_planned v.sync ≡ true)
+            × Progresses (state_of self.old) progress (state_of self.new) v) }
     {
         let planned = self.planned.take()?;
         if self.store.due_count() > 0 {
@@ -90,7 +98,9 @@ impl<D: Disk + Drop> Commit<D> {
         requires there { HasDisks (length self.old.store.disks.starts) (Some planned) }
         requires some { 0 < length self.old.store.due }
         ensures grew { GrewTo self.old.store.disks self.new.store.disks }
-        ensures goes { (v : View) → Backs (with_plan (state_of self.old) planned) v → v.committed < 2 ^ 62 → Progresses (state_of self.old) result (state_of self.new) v }
+        ensures goes { (v : View) → Backs (with_plan (state_of self.old) planned) v
+            → v.committed < 2 ^ 62
+            → Progresses (state_of self.old) result (state_of self.new) v }
     {
         match make_writes(&mut self.store) {
             Ok(()) => self.go_on(planned, Phase::Blocks),
@@ -104,7 +114,9 @@ impl<D: Disk + Drop> Commit<D> {
         requires there { HasDisks (length self.old.store.disks.starts) (Some planned) }
         requires written { self.old.store.due ≡ [] }
         ensures grew { GrewTo self.old.store.disks self.new.store.disks }
-        ensures goes { (v : View) → Backs (with_plan (state_of self.old) planned) v → v.committed < 2 ^ 62 → Progresses (state_of self.old) result (state_of self.new) v }
+        ensures goes { (v : View) → Backs (with_plan (state_of self.old) planned) v
+            → v.committed < 2 ^ 62
+            → Progresses (state_of self.old) result (state_of self.new) v }
     {
         match make_flushes(&mut self.store, &mut planned.flushes) {
             Ok(()) => self.go_on(planned, Phase::BlocksFlush),

@@ -1,5 +1,5 @@
 //! Reads of volumes.
-ghost use Rattle.std.specs.Prelude.{◌≡◌, ◌⊎◌, ◌+◌, ◌≤◌, ◌<◌, ◌^◌, ℕ, [], Some, None, IfOk, IfErr, length};
+ghost use Rattle.std.specs.Prelude.{◌≡◌, ◌⊎◌, ◌+◌, ◌≤◌, ◌^◌, [], Some, None, IfOk, IfErr, length};
 ghost use Rattle.pool_model.specs.declared.volume.PlainVolume.{PlainVolume};
 ghost use Rattle.pool_model.specs.Machine.{AreBytesOf};
 ghost use Rattle.pool_model.specs.Pools.{volume_at};
@@ -15,7 +15,9 @@ ghost use Rattle.pool_model.specs.Pools.{PlainPool};
 ghost use Rattle.pool_model.specs.Refusals.{read_refusal};
 ghost use Rattle.pool_commit.specs.Backs.{Backs};
 ghost use Rattle.pool_commit.specs.StateOf.{state_of};
-ghost use Rattle.pool_commit.specs.Reading.{PoolAnswersTruly, OnlyReadsPool, IsReadFault, IsUnreadOf, IsUnreadUnder, IsLostUnder, HasNoCause, IsUnderCause, IsReadCause};
+ghost use Rattle.pool_commit.specs.Reading.{PoolAnswersTruly, OnlyReadsPool, IsReadFault};
+ghost use Rattle.pool_commit.specs.Reading.{IsUnreadOf, IsUnreadUnder, IsLostUnder};
+ghost use Rattle.pool_commit.specs.Reading.{HasNoCause, IsUnderCause, IsReadCause};
 
 use crate::commit::Commit;
 use crate::refusal::Refusal;
@@ -26,6 +28,13 @@ use pool_model::Name;
 use pool_now::{VolumeShape, against_read};
 use std::alloc::Global;
 
+/// So many bytes of a volume, from that one on.
+#[derive(Debug, Clone, Copy)]
+struct RangeAsked {
+    offset: u64,
+    len: u64,
+}
+
 /// A range of one of these volumes, whose blocks were born in the group `birth` or before.
 fn read_of<D: Disk + Drop>(
     volumes: &GroupVolumes,
@@ -33,26 +42,31 @@ fn read_of<D: Disk + Drop>(
     alloc: Global,
     birth: u64,
     name: &Name,
-    offset: u64,
-    len: u64,
+    range: RangeAsked,
     missing: &[usize],
 ) -> Result<Vec<u8>, Refusal>
     ensures reads { OnlyReadsBlocks store.old store.new missing.now }
-    ensures bytes { IfOk result (λ bytes. (stored : Contents) (pool : PlainPool) → Holds store.old stored → SpellsPool stored birth volumes.now pool
-        → (read_refusal offset len (volume_at name.now pool) ≡ None) × (AnswersAreTrue store.old store.new → AreBytesOf pool name.now offset len bytes.items)) }
-    ensures len { IfOk result (λ bytes. length bytes.items ≡ len) }
-    ensures refused { IfErr result (λ refusal. (stored : Contents) (pool : PlainPool) → Holds store.old stored → SpellsPool stored birth volumes.now pool
-        → (refusal ≡ Refusal.NoMemory) ⊎ (IsReadCause (read_refusal offset len (volume_at name.now pool)) refusal
-        ⊎ ((read_refusal offset len (volume_at name.now pool) ≡ None)
-        × IsUnreadOf store.old store.new volumes.now birth name.now offset len missing.now
-        refusal))) }
+    ensures bytes { IfOk result (λ bytes. (stored : Contents) (pool : PlainPool)
+        → Holds store.old stored → SpellsPool stored birth volumes.now pool
+        → (read_refusal range.offset range.len (volume_at name.now pool) ≡ None)
+        × (AnswersAreTrue store.old store.new
+        → AreBytesOf pool name.now range.offset range.len bytes.items)) }
+    ensures len { IfOk result (λ bytes. length bytes.items ≡ range.len) }
+    ensures refused { IfErr result (λ refusal. (stored : Contents) (pool : PlainPool)
+        → Holds store.old stored → SpellsPool stored birth volumes.now pool
+        → (refusal ≡ Refusal.NoMemory)
+        ⊎ (IsReadCause (read_refusal range.offset range.len (volume_at name.now pool)) refusal
+        ⊎ ((read_refusal range.offset range.len (volume_at name.now pool) ≡ None)
+        × IsUnreadOf store.old store.new volumes.now birth name.now range.offset range.len
+        missing.now refusal))) }
     ensures unread { IfErr result (λ refusal. IsReadFault refusal
-        → IsUnreadOf store.old store.new volumes.now birth name.now offset len missing.now
-        refusal) }
+        → IsUnreadOf store.old store.new volumes.now birth name.now range.offset range.len
+        missing.now refusal) }
 {
     let Some(volume) = volumes.find(name) else {
         return Err(Refusal::NoSuchName);
     };
+    let RangeAsked { offset, len } = range;
     if against_read(offset, len, Some(volume.shape())).is_some() {
         return Err(Refusal::OutOfRange);
     }
@@ -75,8 +89,10 @@ impl<D: Disk + Drop> Commit<D> {
         missing: &[usize],
     ) -> Result<Vec<u8>, Refusal>
         ensures reads { OnlyReadsPool (state_of self.old) (state_of self.new) missing.now }
-        ensures bytes { IfOk result (λ bytes. (v : View) → Backs (state_of self.old) v → HasNoCause v group name.now offset len
-            × (PoolAnswersTruly (state_of self.old) (state_of self.new) → AreBytesOf (v.pools group) name.now offset len bytes.items)) }
+        ensures bytes { IfOk result (λ bytes. (v : View) → Backs (state_of self.old) v
+            → HasNoCause v group name.now offset len
+            × (PoolAnswersTruly (state_of self.old) (state_of self.new)
+            → AreBytesOf (v.pools group) name.now offset len bytes.items)) }
         ensures refused { IfErr result (λ refusal. (v : View) → Backs (state_of self.old) v
             → (refusal ≡ Refusal.NoMemory) ⊎ (IsUnderCause v group name.now offset len refusal
             ⊎ (HasNoCause v group name.now offset len
@@ -91,16 +107,8 @@ impl<D: Disk + Drop> Commit<D> {
         let Some(volumes) = self.kept.volumes(group) else {
             return Err(Refusal::GroupGone);
         };
-        read_of(
-            volumes,
-            &mut self.store,
-            alloc,
-            group,
-            name,
-            offset,
-            len,
-            missing,
-        )
+        let range = RangeAsked { offset, len };
+        read_of(volumes, &mut self.store, alloc, group, name, range, missing)
     }
 
     /// A range of the bytes that lie under the pending writes to a volume of NOW, which has this shape: those of the
@@ -117,13 +125,17 @@ impl<D: Disk + Drop> Commit<D> {
         requires few { len ≤ 2 ^ 20 }
         ensures reads { OnlyReadsPool (state_of self.old) (state_of self.new) [] }
         ensures len { IfOk result (λ bytes. length bytes.items ≡ len) }
-        ensures bytes { IfOk result (λ bytes. (v : View) (volume : PlainVolume) → Backs (state_of self.old) v → GroupsAreBelow v → PoolAnswersTruly (state_of self.old) (state_of self.new)
-            → volume_at name.now (now_of v) ≡ Some volume → shape_of volume ≡ shape → HasRange bytes.items (base_of v name.now volume) offset) }
-        ensures refused { IfErr result (λ refusal. (v : View) (volume : PlainVolume) → Backs (state_of self.old) v → GroupsAreBelow v
+        ensures bytes { IfOk result (λ bytes. (v : View) (volume : PlainVolume)
+            → Backs (state_of self.old) v → GroupsAreBelow v
+            → PoolAnswersTruly (state_of self.old) (state_of self.new)
+            → volume_at name.now (now_of v) ≡ Some volume → shape_of volume ≡ shape
+            → HasRange bytes.items (base_of v name.now volume) offset) }
+        ensures refused { IfErr result (λ refusal. (v : View) (volume : PlainVolume)
+            → Backs (state_of self.old) v → GroupsAreBelow v
             → volume_at name.now (now_of v) ≡ Some volume → shape_of volume ≡ shape
             → (refusal ≡ Refusal.NoMemory)
-            ⊎ IsLostUnder v (state_of self.old) (state_of self.new) v.committed name.now offset len
-            [] refusal) }
+            ⊎ IsLostUnder v (state_of self.old) (state_of self.new) v.committed name.now
+            offset len [] refusal) }
         ensures unread { IfErr result (λ refusal. IsReadFault refusal
             → IsUnreadUnder (state_of self.old) (state_of self.new)
             (state_of self.old).kept.committed name.now offset len [] refusal) }
@@ -132,15 +144,8 @@ impl<D: Disk + Drop> Commit<D> {
         if shape.group > committed {
             return Ok(vec![in alloc; 0; len as usize]?);
         }
-        read_of(
-            self.kept.last(),
-            &mut self.store,
-            alloc,
-            committed,
-            name,
-            offset,
-            len,
-            &[],
-        )
+        let range = RangeAsked { offset, len };
+        let last = self.kept.last();
+        read_of(last, &mut self.store, alloc, committed, name, range, &[])
     }
 }

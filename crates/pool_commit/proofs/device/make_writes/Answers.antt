@@ -1,4 +1,4 @@
-use Rattle.std.proofs.Common.{◌≡◌, ℕ, ◌+◌, List, min, refl, ap, sym, ◌∙◌, subst, arith, length, is_ok}
+use Rattle.std.proofs.Common.{◌≡◌, ℕ, List, min, refl, ap, sym, ◌∙◌, subst, arith, length, is_ok}
 use Rattle.model_disk.specs.Call.{write_call}
 use Rattle.raidz_io.specs.declared.writes.ColumnWrite.{ColumnWrite}
 use Rattle.block_store.specs.declared.device.FailedDisk.{FailedDisk}

@@ -9,21 +9,21 @@ use Rattle.pool_commit.proofs.reading.read_of.Goals as goal
 pub returns-then-is_some-clause-refused : goal.returns-then-is_some-clause-refused
 returns-then-is_some-clause-refused g c = λ stored pool held spells.
     let there = c.in-Some.ensures.some stored c.args.birth pool spells in
-    inr (inl (is_out_of_range c.args.offset c.args.len c.args.name.now pool c.shape.result c.against_read.result there.0 c.against_read.ensures there.1
+    inr (inl (is_out_of_range c.args.range.offset c.args.range.len c.args.name.now pool c.shape.result c.against_read.result there.0 c.against_read.ensures there.1
     (c.shape.ensures.shape stored c.args.birth there.0 there.2) (search rules)))
 
 pub read-requires-clause-within : goal.read-requires-clause-within
 read-requires-clause-within g c =
-    let there = in_range c.args.offset c.args.len c.shape.result c.against_read.result c.against_read.ensures (search rules) in
+    let there = in_range c.args.range.offset c.args.range.len c.shape.result c.against_read.result c.against_read.ensures (search rules) in
     search rules
 
 pub read-requires-clause-few : goal.read-requires-clause-few
-read-requires-clause-few g c = (in_range c.args.offset c.args.len c.shape.result c.against_read.result c.against_read.ensures (search rules)).1
+read-requires-clause-few g c = (in_range c.args.range.offset c.args.range.len c.shape.result c.against_read.result c.against_read.ensures (search rules)).1
 
 pub returns-in-Ok-clause-bytes : goal.returns-in-Ok-clause-bytes
 returns-in-Ok-clause-bytes g c = λ stored pool held spells.
     let there = c.in-Some.ensures.some stored c.args.birth pool spells in (
-      has_no_cause c.args.offset c.args.len c.args.name.now pool c.shape.result c.against_read.result there.0 c.against_read.ensures there.1
+      has_no_cause c.args.range.offset c.args.range.len c.args.name.now pool c.shape.result c.against_read.result there.0 c.against_read.ensures there.1
           (c.shape.ensures.shape stored c.args.birth there.0 there.2) (search rules),
       λ honest. (
         there.0,
@@ -36,7 +36,7 @@ returns-in-Ok-clause-bytes g c = λ stored pool held spells.
 pub returns-in-Err-clause-refused : goal.returns-in-Err-clause-refused
 returns-in-Err-clause-refused g c = λ stored pool held spells.
     let there = c.in-Some.ensures.some stored c.args.birth pool spells in
-    let none = has_no_cause c.args.offset c.args.len c.args.name.now pool c.shape.result c.against_read.result there.0 c.against_read.ensures there.1
+    let none = has_no_cause c.args.range.offset c.args.range.len c.args.name.now pool c.shape.result c.against_read.result there.0 c.against_read.ensures there.1
     (c.shape.ensures.shape stored c.args.birth there.0 there.2) (search rules) in
     ⊎_elim (λ memory. inl (c.from.ensures ∙ is_memory c.in-Err.refusal memory))
     (λ unread. inr (inr (
@@ -46,7 +46,7 @@ returns-in-Err-clause-refused g c = λ stored pool held spells.
         has = c.in-Some.ensures.held;
         cause = c.in-Err.refusal;
         unread =
-            subst (λ (b : VolumeBlocks). IsUnreadIn c.args.store.now c.read.new.store b c.args.birth c.args.offset (c.args.offset + c.args.len) c.args.missing.now c.in-Err.refusal)
+            subst (λ (b : VolumeBlocks). IsUnreadIn c.args.store.now c.read.new.store b c.args.birth c.args.range.offset (c.args.range.offset + c.args.range.len) c.args.missing.now c.in-Err.refusal)
             c.blocks-blocks.ensures unread;
         answered = c.from.ensures;
       },
@@ -60,7 +60,7 @@ returns-in-Err-clause-unread g c = λ fault.
       has = c.in-Some.ensures.held;
       cause = c.in-Err.refusal;
       unread =
-          subst (λ (b : VolumeBlocks). IsUnreadIn c.args.store.now c.read.new.store b c.args.birth c.args.offset (c.args.offset + c.args.len) c.args.missing.now c.in-Err.refusal)
+          subst (λ (b : VolumeBlocks). IsUnreadIn c.args.store.now c.read.new.store b c.args.birth c.args.range.offset (c.args.range.offset + c.args.range.len) c.args.missing.now c.in-Err.refusal)
           c.blocks-blocks.ensures unread;
       answered = c.from.ensures;
     }) c.in-Err.ensures.refused

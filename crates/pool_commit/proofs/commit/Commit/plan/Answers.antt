@@ -71,7 +71,9 @@ pub returns-in-Err-clause-full : goal.returns-in-Err-clause-full
 returns-in-Err-clause-full g c = λ no_space. record {
   begun = c.begin_plan.new.self;
   is_begun = is_begun c.args.self.now.store c.begin_plan.new.self c.begin_plan.ensures.disks c.begin_plan.ensures.out c.begin_plan.ensures.shapes c.begin_plan.ensures.filled c.begin_plan.ensures.free;
-  lacks = subst (λ (volumes : GroupVolumes). LacksRoomFor c.begin_plan.new.self.spaces volumes c.args.items.now.writes) c.last.ensures
+  group = c.saturating_add-group.result;
+  is_next = λ few. let same = c.committed.ensures in omega arith;
+  lacks = subst (λ (volumes : GroupVolumes). LacksRoomFor c.begin_plan.new.self.spaces volumes c.args.items.now.writes c.saturating_add-group.result) c.last.ensures
       (only_space c.begin_plan.new.self c.after_group.new.store c.last.result.now c.args.items.now c.saturating_add-group.result c.in-Err.refusal (sym c.from.ensures ∙ no_space) c.in-Err.ensures.refused);
 }
 

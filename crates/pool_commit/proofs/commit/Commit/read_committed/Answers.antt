@@ -33,7 +33,7 @@ returns-clause-reads g c = only_reads (state_of c.args.self.now) c.read_of.new.s
 pub returns-clause-bytes : goal.returns-clause-bytes
 returns-clause-bytes g c = IfOk-both c.read_of.result _ _ _ (λ bytes count known v volume backs below honest at shape.
     let there = known backs.blocks.stored (v.pools v.committed) backs.blocks.plans.held
-    (subst (λ (volumes : GroupVolumes). SpellsPool backs.blocks.stored c.committed-committed.result volumes (v.pools v.committed)) (sym c.last.ensures)
+    (subst (λ (volumes : GroupVolumes). SpellsPool backs.blocks.stored c.committed-committed.result volumes (v.pools v.committed)) (sym c.last-last.ensures)
     (subst (λ (group : ℕ). SpellsPool backs.blocks.stored group c.args.self.now.kept.last (v.pools v.committed)) (sym (c.committed-committed.ensures ∙ backs.committed))
     (last_spelled (state_of c.args.self.now) v backs))) in
     base_lies_under v c.args.name.now volume c.args.offset c.args.len bytes.items count (there.1 honest)) c.read_of.ensures.len c.read_of.ensures.bytes
@@ -48,9 +48,9 @@ returns-clause-refused g c = IfErr-weaker c.read_of.result _ _ (λ refusal known
     (ap (volumes_at c.args.self.now.kept) (sym backs.committed) ∙ last_at c.args.self.now.kept) c.read_of.ensures.reads.reads (last_spelled (state_of c.args.self.now) v backs)
     (subst (λ (group : ℕ). IsUnreadOf c.args.self.now.store c.read_of.new.store c.args.self.now.kept.last group c.args.name.now c.args.offset c.args.len [] refusal) group
     (subst (λ (volumes : GroupVolumes). IsUnreadOf c.args.self.now.store c.read_of.new.store volumes c.committed-committed.result c.args.name.now c.args.offset c.args.len [] refusal)
-    c.last.ensures fault.1))) other))
+    c.last-last.ensures fault.1))) other))
     (known backs.blocks.stored (v.pools v.committed) backs.blocks.plans.held
-    (subst (λ (volumes : GroupVolumes). SpellsPool backs.blocks.stored c.committed-committed.result volumes (v.pools v.committed)) (sym c.last.ensures)
+    (subst (λ (volumes : GroupVolumes). SpellsPool backs.blocks.stored c.committed-committed.result volumes (v.pools v.committed)) (sym c.last-last.ensures)
     (subst (λ (group : ℕ). SpellsPool backs.blocks.stored group c.args.self.now.kept.last (v.pools v.committed)) (sym group)
     (last_spelled (state_of c.args.self.now) v backs))))) c.read_of.ensures.refused
 
@@ -61,5 +61,5 @@ returns-clause-unread g c = IfErr-weaker c.read_of.result _ _ (λ refusal known 
   unread = subst (λ (group : ℕ). IsUnreadOf c.args.self.now.store c.read_of.new.store c.args.self.now.kept.last group c.args.name.now c.args.offset c.args.len [] refusal)
       c.committed-committed.ensures
       (subst (λ (volumes : GroupVolumes). IsUnreadOf c.args.self.now.store c.read_of.new.store volumes c.committed-committed.result c.args.name.now c.args.offset c.args.len [] refusal)
-      c.last.ensures (known fault));
+      c.last-last.ensures (known fault));
 }) c.read_of.ensures.unread
