@@ -17,15 +17,15 @@ use Rattle.pool_model.specs.Flow.{Flow, flow_of, with_taken, with_committed, Flo
 
 -- ---- what a step changes
 
--- the view with these groups, holds and items; how far the group that is synced is stays
+-- the view with these groups, holds and items. Its sync stays: a flow knows no plans.
 abbrev pub with_flow : View → Flow → View
 with_flow v f = record v { committed = f.committed; waiting = f.waiting; holds = f.holds; next = f.next; ledger = f.ledger }
 
--- groups, holds and items go on by the step and its reply, and nothing else changes
+-- groups, holds and items go on as FlowStep says of the step and its reply, and nothing else changes
 abbrev pub OnlyFlows : View → Step → Reply → View → Type 0
 OnlyFlows v step reply w = FlowStep (flow_of v) step reply (flow_of w) × (w ≡ with_flow v (flow_of w))
 
--- the group after the committed one is taken to be synced, and is synced as far as this
+-- the group after the committed one is taken to be synced, as far as this
 abbrev pub taken : View → Sync → View
 taken v sync = record (with_flow v (with_taken (flow_of v))) { sync = sync }
 

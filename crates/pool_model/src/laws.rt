@@ -31,8 +31,8 @@ pub fn runs_keep_views_sound()
     ensures start { (vdevs : List Vdev) → IsSound (started vdevs) }
 {}
 
-/// Each step, refused ones too, moves groups, holds and items as the part of a view that a pipeline keeps, and moves the
-/// four counters of groups as its reply tells.
+/// Each step, refused or not, is a step of the groups, holds and items that a pipeline keeps, and moves the four counters
+/// of groups as its reply tells.
 pub fn steps_move_groups()
     ensures flow { (v : View) (given : Given) (step : Step) (reply : Reply) (w : View) →
         StepOf v given step reply w → FlowStep (flow_of v) step reply (flow_of w) }
