@@ -1,5 +1,5 @@
-//! Tests of the objects: trees of blocks, dnodes by number, the objects of a set, and tables. They stand together, so that
-//! what they reach is proved once with them.
+//! Tests of the objects: trees of blocks, dnodes by number, the objects of a set, tables, and volumes. They stand together,
+//! so that what they reach is proved once with them.
 #![tactic(auto)]
 
 #[cfg(test)]
@@ -12,3 +12,5 @@ mod stores;
 mod tables;
 #[cfg(test)]
 mod trees;
+#[cfg(test)]
+mod volumes;

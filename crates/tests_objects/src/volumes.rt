@@ -1,0 +1,133 @@
+//! Volumes by their object sets.
+use crate::stores::{Store, new_store, store_plan};
+use pool_model::{Bytes, Name, Write};
+use std::alloc::{AllocError, Global};
+use std::test::Fail;
+use volume::{GroupWrites, Refusal, Rewritten, VolumeSet};
+
+/// In bytes: 300 blocks.
+const SIZE: u64 = 153_600;
+
+const BLOCK_SIZE: u64 = 512;
+
+/// Where block 200 begins.
+const FAR: u64 = 102_400;
+
+fn name(alloc: Global) -> Result<Name, AllocError> {
+    Ok(Name::new(vec![in alloc; b'v'; 1]?))
+}
+
+/// A write of bytes of one value.
+fn write_of(alloc: Global, offset: u64, byte: u8, len: usize) -> Result<Write, AllocError> {
+    Ok(Write {
+        writer: 1,
+        number: 1,
+        volume: name(alloc)?,
+        offset,
+        bytes: Bytes::new(vec![in alloc; byte; len]?),
+    })
+}
+
+/// The block 0, and the first half of the block 200.
+fn two_writes(alloc: Global) -> Result<Vec<Write>, AllocError> {
+    let mut writes = Vec::new(alloc);
+    writes.push(write_of(alloc, 0, 5, 512)?)?;
+    writes.push(write_of(alloc, FAR, 6, 256)?)?;
+    Ok(writes)
+}
+
+/// A volume of zeros, once it is stored.
+fn made(store: &mut Store, alloc: Global) -> Result<VolumeSet, Refusal> {
+    store.begin_plan(1);
+    let volume = VolumeSet::create(store, alloc, SIZE, BLOCK_SIZE, 1)?;
+    store_plan(store);
+    Ok(volume)
+}
+
+/// The volume after the writes, once it is stored.
+fn rewritten(volume: &VolumeSet, store: &mut Store, alloc: Global) -> Result<Rewritten, Refusal> {
+    let name = name(alloc)?;
+    let writes = two_writes(alloc)?;
+    let changes = GroupWrites {
+        name: &name,
+        writes: &writes,
+    };
+    store.begin_plan(2);
+    let blocks = volume.changed_blocks(store, alloc, 1, &changes)?;
+    let done = volume.placed(store, alloc, blocks, 2)?;
+    store_plan(store);
+    Ok(done)
+}
+
+/// All bytes of a volume.
+fn bytes_of(
+    volume: &VolumeSet,
+    store: &mut Store,
+    alloc: Global,
+    birth: u64,
+) -> Result<Vec<u8>, Refusal> {
+    let len = volume.size().min(1 << 20);
+    volume.read(store, alloc, birth, 0, len, &[])
+}
+
+/// The byte of each place after the writes.
+fn byte_after(at: u64) -> u8 {
+    match at {
+        0..512 => 5,
+        FAR..102_656 => 6,
+        _ => 0,
+    }
+}
+
+fn is_after(bytes: &[u8]) -> bool {
+    bytes.len() as u64 == SIZE
+        && bytes.iter().enumerate().all(|(at, byte)| *byte == byte_after(at as u64))
+}
+
+fn is_zeros(bytes: &[u8]) -> bool {
+    bytes.len() as u64 == SIZE && bytes.iter().all(|byte| *byte == 0)
+}
+
+/// How many blocks gave way, and whether the volume after the writes and the one before read as they are to.
+fn outcomes(store: &mut Store, alloc: Global) -> Result<(usize, bool, bool), Refusal> {
+    let before = made(store, alloc)?;
+    let Rewritten { volume, replaced } = rewritten(&before, store, alloc)?;
+    let after = bytes_of(&volume, store, alloc, 2)?;
+    let old = bytes_of(&before, store, alloc, 1)?;
+    Ok((replaced.len(), is_after(&after), is_zeros(&old)))
+}
+
+fn outcomes_in_memory(alloc: Global) -> Result<(usize, bool, bool), Fail> {
+    let mut store = new_store(alloc)?;
+    Ok(outcomes(&mut store, alloc)?)
+}
+
+#[test]
+fn a_volume_reads_as_it_was_written(rt: HostRuntime) -> Result<(), Fail> {
+    let (replaced, is_after, is_before) = outcomes_in_memory(rt.alloc())?;
+    // The block of the dnodes, and that of the object set.
+    assert_eq!(rt; replaced, 2);
+    assert!(rt; is_after);
+    assert!(rt; is_before);
+    Ok(())
+}
+
+/// Whether a volume is refused whose blocks have another size than the set's.
+fn is_other_size_refused(store: &mut Store, alloc: Global) -> Result<bool, Refusal> {
+    let before = made(store, alloc)?;
+    let done = rewritten(&before, store, alloc)?;
+    let other = VolumeSet::new(SIZE, 1024, done.volume.block());
+    let found = bytes_of(&other, store, alloc, 2);
+    Ok(matches!(found, Err(Refusal::BadPointer)))
+}
+
+fn is_refused_in_memory(alloc: Global) -> Result<bool, Fail> {
+    let mut store = new_store(alloc)?;
+    Ok(is_other_size_refused(&mut store, alloc)?)
+}
+
+#[test]
+fn blocks_of_another_size_are_refused(rt: HostRuntime) -> Result<(), Fail> {
+    assert!(rt; is_refused_in_memory(rt.alloc())?);
+    Ok(())
+}
