@@ -1,4 +1,6 @@
+pub mod RecordObjects
 pub mod Naming
 pub mod InOrder
 pub mod Records
 pub mod Rows
+pub mod Edits

@@ -1,5 +1,5 @@
 -- Names and the objects that they name.
-use Rattle.std.specs.Prelude.{ℕ, ◌≡◌, ◌^◌, ◌<◌, List, [], ◌∷◌, ◌++◌, All, AllPairs}
+use Rattle.std.specs.Prelude.{ℕ, ◌≡◌, ◌≢◌, ◌⊎◌, ◌↔◌, ◌^◌, ◌<◌, List, [], ◌∷◌, ◌++◌, All, AllPairs, Contains}
 use Rattle.std.specs.List.{flat_map}
 use Rattle.words.specs.Words.{word_bytes}
 use Rattle.object_table.specs.declared.shape.RowShape.{RowShape}
@@ -16,6 +16,18 @@ pub record FitsRow (row : DirectoryRow) : Type 0 where
 pub record IsDirectory (rows : List DirectoryRow) : Type 0 where
   pub each : All FitsRow rows
   pub order : AllPairs (λ row later. IsBefore row.name later.name) rows
+
+-- no row has the name
+abbrev pub LacksName : List DirectoryRow → List ℕ → Type 0
+LacksName rows name = All (λ row. row.name ≢ name) rows
+
+-- these are the rows before and one more
+abbrev pub IsWith : List DirectoryRow → DirectoryRow → List DirectoryRow → Type 0
+IsWith before row after = (other : DirectoryRow) → Contains after other ↔ (Contains before other ⊎ (other ≡ row))
+
+-- these are the rows before but for the one of that name
+abbrev pub IsWithout : List DirectoryRow → List ℕ → List DirectoryRow → Type 0
+IsWithout before name after = (other : DirectoryRow) → Contains after other ↔ (Contains before other × (other.name ≢ name))
 
 -- 56 bytes of the name, and the number
 abbrev pub row_bytes : DirectoryRow → List ℕ

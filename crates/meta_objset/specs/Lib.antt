@@ -1,4 +1,5 @@
 pub mod Config
+pub mod Datasets
 pub mod Directory
 pub mod Names
 pub mod Reading

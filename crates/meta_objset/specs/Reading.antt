@@ -1,6 +1,5 @@
 -- The pool's tables in the meta object set.
-use Rattle.std.specs.Prelude.{ℕ, List, Option}
-use Rattle.objset.specs.declared.shape.ObjectShape.{ObjectShape}
+use Rattle.std.specs.Prelude.{List, Option}
 use Rattle.objset.specs.Objects.{Object}
 use Rattle.object_table.specs.declared.kind.TableKind.{TableKind}
 use Rattle.object_table.specs.Tables.{HasTable}
@@ -18,9 +17,9 @@ abbrev pub config_kind : TableKind
 config_kind = record { object_type = 203; rows = config_shape }
 
 -- the object has the table of this directory
-abbrev pub HasDirectory : Option ObjectShape → Option Object → List DirectoryRow → Type 0
-HasDirectory found object rows = IsDirectory rows × HasTable directory_kind found object (rows_bytes rows)
+abbrev pub HasDirectory : Option Object → List DirectoryRow → Type 0
+HasDirectory object rows = IsDirectory rows × HasTable directory_kind object (rows_bytes rows)
 
 -- or of this configuration
-abbrev pub HasConfig : Option ObjectShape → Option Object → List PlainVdev → Type 0
-HasConfig found object vdevs = FitsConfig vdevs × HasTable config_kind found object (config_bytes vdevs)
+abbrev pub HasConfig : Option Object → List PlainVdev → Type 0
+HasConfig object vdevs = FitsConfig vdevs × HasTable config_kind object (config_bytes vdevs)

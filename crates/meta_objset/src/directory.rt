@@ -1,12 +1,17 @@
 //! The pool's directory: which object a name names.
-ghost use Rattle.std.specs.Prelude.{◌≡◌, ◌≢◌, ◌↔◌, ◌⊎◌, ◌^◌, ◌<◌, ◌++◌, ◌∷◌, [], ℕ, List, length, All, Contains, IsTrue, IfOk, IfErr, IfSome, IsOkAnd, IsErrOf, OnOk, OnErr};
+ghost use Rattle.std.specs.Prelude.{◌≡◌, ◌≢◌, ◌↔◌, ◌⊎◌, ◌^◌, ◌<◌, ◌≤◌, ◌++◌, ◌∷◌, [], ℕ, List, Some, None, length, take, slice_index_or, All, Contains, MatchOption, IsTrue, IfOk, IfErr, IfSome, IsOkAnd, IsErrOf, OnOk, OnErr};
+ghost use Rattle.objset.specs.Changes.{IsGoodChange, MayChange, after_change};
+ghost use Rattle.objset.specs.Objects.{Object};
 ghost use Rattle.object_table.specs.Rows.{SpellsRows};
+ghost use Rattle.object_table.specs.Tables.{IsOfKind};
 ghost use Rattle.meta_objset.specs.declared.directory.DirectoryRow.{DirectoryRow};
-ghost use Rattle.meta_objset.specs.Directory.{FitsRow, IsDirectory, SpellsRow, row_bytes, rows_bytes, SpellsDirectory};
+ghost use Rattle.meta_objset.specs.Directory.{FitsRow, IsDirectory, LacksName, IsWith, IsWithout, SpellsRow, row_bytes, rows_bytes, SpellsDirectory};
 ghost use Rattle.meta_objset.specs.Names.{IsName, IsBefore};
+ghost use Rattle.meta_objset.specs.Reading.{directory_kind, HasDirectory};
 
 use crate::names::{is_before, is_name};
-use object_table::{Refusal, RowShape};
+use object_table::{Refusal, RowShape, TableKind};
+use objset::Change;
 use std::alloc::{AllocError, Global};
 use std::marker::Model;
 use words::{bytes_at, word_at};
@@ -26,6 +31,11 @@ const ROW_LEN: usize = 64;
 pub(crate) const SHAPE: RowShape = RowShape {
     first_len: ROW_LEN,
     row_len: ROW_LEN,
+};
+
+pub(crate) const KIND: TableKind = TableKind {
+    object_type: 200,
+    rows: SHAPE,
 };
 
 impl DirectoryRow {
@@ -109,10 +119,45 @@ impl Directory {
 
     /// The number of the object that has a name, if one has. The name is padded as in a row.
     pub fn get(&self, name: &[u8; 56]) -> Option<u64>
-        ensures found { IfSome result (λ object. Contains self.now (record { name = name.now; object = object })) }
-        ensures none { result ≡ None → All (λ row. row.name ≢ name.now) self.now }
+        ensures found { IfSome result (λ object.
+            Contains self.now (record { name = name.now; object = object })) }
+        ensures none { result ≡ None → LacksName self.now name.now }
     {
         let row = self.rows.iter().find(|row| row.name == *name)?;
+        Some(row.object)
+    }
+
+    /// Adds a name, padded as in a row, and the number of its object. `false` where the name is there already; then nothing
+    /// changes. Nothing changes on an error either.
+    pub fn insert(&mut self, name: &[u8; 56], object: u64) -> Result<bool, AllocError>
+        requires { IsName name.now }
+        ensures added { IfOk result (λ added. IsTrue added → LacksName self.old name.now
+            × IsWith self.old (record { name = name.now; object = object }) self.new) }
+        ensures there { IfOk result (λ added. ¬ IsTrue added → (¬ LacksName self.old name.now)
+            × (self.new ≡ self.old)) }
+        ensures kept { IfErr result (λ _. self.new ≡ self.old) }
+    {
+        if self.get(name).is_some() {
+            return Ok(false);
+        }
+        let at = count_before(&self.rows, name);
+        let row = DirectoryRow {
+            name: *name,
+            object,
+        };
+        self.rows.insert(at, row)?;
+        Ok(true)
+    }
+
+    /// Takes a name out, padded as in a row. The number of the object that had it, if one had.
+    pub fn remove(&mut self, name: &[u8; 56]) -> Option<u64>
+        ensures removed { IfSome result (λ object.
+            Contains self.old (record { name = name.now; object = object })
+            × IsWithout self.old name.now self.new) }
+        ensures none { result ≡ None → LacksName self.old name.now × (self.new ≡ self.old) }
+    {
+        let at = place_of(&self.rows, name)?;
+        let row = self.rows.remove(at);
         Some(row.object)
     }
 
@@ -163,6 +208,35 @@ impl Directory {
         Ok(bytes)
     }
 
+    /// The change of an object set that makes the object of a directory: `read_directory` finds it where its number is 1.
+    /// `NoMemory` is its only error.
+    pub fn creation(&self, alloc: Global) -> Result<Change, Refusal>
+        requires { length self.now < 2 ^ 40 }
+        ensures good { IfOk result IsGoodChange }
+        ensures made { IfOk result (λ change. HasDirectory (after_change change None) self.now) }
+        ensures refused { IfErr result (λ refusal. refusal ≡ Refusal.NoMemory) }
+    {
+        let _ = &self.rows;
+        let rows = self.to_rows(alloc)?;
+        object_table::creation(alloc, KIND, &rows)
+    }
+
+    /// The change of an object set that writes the object of a directory anew. The object is there, with the directory's type
+    /// and blocks of 8 sectors. `NoMemory` is the only error.
+    pub fn replacement(&self, alloc: Global) -> Result<Change, Refusal>
+        requires { length self.now < 2 ^ 40 }
+        ensures good { IfOk result IsGoodChange }
+        ensures may { IfOk result (λ change. (object : Object) → IsOfKind directory_kind object
+            → MayChange change (Some object)) }
+        ensures made { IfOk result (λ change. (object : Object) → IsOfKind directory_kind object
+            → HasDirectory (after_change change (Some object)) self.now) }
+        ensures refused { IfErr result (λ refusal. refusal ≡ Refusal.NoMemory) }
+    {
+        let _ = &self.rows;
+        let rows = self.to_rows(alloc)?;
+        object_table::replacement(alloc, KIND, &rows)
+    }
+
     /// The one spelling of a directory, in whole blocks.
     pub fn encode(&self, alloc: Global) -> Result<Vec<u8>, Refusal>
         requires { length self.now < 2 ^ 40 }
@@ -173,6 +247,29 @@ impl Directory {
         let rows = self.to_rows(alloc)?;
         object_table::encode(alloc, SHAPE, &rows)
     }
+}
+
+/// How many rows have a name that stands before that one.
+fn count_before(rows: &[DirectoryRow], name: &[u8]) -> usize
+    ensures within { result ≤ length rows.now }
+    ensures before { All (λ row. IsBefore row.name name.now) (take result rows.now) }
+    ensures behind { (other : DirectoryRow) → result < length rows.now
+        → ¬ IsBefore (slice_index_or rows.now result other).name name.now }
+{
+    for (i, row) in rows.iter().enumerate() {
+        if !is_before(&row.name, name) {
+            return i;
+        }
+    }
+    rows.len()
+}
+
+/// The place of the first row that has a name.
+fn place_of(rows: &[DirectoryRow], name: &[u8; 56]) -> Option<usize>
+    ensures { MatchOption result (LacksName rows.now name.now) (λ at. (at < length rows.now)
+        × ((other : DirectoryRow) → (slice_index_or rows.now at other).name ≡ name.now)) }
+{
+    rows.iter().position(|row| row.name == *name)
 }
 
 /// Whether the name of a row stands behind those of the rows so far.

@@ -2,12 +2,14 @@
 #![tactic(auto)]
 
 mod config;
+mod datasets;
 mod directory;
 mod names;
 mod reading;
 mod record;
 
 pub use config::{decode_config, encode_config};
+pub use datasets::{read_record, record_change, record_creation};
 pub use directory::{Directory, DirectoryRow};
 pub use names::is_name;
 pub use object_table::Refusal;

@@ -6,7 +6,6 @@ ghost use Rattle.block_store.specs.Steps.{OnlyReadsBlocks, AnswersAreTrue, LossI
 ghost use Rattle.block_store.specs.Store.{Holds};
 ghost use Rattle.dnode.specs.ObjectSet.{FitsObjectSet};
 ghost use Rattle.objset.specs.Objects.{Object, AreObjects};
-ghost use Rattle.objset.specs.Shapes.{shape_of_dnode};
 ghost use Rattle.meta_objset.specs.declared.directory.DirectoryRow.{DirectoryRow};
 ghost use Rattle.meta_objset.specs.Directory.{IsDirectory, rows_bytes};
 ghost use Rattle.meta_objset.specs.Reading.{HasDirectory, HasConfig};
@@ -14,7 +13,7 @@ ghost use Rattle.vdev_label.specs.Config.{SpellsConfig};
 ghost use Rattle.vdev_label.specs.Plain.{PlainVdev, config_view};
 
 use crate::config::{SHAPE as CONFIG_SHAPE, config_in};
-use crate::directory::{Directory, SHAPE as DIRECTORY_SHAPE};
+use crate::directory::{Directory, KIND as DIRECTORY_KIND};
 use block_store::{BlockStore, Refusal};
 use dnode::ObjectSet;
 use model_disk::Disk;
@@ -24,11 +23,6 @@ use vdev_label::Config;
 
 /// The number of the directory's object.
 const DIRECTORY: u64 = 1;
-
-const DIRECTORY_KIND: TableKind = TableKind {
-    object_type: 200,
-    rows: DIRECTORY_SHAPE,
-};
 
 /// The directory of a meta object set. `BadPointer` where object 1 is no directory. The set's blocks were born in the
 /// transaction group `birth` or before. The disks that are named are taken as missing.
@@ -41,17 +35,17 @@ pub fn read_directory<D: Disk + Drop>(
 ) -> Result<Directory, Refusal>
     requires { FitsObjectSet set.now }
     ensures reads { OnlyReadsBlocks store.old store.new missing.now }
-    ensures value { IfOk result (λ directory. (stored : Contents) (objects : ℕ → Option Object) (own : List Block)
-        (blocks : ℕ → List Block) → Holds store.old stored
-        → (are : AreObjects stored birth set.now objects own blocks) → AnswersAreTrue store.old store.new
-        → HasDirectory (shape_of_dnode (are.nodes 1)) (objects 1) directory) }
+    ensures value { IfOk result (λ directory. (stored : Contents) (objects : ℕ → Option Object)
+        (own : List Block) (blocks : ℕ → List Block) → Holds store.old stored
+        → AreObjects stored birth set.now objects own blocks → AnswersAreTrue store.old store.new
+        → HasDirectory (objects 1) directory) }
     ensures cause { IfErr result (λ refusal. refusal ≢ Refusal.NoSpace) }
-    ensures known { IfErr result (λ refusal. (stored : Contents) (objects : ℕ → Option Object) (own : List Block)
-        (blocks : ℕ → List Block) → Holds store.old stored
-        → (are : AreObjects stored birth set.now objects own blocks) → AnswersAreTrue store.old store.new
+    ensures known { IfErr result (λ refusal. (stored : Contents) (objects : ℕ → Option Object)
+        (own : List Block) (blocks : ℕ → List Block) → Holds store.old stored
+        → AreObjects stored birth set.now objects own blocks → AnswersAreTrue store.old store.new
         → LossIsTolerable store.old store.new missing.now
         → (refusal ≡ Refusal.NoMemory) ⊎ ((refusal ≡ Refusal.BadPointer)
-        × ((rows : List DirectoryRow) → ¬ HasDirectory (shape_of_dnode (are.nodes 1)) (objects 1) rows))) }
+        × ((rows : List DirectoryRow) → ¬ HasDirectory (objects 1) rows))) }
 {
     let rows = object_table::read(set, store, alloc, DIRECTORY_KIND, DIRECTORY, birth, missing)?;
     directory_of(alloc, &rows)
@@ -91,17 +85,17 @@ pub fn read_config<D: Disk + Drop>(
 ) -> Result<Config, Refusal>
     requires { FitsObjectSet set.now }
     ensures reads { OnlyReadsBlocks store.old store.new missing.now }
-    ensures value { IfOk result (λ config. (stored : Contents) (objects : ℕ → Option Object) (own : List Block)
-        (blocks : ℕ → List Block) → Holds store.old stored
-        → (are : AreObjects stored birth set.now objects own blocks) → AnswersAreTrue store.old store.new
-        → HasConfig (shape_of_dnode (are.nodes 2)) (objects 2) (config_view config)) }
+    ensures value { IfOk result (λ config. (stored : Contents) (objects : ℕ → Option Object)
+        (own : List Block) (blocks : ℕ → List Block) → Holds store.old stored
+        → AreObjects stored birth set.now objects own blocks → AnswersAreTrue store.old store.new
+        → HasConfig (objects 2) (config_view config)) }
     ensures cause { IfErr result (λ refusal. refusal ≢ Refusal.NoSpace) }
-    ensures known { IfErr result (λ refusal. (stored : Contents) (objects : ℕ → Option Object) (own : List Block)
-        (blocks : ℕ → List Block) → Holds store.old stored
-        → (are : AreObjects stored birth set.now objects own blocks) → AnswersAreTrue store.old store.new
+    ensures known { IfErr result (λ refusal. (stored : Contents) (objects : ℕ → Option Object)
+        (own : List Block) (blocks : ℕ → List Block) → Holds store.old stored
+        → AreObjects stored birth set.now objects own blocks → AnswersAreTrue store.old store.new
         → LossIsTolerable store.old store.new missing.now
         → (refusal ≡ Refusal.NoMemory) ⊎ ((refusal ≡ Refusal.BadPointer)
-        × ((vdevs : List PlainVdev) → ¬ HasConfig (shape_of_dnode (are.nodes 2)) (objects 2) vdevs))) }
+        × ((vdevs : List PlainVdev) → ¬ HasConfig (objects 2) vdevs))) }
 {
     let rows = object_table::read(set, store, alloc, CONFIG_KIND, CONFIG, birth, missing)?;
     config_of(alloc, &rows)

@@ -12,26 +12,16 @@ use Rattle.block_store.specs.Steps.{OnlyReadsBlocks, AnswersAreTrue, LossIsToler
 use Rattle.block_store.specs.Store.{Store, Holds}
 use Rattle.dnode.specs.declared.object_set.ObjectSet.{ObjectSet}
 use Rattle.dnode_tree.proofs.FurtherReads.{true_before, true_after, few_after}
-use Rattle.objset.specs.declared.shape.ObjectShape.{ObjectShape}
 use Rattle.objset.specs.Objects.{Object, AreObjects}
-use Rattle.objset.specs.Shapes.{HasShape}
 use Rattle.object_table.specs.declared.kind.TableKind.{TableKind}
-use Rattle.object_table.specs.Rows.{SpellsRows}
-use Rattle.object_table.specs.Tables.{bytes_at, bytes_to, IsFront, IsTableObject, HasTable}
+use Rattle.object_table.specs.Tables.{bytes_at, bytes_to, IsFront, IsOfKind, IsTableTo, HasTable}
 
--- an object that has a shape is there
-pub shaped : (object : Option Object) (shape : ObjectShape) → HasShape object (Some shape) → (there : Object) × (object ≡ Some there)
-shaped None shape has = absurd has
-shaped (Some there) shape has = (there, refl)
-
--- a table of the object that was found is a table over its own array
-pub table_of : (kind : TableKind) (found : Option ObjectShape) (object : Option Object) (shape : ObjectShape) (there : Object) (rows : List ℕ) → IsTableObject kind found object shape there → HasTable kind found object rows
-    → ((id : ℕ) → id ≤ shape.highest → there.array id ≢ None) × SpellsRows kind.rows (bytes_to there.array (shape.highest + 1)) rows
-table_of kind found object shape there rows is has =
-    let same_shape : has.shape ≡ shape = let e : Some has.shape ≡ Some shape = sym has.is.shape_is ∙ is.shape_is in cc in
-    let same_object : has.there ≡ there = let e : Some has.there ≡ Some there = sym has.is.there_is ∙ is.there_is in cc in
-    subst (λ (o : Object). ((id : ℕ) → id ≤ shape.highest → o.array id ≢ None) × SpellsRows kind.rows (bytes_to o.array (shape.highest + 1)) rows) same_object
-    (subst (λ (s : ObjectShape). ((id : ℕ) → id ≤ s.highest → has.there.array id ≢ None) × SpellsRows kind.rows (bytes_to has.there.array (s.highest + 1)) rows) same_shape (has.no_hole, has.spelled))
+-- a table of an object is a table over its array
+pub table_of : (kind : TableKind) (object : Option Object) (there : Object) (rows : List ℕ) → object ≡ Some there → HasTable kind object rows
+    → IsOfKind kind there × IsTableTo kind.rows there.highest there.array rows
+table_of kind object there rows is has =
+    let same : has.there ≡ there = let e : Some has.there ≡ Some there = sym has.is ∙ is in cc in
+    subst (λ (o : Object). IsOfKind kind o × IsTableTo kind.rows o.highest o.array rows) same (has.of_kind, has.table)
 
 -- one more block
 pub one_more : (array : ℕ → Option (List ℕ)) (count : ℕ) (bytes block : List ℕ) → IsFront array count bytes → Some block ≡ array count → IsFront array (count + 1) (bytes ++ block)

@@ -10,7 +10,10 @@ use Rattle.dnode_tree.proofs.NewArrays.{written_others}
 use Rattle.dnode_tree.specs.declared.writes.BlockWrite.{BlockWrite}
 use Rattle.dnode_tree.specs.Writes.{AreInOrder, written}
 use Rattle.object_table.specs.declared.shape.RowShape.{RowShape}
-use Rattle.object_table.specs.Made.{AreBlocksOf}
+use Rattle.objset.proofs.Highest.{highest_room, highest_least}
+use Rattle.objset.proofs.Numbers.{all_last}
+use Rattle.objset.specs.Changes.{highest_of}
+use Rattle.object_table.specs.Made.{AreBlocksOf, AreTableWrites}
 use Rattle.object_table.specs.Rows.{SpellsRows}
 use Rattle.object_table.specs.Shape.{FitsShape}
 use Rattle.object_table.specs.Tables.{bytes_at, bytes_to, IsFront}
@@ -38,10 +41,20 @@ bytes_to_same array other (suc count) same =
 front_same : (array other : ℕ → Option (List ℕ)) (count : ℕ) (bytes : List ℕ) → ((id : ℕ) → id < count → other id ≡ array id) → IsFront array count bytes → IsFront other count bytes
 front_same array other count bytes same front = (λ id lt none. front.0 id lt (sym (same id lt) ∙ none), front.1 ∙ sym (bytes_to_same array other count same))
 
+-- the highest block is the last one
+last_is : (count : ℕ) (writes : List BlockWrite) (last : BlockWrite) → All (λ write. write.id < count) writes → last.id ≡ count → highest_of (writes ++ last ∷ []) 0 ≡ count + 1 - 1
+last_is count writes last below is =
+    let all = All-push (λ (write : BlockWrite). write.id ≤ count) writes last
+        (All-weaker (λ (write : BlockWrite). write.id < count) (λ (write : BlockWrite). write.id ≤ count) (λ write lt. omega (arith, lt)) writes below) (omega (arith, is)) in
+    let most = highest_least (writes ++ last ∷ []) 0 count (omega arith) all in
+    let least = all_last (λ (write : BlockWrite). write.id ≤ highest_of (writes ++ last ∷ []) 0) writes last (highest_room (writes ++ last ∷ []) 0) in
+    omega (arith, most, least, is)
+
 pub no_blocks : (bytes : List ℕ) → AreBlocksOf bytes 0 []
 no_blocks bytes = record {
   order = λ i j d lt below. absurd (omega (arith, below));
   ids = All-nil (λ (write : BlockWrite). write.id < 0);
+  last = refl;
   whole = All-nil (λ (write : BlockWrite). length write.bytes.items ≡ 8 * 512);
   front = (λ id lt. absurd (omega (arith, lt)), refl);
 }
@@ -63,20 +76,29 @@ next_block bytes count writes last so_far id_is is room =
       order = all_pairs_push (λ (write later : BlockWrite). write.id < later.id) writes last so_far.order (λ k d lt. below k d lt);
       ids = All-push (λ (write : BlockWrite). write.id < count + 1) writes last
           (All-weaker (λ (write : BlockWrite). write.id < count) (λ (write : BlockWrite). write.id < count + 1) (λ write lt. omega (arith, lt)) writes so_far.ids) (omega (arith, id_is));
+      last = last_is count writes last so_far.ids id_is;
       whole = All-push (λ (write : BlockWrite). length write.bytes.items ≡ 8 * 512) writes last so_far.whole len;
       front = subst (λ (front : List ℕ). IsFront array (count + 1) front) joined (one_more array count (take (count * 4096) bytes) last.bytes.items before (sym at));
     }
 
 -- nothing is written behind the blocks
-pub none_behind : (bytes : List ℕ) (count : ℕ) (writes : List BlockWrite) (id : ℕ) → AreBlocksOf bytes count writes → count ≤ id → written writes (λ id. None) id ≡ None
+none_behind : (bytes : List ℕ) (count : ℕ) (writes : List BlockWrite) (id : ℕ) → AreBlocksOf bytes count writes → count ≤ id → written writes (λ id. None) id ≡ None
 none_behind bytes count writes id are le =
     written_others writes (λ id. None) id
     (All-weaker (λ (write : BlockWrite). write.id < count) (λ (write : BlockWrite). write.id ≢ id) (λ write lt e. absurd (omega (arith, lt, e, le))) writes are.ids)
 
 -- the blocks of whole blocks are all of them
-pub all_blocks : (bytes : List ℕ) (count : ℕ) (writes : List BlockWrite) → AreBlocksOf bytes count writes → count * 4096 ≡ length bytes → IsFront (written writes (λ id. None)) count bytes
+all_blocks : (bytes : List ℕ) (count : ℕ) (writes : List BlockWrite) → AreBlocksOf bytes count writes → count * 4096 ≡ length bytes → IsFront (written writes (λ id. None)) count bytes
 all_blocks bytes count writes are len =
     subst (λ (front : List ℕ). IsFront (written writes (λ id. None)) count front) (ap (λ n. take n bytes) len ∙ take-length bytes) are.front
+
+-- a table has a byte at least
+table_some : (shape : RowShape) (bytes rows : List ℕ) → SpellsRows shape bytes rows → 0 < length bytes
+table_some shape bytes rows spells =
+    let none : ℕ = 0 in
+    let word = word_bytes (spells.count ∷ []) in
+    let rest : List ℕ = replicate (shape.first_len - 8) none ++ (rows ++ replicate spells.zeros none) in
+    omega (arith, ap length spells.spelled, length-append word rest, length-word_bytes (spells.count ∷ []))
 
 -- how long a table is
 pub table_len : (shape : RowShape) (bytes rows : List ℕ) → FitsShape shape → SpellsRows shape bytes rows → length bytes < shape.first_len + length rows + 4096
@@ -97,3 +119,23 @@ table_len shape bytes rows fits spells =
       fits.word,
       spells.few,
     )
+
+-- the blocks of the bytes of a table are a table
+pub table_written : (shape : RowShape) (bytes rows : List ℕ) (writes : List BlockWrite) → AreBlocksOf bytes (length bytes / 4096) writes → SpellsRows shape bytes rows → length bytes < 2 ^ 47
+    → AreTableWrites shape rows writes
+table_written shape bytes rows writes are spells few =
+    let none : ℕ → Option (List ℕ) = λ id. None in
+    let count : ℕ = length bytes / 4096 in
+    let some : 0 < length bytes = table_some shape bytes rows spells in
+    let whole : count * 4096 ≡ length bytes = omega (arith, spells.whole) in
+    let front : IsFront (written writes none) count bytes = all_blocks bytes count writes are whole in
+    let last : highest_of writes 0 + 1 ≡ count = omega (arith, are.last, whole, some) in
+    record {
+      good = (are.order, All-weaker (λ (write : BlockWrite). write.id < count) (λ (write : BlockWrite). write.id < 128 ^ 5) (λ write lt. omega (arith, lt, few)) writes are.ids);
+      whole = are.whole;
+      table = record {
+        no_hole = λ id le. front.0 id (omega (arith, le, last));
+        behind = λ id lt. none_behind bytes count writes id are (omega (arith, lt, last));
+        spelled = subst (λ (all : List ℕ). SpellsRows shape all rows) (front.1 ∙ ap (bytes_to (written writes none)) (sym last)) spells;
+      };
+    }

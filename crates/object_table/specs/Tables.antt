@@ -1,8 +1,8 @@
 -- Tables in objects.
 use Rattle.std.specs.Prelude.{ℕ, zero, suc, ◌≡◌, ◌≢◌, ◌+◌, ◌<◌, ◌≤◌, List, [], ◌++◌, Option, Some, None}
-use Rattle.objset.specs.declared.shape.ObjectShape.{ObjectShape}
 use Rattle.objset.specs.Objects.{Object}
 use Rattle.object_table.specs.declared.kind.TableKind.{TableKind}
+use Rattle.object_table.specs.declared.shape.RowShape.{RowShape}
 use Rattle.object_table.specs.Rows.{SpellsRows}
 
 -- the bytes of a block, none at a hole
@@ -19,17 +19,19 @@ bytes_to array (suc count) = bytes_to array count ++ bytes_at (array count)
 abbrev pub IsFront : (ℕ → Option (List ℕ)) → ℕ → List ℕ → Type 0
 IsFront array count bytes = ((id : ℕ) → id < count → array id ≢ None) × (bytes ≡ bytes_to array count)
 
--- the object is there, with this shape; it has the table's type and blocks of 8 sectors
-pub record IsTableObject (kind : TableKind) (found : Option ObjectShape) (object : Option Object) (shape : ObjectShape) (there : Object) : Type 0 where
-  pub shape_is : found ≡ Some shape
-  pub there_is : object ≡ Some there
-  pub object_type : shape.object_type ≡ kind.object_type
-  pub sectors : shape.data_sectors ≡ 8
+-- the object has the table's type, and blocks of 8 sectors
+abbrev pub IsOfKind : TableKind → Object → Type 0
+IsOfKind kind object = (object.object_type ≡ kind.object_type) × (object.data_sectors ≡ 8)
 
--- An object of this shape has a table with these rows: its blocks up to the highest, none of them a hole, spell the rows.
-pub record HasTable (kind : TableKind) (found : Option ObjectShape) (object : Option Object) (rows : List ℕ) : Type 0 where
-  pub shape : ObjectShape
+-- The array spells the rows up to this block id: none of its blocks is a hole, and nothing is behind them.
+pub record IsTableTo (shape : RowShape) (highest : ℕ) (array : ℕ → Option (List ℕ)) (rows : List ℕ) : Type 0 where
+  pub no_hole : (id : ℕ) → id ≤ highest → array id ≢ None
+  pub behind : (id : ℕ) → highest < id → array id ≡ None
+  pub spelled : SpellsRows shape (bytes_to array (highest + 1)) rows
+
+-- The object has a table with these rows: its blocks up to the highest spell them.
+pub record HasTable (kind : TableKind) (object : Option Object) (rows : List ℕ) : Type 0 where
   pub there : Object
-  pub is : IsTableObject kind found object shape there
-  pub no_hole : (id : ℕ) → id ≤ shape.highest → there.array id ≢ None
-  pub spelled : SpellsRows kind.rows (bytes_to there.array (shape.highest + 1)) rows
+  pub is : object ≡ Some there
+  pub of_kind : IsOfKind kind there
+  pub table : IsTableTo kind.rows there.highest there.array rows

@@ -10,7 +10,7 @@ mod rows;
 mod shape;
 
 pub use kind::TableKind;
-pub use making::creation;
+pub use making::{creation, replacement};
 pub use reading::read;
 pub use refusal::Refusal;
 pub use rows::{BLOCK_LEN, decode, encode};

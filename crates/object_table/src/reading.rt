@@ -5,12 +5,10 @@ ghost use Rattle.block_store.specs.Blocks.{Contents};
 ghost use Rattle.block_store.specs.Steps.{OnlyReadsBlocks, AnswersAreTrue, LossIsTolerable};
 ghost use Rattle.block_store.specs.Store.{Holds};
 ghost use Rattle.dnode.specs.ObjectSet.{FitsObjectSet};
-ghost use Rattle.objset.specs.declared.shape.ObjectShape.{ObjectShape};
-ghost use Rattle.objset.specs.Objects.{Object, AreObjects};
-ghost use Rattle.objset.specs.Shapes.{shape_of_dnode};
+ghost use Rattle.objset.specs.Objects.{Object, AreObjects, EndsAt};
 ghost use Rattle.object_table.specs.Rows.{SpellsRows};
 ghost use Rattle.object_table.specs.Shape.{FitsShape};
-ghost use Rattle.object_table.specs.Tables.{IsFront, IsTableObject, HasTable};
+ghost use Rattle.object_table.specs.Tables.{IsFront, IsOfKind, HasTable};
 
 use crate::kind::TableKind;
 use crate::refusal::Refusal as RowsRefusal;
@@ -40,23 +38,22 @@ pub fn read<D: Disk + Drop>(
     requires set { FitsObjectSet set.now }
     requires shape { FitsShape kind.rows }
     ensures reads { OnlyReadsBlocks store.old store.new missing.now }
-    ensures value { IfOk result (λ rows. (stored : Contents) (objects : ℕ → Option Object) (own : List Block)
-        (blocks : ℕ → List Block) → Holds store.old stored
-        → (are : AreObjects stored birth set.now objects own blocks) → AnswersAreTrue store.old store.new
-        → HasTable kind (shape_of_dnode (are.nodes number)) (objects number) rows.items) }
+    ensures value { IfOk result (λ rows. (stored : Contents) (objects : ℕ → Option Object)
+        (own : List Block) (blocks : ℕ → List Block) → Holds store.old stored
+        → AreObjects stored birth set.now objects own blocks → AnswersAreTrue store.old store.new
+        → HasTable kind (objects number) rows.items) }
     // It has no other rows.
-    ensures one { IfOk result (λ rows. (stored : Contents) (objects : ℕ → Option Object) (own : List Block)
-        (blocks : ℕ → List Block) → Holds store.old stored
-        → (are : AreObjects stored birth set.now objects own blocks) → AnswersAreTrue store.old store.new
-        → (other : List ℕ) → HasTable kind (shape_of_dnode (are.nodes number)) (objects number) other
-        → rows.items ≡ other) }
+    ensures one { IfOk result (λ rows. (stored : Contents) (objects : ℕ → Option Object)
+        (own : List Block) (blocks : ℕ → List Block) → Holds store.old stored
+        → AreObjects stored birth set.now objects own blocks → AnswersAreTrue store.old store.new
+        → (other : List ℕ) → HasTable kind (objects number) other → rows.items ≡ other) }
     ensures cause { IfErr result (λ refusal. refusal ≢ Refusal.NoSpace) }
-    ensures known { IfErr result (λ refusal. (stored : Contents) (objects : ℕ → Option Object) (own : List Block)
-        (blocks : ℕ → List Block) → Holds store.old stored
-        → (are : AreObjects stored birth set.now objects own blocks) → AnswersAreTrue store.old store.new
+    ensures known { IfErr result (λ refusal. (stored : Contents) (objects : ℕ → Option Object)
+        (own : List Block) (blocks : ℕ → List Block) → Holds store.old stored
+        → AreObjects stored birth set.now objects own blocks → AnswersAreTrue store.old store.new
         → LossIsTolerable store.old store.new missing.now
         → (refusal ≡ Refusal.NoMemory) ⊎ ((refusal ≡ Refusal.BadPointer)
-        × ((rows : List ℕ) → ¬ HasTable kind (shape_of_dnode (are.nodes number)) (objects number) rows))) }
+        × ((rows : List ℕ) → ¬ HasTable kind (objects number) rows))) }
 {
     let count = block_count(set, store, alloc, kind, number, birth, missing)?;
     let bytes = read_blocks(set, store, alloc, number, count, birth, missing)?;
@@ -65,7 +62,8 @@ pub fn read<D: Disk + Drop>(
 
 /// Whether an object of that shape may have such a table.
 fn is_of_kind(shape: &ObjectShape, kind: TableKind) -> bool
-    ensures { IsTrue result ↔ ((shape.now.object_type ≡ kind.object_type) × (shape.now.data_sectors ≡ 8)) }
+    ensures { IsTrue result
+        ↔ ((shape.now.object_type ≡ kind.object_type) × (shape.now.data_sectors ≡ 8)) }
 {
     shape.object_type == kind.object_type && shape.data_sectors == BLOCK_SECTORS
 }
@@ -82,19 +80,18 @@ fn block_count<D: Disk + Drop>(
 ) -> Result<u64, Refusal>
     requires { FitsObjectSet set.now }
     ensures reads { OnlyReadsBlocks store.old store.new missing.now }
-    ensures value { IfOk result (λ count. (stored : Contents) (objects : ℕ → Option Object) (own : List Block)
-        (blocks : ℕ → List Block) → Holds store.old stored
-        → (are : AreObjects stored birth set.now objects own blocks) → AnswersAreTrue store.old store.new
-        → (shape : ObjectShape) × (there : Object)
-        × IsTableObject kind (shape_of_dnode (are.nodes number)) (objects number) shape there
-        × (shape.highest + 1 ≡ count)) }
+    ensures value { IfOk result (λ count. (stored : Contents) (objects : ℕ → Option Object)
+        (own : List Block) (blocks : ℕ → List Block) → Holds store.old stored
+        → AreObjects stored birth set.now objects own blocks → AnswersAreTrue store.old store.new
+        → (there : Object) × (objects number ≡ Some there) × IsOfKind kind there × EndsAt there
+        × (there.highest + 1 ≡ count)) }
     ensures cause { IfErr result (λ refusal. refusal ≢ Refusal.NoSpace) }
-    ensures known { IfErr result (λ refusal. (stored : Contents) (objects : ℕ → Option Object) (own : List Block)
-        (blocks : ℕ → List Block) → Holds store.old stored
-        → (are : AreObjects stored birth set.now objects own blocks) → AnswersAreTrue store.old store.new
+    ensures known { IfErr result (λ refusal. (stored : Contents) (objects : ℕ → Option Object)
+        (own : List Block) (blocks : ℕ → List Block) → Holds store.old stored
+        → AreObjects stored birth set.now objects own blocks → AnswersAreTrue store.old store.new
         → LossIsTolerable store.old store.new missing.now
         → (refusal ≡ Refusal.NoMemory) ⊎ ((refusal ≡ Refusal.BadPointer)
-        × ((rows : List ℕ) → ¬ HasTable kind (shape_of_dnode (are.nodes number)) (objects number) rows))) }
+        × ((rows : List ℕ) → ¬ HasTable kind (objects number) rows))) }
 {
     let found = objset::find(set, store, alloc, number, birth, missing)?;
     let Some(shape) = found else {
@@ -118,14 +115,15 @@ fn read_blocks<D: Disk + Drop>(
 ) -> Result<Vec<u8>, Refusal>
     requires { FitsObjectSet set.now }
     ensures reads { OnlyReadsBlocks store.old store.new missing.now }
-    ensures value { IfOk result (λ bytes. (stored : Contents) (objects : ℕ → Option Object) (own : List Block)
-        (blocks : ℕ → List Block) → Holds store.old stored → AreObjects stored birth set.now objects own blocks
-        → AnswersAreTrue store.old store.new → (there : Object) → objects number ≡ Some there
-        → IsFront there.array count bytes.items) }
+    ensures value { IfOk result (λ bytes. (stored : Contents) (objects : ℕ → Option Object)
+        (own : List Block) (blocks : ℕ → List Block) → Holds store.old stored
+        → AreObjects stored birth set.now objects own blocks → AnswersAreTrue store.old store.new
+        → (there : Object) → objects number ≡ Some there → IsFront there.array count bytes.items) }
     ensures cause { IfErr result (λ refusal. refusal ≢ Refusal.NoSpace) }
-    ensures known { IfErr result (λ refusal. (stored : Contents) (objects : ℕ → Option Object) (own : List Block)
-        (blocks : ℕ → List Block) → Holds store.old stored → AreObjects stored birth set.now objects own blocks
-        → AnswersAreTrue store.old store.new → LossIsTolerable store.old store.new missing.now
+    ensures known { IfErr result (λ refusal. (stored : Contents) (objects : ℕ → Option Object)
+        (own : List Block) (blocks : ℕ → List Block) → Holds store.old stored
+        → AreObjects stored birth set.now objects own blocks → AnswersAreTrue store.old store.new
+        → LossIsTolerable store.old store.new missing.now
         → (there : Object) → objects number ≡ Some there
         → (refusal ≡ Refusal.NoMemory) ⊎ ((refusal ≡ Refusal.BadPointer)
         × ((id : ℕ) × (id < count) × (there.array id ≡ None)))) }
@@ -145,9 +143,11 @@ fn read_blocks<D: Disk + Drop>(
 fn rows_of(alloc: Global, shape: RowShape, bytes: &[u8]) -> Result<Vec<u8>, Refusal>
     requires { FitsShape shape }
     ensures found { IfOk result (λ rows. SpellsRows shape bytes.now rows.items) }
-    ensures only { (rows : List ℕ) → SpellsRows shape bytes.now rows → IfOk result (λ found. found.items ≡ rows) }
+    ensures only { (rows : List ℕ) → SpellsRows shape bytes.now rows
+        → IfOk result (λ found. found.items ≡ rows) }
     ensures cause { IfErr result (λ refusal. refusal ≢ Refusal.NoSpace) }
-    ensures refused { IfErr result (λ refusal. (refusal ≡ Refusal.NoMemory) ⊎ ((refusal ≡ Refusal.BadPointer)
+    ensures refused { IfErr result (λ refusal. (refusal ≡ Refusal.NoMemory)
+        ⊎ ((refusal ≡ Refusal.BadPointer)
         × ((rows : List ℕ) → ¬ SpellsRows shape bytes.now rows))) }
 {
     match decode(alloc, shape, bytes) {

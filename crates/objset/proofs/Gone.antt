@@ -319,7 +319,7 @@ changes_gone copies birth planned later (change ∷ changes) before after lists 
 object_known : (stored : Contents) (birth : ℕ) (node : Dnode) (object : Option Object) (blocks : List Block) → IsObject stored birth node object blocks → (block : Block) → Contains blocks block → (bytes : List ℕ) × (stored block ≡ Some bytes)
 object_known stored birth Free object blocks is block held = absurd (let there : Contains [] block = subst (λ bs. Contains bs block) is.1 held in omega (arith, there.1))
 object_known stored birth (Node node) None blocks is block held = absurd is
-object_known stored birth (Node node) (Some object) blocks is block held = let there = tree_blocks_known stored birth node object.array blocks is.2 block held in (there.1, there.2)
+object_known stored birth (Node node) (Some object) blocks is block held = let there = tree_blocks_known stored birth node object.array blocks is.3 block held in (there.1, there.2)
 
 pub replaced_are_freed : ReplacedOfSetsAreFreed
 replaced_are_freed copies stored planned later bound birth set done changes objects new_objects own before are kept once order changed =

@@ -20,7 +20,7 @@ object_stands : (old new : Contents) (bound birth : ℕ) (node : Dnode) (object 
 object_stands old new bound birth Free object blocks keeps le is = is
 object_stands old new bound birth (Node node) None blocks keeps le is = is
 object_stands old new bound birth (Node node) (Some object) blocks keeps le is =
-    (is.0, is.1, tree_later new bound birth node object.array blocks le (trees_stand old new bound node object.array blocks keeps is.2))
+    (is.0, is.1, is.2, tree_later new bound birth node object.array blocks le (trees_stand old new bound node object.array blocks keeps is.3))
 
 pub object_kept : (old new : Contents) (bound birth : ℕ) (node : Dnode) (object : Option Object) (blocks : List Block) → Extends old new → bound ≤ birth
     → IsObject old bound node object blocks → IsObject new birth node object blocks
@@ -67,11 +67,12 @@ pub record HasTree (stored : Contents) (birth : ℕ) (node : ObjectNode) (object
   pub is : object ≡ Some there
   pub object_type : there.object_type ≡ node.object_type
   pub data_sectors : there.data_sectors ≡ node.data_sectors
+  pub highest : there.highest ≡ node.highest
   pub tree : IsTree stored birth node there.array blocks
 
 has_tree : (stored : Contents) (birth : ℕ) (node : ObjectNode) (object : Option Object) (blocks : List Block) → IsObject stored birth (Node node) object blocks → HasTree stored birth node object blocks
 has_tree stored birth node None blocks is = absurd is
-has_tree stored birth node (Some object) blocks is = record { there = object; is = refl; object_type = is.0; data_sectors = is.1; tree = is.2 }
+has_tree stored birth node (Some object) blocks is = record { there = object; is = refl; object_type = is.0; data_sectors = is.1; highest = is.2; tree = is.3 }
 
 pub object_there : (stored : Contents) (birth : ℕ) (found dnode : Dnode) (node : ObjectNode) (object : Option Object) (blocks : List Block) → found ≡ dnode → found ≡ Node node
     → IsObject stored birth dnode object blocks → HasTree stored birth node object blocks

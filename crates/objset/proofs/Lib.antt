@@ -1,6 +1,7 @@
 pub mod Kept
 pub mod Numbers
 pub mod Exchanged
+pub mod Highest
 pub mod Room
 pub mod Shapes
 pub mod Trees

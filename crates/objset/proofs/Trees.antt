@@ -12,32 +12,34 @@ use Rattle.dnode.specs.declared.node.ObjectNode.{ObjectNode}
 use Rattle.dnode_tree.specs.declared.writes.BlockWrite.{BlockWrite}
 use Rattle.dnode_tree.specs.declared.writes.CopyCounts.{CopyCounts}
 use Rattle.dnode_tree.specs.declared.writes.Rewrite.{Rewrite}
-use Rattle.dnode_tree.specs.Rewriting.{IsExchanged, IsRewritten}
+use Rattle.dnode_tree.specs.Rewriting.{IsExchanged, IsGrown, IsRewritten}
 use Rattle.dnode_tree.specs.Writes.{written}
 use Rattle.dnode_tree.proofs.Exchanging.{front_gone}
 use Rattle.objset.proofs.Exchanged.{all_gone}
+use Rattle.objset.proofs.Highest.{highest_is}
 use Rattle.objset.proofs.Kept.{HasTree, no_object}
 use Rattle.objset.specs.declared.changes.Change.{Change}
 use Rattle.objset.specs.declared.changes.Change.TheVariants as changes
-use Rattle.objset.specs.Changes.{AreWhole, MayChange, after_change}
-use Rattle.objset.specs.Changing.{IsObjectChanged}
-use Rattle.objset.specs.Objects.{Object, IsObject, object_of}
+use Rattle.objset.specs.Changes.{AreWhole, MayChange, after_change, highest_of}
+use Rattle.objset.specs.Changing.{IsObjectChanged, object_with}
+use Rattle.objset.specs.Objects.{Object, IsObject}
 
 -- an object of the node's type and size is the node's
-object_is : (node : ObjectNode) (there : Object) (array : ℕ → Option (List ℕ)) → there.object_type ≡ node.object_type → there.data_sectors ≡ node.data_sectors
-    → object_of node array ≡ record there { array = array }
-object_is node there array object_type data_sectors =
-    ap (λ t. let made : Object = record { object_type = t; data_sectors = node.data_sectors; array = array } in made) (sym object_type)
-    ∙ ap (λ n. let made : Object = record { object_type = there.object_type; data_sectors = n; array = array } in made) (sym data_sectors)
+object_is : (node : ObjectNode) (there : Object) (writes : List BlockWrite) (highest id : ℕ) (array : ℕ → Option (List ℕ)) → there.object_type ≡ node.object_type → there.data_sectors ≡ node.data_sectors
+    → id ≡ highest → object_with node writes highest array ≡ record there { highest = highest_of writes id; array = written writes array }
+object_is node there writes highest id array object_type data_sectors same =
+    ap (λ t. let made : Object = record { object_type = t; data_sectors = node.data_sectors; highest = highest_of writes highest; array = written writes array } in made) (sym object_type)
+    ∙ ap (λ n. let made : Object = record { object_type = there.object_type; data_sectors = n; highest = highest_of writes highest; array = written writes array } in made) (sym data_sectors)
+    ∙ ap (λ h. let made : Object = record { object_type = there.object_type; data_sectors = there.data_sectors; highest = highest_of writes h; array = written writes array } in made) (sym same)
 
-pub tree_changed : (copies made : CopyCounts) (planned later : Contents) (birth : ℕ) (done : Rewrite) (node : ObjectNode) (array : ℕ → Option (List ℕ)) (before noted noted_later : List Block)
-    → made ≡ copies → done.node.object_type ≡ node.object_type → done.node.data_sectors ≡ node.data_sectors → noted_later ≡ noted ++ done.replaced.items
-    → IsRewritten made planned later birth done array before
-    → IsObjectChanged copies planned later birth (Node done.node) (Some (object_of node array)) before noted noted_later
-tree_changed copies made planned later birth done node array before noted noted_later same object_type data_sectors noted_are rewritten = record {
+pub tree_changed : (copies made : CopyCounts) (planned later : Contents) (birth : ℕ) (done : Rewrite) (node : ObjectNode) (writes : List BlockWrite) (array : ℕ → Option (List ℕ)) (before noted noted_later : List Block)
+    → made ≡ copies → IsGrown node done.node writes → noted_later ≡ noted ++ done.replaced.items
+    → IsRewritten made planned later birth done (written writes array) before
+    → IsObjectChanged copies planned later birth (Node done.node) (Some (object_with node writes node.highest array)) before noted noted_later
+tree_changed copies made planned later birth done node writes array before noted noted_later same grown noted_are rewritten = record {
   kept = rewritten.kept;
   blocks = rewritten.blocks;
-  is = (sym object_type, sym data_sectors, rewritten.tree);
+  is = (sym grown.object_type, sym grown.data_sectors, sym (highest_is node done.node writes grown), rewritten.tree);
   gone = done.replaced.items;
   noted_are = noted_are;
   exchanged = subst (λ counts. IsExchanged counts birth planned later before rewritten.blocks done.replaced.items) same rewritten.exchanged;
@@ -76,7 +78,7 @@ MayAndIs copies store stored planned birth after change object blocks noted note
 module _ (copies : CopyCounts) (store : Store) (stored planned : Contents) (bound birth : ℕ) (after : Dnode) (change : Change) (object : Option Object) (blocks noted noted_later : List Block) where
   pub is_created : (dnode : Dnode) (node : ObjectNode) (writes : Vec BlockWrite Global) (list : List BlockWrite) → change ≡ changes.Create node.object_type node.data_sectors writes → dnode ≡ Free
       → IsObject stored bound dnode object blocks → list ≡ writes.items
-      → (later : Contents) × Plans store stored later × IsObjectChanged copies planned later birth after (Some (object_of node (written list (λ id. None)))) [] noted noted_later
+      → (later : Contents) × Plans store stored later × IsObjectChanged copies planned later birth after (Some (object_with node list 0 (λ id. None))) [] noted noted_later
       → MayAndIs copies store stored planned birth after change object blocks noted noted_later
   is_created dnode node writes list is free there items made =
       let none = no_object stored bound dnode dnode object blocks refl free there in
@@ -84,13 +86,13 @@ module _ (copies : CopyCounts) (store : Store) (stored planned : Contents) (boun
         none.0,
         made.0,
         made.1,
-        subst (λ held. IsObjectChanged copies planned made.0 birth after (Some (object_of node (written writes.items (λ id. None)))) held noted noted_later) (sym none.1)
-            (subst (λ ws. IsObjectChanged copies planned made.0 birth after (Some (object_of node (written ws (λ id. None)))) [] noted noted_later) items made.2),
+        subst (λ held. IsObjectChanged copies planned made.0 birth after (Some (object_with node writes.items 0 (λ id. None))) held noted noted_later) (sym none.1)
+            (subst (λ ws. IsObjectChanged copies planned made.0 birth after (Some (object_with node ws 0 (λ id. None))) [] noted noted_later) items made.2),
       )
 
   pub is_put : (node : ObjectNode) (writes : Vec BlockWrite Global) (list : List BlockWrite) → change ≡ changes.Put writes → (has : HasTree stored bound node object blocks) → list ≡ writes.items
       → AreWhole node.data_sectors list
-      → (later : Contents) × Plans store stored later × IsObjectChanged copies planned later birth after (Some (object_of node (written list has.there.array))) blocks noted noted_later
+      → (later : Contents) × Plans store stored later × IsObjectChanged copies planned later birth after (Some (object_with node list node.highest has.there.array)) blocks noted noted_later
       → MayAndIs copies store stored planned birth after change object blocks noted noted_later
   is_put node writes list is has items whole made =
       subst (λ it. MayAndIs copies store stored planned birth after it object blocks noted noted_later) (sym is)
@@ -98,13 +100,13 @@ module _ (copies : CopyCounts) (store : Store) (stored planned : Contents) (boun
         subst (λ ws. AreWhole has.there.data_sectors ws) items (subst (λ sectors. AreWhole sectors list) (sym has.data_sectors) whole),
         made.0,
         made.1,
-        subst (λ ws. IsObjectChanged copies planned made.0 birth after (Some (record has.there { array = written ws has.there.array })) blocks noted noted_later) items
-            (subst (λ it. IsObjectChanged copies planned made.0 birth after (Some it) blocks noted noted_later) (object_is node has.there (written list has.there.array) has.object_type has.data_sectors) made.2),
+        subst (λ ws. IsObjectChanged copies planned made.0 birth after (Some (record has.there { highest = highest_of ws has.there.highest; array = written ws has.there.array })) blocks noted noted_later) items
+            (subst (λ it. IsObjectChanged copies planned made.0 birth after (Some it) blocks noted noted_later) (object_is node has.there list node.highest has.there.highest has.there.array has.object_type has.data_sectors has.highest) made.2),
       ))
 
   pub is_replaced : (node : ObjectNode) (writes : Vec BlockWrite Global) (list : List BlockWrite) → change ≡ changes.Replace writes → (has : HasTree stored bound node object blocks) → list ≡ writes.items
       → AreWhole node.data_sectors list
-      → (later : Contents) × Plans store stored later × IsObjectChanged copies planned later birth after (Some (object_of node (written list (λ id. None)))) blocks noted noted_later
+      → (later : Contents) × Plans store stored later × IsObjectChanged copies planned later birth after (Some (object_with node list 0 (λ id. None))) blocks noted noted_later
       → MayAndIs copies store stored planned birth after change object blocks noted noted_later
   is_replaced node writes list is has items whole made =
       subst (λ it. MayAndIs copies store stored planned birth after it object blocks noted noted_later) (sym is)
@@ -112,8 +114,8 @@ module _ (copies : CopyCounts) (store : Store) (stored planned : Contents) (boun
         subst (λ ws. AreWhole has.there.data_sectors ws) items (subst (λ sectors. AreWhole sectors list) (sym has.data_sectors) whole),
         made.0,
         made.1,
-        subst (λ ws. IsObjectChanged copies planned made.0 birth after (Some (record has.there { array = written ws (λ id. None) })) blocks noted noted_later) items
-            (subst (λ it. IsObjectChanged copies planned made.0 birth after (Some it) blocks noted noted_later) (object_is node has.there (written list (λ id. None)) has.object_type has.data_sectors) made.2),
+        subst (λ ws. IsObjectChanged copies planned made.0 birth after (Some (record has.there { highest = highest_of ws 0; array = written ws (λ id. None) })) blocks noted noted_later) items
+            (subst (λ it. IsObjectChanged copies planned made.0 birth after (Some it) blocks noted noted_later) (object_is node has.there list 0 0 (λ id. None) has.object_type has.data_sectors refl) made.2),
       ))
 
   pub is_freed : (node : ObjectNode) → change ≡ changes.Free → after ≡ Free → HasTree stored bound node object blocks → Plans store stored planned → noted_later ≡ noted ++ blocks

@@ -1,5 +1,5 @@
 -- Changes of the objects of a set.
-use Rattle.std.specs.Prelude.{ℕ, ◌≡◌, ◌≢◌, ◌⊎◌, ◌*◌, ◌^◌, ◌<◌, ◌≤◌, ◌==◌, if◌then◌else◌, List, [], ◌∷◌, ◌++◌, length, Option, Some, None, IsSomeAnd, All}
+use Rattle.std.specs.Prelude.{ℕ, ◌≡◌, ◌≢◌, ◌⊎◌, ◌*◌, ◌^◌, ◌<◌, ◌≤◌, ◌==◌, if◌then◌else◌, max, List, [], ◌∷◌, ◌++◌, length, Option, Some, None, IsSomeAnd, All}
 use Rattle.block_pointer.specs.declared.block.Block.{Block}
 use Rattle.block_store.specs.declared.block.CopyCount.{CopyCount}
 use Rattle.block_store.specs.Blocks.{Contents, Extends, count_of}
@@ -32,14 +32,21 @@ IsGoodChange (Put writes) = AreGoodWrites writes.items
 IsGoodChange Free = Unit {0}
 IsGoodChange (Replace writes) = AreGoodWrites writes.items
 
+-- the greatest of the ids that are written and this one
+abbrev pub highest_of : List BlockWrite → ℕ → ℕ
+highest_of [] id = id
+highest_of (write ∷ writes) id = max write.id (highest_of writes id)
+
 -- what becomes of an object by a change
 abbrev pub after_change : Change → Option Object → Option Object
 after_change (Create object_type sectors writes) object =
-    Some (record { object_type = object_type; data_sectors = sectors; array = written writes.items (λ id. None) })
-after_change (Put writes) (Some object) = Some (record object { array = written writes.items object.array })
+    Some (record { object_type = object_type; data_sectors = sectors; highest = highest_of writes.items 0; array = written writes.items (λ id. None) })
+after_change (Put writes) (Some object) =
+    Some (record object { highest = highest_of writes.items object.highest; array = written writes.items object.array })
 after_change (Put writes) None = None
 after_change Free object = None
-after_change (Replace writes) (Some object) = Some (record object { array = written writes.items (λ id. None) })
+after_change (Replace writes) (Some object) =
+    Some (record object { highest = highest_of writes.items 0; array = written writes.items (λ id. None) })
 after_change (Replace writes) None = None
 
 -- the change may be made of what is there: an object is created where there is none, and written (whole blocks), freed or replaced (by whole blocks)

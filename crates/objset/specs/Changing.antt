@@ -20,8 +20,13 @@ use Rattle.dnode_tree.specs.Writes.{written, IsForRoom}
 use Rattle.objset.specs.declared.changes.Change.{Change}
 use Rattle.objset.specs.declared.changes.Changing.{Changing}
 use Rattle.objset.specs.declared.changes.ObjectChange.{ObjectChange}
-use Rattle.objset.specs.Changes.{changed, AreExchanged, MayChange, after_change, object_copies}
-use Rattle.objset.specs.Objects.{Object, IsObject, AreObjects, object_of}
+use Rattle.objset.specs.Changes.{changed, highest_of, AreExchanged, MayChange, after_change, object_copies}
+use Rattle.objset.specs.Objects.{Object, IsObject, AreObjects}
+
+-- an object of the node's type and size, with writes over an array that ends at this id
+abbrev pub object_with : ObjectNode → List BlockWrite → ℕ → (ℕ → Option (List ℕ)) → Object
+object_with node writes highest array =
+    record { object_type = node.object_type; data_sectors = node.data_sectors; highest = highest_of writes highest; array = written writes array }
 
 -- The dnode is that of the object now. The object's blocks that are gone were noted.
 pub record IsObjectChanged (copies : CopyCounts) (planned later : Contents) (birth : ℕ) (node : Dnode) (object : Option Object) (before noted noted_later : List Block) : Type 0 where
@@ -95,7 +100,7 @@ WritesObject this old new node writes noted noted_later after =
     (stored planned : Contents) (bound : ℕ) (array : ℕ → Option (List ℕ)) (blocks : List Block) → Plans old stored planned
     → IsTree stored bound node array blocks → bound ≤ this.birth → AnswersAreTrue old new
     → (later : Contents) × Plans new stored later
-    × IsObjectChanged (object_copies this.copies) planned later this.birth after (Some (object_of node (written writes array))) blocks noted noted_later
+    × IsObjectChanged (object_copies this.copies) planned later this.birth after (Some (object_with node writes node.highest array)) blocks noted noted_later
 
 -- the same where it has the writes alone
 abbrev pub ReplacesObject : Changing → Store → Store → ObjectNode → List BlockWrite → List Block → List Block → Dnode → Type 0
@@ -103,7 +108,7 @@ ReplacesObject this old new node writes noted noted_later after =
     (stored planned : Contents) (bound : ℕ) (array : ℕ → Option (List ℕ)) (blocks : List Block) → Plans old stored planned
     → IsTree stored bound node array blocks → bound ≤ this.birth → AnswersAreTrue old new
     → (later : Contents) × Plans new stored later
-    × IsObjectChanged (object_copies this.copies) planned later this.birth after (Some (object_of node (written writes (λ id. None)))) blocks noted noted_later
+    × IsObjectChanged (object_copies this.copies) planned later this.birth after (Some (object_with node writes 0 (λ id. None))) blocks noted noted_later
 
 -- where the store has such a tree, its answers are true and few disks are lost, the refusal is want of memory or of room
 abbrev pub LacksRoomForObject : Changing → Store → Store → ObjectNode → Refusal → Type 0

@@ -11,10 +11,11 @@ pub enum Change {
         object_type: u8,
         /// The size of a data block in sectors of 512 bytes: from 1 to 256.
         data_sectors: u32,
-        /// Its first data, as those of `Put`.
+        /// Its first data, as those of `Put`. Its highest block id is that of the last of them, 0 where there is none.
         writes: Vec<BlockWrite>,
     },
-    /// Data blocks of an object are written, whole, in the order of their ids, which are below 128^5.
+    /// Data blocks of an object are written, whole, in the order of their ids, which are below 128^5. Its highest block id
+    /// becomes that of the last of them, where that is greater.
     Put {
         writes: Vec<BlockWrite>,
     },

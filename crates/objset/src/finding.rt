@@ -7,7 +7,7 @@ ghost use Rattle.block_store.specs.Store.{Holds};
 ghost use Rattle.dnode.specs.ObjectSet.{FitsObjectSet};
 ghost use Rattle.dnode_slots.specs.Found.{IsNodeRefused};
 ghost use Rattle.objset.specs.Objects.{Object, AreObjects};
-ghost use Rattle.objset.specs.Shapes.{shape_of_dnode, HasShape, IsShapeFound};
+ghost use Rattle.objset.specs.Shapes.{HasShape, IsShapeFound};
 
 use crate::shape::ObjectShape;
 use block_store::{BlockStore, Refusal};
@@ -29,19 +29,20 @@ pub fn find<D: Disk + Drop>(
     requires { FitsObjectSet set.now }
     ensures reads { OnlyReadsBlocks store.old store.new missing.now }
     ensures fits { IfOk result (λ found. IfSome found (λ shape. shape.highest < 128 ^ 5)) }
-    ensures value { IfOk result (λ found. (stored : Contents) (objects : ℕ → Option Object) (own : List Block)
-        (blocks : ℕ → List Block) → Holds store.old stored
-        → (are : AreObjects stored birth set.now objects own blocks) → AnswersAreTrue store.old store.new
-        → (found ≡ shape_of_dnode (are.nodes number)) × HasShape (objects number) found) }
+    ensures value { IfOk result (λ found. (stored : Contents) (objects : ℕ → Option Object)
+        (own : List Block) (blocks : ℕ → List Block) → Holds store.old stored
+        → AreObjects stored birth set.now objects own blocks → AnswersAreTrue store.old store.new
+        → HasShape (objects number) found) }
 
     // Whatever the set is: what was read, and on a refusal its cause.
     ensures found { IfOk result (IsShapeFound store.old.spaces set.now birth number) }
-    ensures refused { IfErr result (IsNodeRefused store.old store.new missing.now set.now birth number) }
+    ensures refused { IfErr result
+        (IsNodeRefused store.old store.new missing.now set.now birth number) }
     ensures cause { IfErr result (λ refusal. refusal ≢ Refusal.NoSpace) }
-    ensures known { IfErr result (λ refusal. (stored : Contents) (objects : ℕ → Option Object) (own : List Block)
-        (blocks : ℕ → List Block) → Holds store.old stored → AreObjects stored birth set.now objects own blocks
-        → AnswersAreTrue store.old store.new → LossIsTolerable store.old store.new missing.now
-        → refusal ≡ Refusal.NoMemory) }
+    ensures known { IfErr result (λ refusal. (stored : Contents) (objects : ℕ → Option Object)
+        (own : List Block) (blocks : ℕ → List Block) → Holds store.old stored
+        → AreObjects stored birth set.now objects own blocks → AnswersAreTrue store.old store.new
+        → LossIsTolerable store.old store.new missing.now → refusal ≡ Refusal.NoMemory) }
 {
     let dnode = dnode_slots::get(set, store, alloc, number, birth, missing)?;
     Ok(ObjectShape::of_dnode(&dnode))

@@ -2,7 +2,6 @@ use Rattle.std.proofs.Common.{◌≡◌, ℕ, List, inl, inr, ⊎_elim, sym, sub
 use Rattle.std.proofs.lemmas.Result.{IfOk-weaker, IfErr-weaker}
 use Rattle.dnode_tree.proofs.Refusing.{passed_on}
 use Rattle.object_table.specs.Tables.{HasTable}
-use Rattle.objset.specs.Shapes.{shape_of_dnode}
 use Rattle.meta_objset.specs.Reading.{directory_kind}
 use Rattle.meta_objset.proofs.reading.read_directory.Goals as goal
 
@@ -17,7 +16,7 @@ returns-clause-value g c =
     IfOk-weaker c.directory_of.result _ _
     (λ directory is stored objects own blocks held are honest.
     let rows = c.in_ok-rows.ensures.value stored objects own blocks held are honest in
-    (is.0, subst (λ (bytes : List ℕ). HasTable directory_kind (shape_of_dnode (are.nodes 1)) (objects 1) bytes) (sym c.deref.ensures.value ∙ is.1) rows))
+    (is.0, subst (λ (bytes : List ℕ). HasTable directory_kind (objects 1) bytes) (sym c.deref.ensures.value ∙ is.1) rows))
     c.directory_of.ensures.found
 
 pub returns-clause-known : goal.returns-clause-known

@@ -1,9 +1,10 @@
-use Rattle.std.proofs.Common.{◌≡◌, ◌^◌, ◌<◌, Option, Some, None, inl, inr, refl, sym, ap, subst, ◌∙◌, arith}
+use Rattle.std.proofs.Common.{◌≡◌, ◌+◌, ◌^◌, ◌<◌, Option, inl, inr, refl, sym, ap, subst, ◌∙◌, arith}
 use Rattle.std.specs.Prelude.{IfSome}
 use Rattle.dnode_tree.proofs.Refusing.{passed_on}
 use Rattle.objset.specs.declared.shape.ObjectShape.{ObjectShape}
 use Rattle.objset.specs.Shapes.{HasShape}
-use Rattle.object_table.proofs.Tables.{shaped}
+use Rattle.objset.proofs.Shapes.{shaped, unshaped}
+use Rattle.object_table.proofs.Tables.{table_of}
 use Rattle.object_table.proofs.reading.block_count.Goals as goal
 
 pub returns-in_err-found-clause-known : goal.returns-in_err-found-clause-known
@@ -13,17 +14,18 @@ returns-in_err-found-clause-known g c =
 pub returns-in_default-clause-known : goal.returns-in_default-clause-known
 returns-in_default-clause-known g c = λ stored objects own blocks held are honest few.
     let known = c.in_ok-found.ensures.value stored objects own blocks held are honest in
-    inr (refl, λ rows has. let clash : None ≡ Some has.shape = sym c.in_default.is ∙ known.0 ∙ has.is.shape_is in absurd cc)
+    let none = subst (λ (found : Option ObjectShape). HasShape (objects c.args.number) found) c.in_default.is known in
+    inr (refl, λ rows has. unshaped (objects c.args.number) has.there none has.is)
 
 pub returns-then-not-is_of_kind-clause-known : goal.returns-then-not-is_of_kind-clause-known
 returns-then-not-is_of_kind-clause-known g c = λ stored objects own blocks held are honest few.
     let known = c.in_ok-found.ensures.value stored objects own blocks held are honest in
+    let there = shaped (objects c.args.number) c.in-Some.shape (subst (λ (found : Option ObjectShape). HasShape (objects c.args.number) found) c.in-Some.is known) in
     inr (
       refl,
       λ rows has.
-          let both : Some c.in-Some.shape ≡ Some has.shape = sym c.in-Some.is ∙ known.0 ∙ has.is.shape_is in
-          let same : c.in-Some.shape ≡ has.shape = cc in
-          let test = c.is_of_kind.ensures.1 (ap (λ (s : ObjectShape). s.object_type) same ∙ has.is.object_type, ap (λ (s : ObjectShape). s.data_sectors) same ∙ has.is.sectors) in
+          let kind = (table_of c.args.kind (objects c.args.number) there.there rows there.is has).0 in
+          let test = c.is_of_kind.ensures.1 (sym there.object_type ∙ kind.0, sym there.sectors ∙ kind.1) in
           absurd cc,
     )
 
@@ -35,7 +37,6 @@ overflow_add-result g c =
 pub returns-clause-value : goal.returns-clause-value
 returns-clause-value g c = λ stored objects own blocks held are honest.
     let known = c.in_ok-found.ensures.value stored objects own blocks held are honest in
-    let has = subst (λ (found : Option ObjectShape). HasShape (objects c.args.number) found) c.in-Some.is known.1 in
-    let there = shaped (objects c.args.number) c.in-Some.shape has in
+    let there = shaped (objects c.args.number) c.in-Some.shape (subst (λ (found : Option ObjectShape). HasShape (objects c.args.number) found) c.in-Some.is known) in
     let kind = c.is_of_kind.ensures.0 c.if-not-is_of_kind.false in
-    (c.in-Some.shape, there.0, record { shape_is = sym known.0 ∙ c.in-Some.is; there_is = there.1; object_type = kind.0; sectors = kind.1 }, refl)
+    (there.there, there.is, (there.object_type ∙ kind.0, there.sectors ∙ kind.1), there.ends, ap (λ n. n + 1) there.highest)

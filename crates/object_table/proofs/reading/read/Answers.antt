@@ -23,8 +23,8 @@ returns-in_err-bytes-clause-known g c =
     (λ stored objects own blocks held are honest few.
     let object = c.in_ok-count.ensures.value stored objects own blocks held are (true_before _ _ _ _ first rest honest) in
     ⊎_elim (λ memory. inl memory)
-    (λ bad. inr (bad.0, λ rows has. (table_of _ _ _ object.0 object.1 rows object.2 has).0 bad.1.0 (omega (arith, bad.1.1, object.3)) bad.1.2))
-    (c.in_err-bytes.ensures.known stored objects own blocks (first.keeps stored held) are (true_after _ _ _ _ first rest honest) (few_after _ _ _ _ first rest few) object.1 object.2.there_is))
+    (λ bad. inr (bad.0, λ rows has. (table_of _ _ object.0 rows object.1 has).1.no_hole bad.1.0 (omega (arith, bad.1.1, object.4)) bad.1.2))
+    (c.in_err-bytes.ensures.known stored objects own blocks (first.keeps stored held) are (true_after _ _ _ _ first rest honest) (few_after _ _ _ _ first rest few) object.0 object.1))
 
 pub returns-clause-reads : goal.returns-clause-reads
 returns-clause-reads g c = reads_on _ _ _ _ c.in_ok-count.ensures.reads c.in_ok-bytes.ensures.reads
@@ -36,13 +36,16 @@ returns-clause-value g c =
     IfOk-weaker c.rows_of.result _ _
     (λ rows spells stored objects own blocks held are honest.
     let object = c.in_ok-count.ensures.value stored objects own blocks held are (true_before _ _ _ _ first rest honest) in
-    let front = c.in_ok-bytes.ensures.value stored objects own blocks (first.keeps stored held) are (true_after _ _ _ _ first rest honest) object.1 object.2.there_is in
+    let front = c.in_ok-bytes.ensures.value stored objects own blocks (first.keeps stored held) are (true_after _ _ _ _ first rest honest) object.0 object.1 in
     record {
-      shape = object.0;
-      there = object.1;
-      is = object.2;
-      no_hole = λ id le. front.0 id (omega (arith, le, object.3));
-      spelled = subst (λ (bytes : List ℕ). SpellsRows c.args.kind.rows bytes rows.items) (c.deref.ensures.value ∙ front.1 ∙ ap (bytes_to object.1.array) (sym object.3)) spells;
+      there = object.0;
+      is = object.1;
+      of_kind = object.2;
+      table = record {
+        no_hole = λ id le. front.0 id (omega (arith, le, object.4));
+        behind = object.3;
+        spelled = subst (λ (bytes : List ℕ). SpellsRows c.args.kind.rows bytes rows.items) (c.deref.ensures.value ∙ front.1 ∙ ap (bytes_to object.0.array) (sym object.4)) spells;
+      };
     })
     c.rows_of.ensures.found
 
@@ -53,11 +56,11 @@ returns-clause-known g c =
     IfErr-weaker c.rows_of.result _ _
     (λ refusal why stored objects own blocks held are honest few.
     let object = c.in_ok-count.ensures.value stored objects own blocks held are (true_before _ _ _ _ first rest honest) in
-    let front = c.in_ok-bytes.ensures.value stored objects own blocks (first.keeps stored held) are (true_after _ _ _ _ first rest honest) object.1 object.2.there_is in
+    let front = c.in_ok-bytes.ensures.value stored objects own blocks (first.keeps stored held) are (true_after _ _ _ _ first rest honest) object.0 object.1 in
     ⊎_elim (λ memory. inl memory)
     (λ bad. inr (
       bad.0,
-      λ rows has. bad.1 rows (subst (λ (bytes : List ℕ). SpellsRows c.args.kind.rows bytes rows) (sym (c.deref.ensures.value ∙ front.1 ∙ ap (bytes_to object.1.array) (sym object.3))) (table_of _ _ _ object.0 object.1 rows object.2 has).1),
+      λ rows has. bad.1 rows (subst (λ (bytes : List ℕ). SpellsRows c.args.kind.rows bytes rows) (sym (c.deref.ensures.value ∙ front.1 ∙ ap (bytes_to object.0.array) (sym object.4))) (table_of _ _ object.0 rows object.1 has).1.spelled),
     ))
     why)
     c.rows_of.ensures.refused
@@ -69,6 +72,6 @@ returns-clause-one g c =
     IfOk-weaker c.rows_of.result _ _
     (λ rows one stored objects own blocks held are honest other has.
     let object = c.in_ok-count.ensures.value stored objects own blocks held are (true_before _ _ _ _ first rest honest) in
-    let front = c.in_ok-bytes.ensures.value stored objects own blocks (first.keeps stored held) are (true_after _ _ _ _ first rest honest) object.1 object.2.there_is in
-    one other (subst (λ (bytes : List ℕ). SpellsRows c.args.kind.rows bytes other) (sym (c.deref.ensures.value ∙ front.1 ∙ ap (bytes_to object.1.array) (sym object.3))) (table_of _ _ _ object.0 object.1 other object.2 has).1))
+    let front = c.in_ok-bytes.ensures.value stored objects own blocks (first.keeps stored held) are (true_after _ _ _ _ first rest honest) object.0 object.1 in
+    one other (subst (λ (bytes : List ℕ). SpellsRows c.args.kind.rows bytes other) (sym (c.deref.ensures.value ∙ front.1 ∙ ap (bytes_to object.0.array) (sym object.4))) (table_of _ _ object.0 other object.1 has).1.spelled))
     (ok_for_all c.rows_of.result (λ (rows : List ℕ). SpellsRows c.args.kind.rows c.deref.result.now rows) (λ found rows. found.items ≡ rows) c.rows_of.ensures.only)

@@ -15,10 +15,8 @@ returns-in_err-dnode-clause-refused g c = passed_on _ _ _ c.from_residual.ensure
 
 pub returns-clause-value : goal.returns-clause-value
 returns-clause-value g c = λ stored objects own blocks held are honest.
-    let same = c.of_dnode.ensures ∙ ap shape_of_dnode (c.in_ok-dnode.ensures.value stored are.nodes own held are.dnodes honest) in (
-      same,
-      subst (λ (found : Option ObjectShape). HasShape (objects c.args.number) found) (sym same) (has_shape stored c.args.birth (are.nodes c.args.number) (objects c.args.number) (blocks c.args.number) (are.each c.args.number)),
-    )
+    let same = c.of_dnode.ensures ∙ ap shape_of_dnode (c.in_ok-dnode.ensures.value stored are.nodes own held are.dnodes honest) in
+    subst (λ (found : Option ObjectShape). HasShape (objects c.args.number) found) (sym same) (has_shape stored c.args.birth (are.nodes c.args.number) (objects c.args.number) (blocks c.args.number) (are.each c.args.number))
 
 pub returns-clause-found : goal.returns-clause-found
 returns-clause-found g c = (c.in_ok-dnode.dnode, c.in_ok-dnode.ensures.found, c.of_dnode.ensures)

@@ -1,6 +1,6 @@
 use Rattle.std.proofs.Common.{◌≡◌, ◌++◌, subst}
 use Rattle.dnode_tree.proofs.Refusing.{passed_on}
-use Rattle.dnode_tree.specs.Writes.{HasNoRoom, written}
+use Rattle.dnode_tree.specs.Writes.{HasNoRoom}
 use Rattle.objset.proofs.Exchanged.{appended}
 use Rattle.objset.proofs.Room.{no_room_for_object}
 use Rattle.objset.proofs.Trees.{tree_changed}
@@ -20,6 +20,6 @@ returns-clause-changed g c = λ stored planned bound array blocks plans tree le 
     appended c.args.replaced.now.items c.deref.result.now c.extend_from_slice.new.self.items c.in_ok-done.done.replaced.items c.in_ok-extend_from_slice.ensures.items c.deref.ensures.value in (
       there.0,
       there.1,
-      tree_changed (object_copies c.args.self.copies) c.of_objects.result planned there.0 c.args.self.birth c.in_ok-done.done c.args.node.now (written c.args.writes.now array) blocks c.args.replaced.now.items c.extend_from_slice.new.self.items
-          c.of_objects.ensures c.in_ok-done.ensures.grown.object_type c.in_ok-done.ensures.grown.data_sectors noted_are there.2,
+      tree_changed (object_copies c.args.self.copies) c.of_objects.result planned there.0 c.args.self.birth c.in_ok-done.done c.args.node.now c.args.writes.now array blocks c.args.replaced.now.items c.extend_from_slice.new.self.items
+          c.of_objects.ensures c.in_ok-done.ensures.grown noted_are there.2,
     )
