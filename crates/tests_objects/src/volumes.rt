@@ -1,4 +1,7 @@
 //! Volumes by their object sets.
+ghost use Rattle.std.specs.Prelude.{◌≡◌, ◌+◌, ◌≤◌, IfOk};
+ghost use Rattle.volume.specs.Volume.{size_of, block_size_of, HasShape};
+
 use crate::stores::{Store, new_store, store_plan};
 use pool_model::{Bytes, Name, Write};
 use std::alloc::{AllocError, Global};
@@ -37,7 +40,9 @@ fn two_writes(alloc: Global) -> Result<Vec<Write>, AllocError> {
 }
 
 /// A volume of zeros, once it is stored.
-fn made(store: &mut Store, alloc: Global) -> Result<VolumeSet, Refusal> {
+fn made(store: &mut Store, alloc: Global) -> Result<VolumeSet, Refusal>
+    ensures { IfOk result (λ volume. HasShape volume 153600 512) }
+{
     store.begin_plan(1);
     let volume = VolumeSet::create(store, alloc, SIZE, BLOCK_SIZE, 1)?;
     store_plan(store);
@@ -45,7 +50,9 @@ fn made(store: &mut Store, alloc: Global) -> Result<VolumeSet, Refusal> {
 }
 
 /// The volume after the writes, once it is stored.
-fn rewritten(volume: &VolumeSet, store: &mut Store, alloc: Global) -> Result<Rewritten, Refusal> {
+fn rewritten(volume: &VolumeSet, store: &mut Store, alloc: Global) -> Result<Rewritten, Refusal>
+    ensures { IfOk result (λ done. HasShape done.volume (size_of volume.now) (block_size_of volume.now)) }
+{
     let name = name(alloc)?;
     let writes = two_writes(alloc)?;
     let changes = GroupWrites {
@@ -59,42 +66,34 @@ fn rewritten(volume: &VolumeSet, store: &mut Store, alloc: Global) -> Result<Rew
     Ok(done)
 }
 
-/// All bytes of a volume.
-fn bytes_of(
+/// Bytes of a volume whose first byte is in a block, and the last in the next one.
+fn bytes_at(
     volume: &VolumeSet,
     store: &mut Store,
     alloc: Global,
+    offset: u64,
     birth: u64,
-) -> Result<Vec<u8>, Refusal> {
-    let len = volume.size().min(1 << 20);
-    volume.read(store, alloc, birth, 0, len, &[])
+) -> Result<Vec<u8>, Refusal>
+    requires few { offset + 768 ≤ size_of volume.now }
+{
+    volume.read(store, alloc, birth, offset, 768, &[])
 }
 
-/// The byte of each place after the writes.
-fn byte_after(at: u64) -> u8 {
-    match at {
-        0..512 => 5,
-        FAR..102_656 => 6,
-        _ => 0,
-    }
-}
-
-fn is_after(bytes: &[u8]) -> bool {
-    bytes.len() as u64 == SIZE
-        && bytes.iter().enumerate().all(|(at, byte)| *byte == byte_after(at as u64))
-}
-
-fn is_zeros(bytes: &[u8]) -> bool {
-    bytes.len() as u64 == SIZE && bytes.iter().all(|byte| *byte == 0)
+/// Whether the first and the next bytes have these values.
+fn is_of(bytes: &[u8], count: usize, first: u8, next: u8) -> bool {
+    bytes.len() == 768
+        && bytes.iter().enumerate().all(|(at, byte)| *byte == if at < count { first } else { next })
 }
 
 /// How many blocks gave way, and whether the volume after the writes and the one before read as they are to.
 fn outcomes(store: &mut Store, alloc: Global) -> Result<(usize, bool, bool), Refusal> {
     let before = made(store, alloc)?;
     let Rewritten { volume, replaced } = rewritten(&before, store, alloc)?;
-    let after = bytes_of(&volume, store, alloc, 2)?;
-    let old = bytes_of(&before, store, alloc, 1)?;
-    Ok((replaced.len(), is_after(&after), is_zeros(&old)))
+    let near = bytes_at(&volume, store, alloc, 256, 2)?;
+    let far = bytes_at(&volume, store, alloc, FAR - 512, 2)?;
+    let old = bytes_at(&before, store, alloc, 256, 1)?;
+    let is_after = is_of(&near, 256, 5, 0) && is_of(&far, 512, 0, 6);
+    Ok((replaced.len(), is_after, is_of(&old, 0, 0, 0)))
 }
 
 fn outcomes_in_memory(alloc: Global) -> Result<(usize, bool, bool), Fail> {
@@ -117,7 +116,7 @@ fn is_other_size_refused(store: &mut Store, alloc: Global) -> Result<bool, Refus
     let before = made(store, alloc)?;
     let done = rewritten(&before, store, alloc)?;
     let other = VolumeSet::new(SIZE, 1024, done.volume.block());
-    let found = bytes_of(&other, store, alloc, 2);
+    let found = bytes_at(&other, store, alloc, 0, 2);
     Ok(matches!(found, Err(Refusal::BadPointer)))
 }
 

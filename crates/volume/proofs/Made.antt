@@ -1,5 +1,5 @@
 -- Volumes that are made.
-use Rattle.std.proofs.Common.{◌≡◌, ◌≢◌, ℕ, ◌*◌, ◌/◌, ◌<◌, ◌≤◌, List, [], length, replicate, Option, Some, None, refl, sym, ap, ◌∙◌, subst, IsTrue, arith}
+use Rattle.std.proofs.Common.{◌≡◌, ℕ, ◌*◌, ◌/◌, List, [], replicate, None, refl, sym, ap, subst}
 use Rattle.std.specs.Prelude.{Vec}
 use Rattle.std.specs.declared.alloc.Global.{Global}
 use Rattle.std.proofs.lemmas.List.{length-replicate}
@@ -14,7 +14,7 @@ use Rattle.dnode_tree.proofs.Standing.{empty_trees}
 use Rattle.objset.specs.declared.changes.Change.{Change}
 use Rattle.objset.specs.declared.changes.Change.TheVariants.{Create}
 use Rattle.objset.specs.Changes.{changed, after_change}
-use Rattle.objset.specs.Objects.{Object, AreObjects}
+use Rattle.objset.specs.Objects.{AreObjects}
 use Rattle.volume.specs.declared.volume.VolumeSet.{VolumeSet}
 use Rattle.volume.specs.Placing.{IsMade, IsSetPlanned, data_change}
 use Rattle.volume.specs.Volume.{HasBytes, IsData, part}

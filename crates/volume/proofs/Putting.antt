@@ -1,6 +1,6 @@
 -- Blocks that are put to a volume's data.
-use Rattle.std.proofs.Common.{◌≡◌, ◌≢◌, ◌⊎◌, ⊎_elim, inl, inr, ℕ, zero, suc, ◌+◌, ◌*◌, ◌/◌, ◌^◌, ◌<◌, ◌≤◌, ◌==◌, if◌then◌else◌, List, [], ◌∷◌, length, get_or, replicate, Option, Some, None, refl, sym, ap, ◌∙◌, subst, IsTrue, arith}
-use Rattle.std.specs.Prelude.{All, Any, IsSomeAnd, Vec}
+use Rattle.std.proofs.Common.{◌≡◌, ◌≢◌, ◌⊎◌, ⊎_elim, inl, inr, ℕ, zero, suc, ◌+◌, ◌*◌, ◌/◌, ◌^◌, ◌<◌, ◌≤◌, ◌==◌, if◌then◌else◌, List, [], ◌∷◌, length, Option, Some, None, refl, sym, ap, ◌∙◌, subst, arith}
+use Rattle.std.specs.Prelude.{All, Any, Vec}
 use Rattle.std.specs.declared.alloc.Global.{Global}
 use Rattle.std.proofs.lemmas.Bool.{cases_eq}
 use Rattle.std.proofs.lemmas.List.Elements.{All-head, All-tail, All-weaker}
@@ -19,11 +19,11 @@ use Rattle.objset.specs.declared.changes.Change.{Change}
 use Rattle.objset.specs.declared.changes.Change.TheVariants.{Put}
 use Rattle.objset.specs.declared.changes.ObjectChange.{ObjectChange}
 use Rattle.objset.specs.Changes.{AreWhole, AreGoodWrites, MayChange, changed, after_change}
-use Rattle.objset.specs.Objects.{Object, AreObjects}
+use Rattle.objset.specs.Objects.{Object}
 use Rattle.objset.proofs.Kept.{objects_stand, some_and}
 use Rattle.volume.specs.declared.volume.VolumeSet.{VolumeSet}
 use Rattle.volume.specs.Placing.{IsSetPlanned, LacksRoom, data_change}
-use Rattle.volume.specs.Volume.{HasBytes, IsData, HasData, IsVolume, Spells, part}
+use Rattle.volume.specs.Volume.{HasBytes, IsData, IsVolume, Spells, part}
 use Rattle.volume.specs.Writing.{HasId, AreBlocksOf, IsArrayWith}
 use Rattle.volume.proofs.Ranges.{block_fits}
 use Rattle.volume.proofs.Sizes.{least_size, whole_sectors}

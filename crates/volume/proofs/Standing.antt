@@ -1,5 +1,5 @@
 -- Volumes stay what they are where their own blocks stay known.
-use Rattle.std.proofs.Common.{◌≡◌, ℕ, ◌≤◌, List, Some, inl, inr, refl, arith}
+use Rattle.std.proofs.Common.{inl, inr, refl, arith}
 use Rattle.objset.proofs.Kept.{objects_stand}
 use Rattle.volume.specs.Laws.{VolumesStandOnTheirBlocks, VolumesStay}
 

@@ -1,4 +1,4 @@
-use Rattle.std.proofs.Common.{[], inl, inr, ⊎_elim, refl, subst}
+use Rattle.std.proofs.Common.{[], inr, ⊎_elim, refl, subst}
 use Rattle.block_store.proofs.Steps.{steps_on, true_before, no_room_now, no_room_on}
 use Rattle.objset.specs.Changes.{AreChanged, changed}
 use Rattle.objset.specs.declared.changes.SetCopies.{SetCopies}

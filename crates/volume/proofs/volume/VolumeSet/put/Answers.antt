@@ -1,7 +1,6 @@
-use Rattle.std.proofs.Common.{◌≡◌, ◌∙◌, ◌≤◌, [], inl, inr, List, ⊎_elim, refl, sym, subst, arith}
-use Rattle.std.proofs.lemmas.Result.{IfOk-weaker, IfErr-weaker}
+use Rattle.std.proofs.Common.{◌≡◌, [], inl, refl, sym, subst, arith}
 use Rattle.block_pointer.specs.declared.block.Block.{Block}
-use Rattle.block_store.proofs.Steps.{steps_read, steps_on, true_before, true_after, few_before, few_after}
+use Rattle.block_store.proofs.Steps.{steps_read, steps_on, true_before, true_after, few_after}
 use Rattle.dnode.specs.declared.object_set.ObjectSet.{ObjectSet}
 use Rattle.objset.specs.Objects.{AreObjects}
 use Rattle.objset.specs.declared.changes.Change.TheVariants.{Put}

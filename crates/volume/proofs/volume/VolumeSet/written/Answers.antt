@@ -1,4 +1,4 @@
-use Rattle.std.proofs.Common.{◌≡◌, ◌∙◌, [], inl, inr, refl}
+use Rattle.std.proofs.Common.{◌∙◌, [], inl}
 use Rattle.std.proofs.lemmas.Result.{IfOk-weaker, IfErr-weaker}
 use Rattle.block_store.proofs.Steps.{steps_read, steps_on, true_before, true_after, few_after}
 use Rattle.pool_now.specs.Overlay.{after_writes}
