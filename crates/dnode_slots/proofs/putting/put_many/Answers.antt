@@ -1,4 +1,4 @@
-use Rattle.std.proofs.Common.{List, inl, refl, subst}
+use Rattle.std.proofs.Common.{◌≡◌, ℕ, List, inl, refl, ap, subst}
 use Rattle.dnode.specs.declared.object_set.ObjectSet.{ObjectSet}
 use Rattle.dnode_tree.specs.declared.writes.BlockWrite.{BlockWrite}
 use Rattle.block_store.specs.Steps.{OnlyReadsAndPlans}
@@ -10,6 +10,9 @@ use Rattle.dnode_tree.proofs.Steps.{no_room_on, true_sooner, true_later, few_lat
 use Rattle.dnode_tree.proofs.WholeTree.{tree_later}
 use Rattle.dnode_slots.specs.declared.writes.SetRewrite.{SetRewrite}
 use Rattle.dnode_slots.proofs.PutNodes.{set_fits, highest_least, nodes_rewritten}
+use Rattle.block_store.specs.Steps.{OnlyReadsBlocks}
+use Rattle.block_store.specs.Store.{Store}
+use Rattle.dnode_tree.specs.Spots.{spots_of, HavePlaces, LacksPlaces}
 use Rattle.dnode_slots.proofs.putting.put_many.Goals as goal
 
 pub returns-in_err-changed-clause-known : goal.returns-in_err-changed-clause-known
@@ -78,3 +81,31 @@ returns-clause-rewritten g c = λ stored planned bound nodes blocks plans has le
 
 pub returns-in_err-changed-clause-steps : goal.returns-in_err-changed-clause-steps
 returns-in_err-changed-clause-steps g c = steps_read _ _ _ c.in_err-changed.ensures.reads
+
+-- ---- places
+
+-- reads take no places
+same_spaces : (old new : Store) (missing : List ℕ) → OnlyReadsBlocks old new missing → new.spaces ≡ old.spaces
+same_spaces old new missing reads = ap (λ (s : Store). s.spaces) reads.rest
+
+pub returns-in_err-done-clause-no_place : goal.returns-in_err-done-clause-no_place
+returns-in_err-done-clause-no_place g c =
+    passed_on _ _ _ c.from_residual-in_err-done.ensures.1
+    (λ none. record {
+      blocks = c.in_ok-changed.changed.items;
+      are = record { order = c.in_ok-changed.ensures.order; each = c.in_ok-changed.ensures.only; all = c.in_ok-changed.ensures.reached };
+      lacks = subst (λ before. LacksPlaces c.args.set.now.dnodes c.args.copies before (spots_of c.args.set.now.dnodes c.in_ok-changed.changed.items) c.put_many.new.store.spaces)
+          (same_spaces _ _ _ c.in_ok-changed.ensures.reads)
+          (subst (λ (changed : List BlockWrite). LacksPlaces c.args.set.now.dnodes c.args.copies c.block_writes.new.store.spaces (spots_of c.args.set.now.dnodes changed) c.put_many.new.store.spaces)
+          c.deref.ensures.value (c.in_err-done.ensures.no_place none));
+    })
+
+pub returns-clause-places : goal.returns-clause-places
+returns-clause-places g c = record {
+  blocks = c.in_ok-changed.changed.items;
+  are = record { order = c.in_ok-changed.ensures.order; each = c.in_ok-changed.ensures.only; all = c.in_ok-changed.ensures.reached };
+  have = subst (λ before. HavePlaces c.args.set.now.dnodes c.args.copies before (spots_of c.args.set.now.dnodes c.in_ok-changed.changed.items) c.put_many.new.store.spaces)
+      (same_spaces _ _ _ c.in_ok-changed.ensures.reads)
+      (subst (λ (changed : List BlockWrite). HavePlaces c.args.set.now.dnodes c.args.copies c.block_writes.new.store.spaces (spots_of c.args.set.now.dnodes changed) c.put_many.new.store.spaces)
+      c.deref.ensures.value c.in_ok-done.ensures.places);
+}
