@@ -1,5 +1,5 @@
 -- Directories with a name more or less.
-use Rattle.std.proofs.Common.{◌≡◌, ◌≢◌, ◌⊎◌, ◌↔◌, ℕ, zero, suc, ◌+◌, ◌<◌, ◌≤◌, List, [], ◌∷◌, ◌++◌, length, take, drop, get_or, All, AllPairs, Contains, inl, inr, refl, sym, ap, subst, ◌∙◌, add-one, arith}
+use Rattle.std.proofs.Common.{◌≡◌, ◌≢◌, ◌⊎◌, ℕ, zero, suc, ◌+◌, ◌<◌, List, [], ◌∷◌, ◌++◌, length, take, drop, get_or, All, AllPairs, Contains, inl, inr, refl, sym, ap, subst, ◌∙◌, add-one, arith}
 use Rattle.std.specs.Cmp.Lexicographic.{slice_cmp}
 use Rattle.std.specs.declared.cmp.Ordering.{Ordering}
 use Rattle.std.specs.declared.cmp.Ordering.TheVariants.{Less, Equal, Greater}
@@ -105,7 +105,7 @@ module _ (rows : List DirectoryRow) (row : DirectoryRow) (at : ℕ) (is : IsDire
       let cut : drop at rows ≡ get_or rows at row ∷ drop (at + 1) rows = drop_more rows at row left in
       let first_is : get_or rows at row ≡ first = let both : get_or rows at row ∷ drop (at + 1) rows ≡ first ∷ rest = sym cut ∙ same in cc in
       let next : Before row first = subst (λ (other : DirectoryRow). Before row other) first_is
-          (is_behind (get_or rows at row).name row.name (behind row left) (lacks at row left)) in
+      (is_behind (get_or rows at row).name row.name (behind row left) (lacks at row left)) in
       let order : AllPairs Before (first ∷ rest) = subst (AllPairs Before) same (λ i j d lt low. pairs_drop rows at i j d lt low is.order) in
       All-cons (Before row) first rest next
       (All-weaker (Before first) (Before row) (λ later after. nat_list_cmp_total.trans row.name first.name later.name next after) rest (pairs_head Before first rest order))

@@ -1,5 +1,5 @@
 -- Records of datasets in objects.
-use Rattle.std.specs.Prelude.{ℕ, ◌≡◌, ◌<◌, List, [], ◌∷◌, length, Option, Some}
+use Rattle.std.specs.Prelude.{ℕ, ◌≡◌, List, [], ◌∷◌, length, Option, Some}
 use Rattle.dnode_tree.specs.declared.writes.BlockWrite.{BlockWrite}
 use Rattle.objset.specs.Objects.{Object, EndsAt}
 use Rattle.meta_objset.specs.declared.record.DatasetRecord.{DatasetRecord}

@@ -1,17 +1,15 @@
 -- Tables that are read block by block.
-use Rattle.std.proofs.Common.{◌≡◌, ◌≢◌, ◌⊎◌, ℕ, zero, suc, ◌+◌, ◌<◌, ◌≤◌, List, [], ◌++◌, Option, Some, None, Result, Ok, Err, inl, inr, refl, sym, ap, subst, ◌∙◌, add-one, arith}
+use Rattle.std.proofs.Common.{◌≡◌, ℕ, ◌+◌, List, [], ◌++◌, Option, Some, None, Result, Ok, Err, inl, inr, refl, sym, ap, subst, ◌∙◌, add-one, arith}
 use Rattle.std.specs.Prelude.{IsSomeAnd}
 use Rattle.std.specs.Result.{IfOk}
 use Rattle.std.proofs.lemmas.Bool.{cases_lt}
 use Rattle.block_pointer.specs.declared.block.Block.{Block}
 use Rattle.block_store.proofs.Steps.{reads_none, reads_on}
-use Rattle.block_store.specs.declared.refusal.Refusal.{Refusal}
-use Rattle.block_store.specs.declared.refusal.Refusal.TheVariants.{NoMemory, BadPointer}
 use Rattle.block_store.specs.Blocks.{Contents}
-use Rattle.block_store.specs.Steps.{OnlyReadsBlocks, AnswersAreTrue, LossIsTolerable}
+use Rattle.block_store.specs.Steps.{OnlyReadsBlocks, AnswersAreTrue}
 use Rattle.block_store.specs.Store.{Store, Holds}
 use Rattle.dnode.specs.declared.object_set.ObjectSet.{ObjectSet}
-use Rattle.dnode_tree.proofs.FurtherReads.{true_before, true_after, few_after}
+use Rattle.dnode_tree.proofs.FurtherReads.{true_before, true_after}
 use Rattle.objset.specs.Objects.{Object, AreObjects}
 use Rattle.object_table.specs.declared.kind.TableKind.{TableKind}
 use Rattle.object_table.specs.Tables.{bytes_at, bytes_to, IsFront, IsOfKind, IsTableTo, HasTable}

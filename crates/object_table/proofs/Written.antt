@@ -1,5 +1,5 @@
 -- Blocks that are written one after the other.
-use Rattle.std.proofs.Common.{◌≡◌, ◌≢◌, ℕ, zero, suc, ◌+◌, ◌-◌, ◌*◌, ◌/◌, ◌%◌, ◌^◌, ◌<◌, ◌≤◌, ◌==◌, List, [], ◌∷◌, ◌++◌, length, take, drop, get_or, All, Option, Some, None, if◌then◌else◌, refl, sym, ap, subst, ◌∙◌, eq-eqb, arith}
+use Rattle.std.proofs.Common.{◌≡◌, ◌≢◌, ℕ, zero, suc, ◌+◌, ◌-◌, ◌*◌, ◌/◌, ◌^◌, ◌<◌, ◌≤◌, ◌==◌, List, [], ◌∷◌, ◌++◌, length, take, drop, All, Option, Some, None, if◌then◌else◌, refl, sym, ap, subst, ◌∙◌, eq-eqb, arith}
 use Rattle.std.specs.Prelude.{replicate}
 use Rattle.std.proofs.Math.Seq.{take-add, take-length}
 use Rattle.std.proofs.lemmas.Bool.{ne_eqb}
@@ -8,7 +8,7 @@ use Rattle.std.proofs.lemmas.List.Elements.{All-nil, All-head, All-tail, All-pus
 use Rattle.std.proofs.lemmas.List.Quantifiers.{all_pairs_push}
 use Rattle.dnode_tree.proofs.NewArrays.{written_others}
 use Rattle.dnode_tree.specs.declared.writes.BlockWrite.{BlockWrite}
-use Rattle.dnode_tree.specs.Writes.{AreInOrder, written}
+use Rattle.dnode_tree.specs.Writes.{written}
 use Rattle.object_table.specs.declared.shape.RowShape.{RowShape}
 use Rattle.objset.proofs.Highest.{highest_room, highest_least}
 use Rattle.objset.proofs.Numbers.{all_last}
@@ -45,7 +45,7 @@ front_same array other count bytes same front = (λ id lt none. front.0 id lt (s
 last_is : (count : ℕ) (writes : List BlockWrite) (last : BlockWrite) → All (λ write. write.id < count) writes → last.id ≡ count → highest_of (writes ++ last ∷ []) 0 ≡ count + 1 - 1
 last_is count writes last below is =
     let all = All-push (λ (write : BlockWrite). write.id ≤ count) writes last
-        (All-weaker (λ (write : BlockWrite). write.id < count) (λ (write : BlockWrite). write.id ≤ count) (λ write lt. omega (arith, lt)) writes below) (omega (arith, is)) in
+    (All-weaker (λ (write : BlockWrite). write.id < count) (λ (write : BlockWrite). write.id ≤ count) (λ write lt. omega (arith, lt)) writes below) (omega (arith, is)) in
     let most = highest_least (writes ++ last ∷ []) 0 count (omega arith) all in
     let least = all_last (λ (write : BlockWrite). write.id ≤ highest_of (writes ++ last ∷ []) 0) writes last (highest_room (writes ++ last ∷ []) 0) in
     omega (arith, most, least, is)

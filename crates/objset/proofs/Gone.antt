@@ -1,5 +1,5 @@
 -- What gives way where several lists of blocks are changed, one after the other.
-use Rattle.std.proofs.Common.{◌≡◌, ◌≢◌, ◌⊎◌, ◌↔◌, ℕ, zero, suc, ◌+◌, ◌<◌, ◌≤◌, inl, inr, List, [], ◌∷◌, ◌++◌, length, get_or, cond, eqb, Some, None, Option, Contains, All, AllPairs, refl, sym, ap, ◌∙◌, subst, arith}
+use Rattle.std.proofs.Common.{◌≡◌, ◌≢◌, ◌⊎◌, ℕ, zero, suc, ◌<◌, ◌≤◌, inl, inr, List, [], ◌∷◌, ◌++◌, get_or, cond, eqb, Some, None, Option, Contains, All, AllPairs, refl, sym, ap, ◌∙◌, subst, arith}
 use Rattle.std.specs.List.{count_by}
 use Rattle.std.proofs.lemmas.Bool.{cases_eq, cases_lt}
 use Rattle.std.proofs.lemmas.List.Elements.{All-head, All-tail, Contains-append_left, Contains-append_right, Contains-append_cases}
@@ -16,7 +16,7 @@ use Rattle.dnode_tree.specs.Freeing.{AreOnlyIn}
 use Rattle.dnode_tree.specs.Rewriting.{AreDistinct, IsExchanged}
 use Rattle.objset.proofs.Numbers.{taken, passed}
 use Rattle.objset.specs.declared.changes.ObjectChange.{ObjectChange}
-use Rattle.objset.specs.Changes.{AreExchanged, object_copies, dnode_copies}
+use Rattle.objset.specs.Changes.{AreExchanged, object_copies}
 use Rattle.objset.specs.Laws.{HasEachOnce, IsOfSet, ReplacedOfSetsAreFreed}
 use Rattle.objset.specs.Objects.{Object, IsObject}
 

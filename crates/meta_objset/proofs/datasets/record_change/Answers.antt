@@ -1,5 +1,5 @@
 use Rattle.meta_objset.proofs.RecordObjects.{good_record, whole_record, has_record}
-use Rattle.std.proofs.Common.{◌≡◌, ℕ, ◌<◌, sym, subst}
+use Rattle.std.proofs.Common.{◌<◌, sym, subst}
 use Rattle.objset.specs.Changes.{AreWhole}
 use Rattle.meta_objset.proofs.datasets.record_change.Goals as goal
 

@@ -1,6 +1,5 @@
-use Rattle.std.proofs.Common.{◌≡◌, ℕ, List, [], ◌∷◌, ◌++◌, length, refl, sym, ap, subst, ◌∙◌, rules}
+use Rattle.std.proofs.Common.{◌≡◌, List, [], ◌∷◌, ◌++◌, length, refl, ap, ◌∙◌, rules}
 use Rattle.dnode_tree.specs.declared.writes.BlockWrite.{BlockWrite}
-use Rattle.meta_objset.specs.Datasets.{IsRecordWrite}
 use Rattle.meta_objset.proofs.datasets.writes_of.Goals as goal
 
 pub returns : goal.returns

@@ -1,4 +1,4 @@
-use Rattle.std.proofs.Common.{◌≡◌, ◌+◌, ◌^◌, ◌<◌, List, ℕ, length, sym, ap, subst, arith}
+use Rattle.std.proofs.Common.{◌^◌, ◌<◌, List, ℕ, length, sym, ap, subst, arith}
 use Rattle.object_table.specs.Rows.{SpellsRows}
 use Rattle.object_table.proofs.Written.{table_len, table_written}
 use Rattle.object_table.proofs.making.writes_of.Goals as goal

@@ -5,7 +5,6 @@ use Rattle.block_store.proofs.Steps.{reads_on}
 use Rattle.dnode_tree.proofs.FurtherReads.{true_after, few_after}
 use Rattle.dnode_tree.proofs.Refusing.{passed_on}
 use Rattle.dnode_tree.specs.Ways.{bytes_of}
-use Rattle.objset.specs.Objects.{Object}
 use Rattle.object_table.specs.Tables.{IsFront}
 use Rattle.object_table.proofs.Tables.{IsUnderway, underway_begins, underway_goes_on, some_is}
 use Rattle.object_table.proofs.reading.read_blocks.Goals as goal

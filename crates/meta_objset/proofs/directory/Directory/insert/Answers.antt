@@ -1,6 +1,5 @@
-use Rattle.std.proofs.Common.{◌≡◌, ◌<◌, ◌≤◌, ℕ, Bool, true, false, List, Option, Some, None, length, take, get_or, All, refl, sym, subst, ◌∙◌}
+use Rattle.std.proofs.Common.{◌≡◌, ◌<◌, ℕ, Bool, true, false, List, Option, Some, None, length, take, get_or, All, refl, sym, subst, ◌∙◌}
 use Rattle.std.specs.Prelude.{is_some}
-use Rattle.std.specs.List.{insert}
 use Rattle.meta_objset.specs.declared.directory.DirectoryRow.{DirectoryRow}
 use Rattle.meta_objset.specs.Directory.{IsDirectory, LacksName, IsWith}
 use Rattle.meta_objset.specs.Names.{IsBefore}

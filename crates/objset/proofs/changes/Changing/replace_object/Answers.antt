@@ -1,12 +1,9 @@
 use Rattle.std.proofs.Common.{[], None, refl}
 use Rattle.std.proofs.lemmas.Result.{IfOk-weaker, IfErr-weaker}
-use Rattle.block_pointer.specs.declared.pointer.BlockPtr.TheVariants.{Hole}
 use Rattle.block_store.proofs.Steps.{steps_on}
-use Rattle.dnode.specs.declared.node.ObjectNode.{ObjectNode}
 use Rattle.dnode_tree.proofs.Refusing.{passed_on}
 use Rattle.dnode_tree.proofs.Standing.{empty_trees}
 use Rattle.dnode_tree.proofs.Steps.{true_sooner, true_later, few_later}
-use Rattle.dnode_tree.specs.Writes.{IsForRoom}
 use Rattle.objset.proofs.Room.{no_room_sooner}
 use Rattle.objset.proofs.Trees.{tree_replaced}
 use Rattle.objset.specs.Changes.{object_copies}
