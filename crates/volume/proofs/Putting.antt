@@ -18,7 +18,7 @@ use Rattle.dnode_tree.specs.Writes.{written}
 use Rattle.objset.specs.declared.changes.Change.{Change}
 use Rattle.objset.specs.declared.changes.Change.TheVariants.{Put}
 use Rattle.objset.specs.declared.changes.ObjectChange.{ObjectChange}
-use Rattle.objset.specs.Changes.{AreWhole, AreGoodWrites, MayChange, changed, after_change}
+use Rattle.objset.specs.Changes.{AreWhole, AreGoodWrites, MayChange, changed, after_change, highest_of}
 use Rattle.objset.specs.Objects.{Object}
 use Rattle.objset.proofs.Kept.{objects_stand, some_and}
 use Rattle.volume.specs.declared.volume.VolumeSet.{VolumeSet}
@@ -69,7 +69,7 @@ pub data_with : (volume : VolumeSet) (objects : ℕ → Option Object) (array af
     → IsData volume.size volume.block_size (changed (data_change (Put blocks)) objects) after
 data_with volume objects array after blocks data_is are with = record {
   others = λ number apart. other_object number (after_change (Put blocks) (objects number)) (objects number) apart ∙ data_is.others number apart;
-  there = record data_is.there { array = written blocks.items data_is.there.array };
+  there = record data_is.there { highest = highest_of blocks.items data_is.there.highest; array = written blocks.items data_is.there.array };
   there_is = ap (after_change (Put blocks)) data_is.there_is;
   object_type = data_is.object_type;
   sectors = data_is.sectors;
