@@ -43,7 +43,8 @@ impl<D: Disk + Drop> BlockStore<D> {
         ensures spaces { self.new.spaces ≡ self.old.spaces }
         ensures call { (write : ColumnWrite) × (self.old.due ≡ write ∷ self.new.due)
             × (self.new.disks.calls
-            ≡ on write.disk (write_call result write.offset write.bytes.items) ∷ self.old.disks.calls)
+            ≡ on write.disk (write_call result write.offset write.bytes.items)
+            ∷ self.old.disks.calls)
             × IfErr result (λ failed. failed.disk ≡ write.disk)
             × IfErr result (λ failed. IsOutToo self.old.out write.disk self.new.out) }
         ensures out { OnOk result (self.new.out ≡ self.old.out) }

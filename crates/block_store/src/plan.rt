@@ -265,7 +265,8 @@ impl<D: Disk + Drop> BlockStore<D> {
         writes: &mut VecDeque<ColumnWrite>,
     ) -> Result<(), AllocError>
         ensures { OnOk result (writes.new.items
-            ≡ writes.old.items ++ filter (λ write. not (is_out self.now.out write.disk)) copy.items) }
+            ≡ writes.old.items ++ filter (λ write. not
+            (is_out self.now.out write.disk)) copy.items) }
     {
         for write in copy {
             if !self.is_out(write.disk) {

@@ -41,7 +41,8 @@ impl VdevSpace {
     pub(crate) fn has_room(&self, metaslab: usize, sectors: u32) -> bool
         requires { metaslab < metaslabs self.now.shape }
         ensures { IsTrue result
-            ↔ (slice_index self.now.planned.items metaslab + asize self.now.shape.vdev.geometry sectors
+            ↔ (slice_index self.now.planned.items metaslab
+            + asize self.now.shape.vdev.geometry sectors
             ≤ metaslab_sectors self.now.shape) }
     {
         let size = self.shape.metaslab_sectors();

@@ -72,7 +72,8 @@ impl<D: Disk + Drop> BlockStore<D> {
     /// still on it.
     pub fn out_since(&self, disk: usize) -> Option<u64>
         ensures { result
-            ≡ (if is_out self.now.out disk then Some (slice_index self.now.spans.since disk) else None) }
+            ≡ (if is_out self.now.out disk then Some
+            (slice_index self.now.spans.since disk) else None) }
     {
         if !self.is_out(disk) {
             return None;

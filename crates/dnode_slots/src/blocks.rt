@@ -30,13 +30,19 @@ pub(crate) fn block_at<D: Disk + Drop>(
     requires { FitsObjectSet set.now }
     ensures reads { OnlyReadsBlocks store.old store.new missing.now }
     ensures size { IfOk result (λ found. IfSome found (λ bytes. length bytes.items ≡ 16384)) }
-    ensures value { IfOk result (λ found. (stored : Contents) (array : ℕ → Option (List ℕ)) (blocks : List Block) → Holds store.old stored
-        → IsTree stored birth set.now.dnodes array blocks → AnswersAreTrue store.old store.new → option_map (λ bytes. bytes.items) found ≡ array id) }
-    ensures found { IfOk result (λ found. IsFound store.old.spaces set.now.dnodes birth id (bytes_of found)) }
-    ensures refused { IfErr result (IsRefused store.old store.new missing.now set.now.dnodes birth id) }
+    ensures value { IfOk result (λ found. (stored : Contents) (array : ℕ → Option (List ℕ))
+        (blocks : List Block) → Holds store.old stored
+        → IsTree stored birth set.now.dnodes array blocks → AnswersAreTrue store.old store.new
+        → option_map (λ bytes. bytes.items) found ≡ array id) }
+    ensures found { IfOk result (λ found. IsFound store.old.spaces set.now.dnodes birth id
+        (bytes_of found)) }
+    ensures refused { IfErr result
+        (IsRefused store.old store.new missing.now set.now.dnodes birth id) }
     ensures cause { IfErr result (λ refusal. refusal ≢ Refusal.NoSpace) }
-    ensures known { IfErr result (λ refusal. (stored : Contents) (array : ℕ → Option (List ℕ)) (blocks : List Block) → Holds store.old stored
-        → IsTree stored birth set.now.dnodes array blocks → AnswersAreTrue store.old store.new → LossIsTolerable store.old store.new missing.now
+    ensures known { IfErr result (λ refusal. (stored : Contents) (array : ℕ → Option (List ℕ))
+        (blocks : List Block) → Holds store.old stored
+        → IsTree stored birth set.now.dnodes array blocks → AnswersAreTrue store.old store.new
+        → LossIsTolerable store.old store.new missing.now
         → refusal ≡ Refusal.NoMemory) }
 {
     dnode_tree::get(&set.dnodes, store, alloc, id, birth, missing)
@@ -54,11 +60,15 @@ pub(crate) fn block_or_zeros<D: Disk + Drop>(
     requires { FitsObjectSet set.now }
     ensures reads { OnlyReadsBlocks store.old store.new missing.now }
     ensures size { IfOk result (λ bytes. length bytes.items ≡ 16384) }
-    ensures value { IfOk result (λ bytes. (stored : Contents) (array : ℕ → Option (List ℕ)) (nodes : ℕ → Dnode) (blocks : List Block) → Holds store.old stored
-        → IsTree stored birth set.now.dnodes array blocks → AreNodesOf array nodes → AnswersAreTrue store.old store.new → HasSlots bytes.items id nodes) }
+    ensures value { IfOk result (λ bytes. (stored : Contents) (array : ℕ → Option (List ℕ))
+        (nodes : ℕ → Dnode) (blocks : List Block) → Holds store.old stored
+        → IsTree stored birth set.now.dnodes array blocks → AreNodesOf array nodes
+        → AnswersAreTrue store.old store.new → HasSlots bytes.items id nodes) }
     ensures cause { IfErr result (λ refusal. refusal ≢ Refusal.NoSpace) }
-    ensures known { IfErr result (λ refusal. (stored : Contents) (array : ℕ → Option (List ℕ)) (blocks : List Block) → Holds store.old stored
-        → IsTree stored birth set.now.dnodes array blocks → AnswersAreTrue store.old store.new → LossIsTolerable store.old store.new missing.now
+    ensures known { IfErr result (λ refusal. (stored : Contents) (array : ℕ → Option (List ℕ))
+        (blocks : List Block) → Holds store.old stored
+        → IsTree stored birth set.now.dnodes array blocks → AnswersAreTrue store.old store.new
+        → LossIsTolerable store.old store.new missing.now
         → refusal ≡ Refusal.NoMemory) }
 {
     match block_at(set, store, alloc, id, birth, missing)? {

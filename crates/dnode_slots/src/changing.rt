@@ -36,12 +36,16 @@ fn changed_block<D: Disk + Drop>(
     requires here { All (λ write. write.number / 32 ≡ id) writes.now }
     ensures reads { OnlyReadsBlocks store.old store.new missing.now }
     ensures size { IfOk result (λ bytes. length bytes.items ≡ 16384) }
-    ensures value { IfOk result (λ bytes. (stored : Contents) (array : ℕ → Option (List ℕ)) (nodes : ℕ → Dnode) (blocks : List Block) → Holds store.old stored
-        → IsTree stored birth set.now.dnodes array blocks → AreNodesOf array nodes → AnswersAreTrue store.old store.new
+    ensures value { IfOk result (λ bytes. (stored : Contents) (array : ℕ → Option (List ℕ))
+        (nodes : ℕ → Dnode) (blocks : List Block) → Holds store.old stored
+        → IsTree stored birth set.now.dnodes array blocks → AreNodesOf array nodes
+        → AnswersAreTrue store.old store.new
         → HasSlots bytes.items id (written_nodes writes.now nodes)) }
     ensures cause { IfErr result (λ refusal. refusal ≢ Refusal.NoSpace) }
-    ensures known { IfErr result (λ refusal. (stored : Contents) (array : ℕ → Option (List ℕ)) (blocks : List Block) → Holds store.old stored
-        → IsTree stored birth set.now.dnodes array blocks → AnswersAreTrue store.old store.new → LossIsTolerable store.old store.new missing.now
+    ensures known { IfErr result (λ refusal. (stored : Contents) (array : ℕ → Option (List ℕ))
+        (blocks : List Block) → Holds store.old stored
+        → IsTree stored birth set.now.dnodes array blocks → AnswersAreTrue store.old store.new
+        → LossIsTolerable store.old store.new missing.now
         → refusal ≡ Refusal.NoMemory) }
 {
     let mut bytes = block_or_zeros(set, store, alloc, id, birth, missing)?;
@@ -64,14 +68,20 @@ pub(crate) fn block_writes<D: Disk + Drop>(
     ensures ids { IfOk result (λ changed. All (λ write. write.id < 128 ^ 5) changed.items) }
     ensures order { IfOk result (λ changed. AreInOrder changed.items) }
     ensures whole { IfOk result (λ changed. AreWholeBlocks set.now.dnodes changed.items) }
-    ensures reached { IfOk result (λ changed. All (λ write. Any (λ block. block.id ≡ write.number / 32) changed.items) writes.now) }
-    ensures only { IfOk result (λ changed. All (λ block. Any (λ write. write.number / 32 ≡ block.id) writes.now) changed.items) }
-    ensures value { IfOk result (λ changed. (stored : Contents) (array : ℕ → Option (List ℕ)) (nodes : ℕ → Dnode) (blocks : List Block) → Holds store.old stored
-        → IsTree stored birth set.now.dnodes array blocks → AreNodesOf array nodes → AnswersAreTrue store.old store.new
+    ensures reached { IfOk result (λ changed. All
+        (λ write. Any (λ block. block.id ≡ write.number / 32) changed.items) writes.now) }
+    ensures only { IfOk result (λ changed. All (λ block. Any
+        (λ write. write.number / 32 ≡ block.id) writes.now) changed.items) }
+    ensures value { IfOk result (λ changed. (stored : Contents) (array : ℕ → Option (List ℕ))
+        (nodes : ℕ → Dnode) (blocks : List Block) → Holds store.old stored
+        → IsTree stored birth set.now.dnodes array blocks → AreNodesOf array nodes
+        → AnswersAreTrue store.old store.new
         → AreNodesOf (written changed.items array) (written_nodes writes.now nodes)) }
     ensures cause { IfErr result (λ refusal. refusal ≢ Refusal.NoSpace) }
-    ensures known { IfErr result (λ refusal. (stored : Contents) (array : ℕ → Option (List ℕ)) (blocks : List Block) → Holds store.old stored
-        → IsTree stored birth set.now.dnodes array blocks → AnswersAreTrue store.old store.new → LossIsTolerable store.old store.new missing.now
+    ensures known { IfErr result (λ refusal. (stored : Contents) (array : ℕ → Option (List ℕ))
+        (blocks : List Block) → Holds store.old stored
+        → IsTree stored birth set.now.dnodes array blocks → AnswersAreTrue store.old store.new
+        → LossIsTolerable store.old store.new missing.now
         → refusal ≡ Refusal.NoMemory) }
 {
     let mut changed = Vec::new(alloc);
@@ -90,7 +100,8 @@ pub(crate) fn block_writes<D: Disk + Drop>(
 fn count_before(writes: &[NodeWrite], end: u64) -> usize
     ensures within { result ≤ length writes.now }
     ensures before { All (λ write. write.number < end) (take result writes.now) }
-    ensures behind { (other : NodeWrite) → result < length writes.now → end ≤ (slice_index_or writes.now result other).number }
+    ensures behind { (other : NodeWrite) → result < length writes.now
+        → end ≤ (slice_index_or writes.now result other).number }
 {
     for (i, write) in writes.iter().enumerate() {
         if write.number >= end {

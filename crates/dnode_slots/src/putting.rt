@@ -39,12 +39,19 @@ pub fn put_many<D: Disk + Drop>(
     ensures steps { OnlyReadsAndPlans store.old store.new missing.now }
     ensures set { IfOk result (λ done. FitsObjectSet done.set) }
     ensures grown { IfOk result (λ done. IsGrownSet set.now done.set writes.now) }
-    ensures rewritten { IfOk result (λ done. (stored planned : Contents) (bound : ℕ) (nodes : ℕ → Dnode) (blocks : List Block) → Plans store.old stored planned
-        → HasNodes stored bound set.now nodes blocks → bound ≤ birth → AnswersAreTrue store.old store.new
-        → (later : Contents) × Plans store.new stored later × AreNodesRewritten copies planned later birth done (written_nodes writes.now nodes) blocks) }
-    ensures no_room { IfErr result (λ refusal. refusal ≡ Refusal.NoSpace → HasNoRoom store.old store.new missing.now set.now.dnodes copies) }
-    ensures known { IfErr result (λ refusal. (stored planned : Contents) (bound : ℕ) (nodes : ℕ → Dnode) (blocks : List Block) → Plans store.old stored planned
-        → HasNodes stored bound set.now nodes blocks → bound ≤ birth → AnswersAreTrue store.old store.new → LossIsTolerable store.old store.new missing.now
+    ensures rewritten { IfOk result (λ done. (stored planned : Contents) (bound : ℕ)
+        (nodes : ℕ → Dnode) (blocks : List Block) → Plans store.old stored planned
+        → HasNodes stored bound set.now nodes blocks → bound ≤ birth
+        → AnswersAreTrue store.old store.new
+        → (later : Contents) × Plans store.new stored later
+        × AreNodesRewritten copies planned later birth done
+        (written_nodes writes.now nodes) blocks) }
+    ensures no_room { IfErr result (λ refusal. refusal ≡ Refusal.NoSpace
+        → HasNoRoom store.old store.new missing.now set.now.dnodes copies) }
+    ensures known { IfErr result (λ refusal. (stored planned : Contents) (bound : ℕ)
+        (nodes : ℕ → Dnode) (blocks : List Block) → Plans store.old stored planned
+        → HasNodes stored bound set.now nodes blocks → bound ≤ birth
+        → AnswersAreTrue store.old store.new → LossIsTolerable store.old store.new missing.now
         → IsForRoom refusal) }
 
     // For each block with one of these dnodes, and those above, places are taken, once, and for nothing else.
@@ -71,7 +78,8 @@ fn objects_after(before: u64, writes: &[NodeWrite]) -> u64
     requires { All (λ write. write.number < 32 * 128 ^ 5) writes.now }
     ensures from { before ≤ result }
     ensures room { All (λ write. write.number < result) writes.now }
-    ensures least { (objects : ℕ) → before ≤ objects → All (λ write. write.number < objects) writes.now → result ≤ objects }
+    ensures least { (objects : ℕ) → before ≤ objects
+        → All (λ write. write.number < objects) writes.now → result ≤ objects }
 {
     let mut objects = before;
     for write in writes {

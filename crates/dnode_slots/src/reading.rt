@@ -33,15 +33,20 @@ pub fn get<D: Disk + Drop>(
     ensures reads { OnlyReadsBlocks store.old store.new missing.now }
     ensures behind { set.now.objects ≤ number → (result ≡ Ok Dnode.Free) × (store.new ≡ store.old) }
     ensures fits { IfOk result FitsDnode }
-    ensures value { IfOk result (λ found. (stored : Contents) (nodes : ℕ → Dnode) (blocks : List Block) → Holds store.old stored
-        → HasNodes stored birth set.now nodes blocks → AnswersAreTrue store.old store.new → found ≡ nodes number) }
+    ensures value { IfOk result (λ found. (stored : Contents) (nodes : ℕ → Dnode)
+        (blocks : List Block) → Holds store.old stored
+        → HasNodes stored birth set.now nodes blocks → AnswersAreTrue store.old store.new
+        → found ≡ nodes number) }
 
     // Whatever the set is: what was read, and on a refusal its cause.
     ensures found { IfOk result (IsNodeFound store.old.spaces set.now birth number) }
-    ensures refused { IfErr result (IsNodeRefused store.old store.new missing.now set.now birth number) }
+    ensures refused { IfErr result
+        (IsNodeRefused store.old store.new missing.now set.now birth number) }
     ensures cause { IfErr result (λ refusal. refusal ≢ Refusal.NoSpace) }
-    ensures known { IfErr result (λ refusal. (stored : Contents) (nodes : ℕ → Dnode) (blocks : List Block) → Holds store.old stored
-        → HasNodes stored birth set.now nodes blocks → AnswersAreTrue store.old store.new → LossIsTolerable store.old store.new missing.now
+    ensures known { IfErr result (λ refusal. (stored : Contents) (nodes : ℕ → Dnode)
+        (blocks : List Block) → Holds store.old stored
+        → HasNodes stored birth set.now nodes blocks → AnswersAreTrue store.old store.new
+        → LossIsTolerable store.old store.new missing.now
         → refusal ≡ Refusal.NoMemory) }
 {
     if number >= set.objects {

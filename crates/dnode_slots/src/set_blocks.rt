@@ -39,15 +39,18 @@ pub fn read_set<D: Disk + Drop>(
 ) -> Result<ObjectSet, Refusal>
     ensures reads { OnlyReadsBlocks store.old store.new missing.now }
     ensures fits { IfOk result FitsObjectSet }
-    ensures value { IfOk result (λ found. (stored : Contents) (set : ObjectSet) → Holds store.old stored → IsSetBlock stored birth block.now set
+    ensures value { IfOk result (λ found. (stored : Contents) (set : ObjectSet)
+        → Holds store.old stored → IsSetBlock stored birth block.now set
         → AnswersAreTrue store.old store.new → found ≡ set) }
 
     // Whatever the block is: what was read, and on a refusal its cause.
     ensures found { IfOk result (IsSetFound store.old.spaces birth block.now) }
     ensures refused { IfErr result (IsSetRefused store.old store.new missing.now birth block.now) }
     ensures cause { IfErr result (λ refusal. refusal ≢ Refusal.NoSpace) }
-    ensures known { IfErr result (λ refusal. (stored : Contents) (set : ObjectSet) → Holds store.old stored → IsSetBlock stored birth block.now set
-        → AnswersAreTrue store.old store.new → LossIsTolerable store.old store.new missing.now → refusal ≡ Refusal.NoMemory) }
+    ensures known { IfErr result (λ refusal. (stored : Contents) (set : ObjectSet)
+        → Holds store.old stored → IsSetBlock stored birth block.now set
+        → AnswersAreTrue store.old store.new → LossIsTolerable store.old store.new missing.now
+        → refusal ≡ Refusal.NoMemory) }
 {
     let asked = Asked {
         property: SET_PROPERTY,
@@ -78,10 +81,14 @@ pub fn plan_set<D: Disk + Drop>(
     ensures fits { IfOk result FitsBlock }
     ensures birth { IfOk result (λ block. block.birth ≡ birth) }
     ensures copies { IfOk result (λ block. length (dvas block.copies) ≡ count_of copies) }
-    ensures planned { IfOk result (λ block. (stored planned : Contents) → Plans store.old stored planned
-        → (later : Contents) × Plans store.new stored later × Adds planned later block (object_set_bytes set.now) × IsSetBlock later birth block set.now) }
+    ensures planned { IfOk result (λ block. (stored planned : Contents)
+        → Plans store.old stored planned
+        → (later : Contents) × Plans store.new stored later
+        × Adds planned later block (object_set_bytes set.now)
+        × IsSetBlock later birth block set.now) }
     ensures refused { IfErr result IsForRoom }
-    ensures no_room { IfErr result (λ refusal. refusal ≡ Refusal.NoSpace → RanOut store.old.spaces 2 (count_of copies) store.new.spaces) }
+    ensures no_room { IfErr result (λ refusal. refusal ≡ Refusal.NoSpace
+        → RanOut store.old.spaces 2 (count_of copies) store.new.spaces) }
 {
     let new = NewBlock {
         property: SET_PROPERTY,

@@ -25,7 +25,8 @@ pub(crate) fn node_at(block: &[u8], place: usize) -> Result<Dnode, Refusal>
     requires place { place < 32 }
     ensures found { IfOk result (IsNodeIn (Some block.now) place) }
     ensures only { (node : Dnode) → IsNodeIn (Some block.now) place node → result ≡ Ok node }
-    ensures none { IfErr result (λ refusal. (node : Dnode) → ¬ IsNodeIn (Some block.now) place node) }
+    ensures none { IfErr result (λ refusal. (node : Dnode)
+        → ¬ IsNodeIn (Some block.now) place node) }
     ensures refused { IfErr result (λ refusal. refusal ≡ Refusal.BadPointer) }
 {
     let at = NODE_LEN * place;
@@ -80,7 +81,8 @@ fn put_node(block: &mut [u8], place: usize, node: &Dnode)
     requires place { place < 32 }
     requires fits { FitsDnode node.now }
     ensures here { slot_of block.new place ≡ dnode_bytes node.now }
-    ensures others { (other : ℕ) → other ≢ place → slot_of block.new other ≡ slot_of block.old other }
+    ensures others { (other : ℕ) → other ≢ place
+        → slot_of block.new other ≡ slot_of block.old other }
 {
     let at = NODE_LEN * place;
     block[at..at + NODE_LEN].copy_from_slice(&node.encode());
@@ -91,7 +93,8 @@ pub(crate) fn put_nodes(block: &mut [u8], writes: &[NodeWrite])
     requires size { length block.old ≡ 16384 }
     requires order { AllPairs (λ write later. write.number < later.number) writes.now }
     requires fits { All (λ write. FitsDnode write.node) writes.now }
-    ensures { (id : ℕ) (nodes : ℕ → Dnode) → All (λ write. write.number / 32 ≡ id) writes.now → HasSlots block.old id nodes
+    ensures { (id : ℕ) (nodes : ℕ → Dnode) → All (λ write. write.number / 32 ≡ id) writes.now
+        → HasSlots block.old id nodes
         → HasSlots block.new id (written_nodes writes.now nodes) }
 {
     for write in writes {

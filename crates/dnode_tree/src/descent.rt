@@ -69,11 +69,15 @@ pub(crate) fn read_indirect<D: Disk + Drop>(
     ensures read { IfOk result (AreReadAs store.old.spaces asked block.now) }
     ensures refused { IfErr result (IsBlockFault store.old store.new missing.now asked block.now) }
     ensures count { IfOk result (λ found. length found ≡ 128) }
-    ensures value { IfOk result (λ found. (stored : Contents) (bytes : List ℕ) (pointers : List BlockPtr) → Holds store.old stored
-        → stored block.now ≡ Some bytes → SpellsIndirect bytes pointers → AnswersAreTrue store.old store.new → found ≡ pointers) }
+    ensures value { IfOk result (λ found. (stored : Contents) (bytes : List ℕ)
+        (pointers : List BlockPtr) → Holds store.old stored
+        → stored block.now ≡ Some bytes → SpellsIndirect bytes pointers
+        → AnswersAreTrue store.old store.new → found ≡ pointers) }
     ensures cause { IfErr result (λ refusal. refusal ≢ Refusal.NoSpace) }
-    ensures known { IfErr result (λ refusal. (stored : Contents) (bytes : List ℕ) (pointers : List BlockPtr) → Holds store.old stored
-        → stored block.now ≡ Some bytes → SpellsIndirect bytes pointers → Asks asked block.now → AnswersAreTrue store.old store.new
+    ensures known { IfErr result (λ refusal. (stored : Contents) (bytes : List ℕ)
+        (pointers : List BlockPtr) → Holds store.old stored
+        → stored block.now ≡ Some bytes → SpellsIndirect bytes pointers → Asks asked block.now
+        → AnswersAreTrue store.old store.new
         → LossIsTolerable store.old store.new missing.now → refusal ≡ Refusal.NoMemory) }
 {
     let bytes = store.read(alloc, block, asked, missing)?;
@@ -113,13 +117,17 @@ pub(crate) fn parts_of<D: Disk + Drop>(
         → AnswersAreTrue store.old store.new → (k : ℕ) → k < 128
         → AreBirths stored parts.level (first + k * 128 ^ parts.level)
         (slice_index_or parts.pointers k BlockPtr.Hole) births) }
-    ensures parts { IfOk result (λ parts. (stored : Contents) (first : ℕ) (array : ℕ → Option (List ℕ)) (blocks : List Block) → Holds store.old stored
+    ensures parts { IfOk result (λ parts. (stored : Contents) (first : ℕ)
+        (array : ℕ → Option (List ℕ)) (blocks : List Block) → Holds store.old stored
         → IsPart stored node.now first part array blocks → AnswersAreTrue store.old store.new
-        → (below : List (List Block)) × AreParts stored (property_of node.now) parts.level first parts.birth parts.pointers array below
+        → (below : List (List Block)) × AreParts stored
+        (property_of node.now) parts.level first parts.birth parts.pointers array below
         × (blocks ≡ blocks_at part.pointer ++ joined below)) }
     ensures cause { IfErr result (λ refusal. refusal ≢ Refusal.NoSpace) }
-    ensures known { IfErr result (λ refusal. (stored : Contents) (first : ℕ) (array : ℕ → Option (List ℕ)) (blocks : List Block) → Holds store.old stored
-        → IsPart stored node.now first part array blocks → AnswersAreTrue store.old store.new → LossIsTolerable store.old store.new missing.now
+    ensures known { IfErr result (λ refusal. (stored : Contents) (first : ℕ)
+        (array : ℕ → Option (List ℕ)) (blocks : List Block) → Holds store.old stored
+        → IsPart stored node.now first part array blocks → AnswersAreTrue store.old store.new
+        → LossIsTolerable store.old store.new missing.now
         → refusal ≡ Refusal.NoMemory) }
 {
     let level = part.level - 1;

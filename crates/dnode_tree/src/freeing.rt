@@ -30,12 +30,16 @@ pub fn free_blocks<D: Disk + Drop>(
     requires before { before.now.highest < 128 ^ 5 }
     requires after { after.now.highest < 128 ^ 5 }
     ensures reads { OnlyReadsBlocks store.old store.new missing.now }
-    ensures freed { IfOk result (λ freed. (stored : Contents) (bound : ℕ) (array later : ℕ → Option (List ℕ)) (blocks others : List Block) → Holds store.old stored
-        → IsTree stored bound before.now array blocks → bound ≤ birth → IsTree stored birth after.now later others → AnswersAreTrue store.old store.new
+    ensures freed { IfOk result (λ freed. (stored : Contents) (bound : ℕ)
+        (array later : ℕ → Option (List ℕ)) (blocks others : List Block) → Holds store.old stored
+        → IsTree stored bound before.now array blocks → bound ≤ birth
+        → IsTree stored birth after.now later others → AnswersAreTrue store.old store.new
         → AreOnlyIn blocks others freed.items) }
     ensures cause { IfErr result (λ refusal. refusal ≢ Refusal.NoSpace) }
-    ensures known { IfErr result (λ refusal. (stored : Contents) (bound : ℕ) (array later : ℕ → Option (List ℕ)) (blocks others : List Block) → Holds store.old stored
-        → IsTree stored bound before.now array blocks → bound ≤ birth → IsTree stored birth after.now later others → AnswersAreTrue store.old store.new
+    ensures known { IfErr result (λ refusal. (stored : Contents) (bound : ℕ)
+        (array later : ℕ → Option (List ℕ)) (blocks others : List Block) → Holds store.old stored
+        → IsTree stored bound before.now array blocks → bound ≤ birth
+        → IsTree stored birth after.now later others → AnswersAreTrue store.old store.new
         → LossIsTolerable store.old store.new missing.now → refusal ≡ Refusal.NoMemory) }
 {
     let others = walk(after, store, alloc, birth, missing)?;
@@ -61,8 +65,10 @@ fn blocks_without(
 
 /// Adds a block to those that were seen, and to those that are left where it is new.
 fn leave(seen: &mut HashSet<Block>, left: &mut Vec<Block>, block: Block) -> Result<(), AllocError>
-    ensures seen { OnOk result ((other : Block) → Contains seen.new.keys other ↔ ((other ≡ block) ⊎ Contains seen.old.keys other)) }
-    ensures left { OnOk result (((¬ Contains seen.old.keys block) × (left.new.items ≡ left.old.items ++ block ∷ []))
+    ensures seen { OnOk result ((other : Block)
+        → Contains seen.new.keys other ↔ ((other ≡ block) ⊎ Contains seen.old.keys other)) }
+    ensures left { OnOk result (((¬ Contains seen.old.keys block)
+        × (left.new.items ≡ left.old.items ++ block ∷ []))
         ⊎ (Contains seen.old.keys block × (left.new.items ≡ left.old.items))) }
 {
     if add(seen, block)? {
@@ -72,7 +78,8 @@ fn leave(seen: &mut HashSet<Block>, left: &mut Vec<Block>, block: Block) -> Resu
 }
 
 fn set_of(alloc: Global, blocks: &[Block]) -> Result<HashSet<Block>, AllocError>
-    ensures { IfOk result (λ found. (block : Block) → Contains found.keys block ↔ Contains blocks.now block) }
+    ensures { IfOk result (λ found. (block : Block)
+        → Contains found.keys block ↔ Contains blocks.now block) }
 {
     let mut found = HashSet::new(alloc);
     for block in blocks {
@@ -83,8 +90,10 @@ fn set_of(alloc: Global, blocks: &[Block]) -> Result<HashSet<Block>, AllocError>
 
 /// Adds a block to a set, and says whether it is new there.
 pub(crate) fn add(blocks: &mut HashSet<Block>, block: Block) -> Result<bool, AllocError>
-    ensures new { IfOk result (λ is_new. MatchBool is_new (¬ Contains blocks.old.keys block) (Contains blocks.old.keys block)) }
-    ensures kept { IfOk result (λ is_new. (other : Block) → Contains blocks.new.keys other ↔ ((other ≡ block) ⊎ Contains blocks.old.keys other)) }
+    ensures new { IfOk result (λ is_new. MatchBool is_new (¬ Contains blocks.old.keys block)
+        (Contains blocks.old.keys block)) }
+    ensures kept { IfOk result (λ is_new. (other : Block)
+        → Contains blocks.new.keys other ↔ ((other ≡ block) ⊎ Contains blocks.old.keys other)) }
 {
     Ok(blocks.insert(block)?)
 }

@@ -28,15 +28,20 @@ pub fn get<D: Disk + Drop>(
 ) -> Result<Option<Vec<u8>>, Refusal>
     requires { node.now.highest < 128 ^ 5 }
     ensures reads { OnlyReadsBlocks store.old store.new missing.now }
-    ensures value { IfOk result (λ found. (stored : Contents) (array : ℕ → Option (List ℕ)) (blocks : List Block) → Holds store.old stored
-        → IsTree stored birth node.now array blocks → AnswersAreTrue store.old store.new → option_map (λ bytes. bytes.items) found ≡ array id) }
+    ensures value { IfOk result (λ found. (stored : Contents) (array : ℕ → Option (List ℕ))
+        (blocks : List Block) → Holds store.old stored
+        → IsTree stored birth node.now array blocks → AnswersAreTrue store.old store.new
+        → option_map (λ bytes. bytes.items) found ≡ array id) }
 
     // Whatever the tree is: what was read on the way, and on a refusal its cause there.
-    ensures found { IfOk result (λ found. IsFound store.old.spaces node.now birth id (bytes_of found)) }
+    ensures found { IfOk result (λ found. IsFound store.old.spaces node.now birth id
+        (bytes_of found)) }
     ensures refused { IfErr result (IsRefused store.old store.new missing.now node.now birth id) }
     ensures cause { IfErr result (λ refusal. refusal ≢ Refusal.NoSpace) }
-    ensures known { IfErr result (λ refusal. (stored : Contents) (array : ℕ → Option (List ℕ)) (blocks : List Block) → Holds store.old stored
-        → IsTree stored birth node.now array blocks → AnswersAreTrue store.old store.new → LossIsTolerable store.old store.new missing.now
+    ensures known { IfErr result (λ refusal. (stored : Contents) (array : ℕ → Option (List ℕ))
+        (blocks : List Block) → Holds store.old stored
+        → IsTree stored birth node.now array blocks → AnswersAreTrue store.old store.new
+        → LossIsTolerable store.old store.new missing.now
         → refusal ≡ Refusal.NoMemory) }
 {
     if id > node.highest {
@@ -62,16 +67,20 @@ fn get_below<D: Disk + Drop>(
     requires low { part.level < 6 }
     requires within { place < 128 ^ part.level }
     ensures reads { OnlyReadsBlocks store.old store.new missing.now }
-    ensures value { IfOk result (λ found. (stored : Contents) (first : ℕ) (array : ℕ → Option (List ℕ)) (blocks : List Block) → Holds store.old stored
+    ensures value { IfOk result (λ found. (stored : Contents) (first : ℕ)
+        (array : ℕ → Option (List ℕ)) (blocks : List Block) → Holds store.old stored
         → IsPart stored node.now first part array blocks → AnswersAreTrue store.old store.new
         → option_map (λ bytes. bytes.items) found ≡ array (first + place)) }
     ensures found { IfOk result (λ found. IsFoundBelow store.old.spaces (property_of node.now)
         (reached part.level part.pointer part.birth) place (bytes_of found)) }
-    ensures refused { IfErr result (IsRefusedBelow store.old store.new missing.now (property_of node.now)
+    ensures refused { IfErr result (IsRefusedBelow store.old store.new missing.now
+        (property_of node.now)
         (reached part.level part.pointer part.birth) place) }
     ensures cause { IfErr result (λ refusal. refusal ≢ Refusal.NoSpace) }
-    ensures known { IfErr result (λ refusal. (stored : Contents) (first : ℕ) (array : ℕ → Option (List ℕ)) (blocks : List Block) → Holds store.old stored
-        → IsPart stored node.now first part array blocks → AnswersAreTrue store.old store.new → LossIsTolerable store.old store.new missing.now
+    ensures known { IfErr result (λ refusal. (stored : Contents) (first : ℕ)
+        (array : ℕ → Option (List ℕ)) (blocks : List Block) → Holds store.old stored
+        → IsPart stored node.now first part array blocks → AnswersAreTrue store.old store.new
+        → LossIsTolerable store.old store.new missing.now
         → refusal ≡ Refusal.NoMemory) }
 {
     let BlockPtr::Block(block) = part.pointer else {

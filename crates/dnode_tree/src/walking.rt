@@ -28,15 +28,20 @@ pub fn walk<D: Disk + Drop>(
 ) -> Result<Vec<Block>, Refusal>
     requires { node.now.highest < 128 ^ 5 }
     ensures reads { OnlyReadsBlocks store.old store.new missing.now }
-    ensures blocks { IfOk result (λ found. (stored : Contents) (array : ℕ → Option (List ℕ)) (blocks : List Block) → Holds store.old stored
-        → IsTree stored birth node.now array blocks → AnswersAreTrue store.old store.new → found.items ≡ blocks) }
+    ensures blocks { IfOk result (λ found. (stored : Contents) (array : ℕ → Option (List ℕ))
+        (blocks : List Block) → Holds store.old stored
+        → IsTree stored birth node.now array blocks → AnswersAreTrue store.old store.new
+        → found.items ≡ blocks) }
 
     // Whatever the tree is: what was walked, and on a refusal its cause.
     ensures found { IfOk result (λ found. AreWalked store.old.spaces node.now birth found.items) }
-    ensures refused { IfErr result (IsWalkRefused store.old store.new missing.now (property_of node.now) (root_of node.now birth)) }
+    ensures refused { IfErr result (IsWalkRefused store.old store.new missing.now
+        (property_of node.now) (root_of node.now birth)) }
     ensures cause { IfErr result (λ refusal. refusal ≢ Refusal.NoSpace) }
-    ensures known { IfErr result (λ refusal. (stored : Contents) (array : ℕ → Option (List ℕ)) (blocks : List Block) → Holds store.old stored
-        → IsTree stored birth node.now array blocks → AnswersAreTrue store.old store.new → LossIsTolerable store.old store.new missing.now
+    ensures known { IfErr result (λ refusal. (stored : Contents) (array : ℕ → Option (List ℕ))
+        (blocks : List Block) → Holds store.old stored
+        → IsTree stored birth node.now array blocks → AnswersAreTrue store.old store.new
+        → LossIsTolerable store.old store.new missing.now
         → refusal ≡ Refusal.NoMemory) }
 {
     let root = Subtree {
@@ -59,15 +64,22 @@ fn collect_below<D: Disk + Drop>(
     found: &mut Vec<Block>,
 ) -> Result<(), Refusal>
     ensures reads { OnlyReadsBlocks store.old store.new missing.now }
-    ensures blocks { OnOk result ((stored : Contents) (first : ℕ) (array : ℕ → Option (List ℕ)) (blocks : List Block) → Holds store.old stored
-        → IsPart stored node.now first part array blocks → AnswersAreTrue store.old store.new → found.new.items ≡ found.old.items ++ blocks) }
-    ensures found { OnOk result ((blocks : List Block) × (found.new.items ≡ found.old.items ++ blocks)
-        × IsWalked store.old.spaces (property_of node.now) part.level part.birth part.pointer blocks) }
-    ensures refused { IfErr result (IsWalkRefused store.old store.new missing.now (property_of node.now)
+    ensures blocks { OnOk result ((stored : Contents) (first : ℕ) (array : ℕ → Option (List ℕ))
+        (blocks : List Block) → Holds store.old stored
+        → IsPart stored node.now first part array blocks → AnswersAreTrue store.old store.new
+        → found.new.items ≡ found.old.items ++ blocks) }
+    ensures found { OnOk result ((blocks : List Block)
+        × (found.new.items ≡ found.old.items ++ blocks)
+        × IsWalked store.old.spaces
+        (property_of node.now) part.level part.birth part.pointer blocks) }
+    ensures refused { IfErr result (IsWalkRefused store.old store.new missing.now
+        (property_of node.now)
         (reached part.level part.pointer part.birth)) }
     ensures cause { IfErr result (λ refusal. refusal ≢ Refusal.NoSpace) }
-    ensures known { IfErr result (λ refusal. (stored : Contents) (first : ℕ) (array : ℕ → Option (List ℕ)) (blocks : List Block) → Holds store.old stored
-        → IsPart stored node.now first part array blocks → AnswersAreTrue store.old store.new → LossIsTolerable store.old store.new missing.now
+    ensures known { IfErr result (λ refusal. (stored : Contents) (first : ℕ)
+        (array : ℕ → Option (List ℕ)) (blocks : List Block) → Holds store.old stored
+        → IsPart stored node.now first part array blocks → AnswersAreTrue store.old store.new
+        → LossIsTolerable store.old store.new missing.now
         → refusal ≡ Refusal.NoMemory) }
 {
     let BlockPtr::Block(block) = part.pointer else {

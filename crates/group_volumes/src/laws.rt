@@ -7,5 +7,7 @@ ghost use Rattle.group_volumes.specs.Volumes.{SpellsPool};
 
 /// Volumes spell their pool still where more blocks are known and for later groups.
 pub fn pools_stay_spelled()
-    ensures stays { (before later : Contents) (early late : ℕ) (volumes : Volumes) (pool : PlainPool) → Extends before later → early ≤ late → SpellsPool before early volumes pool → SpellsPool later late volumes pool }
+    ensures stays { (before later : Contents) (early late : ℕ) (volumes : Volumes)
+        (pool : PlainPool) → Extends before later → early ≤ late
+        → SpellsPool before early volumes pool → SpellsPool later late volumes pool }
 {}

@@ -29,7 +29,8 @@ pub(crate) fn config_in(alloc: Global, rows: &[u8]) -> Result<Config, Refusal>
     ensures found { IfOk result (λ config. SpellsConfig rows.now (config_view config)) }
     ensures only { (vdevs : List PlainVdev) → SpellsConfig rows.now vdevs
         → IfOk result (λ config. config_view config ≡ vdevs) }
-    ensures bad { IsErrOf result Refusal.BadPointer → (vdevs : List PlainVdev) → ¬ SpellsConfig rows.now vdevs }
+    ensures bad { IsErrOf result Refusal.BadPointer → (vdevs : List PlainVdev)
+        → ¬ SpellsConfig rows.now vdevs }
 {
     match Config::decode(alloc, rows) {
         Ok(config) => Ok(config),

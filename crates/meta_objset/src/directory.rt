@@ -166,7 +166,8 @@ impl Directory {
         ensures found { IfOk result (λ rows. IsDirectory rows × (bytes.now ≡ rows_bytes rows)) }
         ensures only { (rows : List DirectoryRow) → IsDirectory rows → bytes.now ≡ rows_bytes rows
             → IfOk result (λ found. found ≡ rows) }
-        ensures bad { IsErrOf result Refusal.BadPointer → (rows : List DirectoryRow) → IsDirectory rows
+        ensures bad { IsErrOf result Refusal.BadPointer → (rows : List DirectoryRow)
+            → IsDirectory rows
             → bytes.now ≢ rows_bytes rows }
     {
         let mut rows = Vec::new(alloc);

@@ -55,7 +55,8 @@ pub fn read_directory<D: Disk + Drop>(
 fn directory_of(alloc: Global, rows: &[u8]) -> Result<Directory, Refusal>
     ensures found { IfOk result (λ found. IsDirectory found × (rows.now ≡ rows_bytes found)) }
     ensures cause { IfErr result (λ refusal. refusal ≢ Refusal.NoSpace) }
-    ensures refused { IfErr result (λ refusal. (refusal ≡ Refusal.NoMemory) ⊎ ((refusal ≡ Refusal.BadPointer)
+    ensures refused { IfErr result (λ refusal. (refusal ≡ Refusal.NoMemory)
+        ⊎ ((refusal ≡ Refusal.BadPointer)
         × ((found : List DirectoryRow) → IsDirectory found → rows.now ≢ rows_bytes found))) }
 {
     match Directory::from_rows(alloc, rows) {
@@ -105,7 +106,8 @@ pub fn read_config<D: Disk + Drop>(
 fn config_of(alloc: Global, rows: &[u8]) -> Result<Config, Refusal>
     ensures found { IfOk result (λ config. SpellsConfig rows.now (config_view config)) }
     ensures cause { IfErr result (λ refusal. refusal ≢ Refusal.NoSpace) }
-    ensures refused { IfErr result (λ refusal. (refusal ≡ Refusal.NoMemory) ⊎ ((refusal ≡ Refusal.BadPointer)
+    ensures refused { IfErr result (λ refusal. (refusal ≡ Refusal.NoMemory)
+        ⊎ ((refusal ≡ Refusal.BadPointer)
         × ((vdevs : List PlainVdev) → ¬ SpellsConfig rows.now vdevs))) }
 {
     match config_in(alloc, rows) {

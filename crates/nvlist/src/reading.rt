@@ -99,7 +99,8 @@ fn value_of_type(
     kind: u32,
     bytes: &[u8],
 ) -> Result<(Value, &[u8]), Refusal>
-    ensures { Gives (λ x. (value_view x.0, x.1.now)) result (value_of_type_at (list_at depth) kind bytes.now) }
+    ensures { Gives (λ x. (value_view x.0, x.1.now)) result
+        (value_of_type_at (list_at depth) kind bytes.now) }
 {
     match kind {
         NUMBER => {
@@ -130,7 +131,8 @@ fn lists_of(
     count: u32,
     bytes: &[u8],
 ) -> Result<(Vec<NvList>, &[u8]), Refusal>
-    ensures { Gives (λ x. (lists_view x.0.items, x.1.now)) result (lists_at (list_at depth) count bytes.now) }
+    ensures { Gives (λ x. (lists_view x.0.items, x.1.now)) result
+        (lists_at (list_at depth) count bytes.now) }
 {
     let mut lists = Vec::new(alloc);
     let mut rest = bytes;
@@ -150,7 +152,8 @@ fn pair_of<'a>(
     last: &[u8],
     bytes: &'a [u8],
 ) -> Result<(Pair, &'a [u8]), Refusal>
-    ensures { Gives (λ x. (pair_view x.0, x.1.now)) result (pair_at (list_at depth) last.now bytes.now) }
+    ensures { Gives (λ x. (pair_view x.0, x.1.now)) result
+        (pair_at (list_at depth) last.now bytes.now) }
 {
     let (name, rest) = name_of(alloc, last, bytes)?;
     let (value, rest) = value_of(alloc, depth, rest)?;
@@ -159,7 +162,8 @@ fn pair_of<'a>(
 
 #[cycle(reading)]
 fn pairs_of(alloc: Global, depth: u8, count: u32, bytes: &[u8]) -> Result<(NvList, &[u8]), Refusal>
-    ensures { Gives (λ x. (list_view x.0, x.1.now)) result (pairs_at (list_at depth) count [] bytes.now) }
+    ensures { Gives (λ x. (list_view x.0, x.1.now)) result
+        (pairs_at (list_at depth) count [] bytes.now) }
 {
     let mut pairs = Vec::new(alloc);
     let mut rest = bytes;

@@ -34,7 +34,8 @@ fn put_rows(bytes: &mut [u8], shape: RowShape, rows: &[u8])
     requires shape { FitsShape shape }
     requires room { shape.first_len + length rows.now ≤ length bytes.old }
     requires zeros { bytes.old ≡ replicate (length bytes.old) 0 }
-    ensures { bytes.new ≡ word_bytes (length rows.now / shape.row_len ∷ []) ++ (replicate (shape.first_len - 8) 0
+    ensures { bytes.new ≡ word_bytes (length rows.now / shape.row_len ∷ []) ++
+        (replicate (shape.first_len - 8) 0
         ++ (rows.now ++ replicate (length bytes.old - (shape.first_len + length rows.now)) 0)) }
 {
     let count = (rows.len() / shape.row_len) as u64;
@@ -45,7 +46,8 @@ fn put_rows(bytes: &mut [u8], shape: RowShape, rows: &[u8])
 /// Writes a field.
 fn put(bytes: &mut [u8], at: usize, field: &[u8])
     requires { at + length field.now ≤ length bytes.old }
-    ensures { bytes.new ≡ take at bytes.old ++ (field.now ++ drop (at + length field.now) bytes.old) }
+    ensures { bytes.new ≡ take at bytes.old ++ (field.now ++ drop
+        (at + length field.now) bytes.old) }
 {
     bytes[at..at + field.len()].copy_from_slice(field);
 }
@@ -56,8 +58,10 @@ pub fn decode(alloc: Global, shape: RowShape, bytes: &[u8]) -> Result<Vec<u8>, R
     // What is found is spelled so, each byte of it.
     ensures found { IfOk result (λ rows. SpellsRows shape bytes.now rows.items) }
     // What is spelled so is found, while there is memory.
-    ensures only { (rows : List ℕ) → SpellsRows shape bytes.now rows → IfOk result (λ found. found.items ≡ rows) }
-    ensures bad { IsErrOf result Refusal.BadPointer → (rows : List ℕ) → ¬ SpellsRows shape bytes.now rows }
+    ensures only { (rows : List ℕ) → SpellsRows shape bytes.now rows
+        → IfOk result (λ found. found.items ≡ rows) }
+    ensures bad { IsErrOf result Refusal.BadPointer → (rows : List ℕ)
+        → ¬ SpellsRows shape bytes.now rows }
 {
     let Some(rows) = rows_in(shape, bytes) else {
         return Err(Refusal::BadPointer);
@@ -69,7 +73,8 @@ pub fn decode(alloc: Global, shape: RowShape, bytes: &[u8]) -> Result<Vec<u8>, R
 fn rows_in(shape: RowShape, bytes: &[u8]) -> Option<&[u8]>
     requires { FitsShape shape }
     ensures found { IfSome result (λ rows. SpellsRows shape bytes.now rows.now) }
-    ensures only { (rows : List ℕ) → SpellsRows shape bytes.now rows → IsSomeAnd result (λ found. found.now ≡ rows) }
+    ensures only { (rows : List ℕ) → SpellsRows shape bytes.now rows
+        → IsSomeAnd result (λ found. found.now ≡ rows) }
 {
     if bytes.len() < shape.first_len || bytes.len() % BLOCK_LEN != 0 {
         return None;
@@ -91,7 +96,8 @@ fn rows_in(shape: RowShape, bytes: &[u8]) -> Option<&[u8]>
 fn number_of(word: &[u8]) -> u64
     requires { length word.now ≡ 8 }
     ensures found { word.now ≡ word_bytes (result ∷ []) }
-    ensures only { (number : ℕ) → number < 2 ^ 64 → word.now ≡ word_bytes (number ∷ []) → result ≡ number }
+    ensures only { (number : ℕ) → number < 2 ^ 64 → word.now ≡ word_bytes (number ∷ [])
+        → result ≡ number }
 {
     let mut words = [0];
     read_words(word, &mut words);

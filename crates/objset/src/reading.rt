@@ -30,17 +30,24 @@ pub fn get<D: Disk + Drop>(
 ) -> Result<Option<Vec<u8>>, Refusal>
     requires { FitsObjectSet set.now }
     ensures reads { OnlyReadsBlocks store.old store.new missing.now }
-    ensures value { IfOk result (λ found. (stored : Contents) (objects : ℕ → Option Object) (own : List Block) (blocks : ℕ → List Block) → Holds store.old stored
+    ensures value { IfOk result (λ found. (stored : Contents) (objects : ℕ → Option Object)
+        (own : List Block) (blocks : ℕ → List Block) → Holds store.old stored
         → AreObjects stored birth set.now objects own blocks → AnswersAreTrue store.old store.new
-        → IsSomeAnd (objects number) (λ object. option_map (λ bytes. bytes.items) found ≡ object.array id)) }
+        → IsSomeAnd (objects number) (λ object. option_map
+        (λ bytes. bytes.items) found ≡ object.array id)) }
 
     // Whatever the set is: what was read, and on a refusal its cause.
-    ensures found { IfOk result (λ found. IsDataFound store.old.spaces set.now birth number id (bytes_of found)) }
-    ensures refused { IfErr result (IsDataRefused store.old store.new missing.now set.now birth number id) }
+    ensures found { IfOk result (λ found. IsDataFound store.old.spaces set.now birth number id
+        (bytes_of found)) }
+    ensures refused { IfErr result
+        (IsDataRefused store.old store.new missing.now set.now birth number id) }
     ensures cause { IfErr result (λ refusal. refusal ≢ Refusal.NoSpace) }
-    ensures known { IfErr result (λ refusal. (stored : Contents) (objects : ℕ → Option Object) (own : List Block) (blocks : ℕ → List Block) → Holds store.old stored
-        → AreObjects stored birth set.now objects own blocks → AnswersAreTrue store.old store.new → LossIsTolerable store.old store.new missing.now
-        → (refusal ≡ Refusal.NoMemory) ⊎ ((refusal ≡ Refusal.BadPointer) × (objects number ≡ None))) }
+    ensures known { IfErr result (λ refusal. (stored : Contents) (objects : ℕ → Option Object)
+        (own : List Block) (blocks : ℕ → List Block) → Holds store.old stored
+        → AreObjects stored birth set.now objects own blocks → AnswersAreTrue store.old store.new
+        → LossIsTolerable store.old store.new missing.now
+        → (refusal ≡ Refusal.NoMemory) ⊎ ((refusal ≡ Refusal.BadPointer)
+        × (objects number ≡ None))) }
 {
     let Dnode::Object(node) = dnode_slots::get(set, store, alloc, number, birth, missing)? else {
         return Err(Refusal::BadPointer);
@@ -61,13 +68,17 @@ pub fn walk<D: Disk + Drop>(
 ) -> Result<Vec<Block>, Refusal>
     requires { FitsObjectSet set.now }
     ensures reads { OnlyReadsBlocks store.old store.new missing.now }
-    ensures blocks { IfOk result (λ found. (stored : Contents) (objects : ℕ → Option Object) (own : List Block) (blocks : ℕ → List Block) → Holds store.old stored
+    ensures blocks { IfOk result (λ found. (stored : Contents) (objects : ℕ → Option Object)
+        (own : List Block) (blocks : ℕ → List Block) → Holds store.old stored
         → AreObjects stored birth set.now objects own blocks → AnswersAreTrue store.old store.new
         → (objects number ≢ None) × (found.items ≡ blocks number)) }
     ensures cause { IfErr result (λ refusal. refusal ≢ Refusal.NoSpace) }
-    ensures known { IfErr result (λ refusal. (stored : Contents) (objects : ℕ → Option Object) (own : List Block) (blocks : ℕ → List Block) → Holds store.old stored
-        → AreObjects stored birth set.now objects own blocks → AnswersAreTrue store.old store.new → LossIsTolerable store.old store.new missing.now
-        → (refusal ≡ Refusal.NoMemory) ⊎ ((refusal ≡ Refusal.BadPointer) × (objects number ≡ None))) }
+    ensures known { IfErr result (λ refusal. (stored : Contents) (objects : ℕ → Option Object)
+        (own : List Block) (blocks : ℕ → List Block) → Holds store.old stored
+        → AreObjects stored birth set.now objects own blocks → AnswersAreTrue store.old store.new
+        → LossIsTolerable store.old store.new missing.now
+        → (refusal ≡ Refusal.NoMemory) ⊎ ((refusal ≡ Refusal.BadPointer)
+        × (objects number ≡ None))) }
 {
     let Dnode::Object(node) = dnode_slots::get(set, store, alloc, number, birth, missing)? else {
         return Err(Refusal::BadPointer);

@@ -41,10 +41,13 @@ impl<D: Disk + Drop> Core<D> {
     /// many as it has children. Shapes and disks that no pool may have are `BadConfig`.
     pub fn create(alloc: Global, disks: Vec<D>, vdevs: &[VdevConfig]) -> Result<Self, Refusal>
         ensures starts { IfOk result (λ core. (disks_in core).starts ≡ map D.start disks.items) }
-        ensures calls { IfOk result (λ core. (which : ℕ) → calls_on which (disks_in core).calls ≡ log_of (map D.calls disks.items) which) }
-        ensures represents { IfOk result (λ core. Represents (state_of core) (started (vdevs_from 0 vdevs.now))) }
+        ensures calls { IfOk result (λ core. (which : ℕ)
+            → calls_on which (disks_in core).calls ≡ log_of (map D.calls disks.items) which) }
+        ensures represents { IfOk result (λ core. Represents (state_of core)
+            (started (vdevs_from 0 vdevs.now))) }
         ensures refused { IfErr result (λ refusal. (refusal ≡ Refusal.NoMemory)
-            ⊎ ((refusal ≡ Refusal.BadConfig) × ((shapes : List ShapeOf) → ¬ (IsFewVdevs vdevs.now × AreShapes (map D.start disks.items) 0 vdevs.now shapes)))) }
+            ⊎ ((refusal ≡ Refusal.BadConfig) × ((shapes : List ShapeOf)
+            → ¬ (IsFewVdevs vdevs.now × AreShapes (map D.start disks.items) 0 vdevs.now shapes)))) }
     {
         match Commit::new(alloc, disks, vdevs) {
             Ok(commit) => Ok(Core {
@@ -58,7 +61,8 @@ impl<D: Disk + Drop> Core<D> {
 
     /// Whether the pool is suspended, and refuses the step for that.
     fn is_refused(&self, step: &Step) -> bool
-        ensures { (v : View) → Backs (state_of self.now).commit v → result ≡ (barred_step step.now && is_suspended v) }
+        ensures { (v : View) → Backs (state_of self.now).commit v
+            → result ≡ (barred_step step.now && is_suspended v) }
     {
         let suspended = self.commit.is_suspended();
         is_barred(step) && suspended

@@ -20,7 +20,8 @@ impl<D: Disk + Drop> Core<D> {
     /// Reads what all accepted groups make.
     pub(crate) fn read(&mut self, name: &Name, offset: u64, len: u64) -> Reply
         ensures grew { GrewTo (disks_in self.old) (disks_in self.new) }
-        ensures goes { TakesStep (state_of self.old) (steps.Read name.now offset len) result (state_of self.new) }
+        ensures goes { TakesStep (state_of self.old) (steps.Read name.now offset len) result
+            (state_of self.new) }
     {
         let found = self.intake.find(name);
         match against_read(offset, len, found) {
@@ -46,7 +47,8 @@ impl<D: Disk + Drop> Core<D> {
     /// Reads what a kept group contains.
     pub(crate) fn reply_under(&mut self, group: u64, name: &Name, offset: u64, len: u64) -> Reply
         ensures grew { GrewTo (disks_in self.old) (disks_in self.new) }
-        ensures goes { TakesStep (state_of self.old) (steps.ReadUnder group name.now offset len) result (state_of self.new) }
+        ensures goes { TakesStep (state_of self.old)
+            (steps.ReadUnder group name.now offset len) result (state_of self.new) }
     {
         match self.read_under(group, name, offset, len, &[]) {
             Ok(bytes) => Reply::Bytes(bytes),
@@ -64,12 +66,15 @@ impl<D: Disk + Drop> Core<D> {
         missing: &[usize],
     ) -> Result<Bytes, Refusal>
         ensures intake { (state_of self.new).intake ≡ (state_of self.old).intake }
-        ensures reads { OnlyReadsPool (state_of self.old).commit (state_of self.new).commit missing.now }
+        ensures reads { OnlyReadsPool (state_of self.old).commit
+            (state_of self.new).commit missing.now }
         ensures bytes { IfOk result (λ bytes. (v : View) → Represents (state_of self.old) v
             → (refusal_of v (steps.ReadUnder group name.now offset len) ≡ None)
-            × (PoolAnswersTruly (state_of self.old) (state_of self.new) → AreBytesOf (v.pools group) name.now offset len bytes)) }
+            × (PoolAnswersTruly (state_of self.old) (state_of self.new)
+            → AreBytesOf (v.pools group) name.now offset len bytes)) }
         ensures refused { IfErr result (λ refusal. (v : View) → Represents (state_of self.old) v
-            → (refusal ≡ Refusal.NoMemory) ⊎ ((refusal_of v (steps.ReadUnder group name.now offset len) ≡ Some refusal)
+            → (refusal ≡ Refusal.NoMemory) ⊎ ((refusal_of v
+            (steps.ReadUnder group name.now offset len) ≡ Some refusal)
             ⊎ ((refusal_of v (steps.ReadUnder group name.now offset len) ≡ None)
             × IsLostAnswer v (state_of self.old).commit (state_of self.new).commit
             group name.now offset len missing.now refusal))) }

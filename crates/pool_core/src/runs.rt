@@ -16,9 +16,11 @@ pub fn run<D: Disk + Drop>(
     steps: Vec<Step>,
     replies: &mut Vec<Reply>,
 ) -> Result<(), Refusal>
-    ensures all { OnOk result (Ran (state_of core.old) steps.items replies.old.items (state_of core.new) replies.new.items) }
+    ensures all { OnOk result (Ran (state_of core.old) steps.items replies.old.items
+        (state_of core.new) replies.new.items) }
     ensures memory { IfErr result (λ refusal. refusal ≡ Refusal.NoMemory) }
-    ensures front { OnErr result ((taken rest : List Step) × (taken ++ rest ≡ steps.items) × Ran (state_of core.old) taken replies.old.items (state_of core.new) replies.new.items) }
+    ensures front { OnErr result ((taken rest : List Step) × (taken ++ rest ≡ steps.items)
+        × Ran (state_of core.old) taken replies.old.items (state_of core.new) replies.new.items) }
 {
     let mut left = VecDeque::from_vec(steps);
     'taking: while let Some(step) = left.pop_front() {

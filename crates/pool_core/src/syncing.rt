@@ -20,7 +20,8 @@ impl<D: Disk + Drop> Core<D> {
     /// Takes the quiesced group to be synced, or the one whose plan was dropped, and plans it.
     pub(crate) fn plan(&mut self) -> Reply
         ensures grew { GrewTo (disks_in self.old) (disks_in self.new) }
-        ensures goes { (timestamp : ℕ) → TakesStepUnlessSuspended (state_of self.old) (steps.Plan timestamp) result (state_of self.new) }
+        ensures goes { (timestamp : ℕ) → TakesStepUnlessSuspended (state_of self.old)
+            (steps.Plan timestamp) result (state_of self.new) }
     {
         if self.commit.is_planned() {
             return Reply::Refused(Refusal::NotNow);
@@ -41,7 +42,8 @@ impl<D: Disk + Drop> Core<D> {
     /// Makes the next device calls of the plan.
     pub(crate) fn device(&mut self) -> Reply
         ensures grew { GrewTo (disks_in self.old) (disks_in self.new) }
-        ensures goes { TakesStepUnlessSuspended (state_of self.old) steps.Device result (state_of self.new) }
+        ensures goes { TakesStepUnlessSuspended (state_of self.old) steps.Device result
+            (state_of self.new) }
     {
         match self.commit.device() {
             None => Reply::Refused(Refusal::NotNow),
@@ -54,8 +56,10 @@ impl<D: Disk + Drop> Core<D> {
     /// All device calls of the group that is synced are made.
     fn commit_group(&mut self) -> Reply
         ensures commit { (state_of self.new).commit ≡ (state_of self.old).commit }
-        ensures committed { (v : View) → Follows (state_of self.old).intake v → is_syncing v.sync ≡ true
-            → (result ≡ replies.Committed (suc v.committed)) × Follows (state_of self.new).intake (committed_next v) }
+        ensures committed { (v : View) → Follows (state_of self.old).intake v
+            → is_syncing v.sync ≡ true
+            → (result ≡ replies.Committed (suc v.committed))
+            × Follows (state_of self.new).intake (committed_next v) }
     {
         match self.intake.commit() {
             Ok(group) => Reply::Committed(group),
@@ -65,7 +69,9 @@ impl<D: Disk + Drop> Core<D> {
 
     /// A disk failed a call of the plan, which is dropped: the pool waits to be planned again, or it is suspended.
     fn replan(&self, disk: usize) -> Reply
-        ensures { (v : View) → Backs (state_of self.now).commit v → result ≡ (if is_suspended v then replies.Refused causes.Suspended else replies.Replan disk) }
+        ensures { (v : View) → Backs (state_of self.now).commit v
+            → result ≡
+            (if is_suspended v then replies.Refused causes.Suspended else replies.Replan disk) }
     {
         if self.commit.is_suspended() {
             return Reply::Refused(Refusal::Suspended);

@@ -116,8 +116,12 @@ impl Intake {
 
     /// Takes the quiesced group to be synced, if none is synced. `NotNow` where none is quiesced either.
     pub fn begin_sync(&mut self) -> Result<(), Refusal>
-        ensures begun { OnOk result ((v : View) (timestamp : ℕ) → Follows self.old v → is_suspended v ≡ false → is_planned v.sync ≡ false → (refusal_of v (steps.Plan timestamp) ≡ None) × Follows self.new (taken v Unplanned)) }
-        ensures refused { IfErr result (λ cause. (v : View) (timestamp : ℕ) → Follows self.old v → is_suspended v ≡ false → is_planned v.sync ≡ false → (refusal_of v (steps.Plan timestamp) ≡ Some cause) × Follows self.new v) }
+        ensures begun { OnOk result ((v : View) (timestamp : ℕ) → Follows self.old v
+            → is_suspended v ≡ false → is_planned v.sync ≡ false
+            → (refusal_of v (steps.Plan timestamp) ≡ None) × Follows self.new (taken v Unplanned)) }
+        ensures refused { IfErr result (λ cause. (v : View) (timestamp : ℕ) → Follows self.old v
+            → is_suspended v ≡ false → is_planned v.sync ≡ false
+            → (refusal_of v (steps.Plan timestamp) ≡ Some cause) × Follows self.new v) }
     {
         if self.pipeline.is_syncing() {
             return Ok(());
@@ -131,7 +135,8 @@ impl Intake {
     /// What the group that is synced has accepted.
     pub fn syncing_items(&self) -> Option<&Pending>
         ensures some { (v : View) → Follows self.now v → is_some result ≡ is_syncing v.sync }
-        ensures items { IfSome result (λ items. (v : View) → Follows self.now v → items.now ≡ v.ledger (suc v.committed)) }
+        ensures items { IfSome result (λ items. (v : View) → Follows self.now v
+            → items.now ≡ v.ledger (suc v.committed)) }
     {
         self.pipeline.syncing_items()
     }
@@ -145,8 +150,11 @@ impl Intake {
 
     /// The group that is synced is committed, and its items are let go.
     pub fn commit(&mut self) -> Result<u64, Refusal>
-        ensures committed { IfOk result (λ group. (v : View) → Follows self.old v → (group ≡ suc v.committed) × Follows self.new (committed_next v)) }
-        ensures refused { IfErr result (λ cause. (cause ≡ Refusal.NotNow) × ((v : View) → Follows self.old v → (is_syncing v.sync ≡ false) × Follows self.new v)) }
+        ensures committed { IfOk result (λ group. (v : View) → Follows self.old v
+            → (group ≡ suc v.committed) × Follows self.new (committed_next v)) }
+        ensures refused { IfErr result (λ cause. (cause ≡ Refusal.NotNow)
+            × ((v : View) → Follows self.old v → (is_syncing v.sync ≡ false)
+            × Follows self.new v)) }
     {
         match self.pipeline.committed() {
             Ok(group) => Ok(group),
@@ -166,15 +174,18 @@ impl Intake {
     /// volume), and then has the range of the volume's bytes.
     pub fn read_pending(&self, shape: VolumeShape, name: &Name, offset: u64, buffer: &mut [u8])
         requires { offset + length buffer.old ≤ shape.size }
-        ensures { (v : View) (volume : PlainVolume) → Follows self.now v → volume_at name.now (now_of v) ≡ Some volume → shape_of volume ≡ shape →
-            HasRange buffer.old (base_of v name.now volume) offset → HasRange buffer.new volume.bytes offset }
+        ensures { (v : View) (volume : PlainVolume) → Follows self.now v
+            → volume_at name.now (now_of v) ≡ Some volume → shape_of volume ≡ shape →
+            HasRange buffer.old (base_of v name.now volume) offset
+            → HasRange buffer.new volume.bytes offset }
     {
         read_pending(&self.pipeline, shape, name, offset, buffer);
     }
 
     // Why a write is refused, by its writer's hold and number and by its volume in NOW.
     fn write_refusal(&self, write: &Write) -> Option<Refusal>
-        ensures { (v : View) → Follows self.now v → is_suspended v ≡ false → result ≡ refusal_of v (steps.Write write.now) }
+        ensures { (v : View) → Follows self.now v → is_suspended v ≡ false
+            → result ≡ refusal_of v (steps.Write write.now) }
     {
         match self.pipeline.admitted(write.writer, write.number) {
             Ok(group) => against_write(write, group, self.index.find(&write.volume)),
@@ -184,7 +195,8 @@ impl Intake {
 
     // Why an action is refused, by its writer's hold and number and by the names of NOW.
     fn action_refusal(&self, action: &Action) -> Option<Refusal>
-        ensures { (v : View) → Follows self.now v → is_suspended v ≡ false → result ≡ refusal_of v (steps.Act action.now) }
+        ensures { (v : View) → Follows self.now v → is_suspended v ≡ false
+            → result ≡ refusal_of v (steps.Act action.now) }
     {
         match self.pipeline.admitted(action.writer, action.number) {
             Ok(group) if group != self.pipeline.open_group() => Some(Refusal::NotNow),
@@ -196,7 +208,8 @@ impl Intake {
 
 // The name and the shape of the volume that a change makes in this group.
 fn new_volume(alloc: Global, change: &Change, group: u64) -> Result<(Name, VolumeShape), AllocError>
-    ensures { IfOk result (λ volume. (change.now ≡ Create volume.0 volume.1.size volume.1.block_size)
+    ensures { IfOk result
+        (λ volume. (change.now ≡ Create volume.0 volume.1.size volume.1.block_size)
         × (volume.1.group ≡ group) × (volume.1.kind ≡ Volume)) }
 {
     match change {

@@ -7,5 +7,6 @@ ghost use Rattle.pool_intake.specs.Follows.{Follows};
 
 /// An intake follows each view that differs only in disks, and in how far the group that is synced is.
 pub fn views_are_followed_by_their_groups()
-    ensures { (intake : Intake) (v w : View) → Follows intake v → flow_of w ≡ flow_of v → w.pools ≡ v.pools → w.first ≡ v.first → Follows intake w }
+    ensures { (intake : Intake) (v w : View) → Follows intake v → flow_of w ≡ flow_of v
+        → w.pools ≡ v.pools → w.first ≡ v.first → Follows intake w }
 {}

@@ -59,7 +59,8 @@ pub fn runs(alloc: Global, bytes: &[u8]) -> Result<Vec<Run>, AllocError>
 
 /// The runs of the bytes, parted by one space, as `01x512 00x512`.
 pub fn runs_text(alloc: Global, bytes: &[u8]) -> Result<String, AllocError>
-    ensures { IfOk result (λ text. (runs : List Run) × AreRuns bytes.now runs × (string_bytes text ≡ runs_text runs)) }
+    ensures { IfOk result (λ text. (runs : List Run) × AreRuns bytes.now runs
+        × (string_bytes text ≡ runs_text runs)) }
 {
     let runs = runs(alloc, bytes)?;
     let Some((first, others)) = runs.split_first() else {

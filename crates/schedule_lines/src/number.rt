@@ -33,7 +33,8 @@ pub(crate) fn number32(word: &[u8]) -> Option<u32>
 
 /// The value of a hexadecimal digit, lower case.
 fn hexadecimal(digit: u8) -> Option<u8>
-    ensures { MatchOption result ((d : ℕ) → d < 16 → digit ≢ digit_glyph false d) (λ d. (d < 16) × (digit ≡ digit_glyph false d)) }
+    ensures { MatchOption result ((d : ℕ) → d < 16 → digit ≢ digit_glyph false d)
+        (λ d. (d < 16) × (digit ≡ digit_glyph false d)) }
 {
     match digit {
         b'0'..=b'9' => Some(digit - b'0'),

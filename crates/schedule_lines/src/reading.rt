@@ -118,7 +118,8 @@ pub fn parse(alloc: Global, line: &[u8]) -> Result<Line, Refusal>
     // What is read is spelled so.
     ensures found { IfOk result (λ value. Spells value line.now) }
     // What is spelled so is read, unless memory runs out.
-    ensures only { (value : Line) → Spells value line.now → (result ≡ Ok value) ⊎ (result ≡ Err Refusal.NoMemory) }
+    ensures only { (value : Line) → Spells value line.now
+        → (result ≡ Ok value) ⊎ (result ≡ Err Refusal.NoMemory) }
     // A fault spells nothing.
     ensures fault { result ≡ Err Refusal.Fault → (value : Line) → Spells value line.now → ⊥ }
 {

@@ -35,7 +35,8 @@ fn first_space(bytes: &[u8]) -> Option<usize>
 
 /// The bytes before the first space, and those behind it if there is one.
 fn first_word(bytes: &[u8]) -> (&[u8], Option<&[u8]>)
-    ensures { slice_split (λ b. b == 32) bytes.now ≡ result.0.now ∷ words_left (option_copied result.1) }
+    ensures { slice_split (λ b. b == 32) bytes.now ≡ result.0.now ∷ words_left
+        (option_copied result.1) }
 {
     match first_space(bytes) {
         Some(end) => (&bytes[..end], Some(&bytes[end + 1..])),

@@ -315,7 +315,8 @@ fn is_refused(
     second: Case,
 ) -> Result<bool, AllocError>
     requires set { FitsObjectSet set.now }
-    requires order { (0 < first.number) × (first.number < second.number) × (second.number < 32 * 128 ^ 5) }
+    requires order { (0 < first.number) × (first.number < second.number)
+        × (second.number < 32 * 128 ^ 5) }
     requires first { (first.id < 128 ^ 5) × (0 < first.sectors) × (first.sectors ≤ 256) }
     requires second { (second.id < 128 ^ 5) × (0 < second.sectors) × (second.sectors ≤ 256) }
 {

@@ -44,7 +44,8 @@ type Places = (u64, u64, u64);
 fn blocks_at(alloc: Global, places: Places, birth: u64) -> Result<Vec<BlockWrite>, AllocError>
     ensures ids { IfOk result (λ writes. All (λ write. write.id < 128 ^ 5) writes.items) }
     ensures order { IfOk result (λ writes. AreInOrder writes.items) }
-    ensures whole { IfOk result (λ writes. All (λ write. length write.bytes.items ≡ 512) writes.items) }
+    ensures whole { IfOk result
+        (λ writes. All (λ write. length write.bytes.items ≡ 512) writes.items) }
 {
     let (first, step, count) = places;
     let step = step.clamp(1, MAX_BLOCKS);

@@ -51,7 +51,8 @@ fn made(store: &mut Store, alloc: Global) -> Result<VolumeSet, Refusal>
 
 /// The volume after the writes, once it is stored.
 fn rewritten(volume: &VolumeSet, store: &mut Store, alloc: Global) -> Result<Rewritten, Refusal>
-    ensures { IfOk result (λ done. HasShape done.volume (size_of volume.now) (block_size_of volume.now)) }
+    ensures { IfOk result (λ done. HasShape done.volume (size_of volume.now)
+        (block_size_of volume.now)) }
 {
     let name = name(alloc)?;
     let writes = two_writes(alloc)?;

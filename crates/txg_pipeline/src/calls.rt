@@ -79,8 +79,10 @@ pub fn run(
     calls: Vec<Call>,
     answers: &mut Vec<Answer>,
 ) -> Result<(), AllocError>
-    ensures all { OnOk result (Ran pipeline.old calls.items answers.old.items pipeline.new answers.new.items) }
-    ensures front { OnErr result ((taken rest : List Call) × (taken ++ rest ≡ calls.items) × Ran pipeline.old taken answers.old.items pipeline.new answers.new.items) }
+    ensures all { OnOk result
+        (Ran pipeline.old calls.items answers.old.items pipeline.new answers.new.items) }
+    ensures front { OnErr result ((taken rest : List Call) × (taken ++ rest ≡ calls.items)
+        × Ran pipeline.old taken answers.old.items pipeline.new answers.new.items) }
 {
     let mut left = VecDeque::from_vec(calls);
     'taking: while let Some(call) = left.pop_front() {

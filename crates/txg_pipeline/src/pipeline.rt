@@ -65,7 +65,8 @@ impl Pipeline {
     }
 
     fn open_number(&self) -> u64
-        ensures { result ≡ open_after self.now.committed self.now.syncing (is_some self.now.waiting) }
+        ensures { result ≡ open_after self.now.committed self.now.syncing
+            (is_some self.now.waiting) }
     {
         self.waiting_number() + u64::from(self.waiting.is_some())
     }
@@ -112,8 +113,10 @@ impl Pipeline {
     /// Whether a writer may send an item with this number now: the group of its hold, or why not.
     pub fn admitted(&self, writer: u32, number: u64) -> Result<u64, Refusal>
         ensures small { OnOk result (number ≤ greatest) }
-        ensures ok { IfOk result (λ group. (f : Flow) → Carries self.now f → IsAdmitted f writer number group) }
-        ensures refused { IfErr result (λ cause. (f : Flow) → Carries self.now f → IsNotAdmitted f writer number cause) }
+        ensures ok { IfOk result (λ group. (f : Flow) → Carries self.now f
+            → IsAdmitted f writer number group) }
+        ensures refused { IfErr result (λ cause. (f : Flow) → Carries self.now f
+            → IsNotAdmitted f writer number cause) }
     {
         let Some(group) = self.hold_of(writer) else {
             return Err(Refusal::NoHold);
@@ -135,7 +138,8 @@ impl Pipeline {
     /// What the waiting group has accepted.
     pub fn waiting_items(&self) -> Option<&Pending>
         ensures some { (f : Flow) → Carries self.now f → is_some result ≡ is_some f.waiting }
-        ensures items { IfSome result (λ items. (f : Flow) → Carries self.now f → items.now ≡ f.ledger (waiting_in f)) }
+        ensures items { IfSome result (λ items. (f : Flow) → Carries self.now f
+            → items.now ≡ f.ledger (waiting_in f)) }
     {
         if self.waiting.is_some() {
             Some(&self.waited)
@@ -147,7 +151,8 @@ impl Pipeline {
     /// What the group that is synced has accepted.
     pub fn syncing_items(&self) -> Option<&Pending>
         ensures some { (f : Flow) → Carries self.now f → is_some result ≡ f.syncing }
-        ensures items { IfSome result (λ items. (f : Flow) → Carries self.now f → items.now ≡ f.ledger (suc f.committed)) }
+        ensures items { IfSome result (λ items. (f : Flow) → Carries self.now f
+            → items.now ≡ f.ledger (suc f.committed)) }
     {
         if self.syncing {
             Some(&self.synced)
@@ -159,7 +164,9 @@ impl Pipeline {
     /// The writer takes a hold of the open group.
     pub fn hold(&mut self, writer: u32) -> Result<u64, Refusal>
         ensures held { IfOk result (λ group. Does self.old (Hold writer) (Held group) self.new) }
-        ensures refused { IfErr result (λ cause. (cause ≡ NoMemory) ⊎ ((cause ≡ AlreadyHeld) × ((f : Flow) → Carries self.old f → is_some (hold_group writer f.holds) ≡ true))) }
+        ensures refused { IfErr result (λ cause. (cause ≡ NoMemory)
+            ⊎ ((cause ≡ AlreadyHeld) × ((f : Flow) → Carries self.old f
+            → is_some (hold_group writer f.holds) ≡ true))) }
         ensures err { OnErr result (IsUnchanged self.old self.new) }
     {
         if self.hold_of(writer).is_some() {
@@ -175,8 +182,10 @@ impl Pipeline {
     /// A write under a hold of the open or the quiescing group, or an action under one of the open group, joins the
     /// items of that group. It costs the same however many items there are.
     pub fn accept(&mut self, item: Item) -> Result<u64, Refusal>
-        ensures accepted { IfOk result (λ group. Does self.old (step_of_item item) (Receipt group) self.new) }
-        ensures refused { IfErr result (λ cause. (f : Flow) → Carries self.old f → IsNotAccepted f item cause) }
+        ensures accepted { IfOk result (λ group. Does self.old (step_of_item item)
+            (Receipt group) self.new) }
+        ensures refused { IfErr result (λ cause. (f : Flow) → Carries self.old f
+            → IsNotAccepted f item cause) }
         ensures err { OnErr result (IsUnchanged self.old self.new) }
     {
         let (writer, number) = sender_of(&item);
@@ -194,8 +203,10 @@ impl Pipeline {
     /// The writer gives its hold back.
     pub fn release(&mut self, writer: u32) -> Result<(), Refusal>
         ensures released { OnOk result (Does self.old (Release writer) Released self.new) }
-        ensures was_held { OnOk result ((f : Flow) → Carries self.old f → is_some (hold_group writer f.holds) ≡ true) }
-        ensures refused { IfErr result (λ cause. (cause ≡ NoHold) × ((f : Flow) → Carries self.old f → hold_group writer f.holds ≡ None)) }
+        ensures was_held { OnOk result ((f : Flow) → Carries self.old f
+            → is_some (hold_group writer f.holds) ≡ true) }
+        ensures refused { IfErr result (λ cause. (cause ≡ NoHold)
+            × ((f : Flow) → Carries self.old f → hold_group writer f.holds ≡ None)) }
         ensures err { OnErr result (IsUnchanged self.old self.new) }
     {
         if self.hold_of(writer).is_none() {
@@ -208,7 +219,9 @@ impl Pipeline {
     /// The open group begins to wait, and the next one opens.
     pub fn close_open(&mut self) -> Result<u64, Refusal>
         ensures closed { IfOk result (λ group. Does self.old Close (Closed group) self.new) }
-        ensures refused { IfErr result (λ cause. (cause ≡ NotNow) × ((f : Flow) → Carries self.old f → (is_some f.waiting ≡ true) ⊎ (greatest ≤ opened f))) }
+        ensures refused { IfErr result (λ cause. (cause ≡ NotNow)
+            × ((f : Flow) → Carries self.old f → (is_some f.waiting ≡ true)
+            ⊎ (greatest ≤ opened f))) }
         ensures err { OnErr result (IsUnchanged self.old self.new) }
     {
         let closing = self.open_number();
@@ -223,7 +236,9 @@ impl Pipeline {
     /// The waiting group takes nothing more, where no hold is left in it.
     pub fn mark_quiesced(&mut self) -> Result<u64, Refusal>
         ensures quiesced { IfOk result (λ group. Does self.old Quiesce (Quiesced group) self.new) }
-        ensures refused { IfErr result (λ cause. (cause ≡ NotNow) × ((f : Flow) → Carries self.old f → (is_quiescing f.waiting ≡ false) ⊎ (is_held (waiting_in f) f.holds ≡ true))) }
+        ensures refused { IfErr result (λ cause. (cause ≡ NotNow)
+            × ((f : Flow) → Carries self.old f → (is_quiescing f.waiting ≡ false)
+            ⊎ (is_held (waiting_in f) f.holds ≡ true))) }
         ensures err { OnErr result (IsUnchanged self.old self.new) }
     {
         let group = self.waiting_number();
@@ -236,9 +251,13 @@ impl Pipeline {
 
     /// The quiesced group begins to be synced, where none is.
     pub fn take(&mut self) -> Result<u64, Refusal>
-        ensures taken { IfOk result (λ group. (timestamp : ℕ) → Does self.old (Plan timestamp) (Planned group) self.new) }
-        ensures was_idle { IfOk result (λ group. (f : Flow) → Carries self.old f → f.syncing ≡ false) }
-        ensures refused { IfErr result (λ cause. (cause ≡ NotNow) × ((f : Flow) → Carries self.old f → (f.syncing ≡ true) ⊎ (is_quiesced f.waiting ≡ false))) }
+        ensures taken { IfOk result (λ group. (timestamp : ℕ)
+            → Does self.old (Plan timestamp) (Planned group) self.new) }
+        ensures was_idle { IfOk result (λ group. (f : Flow) → Carries self.old f
+            → f.syncing ≡ false) }
+        ensures refused { IfErr result (λ cause. (cause ≡ NotNow)
+            × ((f : Flow) → Carries self.old f → (f.syncing ≡ true)
+            ⊎ (is_quiesced f.waiting ≡ false))) }
         ensures err { OnErr result (IsUnchanged self.old self.new) }
     {
         if self.syncing || !may_be_taken(self.waiting) {
@@ -253,7 +272,8 @@ impl Pipeline {
     /// The group that is synced is committed, and its items are let go.
     pub fn committed(&mut self) -> Result<u64, Refusal>
         ensures committed { IfOk result (λ group. Does self.old Device (Committed group) self.new) }
-        ensures refused { IfErr result (λ cause. (cause ≡ NotNow) × ((f : Flow) → Carries self.old f → f.syncing ≡ false)) }
+        ensures refused { IfErr result (λ cause. (cause ≡ NotNow)
+            × ((f : Flow) → Carries self.old f → f.syncing ≡ false)) }
         ensures err { OnErr result (IsUnchanged self.old self.new) }
     {
         if !self.syncing {
@@ -268,7 +288,8 @@ impl Pipeline {
     // Whether memory sufficed for the item to be kept, in the open group or in the waiting one.
     fn keep(&mut self, is_open: bool, writer: u32, number: u64, item: Item) -> bool
         requires { number ≤ greatest }
-        ensures kept { result ≡ true → (f : Flow) → Carries self.old f → (group : ℕ) → IsAdmitted f writer number group → (is_open ≡ (group == opened f)) →
+        ensures kept { result ≡ true → (f : Flow) → Carries self.old f → (group : ℕ)
+            → IsAdmitted f writer number group → (is_open ≡ (group == opened f)) →
             Carries self.new (with_accepted f writer group item) }
         ensures refused { result ≡ false → IsUnchanged self.old self.new }
     {
@@ -333,8 +354,10 @@ fn is_action(item: &Item) -> bool
 
 // The item joins those of the open group or of the waiting one, where memory suffices.
 fn add_to(accepting: &mut Pending, waited: &mut Pending, is_open: bool, item: Item) -> bool
-    ensures accepting { accepting.new ≡ (if result && is_open then added accepting.old item else accepting.old) }
-    ensures waited { waited.new ≡ (if result && not is_open then added waited.old item else waited.old) }
+    ensures accepting { accepting.new ≡
+        (if result && is_open then added accepting.old item else accepting.old) }
+    ensures waited { waited.new ≡
+        (if result && not is_open then added waited.old item else waited.old) }
 {
     if is_open {
         accepting.add(item).is_ok()

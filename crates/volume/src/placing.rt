@@ -74,7 +74,8 @@ impl VolumeSet {
             (done.volume ≡ self.now) × (done.replaced.items ≡ [])) }
         ensures shape { IfOk result (λ done.
             HasShape done.volume (size_of self.now) (block_size_of self.now)) }
-        ensures value { IfOk result (λ done. (stored planned : Contents) (bound : ℕ) (array : List ℕ)
+        ensures value { IfOk result (λ done. (stored planned : Contents) (bound : ℕ)
+            (array : List ℕ)
             → Plans store.old stored planned → (is : Spells stored bound self.now array)
             → bound ≤ birth → AnswersAreTrue store.old store.new
             → (later : Contents) × Plans store.new stored later × Extends planned later
@@ -113,7 +114,8 @@ impl VolumeSet {
     ) -> Result<Rewritten, Refusal>
         requires born { 0 < birth }
         ensures steps { OnlyReadsAndPlans store.old store.new [] }
-        ensures idle { ((id : ℕ) → ¬ IsChanged self.now changes.now.name.now changes.now.writes.now id)
+        ensures idle { ((id : ℕ)
+            → ¬ IsChanged self.now changes.now.name.now changes.now.writes.now id)
             → store.new ≡ store.old }
         ensures shape { IfOk result (λ done.
             HasShape done.volume (size_of self.now) (block_size_of self.now)) }
@@ -148,7 +150,8 @@ impl VolumeSet {
         ensures steps { OnlyReadsAndPlans store.old store.new [] }
         ensures shape { IfOk result (λ done.
             HasShape done.volume (size_of self.now) (block_size_of self.now)) }
-        ensures value { IfOk result (λ done. (stored planned : Contents) (bound : ℕ) (array : List ℕ)
+        ensures value { IfOk result (λ done. (stored planned : Contents) (bound : ℕ)
+            (array : List ℕ)
             → Plans store.old stored planned → (is : Spells stored bound self.now array)
             → bound ≤ birth → AnswersAreTrue store.old store.new
             → (later : Contents) × Plans store.new stored later × Extends planned later

@@ -42,7 +42,8 @@ impl VolumeSet {
         changes: &GroupWrites,
     ) -> Result<Vec<BlockWrite>, Refusal>
         ensures reads { OnlyReadsBlocks store.old store.new [] }
-        ensures idle { ((id : ℕ) → ¬ IsChanged self.now changes.now.name.now changes.now.writes.now id)
+        ensures idle { ((id : ℕ)
+            → ¬ IsChanged self.now changes.now.name.now changes.now.writes.now id)
             → store.new ≡ store.old }
         ensures blocks { IfOk result (λ blocks. AreBlocksOf self.now blocks.items) }
         ensures changed { IfOk result (λ blocks. (id : ℕ) → HasId blocks.items id
@@ -96,7 +97,8 @@ impl VolumeSet {
             → Holds store.old stored → volume.name ≡ changes.now.name.now
             → HasData stored (block_of self.now).birth set.now (size_of self.now)
             (block_size_of self.now) volume.bytes → AnswersAreTrue store.old store.new
-            → All (λ block. block.bytes.items ≡ part (after_writes volume changes.now.writes.now).bytes
+            → All (λ block. block.bytes.items ≡ part
+            (after_writes volume changes.now.writes.now).bytes
             (block_size_of self.now) block.id) blocks.items) }
         ensures found { IfOk result (λ blocks. All (λ block. (found : Option (List ℕ))
             × IsFound store.old.spaces self.now set.now block.id found) blocks.items) }

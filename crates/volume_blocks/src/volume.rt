@@ -30,7 +30,8 @@ impl VolumeBlocks {
         requires least { block_size ≤ size }
         requires most { size ≤ 2 ^ 40 }
         ensures shape { HasShape result size block_size }
-        ensures zeros { (stored : Contents) (birth : ℕ) → Spells stored birth result (replicate size 0) }
+        ensures zeros { (stored : Contents) (birth : ℕ)
+            → Spells stored birth result (replicate size 0) }
     {
         VolumeBlocks {
             size,

@@ -27,5 +27,8 @@ returns-clause-room c =
 pub returns-clause-value : goal.returns-clause-value
 returns-clause-value c =
     let room = subst (λ ws. All (λ (w : BlockWrite). w.id ≤ c.loop-write.highest) ws) (take_all c.loop-write.write-index c.args.writes.now c.loop-write-test.false) c.loop-write.invariant.room in
-    omega (arith, c.loop-write.invariant.least (highest_with c.args.writes.now c.args.before) (highest_from c.args.writes.now c.args.before) (highest_room c.args.writes.now c.args.before),
-    highest_least c.args.writes.now c.args.before c.loop-write.highest c.loop-write.invariant.from room)
+    omega (
+      arith,
+      c.loop-write.invariant.least (highest_with c.args.writes.now c.args.before) (highest_from c.args.writes.now c.args.before) (highest_room c.args.writes.now c.args.before),
+      highest_least c.args.writes.now c.args.before c.loop-write.highest c.loop-write.invariant.from room,
+    )

@@ -23,8 +23,7 @@ loop-level-init g c =
     let level_is = ap (λ n. n - 1) c.levels_of-levels.ensures.value in
     let few : c.levels_of-levels.result ≤ 6 = c.levels_of-levels.ensures.least.least 6 (lit< tt) c.requires.node.0.highest in
     let short : c.levels_of-levels.result - 1 ≤ 5 = omega (arith, few) in
-    let small : c.span.result ≤ 128 ^ 5 = omega (arith, c.span.ensures.value, power_rises (c.levels_of-levels.result - 1) 5 short) in
-    (
+    let small : c.span.result ≤ 128 ^ 5 = omega (arith, c.span.ensures.value, power_rises (c.levels_of-levels.result - 1) 5 short) in (
       raising_begins _ _ _ _ _ _ _ _ _ _ _ _ _ c.count_before.ensures.before c.count_before.ensures.behind c.split_at.ensures.front c.split_at.ensures.back c.requires.order c.requires.ids
           _ level_is c.span.ensures.value small c.new-replaced.ensures.items c.requires.whole c.in_ok-pointer.ensures.steps c.in_ok-pointer.ensures.fits c.in_ok-pointer.ensures.property
           c.in_ok-pointer.ensures.rewritten,
@@ -69,8 +68,7 @@ loop-level-preserved g c =
     let middle_is : c.span-in-loop-level.result ≡ 128 * 128 ^ c.loop-level.level =
     omega (arith, c.span-in-loop-level.ensures.value, span_up (c.loop-level.level + 1) c.loop-level.level (add-one c.loop-level.level)) in
     let small : c.span-in-loop-level.result ≤ 128 ^ 5 = omega (arith, middle_is, six_levels c.loop-level.level low) in
-    let enough = subst (λ n. c.args.node.now.highest < 128 ^ (n - 1)) c.levels_of-levels.ensures.value c.levels_of-levels.ensures.least.enough in
-    (
+    let enough = subst (λ n. c.args.node.now.highest < 128 ^ (n - 1)) c.levels_of-levels.ensures.value c.levels_of-levels.ensures.least.enough in (
       raising_goes_on _ _ _ _ _ _ _ _ _ _ _ _ _ _ c.loop-level.invariant.0 low middle_is small c.count_before-in-loop-level.ensures.before c.count_before-in-loop-level.ensures.behind
           c.split_at-in-loop-level.ensures.front c.split_at-in-loop-level.ensures.back enough _ c.in_ok-pointer-2.ensures.steps _ _ c.in_ok-pointer-2.ensures.fits c.in_ok-pointer-2.ensures.property
           c.in_ok-pointer-2.ensures.rewritten,
@@ -120,8 +118,15 @@ returns-in_err-pointer-2-clause-no_place g c =
     let raised = c.loop-level.invariant.1 in
     let more = levels_more c.args.node.now c.args.writes.now - (suc raised.n) in
     let all : (suc raised.n) + more ≡ levels_more c.args.node.now c.args.writes.now =
-    omega (arith, c.loop-level-test.true, raised.level_is, c.levels_of-levels.ensures.value, c.levels_of-new_levels.ensures.value, c.levels_of-levels.ensures.least.one,
-    ap levels_of c.highest_of-highest.ensures.value) in
+    omega (
+      arith,
+      c.loop-level-test.true,
+      raised.level_is,
+      c.levels_of-levels.ensures.value,
+      c.levels_of-new_levels.ensures.value,
+      c.levels_of-levels.ensures.least.one,
+      ap levels_of c.highest_of-highest.ensures.value,
+    ) in
     passed_on _ _ _ c.from_residual-in_err-pointer-2.ensures.1
     (λ none.
     subst (λ n. LacksPlaces c.args.node.now c.args.copies c.args.store.now.spaces (spots_grown c.args.node.now c.args.writes.now n) c.raise.new.store.spaces) all
@@ -138,6 +143,13 @@ returns-clause-places g c =
     let at_end : c.loop-level.level ≡ c.levels_of-new_levels.result - 1 = omega (arith, c.loop-level-test.false, c.loop-level.auto.level-end rises) in
     let raised = c.loop-level.invariant.1 in
     let more : raised.n ≡ levels_more c.args.node.now c.args.writes.now =
-    omega (arith, at_end, raised.level_is, c.levels_of-levels.ensures.value, c.levels_of-new_levels.ensures.value, c.levels_of-levels.ensures.least.one,
-    ap levels_of c.highest_of-highest.ensures.value) in
+    omega (
+      arith,
+      at_end,
+      raised.level_is,
+      c.levels_of-levels.ensures.value,
+      c.levels_of-new_levels.ensures.value,
+      c.levels_of-levels.ensures.least.one,
+      ap levels_of c.highest_of-highest.ensures.value,
+    ) in
     subst (λ n. HavePlaces c.args.node.now c.args.copies c.args.store.now.spaces (spots_grown c.args.node.now c.args.writes.now n) c.loop-level.store.spaces) more raised.have
