@@ -4,7 +4,9 @@ ghost use Rattle.block_pointer.specs.declared.block.Block.{Block};
 ghost use Rattle.block_store.specs.Blocks.{Contents, Extends, count_of};
 ghost use Rattle.block_store.specs.Plans.{Plans};
 ghost use Rattle.block_store.specs.Steps.{OnlyReadsAndPlans, AnswersAreTrue, LossIsTolerable};
+ghost use Rattle.dnode.specs.declared.object_set.ObjectSet.{ObjectSet};
 ghost use Rattle.dnode.specs.ObjectSet.{FitsObjectSet};
+ghost use Rattle.dnode_slots.specs.Sets.{IsSetFound, IsSetRefused};
 ghost use Rattle.dnode_tree.specs.Writes.{IsForRoom};
 ghost use Rattle.objset.specs.Changes.{IsGoodChange, MayChange};
 ghost use Rattle.objset.specs.Objects.{Object, AreObjects};
@@ -86,6 +88,11 @@ impl VolumeSet {
         ensures no_room { IfErr result (λ refusal. refusal ≡ Refusal.NoSpace
             → LacksRoom store.old store.new) }
 
+        // Whatever the volume is: its object set was not read, and why, or it was.
+        ensures unread { IfErr result (λ refusal.
+            IsSetRefused store.old store.new [] birth (block_of self.now) refusal
+            ⊎ ((set : ObjectSet) × IsSetFound store.old.spaces birth (block_of self.now) set)) }
+
         // Only room is wanting, where no vdev misses more disks than it has parities and what they answer is true.
         ensures known { IfErr result (λ refusal. (stored planned : Contents) (bound : ℕ)
             (array : List ℕ) → Plans store.old stored planned
@@ -160,6 +167,11 @@ impl VolumeSet {
             × IsPlaced stored planned later bound birth self.now array is blocks done) }
         ensures no_room { IfErr result (λ refusal. refusal ≡ Refusal.NoSpace
             → LacksRoom store.old store.new) }
+
+        // Whatever the volume is: its object set was not read, and why, or it was.
+        ensures unread { IfErr result (λ refusal.
+            IsSetRefused store.old store.new [] birth (block_of self.now) refusal
+            ⊎ ((set : ObjectSet) × IsSetFound store.old.spaces birth (block_of self.now) set)) }
         ensures known { IfErr result (λ refusal. (stored planned : Contents) (bound : ℕ)
             (array : List ℕ) → Plans store.old stored planned
             → Spells stored bound self.now array → bound ≤ birth

@@ -1,4 +1,4 @@
-use Rattle.std.proofs.Common.{◌≡◌, [], inl, refl, sym, subst, arith}
+use Rattle.std.proofs.Common.{◌≡◌, [], inl, inr, refl, sym, subst, arith}
 use Rattle.block_pointer.specs.declared.block.Block.{Block}
 use Rattle.block_store.proofs.Steps.{steps_read, steps_on, true_before, true_after, few_after}
 use Rattle.dnode.specs.declared.object_set.ObjectSet.{ObjectSet}
@@ -78,3 +78,12 @@ returns-clause-value g c = λ stored planned bound array plans is le honest.
         replaced = c.in_ok-rewritten.ensures.replaced;
       },
     )
+
+pub returns-in_err-set-clause-unread : goal.returns-in_err-set-clause-unread
+returns-in_err-set-clause-unread g c = passed_on _ _ _ c.from_residual.ensures.1 (inl c.in_err-set.ensures.refused)
+
+pub returns-in_err-planned-clause-unread : goal.returns-in_err-planned-clause-unread
+returns-in_err-planned-clause-unread g c = passed_on _ _ _ c.from_residual-in_err-planned.ensures.1 (inr (c.in_ok-set.set, c.in_ok-set.ensures.found))
+
+pub returns-in_err-rewritten-clause-unread : goal.returns-in_err-rewritten-clause-unread
+returns-in_err-rewritten-clause-unread g c = passed_on _ _ _ c.from_residual-in_err-rewritten.ensures.1 (inr (c.in_ok-set.set, c.in_ok-set.ensures.found))
