@@ -21,15 +21,13 @@ ghost use Rattle.pool_model.specs.Headline.{Headline};
 
 /// The headline: what any run of the machine from a sound view tells, whatever its steps.
 pub fn headline_of_runs()
-    ensures { (v : View) (steps : List Step) (givens : List Given) (replies : List Reply)
-        (w : View) →
+    ensures { (v : View) (steps : List Step) (givens : List Given) (replies : List Reply) (w : View) →
         IsSound v → Run v steps givens replies w → Headline v steps givens replies w }
 {}
 
 /// A step from a sound view leads to a sound view, and the start is sound.
 pub fn runs_keep_views_sound()
-    ensures step { (v : View) (given : Given) (step : Step) (reply : Reply) (w : View) → IsSound v
-        → StepOf v given step reply w → IsSound w }
+    ensures step { (v : View) (given : Given) (step : Step) (reply : Reply) (w : View) → IsSound v → StepOf v given step reply w → IsSound w }
     ensures start { (vdevs : List Vdev) → IsSound (started vdevs) }
 {}
 
@@ -48,10 +46,11 @@ pub fn steps_without_a_cause_may_be_answered()
     ensures hold { (v : View) (writer : ℕ) → refusal_of v (steps.Hold writer) ≡ None →
         (w : View) × IsAnswered v nothing_given (steps.Hold writer) (Held (open_group v)) w }
     ensures write { (v : View) (write : Write) → refusal_of v (steps.Write write) ≡ None →
-        (group : ℕ) × (w : View) × IsAnswered v nothing_given (steps.Write write)
-        (Receipt group) w }
+        (group : ℕ) × (w : View)
+        × IsAnswered v nothing_given (steps.Write write) (Receipt group) w }
     ensures act { (v : View) (action : Action) → refusal_of v (steps.Act action) ≡ None →
-        (group : ℕ) × (w : View) × IsAnswered v nothing_given (steps.Act action) (Receipt group) w }
+        (group : ℕ) × (w : View)
+        × IsAnswered v nothing_given (steps.Act action) (Receipt group) w }
     ensures release { (v : View) (writer : ℕ) → refusal_of v (steps.Release writer) ≡ None →
         (w : View) × IsAnswered v nothing_given (steps.Release writer) Released w }
     ensures close { (v : View) → refusal_of v steps.Close ≡ None →
@@ -59,15 +58,15 @@ pub fn steps_without_a_cause_may_be_answered()
     ensures quiesce { (v : View) → refusal_of v steps.Quiesce ≡ None →
         (w : View) × IsAnswered v nothing_given steps.Quiesce (Quiesced (waiting_group v)) w }
     ensures plan { (v : View) (timestamp : ℕ) → refusal_of v (steps.Plan timestamp) ≡ None →
-        (w : View) × IsAnswered v nothing_given (steps.Plan timestamp)
-        (Planned (suc v.committed)) w }
+        (w : View)
+        × IsAnswered v nothing_given (steps.Plan timestamp) (Planned (suc v.committed)) w }
 {}
 
 /// A disk that goes out drops the plan, where there is one: its group stays taken. Where there is none the sync stays, so
 /// that an idle pool stays idle. No group, hold or item changes.
 pub fn dropped_plans_leave_their_groups()
-    ensures stays { (v : View) (disk : ℕ) → is_planned v.sync ≡ false
-        → (dropped v disk).sync ≡ v.sync }
+    ensures stays { (v : View) (disk : ℕ) → is_planned v.sync ≡ false →
+        (dropped v disk).sync ≡ v.sync }
     ensures unplanned { (v : View) (disk : ℕ) (calls : List DueCall) → v.sync ≡ Due calls →
         (dropped v disk).sync ≡ Unplanned }
     ensures flow { (v : View) (disk : ℕ) → flow_of (dropped v disk) ≡ flow_of v }
@@ -77,26 +76,20 @@ pub fn dropped_plans_leave_their_groups()
 
 /// A run goes on by a step.
 pub fn steps_follow_runs()
-    ensures { (v : View) (steps : List Step) (givens : List Given) (replies : List Reply)
-        (mid : View) (given : Given) (step : Step) (reply : Reply) (w : View) →
-        Run v steps givens replies mid → StepOf mid given step reply w
-        → Run v (steps ++ step ∷ []) (givens ++ given ∷ []) (replies ++ reply ∷ []) w }
+    ensures { (v : View) (steps : List Step) (givens : List Given) (replies : List Reply) (mid : View) (given : Given) (step : Step) (reply : Reply) (w : View) →
+        Run v steps givens replies mid → StepOf mid given step reply w → Run v (steps ++ step ∷ []) (givens ++ given ∷ []) (replies ++ reply ∷ []) w }
 {}
 
 /// Once and in order, of any run of groups, holds and items, as a pipeline of groups keeps them.
 pub fn flows_are_once_in_order()
-    ensures { (f : Flow) (steps : List Step) (replies : List Reply) (g : Flow) → IsSoundFlow f
-        → FlowRun f steps replies g → OnceInOrder f steps replies g }
+    ensures { (f : Flow) (steps : List Step) (replies : List Reply) (g : Flow) → IsSoundFlow f → FlowRun f steps replies g → OnceInOrder f steps replies g }
 {}
 
 /// A step from a sound flow leads to a sound flow, and such a run goes on by a step.
 pub fn runs_keep_flows_sound()
-    ensures step { (f : Flow) (step : Step) (reply : Reply) (g : Flow) → IsSoundFlow f
-        → FlowStep f step reply g → IsSoundFlow g }
-    ensures further { (f : Flow) (steps : List Step) (replies : List Reply) (mid : Flow)
-        (step : Step) (reply : Reply) (g : Flow) →
-        FlowRun f steps replies mid → FlowStep mid step reply g
-        → FlowRun f (steps ++ step ∷ []) (replies ++ reply ∷ []) g }
+    ensures step { (f : Flow) (step : Step) (reply : Reply) (g : Flow) → IsSoundFlow f → FlowStep f step reply g → IsSoundFlow g }
+    ensures further { (f : Flow) (steps : List Step) (replies : List Reply) (mid : Flow) (step : Step) (reply : Reply) (g : Flow) →
+        FlowRun f steps replies mid → FlowStep mid step reply g → FlowRun f (steps ++ step ∷ []) (replies ++ reply ∷ []) g }
 {}
 
 /// A pool is a map from names: what it has at a name after a write, and with a volume more.
@@ -118,7 +111,6 @@ pub fn pools_ascend_by_name()
     ensures upto { (base : ℕ) (pool : PlainPool) (ledger : Ledger) (n : ℕ) →
         AreAscending pool.volumes → AreAscending (upto base pool ledger n).volumes }
     ensures equal { (pool other : PlainPool) → AreAscending pool.volumes →
-        AreAscending other.volumes → ((name : List ℕ) → volume_at name pool ≡ volume_at name other)
-        →
+        AreAscending other.volumes → ((name : List ℕ) → volume_at name pool ≡ volume_at name other) →
         pool ≡ other }
 {}

@@ -32,8 +32,8 @@ pub fn steps_move_now()
 /// The same of each change of a view that a step may make.
 pub fn changes_move_now()
     ensures wrote { (v : View) (writer group : ℕ) (write : WriteValue) →
-        HaveSameShapes (now_of (with_flow v (with_accepted (flow_of v) writer group
-        (WriteItem write))))
+        HaveSameShapes
+        (now_of (with_flow v (with_accepted (flow_of v) writer group (WriteItem write))))
         (now_of v) }
     ensures acted { (v : View) (writer : ℕ) (action : ActionValue) →
         now_of (with_flow v (with_accepted (flow_of v) writer (open_group v) (ActionItem action)))
