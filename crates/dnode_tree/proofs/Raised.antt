@@ -1,5 +1,5 @@
 -- Places of the blocks of a tree that grows, a level after the other.
-use Rattle.std.proofs.Common.{◌≡◌, ◌≢◌, ◌⊎◌, inl, inr, ℕ, zero, suc, ◌+◌, ◌-◌, ◌*◌, ◌^◌, ◌<◌, ◌≤◌, ◌||◌, Bool, true, false, if◌then◌else◌, max, List, [], ◌∷◌, ◌++◌, length, take, drop, All, refl, sym, ap, ◌∙◌, subst, arith, append_assoc, add-one}
+use Rattle.std.proofs.Common.{◌≡◌, ◌≢◌, ◌⊎◌, inl, inr, ℕ, zero, suc, ◌+◌, ◌*◌, ◌^◌, ◌<◌, ◌≤◌, ◌||◌, Bool, true, false, if◌then◌else◌, max, List, [], ◌∷◌, ◌++◌, length, take, drop, All, refl, sym, ap, ◌∙◌, subst, arith, append_assoc, add-one}
 use Rattle.std.proofs.lemmas.List.{take-append-drop}
 use Rattle.std.proofs.lemmas.List.Elements.{All-append, All-weaker, All-nil, All-cons, All-head, All-tail}
 use Rattle.block_pointer.specs.declared.pointer.BlockPtr.{BlockPtr}
@@ -9,10 +9,10 @@ use Rattle.dnode.specs.declared.node.ObjectNode.{ObjectNode}
 use Rattle.dnode_tree.specs.declared.writes.BlockWrite.{BlockWrite}
 use Rattle.dnode_tree.specs.declared.writes.CopyCounts.{CopyCounts}
 use Rattle.dnode_tree.specs.Births.{height_of, reaches}
-use Rattle.dnode_tree.specs.Spots.{Spot, of_parts, spots_in, spots_below, spots_raised, spots_of_raise, levels_more, spots_of, is_there, has_some, HavePlaces, LacksPlaces}
+use Rattle.dnode_tree.specs.Spots.{Spot, spots_in, spots_below, spots_raised, spots_of_raise, is_there, has_some, HavePlaces, LacksPlaces}
 use Rattle.dnode_tree.proofs.Births.{behind_others, before_others, reaches_first}
 use Rattle.dnode_tree.proofs.Kept.{part_end}
-use Rattle.dnode_tree.proofs.Spans.{span_up, span_positive}
+use Rattle.dnode_tree.proofs.Spans.{span_up}
 use Rattle.dnode_tree.proofs.Spots.{places_on, lacks_on, lacks_sooner, parts_as, same_reached, spots_taken}
 use Rattle.dnode_tree.specs.Writes.{highest_with}
 use Rattle.dnode_tree.proofs.WholeTree.{power_rises}

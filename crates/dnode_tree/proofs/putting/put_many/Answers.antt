@@ -3,8 +3,7 @@ use Rattle.dnode.specs.Levels.{levels_of}
 use Rattle.dnode_tree.proofs.Raising.{six_levels}
 use Rattle.dnode_tree.proofs.NewArrays.{behind_all}
 use Rattle.dnode_tree.proofs.Raised.{raised_begins, raised_on, raised_fails, root_fails, fails_sooner, spots_grown}
-use Rattle.dnode_tree.specs.Spots.{HavePlaces, LacksPlaces, spots_of, levels_more}
-use Rattle.dnode_tree.specs.Births.{height_of}
+use Rattle.dnode_tree.specs.Spots.{HavePlaces, LacksPlaces, levels_more}
 use Rattle.dnode_tree.proofs.Refusing.{passed_on}
 use Rattle.dnode_tree.proofs.Spans.{span_up}
 use Rattle.block_store.proofs.Steps.{steps_on}

@@ -1,12 +1,9 @@
-use Rattle.std.proofs.Common.{◌≡◌, ℕ, zero, ap, [], ◌∷◌, ◌++◌, List, inl, inr, IsTrue, append-nil, suc, ◌+◌, ◌-◌, refl, subst, sym, ◌∙◌, arith, cond, length}
-use Rattle.std.specs.Prelude.{not, ◌==◌}
+use Rattle.std.proofs.Common.{◌≡◌, ap, [], ◌∷◌, List, inl, inr, IsTrue, append-nil, suc, ◌-◌, refl, subst, sym, ◌∙◌, arith}
 use Rattle.block_store.specs.Reading.{Asks}
 use Rattle.block_store.proofs.Steps.{reads_none, reads_on}
 use Rattle.dnode_tree.proofs.Refusing.{passed_on}
-use Rattle.dnode_tree.proofs.Exchanging.{count_by-append}
 use Rattle.dnode_tree.specs.Tree.{property_of}
 use Rattle.dnode_tree.specs.Ways.{AreReadAs}
-use Rattle.dnode_tree.specs.Within.{indirect_count}
 use Rattle.block_pointer.specs.declared.block.Block.{Block}
 use Rattle.block_pointer.specs.declared.pointer.BlockPtr.{BlockPtr}
 use Rattle.block_store.specs.declared.block.Asked.{Asked}

@@ -1,12 +1,12 @@
-use Rattle.std.proofs.Common.{◌≡◌, ◌-◌, ◌+◌, ◌++◌, inl, inr, refl, subst, sym, ap, ◌∙◌, arith, []}
+use Rattle.std.proofs.Common.{◌≡◌, ◌-◌, ◌++◌, inl, inr, refl, subst, sym, ap, ◌∙◌, arith}
 use Rattle.std.proofs.Common.{IsTrue}
 use Rattle.dnode_tree.proofs.Refusing.{passed_on}
 use Rattle.dnode_tree.proofs.Walks.{refused_for_memory}
 use Rattle.dnode_tree.specs.Rewriting.{AreDistinct}
 use Rattle.dnode_tree.specs.Tree.{property_of}
 use Rattle.dnode.specs.Levels.{levels_of}
-use Rattle.dnode_tree.specs.Ways.{reached, IsWalked, IsWalkRefused, AreWalked}
-use Rattle.dnode_tree.specs.Within.{IsWithinRefused, indirect_count}
+use Rattle.dnode_tree.specs.Ways.{reached, IsWalked, IsWalkRefused}
+use Rattle.dnode_tree.specs.Within.{indirect_count}
 use Rattle.dnode_tree.proofs.within.walk_within.Goals as goal
 
 pub returns-in_err-collect_within-clause-refused : goal.returns-in_err-collect_within-clause-refused

@@ -8,7 +8,7 @@ use Rattle.dnode_tree.proofs.Raising.{root_stays}
 use Rattle.dnode_tree.proofs.Refusing.{passed_on}
 use Rattle.dnode_tree.specs.Births.{height_of}
 use Rattle.dnode_tree.specs.Spots.{spots_in, is_there, has_some, HavePlaces}
-use Rattle.dnode_tree.proofs.Raised.{or_false, or_true}
+use Rattle.dnode_tree.proofs.Raised.{or_false}
 use Rattle.dnode_tree.proofs.Spots.{unreached}
 use Rattle.dnode_tree.proofs.writes.Rewriting.write_root.Goals as goal
 
