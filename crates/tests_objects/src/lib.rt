@@ -3,6 +3,8 @@
 #![tactic(auto)]
 
 #[cfg(test)]
+mod meta;
+#[cfg(test)]
 mod nodes;
 #[cfg(test)]
 mod objects;

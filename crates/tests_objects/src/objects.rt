@@ -11,13 +11,13 @@ use objset::{BlockWrite, Change, ObjectChange, Refusal, SetCopies, SetRewrite, c
 use std::alloc::{AllocError, Global};
 use std::test::Fail;
 
-const COPIES: SetCopies = SetCopies {
+pub(crate) const COPIES: SetCopies = SetCopies {
     data: CopyCount::One,
     other: CopyCount::Two,
 };
 
 /// A set with no object.
-const EMPTY: ObjectSet = ObjectSet {
+pub(crate) const EMPTY: ObjectSet = ObjectSet {
     dnodes: ObjectNode {
         object_type: 10,
         data_sectors: 32,
