@@ -23,7 +23,7 @@ use Rattle.block_store.specs.Places.{shapes_of, AreChosen, TookSome, RanOut}
 use Rattle.block_store.specs.Places.{filled as filled_marks}
 use Rattle.block_store.specs.Plans.{Plans, KeepsPlans}
 use Rattle.block_store.specs.Reading.{FewAreAbsent, AreTolerable}
-use Rattle.block_store.specs.Steps.{OnlyReadsBlocks, Taken, HaveTaken, OnlyReadsAndPlans, AnswersAreTrue, LossIsTolerable, HasNoRoomFor}
+use Rattle.block_store.specs.Steps.{OnlyReadsBlocks, Placed, HavePlaced, OnlyReadsAndPlans, AnswersAreTrue, LossIsTolerable, HasNoRoomFor}
 use Rattle.block_store.specs.Store.{Store, Spans, Keeps, in_group, reaching, outs, outs_from, is_out}
 use Rattle.block_store.proofs.ReadingLost.{failed_earlier}
 use Rattle.block_store.proofs.ReadingSteps.{reads_on as disk_reads_on, rest_on}
@@ -63,19 +63,19 @@ chosen_fills_nothing spaces taken sectors (place ∷ places) after (chosen, mid,
     chosen_fills_nothing mid (taken ++ place ∷ []) sectors places after rest ∙ too.filled_stays
 
 -- places were taken for one block
-taken_once : (spaces : List VdevSpace) (sectors birth : ℕ) (places : List Dva) (after : List VdevSpace) → AreChosen spaces [] sectors places after
-    → HaveTaken spaces (record { sectors = sectors; birth = birth; places = places } ∷ []) after
-taken_once spaces sectors birth places after chosen = (after, chosen, refl)
+placed_once : (spaces : List VdevSpace) (sectors birth : ℕ) (places : List Dva) (after : List VdevSpace) → AreChosen spaces [] sectors places after
+    → HavePlaced spaces (record { sectors = sectors; birth = birth; places = places } ∷ []) after
+placed_once spaces sectors birth places after chosen = (after, chosen, refl)
 
-taken_on : (spaces mid after : List VdevSpace) (first rest : List Taken) → HaveTaken spaces first mid → HaveTaken mid rest after → HaveTaken spaces (first ++ rest) after
-taken_on spaces mid after [] rest same later = subst (λ (s : List VdevSpace). HaveTaken s rest after) same later
-taken_on spaces mid after (taken ∷ first) rest (between, chosen, more) later = (between, chosen, taken_on between mid after first rest more later)
+placed_on : (spaces mid after : List VdevSpace) (first rest : List Placed) → HavePlaced spaces first mid → HavePlaced mid rest after → HavePlaced spaces (first ++ rest) after
+placed_on spaces mid after [] rest same later = subst (λ (s : List VdevSpace). HavePlaced s rest after) same later
+placed_on spaces mid after (block ∷ first) rest (between, chosen, more) later = (between, chosen, placed_on between mid after first rest more later)
 
-all_front : (P : Taken → Type 0) (xs ys : List Taken) → All P (xs ++ ys) → All P xs
+all_front : (P : Placed → Type 0) (xs ys : List Placed) → All P (xs ++ ys) → All P xs
 all_front P [] ys all = λ k d below. absurd (omega arith)
 all_front P (x ∷ xs) ys all = All-cons P x xs (All-head P x (xs ++ ys) all) (all_front P xs ys (All-tail P x (xs ++ ys) all))
 
-all_back : (P : Taken → Type 0) (xs ys : List Taken) → All P (xs ++ ys) → All P ys
+all_back : (P : Placed → Type 0) (xs ys : List Placed) → All P (xs ++ ys) → All P ys
 all_back P [] ys all = all
 all_back P (x ∷ xs) ys all = all_back P xs ys (All-tail P x (xs ++ ys) all)
 
@@ -91,18 +91,18 @@ not_reaching spans birth le = cases (nat_lt birth spans.group) refl
     cases false is = refl
 
 spans_once : (old new : Store) (sectors birth : ℕ) (places : List Dva) → new.spans ≡ reaching old.spans birth
-    → All (λ (block : Taken). old.spans.group ≤ block.birth) (record { sectors = sectors; birth = birth; places = places } ∷ []) → new.spans ≡ old.spans
+    → All (λ (block : Placed). old.spans.group ≤ block.birth) (record { sectors = sectors; birth = birth; places = places } ∷ []) → new.spans ≡ old.spans
 spans_once old new sectors birth places spans all =
-    let taken : Taken = record { sectors = sectors; birth = birth; places = places } in
-    spans ∙ not_reaching old.spans birth (All-head (λ (block : Taken). old.spans.group ≤ block.birth) taken [] all)
+    let placed : Placed = record { sectors = sectors; birth = birth; places = places } in
+    spans ∙ not_reaching old.spans birth (All-head (λ (block : Placed). old.spans.group ≤ block.birth) placed [] all)
 
 pub steps_none : (store : Store) (missing : List ℕ) → OnlyReadsAndPlans store store missing
 steps_none store missing = record {
   out = refl;
   shapes = refl;
   filled = refl;
-  taken = [];
-  took = refl;
+  placed = [];
+  were_placed = refl;
   spans = λ all. refl;
   reads = OnlyReads-none store.disks;
   untouched = λ disk held. refl;
@@ -118,8 +118,8 @@ steps_read old new missing reads = record {
   out = ap (λ (s : Store). s.out) reads.rest;
   shapes = ap (λ (s : Store). shapes_of s.spaces) reads.rest;
   filled = ap (λ (s : Store). map filled_marks s.spaces) reads.rest;
-  taken = [];
-  took = ap (λ (s : Store). s.spaces) reads.rest;
+  placed = [];
+  were_placed = ap (λ (s : Store). s.spaces) reads.rest;
   spans = λ all. ap (λ (s : Store). s.spans) reads.rest;
   reads = reads.reads;
   untouched = reads.untouched;
@@ -145,8 +145,8 @@ steps_plan old new missing sectors birth copies (Ok block) bytes disks out spans
   out = out;
   shapes = shapes;
   filled = chosen_fills_nothing old.spaces [] sectors (dvas block.copies) new.spaces places;
-  taken = record { sectors = sectors; birth = birth; places = dvas block.copies } ∷ [];
-  took = taken_once old.spaces sectors birth (dvas block.copies) new.spaces places;
+  placed = record { sectors = sectors; birth = birth; places = dvas block.copies } ∷ [];
+  were_placed = placed_once old.spaces sectors birth (dvas block.copies) new.spaces places;
   spans = spans_once old new sectors birth (dvas block.copies) spans;
   reads = no_reads old.disks new.disks disks;
   untouched = λ disk held. ap (λ (d : Disks). calls_on disk d.calls) disks;
@@ -160,8 +160,8 @@ steps_plan old new missing sectors birth copies (Err refusal) bytes disks out sp
   out = out;
   shapes = shapes;
   filled = chosen_fills_nothing old.spaces [] sectors some.0 new.spaces some.2;
-  taken = record { sectors = sectors; birth = birth; places = some.0 } ∷ [];
-  took = taken_once old.spaces sectors birth some.0 new.spaces some.2;
+  placed = record { sectors = sectors; birth = birth; places = some.0 } ∷ [];
+  were_placed = placed_once old.spaces sectors birth some.0 new.spaces some.2;
   spans = spans_once old new sectors birth some.0 spans;
   reads = no_reads old.disks new.disks disks;
   untouched = λ disk held. ap (λ (d : Disks). calls_on disk d.calls) disks;
@@ -177,12 +177,12 @@ steps_on old mid new missing first rest = record {
   out = rest.out ∙ first.out;
   shapes = rest.shapes ∙ first.shapes;
   filled = rest.filled ∙ first.filled;
-  taken = first.taken ++ rest.taken;
-  took = taken_on old.spaces mid.spaces new.spaces first.taken rest.taken first.took rest.took;
+  placed = first.placed ++ rest.placed;
+  were_placed = placed_on old.spaces mid.spaces new.spaces first.placed rest.placed first.were_placed rest.were_placed;
   spans = λ all.
-      let P : Taken → Type 0 = λ block. old.spans.group ≤ block.birth in
-      let before : mid.spans ≡ old.spans = first.spans (all_front P first.taken rest.taken all) in
-      rest.spans (subst (λ (s : Spans). All (λ (block : Taken). s.group ≤ block.birth) rest.taken) (sym before) (all_back P first.taken rest.taken all)) ∙ before;
+      let P : Placed → Type 0 = λ block. old.spans.group ≤ block.birth in
+      let before : mid.spans ≡ old.spans = first.spans (all_front P first.placed rest.placed all) in
+      rest.spans (subst (λ (s : Spans). All (λ (block : Placed). s.group ≤ block.birth) rest.placed) (sym before) (all_back P first.placed rest.placed all)) ∙ before;
   reads = disk_reads_on old.disks mid.disks new.disks first.reads rest.reads;
   untouched = λ disk held.
       rest.untouched disk (subst (λ disks. Contains (disks ++ missing) disk) (sym (same_outs old mid first.out)) held)

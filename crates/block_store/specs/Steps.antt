@@ -19,17 +19,17 @@ pub record OnlyReadsBlocks (old new : Store) (missing : List ℕ) : Type 0 where
   pub keeps : Keeps old new
   pub plans : KeepsPlans old new
 
--- the places that were taken for copies of one block, of so many sectors and born then
-pub record Taken : Type 0 where
+-- the places that were chosen for the copies of one block, of so many sectors and born then
+pub record Placed : Type 0 where
   pub sectors : ℕ
   pub birth : ℕ
   pub places : List Dva
 
--- for one block after the other places were chosen and taken
-abbrev pub HaveTaken : List VdevSpace → List Taken → List VdevSpace → Type 0
-HaveTaken spaces [] after = after ≡ spaces
-HaveTaken spaces (taken ∷ rest) after =
-    (mid : List VdevSpace) × AreChosen spaces [] taken.sectors taken.places mid × HaveTaken mid rest after
+-- for one block after the other places were chosen
+abbrev pub HavePlaced : List VdevSpace → List Placed → List VdevSpace → Type 0
+HavePlaced spaces [] after = after ≡ spaces
+HavePlaced spaces (block ∷ rest) after =
+    (mid : List VdevSpace) × AreChosen spaces [] block.sectors block.places mid × HavePlaced mid rest after
 
 -- Nothing was done but such reads, and new blocks were planned. What stored blocks fill is the same. More writes are due, none of
 -- them to a disk that is out. Each plan goes on, with what it had and perhaps more; so it does where a call was refused. What disks
@@ -38,9 +38,9 @@ pub record OnlyReadsAndPlans (old new : Store) (missing : List ℕ) : Type 0 whe
   pub out : new.out ≡ old.out
   pub shapes : shapes_of new.spaces ≡ shapes_of old.spaces
   pub filled : map filled_marks new.spaces ≡ map filled_marks old.spaces
-  pub taken : List Taken
-  pub took : HaveTaken old.spaces taken new.spaces
-  pub spans : All (λ block. old.spans.group ≤ block.birth) taken → new.spans ≡ old.spans
+  pub placed : List Placed
+  pub were_placed : HavePlaced old.spaces placed new.spaces
+  pub spans : All (λ block. old.spans.group ≤ block.birth) placed → new.spans ≡ old.spans
   pub reads : OnlyReads old.disks new.disks
   pub untouched : AreUntouched (outs old ++ missing) old.disks new.disks
   pub keeps : Keeps old new
