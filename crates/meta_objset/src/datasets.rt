@@ -5,10 +5,12 @@ ghost use Rattle.block_store.specs.Blocks.{Contents};
 ghost use Rattle.block_store.specs.Steps.{OnlyReadsBlocks, AnswersAreTrue, LossIsTolerable};
 ghost use Rattle.block_store.specs.Store.{Holds};
 ghost use Rattle.dnode.specs.ObjectSet.{FitsObjectSet};
+ghost use Rattle.dnode_slots.specs.Found.{IsNodeRefused};
 ghost use Rattle.objset.specs.Changes.{IsGoodChange, MayChange, after_change};
 ghost use Rattle.objset.specs.Objects.{Object, AreObjects};
 ghost use Rattle.meta_objset.specs.declared.record.DatasetRecord.{DatasetRecord};
 ghost use Rattle.meta_objset.specs.Datasets.{IsRecordObject, HasRecord, IsRecordWrite};
+ghost use Rattle.meta_objset.specs.Found.{IsRecordThere, IsNoRecordThere, IsRecordFound, IsRecordRefused};
 ghost use Rattle.meta_objset.specs.Record.{FitsRecord, SpellsRecord};
 
 use crate::record::DatasetRecord;
@@ -45,6 +47,11 @@ pub fn read_record<D: Disk + Drop>(
         (own : List Block) (blocks : ℕ → List Block) → Holds store.old stored
         → AreObjects stored birth set.now objects own blocks → AnswersAreTrue store.old store.new
         → HasRecord (objects number) found) }
+
+    // Whatever the set is: what was read, and on a refusal its cause.
+    ensures found { IfOk result (IsRecordFound store.old.spaces set.now birth number) }
+    ensures refused { IfErr result (λ refusal. (refusal ≡ Refusal.NoMemory)
+        ⊎ IsRecordRefused store.old store.new missing.now set.now birth number refusal) }
     ensures cause { IfErr result (λ refusal. refusal ≢ Refusal.NoSpace) }
     ensures known { IfErr result (λ refusal. (stored : Contents) (objects : ℕ → Option Object)
         (own : List Block) (blocks : ℕ → List Block) → Holds store.old stored
@@ -75,6 +82,11 @@ fn expect_record<D: Disk + Drop>(
         (own : List Block) (blocks : ℕ → List Block) → Holds store.old stored
         → AreObjects stored birth set.now objects own blocks → AnswersAreTrue store.old store.new
         → (there : Object) × (objects number ≡ Some there) × IsRecordObject there) }
+    ensures found { IfOk result (λ _. IsRecordThere store.old.spaces set.now birth number) }
+    ensures refused { IfErr result (λ refusal.
+        IsNodeRefused store.old store.new missing.now set.now birth number refusal
+        ⊎ ((refusal ≡ Refusal.BadPointer)
+        × IsNoRecordThere store.old.spaces set.now birth number)) }
     ensures cause { IfErr result (λ refusal. refusal ≢ Refusal.NoSpace) }
     ensures known { IfErr result (λ refusal. (stored : Contents) (objects : ℕ → Option Object)
         (own : List Block) (blocks : ℕ → List Block) → Holds store.old stored

@@ -8,7 +8,8 @@ ghost use Rattle.dnode.specs.ObjectSet.{FitsObjectSet};
 ghost use Rattle.objset.specs.Objects.{Object, AreObjects};
 ghost use Rattle.meta_objset.specs.declared.directory.DirectoryRow.{DirectoryRow};
 ghost use Rattle.meta_objset.specs.Directory.{IsDirectory, rows_bytes};
-ghost use Rattle.meta_objset.specs.Reading.{HasDirectory, HasConfig};
+ghost use Rattle.meta_objset.specs.Found.{AreConfigRows, AreDirectoryRows, IsConfigFound, IsDirectoryFound, IsRowsRefused};
+ghost use Rattle.meta_objset.specs.Reading.{HasDirectory, HasConfig, config_kind, directory_kind};
 ghost use Rattle.vdev_label.specs.Config.{SpellsConfig};
 ghost use Rattle.vdev_label.specs.Plain.{PlainVdev, config_view};
 
@@ -39,6 +40,12 @@ pub fn read_directory<D: Disk + Drop>(
         (own : List Block) (blocks : ℕ → List Block) → Holds store.old stored
         → AreObjects stored birth set.now objects own blocks → AnswersAreTrue store.old store.new
         → HasDirectory (objects 1) directory) }
+
+    // Whatever the set is: what was read, and on a refusal its cause.
+    ensures found { IfOk result (IsDirectoryFound store.old.spaces set.now birth) }
+    ensures refused { IfErr result (λ refusal. (refusal ≡ Refusal.NoMemory)
+        ⊎ IsRowsRefused store.old store.new missing.now set.now birth directory_kind 1
+        AreDirectoryRows refusal) }
     ensures cause { IfErr result (λ refusal. refusal ≢ Refusal.NoSpace) }
     ensures known { IfErr result (λ refusal. (stored : Contents) (objects : ℕ → Option Object)
         (own : List Block) (blocks : ℕ → List Block) → Holds store.old stored
@@ -90,6 +97,13 @@ pub fn read_config<D: Disk + Drop>(
         (own : List Block) (blocks : ℕ → List Block) → Holds store.old stored
         → AreObjects stored birth set.now objects own blocks → AnswersAreTrue store.old store.new
         → HasConfig (objects 2) (config_view config)) }
+
+    // Whatever the set is: what was read, and on a refusal its cause.
+    ensures found { IfOk result (λ config.
+        IsConfigFound store.old.spaces set.now birth (config_view config)) }
+    ensures refused { IfErr result (λ refusal. (refusal ≡ Refusal.NoMemory)
+        ⊎ IsRowsRefused store.old store.new missing.now set.now birth config_kind 2
+        AreConfigRows refusal) }
     ensures cause { IfErr result (λ refusal. refusal ≢ Refusal.NoSpace) }
     ensures known { IfErr result (λ refusal. (stored : Contents) (objects : ℕ → Option Object)
         (own : List Block) (blocks : ℕ → List Block) → Holds store.old stored

@@ -17,7 +17,7 @@ use Rattle.object_table.specs.Made.{AreBlocksOf, AreTableWrites}
 use Rattle.object_table.specs.Rows.{SpellsRows}
 use Rattle.object_table.specs.Shape.{FitsShape}
 use Rattle.object_table.specs.Tables.{bytes_at, bytes_to, IsFront}
-use Rattle.object_table.proofs.Tables.{one_more}
+use Rattle.object_table.proofs.Tables.{front_same, one_more}
 use Rattle.words.specs.Words.{word_bytes}
 use Rattle.words.proofs.WordLemmas.{length-word_bytes}
 
@@ -31,15 +31,6 @@ written_last (write ∷ writes) last array below =
     let first : write.id < last.id = All-head (λ (w : BlockWrite). w.id < last.id) write writes below in
     ap (λ is. if is then Some write.bytes.items else written (writes ++ last ∷ []) array last.id) (ne_eqb write.id last.id (λ e. absurd (omega (arith, e, first))))
     ∙ written_last writes last array (All-tail (λ (w : BlockWrite). w.id < last.id) write writes below)
-
-bytes_to_same : (array other : ℕ → Option (List ℕ)) (count : ℕ) → ((id : ℕ) → id < count → other id ≡ array id) → bytes_to other count ≡ bytes_to array count
-bytes_to_same array other zero same = refl
-bytes_to_same array other (suc count) same =
-    ap (λ (front : List ℕ). front ++ bytes_at (other count)) (bytes_to_same array other count (λ id lt. same id (omega (arith, lt))))
-    ∙ ap (λ found. bytes_to array count ++ bytes_at found) (same count (omega arith))
-
-front_same : (array other : ℕ → Option (List ℕ)) (count : ℕ) (bytes : List ℕ) → ((id : ℕ) → id < count → other id ≡ array id) → IsFront array count bytes → IsFront other count bytes
-front_same array other count bytes same front = (λ id lt none. front.0 id lt (sym (same id lt) ∙ none), front.1 ∙ sym (bytes_to_same array other count same))
 
 -- the highest block is the last one
 last_is : (count : ℕ) (writes : List BlockWrite) (last : BlockWrite) → All (λ write. write.id < count) writes → last.id ≡ count → highest_of (writes ++ last ∷ []) 0 ≡ count + 1 - 1

@@ -1,3 +1,4 @@
+pub mod Found
 pub mod Made
 pub mod Rows
 pub mod Shape

@@ -5,7 +5,9 @@ ghost use Rattle.block_store.specs.Blocks.{Contents};
 ghost use Rattle.block_store.specs.Steps.{OnlyReadsBlocks, AnswersAreTrue, LossIsTolerable};
 ghost use Rattle.block_store.specs.Store.{Holds};
 ghost use Rattle.dnode.specs.ObjectSet.{FitsObjectSet};
+ghost use Rattle.dnode_slots.specs.Found.{IsNodeRefused};
 ghost use Rattle.objset.specs.Objects.{Object, AreObjects, EndsAt};
+ghost use Rattle.object_table.specs.Found.{AreBlocksFound, AreBlocksRefused, IsObjectFound, IsOtherFound, IsTableFound, IsTableRefused};
 ghost use Rattle.object_table.specs.Rows.{SpellsRows};
 ghost use Rattle.object_table.specs.Shape.{FitsShape};
 ghost use Rattle.object_table.specs.Tables.{IsFront, IsOfKind, HasTable};
@@ -47,6 +49,12 @@ pub fn read<D: Disk + Drop>(
         (own : List Block) (blocks : ℕ → List Block) → Holds store.old stored
         → AreObjects stored birth set.now objects own blocks → AnswersAreTrue store.old store.new
         → (other : List ℕ) → HasTable kind (objects number) other → rows.items ≡ other) }
+
+    // Whatever the set is: what was read, and on a refusal its cause.
+    ensures found { IfOk result (λ rows.
+        IsTableFound store.old.spaces set.now birth kind number rows.items) }
+    ensures refused { IfErr result (λ refusal. (refusal ≡ Refusal.NoMemory)
+        ⊎ IsTableRefused store.old store.new missing.now set.now birth kind number refusal) }
     ensures cause { IfErr result (λ refusal. refusal ≢ Refusal.NoSpace) }
     ensures known { IfErr result (λ refusal. (stored : Contents) (objects : ℕ → Option Object)
         (own : List Block) (blocks : ℕ → List Block) → Holds store.old stored
@@ -85,6 +93,12 @@ fn block_count<D: Disk + Drop>(
         → AreObjects stored birth set.now objects own blocks → AnswersAreTrue store.old store.new
         → (there : Object) × (objects number ≡ Some there) × IsOfKind kind there × EndsAt there
         × (there.highest + 1 ≡ count)) }
+    ensures found { IfOk result (λ count. (highest : ℕ) × (highest + 1 ≡ count)
+        × IsObjectFound store.old.spaces set.now birth kind number highest) }
+    ensures refused { IfErr result (λ refusal.
+        IsNodeRefused store.old store.new missing.now set.now birth number refusal
+        ⊎ ((refusal ≡ Refusal.BadPointer)
+        × IsOtherFound store.old.spaces set.now birth kind number)) }
     ensures cause { IfErr result (λ refusal. refusal ≢ Refusal.NoSpace) }
     ensures known { IfErr result (λ refusal. (stored : Contents) (objects : ℕ → Option Object)
         (own : List Block) (blocks : ℕ → List Block) → Holds store.old stored
@@ -119,6 +133,10 @@ fn read_blocks<D: Disk + Drop>(
         (own : List Block) (blocks : ℕ → List Block) → Holds store.old stored
         → AreObjects stored birth set.now objects own blocks → AnswersAreTrue store.old store.new
         → (there : Object) → objects number ≡ Some there → IsFront there.array count bytes.items) }
+    ensures found { IfOk result (λ bytes.
+        AreBlocksFound store.old.spaces set.now birth number count bytes.items) }
+    ensures refused { IfErr result
+        (AreBlocksRefused store.old store.new missing.now set.now birth number count) }
     ensures cause { IfErr result (λ refusal. refusal ≢ Refusal.NoSpace) }
     ensures known { IfErr result (λ refusal. (stored : Contents) (objects : ℕ → Option Object)
         (own : List Block) (blocks : ℕ → List Block) → Holds store.old stored

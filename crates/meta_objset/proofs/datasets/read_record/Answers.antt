@@ -6,7 +6,8 @@ use Rattle.block_store.proofs.Steps.{reads_on}
 use Rattle.dnode_tree.proofs.FurtherReads.{true_before, true_after, few_after}
 use Rattle.dnode_tree.proofs.Refusing.{passed_on, ok_both}
 use Rattle.dnode_tree.specs.Ways.{bytes_of}
-use Rattle.object_table.proofs.Tables.{some_is}
+use Rattle.objset.specs.Found.{IsDataFound}
+use Rattle.object_table.proofs.Tables.{some_is, spaces_stay}
 use Rattle.meta_objset.specs.Record.{SpellsRecord}
 use Rattle.meta_objset.proofs.RecordObjects.{record_there}
 use Rattle.meta_objset.proofs.datasets.read_record.Goals as goal
@@ -87,4 +88,50 @@ returns-clause-known g c =
           let same : has.bytes ≡ c.deref.result.now = let e : has.bytes ≡ c.in-Some.bytes.items = cc in e ∙ sym c.deref.ensures.value in
           why.1 (subst (λ (bytes : List ℕ). length bytes ≡ 512) same has.size) r (subst (λ (bytes : List ℕ). SpellsRecord bytes r) same has.spelled),
     ))
+    c.record_of.ensures.refused
+
+pub returns-in_err-expect_record-clause-refused : goal.returns-in_err-expect_record-clause-refused
+returns-in_err-expect_record-clause-refused g c =
+    passed_on _ _ _ c.from_residual.ensures.1
+    (⊎_elim (λ node. inr (inl node)) (λ other. inr (inr (inl (other.0, inl other.1)))) c.in_err-expect_record.ensures.refused)
+
+pub returns-in_err-bytes-clause-refused : goal.returns-in_err-bytes-clause-refused
+returns-in_err-bytes-clause-refused g c =
+    passed_on _ _ _ c.from_residual-in_err-bytes.ensures.1
+    (inr (inr (inr (record {
+      there = c.in_ok-expect_record.ensures.found;
+      mid = c.expect_record.new.store;
+      before = c.in_ok-expect_record.ensures.reads;
+      why = c.in_err-bytes.ensures.refused;
+    }))))
+
+pub returns-in_default-clause-refused : goal.returns-in_default-clause-refused
+returns-in_default-clause-refused g c =
+    let hole = subst (λ (found : Option (Vec ℕ Global)). IsDataFound c.expect_record.new.store.spaces c.args.set.now c.args.birth c.args.number 0 (bytes_of found)) c.in_default.is c.in_ok-bytes.ensures.found in
+    inr (inr (inl (refl, inr (inl (subst (λ spaces. IsDataFound spaces c.args.set.now c.args.birth c.args.number 0 None) (spaces_stay _ _ _ c.in_ok-expect_record.ensures.reads) hole)))))
+
+pub returns-clause-found : goal.returns-clause-found
+returns-clause-found g c =
+    let there = subst (λ (found : Option (Vec ℕ Global)). IsDataFound c.expect_record.new.store.spaces c.args.set.now c.args.birth c.args.number 0 (bytes_of found)) c.in-Some.is c.in_ok-bytes.ensures.found in
+    let block = subst (λ spaces. IsDataFound spaces c.args.set.now c.args.birth c.args.number 0 (Some c.in-Some.bytes.items)) (spaces_stay _ _ _ c.in_ok-expect_record.ensures.reads) there in
+    IfOk-weaker c.record_of.result _ _
+    (λ found is. record {
+      there = c.in_ok-expect_record.ensures.found;
+      bytes = c.in-Some.bytes.items;
+      block = block;
+      size = subst (λ (bytes : List ℕ). length bytes ≡ 512) c.deref.ensures.value is.0;
+      spelled = subst (λ (bytes : List ℕ). SpellsRecord bytes found) c.deref.ensures.value is.1;
+    })
+    (ok_both c.record_of.result _ _ c.record_of.ensures.size c.record_of.ensures.found)
+
+pub returns-clause-refused : goal.returns-clause-refused
+returns-clause-refused g c =
+    let there = subst (λ (found : Option (Vec ℕ Global)). IsDataFound c.expect_record.new.store.spaces c.args.set.now c.args.birth c.args.number 0 (bytes_of found)) c.in-Some.is c.in_ok-bytes.ensures.found in
+    let block = subst (λ spaces. IsDataFound spaces c.args.set.now c.args.birth c.args.number 0 (Some c.in-Some.bytes.items)) (spaces_stay _ _ _ c.in_ok-expect_record.ensures.reads) there in
+    IfErr-weaker c.record_of.result _ _
+    (λ refusal why. inr (inr (inl (why.0, inr (inr (record {
+      bytes = c.in-Some.bytes.items;
+      block = block;
+      none = λ size r spelled. why.1 (subst (λ (bytes : List ℕ). length bytes ≡ 512) (sym c.deref.ensures.value) size) r (subst (λ (bytes : List ℕ). SpellsRecord bytes r) (sym c.deref.ensures.value) spelled);
+    }))))))
     c.record_of.ensures.refused

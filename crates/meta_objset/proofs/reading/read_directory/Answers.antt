@@ -1,6 +1,7 @@
-use Rattle.std.proofs.Common.{ℕ, List, inl, inr, ⊎_elim, sym, subst, ◌∙◌}
+use Rattle.std.proofs.Common.{ℕ, List, refl, inl, inr, ⊎_elim, sym, subst, ◌∙◌}
 use Rattle.std.proofs.lemmas.Result.{IfOk-weaker, IfErr-weaker}
 use Rattle.dnode_tree.proofs.Refusing.{passed_on}
+use Rattle.object_table.specs.Found.{IsTableFound}
 use Rattle.object_table.specs.Tables.{HasTable}
 use Rattle.meta_objset.specs.Reading.{directory_kind}
 use Rattle.meta_objset.proofs.reading.read_directory.Goals as goal
@@ -25,5 +26,27 @@ returns-clause-known g c =
     (λ refusal why stored objects own blocks held are honest few.
     ⊎_elim (λ memory. inl memory)
     (λ bad. inr (bad.0, λ rows has. bad.1 rows has.0 (c.deref.ensures.value ∙ c.in_ok-rows.ensures.one stored objects own blocks held are honest _ has.1)))
+    why)
+    c.directory_of.ensures.refused
+
+pub returns-in_err-rows-clause-refused : goal.returns-in_err-rows-clause-refused
+returns-in_err-rows-clause-refused g c =
+    passed_on _ _ _ c.from_residual.ensures.1 (⊎_elim (λ memory. inl memory) (λ why. inr (inl why)) c.in_err-rows.ensures.refused)
+
+pub returns-clause-found : goal.returns-clause-found
+returns-clause-found g c =
+    IfOk-weaker c.directory_of.result _ _
+    (λ found is. (is.0, subst (λ (bytes : List ℕ). IsTableFound c.args.store.now.spaces c.args.set.now c.args.birth directory_kind 1 bytes) (sym c.deref.ensures.value ∙ is.1) c.in_ok-rows.ensures.found))
+    c.directory_of.ensures.found
+
+pub returns-clause-refused : goal.returns-clause-refused
+returns-clause-refused g c =
+    IfErr-weaker c.directory_of.result _ _
+    (λ refusal why. ⊎_elim (λ memory. inl memory)
+    (λ bad. inr (inr (bad.0, record {
+      rows = c.in_ok-rows.rows.items;
+      found = c.in_ok-rows.ensures.found;
+      none = λ has. bad.1 has.0 has.1 (c.deref.ensures.value ∙ has.2);
+    })))
     why)
     c.directory_of.ensures.refused

@@ -5,7 +5,7 @@ use Rattle.dnode_tree.proofs.FurtherReads.{true_before, true_after, few_after}
 use Rattle.dnode_tree.proofs.Refusing.{passed_on}
 use Rattle.object_table.specs.Rows.{SpellsRows}
 use Rattle.object_table.specs.Tables.{bytes_to}
-use Rattle.object_table.proofs.Tables.{table_of, ok_for_all}
+use Rattle.object_table.proofs.Tables.{table_of, ok_for_all, bytes_read, rows_refused}
 use Rattle.object_table.proofs.reading.read.Goals as goal
 
 pub returns-in_err-count-clause-known : goal.returns-in_err-count-clause-known
@@ -75,3 +75,40 @@ returns-clause-one g c =
     let front = c.in_ok-bytes.ensures.value stored objects own blocks (first.keeps stored held) are (true_after _ _ _ _ first rest honest) object.0 object.1 in
     one other (subst (λ (bytes : List ℕ). SpellsRows c.args.kind.rows bytes other) (sym (c.deref.ensures.value ∙ front.1 ∙ ap (bytes_to object.0.array) (sym object.4))) (table_of _ _ object.0 other object.1 has).1.spelled))
     (ok_for_all c.rows_of.result (λ (rows : List ℕ). SpellsRows c.args.kind.rows c.deref.result.now rows) (λ found rows. found.items ≡ rows) c.rows_of.ensures.only)
+
+pub returns-in_err-count-clause-refused : goal.returns-in_err-count-clause-refused
+returns-in_err-count-clause-refused g c =
+    passed_on _ _ _ c.from_residual.ensures.1
+    (⊎_elim (λ node. inr (inl node)) (λ other. inr (inr (inl (other.0, inl other.1)))) c.in_err-count.ensures.refused)
+
+pub returns-in_err-bytes-clause-refused : goal.returns-in_err-bytes-clause-refused
+returns-in_err-bytes-clause-refused g c =
+    let object = c.in_ok-count.ensures.found in
+    passed_on _ _ _ c.from_residual-in_err-bytes.ensures.1
+    (inr (inr (inr (rows_refused _ _ _ _ _ _ _ _ _ _ _ object.1 object.2 c.in_ok-count.ensures.reads c.in_err-bytes.ensures.refused))))
+
+pub returns-clause-found : goal.returns-clause-found
+returns-clause-found g c =
+    let object = c.in_ok-count.ensures.found in
+    let read = bytes_read _ _ _ _ _ _ _ _ _ _ object.1 object.2 c.in_ok-count.ensures.reads c.in_ok-bytes.ensures.found in
+    IfOk-weaker c.rows_of.result _ _
+    (λ rows spells. record {
+      bytes = c.in_ok-bytes.bytes.items;
+      read = read;
+      spelled = subst (λ (bytes : List ℕ). SpellsRows c.args.kind.rows bytes rows.items) c.deref.ensures.value spells;
+    })
+    c.rows_of.ensures.found
+
+pub returns-clause-refused : goal.returns-clause-refused
+returns-clause-refused g c =
+    let object = c.in_ok-count.ensures.found in
+    let read = bytes_read _ _ _ _ _ _ _ _ _ _ object.1 object.2 c.in_ok-count.ensures.reads c.in_ok-bytes.ensures.found in
+    IfErr-weaker c.rows_of.result _ _
+    (λ refusal why. ⊎_elim (λ memory. inl memory)
+    (λ bad. inr (inr (inl (bad.0, inr (record {
+      bytes = c.in_ok-bytes.bytes.items;
+      read = read;
+      none = λ rows spells. bad.1 rows (subst (λ (bytes : List ℕ). SpellsRows c.args.kind.rows bytes rows) (sym c.deref.ensures.value) spells);
+    })))))
+    why)
+    c.rows_of.ensures.refused

@@ -5,8 +5,10 @@ use Rattle.block_store.proofs.Steps.{reads_on}
 use Rattle.dnode_tree.proofs.FurtherReads.{true_after, few_after}
 use Rattle.dnode_tree.proofs.Refusing.{passed_on}
 use Rattle.dnode_tree.specs.Ways.{bytes_of}
+use Rattle.objset.specs.Found.{IsDataFound}
+use Rattle.object_table.specs.Found.{AreBlocksFound}
 use Rattle.object_table.specs.Tables.{IsFront}
-use Rattle.object_table.proofs.Tables.{IsUnderway, underway_begins, underway_goes_on, some_is}
+use Rattle.object_table.proofs.Tables.{IsUnderway, underway_begins, underway_goes_on, some_is, spaces_stay}
 use Rattle.object_table.proofs.reading.read_blocks.Goals as goal
 
 pub loop-id-init : goal.loop-id-init
@@ -45,7 +47,8 @@ loop-id-preserved g c =
     c.in_ok-found.ensures.reads
     (λ stored objects own blocks held are honest.
     subst (λ (found : Option (Vec ℕ Global)). IsSomeAnd (objects c.args.number) (λ object. bytes_of found ≡ object.array c.loop-id.id)) c.in-Some.is
-    (c.in_ok-found.ensures.value stored objects own blocks held are honest)))
+    (c.in_ok-found.ensures.value stored objects own blocks held are honest))
+    (subst (λ (found : Option (Vec ℕ Global)). IsDataFound c.loop-id.store.spaces c.args.set.now c.args.birth c.args.number c.loop-id.id (bytes_of found)) c.in-Some.is c.in_ok-found.ensures.found))
 
 pub returns-clause-value : goal.returns-clause-value
 returns-clause-value g c =
@@ -55,3 +58,28 @@ returns-clause-value g c =
 
 pub returns-in_err-extend_from_slice-clause-reads : goal.returns-in_err-extend_from_slice-clause-reads
 returns-in_err-extend_from_slice-clause-reads g c = reads_on _ _ _ _ c.loop-id.invariant.reads c.in_ok-found.ensures.reads
+
+pub returns-clause-found : goal.returns-clause-found
+returns-clause-found g c =
+    let at : c.loop-id.id ≡ c.args.count = omega (arith, c.loop-id-test.false, c.loop-id.auto.id-end) in
+    subst (λ count. AreBlocksFound c.args.store.now.spaces c.args.set.now c.args.birth c.args.number count c.loop-id.bytes.items) at c.loop-id.invariant.found
+
+pub returns-in_err-found-clause-refused : goal.returns-in_err-found-clause-refused
+returns-in_err-found-clause-refused g c =
+    passed_on _ _ _ c.from_residual.ensures.1
+    (inr (inr (record {
+      id = c.loop-id.id;
+      below = c.loop-id-test.true;
+      mid = c.loop-id.store;
+      before = c.loop-id.invariant.reads;
+      why = c.in_err-found.ensures.refused;
+    })))
+
+pub returns-in_default-clause-refused : goal.returns-in_default-clause-refused
+returns-in_default-clause-refused g c =
+    let hole = subst (λ (found : Option (Vec ℕ Global)). IsDataFound c.loop-id.store.spaces c.args.set.now c.args.birth c.args.number c.loop-id.id (bytes_of found)) c.in_default.is c.in_ok-found.ensures.found in
+    inr (inl (refl, record {
+      id = c.loop-id.id;
+      below = c.loop-id-test.true;
+      hole = subst (λ spaces. IsDataFound spaces c.args.set.now c.args.birth c.args.number c.loop-id.id None) (spaces_stay _ _ _ c.loop-id.invariant.reads) hole;
+    }))
