@@ -1,9 +1,9 @@
 -- Names and their padding.
-use Rattle.std.proofs.Common.{◌≡◌, ◌≢◌, ℕ, ◌+◌, ◌-◌, ◌<◌, List, ◌++◌, length, take, drop, get_or, inl, inr, sym, ap, ◌∙◌, arith}
-use Rattle.std.specs.Prelude.{replicate}
+use Rattle.std.proofs.Common.{◌≡◌, ◌≢◌, ℕ, ◌+◌, ◌-◌, ◌<◌, false, Option, Some, None, List, ◌++◌, length, take, drop, get_or, inl, inr, sym, ap, ◌∙◌, arith}
+use Rattle.std.specs.Prelude.{replicate, is_some, MatchOption}
 use Rattle.std.proofs.Math.ListN.{get_or-append}
 use Rattle.std.proofs.lemmas.Bool.{cases_lt}
-use Rattle.std.proofs.lemmas.List.{take-append-drop, drop_at, length-append, length-replicate, length-take-le, length-drop, get_or-take, get_or-append-add, get_or-replicate}
+use Rattle.std.proofs.lemmas.List.{take-append-drop, drop_at, drop-replicate, length-append, length-replicate, length-take-le, length-drop, get_or-take, get_or-append-add, get_or-replicate}
 use Rattle.std.proofs.lemmas.List.Elements.{All-from_get_or, All-get_or}
 use Rattle.meta_objset.specs.Names.{IsNamed, IsName}
 
@@ -59,3 +59,17 @@ zeros_behind padded name n is e =
     let zeros : List ℕ = replicate (56 - length name) none in
     let left : drop n padded ≡ zeros = ap (drop n) is.padded_is ∙ drop_at name zeros n (sym e) in
     left ∙ ap (λ m. replicate m none) (sym (ap length left ∙ length-replicate (56 - length name) none))
+
+-- a name with no zero, and zeros behind it
+pub padded_named : (padded name : List ℕ) (found : Option ℕ) (Seen : ℕ → Type 0) → 0 < length name → length name < 56 → is_some found ≡ false
+    → MatchOption found ((k : ℕ) → k < length name → get_or name k 0 ≢ 0) Seen → padded ≡ name ++ drop (0 + length name) (replicate 56 0) → IsNamed padded name
+padded_named padded name None Seen some few unseen no_zero is =
+    let none : ℕ = 0 in
+    let left : 56 - (0 + length name) ≡ 56 - length name = omega arith in
+    record {
+      some = some;
+      few = few;
+      no_zero = All-from_get_or (λ byte. byte ≢ 0) name none no_zero;
+      padded_is = is ∙ ap (λ (zeros : List ℕ). name ++ zeros) (drop-replicate (0 + length name) 56 none ∙ ap (λ n. replicate n none) left);
+    }
+padded_named padded name (Some end) Seen some few unseen seen is = absurd cc

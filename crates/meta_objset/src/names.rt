@@ -1,9 +1,12 @@
 //! Names as they stand in rows of the directory.
-ghost use Rattle.std.specs.Prelude.{◌≡◌, ◌≢◌, ◌↔◌, ◌<◌, ℕ, length, slice_index, MatchOption, IsTrue};
-ghost use Rattle.meta_objset.specs.Names.{IsName, IsBefore};
+ghost use Rattle.std.specs.Prelude.{◌≡◌, ◌≢◌, ◌↔◌, ◌<◌, ℕ, List, None, length, slice_index, MatchOption, IsTrue, IfSome};
+ghost use Rattle.meta_objset.specs.Names.{IsName, IsNamed, IsBefore};
 
 use std::cmp::Ordering;
-use words::is_zero;
+use words::{is_zero, put};
+
+/// How many bytes a name has in a row, with the zeros behind it.
+const NAME_LEN: usize = 56;
 
 /// The index of the first zero.
 fn first_zero(bytes: &[u8]) -> Option<usize>
@@ -23,6 +26,19 @@ pub fn is_name(padded: &[u8; 56]) -> bool
     };
     let (_, zeros) = padded.split_at(end);
     end > 0 && is_zero(zeros)
+}
+
+/// A name as it stands in a row. Nothing where it can't stand in one: it has no bytes, more than 55, or a zero.
+pub fn padded(name: &[u8]) -> Option<[u8; 56]>
+    ensures named { IfSome result (λ padded. IsNamed padded name.now) }
+    ensures none { result ≡ None → (padded : List ℕ) → ¬ IsNamed padded name.now }
+{
+    if name.is_empty() || name.len() >= NAME_LEN || first_zero(name).is_some() {
+        return None;
+    }
+    let mut padded = [0; NAME_LEN];
+    put(&mut padded, 0, name);
+    Some(padded)
 }
 
 /// Whether a name stands before another in byte order.

@@ -13,12 +13,11 @@ ghost use Rattle.meta_objset.specs.Reading.{HasDirectory, HasConfig, config_kind
 ghost use Rattle.vdev_label.specs.Config.{SpellsConfig};
 ghost use Rattle.vdev_label.specs.Plain.{PlainVdev, config_view};
 
-use crate::config::{SHAPE as CONFIG_SHAPE, config_in};
+use crate::config::{KIND as CONFIG_KIND, config_in};
 use crate::directory::{Directory, KIND as DIRECTORY_KIND};
 use block_store::{BlockStore, Refusal};
 use dnode::ObjectSet;
 use model_disk::Disk;
-use object_table::TableKind;
 use std::alloc::Global;
 use vdev_label::Config;
 
@@ -75,11 +74,6 @@ fn directory_of(alloc: Global, rows: &[u8]) -> Result<Directory, Refusal>
 
 /// The number of the configuration's object.
 const CONFIG: u64 = 2;
-
-const CONFIG_KIND: TableKind = TableKind {
-    object_type: 203,
-    rows: CONFIG_SHAPE,
-};
 
 /// The configuration in a meta object set. What its values are is not judged here. `BadPointer` where object 2 is no
 /// configuration. The set's blocks were born in the transaction group `birth` or before. The disks that are named are taken as

@@ -1,0 +1,50 @@
+-- What a root spells: the pool of a group.
+use Rattle.std.specs.Prelude.{ℕ, ◌≡◌, List, Option, Some, None, length}
+use Rattle.std.specs.List.{AllZip}
+use Rattle.block_pointer.specs.declared.block.Block.{Block}
+use Rattle.block_store.specs.Blocks.{Contents}
+use Rattle.dnode.specs.declared.object_set.ObjectSet.{ObjectSet}
+use Rattle.dnode.specs.declared.object_set.ObjectSetKind.TheVariants as sets
+use Rattle.dnode_slots.specs.Sets.{IsSetBlock}
+use Rattle.meta_objset.specs.declared.directory.DirectoryRow.{DirectoryRow}
+use Rattle.meta_objset.specs.declared.record.DatasetKind.TheVariants as datasets
+use Rattle.meta_objset.specs.declared.record.DatasetRecord.{DatasetRecord}
+use Rattle.meta_objset.specs.Datasets.{HasRecord}
+use Rattle.meta_objset.specs.Names.{IsNamed}
+use Rattle.meta_objset.specs.Reading.{HasDirectory}
+use Rattle.objset.specs.Objects.{Object, AreObjects}
+use Rattle.pool_model.specs.declared.volume.PlainVolume.{PlainVolume}
+use Rattle.pool_model.specs.declared.volume.VolumeKind.TheVariants as volumes
+use Rattle.pool_model.specs.Pools.{PlainPool}
+use Rattle.volume.specs.Volume.{IsVolume}
+
+-- the record is that of a volume of this size, block size and creation group
+pub record IsRecordOf (r : DatasetRecord) (volume : PlainVolume) : Type 0 where
+  pub kind : r.kind ≡ datasets.Volume
+  pub is_volume : volume.kind ≡ volumes.Volume
+  pub size : r.size ≡ length volume.bytes
+  pub block_size : r.block_size ≡ volume.block_size
+  pub created : r.created ≡ volume.group
+
+-- a row of the directory names the volume; its object has the volume's record, which leads to its bytes
+pub record SpellsDataset (stored : Contents) (birth : ℕ) (objects : ℕ → Option Object)
+    (row : DirectoryRow) (volume : PlainVolume) : Type 0 where
+  pub name : IsNamed row.name volume.name
+  pub r : DatasetRecord
+  pub has : HasRecord (objects row.object) r
+  pub is : IsRecordOf r volume
+  pub bytes : IsVolume stored birth r.object_set r.size r.block_size volume.bytes
+
+-- The block, born by then, spells the meta object set of the pool: its directory names the pool's volumes, in the order of their
+-- names, no more and no fewer. What is behind the block was born by its own birth.
+pub record SpellsPool (stored : Contents) (birth : ℕ) (root : Block) (pool : PlainPool) : Type 0 where
+  pub set : ObjectSet
+  pub is_set : IsSetBlock stored birth root set
+  pub kind : set.kind ≡ sets.Meta
+  pub objects : ℕ → Option Object
+  pub own : List Block
+  pub blocks : ℕ → List Block
+  pub are : AreObjects stored root.birth set objects own blocks
+  pub rows : List DirectoryRow
+  pub directory : HasDirectory (objects 1) rows
+  pub volumes : AllZip (SpellsDataset stored root.birth objects) rows pool.volumes
