@@ -47,6 +47,11 @@ pub fn read_record<D: Disk + Drop>(
         (own : List Block) (blocks : ℕ → List Block) → Holds store.old stored
         → AreObjects stored birth set.now objects own blocks → AnswersAreTrue store.old store.new
         → HasRecord (objects number) found) }
+    // There is no other record.
+    ensures one { IfOk result (λ found. (stored : Contents) (objects : ℕ → Option Object)
+        (own : List Block) (blocks : ℕ → List Block) → Holds store.old stored
+        → AreObjects stored birth set.now objects own blocks → AnswersAreTrue store.old store.new
+        → (other : DatasetRecord) → HasRecord (objects number) other → found ≡ other) }
 
     // Whatever the set is: what was read, and on a refusal its cause.
     ensures found { IfOk result (IsRecordFound store.old.spaces set.now birth number) }
@@ -119,6 +124,7 @@ fn is_of_record(shape: &ObjectShape) -> bool
 fn record_of(block: &[u8]) -> Result<DatasetRecord, Refusal>
     ensures size { IfOk result (λ _. length block.now ≡ 512) }
     ensures found { IfOk result (SpellsRecord block.now) }
+    ensures only { (r : DatasetRecord) → SpellsRecord block.now r → IfOk result (λ found. found ≡ r) }
     ensures refused { IfErr result (λ refusal. (refusal ≡ Refusal.BadPointer)
         × (length block.now ≡ 512 → (r : DatasetRecord) → ¬ SpellsRecord block.now r)) }
 {

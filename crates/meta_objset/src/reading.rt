@@ -39,6 +39,11 @@ pub fn read_directory<D: Disk + Drop>(
         (own : List Block) (blocks : ℕ → List Block) → Holds store.old stored
         → AreObjects stored birth set.now objects own blocks → AnswersAreTrue store.old store.new
         → HasDirectory (objects 1) directory) }
+    // There is no other directory.
+    ensures one { IfOk result (λ directory. (stored : Contents) (objects : ℕ → Option Object)
+        (own : List Block) (blocks : ℕ → List Block) → Holds store.old stored
+        → AreObjects stored birth set.now objects own blocks → AnswersAreTrue store.old store.new
+        → (other : List DirectoryRow) → HasDirectory (objects 1) other → directory ≡ other) }
 
     // Whatever the set is: what was read, and on a refusal its cause.
     ensures found { IfOk result (IsDirectoryFound store.old.spaces set.now birth) }
@@ -60,6 +65,8 @@ pub fn read_directory<D: Disk + Drop>(
 /// The directory whose rows these are.
 fn directory_of(alloc: Global, rows: &[u8]) -> Result<Directory, Refusal>
     ensures found { IfOk result (λ found. IsDirectory found × (rows.now ≡ rows_bytes found)) }
+    ensures only { (other : List DirectoryRow) → IsDirectory other → rows.now ≡ rows_bytes other
+        → IfOk result (λ found. found ≡ other) }
     ensures cause { IfErr result (λ refusal. refusal ≢ Refusal.NoSpace) }
     ensures refused { IfErr result (λ refusal. (refusal ≡ Refusal.NoMemory)
         ⊎ ((refusal ≡ Refusal.BadPointer)

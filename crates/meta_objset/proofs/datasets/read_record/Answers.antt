@@ -7,7 +7,7 @@ use Rattle.dnode_tree.proofs.FurtherReads.{true_before, true_after, few_after}
 use Rattle.dnode_tree.proofs.Refusing.{passed_on, ok_both}
 use Rattle.dnode_tree.specs.Ways.{bytes_of}
 use Rattle.objset.specs.Found.{IsDataFound}
-use Rattle.object_table.proofs.Tables.{some_is, spaces_stay}
+use Rattle.object_table.proofs.Tables.{ok_for_all, some_is, spaces_stay}
 use Rattle.meta_objset.specs.Record.{SpellsRecord}
 use Rattle.meta_objset.proofs.RecordObjects.{record_there}
 use Rattle.meta_objset.proofs.datasets.read_record.Goals as goal
@@ -135,3 +135,18 @@ returns-clause-refused g c =
       none = λ size r spelled. why.1 (subst (λ (bytes : List ℕ). length bytes ≡ 512) (sym c.deref.ensures.value) size) r (subst (λ (bytes : List ℕ). SpellsRecord bytes r) (sym c.deref.ensures.value) spelled);
     }))))))
     c.record_of.ensures.refused
+
+pub returns-clause-one : goal.returns-clause-one
+returns-clause-one g c =
+    let first = c.in_ok-expect_record.ensures.reads in
+    let rest = c.in_ok-bytes.ensures.reads in
+    IfOk-weaker c.record_of.result _ _
+    (λ found one stored objects own blocks held are honest other has.
+    let there = c.in_ok-expect_record.ensures.value stored objects own blocks held are (true_before _ _ _ _ first rest honest) in
+    let block = some_is (objects c.args.number) there.0 (λ object. Some c.in-Some.bytes.items ≡ object.array 0)
+    (subst (λ (found : Option (Vec ℕ Global)). IsSomeAnd (objects c.args.number) (λ object. bytes_of found ≡ object.array 0)) c.in-Some.is
+    (c.in_ok-bytes.ensures.value stored objects own blocks (first.keeps stored held) are (true_after _ _ _ _ first rest honest))) there.1 in
+    let both : Some c.in-Some.bytes.items ≡ Some has.bytes = block ∙ (record_there (objects c.args.number) there.0 other there.1 has).0 in
+    let same : has.bytes ≡ c.deref.result.now = let e : has.bytes ≡ c.in-Some.bytes.items = cc in e ∙ sym c.deref.ensures.value in
+    one other (subst (λ (bytes : List ℕ). SpellsRecord bytes other) same has.spelled))
+    (ok_for_all c.record_of.result (SpellsRecord c.deref.result.now) (λ found r. found ≡ r) c.record_of.ensures.only)

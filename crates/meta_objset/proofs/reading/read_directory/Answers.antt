@@ -1,6 +1,9 @@
-use Rattle.std.proofs.Common.{ℕ, List, refl, inl, inr, ⊎_elim, sym, subst, ◌∙◌}
+use Rattle.std.proofs.Common.{◌≡◌, ℕ, List, refl, inl, inr, ⊎_elim, sym, subst, ◌∙◌}
 use Rattle.std.proofs.lemmas.Result.{IfOk-weaker, IfErr-weaker}
 use Rattle.dnode_tree.proofs.Refusing.{passed_on}
+use Rattle.meta_objset.specs.declared.directory.DirectoryRow.{DirectoryRow}
+use Rattle.meta_objset.specs.Directory.{IsDirectory, rows_bytes}
+use Rattle.object_table.proofs.Tables.{ok_for_all}
 use Rattle.object_table.specs.Found.{IsTableFound}
 use Rattle.object_table.specs.Tables.{HasTable}
 use Rattle.meta_objset.specs.Reading.{directory_kind}
@@ -50,3 +53,10 @@ returns-clause-refused g c =
     })))
     why)
     c.directory_of.ensures.refused
+
+pub returns-clause-one : goal.returns-clause-one
+returns-clause-one g c =
+    IfOk-weaker c.directory_of.result _ _
+    (λ found one stored objects own blocks held are honest other has.
+    one other (has.0, c.deref.ensures.value ∙ c.in_ok-rows.ensures.one stored objects own blocks held are honest _ has.1))
+    (ok_for_all c.directory_of.result (λ (rows : List DirectoryRow). IsDirectory rows × (c.deref.result.now ≡ rows_bytes rows)) (λ found rows. found ≡ rows) (λ rows is. c.directory_of.ensures.only rows is.0 is.1))
