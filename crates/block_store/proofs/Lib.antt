@@ -3,6 +3,7 @@ pub mod Calling
 pub mod Choosing
 pub mod Copies
 pub mod CopyWrites
+pub mod Demands
 pub mod Entering
 pub mod Extents
 pub mod Fewer

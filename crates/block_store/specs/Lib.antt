@@ -1,5 +1,6 @@
 pub mod Blocks
 pub mod Config
+pub mod Demands
 pub mod Elsewhere
 pub mod Forgetting
 pub mod Laws
