@@ -15,6 +15,7 @@ use Rattle.block_pointer.specs.Copies.{dvas}
 use Rattle.raidz_io.specs.declared.writes.ColumnWrite.{ColumnWrite}
 use Rattle.raidz_io.specs.Reads.{OnlyReads}
 use Rattle.raidz_io.proofs.Calls.{length-OnlyReads, OnlyReads-none, failed_since-more}
+use Rattle.block_store.specs.declared.block.Asked.{Asked}
 use Rattle.block_store.specs.declared.refusal.Refusal.{Refusal}
 use Rattle.block_store.specs.declared.shape.VdevShape.{VdevShape}
 use Rattle.block_store.specs.declared.space.VdevSpace.{VdevSpace}
@@ -22,7 +23,8 @@ use Rattle.block_store.specs.Blocks.{Contents, Adds}
 use Rattle.block_store.specs.Places.{shapes_of, AreChosen, TookSome, RanOut}
 use Rattle.block_store.specs.Places.{filled as filled_marks}
 use Rattle.block_store.specs.Plans.{Plans, KeepsPlans}
-use Rattle.block_store.specs.Reading.{FewAreAbsent, AreTolerable}
+use Rattle.block_store.specs.Reading.{FewAreAbsent, AreTolerable, IsReadable, IsReadAs}
+use Rattle.block_store.specs.Shapes.{IsPlace}
 use Rattle.block_store.specs.Steps.{OnlyReadsBlocks, Placed, HavePlaced, OnlyReadsAndPlans, AnswersAreTrue, LossIsTolerable, HasNoRoomFor}
 use Rattle.block_store.specs.Store.{Store, Spans, Keeps, in_group, reaching, outs, outs_from, is_out}
 use Rattle.block_store.proofs.ReadingLost.{failed_earlier}
@@ -278,3 +280,24 @@ pub no_room_on : (old mid new : Store) (missing : List ℕ) (sectors copies : �
     → HasNoRoomFor old new missing sectors copies
 no_room_on old mid new missing sectors copies steps none =
     record { mid = none.mid; before = steps_on old mid none.mid missing steps none.before; ran_out = none.ran_out }
+
+-- ---- what may be read depends on the shapes alone
+
+pub readable_in : (spaces others : List VdevSpace) (asked : Asked) (block : Block) → shapes_of others ≡ shapes_of spaces → IsReadable others asked block
+    → IsReadable spaces asked block
+readable_in spaces others asked block same readable = record {
+  some = readable.some;
+  asks = readable.asks;
+  places = λ place held.
+      let was = readable.places place held in
+      let there = shape_found spaces others place.vdev was.space same was.found in record {
+        space = there.0;
+        found = there.1;
+        is_place = subst (λ shape. IsPlace shape block.property.sectors place) (sym there.2) was.is_place;
+      };
+}
+
+pub read_in : (spaces others : List VdevSpace) (asked : Asked) (block : Block) (bytes : List ℕ) → shapes_of others ≡ shapes_of spaces
+    → IsReadAs others asked block bytes → IsReadAs spaces asked block bytes
+read_in spaces others asked block bytes same read =
+    record { readable = readable_in spaces others asked block same read.readable; size = read.size; digest = read.digest }
