@@ -9,11 +9,11 @@ use Rattle.dnode.specs.declared.node.ObjectNode.{ObjectNode}
 use Rattle.dnode_tree.specs.declared.writes.BlockWrite.{BlockWrite}
 use Rattle.dnode_tree.specs.declared.writes.CopyCounts.{CopyCounts}
 use Rattle.dnode_tree.specs.Births.{height_of, reaches}
-use Rattle.dnode_tree.specs.Spots.{Spot, spots_in, spots_below, spots_raised, spots_of_raise, is_there, has_some, HavePlaces, LacksPlaces}
+use Rattle.dnode_tree.specs.Spots.{Spot, spots_in, spots_below, spots_raised, spots_of_raise, is_there, has_some}
 use Rattle.dnode_tree.proofs.Births.{behind_others, before_others, reaches_first}
 use Rattle.dnode_tree.proofs.Kept.{part_end}
 use Rattle.dnode_tree.proofs.Spans.{span_up}
-use Rattle.dnode_tree.proofs.Spots.{places_on, lacks_on, lacks_sooner, parts_as, same_reached, spots_taken}
+use Rattle.dnode_tree.proofs.Spots.{HavePlacesAt, LackPlacesAt, places_on, lacks_on, lacks_sooner, parts_as, same_reached, spots_taken}
 use Rattle.dnode_tree.specs.Writes.{highest_with}
 use Rattle.dnode_tree.proofs.WholeTree.{power_rises}
 use Rattle.std.proofs.Math.Nat.{mul-le-mul_right}
@@ -69,7 +69,7 @@ pub record HaveRaised (node : ObjectNode) (copies : CopyCounts) (before now : Li
   pub below : All (λ write. write.id < 128 ^ level) front
   pub behind : All (λ write. 128 ^ level ≤ write.id) rest
   pub there : is_there pointer ≡ (is_there node.pointer || has_some front)
-  pub have : HavePlaces node copies before (spots_grown node writes n) now
+  pub have : HavePlacesAt node copies before (spots_grown node writes n) now
 
 -- what a root is, with these writes below it
 abbrev pub IsRootOf : ObjectNode → List BlockWrite → BlockPtr → Type 0
@@ -83,14 +83,14 @@ spots_before writes run n middle height run_is middle_is later =
 
 pub root_fails : (node : ObjectNode) (copies : CopyCounts) (before after : List VdevSpace) (writes run : List BlockWrite) (n middle : ℕ) → run ≡ take n writes
     → middle ≡ 128 ^ height_of node → All (λ write. middle ≤ write.id) (drop n writes)
-    → LacksPlaces node copies before (spots_in run (height_of node) 0) after → LacksPlaces node copies before (spots_grown node writes 0) after
+    → LackPlacesAt node copies before (spots_in run (height_of node) 0) after → LackPlacesAt node copies before (spots_grown node writes 0) after
 root_fails node copies before after writes run n middle run_is middle_is later lacks =
-    subst (λ spots. LacksPlaces node copies before spots after) (spots_before writes run n middle (height_of node) run_is middle_is later) lacks
+    subst (λ spots. LackPlacesAt node copies before spots after) (spots_before writes run n middle (height_of node) run_is middle_is later) lacks
 
 pub raised_begins : (node : ObjectNode) (copies : CopyCounts) (before now : List VdevSpace) (level : ℕ) (pointer : BlockPtr) (writes run rest : List BlockWrite) (n middle : ℕ)
     → level ≡ height_of node → middle ≡ 128 ^ level → run ≡ take n writes → rest ≡ drop n writes
     → All (λ write. write.id < middle) (take n writes) → All (λ write. middle ≤ write.id) (drop n writes)
-    → IsRootOf node run pointer → HavePlaces node copies before (spots_in run (height_of node) 0) now
+    → IsRootOf node run pointer → HavePlacesAt node copies before (spots_in run (height_of node) 0) now
     → HaveRaised node copies before now level pointer writes rest
 raised_begins node copies before now level pointer writes run rest n middle level_is middle_is run_is rest_is sooner later there have = record {
   n = 0;
@@ -100,7 +100,7 @@ raised_begins node copies before now level pointer writes run rest n middle leve
   below = subst (λ m. All (λ write. write.id < m) run) middle_is (subst (λ ws. All (λ write. write.id < middle) ws) (sym run_is) sooner);
   behind = subst (λ m. All (λ write. m ≤ write.id) rest) middle_is (subst (λ ws. All (λ write. middle ≤ write.id) ws) (sym rest_is) later);
   there = there;
-  have = subst (λ spots. HavePlaces node copies before spots now)
+  have = subst (λ spots. HavePlacesAt node copies before spots now)
       (spots_before writes run n middle (height_of node) run_is (middle_is ∙ ap (λ l. 128 ^ l) level_is) later) have;
 }
 
@@ -162,7 +162,7 @@ module _ (node : ObjectNode) (copies : CopyCounts) (before now : List VdevSpace)
       ∙ ap (λ l. if is_there node.pointer || reaches writes (suc (height_of node + so_far.n)) 0 then spots_below writes l 0 1 127 else []) so_far.level_is
 
   pub raised_on : (after : List VdevSpace) (new_pointer : BlockPtr) → is_there new_pointer ≡ (is_there pointer || has_some run)
-      → HavePlaces node copies now (spots_of_raise pointer run level) after
+      → HavePlacesAt node copies now (spots_of_raise pointer run level) after
       → HaveRaised node copies before after (level + 1) new_pointer writes others
   raised_on after new_pointer there more = record {
     n = suc so_far.n;
@@ -173,23 +173,23 @@ module _ (node : ObjectNode) (copies : CopyCounts) (before now : List VdevSpace)
     behind = subst (λ m. All (λ write. m ≤ write.id) others) up others_later;
     there = there ∙ ap (λ test. test || has_some run) so_far.there ∙ or_assoc (is_there node.pointer) (has_some so_far.front) (has_some run)
         ∙ ap (λ test. is_there node.pointer || test) (sym (some_or so_far.front run));
-    have = places_on node copies before now after (spots_grown node writes so_far.n) _ so_far.have (subst (λ spots. HavePlaces node copies now spots after) level_spots more);
+    have = places_on node copies before now after (spots_grown node writes so_far.n) _ so_far.have (subst (λ spots. HavePlacesAt node copies now spots after) level_spots more);
   }
 
-  pub raised_fails : (after : List VdevSpace) → LacksPlaces node copies now (spots_of_raise pointer run level) after
-      → LacksPlaces node copies before (spots_grown node writes (suc so_far.n)) after
+  pub raised_fails : (after : List VdevSpace) → LackPlacesAt node copies now (spots_of_raise pointer run level) after
+      → LackPlacesAt node copies before (spots_grown node writes (suc so_far.n)) after
   raised_fails after lacks =
-      lacks_on node copies before now after (spots_grown node writes so_far.n) _ so_far.have (subst (λ spots. LacksPlaces node copies now spots after) level_spots lacks)
+      lacks_on node copies before now after (spots_grown node writes so_far.n) _ so_far.have (subst (λ spots. LackPlacesAt node copies now spots after) level_spots lacks)
 
 -- higher levels have further spots
 pub fails_sooner : (node : ObjectNode) (copies : CopyCounts) (before after : List VdevSpace) (writes : List BlockWrite) (n more : ℕ)
-    → LacksPlaces node copies before (spots_grown node writes n) after → LacksPlaces node copies before (spots_grown node writes (n + more)) after
+    → LackPlacesAt node copies before (spots_grown node writes n) after → LackPlacesAt node copies before (spots_grown node writes (n + more)) after
 fails_sooner node copies before after writes n zero lacks =
     let e : n ≡ n + 0 = omega arith in
-    subst (λ m. LacksPlaces node copies before (spots_grown node writes m) after) e lacks
+    subst (λ m. LackPlacesAt node copies before (spots_grown node writes m) after) e lacks
 fails_sooner node copies before after writes n (suc more) lacks =
     let e : suc (n + more) ≡ n + suc more = omega arith in
-    subst (λ m. LacksPlaces node copies before (spots_grown node writes m) after) e
+    subst (λ m. LackPlacesAt node copies before (spots_grown node writes m) after) e
     (lacks_sooner node copies before after (spots_grown node writes (n + more)) _ (fails_sooner node copies before after writes n more lacks))
 
 -- ---- the highest id

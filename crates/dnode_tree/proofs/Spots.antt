@@ -2,14 +2,17 @@
 use Rattle.std.proofs.Common.{◌≡◌, ℕ, zero, suc, ◌+◌, ◌-◌, ◌*◌, ◌^◌, ◌<◌, ◌≤◌, true, false, if◌then◌else◌, List, [], ◌∷◌, ◌++◌, length, take, drop, All, refl, sym, ap, ◌∙◌, subst, arith, append-nil, append_assoc}
 use Rattle.block_pointer.specs.declared.dva.Dva.{Dva}
 use Rattle.block_store.specs.declared.space.VdevSpace.{VdevSpace}
+use Rattle.block_store.specs.Demands.{HavePlaces, LackPlaces}
 use Rattle.block_store.specs.Places.{AreChosen, RanOut}
+use Rattle.block_store.proofs.Demands.{have_both, have_one, lack_later, lack_one, lack_sooner}
 use Rattle.dnode.specs.declared.node.ObjectNode.{ObjectNode}
 use Rattle.dnode_tree.specs.declared.writes.BlockWrite.{BlockWrite}
 use Rattle.dnode_tree.specs.declared.writes.CopyCounts.{CopyCounts}
 use Rattle.dnode_tree.specs.Births.{reaches}
-use Rattle.dnode_tree.specs.Spots.{Spot, of_parts, spots_in, spots_below, HavePlaces, LacksPlaces}
+use Rattle.dnode_tree.specs.Spots.{Spot, of_parts, spots_in, spots_below, demand_at, demands_at}
 use Rattle.dnode_tree.specs.Tree.{property_of}
 use Rattle.dnode_tree.specs.Writes.{copies_at}
+use Rattle.std.proofs.lemmas.List.{map-append}
 use Rattle.std.proofs.Math.Nat.{mul-le-mul_right}
 use Rattle.dnode_tree.proofs.Births.{reaches_taken, reaches_dropped}
 use Rattle.dnode_tree.proofs.Kept.{part_end}
@@ -17,35 +20,31 @@ use Rattle.dnode_tree.proofs.Spans.{span_up}
 
 -- ---- places one after the other
 
+-- the blocks at these spots have places, or lack them
+abbrev pub HavePlacesAt : ObjectNode → CopyCounts → List VdevSpace → List Spot → List VdevSpace → Type 0
+HavePlacesAt node copies before spots after = HavePlaces before (demands_at node copies spots) after
+
+abbrev pub LackPlacesAt : ObjectNode → CopyCounts → List VdevSpace → List Spot → List VdevSpace → Type 0
+LackPlacesAt node copies before spots after = LackPlaces before (demands_at node copies spots) after
+
+demands_on : (node : ObjectNode) (copies : CopyCounts) (spots later : List Spot)
+    → demands_at node copies spots ++ demands_at node copies later ≡ demands_at node copies (spots ++ later)
+demands_on node copies spots later = sym (map-append (λ (spot : Spot). demand_at node copies spot.level) spots later)
+
 pub places_on : (node : ObjectNode) (copies : CopyCounts) (before mid after : List VdevSpace) (spots later : List Spot)
-    → HavePlaces node copies before spots mid → HavePlaces node copies mid later after → HavePlaces node copies before (spots ++ later) after
-places_on node copies before mid after [] later have more = subst (λ spaces. HavePlaces node copies spaces later after) have more
-places_on node copies before mid after (spot ∷ spots) later have more =
-    (have.0, have.1, have.2, have.3, places_on node copies have.1 mid after spots later have.4 more)
+    → HavePlacesAt node copies before spots mid → HavePlacesAt node copies mid later after → HavePlacesAt node copies before (spots ++ later) after
+places_on node copies before mid after spots later have more =
+    subst (λ demands. HavePlaces before demands after) (demands_on node copies spots later) (have_both before mid after _ _ have more)
 
 pub lacks_on : (node : ObjectNode) (copies : CopyCounts) (before mid after : List VdevSpace) (spots later : List Spot)
-    → HavePlaces node copies before spots mid → LacksPlaces node copies mid later after → LacksPlaces node copies before (spots ++ later) after
-lacks_on node copies before mid after spots later have lacks = record {
-  placed = spots ++ lacks.placed;
-  next = lacks.next;
-  left = lacks.left;
-  are = ap (λ more. spots ++ more) lacks.are ∙ sym (append_assoc spots lacks.placed (lacks.next ∷ lacks.left));
-  mid = lacks.mid;
-  have = places_on node copies before mid lacks.mid spots lacks.placed have lacks.have;
-  ran_out = lacks.ran_out;
-}
+    → HavePlacesAt node copies before spots mid → LackPlacesAt node copies mid later after → LackPlacesAt node copies before (spots ++ later) after
+lacks_on node copies before mid after spots later have lack =
+    subst (λ demands. LackPlaces before demands after) (demands_on node copies spots later) (lack_later before mid after _ _ have lack)
 
 pub lacks_sooner : (node : ObjectNode) (copies : CopyCounts) (before after : List VdevSpace) (spots later : List Spot)
-    → LacksPlaces node copies before spots after → LacksPlaces node copies before (spots ++ later) after
-lacks_sooner node copies before after spots later lacks = record {
-  placed = lacks.placed;
-  next = lacks.next;
-  left = lacks.left ++ later;
-  are = ap (λ more. more ++ later) lacks.are ∙ append_assoc lacks.placed (lacks.next ∷ lacks.left) later;
-  mid = lacks.mid;
-  have = lacks.have;
-  ran_out = lacks.ran_out;
-}
+    → LackPlacesAt node copies before spots after → LackPlacesAt node copies before (spots ++ later) after
+lacks_sooner node copies before after spots later lack =
+    subst (λ demands. LackPlaces before demands after) (demands_on node copies spots later) (lack_sooner before after _ _ lack)
 
 -- ---- parts
 
@@ -124,7 +123,7 @@ pub record HavePartsPlaced (node : ObjectNode) (copies : CopyCounts) (before now
   pub same : (j : ℕ) → k ≤ j → j < 128 → spots_in writes level (first + j * 128 ^ level) ≡ spots_in rest level (first + j * 128 ^ level)
   pub n : ℕ
   pub k_is : k ≡ from + n
-  pub have : HavePlaces node copies before (of_parts (λ j. spots_in writes level (first + j * 128 ^ level)) from n) now
+  pub have : HavePlacesAt node copies before (of_parts (λ j. spots_in writes level (first + j * 128 ^ level)) from n) now
 
 pub parts_begin : (node : ObjectNode) (copies : CopyCounts) (spaces : List VdevSpace) (level first from : ℕ) (writes : List BlockWrite)
     → HavePartsPlaced node copies spaces spaces level first from writes writes from
@@ -149,7 +148,7 @@ module _ (node : ObjectNode) (copies : CopyCounts) (before now : List VdevSpace)
       ∙ spots_taken rest count middle level (first + k * 128 ^ level) behind (omega (arith, middle_is))
 
   pub parts_go_on : (after : List VdevSpace) (others : List BlockWrite) → others ≡ drop count rest
-      → HavePlaces node copies now (spots_in (take count rest) level (first + k * 128 ^ level)) after
+      → HavePlacesAt node copies now (spots_in (take count rest) level (first + k * 128 ^ level)) after
       → HavePartsPlaced node copies before after level first from writes others (k + 1)
   parts_go_on after others others_is more = record {
     same = λ j above under.
@@ -159,57 +158,49 @@ module _ (node : ObjectNode) (copies : CopyCounts) (before now : List VdevSpace)
     n = suc so_far.n;
     k_is = omega (arith, so_far.k_is);
     have = places_on node copies before now after (of_parts spots from so_far.n) (spots (from + so_far.n)) so_far.have
-        (subst (λ there. HavePlaces node copies now there after) (sym next_part) more);
+        (subst (λ there. HavePlacesAt node copies now there after) (sym next_part) more);
   }
 
   pub parts_skip : (others : List BlockWrite) → others ≡ drop count rest → take count rest ≡ [] → HavePartsPlaced node copies before now level first from writes others (k + 1)
   parts_skip others others_is nothing =
       parts_go_on now others others_is
-      (subst (λ there. HavePlaces node copies now there now) (sym (ap (λ ws. spots_in ws level (first + k * 128 ^ level)) nothing ∙ unreached level (first + k * 128 ^ level))) refl)
+      (subst (λ there. HavePlacesAt node copies now there now) (sym (ap (λ ws. spots_in ws level (first + k * 128 ^ level)) nothing ∙ unreached level (first + k * 128 ^ level))) refl)
 
-  pub parts_fail : (after : List VdevSpace) → LacksPlaces node copies now (spots_in (take count rest) level (first + k * 128 ^ level)) after
-      → LacksPlaces node copies before (spots_below writes level first from (128 - from)) after
+  pub parts_fail : (after : List VdevSpace) → LackPlacesAt node copies now (spots_in (take count rest) level (first + k * 128 ^ level)) after
+      → LackPlacesAt node copies before (spots_below writes level first from (128 - from)) after
   parts_fail after lacks =
       let all : 128 - from ≡ suc so_far.n + (127 - k) = omega (arith, low, so_far.k_is) in
-      subst (λ n. LacksPlaces node copies before (spots_below writes level first from n) after) (sym all)
+      subst (λ n. LackPlacesAt node copies before (spots_below writes level first from n) after) (sym all)
       (lacks_sooner node copies before after _ _
-      (subst (λ there. LacksPlaces node copies before there after) (sym (parts_split spots from (suc so_far.n) (127 - k)))
+      (subst (λ there. LackPlacesAt node copies before there after) (sym (parts_split spots from (suc so_far.n) (127 - k)))
       (lacks_sooner node copies before after _ _
       (lacks_on node copies before now after (of_parts spots from so_far.n) (spots (from + so_far.n)) so_far.have
-      (subst (λ there. LacksPlaces node copies now there after) (sym next_part) lacks)))))
+      (subst (λ there. LackPlacesAt node copies now there after) (sym next_part) lacks)))))
 
 module _ (node : ObjectNode) (copies : CopyCounts) (before now after : List VdevSpace) (level first from : ℕ) (writes rest : List BlockWrite) (k : ℕ)
     (so_far : HavePartsPlaced node copies before now level first from writes rest k) (all : k ≡ 128) where
   count_is : so_far.n ≡ 128 - from
   count_is = omega (arith, all, so_far.k_is)
 
-  pub parts_end : HavePlaces node copies now ((record { level = suc level; first = first }) ∷ []) after
-      → HavePlaces node copies before (spots_below writes level first from (128 - from)) after
+  pub parts_end : HavePlacesAt node copies now ((record { level = suc level; first = first }) ∷ []) after
+      → HavePlacesAt node copies before (spots_below writes level first from (128 - from)) after
   parts_end root =
-      subst (λ n. HavePlaces node copies before (spots_below writes level first from n) after) count_is
+      subst (λ n. HavePlacesAt node copies before (spots_below writes level first from n) after) count_is
       (places_on node copies before now after _ _ so_far.have root)
 
-  pub root_fails : LacksPlaces node copies now ((record { level = suc level; first = first }) ∷ []) after
-      → LacksPlaces node copies before (spots_below writes level first from (128 - from)) after
+  pub root_fails : LackPlacesAt node copies now ((record { level = suc level; first = first }) ∷ []) after
+      → LackPlacesAt node copies before (spots_below writes level first from (128 - from)) after
   root_fails lacks =
-      subst (λ n. LacksPlaces node copies before (spots_below writes level first from n) after) count_is
+      subst (λ n. LackPlacesAt node copies before (spots_below writes level first from n) after) count_is
       (lacks_on node copies before now after _ _ so_far.have lacks)
 
 -- one block
 pub one_placed : (node : ObjectNode) (copies : CopyCounts) (before after : List VdevSpace) (level first : ℕ) (places : List Dva)
     → length places ≡ copies_at copies level → AreChosen before [] (property_of node level).sectors places after
-    → HavePlaces node copies before ((record { level = level; first = first }) ∷ []) after
-one_placed node copies before after level first places count chosen = (places, after, count, chosen, refl)
+    → HavePlacesAt node copies before ((record { level = level; first = first }) ∷ []) after
+one_placed node copies before after level first places count chosen = have_one before after _ _ places count chosen
 
 pub none_placed : (node : ObjectNode) (copies : CopyCounts) (before after : List VdevSpace) (level first : ℕ)
     → RanOut before (property_of node level).sectors (copies_at copies level) after
-    → LacksPlaces node copies before ((record { level = level; first = first }) ∷ []) after
-none_placed node copies before after level first ran_out = record {
-  placed = [];
-  next = record { level = level; first = first };
-  left = [];
-  are = refl;
-  mid = before;
-  have = refl;
-  ran_out = ran_out;
-}
+    → LackPlacesAt node copies before ((record { level = level; first = first }) ∷ []) after
+none_placed node copies before after level first ran_out = lack_one before after _ _ ran_out

@@ -23,8 +23,8 @@ use Rattle.dnode_tree.proofs.Fills.{total_set}
 use Rattle.dnode_tree.proofs.Kept.{part_end}
 use Rattle.dnode_tree.proofs.NewArrays.{behind_all, order_taken, order_dropped, has_before, has_behind}
 use Rattle.dnode_tree.proofs.Rewriting.{part_skipped, part_rewritten}
-use Rattle.dnode_tree.proofs.Spots.{HavePartsPlaced, parts_skip, parts_go_on}
-use Rattle.dnode_tree.specs.Spots.{spots_in, HavePlaces}
+use Rattle.dnode_tree.proofs.Spots.{HavePlacesAt, HavePartsPlaced, parts_skip, parts_go_on}
+use Rattle.dnode_tree.specs.Spots.{spots_in}
 use Rattle.block_store.proofs.Steps.{steps_on}
 use Rattle.dnode_tree.proofs.Steps.{true_sooner, true_later, few_later}
 
@@ -162,7 +162,7 @@ module _ {copies : CopyCounts} (start now : Store) (missing : List ℕ) (node : 
       (begin_is : begin ≡ first + k * 128 ^ level) (child_is : child ≡ get_or pointers k child) (run_is : run ≡ take n rest) where
     -- the part is written
     pub writing_goes_on : (block : Block) (new_pointers : List BlockPtr) (others : List BlockWrite) (noted_later : List Block) → new_pointers ≡ set pointers k (At block) → others ≡ drop n rest → 0 < block.fill
-        → HavePlaces node copies now.spaces (spots_in run level begin) after_write.spaces
+        → HavePlacesAt node copies now.spaces (spots_in run level begin) after_write.spaces
         → ((ages : Option Ages) (stored planned : Contents) (array : ℕ → Option (List ℕ)) (blocks : List Block) → Plans now stored planned
         → IsSubtree stored (property_of node) level begin bound child array blocks
         → ((told : Ages) → ages ≡ Some told → AreBirths stored level begin child told.old × AreBirthsAfter birth run told.old told.new level begin (begin + 128 ^ level))
@@ -180,8 +180,8 @@ module _ {copies : CopyCounts} (start now : Store) (missing : List ℕ) (node : 
           filled = let room : k < length pointers = omega (arith, low, so_far.count) in inr (omega (arith, some, total_set pointers k (At block) room));
           count = length-set pointers k (At block) ∙ so_far.count;
           placed = parts_go_on node copies start.spaces now.spaces level first from writes rest k so_far.placed low n middle middle_is sooner all_behind after_write.spaces (drop n rest) refl
-              (subst (λ ws. HavePlaces node copies now.spaces (spots_in ws level (first + k * 128 ^ level)) after_write.spaces) run_is
-              (subst (λ m. HavePlaces node copies now.spaces (spots_in run level m) after_write.spaces) begin_is places));
+              (subst (λ ws. HavePlacesAt node copies now.spaces (spots_in ws level (first + k * 128 ^ level)) after_write.spaces) run_is
+              (subst (λ m. HavePlacesAt node copies now.spaces (spots_in run level m) after_write.spaces) begin_is places));
           rewriting = λ ages stored planned begun array new_array before after noted plans rewritten has aged honest.
               let there = so_far.rewriting ages stored planned begun array new_array before after noted plans rewritten has aged (true_sooner start now after_write missing so_far.steps steps honest) in
               let part = part_left stored planned there.0 array new_array before there.1 noted begin child there.3 begin_is child_is in

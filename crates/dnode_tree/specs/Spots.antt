@@ -1,10 +1,8 @@
--- Which blocks of a tree are planned anew, and the places that they take.
-use Rattle.std.specs.Prelude.{ℕ, zero, suc, ◌≡◌, ◌+◌, ◌-◌, ◌*◌, ◌^◌, ◌||◌, Bool, true, false, if◌then◌else◌, List, [], ◌∷◌, ◌++◌, length}
-use Rattle.block_pointer.specs.declared.dva.Dva.{Dva}
+-- Which blocks of a tree are planned anew, and what they ask.
+use Rattle.std.specs.Prelude.{ℕ, zero, suc, ◌+◌, ◌-◌, ◌*◌, ◌^◌, ◌||◌, Bool, true, false, if◌then◌else◌, List, [], ◌∷◌, ◌++◌, map}
 use Rattle.block_pointer.specs.declared.pointer.BlockPtr.{BlockPtr}
 use Rattle.block_pointer.specs.declared.pointer.BlockPtr.TheVariants.{Hole, Block as At}
-use Rattle.block_store.specs.declared.space.VdevSpace.{VdevSpace}
-use Rattle.block_store.specs.Places.{AreChosen, RanOut}
+use Rattle.block_store.specs.Demands.{Demand}
 use Rattle.dnode.specs.declared.node.ObjectNode.{ObjectNode}
 use Rattle.dnode_tree.specs.declared.writes.BlockWrite.{BlockWrite}
 use Rattle.dnode_tree.specs.declared.writes.CopyCounts.{CopyCounts}
@@ -63,19 +61,14 @@ levels_more node writes = levels_of (highest_with writes node.highest) - levels_
 abbrev pub spots_of : ObjectNode → List BlockWrite → List Spot
 spots_of node writes = spots_raised writes (is_there node.pointer) (height_of node) (levels_more node writes)
 
--- For the blocks at these spots places were chosen and taken, one block after the other, and for nothing else.
-abbrev pub HavePlaces : ObjectNode → CopyCounts → List VdevSpace → List Spot → List VdevSpace → Type 0
-HavePlaces node copies before [] after = after ≡ before
-HavePlaces node copies before (spot ∷ spots) after =
-    (places : List Dva) × (mid : List VdevSpace) × (length places ≡ copies_at copies spot.level)
-    × AreChosen before [] (property_of node spot.level).sectors places mid × HavePlaces node copies mid spots after
+-- what a block of a level asks, as it is to be placed
+abbrev pub demand_at : ObjectNode → CopyCounts → ℕ → Demand
+demand_at node copies level = record { sectors = (property_of node level).sectors; copies = copies_at copies level }
 
--- So it is of the first of the spots; and then no free place was left for a copy of the block at the next.
-pub record LacksPlaces (node : ObjectNode) (copies : CopyCounts) (before : List VdevSpace) (spots : List Spot) (after : List VdevSpace) : Type 0 where
-  pub placed : List Spot
-  pub next : Spot
-  pub left : List Spot
-  pub are : spots ≡ placed ++ next ∷ left
-  pub mid : List VdevSpace
-  pub have : HavePlaces node copies before placed mid
-  pub ran_out : RanOut mid (property_of node next.level).sectors (copies_at copies next.level) after
+-- what the blocks at these spots ask
+abbrev pub demands_at : ObjectNode → CopyCounts → List Spot → List Demand
+demands_at node copies spots = map (λ spot. demand_at node copies spot.level) spots
+
+-- what the blocks of an object that are planned anew for writes ask
+abbrev pub demands_of : ObjectNode → CopyCounts → List BlockWrite → List Demand
+demands_of node copies writes = demands_at node copies (spots_of node writes)

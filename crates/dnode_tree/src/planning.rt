@@ -5,10 +5,11 @@ ghost use Rattle.block_pointer.specs.Block.{FitsBlock};
 ghost use Rattle.block_pointer.specs.Copies.{dvas};
 ghost use Rattle.dnode.specs.Node.{IsNode};
 ghost use Rattle.block_store.specs.Blocks.{Contents, Adds};
+ghost use Rattle.block_store.specs.Demands.{HavePlaces, LackPlaces};
 ghost use Rattle.block_store.specs.Plans.{Plans};
 ghost use Rattle.block_store.specs.Reading.{Asks};
 ghost use Rattle.block_store.specs.Steps.{OnlyReadsAndPlans};
-ghost use Rattle.dnode_tree.specs.Spots.{HavePlaces, LacksPlaces};
+ghost use Rattle.dnode_tree.specs.Spots.{demands_at};
 ghost use Rattle.dnode_tree.specs.Subtree.{asked_of};
 ghost use Rattle.dnode_tree.specs.Tree.{property_of};
 ghost use Rattle.dnode_tree.specs.Writes.{copies_at, HasNoRoom, IsForRoom};
@@ -54,11 +55,15 @@ impl<'a> Rewriting<'a> {
             → (missing : List ℕ)
             → HasNoRoom store.old store.new missing self.entry.node.now self.entry.copies) }
         ensures place { OnOk result ((first : ℕ)
-            → HavePlaces self.entry.node.now self.entry.copies store.old.spaces
-            ((record { level = level; first = first }) ∷ []) store.new.spaces) }
+            → HavePlaces store.old.spaces
+            (demands_at self.entry.node.now self.entry.copies
+            ((record { level = level; first = first }) ∷ []))
+            store.new.spaces) }
         ensures no_place { IfErr result (λ refusal. refusal ≡ Refusal.NoSpace → (first : ℕ)
-            → LacksPlaces self.entry.node.now self.entry.copies store.old.spaces
-            ((record { level = level; first = first }) ∷ []) store.new.spaces) }
+            → LackPlaces store.old.spaces
+            (demands_at self.entry.node.now self.entry.copies
+            ((record { level = level; first = first }) ∷ []))
+            store.new.spaces) }
     {
         let block = NewBlock {
             property: property_at(self.node, level),

@@ -4,12 +4,13 @@ ghost use Rattle.block_pointer.specs.declared.block.Block.{Block};
 ghost use Rattle.block_pointer.specs.Pointer.{Fits};
 ghost use Rattle.dnode.specs.Node.{FitsNode};
 ghost use Rattle.block_store.specs.Blocks.{Contents};
+ghost use Rattle.block_store.specs.Demands.{HavePlaces, LackPlaces};
 ghost use Rattle.block_store.specs.Plans.{Plans};
 ghost use Rattle.block_store.specs.Steps.{OnlyReadsAndPlans, AnswersAreTrue, LossIsTolerable};
 ghost use Rattle.dnode_tree.specs.Births.{HasBirths, height_of, births_after};
 ghost use Rattle.dnode_tree.specs.PartsRewritten.{root_part, WritesPart, LacksRoomForPart, Raises, LacksRoomToRaise};
 ghost use Rattle.dnode_tree.specs.Rewriting.{IsGrown, IsRewritten};
-ghost use Rattle.dnode_tree.specs.Spots.{spots_in, spots_of, spots_of_raise, is_there, has_some, HavePlaces, LacksPlaces};
+ghost use Rattle.dnode_tree.specs.Spots.{spots_in, spots_of_raise, is_there, has_some, demands_at, demands_of};
 ghost use Rattle.dnode_tree.specs.Subtree.{HasProperty};
 ghost use Rattle.dnode_tree.specs.Tree.{property_of, IsTree};
 ghost use Rattle.dnode_tree.specs.Writes.{AreInOrder, AreBetween, AreWholeBlocks, written, highest_with, HasNoRoom, IsForRoom};
@@ -70,10 +71,10 @@ pub fn put_many<D: Disk + Drop>(
 
     // For each of these blocks places are taken, once, and for nothing else; where there is no room, it is so behind the first
     // of them.
-    ensures places { OnOk result (HavePlaces node.now copies store.old.spaces
-        (spots_of node.now writes.now) store.new.spaces) }
-    ensures no_place { IfErr result (λ refusal. refusal ≡ Refusal.NoSpace → LacksPlaces node.now
-        copies store.old.spaces (spots_of node.now writes.now) store.new.spaces) }
+    ensures places { OnOk result (HavePlaces store.old.spaces
+        (demands_of node.now copies writes.now) store.new.spaces) }
+    ensures no_place { IfErr result (λ refusal. refusal ≡ Refusal.NoSpace → LackPlaces
+        store.old.spaces (demands_of node.now copies writes.now) store.new.spaces) }
 {
     let rewriting = Rewriting {
         node,
@@ -128,12 +129,15 @@ impl<'a> Rewriting<'a> {
             (LacksRoomForPart self.entry store.old store.new (root_part self.entry) 0) }
         ensures there { IfOk result (λ pointer. is_there pointer
             ≡ (is_there self.entry.node.now.pointer || has_some writes.now)) }
-        ensures places { OnOk result (HavePlaces self.entry.node.now self.entry.copies
-            store.old.spaces (spots_in writes.now (height_of self.entry.node.now) 0)
+        ensures places { OnOk result (HavePlaces store.old.spaces
+            (demands_at self.entry.node.now self.entry.copies
+            (spots_in writes.now (height_of self.entry.node.now) 0))
             store.new.spaces) }
         ensures no_place { IfErr result (λ refusal. refusal ≡ Refusal.NoSpace
-            → LacksPlaces self.entry.node.now self.entry.copies store.old.spaces
-            (spots_in writes.now (height_of self.entry.node.now) 0) store.new.spaces) }
+            → LackPlaces store.old.spaces
+            (demands_at self.entry.node.now self.entry.copies
+            (spots_in writes.now (height_of self.entry.node.now) 0))
+            store.new.spaces) }
     {
         if writes.is_empty() {
             return Ok(self.node.pointer);
@@ -176,11 +180,15 @@ impl<'a> Rewriting<'a> {
             writes.now replaced.old.items) }
         ensures there { IfOk result (λ pointer.
             is_there pointer ≡ (is_there root || has_some writes.now)) }
-        ensures places { OnOk result (HavePlaces self.entry.node.now self.entry.copies
-            store.old.spaces (spots_of_raise root writes.now level) store.new.spaces) }
+        ensures places { OnOk result (HavePlaces store.old.spaces
+            (demands_at self.entry.node.now self.entry.copies
+            (spots_of_raise root writes.now level))
+            store.new.spaces) }
         ensures no_place { IfErr result (λ refusal. refusal ≡ Refusal.NoSpace
-            → LacksPlaces self.entry.node.now self.entry.copies store.old.spaces
-            (spots_of_raise root writes.now level) store.new.spaces) }
+            → LackPlaces store.old.spaces
+            (demands_at self.entry.node.now self.entry.copies
+            (spots_of_raise root writes.now level))
+            store.new.spaces) }
     {
         if root.is_hole() && writes.is_empty() {
             return Ok(BlockPtr::Hole);

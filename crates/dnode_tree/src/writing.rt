@@ -5,9 +5,10 @@ ghost use Rattle.block_pointer.specs.Block.{FitsBlock};
 ghost use Rattle.dnode.specs.Indirect.{total_fill};
 ghost use Rattle.dnode.specs.Node.{IsNode};
 ghost use Rattle.dnode_tree.specs.declared.writes.BlockWrite.{BlockWrite};
+ghost use Rattle.block_store.specs.Demands.{HavePlaces, LackPlaces};
 ghost use Rattle.block_store.specs.Steps.{OnlyReadsAndPlans};
 ghost use Rattle.dnode_tree.specs.PartsRewritten.{WritesPart, LacksRoomForPart, WritesParts, LacksRoomForParts};
-ghost use Rattle.dnode_tree.specs.Spots.{spots_in, spots_below, HavePlaces, LacksPlaces};
+ghost use Rattle.dnode_tree.specs.Spots.{spots_in, spots_below, demands_at};
 ghost use Rattle.dnode_tree.specs.Subtree.{blocks_at};
 ghost use Rattle.dnode_tree.specs.Tree.{property_of};
 ghost use Rattle.dnode_tree.specs.Writes.{AreInOrder, AreBetween, AreWholeBlocks, HasNoRoom};
@@ -56,11 +57,15 @@ impl<'a> Rewriting<'a> {
         ensures known { IfErr result (LacksRoomForPart self.entry store.old store.new part first) }
 
         // The blocks that the writes reach are placed, each once, and nothing else.
-        ensures places { OnOk result (HavePlaces self.entry.node.now self.entry.copies
-            store.old.spaces (spots_in writes.now part.level first) store.new.spaces) }
+        ensures places { OnOk result (HavePlaces store.old.spaces
+            (demands_at self.entry.node.now self.entry.copies
+            (spots_in writes.now part.level first))
+            store.new.spaces) }
         ensures no_place { IfErr result (λ refusal. refusal ≡ Refusal.NoSpace
-            → LacksPlaces self.entry.node.now self.entry.copies store.old.spaces
-            (spots_in writes.now part.level first) store.new.spaces) }
+            → LackPlaces store.old.spaces
+            (demands_at self.entry.node.now self.entry.copies
+            (spots_in writes.now part.level first))
+            store.new.spaces) }
     {
         note(replaced, part.pointer)?;
         if part.level == 0 {
@@ -105,12 +110,15 @@ impl<'a> Rewriting<'a> {
             self.entry.node.now self.entry.copies) }
         ensures known { IfErr result (LacksRoomForParts self.entry store.old store.new parts first
             from writes.now replaced.old.items) }
-        ensures places { OnOk result (HavePlaces self.entry.node.now self.entry.copies
-            store.old.spaces (spots_below writes.now parts.level first from (128 - from))
+        ensures places { OnOk result (HavePlaces store.old.spaces
+            (demands_at self.entry.node.now self.entry.copies
+            (spots_below writes.now parts.level first from (128 - from)))
             store.new.spaces) }
         ensures no_place { IfErr result (λ refusal. refusal ≡ Refusal.NoSpace
-            → LacksPlaces self.entry.node.now self.entry.copies store.old.spaces
-            (spots_below writes.now parts.level first from (128 - from)) store.new.spaces) }
+            → LackPlaces store.old.spaces
+            (demands_at self.entry.node.now self.entry.copies
+            (spots_below writes.now parts.level first from (128 - from)))
+            store.new.spaces) }
     {
         let Parts {
             mut pointers,

@@ -3,7 +3,8 @@ use Rattle.dnode.specs.Levels.{levels_of}
 use Rattle.dnode_tree.proofs.Raising.{six_levels}
 use Rattle.dnode_tree.proofs.NewArrays.{behind_all}
 use Rattle.dnode_tree.proofs.Raised.{raised_begins, raised_on, raised_fails, root_fails, fails_sooner, spots_grown}
-use Rattle.dnode_tree.specs.Spots.{HavePlaces, LacksPlaces, levels_more}
+use Rattle.dnode_tree.specs.Spots.{levels_more}
+use Rattle.dnode_tree.proofs.Spots.{HavePlacesAt, LackPlacesAt}
 use Rattle.dnode_tree.proofs.Refusing.{passed_on}
 use Rattle.dnode_tree.proofs.Spans.{span_up}
 use Rattle.block_store.proofs.Steps.{steps_on}
@@ -103,7 +104,7 @@ returns-in_err-pointer-clause-no_place g c =
     passed_on _ _ _ c.from_residual.ensures.1
     (λ none.
     let e : 0 + levels_more c.args.node.now c.args.writes.now ≡ levels_more c.args.node.now c.args.writes.now = omega arith in
-    subst (λ n. LacksPlaces c.args.node.now c.args.copies c.args.store.now.spaces (spots_grown c.args.node.now c.args.writes.now n) c.write_root.new.store.spaces) e
+    subst (λ n. LackPlacesAt c.args.node.now c.args.copies c.args.store.now.spaces (spots_grown c.args.node.now c.args.writes.now n) c.write_root.new.store.spaces) e
     (fails_sooner c.args.node.now c.args.copies _ _ c.args.writes.now 0 (levels_more c.args.node.now c.args.writes.now)
     (root_fails c.args.node.now c.args.copies _ _ c.args.writes.now _ _ _ c.split_at.ensures.front (c.span.ensures.value ∙ ap (λ l. 128 ^ (l - 1)) c.levels_of-levels.ensures.value)
     (behind_all _ _ _ c.requires.order c.count_before.ensures.behind) (c.in_err-pointer.ensures.no_place none))))
@@ -128,7 +129,7 @@ returns-in_err-pointer-2-clause-no_place g c =
     ) in
     passed_on _ _ _ c.from_residual-in_err-pointer-2.ensures.1
     (λ none.
-    subst (λ n. LacksPlaces c.args.node.now c.args.copies c.args.store.now.spaces (spots_grown c.args.node.now c.args.writes.now n) c.raise.new.store.spaces) all
+    subst (λ n. LackPlacesAt c.args.node.now c.args.copies c.args.store.now.spaces (spots_grown c.args.node.now c.args.writes.now n) c.raise.new.store.spaces) all
     (fails_sooner c.args.node.now c.args.copies _ _ c.args.writes.now (suc raised.n) more
     (raised_fails c.args.node.now c.args.copies _ _ _ _ _ _ _ _ raised _ _ middle_is c.split_at-in-loop-level.ensures.front c.split_at-in-loop-level.ensures.back
     c.count_before-in-loop-level.ensures.before (behind_all _ _ _ c.loop-level.invariant.0.order c.count_before-in-loop-level.ensures.behind) _ (c.in_err-pointer-2.ensures.no_place none))))
@@ -151,4 +152,4 @@ returns-clause-places g c =
       c.levels_of-levels.ensures.least.one,
       ap levels_of c.highest_of-highest.ensures.value,
     ) in
-    subst (λ n. HavePlaces c.args.node.now c.args.copies c.args.store.now.spaces (spots_grown c.args.node.now c.args.writes.now n) c.loop-level.store.spaces) more raised.have
+    subst (λ n. HavePlacesAt c.args.node.now c.args.copies c.args.store.now.spaces (spots_grown c.args.node.now c.args.writes.now n) c.loop-level.store.spaces) more raised.have

@@ -12,8 +12,8 @@ use Rattle.dnode_tree.proofs.Fitting.{indirect_sectors}
 use Rattle.dnode_tree.proofs.NewArrays.{written_first, behind_all}
 use Rattle.dnode_tree.proofs.Refusing.{passed_on, ok_both}
 use Rattle.dnode_tree.proofs.Rewriting.{rewriting_begins, sum_fits, root_rewritten}
-use Rattle.dnode_tree.proofs.Spots.{parts_begin, parts_fail, parts_end, root_fails, reached_leaf, reached_below}
-use Rattle.dnode_tree.specs.Spots.{HavePlaces, LacksPlaces, spots_in, spots_below}
+use Rattle.dnode_tree.proofs.Spots.{HavePlacesAt, LackPlacesAt, parts_begin, parts_fail, parts_end, root_fails, reached_leaf, reached_below}
+use Rattle.dnode_tree.specs.Spots.{spots_in, spots_below}
 use Rattle.dnode_tree.proofs.Roots.{indirect_length, leaf_rewritten, part_has_root}
 use Rattle.block_store.proofs.Steps.{steps_none, steps_on, steps_read}
 use Rattle.dnode_tree.proofs.Steps.{true_sooner, true_later, few_later, no_room_on}
@@ -213,7 +213,7 @@ write_part-returns-then-part-eq0-clause-places g t c =
     let reached : reaches c.args.writes.now c.args.part.level c.args.first ≡ true = part_reached c.args.writes.now c.args.part.level c.args.first c.requires.some c.requires.between in
     on_ok_weaker c.plan_block.result
     (λ have.
-    subst (λ spots. HavePlaces c.args.self.node.now c.args.self.copies c.args.store.now.spaces spots c.plan_block.new.store.spaces)
+    subst (λ spots. HavePlacesAt c.args.self.node.now c.args.self.copies c.args.store.now.spaces spots c.plan_block.new.store.spaces)
     (sym (reached_leaf c.args.writes.now c.args.part.level c.args.first c.if-part-eq0.true reached)) (have c.args.first))
     c.plan_block.ensures.place
 
@@ -222,7 +222,7 @@ write_part-returns-then-part-eq0-clause-no_place g t c =
     let reached : reaches c.args.writes.now c.args.part.level c.args.first ≡ true = part_reached c.args.writes.now c.args.part.level c.args.first c.requires.some c.requires.between in
     IfErr-weaker c.plan_block.result _ _
     (λ refusal is none.
-    subst (λ spots. LacksPlaces c.args.self.node.now c.args.self.copies c.args.store.now.spaces spots c.plan_block.new.store.spaces)
+    subst (λ spots. LackPlacesAt c.args.self.node.now c.args.self.copies c.args.store.now.spaces spots c.plan_block.new.store.spaces)
     (sym (reached_leaf c.args.writes.now c.args.part.level c.args.first c.if-part-eq0.true reached)) (is none c.args.first))
     c.plan_block.ensures.no_place
 
@@ -237,9 +237,9 @@ write_part-returns-clause-places g t c =
     let spaces = same_spaces _ _ _ c.in_ok-parts.ensures.reads in
     on_ok_weaker c.write_parts.result
     (λ have.
-    subst (λ spots. HavePlaces c.args.self.node.now c.args.self.copies c.args.store.now.spaces spots c.write_parts.new.store.spaces)
+    subst (λ spots. HavePlacesAt c.args.self.node.now c.args.self.copies c.args.store.now.spaces spots c.write_parts.new.store.spaces)
     (sym (reached_below c.args.writes.now c.args.part.level c.in_ok-parts.parts.level c.args.first e reached))
-    (subst (λ before. HavePlaces c.args.self.node.now c.args.self.copies before (spots_below c.args.writes.now c.in_ok-parts.parts.level c.args.first 0 128) c.write_parts.new.store.spaces) spaces have))
+    (subst (λ before. HavePlacesAt c.args.self.node.now c.args.self.copies before (spots_below c.args.writes.now c.in_ok-parts.parts.level c.args.first 0 128) c.write_parts.new.store.spaces) spaces have))
     c.write_parts.ensures.places
 
 pub write_part-returns-clause-no_place : goal.write_part-returns-clause-no_place
@@ -249,9 +249,9 @@ write_part-returns-clause-no_place g t c =
     let spaces = same_spaces _ _ _ c.in_ok-parts.ensures.reads in
     IfErr-weaker c.write_parts.result _ _
     (λ refusal is none.
-    subst (λ spots. LacksPlaces c.args.self.node.now c.args.self.copies c.args.store.now.spaces spots c.write_parts.new.store.spaces)
+    subst (λ spots. LackPlacesAt c.args.self.node.now c.args.self.copies c.args.store.now.spaces spots c.write_parts.new.store.spaces)
     (sym (reached_below c.args.writes.now c.args.part.level c.in_ok-parts.parts.level c.args.first e reached))
-    (subst (λ before. LacksPlaces c.args.self.node.now c.args.self.copies before (spots_below c.args.writes.now c.in_ok-parts.parts.level c.args.first 0 128) c.write_parts.new.store.spaces) spaces (is none)))
+    (subst (λ before. LackPlacesAt c.args.self.node.now c.args.self.copies before (spots_below c.args.writes.now c.in_ok-parts.parts.level c.args.first 0 128) c.write_parts.new.store.spaces) spaces (is none)))
     c.write_parts.ensures.no_place
 
 pub write_parts-returns-in_err-block-clause-no_place : goal.write_parts-returns-in_err-block-clause-no_place
@@ -262,9 +262,9 @@ write_parts-returns-in_err-block-clause-no_place g t c =
     (λ none.
     parts_fail _ _ _ _ _ _ _ _ _ _ c.loop-place.invariant.placed c.loop-place-test.true _ _ middle_is c.count_before.ensures.before
     (behind_all _ _ _ c.loop-place.invariant.order c.count_before.ensures.behind) _
-    (subst (λ ws. LacksPlaces c.args.self.node.now c.args.self.copies c.loop-place.store.spaces (spots_in ws c.args.parts.level (c.args.first + c.loop-place.place * 128 ^ c.args.parts.level)) c.write_part.new.store.spaces)
+    (subst (λ ws. LackPlacesAt c.args.self.node.now c.args.self.copies c.loop-place.store.spaces (spots_in ws c.args.parts.level (c.args.first + c.loop-place.place * 128 ^ c.args.parts.level)) c.write_part.new.store.spaces)
     c.split_at.ensures.front
-    (subst (λ n. LacksPlaces c.args.self.node.now c.args.self.copies c.loop-place.store.spaces (spots_in c.split_at.result.0.now c.args.parts.level n) c.write_part.new.store.spaces)
+    (subst (λ n. LackPlacesAt c.args.self.node.now c.args.self.copies c.loop-place.store.spaces (spots_in c.split_at.result.0.now c.args.parts.level n) c.write_part.new.store.spaces)
     c.start_of-start.ensures.value (c.in_err-block.ensures.no_place none))))
 
 pub write_parts-returns-clause-places : goal.write_parts-returns-clause-places

@@ -5,7 +5,8 @@ use Rattle.block_store.proofs.Steps.{steps_none}
 use Rattle.dnode_tree.proofs.Raising.{raising_begins, raised, hole_raised, six_levels}
 use Rattle.dnode_tree.proofs.Refusing.{passed_on}
 use Rattle.dnode_tree.specs.Tree.{property_of}
-use Rattle.dnode_tree.specs.Spots.{spots_below, spots_of_raise, is_there, has_some, HavePlaces, LacksPlaces}
+use Rattle.dnode_tree.specs.Spots.{spots_below, spots_of_raise, is_there, has_some}
+use Rattle.dnode_tree.proofs.Spots.{HavePlacesAt, LackPlacesAt}
 use Rattle.dnode_tree.proofs.Raised.{test_passes}
 use Rattle.dnode_tree.proofs.writes.Rewriting.raise.Goals.{else-is_hole-via-then-is_hole+else-is_empty, else-is_hole-via-else-is_hole}
 use Rattle.dnode_tree.proofs.writes.Rewriting.raise.Goals as goal
@@ -60,7 +61,7 @@ pub returns-then-is_empty-clause-places : goal.returns-then-is_empty-clause-plac
 returns-then-is_empty-clause-places g c =
     let is : c.args.root ≡ Hole = search rules in
     let none : length c.args.writes.now ≡ 0 = search rules in
-    subst (λ spots. HavePlaces c.args.self.node.now c.args.self.copies c.args.store.now.spaces spots c.args.store.now.spaces)
+    subst (λ spots. HavePlacesAt c.args.self.node.now c.args.self.copies c.args.store.now.spaces spots c.args.store.now.spaces)
     (sym (ap (λ p. spots_of_raise p c.args.writes.now c.args.level) is ∙ ap (λ ws. spots_of_raise Hole ws c.args.level) (nil_from_length c.args.writes.now none))) refl
 
 pub returns-then-is_empty-clause-there : goal.returns-then-is_empty-clause-there
@@ -78,7 +79,7 @@ returns-in_err-block-clause-no_place g c =
     ]) in
     passed_on _ _ _ c.from_residual-in_err-block.ensures.1
     (λ none.
-    subst (λ test. LacksPlaces c.args.self.node.now c.args.self.copies c.args.store.now.spaces (if test then spots_below c.args.writes.now c.args.level 0 1 127 else []) c.write_parts.new.store.spaces)
+    subst (λ test. LackPlacesAt c.args.self.node.now c.args.self.copies c.args.store.now.spaces (if test then spots_below c.args.writes.now c.args.level 0 1 127 else []) c.write_parts.new.store.spaces)
     (sym passes) (c.in_err-block.ensures.no_place none))
 
 pub returns-clause-places : goal.returns-clause-places
@@ -88,7 +89,7 @@ returns-clause-places g c =
       | else-is_hole-via-then-is_hole+else-is_empty w ↦ inr (let some : 0 < length c.args.writes.now = search rules in some)
       | else-is_hole-via-else-is_hole w ↦ inl (let other : c.args.root ≢ Hole = search rules in other)
     ]) in
-    subst (λ test. HavePlaces c.args.self.node.now c.args.self.copies c.args.store.now.spaces (if test then spots_below c.args.writes.now c.args.level 0 1 127 else []) c.write_parts.new.store.spaces)
+    subst (λ test. HavePlacesAt c.args.self.node.now c.args.self.copies c.args.store.now.spaces (if test then spots_below c.args.writes.now c.args.level 0 1 127 else []) c.write_parts.new.store.spaces)
     (sym passes) c.in_ok-block.ensures.places
 
 pub returns-clause-there : goal.returns-clause-there

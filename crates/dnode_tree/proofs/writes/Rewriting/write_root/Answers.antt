@@ -7,9 +7,9 @@ use Rattle.block_store.proofs.Steps.{steps_none}
 use Rattle.dnode_tree.proofs.Raising.{root_stays}
 use Rattle.dnode_tree.proofs.Refusing.{passed_on}
 use Rattle.dnode_tree.specs.Births.{height_of}
-use Rattle.dnode_tree.specs.Spots.{spots_in, is_there, has_some, HavePlaces}
+use Rattle.dnode_tree.specs.Spots.{spots_in, is_there, has_some}
 use Rattle.dnode_tree.proofs.Raised.{or_false}
-use Rattle.dnode_tree.proofs.Spots.{unreached}
+use Rattle.dnode_tree.proofs.Spots.{HavePlacesAt, unreached}
 use Rattle.dnode_tree.proofs.writes.Rewriting.write_root.Goals as goal
 
 pub returns-then-is_empty-clause-rewritten : goal.returns-then-is_empty-clause-rewritten
@@ -40,7 +40,7 @@ pub returns-then-is_empty-clause-places : goal.returns-then-is_empty-clause-plac
 returns-then-is_empty-clause-places g c =
     let none : length c.args.writes.now ≡ 0 = search rules in
     let nil = nil_from_length c.args.writes.now none in
-    subst (λ spots. HavePlaces c.args.self.node.now c.args.self.copies c.args.store.now.spaces spots c.args.store.now.spaces)
+    subst (λ spots. HavePlacesAt c.args.self.node.now c.args.self.copies c.args.store.now.spaces spots c.args.store.now.spaces)
     (sym (ap (λ ws. spots_in ws (height_of c.args.self.node.now) 0) nil ∙ unreached (height_of c.args.self.node.now) 0)) refl
 
 pub returns-then-is_empty-clause-there : goal.returns-then-is_empty-clause-there
