@@ -1,5 +1,6 @@
 pub mod Found
 pub mod Nodes
+pub mod Refused
 pub mod Sets
 pub mod Slots
 pub mod Writes

@@ -1,15 +1,16 @@
 -- Writes of dnodes.
-use Rattle.std.specs.Prelude.{ℕ, ◌≡◌, ◌==◌, ◌*◌, ◌/◌, ◌^◌, ◌<◌, ◌≤◌, List, [], ◌∷◌, All, AllPairs, Any, if◌then◌else◌}
+use Rattle.std.specs.Prelude.{ℕ, ◌≡◌, ◌==◌, ◌*◌, ◌/◌, ◌^◌, ◌<◌, ◌≤◌, List, [], ◌∷◌, All, AllPairs, Any, map, if◌then◌else◌}
 use Rattle.block_pointer.specs.declared.block.Block.{Block}
 use Rattle.dnode.specs.declared.dnode.Dnode.{Dnode}
 use Rattle.dnode.specs.declared.object_set.ObjectSet.{ObjectSet}
 use Rattle.dnode.specs.Dnode.{FitsDnode}
 use Rattle.block_store.specs.Blocks.{Contents, Extends}
+use Rattle.block_store.specs.Demands.{Demand, HavePlaces, LackPlaces}
 use Rattle.block_store.specs.declared.space.VdevSpace.{VdevSpace}
 use Rattle.dnode_tree.specs.declared.writes.BlockWrite.{BlockWrite}
 use Rattle.dnode_tree.specs.declared.writes.CopyCounts.{CopyCounts}
 use Rattle.dnode_tree.specs.Rewriting.{IsExchanged}
-use Rattle.dnode_tree.specs.Spots.{spots_of, HavePlaces, LacksPlaces}
+use Rattle.dnode_tree.specs.Spots.{demands_of}
 use Rattle.dnode_tree.specs.Writes.{AreInOrder}
 use Rattle.dnode_slots.specs.declared.writes.NodeWrite.{NodeWrite}
 use Rattle.dnode_slots.specs.declared.writes.SetRewrite.{SetRewrite}
@@ -49,20 +50,27 @@ pub record AreNodesRewritten (copies : CopyCounts) (planned later : Contents) (b
 
 -- ---- places
 
--- the blocks of dnodes that have one of these dnodes, each once
-pub record AreBlocksOf (writes : List NodeWrite) (blocks : List BlockWrite) : Type 0 where
-  pub order : AreInOrder blocks
-  pub each : All (λ block. Any (λ write. write.number / 32 ≡ block.id) writes) blocks
-  pub all : All (λ write. Any (λ block. block.id ≡ write.number / 32) blocks) writes
+abbrev pub numbers_of : List NodeWrite → List ℕ
+numbers_of writes = map (λ write. write.number) writes
 
--- for these blocks, and those above them, places were taken, and for nothing else
-pub record HaveNodePlaces (set : ObjectSet) (copies : CopyCounts) (writes : List NodeWrite) (before after : List VdevSpace) : Type 0 where
+-- the blocks of dnodes that have one of these numbers, each once
+pub record AreBlocksOf (numbers : List ℕ) (blocks : List BlockWrite) : Type 0 where
+  pub order : AreInOrder blocks
+  pub each : All (λ block. Any (λ number. number / 32 ≡ block.id) numbers) blocks
+  pub all : All (λ number. Any (λ block. block.id ≡ number / 32) blocks) numbers
+
+-- for the blocks of dnodes that have one of these numbers, each once, and those above them, these are asked
+pub record AreNodeDemands (set : ObjectSet) (copies : CopyCounts) (numbers : List ℕ) (demands : List Demand) : Type 0 where
   pub blocks : List BlockWrite
-  pub are : AreBlocksOf writes blocks
-  pub have : HavePlaces set.dnodes copies before (spots_of set.dnodes blocks) after
+  pub are : AreBlocksOf numbers blocks
+  pub demands_are : demands ≡ demands_of set.dnodes copies blocks
+
+-- for what they ask places were taken, and for nothing else
+abbrev pub HaveNodePlaces : ObjectSet → CopyCounts → List ℕ → List VdevSpace → List VdevSpace → Type 0
+HaveNodePlaces set copies numbers before after =
+    (demands : List Demand) × AreNodeDemands set copies numbers demands × HavePlaces before demands after
 
 -- so it is of the first of them, and then no free place was left for the next
-pub record LacksNodePlaces (set : ObjectSet) (copies : CopyCounts) (writes : List NodeWrite) (before after : List VdevSpace) : Type 0 where
-  pub blocks : List BlockWrite
-  pub are : AreBlocksOf writes blocks
-  pub lacks : LacksPlaces set.dnodes copies before (spots_of set.dnodes blocks) after
+abbrev pub LackNodePlaces : ObjectSet → CopyCounts → List ℕ → List VdevSpace → List VdevSpace → Type 0
+LackNodePlaces set copies numbers before after =
+    (demands : List Demand) × AreNodeDemands set copies numbers demands × LackPlaces before demands after

@@ -1,5 +1,5 @@
 //! Several dnodes of an object set are written at once.
-ghost use Rattle.std.specs.Prelude.{◌≡◌, ◌*◌, ◌^◌, ◌<◌, ◌≤◌, ℕ, List, All, OnOk, IfOk, IfErr};
+ghost use Rattle.std.specs.Prelude.{◌≡◌, ◌⊎◌, ◌*◌, ◌^◌, ◌<◌, ◌≤◌, ℕ, List, All, OnOk, IfOk, IfErr};
 ghost use Rattle.block_pointer.specs.declared.block.Block.{Block};
 ghost use Rattle.dnode.specs.declared.dnode.Dnode.{Dnode};
 ghost use Rattle.dnode.specs.ObjectSet.{FitsObjectSet};
@@ -8,7 +8,8 @@ ghost use Rattle.block_store.specs.Plans.{Plans};
 ghost use Rattle.block_store.specs.Steps.{OnlyReadsAndPlans, AnswersAreTrue, LossIsTolerable};
 ghost use Rattle.dnode_tree.specs.Writes.{HasNoRoom, IsForRoom};
 ghost use Rattle.dnode_slots.specs.Nodes.{HasNodes};
-ghost use Rattle.dnode_slots.specs.Writes.{AreNodeWrites, AreNodesRewritten, IsGrownSet, written_nodes, HaveNodePlaces, LacksNodePlaces};
+ghost use Rattle.dnode_slots.specs.Refused.{IsNodeWriteRefused};
+ghost use Rattle.dnode_slots.specs.Writes.{AreNodeWrites, AreNodesRewritten, IsGrownSet, written_nodes, HaveNodePlaces, LackNodePlaces, numbers_of};
 
 use crate::changing::block_writes;
 use crate::writes::{NodeWrite, SetRewrite};
@@ -55,10 +56,15 @@ pub fn put_many<D: Disk + Drop>(
         → IsForRoom refusal) }
 
     // For each block with one of these dnodes, and those above, places are taken, once, and for nothing else.
-    ensures places { OnOk result
-        (HaveNodePlaces set.now copies writes.now store.old.spaces store.new.spaces) }
-    ensures no_place { IfErr result (λ refusal. refusal ≡ Refusal.NoSpace
-        → LacksNodePlaces set.now copies writes.now store.old.spaces store.new.spaces) }
+    ensures places { OnOk result (HaveNodePlaces set.now copies (numbers_of writes.now)
+        store.old.spaces store.new.spaces) }
+
+    // Whatever the set is: why it was refused.
+    ensures refused { IfErr result (λ refusal. (refusal ≡ Refusal.NoMemory)
+        ⊎ (((refusal ≡ Refusal.NoSpace) × LackNodePlaces set.now copies (numbers_of writes.now)
+        store.old.spaces store.new.spaces)
+        ⊎ IsNodeWriteRefused store.old store.new missing.now set.now birth
+        (numbers_of writes.now) refusal)) }
 {
     let changed = block_writes(set, store, alloc, writes, birth, missing)?;
     let done = dnode_tree::put_many(&set.dnodes, store, alloc, &changed, birth, copies, missing)?;

@@ -2,6 +2,7 @@ pub mod Births
 pub mod Freeing
 pub mod Laws
 pub mod PartsRewritten
+pub mod Refused
 pub mod Rewriting
 pub mod Spots
 pub mod Subtree

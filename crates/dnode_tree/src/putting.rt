@@ -1,5 +1,5 @@
 //! Several data blocks of an object are written at once.
-ghost use Rattle.std.specs.Prelude.{◌≡◌, ◌-◌, ◌+◌, ◌*◌, ◌^◌, ◌<◌, ◌≤◌, ◌||◌, ℕ, List, Option, All, OnOk, IfOk, IfErr};
+ghost use Rattle.std.specs.Prelude.{◌≡◌, ◌⊎◌, ◌-◌, ◌+◌, ◌*◌, ◌^◌, ◌<◌, ◌≤◌, ◌||◌, ℕ, List, Option, All, OnOk, IfOk, IfErr};
 ghost use Rattle.block_pointer.specs.declared.block.Block.{Block};
 ghost use Rattle.block_pointer.specs.Pointer.{Fits};
 ghost use Rattle.dnode.specs.Node.{FitsNode};
@@ -9,6 +9,7 @@ ghost use Rattle.block_store.specs.Plans.{Plans};
 ghost use Rattle.block_store.specs.Steps.{OnlyReadsAndPlans, AnswersAreTrue, LossIsTolerable};
 ghost use Rattle.dnode_tree.specs.Births.{HasBirths, height_of, births_after};
 ghost use Rattle.dnode_tree.specs.PartsRewritten.{root_part, WritesPart, LacksRoomForPart, Raises, LacksRoomToRaise};
+ghost use Rattle.dnode_tree.specs.Refused.{IsWriteRefused};
 ghost use Rattle.dnode_tree.specs.Rewriting.{IsGrown, IsRewritten};
 ghost use Rattle.dnode_tree.specs.Spots.{spots_in, spots_of_raise, is_there, has_some, demands_at, demands_of};
 ghost use Rattle.dnode_tree.specs.Subtree.{HasProperty};
@@ -69,12 +70,15 @@ pub fn put_many<D: Disk + Drop>(
         → AnswersAreTrue store.old store.new
         → LossIsTolerable store.old store.new missing.now → IsForRoom refusal) }
 
-    // For each of these blocks places are taken, once, and for nothing else; where there is no room, it is so behind the first
-    // of them.
+    // For each of these blocks places are taken, once, and for nothing else.
     ensures places { OnOk result (HavePlaces store.old.spaces
         (demands_of node.now copies writes.now) store.new.spaces) }
-    ensures no_place { IfErr result (λ refusal. refusal ≡ Refusal.NoSpace → LackPlaces
-        store.old.spaces (demands_of node.now copies writes.now) store.new.spaces) }
+
+    // Whatever the tree is: why it was refused.
+    ensures refused { IfErr result (λ refusal. (refusal ≡ Refusal.NoMemory)
+        ⊎ (((refusal ≡ Refusal.NoSpace) × LackPlaces store.old.spaces
+        (demands_of node.now copies writes.now) store.new.spaces)
+        ⊎ IsWriteRefused store.old store.new missing.now node.now birth writes.now refusal)) }
 {
     let rewriting = Rewriting {
         node,
