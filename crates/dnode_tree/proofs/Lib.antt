@@ -1,3 +1,4 @@
+pub mod FreeRefused
 pub mod FurtherReads
 pub mod Parts
 pub mod Refusing
@@ -9,6 +10,8 @@ pub mod Births
 pub mod Fills
 pub mod Exchanging
 pub mod NewArrays
+pub mod Overfull
+pub mod PutRefused
 pub mod Spots
 pub mod Steps
 pub mod Rewriting

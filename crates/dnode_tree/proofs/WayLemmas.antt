@@ -68,7 +68,7 @@ module _ (spaces : List VdevSpace) (property : ℕ → Property) (n level birth 
       → IsFoundBelow spaces property (reached n pointer birth) place found
   found_down found below = record { there = below.there; leads = leads_down below.there below.leads; has = below.has }
 
-fault_on : (old mid new : Store) (missing : List ℕ) (property : ℕ → Property) (there : Reached) (refusal : Refusal) → OnlyReadsBlocks old mid missing
+pub fault_on : (old mid new : Store) (missing : List ℕ) (property : ℕ → Property) (there : Reached) (refusal : Refusal) → OnlyReadsBlocks old mid missing
     → IsCause mid new missing property there refusal → IsCause old new missing property there refusal
 fault_on old mid new missing property there NoMemory reads fault = tt
 fault_on old mid new missing property there BadPointer reads fault =

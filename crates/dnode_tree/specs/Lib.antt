@@ -1,6 +1,7 @@
 pub mod Births
 pub mod Freeing
 pub mod Laws
+pub mod PartsRefused
 pub mod PartsRewritten
 pub mod Refused
 pub mod Rewriting

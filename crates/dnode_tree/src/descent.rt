@@ -10,7 +10,8 @@ ghost use Rattle.block_store.specs.Steps.{OnlyReadsBlocks, AnswersAreTrue, LossI
 ghost use Rattle.dnode_tree.specs.Births.{AreBirths};
 ghost use Rattle.dnode_tree.specs.Subtree.{asked_of, AreParts, blocks_at, joined};
 ghost use Rattle.dnode_tree.specs.Tree.{property_of, IsPart};
-ghost use Rattle.dnode_tree.specs.Ways.{AreReadAs, IsBlockFault};
+ghost use Rattle.dnode_tree.specs.PartsRefused.{reached_part, ArePartsRead};
+ghost use Rattle.dnode_tree.specs.Ways.{AreReadAs, IsBlockFault, IsRefusedBelow};
 
 use crate::subtree::{Parts, Subtree};
 use block_pointer::{Block, BlockPtr, Property};
@@ -123,6 +124,9 @@ pub(crate) fn parts_of<D: Disk + Drop>(
         → (below : List (List Block)) × AreParts stored
         (property_of node.now) parts.level first parts.birth parts.pointers array below
         × (blocks ≡ blocks_at part.pointer ++ joined below)) }
+    ensures read { IfOk result (ArePartsRead store.old.spaces (property_of node.now) part) }
+    ensures refused { IfErr result (λ refusal. (place : ℕ) → IsRefusedBelow store.old store.new
+        missing.now (property_of node.now) (reached_part part) place refusal) }
     ensures cause { IfErr result (λ refusal. refusal ≢ Refusal.NoSpace) }
     ensures known { IfErr result (λ refusal. (stored : Contents) (first : ℕ)
         (array : ℕ → Option (List ℕ)) (blocks : List Block) → Holds store.old stored

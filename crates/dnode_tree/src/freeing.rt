@@ -6,7 +6,8 @@ ghost use Rattle.block_store.specs.Blocks.{Contents};
 ghost use Rattle.block_store.specs.Store.{Holds};
 ghost use Rattle.dnode_tree.specs.Freeing.{AreOnlyIn};
 ghost use Rattle.block_store.specs.Steps.{OnlyReadsBlocks, AnswersAreTrue, LossIsTolerable};
-ghost use Rattle.dnode_tree.specs.Tree.{IsTree};
+ghost use Rattle.dnode_tree.specs.Tree.{property_of, IsTree};
+ghost use Rattle.dnode_tree.specs.Ways.{root_of, IsWalkRefused};
 
 use crate::walking::{push, walk};
 use block_pointer::Block;
@@ -41,6 +42,12 @@ pub fn free_blocks<D: Disk + Drop>(
         → IsTree stored bound before.now array blocks → bound ≤ birth
         → IsTree stored birth after.now later others → AnswersAreTrue store.old store.new
         → LossIsTolerable store.old store.new missing.now → refusal ≡ Refusal.NoMemory) }
+
+    // Whatever the objects are: the walk over one of them was refused.
+    ensures refused { IfErr result (λ refusal. IsWalkRefused store.old store.new missing.now
+        (property_of after.now) (root_of after.now birth) refusal
+        ⊎ IsWalkRefused store.old store.new missing.now (property_of before.now)
+        (root_of before.now birth) refusal) }
 {
     let others = walk(after, store, alloc, birth, missing)?;
     let blocks = walk(before, store, alloc, birth, missing)?;

@@ -2,6 +2,7 @@
 ghost use Rattle.std.specs.Prelude.{◌≡◌, ◌⊎◌, ◌-◌, ◌+◌, ◌*◌, ◌^◌, ◌<◌, ◌≤◌, ◌||◌, ℕ, List, Option, All, OnOk, IfOk, IfErr};
 ghost use Rattle.block_pointer.specs.declared.block.Block.{Block};
 ghost use Rattle.block_pointer.specs.Pointer.{Fits};
+ghost use Rattle.dnode.specs.Indirect.{fill_of};
 ghost use Rattle.dnode.specs.Node.{FitsNode};
 ghost use Rattle.block_store.specs.Blocks.{Contents};
 ghost use Rattle.block_store.specs.Demands.{HavePlaces, LackPlaces};
@@ -9,7 +10,8 @@ ghost use Rattle.block_store.specs.Plans.{Plans};
 ghost use Rattle.block_store.specs.Steps.{OnlyReadsAndPlans, AnswersAreTrue, LossIsTolerable};
 ghost use Rattle.dnode_tree.specs.Births.{HasBirths, height_of, births_after};
 ghost use Rattle.dnode_tree.specs.PartsRewritten.{root_part, WritesPart, LacksRoomForPart, Raises, LacksRoomToRaise};
-ghost use Rattle.dnode_tree.specs.Refused.{IsWriteRefused};
+ghost use Rattle.dnode_tree.specs.PartsRefused.{IsPartRefused, IsTreeOverfull};
+ghost use Rattle.dnode_tree.specs.Refused.{IsOverfull, IsWriteRefused};
 ghost use Rattle.dnode_tree.specs.Rewriting.{IsGrown, IsRewritten};
 ghost use Rattle.dnode_tree.specs.Spots.{spots_in, spots_of_raise, is_there, has_some, demands_at, demands_of};
 ghost use Rattle.dnode_tree.specs.Subtree.{HasProperty};
@@ -142,6 +144,12 @@ impl<'a> Rewriting<'a> {
             (demands_at self.entry.node.now self.entry.copies
             (spots_in writes.now (height_of self.entry.node.now) 0))
             store.new.spaces) }
+        ensures full { IfOk result (λ pointer.
+            (fill_of pointer ≤ 128 ^ height_of self.entry.node.now)
+            ⊎ IsTreeOverfull store.old.spaces self.entry.node.now (root_part self.entry)
+            writes.now) }
+        ensures refused { IfErr result (IsPartRefused store.old store.new self.entry.missing.now
+            self.entry.node.now (root_part self.entry) 0 writes.now) }
     {
         if writes.is_empty() {
             return Ok(self.node.pointer);
@@ -193,6 +201,10 @@ impl<'a> Rewriting<'a> {
             (demands_at self.entry.node.now self.entry.copies
             (spots_of_raise root writes.now level))
             store.new.spaces) }
+        ensures full { IfOk result (λ pointer. (fill_of pointer ≤ 128 ^ (level + 1))
+            ⊎ IsOverfull level root) }
+        ensures refused { IfErr result (λ refusal. IsForRoom refusal
+            ⊎ ((refusal ≡ Refusal.BadPointer) × IsOverfull level root)) }
     {
         if root.is_hole() && writes.is_empty() {
             return Ok(BlockPtr::Hole);

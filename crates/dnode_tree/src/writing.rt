@@ -7,6 +7,7 @@ ghost use Rattle.dnode.specs.Node.{IsNode};
 ghost use Rattle.dnode_tree.specs.declared.writes.BlockWrite.{BlockWrite};
 ghost use Rattle.block_store.specs.Demands.{HavePlaces, LackPlaces};
 ghost use Rattle.block_store.specs.Steps.{OnlyReadsAndPlans};
+ghost use Rattle.dnode_tree.specs.PartsRefused.{IsPartOverfull, IsPartRefused, ArePartsOverfull, ArePartsRefused};
 ghost use Rattle.dnode_tree.specs.PartsRewritten.{WritesPart, LacksRoomForPart, WritesParts, LacksRoomForParts};
 ghost use Rattle.dnode_tree.specs.Spots.{spots_in, spots_below, demands_at};
 ghost use Rattle.dnode_tree.specs.Subtree.{blocks_at};
@@ -66,6 +67,12 @@ impl<'a> Rewriting<'a> {
             (demands_at self.entry.node.now self.entry.copies
             (spots_in writes.now part.level first))
             store.new.spaces) }
+
+        // Whatever the part is: its fill count, and why it was refused.
+        ensures full { IfOk result (λ block. (block.fill ≤ 128 ^ part.level)
+            ⊎ IsPartOverfull store.old.spaces self.entry.node.now part first writes.now) }
+        ensures refused { IfErr result (IsPartRefused store.old store.new self.entry.missing.now
+            self.entry.node.now part first writes.now) }
     {
         note(replaced, part.pointer)?;
         if part.level == 0 {
@@ -119,6 +126,10 @@ impl<'a> Rewriting<'a> {
             (demands_at self.entry.node.now self.entry.copies
             (spots_below writes.now parts.level first from (128 - from)))
             store.new.spaces) }
+        ensures full { IfOk result (λ block. (block.fill ≤ 128 ^ (parts.level + 1))
+            ⊎ ArePartsOverfull store.old.spaces self.entry.node.now parts first from writes.now) }
+        ensures refused { IfErr result (ArePartsRefused store.old store.new self.entry.missing.now
+            self.entry.node.now parts first from writes.now) }
     {
         let Parts {
             mut pointers,

@@ -1,4 +1,4 @@
-use Rattle.std.proofs.Common.{◌≡◌, suc, get_or, ◌+◌, ◌*◌, ◌^◌, ◌-◌, ◌++◌, subst, sym, ap, ◌∙◌, arith}
+use Rattle.std.proofs.Common.{◌≡◌, inl, inr, refl, suc, get_or, ◌+◌, ◌*◌, ◌^◌, ◌-◌, ◌++◌, subst, sym, ap, ◌∙◌, arith}
 use Rattle.block_store.specs.Reading.{Asks}
 use Rattle.dnode_tree.proofs.Collecting.{parts_below}
 use Rattle.block_pointer.specs.declared.pointer.BlockPtr.TheVariants.{Hole}
@@ -7,8 +7,10 @@ use Rattle.dnode_tree.proofs.Holes.{hole_parts, same_at}
 use Rattle.dnode_tree.specs.Births.{AreBirths}
 use Rattle.dnode_tree.proofs.Parts.{hole_part, indirect_part}
 use Rattle.dnode_tree.proofs.Refusing.{passed_on}
+use Rattle.dnode_tree.specs.PartsRefused.{reached_part}
 use Rattle.dnode_tree.specs.Tree.{property_of}
 use Rattle.dnode_tree.specs.Subtree.{blocks_at, joined}
+use Rattle.dnode_tree.proofs.WayLemmas.{comes_at_once, refused_indirect}
 use Rattle.dnode_tree.proofs.descent.parts_of.Goals as goal
 
 pub returns-in_default-clause-parts : goal.returns-in_default-clause-parts
@@ -52,3 +54,22 @@ returns-clause-births g c =
     let there = births_below stored c.args.part.level (c.args.part.level - 1) first c.args.part.pointer c.in-Block.block births e c.in-Block.is were in
     let read = c.in_ok-read_indirect.ensures.value stored there.bytes there.pointers held there.known there.spelled honest in
     subst (λ ps. AreBirths stored (c.args.part.level - 1) (first + k * 128 ^ (c.args.part.level - 1)) (get_or ps k Hole) births) (sym read) (there.below k low)
+
+pub returns-in_err-holes-clause-refused : goal.returns-in_err-holes-clause-refused
+returns-in_err-holes-clause-refused g c =
+    passed_on _ _ _ c.from_residual.ensures.1
+    (λ place. record {
+      there = reached_part c.args.part;
+      leads = comes_at_once c.args.store.now.spaces (property_of c.args.node.now) c.args.part.level c.args.part.birth c.args.part.pointer place;
+      fault = tt;
+    })
+
+pub returns-in_default-clause-read : goal.returns-in_default-clause-read
+returns-in_default-clause-read g c = inl (c.in_default.is, (λ k. ap (λ ps. get_or ps k Hole) c.in_ok-holes.ensures ∙ same_at 128 k Hole))
+
+pub returns-in_err-read_indirect-clause-refused : goal.returns-in_err-read_indirect-clause-refused
+returns-in_err-read_indirect-clause-refused g c =
+    passed_on _ _ _ c.from_residual-in_err-read_indirect.ensures.1
+    (λ place.
+    refused_indirect c.args.store.now c.read_indirect.new.store c.args.missing.now (property_of c.args.node.now) c.args.part.level c.args.part.birth c.args.part.pointer place
+    c.in-Block.block c.asked_at-asked.result _ (omega arith) c.asked_at-asked.ensures c.in-Block.is c.in_err-read_indirect.ensures.refused)

@@ -2,6 +2,8 @@ use Rattle.std.proofs.Common.{◌≡◌, suc, lit<, subst, ◌+◌, ◌-◌, ◌
 use Rattle.dnode.specs.Levels.{levels_of}
 use Rattle.dnode_tree.proofs.Raising.{six_levels}
 use Rattle.dnode_tree.proofs.NewArrays.{behind_all}
+use Rattle.dnode_tree.proofs.PutRefused.{growing_begins, growing_on, put_root_refused, put_raise_refused}
+use Rattle.dnode_tree.specs.Writes.{highest_with}
 use Rattle.dnode_tree.proofs.Raised.{raised_begins, raised_on, raised_fails, root_fails, fails_sooner, spots_grown}
 use Rattle.dnode_tree.specs.Spots.{levels_more}
 use Rattle.dnode_tree.proofs.Spots.{HavePlacesAt, LackPlacesAt}
@@ -29,6 +31,7 @@ loop-level-init g c =
           c.in_ok-pointer.ensures.rewritten,
       raised_begins c.args.node.now c.args.copies _ _ _ _ c.args.writes.now _ _ _ _ level_is c.span.ensures.value c.split_at.ensures.front c.split_at.ensures.back
           c.count_before.ensures.before (behind_all _ _ _ c.requires.order c.count_before.ensures.behind) c.in_ok-pointer.ensures.there c.in_ok-pointer.ensures.places,
+      growing_begins c.args.store.now.spaces c.args.node.now c.args.birth _ _ _ c.args.writes.now _ _ level_is c.split_at.ensures.front c.split_at.ensures.back c.in_ok-pointer.ensures.full,
     )
 
 pub raise-requires-clause-between : goal.raise-requires-clause-between
@@ -75,6 +78,8 @@ loop-level-preserved g c =
       raised_on c.args.node.now c.args.copies _ _ _ _ _ _ _ _ c.loop-level.invariant.1 _ _ middle_is c.split_at-in-loop-level.ensures.front c.split_at-in-loop-level.ensures.back
           c.count_before-in-loop-level.ensures.before (behind_all _ _ _ c.loop-level.invariant.0.order c.count_before-in-loop-level.ensures.behind)
           _ _ c.in_ok-pointer-2.ensures.there c.in_ok-pointer-2.ensures.places,
+      growing_on c.args.store.now.spaces c.args.node.now c.args.birth _ _ _ _ c.args.writes.now _ _ c.loop-level.invariant.2 c.split_at-in-loop-level.ensures.back
+          c.in_ok-pointer-2.ensures.full,
     )
 
 pub returns-clause-rewritten : goal.returns-clause-rewritten
@@ -99,40 +104,40 @@ returns-clause-ways g c =
 
 -- ---- places
 
-pub returns-in_err-pointer-clause-no_place : goal.returns-in_err-pointer-clause-no_place
-returns-in_err-pointer-clause-no_place g c =
-    passed_on _ _ _ c.from_residual.ensures.1
-    (λ none.
+pub returns-in_err-pointer-clause-refused : goal.returns-in_err-pointer-clause-refused
+returns-in_err-pointer-clause-refused g c =
     let e : 0 + levels_more c.args.node.now c.args.writes.now ≡ levels_more c.args.node.now c.args.writes.now = omega arith in
+    passed_on _ _ _ c.from_residual.ensures.1
+    (put_root_refused c.args.store.now c.write_root.new.store c.args.missing.now c.args.node.now c.args.birth c.args.writes.now _ _
+    (λ none.
     subst (λ n. LackPlacesAt c.args.node.now c.args.copies c.args.store.now.spaces (spots_grown c.args.node.now c.args.writes.now n) c.write_root.new.store.spaces) e
     (fails_sooner c.args.node.now c.args.copies _ _ c.args.writes.now 0 (levels_more c.args.node.now c.args.writes.now)
     (root_fails c.args.node.now c.args.copies _ _ c.args.writes.now _ _ _ c.split_at.ensures.front (c.span.ensures.value ∙ ap (λ l. 128 ^ (l - 1)) c.levels_of-levels.ensures.value)
     (behind_all _ _ _ c.requires.order c.count_before.ensures.behind) (c.in_err-pointer.ensures.no_place none))))
+    _ _ c.split_at.ensures.front c.in_err-pointer.ensures.refused)
 
-pub returns-in_err-pointer-2-clause-no_place : goal.returns-in_err-pointer-2-clause-no_place
-returns-in_err-pointer-2-clause-no_place g c =
+pub returns-in_err-pointer-2-clause-refused : goal.returns-in_err-pointer-2-clause-refused
+returns-in_err-pointer-2-clause-refused g c =
     let few : c.levels_of-new_levels.result ≤ 6 = c.levels_of-new_levels.ensures.least.least 6 (lit< tt) c.highest_of-highest.ensures.small in
     let low : c.loop-level.level < 5 = omega (arith, few, c.loop-level-test.true) in
     let middle_is : c.span-in-loop-level.result ≡ 128 * 128 ^ c.loop-level.level =
     omega (arith, c.span-in-loop-level.ensures.value, span_up (c.loop-level.level + 1) c.loop-level.level (add-one c.loop-level.level)) in
     let raised = c.loop-level.invariant.1 in
+    let new_levels : c.levels_of-new_levels.result ≡ levels_of (highest_with c.args.writes.now c.args.node.now.highest) =
+    c.levels_of-new_levels.ensures.value ∙ ap levels_of c.highest_of-highest.ensures.value in
     let more = levels_more c.args.node.now c.args.writes.now - (suc raised.n) in
     let all : (suc raised.n) + more ≡ levels_more c.args.node.now c.args.writes.now =
-    omega (
-      arith,
-      c.loop-level-test.true,
-      raised.level_is,
-      c.levels_of-levels.ensures.value,
-      c.levels_of-new_levels.ensures.value,
-      c.levels_of-levels.ensures.least.one,
-      ap levels_of c.highest_of-highest.ensures.value,
-    ) in
+    omega (arith, c.loop-level-test.true, raised.level_is, c.levels_of-levels.ensures.value, new_levels, c.levels_of-levels.ensures.least.one) in
+    let grows : levels_of c.args.node.now.highest < levels_of (highest_with c.args.writes.now c.args.node.now.highest) =
+    omega (arith, c.loop-level-test.true, raised.level_is, c.levels_of-levels.ensures.value, new_levels, c.levels_of-levels.ensures.least.one) in
     passed_on _ _ _ c.from_residual-in_err-pointer-2.ensures.1
+    (put_raise_refused c.args.store.now c.raise.new.store c.args.missing.now c.args.node.now c.args.birth c.args.writes.now _ _
     (λ none.
     subst (λ n. LackPlacesAt c.args.node.now c.args.copies c.args.store.now.spaces (spots_grown c.args.node.now c.args.writes.now n) c.raise.new.store.spaces) all
     (fails_sooner c.args.node.now c.args.copies _ _ c.args.writes.now (suc raised.n) more
     (raised_fails c.args.node.now c.args.copies _ _ _ _ _ _ _ _ raised _ _ middle_is c.split_at-in-loop-level.ensures.front c.split_at-in-loop-level.ensures.back
     c.count_before-in-loop-level.ensures.before (behind_all _ _ _ c.loop-level.invariant.0.order c.count_before-in-loop-level.ensures.behind) _ (c.in_err-pointer-2.ensures.no_place none))))
+    _ _ _ grows c.loop-level.invariant.2 c.in_err-pointer-2.ensures.refused)
 
 pub returns-clause-places : goal.returns-clause-places
 returns-clause-places g c =

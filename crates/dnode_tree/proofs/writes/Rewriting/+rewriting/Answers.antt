@@ -1,4 +1,4 @@
-use Rattle.std.proofs.Common.{◌≡◌, ℕ, suc, ◌+◌, ◌*◌, ◌^◌, ◌<◌, ◌≤◌, Some, None, true, if◌then◌else◌, List, ◌∷◌, [], length, get_or, inl, refl, sym, ap, ◌∙◌, subst, arith, rules, add-one}
+use Rattle.std.proofs.Common.{◌≡◌, ℕ, suc, ◌+◌, ◌*◌, ◌^◌, ◌<◌, ◌≤◌, Some, None, true, if◌then◌else◌, List, ◌∷◌, [], length, get_or, inl, inr, refl, sym, ap, ◌∙◌, subst, arith, rules, add-one}
 use Rattle.std.proofs.lemmas.Result.{IfOk-weaker, IfErr-weaker, on_ok_weaker}
 use Rattle.block_store.specs.Steps.{OnlyReadsBlocks}
 use Rattle.block_store.specs.Store.{Store}
@@ -12,6 +12,8 @@ use Rattle.dnode_tree.proofs.Fitting.{indirect_sectors}
 use Rattle.dnode_tree.proofs.NewArrays.{written_first, behind_all}
 use Rattle.dnode_tree.proofs.Refusing.{passed_on, ok_both}
 use Rattle.dnode_tree.proofs.Rewriting.{rewriting_begins, sum_fits, root_rewritten}
+use Rattle.dnode_tree.proofs.Overfull.{first_unread, part_full, part_refused, following_begins, following_skips, following_goes_on, following_fails, sum_can_be}
+use Rattle.dnode_tree.proofs.Spans.{span_fits}
 use Rattle.dnode_tree.proofs.Spots.{HavePlacesAt, LackPlacesAt, parts_begin, parts_fail, parts_end, root_fails, reached_leaf, reached_below}
 use Rattle.dnode_tree.specs.Spots.{spots_in, spots_below}
 use Rattle.dnode_tree.proofs.Roots.{indirect_length, leaf_rewritten, part_has_root}
@@ -104,8 +106,12 @@ write_parts-loop-place-preserved-then-is_empty g t c =
     let middle_is : c.start_of-start.result + c.span.result ≡ (c.args.first + c.loop-place.place * 128 ^ c.args.parts.level) + 128 ^ c.args.parts.level =
     omega (arith, c.start_of-start.ensures.value, c.span.ensures.value) in
     let none : length c.split_at.result.0.now ≡ 0 = search rules in
-    writing_skips _ _ _ _ _ _ _ _ _ _ _ _ _ _ _ _ c.loop-place.invariant c.loop-place-test.true c.requires.bound _ _ middle_is c.count_before.ensures.before c.count_before.ensures.behind
-    _ _ c.count_before.ensures.within c.split_at.ensures.front c.split_at.ensures.back none
+    (
+      following_skips c.args.store.now c.loop-place.store c.args.self.missing.now _ _ _ _ _ _ _ _ _ _ c.loop-place.invariant.0 c.loop-place-test.true c.loop-place.invariant.1.count
+          c.loop-place.invariant.1.steps _ _ _ c.start_of-start.ensures.value c.split_at.ensures.front _ c.split_at.ensures.back,
+      writing_skips _ _ _ _ _ _ _ _ _ _ _ _ _ _ _ _ c.loop-place.invariant.1 c.loop-place-test.true c.requires.bound _ _ middle_is c.count_before.ensures.before c.count_before.ensures.behind
+          _ _ c.count_before.ensures.within c.split_at.ensures.front c.split_at.ensures.back none,
+    )
 
 pub write_parts-write_part-requires : goal.write_parts-write_part-requires
 write_parts-write_part-requires g t c =
@@ -114,46 +120,50 @@ write_parts-write_part-requires g t c =
     let room : c.start_of-start.result + 128 ^ c.args.parts.level ≤ 128 ^ 5 = omega (arith, c.start_of-start.ensures.within, c.requires.room) in
     let some : 0 < length c.split_at.result.0.now = search rules in
     let between : AreBetween c.start_of-start.result (c.start_of-start.result + 128 ^ c.args.parts.level) c.split_at.result.0.now =
-    run_is_between _ _ _ _ _ _ _ _ middle_is c.loop-place.invariant.between c.loop-place.invariant.order c.count_before.ensures.before c.count_before.ensures.behind
+    run_is_between _ _ _ _ _ _ _ _ middle_is c.loop-place.invariant.1.between c.loop-place.invariant.1.order c.count_before.ensures.before c.count_before.ensures.behind
     c.start_of-start.ensures.value c.split_at.ensures.front in
-    let order : AreInOrder c.split_at.result.0.now = run_in_order _ _ _ c.split_at.ensures.front c.loop-place.invariant.order in
-    let whole : AreWholeBlocks c.args.self.node.now c.split_at.result.0.now = run_whole c.args.self.node.now _ _ _ c.split_at.ensures.front c.loop-place.invariant.whole in
+    let order : AreInOrder c.split_at.result.0.now = run_in_order _ _ _ c.split_at.ensures.front c.loop-place.invariant.1.order in
+    let whole : AreWholeBlocks c.args.self.node.now c.split_at.result.0.now = run_whole c.args.self.node.now _ _ _ c.split_at.ensures.front c.loop-place.invariant.1.whole in
     search rules
 
 pub write_parts-returns-in_err-block-clause-steps : goal.write_parts-returns-in_err-block-clause-steps
-write_parts-returns-in_err-block-clause-steps g t c = steps_on _ _ _ _ c.loop-place.invariant.steps c.in_err-block.ensures.steps
+write_parts-returns-in_err-block-clause-steps g t c = steps_on _ _ _ _ c.loop-place.invariant.1.steps c.in_err-block.ensures.steps
 
 pub write_parts-returns-in_err-block-clause-no_room : goal.write_parts-returns-in_err-block-clause-no_room
 write_parts-returns-in_err-block-clause-no_room g t c =
-    passed_on _ _ _ c.from_residual.ensures.1 (λ none. no_room_on _ _ _ _ c.args.self.node.now c.args.self.copies c.loop-place.invariant.steps (c.in_err-block.ensures.no_room none))
+    passed_on _ _ _ c.from_residual.ensures.1 (λ none. no_room_on _ _ _ _ c.args.self.node.now c.args.self.copies c.loop-place.invariant.1.steps (c.in_err-block.ensures.no_room none))
 
 pub write_parts-returns-in_err-block-clause-known : goal.write_parts-returns-in_err-block-clause-known
 write_parts-returns-in_err-block-clause-known g t c =
     let middle_is : c.start_of-start.result + c.span.result ≡ (c.args.first + c.loop-place.place * 128 ^ c.args.parts.level) + 128 ^ c.args.parts.level =
     omega (arith, c.start_of-start.ensures.value, c.span.ensures.value) in
     passed_on _ _ _ c.from_residual.ensures.1
-    (writing_fails _ _ _ _ _ _ _ _ _ _ _ _ _ _ _ _ c.loop-place.invariant c.loop-place-test.true c.requires.bound _ _ middle_is c.count_before.ensures.before c.count_before.ensures.behind
+    (writing_fails _ _ _ _ _ _ _ _ _ _ _ _ _ _ _ _ c.loop-place.invariant.1 c.loop-place-test.true c.requires.bound _ _ middle_is c.count_before.ensures.before c.count_before.ensures.behind
     _ _ _ _ c.in_err-block.ensures.steps c.start_of-start.ensures.value c.get.ensures.value c.split_at.ensures.front _ c.in_err-block.ensures.known)
 
 pub write_parts-loop-place-preserved : goal.write_parts-loop-place-preserved
 write_parts-loop-place-preserved g t c =
     let middle_is : c.start_of-start.result + c.span.result ≡ (c.args.first + c.loop-place.place * 128 ^ c.args.parts.level) + 128 ^ c.args.parts.level =
     omega (arith, c.start_of-start.ensures.value, c.span.ensures.value) in
-    writing_goes_on _ _ _ _ _ _ _ _ _ _ _ _ _ _ _ _ c.loop-place.invariant c.loop-place-test.true c.requires.bound _ _ middle_is c.count_before.ensures.before c.count_before.ensures.behind
-    _ _ _ _ c.in_ok-block.ensures.steps c.start_of-start.ensures.value c.get.ensures.value c.split_at.ensures.front
-    _ _ _ _ c.set.ensures c.split_at.ensures.back c.in_ok-block.ensures.fits.filled c.in_ok-block.ensures.places c.in_ok-block.ensures.rewritten
+    (
+      following_goes_on c.args.store.now c.loop-place.store c.args.self.missing.now _ _ _ _ _ _ _ _ _ _ c.loop-place.invariant.0 c.loop-place-test.true c.loop-place.invariant.1.count
+          c.loop-place.invariant.1.steps _ _ _ c.start_of-start.ensures.value c.split_at.ensures.front _ c.get.ensures.value _ _ _ c.set.ensures c.split_at.ensures.back c.in_ok-block.ensures.full,
+      writing_goes_on _ _ _ _ _ _ _ _ _ _ _ _ _ _ _ _ c.loop-place.invariant.1 c.loop-place-test.true c.requires.bound _ _ middle_is c.count_before.ensures.before c.count_before.ensures.behind
+          _ _ _ _ c.in_ok-block.ensures.steps c.start_of-start.ensures.value c.get.ensures.value c.split_at.ensures.front
+          _ _ _ _ c.set.ensures c.split_at.ensures.back c.in_ok-block.ensures.fits.filled c.in_ok-block.ensures.places c.in_ok-block.ensures.rewritten,
+    )
 
 pub write_parts-returns-in_default-clause-known : goal.write_parts-returns-in_default-clause-known
 write_parts-returns-in_default-clause-known g t c =
     λ ages stored planned now array new_array before after noted plans rewritten has aged honest few.
-    let there = c.loop-place.invariant.rewriting ages stored planned now array new_array before after noted plans rewritten has aged honest in
+    let there = c.loop-place.invariant.1.rewriting ages stored planned now array new_array before after noted plans rewritten has aged honest in
     let fits = sum_fits _ _ _ _ _ _ _ _ _ _ _ _ _ _ _ _ there.3 c.requires.low in
     absurd (omega (arith, fits, c.in_default.ensures.none.0 refl))
 
 pub write_parts-plan_block-requires-clause-filled : goal.write_parts-plan_block-requires-clause-filled
 write_parts-plan_block-requires-clause-filled g t c =
     let all : c.loop-place.place ≡ 128 = omega (arith, c.loop-place-test.false, c.loop-place.auto.place-end, c.requires.from) in
-    let some = root_filled _ _ _ _ _ _ _ _ _ _ _ _ _ _ _ _ c.loop-place.invariant all in
+    let some = root_filled _ _ _ _ _ _ _ _ _ _ _ _ _ _ _ _ c.loop-place.invariant.1 all in
     omega (arith, some, c.in-Some.ensures.some)
 
 pub write_parts-plan_block-requires-clause-size : goal.write_parts-plan_block-requires-clause-size
@@ -168,7 +178,7 @@ write_parts-returns-clause-rewritten g t c =
     IfOk-weaker c.plan_block.result _ _
     (λ block made ages stored planned now array new_array before after noted plans rewritten has aged honest.
     let planned_step = c.plan_block.ensures.steps c.args.self.missing.now in
-    let there = c.loop-place.invariant.rewriting ages stored planned now array new_array before after noted plans rewritten has aged (true_sooner _ _ _ _ c.loop-place.invariant.steps planned_step honest) in
+    let there = c.loop-place.invariant.1.rewriting ages stored planned now array new_array before after noted plans rewritten has aged (true_sooner _ _ _ _ c.loop-place.invariant.1.steps planned_step honest) in
     let added = made.0.0 stored there.0 there.2 in
     let asks : Asks (asked_of (property_of c.args.self.node.now (suc c.args.parts.level)) c.args.self.birth) block = rw add-one at made.0.1 in (
       added.0,
@@ -180,7 +190,7 @@ write_parts-returns-clause-rewritten g t c =
 
 pub write_parts-returns-clause-no_room : goal.write_parts-returns-clause-no_room
 write_parts-returns-clause-no_room g t c =
-    IfErr-weaker c.plan_block.result _ _ (λ refusal is none. no_room_on _ _ _ _ c.args.self.node.now c.args.self.copies c.loop-place.invariant.steps (is none c.args.self.missing.now)) c.plan_block.ensures.no_room
+    IfErr-weaker c.plan_block.result _ _ (λ refusal is none. no_room_on _ _ _ _ c.args.self.node.now c.args.self.copies c.loop-place.invariant.1.steps (is none c.args.self.missing.now)) c.plan_block.ensures.no_room
 
 pub write_part-returns-in_err-note-clause-steps : goal.write_part-returns-in_err-note-clause-steps
 write_part-returns-in_err-note-clause-steps g t c = steps_none _ _
@@ -192,7 +202,7 @@ pub write_part-returns-in_err-parts-clause-steps : goal.write_part-returns-in_er
 write_part-returns-in_err-parts-clause-steps g t c = steps_read _ _ _ c.in_err-parts.ensures.reads
 
 pub write_parts-loop-place-init : goal.write_parts-loop-place-init
-write_parts-loop-place-init g t c = record {
+write_parts-loop-place-init g t c = (following_begins _ _ _ _ _ _ _ _, record {
   steps = steps_none _ _;
   between = c.requires.between;
   order = c.requires.order;
@@ -201,10 +211,10 @@ write_parts-loop-place-init g t c = record {
   count = c.requires.count;
   placed = parts_begin _ _ _ _ _ _ _;
   rewriting = λ ages stored planned begun array new_array before after noted plans rewritten has aged honest. (begun, after, plans, rewritten, has, aged);
-}
+})
 
 pub write_parts-returns-clause-steps : goal.write_parts-returns-clause-steps
-write_parts-returns-clause-steps g t c = steps_on _ _ _ _ c.loop-place.invariant.steps (c.plan_block.ensures.steps c.args.self.missing.now)
+write_parts-returns-clause-steps g t c = steps_on _ _ _ _ c.loop-place.invariant.1.steps (c.plan_block.ensures.steps c.args.self.missing.now)
 
 -- ---- places
 
@@ -260,8 +270,8 @@ write_parts-returns-in_err-block-clause-no_place g t c =
     omega (arith, c.start_of-start.ensures.value, c.span.ensures.value) in
     passed_on _ _ _ c.from_residual.ensures.1
     (λ none.
-    parts_fail _ _ _ _ _ _ _ _ _ _ c.loop-place.invariant.placed c.loop-place-test.true _ _ middle_is c.count_before.ensures.before
-    (behind_all _ _ _ c.loop-place.invariant.order c.count_before.ensures.behind) _
+    parts_fail _ _ _ _ _ _ _ _ _ _ c.loop-place.invariant.1.placed c.loop-place-test.true _ _ middle_is c.count_before.ensures.before
+    (behind_all _ _ _ c.loop-place.invariant.1.order c.count_before.ensures.behind) _
     (subst (λ ws. LackPlacesAt c.args.self.node.now c.args.self.copies c.loop-place.store.spaces (spots_in ws c.args.parts.level (c.args.first + c.loop-place.place * 128 ^ c.args.parts.level)) c.write_part.new.store.spaces)
     c.split_at.ensures.front
     (subst (λ n. LackPlacesAt c.args.self.node.now c.args.self.copies c.loop-place.store.spaces (spots_in c.split_at.result.0.now c.args.parts.level n) c.write_part.new.store.spaces)
@@ -271,12 +281,77 @@ pub write_parts-returns-clause-places : goal.write_parts-returns-clause-places
 write_parts-returns-clause-places g t c =
     let all : c.loop-place.place ≡ 128 = omega (arith, c.loop-place-test.false, c.loop-place.auto.place-end, c.requires.from) in
     on_ok_weaker c.plan_block.result
-    (λ have. parts_end _ _ _ _ _ _ _ _ _ _ _ c.loop-place.invariant.placed all (rw add-one at (have c.args.first)))
+    (λ have. parts_end _ _ _ _ _ _ _ _ _ _ _ c.loop-place.invariant.1.placed all (rw add-one at (have c.args.first)))
     c.plan_block.ensures.place
 
 pub write_parts-returns-clause-no_place : goal.write_parts-returns-clause-no_place
 write_parts-returns-clause-no_place g t c =
     let all : c.loop-place.place ≡ 128 = omega (arith, c.loop-place-test.false, c.loop-place.auto.place-end, c.requires.from) in
     IfErr-weaker c.plan_block.result _ _
-    (λ refusal is none. root_fails _ _ _ _ _ _ _ _ _ _ _ c.loop-place.invariant.placed all (rw add-one at (is none c.args.first)))
+    (λ refusal is none. root_fails _ _ _ _ _ _ _ _ _ _ _ c.loop-place.invariant.1.placed all (rw add-one at (is none c.args.first)))
     c.plan_block.ensures.no_place
+
+-- ---- refusals
+
+pub write_part-returns-then-part-eq0-clause-full : goal.write_part-returns-then-part-eq0-clause-full
+write_part-returns-then-part-eq0-clause-full g t c =
+    let one : 128 ^ c.args.part.level ≡ 1 = ap (λ n. 128 ^ n) c.if-part-eq0.true in
+    IfOk-weaker c.plan_block.result _ _ (λ block fill. inl (omega (arith, one, fill))) c.plan_block.ensures.fill
+
+pub write_part-returns-then-part-eq0-clause-refused : goal.write_part-returns-then-part-eq0-clause-refused
+write_part-returns-then-part-eq0-clause-refused g t c = IfErr-weaker c.plan_block.result _ _ (λ refusal room. inl room) c.plan_block.ensures.refused
+
+pub write_part-returns-in_err-note-clause-refused : goal.write_part-returns-in_err-note-clause-refused
+write_part-returns-in_err-note-clause-refused g t c = passed_on _ _ _ c.from_residual.ensures.1 (inl (inl refl))
+
+pub write_part-returns-in_err-parts-clause-refused : goal.write_part-returns-in_err-parts-clause-refused
+write_part-returns-in_err-parts-clause-refused g t c =
+    passed_on _ _ _ c.from_residual-in_err-parts.ensures.1
+    (inr (inl (first_unread c.args.store.now c.parts_of.new.store c.args.self.missing.now c.args.self.node.now c.args.part c.args.first c.args.writes.now _ c.requires.some c.requires.between
+    c.in_err-parts.ensures.refused)))
+
+pub write_part-returns-clause-full : goal.write_part-returns-clause-full
+write_part-returns-clause-full g t c =
+    let e : c.args.part.level ≡ suc c.in_ok-parts.parts.level = omega (arith, c.in_ok-parts.ensures.level) in
+    let spaces = same_spaces _ _ _ c.in_ok-parts.ensures.reads in
+    IfOk-weaker c.write_parts.result _ _
+    (λ block full.
+    part_full c.args.self.node.now c.args.part c.in_ok-parts.parts c.args.first c.args.writes.now e c.args.store.now.spaces c.parts_of.new.store.spaces spaces block.fill c.in_ok-parts.ensures.read
+    c.requires.some c.requires.between full)
+    c.write_parts.ensures.full
+
+pub write_part-returns-clause-refused : goal.write_part-returns-clause-refused
+write_part-returns-clause-refused g t c =
+    let e : c.args.part.level ≡ suc c.in_ok-parts.parts.level = omega (arith, c.in_ok-parts.ensures.level) in
+    IfErr-weaker c.write_parts.result _ _
+    (λ refusal why.
+    part_refused c.args.self.node.now c.args.part c.in_ok-parts.parts c.args.first c.args.writes.now e c.args.store.now c.parts_of.new.store c.write_parts.new.store c.args.self.missing.now refusal
+    c.in_ok-parts.ensures.reads c.in_ok-parts.ensures.read c.requires.some c.requires.between why)
+    c.write_parts.ensures.refused
+
+pub write_parts-returns-in_err-block-clause-refused : goal.write_parts-returns-in_err-block-clause-refused
+write_parts-returns-in_err-block-clause-refused g t c =
+    passed_on _ _ _ c.from_residual.ensures.1
+    (following_fails c.args.store.now c.loop-place.store c.args.self.missing.now _ _ _ _ _ _ _ _ _ _ c.loop-place.invariant.0 c.loop-place-test.true c.loop-place.invariant.1.count
+    c.loop-place.invariant.1.steps _ _ _ c.start_of-start.ensures.value c.split_at.ensures.front _ c.get.ensures.value _ _ c.in_err-block.ensures.refused)
+
+pub write_parts-returns-in_default-clause-refused : goal.write_parts-returns-in_default-clause-refused
+write_parts-returns-in_default-clause-refused g t c =
+    elim (sum_can_be _ _ _ _ _ _ _ _ _ _ _ c.loop-place.invariant.0 c.loop-place.invariant.1.count) [
+      | inl fits ↦ absurd (omega (arith, fits, c.in_default.ensures.none.0 refl, span_fits (c.args.parts.level + 1) (omega (arith, c.requires.low))))
+      | inr over ↦ inr (inr (refl, over))
+    ]
+
+pub write_parts-returns-in_err-bytes-clause-refused : goal.write_parts-returns-in_err-bytes-clause-refused
+write_parts-returns-in_err-bytes-clause-refused g t c = passed_on _ _ _ c.from_residual-in_err-bytes.ensures.1 (inl (inl refl))
+
+pub write_parts-returns-clause-full : goal.write_parts-returns-clause-full
+write_parts-returns-clause-full g t c =
+    IfOk-weaker c.plan_block.result _ _
+    (λ block fill. elim (sum_can_be _ _ _ _ _ _ _ _ _ _ _ c.loop-place.invariant.0 c.loop-place.invariant.1.count) [
+      | inl fits ↦ inl (omega (arith, fits, fill, c.in-Some.ensures.some))
+      | inr over ↦ inr over
+    ]) c.plan_block.ensures.fill
+
+pub write_parts-returns-clause-refused : goal.write_parts-returns-clause-refused
+write_parts-returns-clause-refused g t c = IfErr-weaker c.plan_block.result _ _ (λ refusal room. inl room) c.plan_block.ensures.refused

@@ -1,4 +1,5 @@
 use Rattle.std.proofs.Common.{◌+◌, ◌*◌}
+use Rattle.dnode_tree.proofs.Overfull.{AreFollowed}
 use Rattle.dnode_tree.proofs.WritingParts.{IsWritingParts}
 use Rattle.dnode_tree.proofs.writes.Rewriting.+rewriting.Given as goal
 
@@ -10,4 +11,5 @@ decreases-write_parts g l = 2 * l.parts.level + 1
 
 abbrev pub invariant-write_parts-loop-place : goal.invariant-write_parts-loop-place
 invariant-write_parts-loop-place g l =
-    IsWritingParts l.self.copies l.initial.store l.store l.self.missing.now l.self.node.now l.level l.first l.bound l.self.birth l.from l.initial.pointers l.pointers l.writes l.rest l.place l.initial.replaced.items l.replaced.items
+    AreFollowed l.initial.store.spaces l.self.node.now l.level l.first l.bound l.from l.initial.pointers l.pointers l.writes l.rest l.place
+    × IsWritingParts l.self.copies l.initial.store l.store l.self.missing.now l.self.node.now l.level l.first l.bound l.self.birth l.from l.initial.pointers l.pointers l.writes l.rest l.place l.initial.replaced.items l.replaced.items

@@ -6,6 +6,7 @@ use Rattle.dnode_tree.proofs.Raising.{raising_begins, raised, hole_raised, six_l
 use Rattle.dnode_tree.proofs.Refusing.{passed_on}
 use Rattle.dnode_tree.specs.Tree.{property_of}
 use Rattle.dnode_tree.specs.Spots.{spots_below, spots_of_raise, is_there, has_some}
+use Rattle.dnode_tree.proofs.PutRefused.{raised_overfull, raised_refused}
 use Rattle.dnode_tree.proofs.Spots.{HavePlacesAt, LackPlacesAt}
 use Rattle.dnode_tree.proofs.Raised.{test_passes}
 use Rattle.dnode_tree.proofs.writes.Rewriting.raise.Goals.{else-is_hole-via-then-is_hole+else-is_empty, else-is_hole-via-else-is_hole}
@@ -100,3 +101,22 @@ returns-clause-there g c =
       | else-is_hole-via-else-is_hole w ↦ inl (let other : c.args.root ≢ Hole = search rules in other)
     ]) in
     sym passes
+
+-- ---- refusals
+
+pub returns-in_err-pointers-clause-refused : goal.returns-in_err-pointers-clause-refused
+returns-in_err-pointers-clause-refused g c = passed_on _ _ _ c.from_residual.ensures.1 (inl (inl refl))
+
+pub returns-in_err-block-clause-refused : goal.returns-in_err-block-clause-refused
+returns-in_err-block-clause-refused g c =
+    passed_on _ _ _ c.from_residual-in_err-block.ensures.1
+    (raised_refused c.args.self.node.now c.args.level c.args.self.birth c.args.root _ c.args.writes.now (c.set.ensures ∙ ap (λ ps. set ps 0 c.args.root) c.in_ok-pointers.ensures)
+    c.args.store.now c.write_parts.new.store c.args.self.missing.now _ c.in_err-block.ensures.refused)
+
+pub returns-clause-full : goal.returns-clause-full
+returns-clause-full g c = elim c.in_ok-block.ensures.full [
+  | inl fits ↦ inl fits
+  | inr over ↦
+      inr (raised_overfull c.args.self.node.now c.args.level c.args.self.birth c.args.root _ c.args.writes.now (c.set.ensures ∙ ap (λ ps. set ps 0 c.args.root) c.in_ok-pointers.ensures)
+      c.args.store.now.spaces over)
+]

@@ -1,4 +1,4 @@
-use Rattle.std.proofs.Common.{◌≡◌, ◌-◌, ◌∙◌, ◌||◌, refl, subst, length, if◌then◌else◌, sym, ap, rules}
+use Rattle.std.proofs.Common.{◌≡◌, inl, inr, ◌-◌, ◌∙◌, ◌||◌, refl, subst, length, if◌then◌else◌, sym, ap, rules}
 use Rattle.dnode.specs.Levels.{levels_of}
 use Rattle.dnode_tree.proofs.Births.{births_as}
 use Rattle.dnode_tree.specs.Births.{reaches}
@@ -9,6 +9,7 @@ use Rattle.dnode_tree.proofs.Refusing.{passed_on}
 use Rattle.dnode_tree.specs.Births.{height_of}
 use Rattle.dnode_tree.specs.Spots.{spots_in, is_there, has_some}
 use Rattle.dnode_tree.proofs.Raised.{or_false}
+use Rattle.dnode_tree.proofs.PutRefused.{root_overfull}
 use Rattle.dnode_tree.proofs.Spots.{HavePlacesAt, unreached}
 use Rattle.dnode_tree.proofs.writes.Rewriting.write_root.Goals as goal
 
@@ -48,3 +49,14 @@ returns-then-is_empty-clause-there g c =
     let none : length c.args.writes.now ≡ 0 = search rules in
     let nil = nil_from_length c.args.writes.now none in
     sym (ap (λ ws. is_there c.args.self.node.now.pointer || has_some ws) nil ∙ or_false (is_there c.args.self.node.now.pointer))
+
+-- ---- refusals
+
+pub returns-then-is_empty-clause-full : goal.returns-then-is_empty-clause-full
+returns-then-is_empty-clause-full g c = root_overfull c.args.store.now.spaces c.args.self.node.now _ c.args.writes.now
+
+pub returns-in_err-block-clause-refused : goal.returns-in_err-block-clause-refused
+returns-in_err-block-clause-refused g c = passed_on _ _ _ c.from_residual.ensures.1 (rw c.levels.ensures at c.in_err-block.ensures.refused)
+
+pub returns-clause-full : goal.returns-clause-full
+returns-clause-full g c = elim (rw c.levels.ensures at c.in_ok-block.ensures.full) [ inl fits ↦ inl fits | inr over ↦ inr (inr over) ]
