@@ -2,7 +2,7 @@
 use Rattle.std.proofs.Common.{◌≡◌, ℕ, zero, suc, ◌+◌, ◌*◌, ◌^◌, ◌<◌, ◌≤◌, Bool, true, false, if◌then◌else◌, List, [], ◌∷◌, ◌++◌, length, take, drop, get_or, All, refl, sym, ap, ◌∙◌, subst, arith}
 use Rattle.std.specs.Prelude.{nat_lt}
 use Rattle.std.proofs.lemmas.Bool.Decides.{nat_tests}
-use Rattle.std.proofs.lemmas.List.{take-append-drop}
+use Rattle.std.proofs.lemmas.List.{get_or_default, take-append-drop}
 use Rattle.std.proofs.lemmas.List.Elements.{All-head, All-tail, All-weaker}
 use Rattle.block_pointer.specs.declared.block.Block.{Block}
 use Rattle.block_pointer.specs.declared.pointer.BlockPtr.{BlockPtr}
@@ -130,3 +130,12 @@ births_below stored level next first pointer block births e is were =
     let there : AreBirths stored (suc next) first (At block) births =
     subst (λ n. AreBirths stored n first (At block) births) e (subst (λ p. AreBirths stored level first p births) is were) in
     there.1
+
+-- the part below the root that a pointer leads to
+pub child_births : (stored : Contents) (next first : ℕ) (block : Block) (births : ℕ → ℕ → ℕ) (found : List BlockPtr) (child : BlockPtr) (k : ℕ)
+    → (below : HasBelow stored block (λ k child. AreBirths stored next (first + k * 128 ^ next) child births))
+    → found ≡ below.pointers → child ≡ get_or found k child → k < 128 → AreBirths stored next (first + k * 128 ^ next) child births
+child_births stored next first block births found child k below found_is child_is low =
+    let room : k < length below.pointers = rw below.spelled.0.count low in
+    let same : child ≡ get_or below.pointers k Hole = child_is ∙ ap (λ pointers. get_or pointers k child) found_is ∙ get_or_default below.pointers k child Hole room in
+    subst (λ p. AreBirths stored next (first + k * 128 ^ next) p births) (sym same) (below.below k low)

@@ -12,8 +12,10 @@ use Rattle.block_store.specs.declared.space.VdevSpace.{VdevSpace}
 use Rattle.block_store.specs.Reading.{IsReadable, IsReadAs, IsLastFault}
 use Rattle.block_store.specs.Store.{Store, outs}
 use Rattle.block_store.specs.Steps.{OnlyReadsBlocks}
+use Rattle.dnode.specs.declared.node.ObjectNode.{ObjectNode}
+use Rattle.dnode_tree.specs.declared.reading.DataBlock.{DataBlock}
 use Rattle.dnode_tree.specs.Subtree.{asked_of}
-use Rattle.dnode_tree.specs.Ways.{AreReadAs, Reached, reached, asked_there, ComesTo, SpellsNoPointers, IsBad, IsCause, IsBlockFault, IsFoundBelow, IsRefusedBelow}
+use Rattle.dnode_tree.specs.Ways.{AreReadAs, Reached, reached, asked_there, ComesTo, SpellsNoPointers, IsBad, IsCause, IsBlockFault, bytes_in, IsFoundBelow, IsBlockFoundBelow, IsFound, IsBlockFound, IsRefusedBelow}
 use Rattle.block_store.proofs.Steps.{reads_none, reads_on}
 
 pub comes_at_once : (spaces : List VdevSpace) (property : ℕ → Property) (level birth : ℕ) (pointer : BlockPtr) (place : ℕ)
@@ -29,22 +31,33 @@ comes_down spaces property n level birth pointer place there block pointers e is
     let P : ℕ → Type 0 = λ k. AreReadAs spaces (asked_of (property k) birth) block pointers → ComesTo spaces property k birth pointer place there in
     subst P (sym e) (λ read. inr (block, pointers, is, read, below)) read
 
-pub found_data : (spaces : List VdevSpace) (property : ℕ → Property) (level birth : ℕ) (pointer : BlockPtr) (place : ℕ) (block : Block) (bytes : List ℕ)
-    → level ≡ 0 → pointer ≡ At block → IsReadAs spaces (asked_of (property level) birth) block bytes
-    → IsFoundBelow spaces property (reached level pointer birth) place (Some bytes)
-found_data spaces property level birth pointer place block bytes e is read = record {
-  there = reached level pointer birth;
-  leads = comes_at_once spaces property level birth pointer place;
-  has = (block, e, is, read);
+pub block_found : (spaces : List VdevSpace) (property : ℕ → Property) (level birth : ℕ) (pointer : BlockPtr) (place : ℕ) (block : Block) (found : DataBlock)
+    → level ≡ 0 → pointer ≡ At block → IsReadAs spaces (asked_of (property level) birth) block found.bytes.items → found.birth ≡ block.birth
+    → IsBlockFoundBelow spaces property (reached level pointer birth) place (Some found)
+block_found spaces property level birth pointer place block found e is read born = record {
+  below = record {
+    there = reached level pointer birth;
+    leads = comes_at_once spaces property level birth pointer place;
+    has = (block, e, is, read);
+  };
+  born = (block, is, born);
 }
 
-pub found_hole : (spaces : List VdevSpace) (property : ℕ → Property) (level birth : ℕ) (pointer : BlockPtr) (place : ℕ)
-    → pointer ≡ Hole → IsFoundBelow spaces property (reached level pointer birth) place None
-found_hole spaces property level birth pointer place is = record {
-  there = reached level pointer birth;
-  leads = comes_at_once spaces property level birth pointer place;
-  has = is;
+pub hole_found : (spaces : List VdevSpace) (property : ℕ → Property) (level birth : ℕ) (pointer : BlockPtr) (place : ℕ)
+    → pointer ≡ Hole → IsBlockFoundBelow spaces property (reached level pointer birth) place None
+hole_found spaces property level birth pointer place is = record {
+  below = record {
+    there = reached level pointer birth;
+    leads = comes_at_once spaces property level birth pointer place;
+    has = is;
+  };
+  born = tt;
 }
+
+-- the bytes that were found with their birth
+pub bytes_found : (spaces : List VdevSpace) (node : ObjectNode) (birth id : ℕ) (found : Option DataBlock) → IsBlockFound spaces node birth id found → IsFound spaces node birth id (bytes_in found)
+bytes_found spaces node birth id found (inl (behind, is)) = inl (behind, ap bytes_in is)
+bytes_found spaces node birth id found (inr (within, there)) = inr (within, there.below)
 
 -- the child that the code takes is that of the definition
 same_child : (pointers : List BlockPtr) (k : ℕ) (child : BlockPtr) → length pointers ≡ 128 → k < 128 → child ≡ get_or pointers k child → get_or pointers k Hole ≡ child
@@ -64,9 +77,12 @@ module _ (spaces : List VdevSpace) (property : ℕ → Property) (n level birth 
       comes_down spaces property n level birth pointer place there block pointers e is read
       (subst (λ s. ComesTo spaces property level block.birth (get_or pointers (place / s) Hole) (place % s) there) size_is at_child)
 
-  pub found_down : (found : Option (List ℕ)) → IsFoundBelow spaces property (reached level child block.birth) (place % size) found
-      → IsFoundBelow spaces property (reached n pointer birth) place found
-  found_down found below = record { there = below.there; leads = leads_down below.there below.leads; has = below.has }
+  pub found_down : (found : Option DataBlock) → IsBlockFoundBelow spaces property (reached level child block.birth) (place % size) found
+      → IsBlockFoundBelow spaces property (reached n pointer birth) place found
+  found_down found there = record {
+    below = record { there = there.below.there; leads = leads_down there.below.there there.below.leads; has = there.below.has };
+    born = there.born;
+  }
 
 pub fault_on : (old mid new : Store) (missing : List ℕ) (property : ℕ → Property) (there : Reached) (refusal : Refusal) → OnlyReadsBlocks old mid missing
     → IsCause mid new missing property there refusal → IsCause old new missing property there refusal

@@ -16,6 +16,7 @@ use Rattle.block_store.specs.declared.space.VdevSpace.{VdevSpace}
 use Rattle.block_store.specs.Reading.{Asks, IsReadable, IsReadAs, IsLastFault}
 use Rattle.block_store.specs.Store.{Store, outs}
 use Rattle.block_store.specs.Steps.{OnlyReadsBlocks}
+use Rattle.dnode_tree.specs.declared.reading.DataBlock.{DataBlock}
 use Rattle.dnode_tree.specs.Subtree.{asked_of, joined}
 use Rattle.dnode_tree.specs.Tree.{property_of}
 
@@ -50,6 +51,9 @@ ComesTo spaces property (suc level) birth pointer place there =
 -- the bytes of a block, if there is one
 abbrev pub bytes_of : Option (Vec ℕ Global) → Option (List ℕ)
 bytes_of found = option_map (λ bytes. bytes.items) found
+
+abbrev pub bytes_in : Option DataBlock → Option (List ℕ)
+bytes_in found = option_map (λ block. block.bytes.items) found
 
 -- there is a data block with these bytes, or a hole and none
 abbrev pub HasFound : List VdevSpace → (ℕ → Property) → Reached → Option (List ℕ) → Type 0
@@ -107,6 +111,16 @@ pub record IsFoundBelow (spaces : List VdevSpace) (property : ℕ → Property) 
   pub leads : LeadsTo spaces property here place there
   pub has : HasFound spaces property there found
 
+-- the birth that is told of a data block is that of the pointer to it
+abbrev pub HasBirthOf : BlockPtr → Option DataBlock → Type 0
+HasBirthOf pointer None = Unit {0}
+HasBirthOf pointer (Some found) = (block : Block) × (pointer ≡ At block) × (found.birth ≡ block.birth)
+
+-- what was found there, with the birth of the pointer that the way came to
+pub record IsBlockFoundBelow (spaces : List VdevSpace) (property : ℕ → Property) (here : Reached) (place : ℕ) (found : Option DataBlock) : Type 0 where
+  pub below : IsFoundBelow spaces property here place (bytes_in found)
+  pub born : HasBirthOf below.there.pointer found
+
 -- why nothing was found there: the cause is on the way
 pub record IsRefusedBelow (old new : Store) (missing : List ℕ) (property : ℕ → Property) (here : Reached) (place : ℕ) (refusal : Refusal) : Type 0 where
   pub there : Reached
@@ -117,6 +131,11 @@ pub record IsRefusedBelow (old new : Store) (missing : List ℕ) (property : ℕ
 abbrev pub IsFound : List VdevSpace → ObjectNode → ℕ → ℕ → Option (List ℕ) → Type 0
 IsFound spaces node birth id found =
     ((node.highest < id) × (found ≡ None)) ⊎ ((id ≤ node.highest) × IsFoundBelow spaces (property_of node) (root_of node birth) id found)
+
+-- the same with its birth
+abbrev pub IsBlockFound : List VdevSpace → ObjectNode → ℕ → ℕ → Option DataBlock → Type 0
+IsBlockFound spaces node birth id found =
+    ((node.highest < id) × (found ≡ None)) ⊎ ((id ≤ node.highest) × IsBlockFoundBelow spaces (property_of node) (root_of node birth) id found)
 
 -- why a data block of an object was not read
 abbrev pub IsRefused : Store → Store → List ℕ → ObjectNode → ℕ → ℕ → Refusal → Type 0

@@ -21,7 +21,7 @@ pub use laws::{
     trees_stand_on_their_blocks,
 };
 pub use putting::put_many;
-pub use reading::get;
+pub use reading::{DataBlock, get, get_block};
 pub use walking::walk;
 pub use within::walk_within;
 pub use writes::{BlockWrite, CopyCounts, Rewrite};

@@ -1,12 +1,13 @@
 //! One data block of a tree.
-ghost use Rattle.std.specs.Prelude.{◌≡◌, ◌≢◌, ◌+◌, ◌^◌, ◌<◌, ℕ, List, Option, IfOk, IfErr};
+ghost use Rattle.std.specs.Prelude.{◌≡◌, ◌≢◌, ◌+◌, ◌^◌, ◌<◌, ℕ, List, Option, IfOk, IfErr, IfSome};
 ghost use Rattle.std.specs.Option.{option_map};
 ghost use Rattle.block_pointer.specs.declared.block.Block.{Block};
 ghost use Rattle.block_store.specs.Blocks.{Contents};
 ghost use Rattle.block_store.specs.Store.{Holds};
 ghost use Rattle.block_store.specs.Steps.{OnlyReadsBlocks, AnswersAreTrue, LossIsTolerable};
+ghost use Rattle.dnode_tree.specs.Births.{AreBirths, HasBirths};
 ghost use Rattle.dnode_tree.specs.Tree.{property_of, IsPart, IsTree};
-ghost use Rattle.dnode_tree.specs.Ways.{reached, bytes_of, IsFound, IsRefused, IsFoundBelow, IsRefusedBelow};
+ghost use Rattle.dnode_tree.specs.Ways.{reached, bytes_of, bytes_in, IsFound, IsBlockFound, IsRefused, IsBlockFoundBelow, IsRefusedBelow};
 
 use crate::descent::{asked_at, read_indirect, span};
 use crate::subtree::Subtree;
@@ -15,6 +16,14 @@ use block_store::{BlockStore, Refusal};
 use dnode::ObjectNode;
 use model_disk::Disk;
 use std::alloc::Global;
+
+/// A data block as it was read.
+#[derive(Debug, Drop)]
+pub struct DataBlock {
+    pub bytes: Vec<u8>,
+    /// The transaction group in which it was born, as the pointer to it says.
+    pub birth: u64,
+}
 
 /// The bytes of a data block of an object, or nothing where it has none: one block is read a level. The object's blocks
 /// were born in the transaction group `birth` or before. The disks that are named are taken as missing.
@@ -44,6 +53,43 @@ pub fn get<D: Disk + Drop>(
         → LossIsTolerable store.old store.new missing.now
         → refusal ≡ Refusal.NoMemory) }
 {
+    match get_block(node, store, alloc, id, birth, missing)? {
+        Some(block) => Ok(Some(block.bytes)),
+        None => Ok(None),
+    }
+}
+
+/// A data block of an object, or nothing where it has none: one block is read a level. The object's blocks were born in the
+/// transaction group `birth` or before. The disks that are named are taken as missing.
+pub fn get_block<D: Disk + Drop>(
+    node: &ObjectNode,
+    store: &mut BlockStore<D>,
+    alloc: Global,
+    id: u64,
+    birth: u64,
+    missing: &[usize],
+) -> Result<Option<DataBlock>, Refusal>
+    requires { node.now.highest < 128 ^ 5 }
+    ensures reads { OnlyReadsBlocks store.old store.new missing.now }
+    ensures value { IfOk result (λ found. (stored : Contents) (array : ℕ → Option (List ℕ))
+        (blocks : List Block) → Holds store.old stored
+        → IsTree stored birth node.now array blocks → AnswersAreTrue store.old store.new
+        → bytes_in found ≡ array id) }
+    ensures born { IfOk result (λ found. (stored : Contents) (births : ℕ → ℕ → ℕ)
+        → Holds store.old stored → HasBirths stored node.now births
+        → AnswersAreTrue store.old store.new
+        → IfSome found (λ block. block.birth ≡ births 0 id)) }
+
+    // Whatever the tree is: what was read on the way, and on a refusal its cause there.
+    ensures found { IfOk result (IsBlockFound store.old.spaces node.now birth id) }
+    ensures refused { IfErr result (IsRefused store.old store.new missing.now node.now birth id) }
+    ensures cause { IfErr result (λ refusal. refusal ≢ Refusal.NoSpace) }
+    ensures known { IfErr result (λ refusal. (stored : Contents) (array : ℕ → Option (List ℕ))
+        (blocks : List Block) → Holds store.old stored
+        → IsTree stored birth node.now array blocks → AnswersAreTrue store.old store.new
+        → LossIsTolerable store.old store.new missing.now
+        → refusal ≡ Refusal.NoMemory) }
+{
     if id > node.highest {
         return Ok(None);
     }
@@ -63,16 +109,20 @@ fn get_below<D: Disk + Drop>(
     part: Subtree,
     place: u64,
     missing: &[usize],
-) -> Result<Option<Vec<u8>>, Refusal>
+) -> Result<Option<DataBlock>, Refusal>
     requires low { part.level < 6 }
     requires within { place < 128 ^ part.level }
     ensures reads { OnlyReadsBlocks store.old store.new missing.now }
     ensures value { IfOk result (λ found. (stored : Contents) (first : ℕ)
         (array : ℕ → Option (List ℕ)) (blocks : List Block) → Holds store.old stored
         → IsPart stored node.now first part array blocks → AnswersAreTrue store.old store.new
-        → option_map (λ bytes. bytes.items) found ≡ array (first + place)) }
-    ensures found { IfOk result (λ found. IsFoundBelow store.old.spaces (property_of node.now)
-        (reached part.level part.pointer part.birth) place (bytes_of found)) }
+        → bytes_in found ≡ array (first + place)) }
+    ensures born { IfOk result (λ found. (stored : Contents) (first : ℕ) (births : ℕ → ℕ → ℕ)
+        → Holds store.old stored → AreBirths stored part.level first part.pointer births
+        → AnswersAreTrue store.old store.new
+        → IfSome found (λ block. block.birth ≡ births 0 (first + place))) }
+    ensures found { IfOk result (IsBlockFoundBelow store.old.spaces (property_of node.now)
+        (reached part.level part.pointer part.birth) place) }
     ensures refused { IfErr result (IsRefusedBelow store.old store.new missing.now
         (property_of node.now)
         (reached part.level part.pointer part.birth) place) }
@@ -88,7 +138,9 @@ fn get_below<D: Disk + Drop>(
     };
     let asked = asked_at(node, part.level, part.birth);
     if part.level == 0 {
-        return Ok(Some(store.read(alloc, &block, asked, missing)?));
+        let bytes = store.read(alloc, &block, asked, missing)?;
+        let birth = block.birth;
+        return Ok(Some(DataBlock { bytes, birth }));
     }
     let children = read_indirect(store, alloc, &block, asked, missing)?;
     let span = span(part.level - 1);

@@ -1,22 +1,13 @@
-use Rattle.std.proofs.Common.{◌-◌, ap, sym, subst, ◌∙◌, zero-add}
-use Rattle.std.proofs.lemmas.Result.{IfOk-weaker, IfErr-weaker}
-use Rattle.dnode_tree.specs.Subtree.{IsSubtree}
-use Rattle.dnode_tree.specs.Tree.{property_of}
+use Rattle.std.proofs.Common.{◌≡◌, Option, sym, ap, subst, ◌∙◌}
+use Rattle.dnode_tree.specs.declared.reading.DataBlock.{DataBlock}
+use Rattle.dnode_tree.specs.Ways.{bytes_in, IsFound}
+use Rattle.dnode_tree.proofs.WayLemmas.{bytes_found}
 use Rattle.dnode_tree.proofs.reading.get.Goals as goal
 
-pub returns-clause-value : goal.returns-clause-value
-returns-clause-value g c =
-    IfOk-weaker c.get_below.result _ _
-    (λ found is stored array blocks held tree honest.
-    is stored 0 array blocks held
-    (subst (λ n. IsSubtree stored (property_of c.args.node.now) (n - 1) 0 c.args.birth c.args.node.now.pointer array blocks) (sym c.levels.ensures) tree.root) honest
-    ∙ ap array (zero-add c.args.id))
-    c.get_below.ensures.value
+pub returns-in-Some-clause-value : goal.returns-in-Some-clause-value
+returns-in-Some-clause-value g c = λ stored array blocks held tree honest.
+    sym (ap bytes_in c.in-Some.is) ∙ c.in_ok-block.ensures.value stored array blocks held tree honest
 
-pub returns-clause-known : goal.returns-clause-known
-returns-clause-known g c =
-    IfErr-weaker c.get_below.result _ _
-    (λ refusal is stored array blocks held tree honest few.
-    is stored 0 array blocks held
-    (subst (λ n. IsSubtree stored (property_of c.args.node.now) (n - 1) 0 c.args.birth c.args.node.now.pointer array blocks) (sym c.levels.ensures) tree.root) honest few)
-    c.get_below.ensures.known
+pub returns-in-None-clause-value : goal.returns-in-None-clause-value
+returns-in-None-clause-value g c = λ stored array blocks held tree honest.
+    sym (ap bytes_in c.in-None.is) ∙ c.in_ok-block.ensures.value stored array blocks held tree honest
