@@ -6,6 +6,7 @@ pub mod Spans
 pub mod Collecting
 pub mod Fitting
 pub mod Kept
+pub mod Spellings
 pub mod Births
 pub mod Fills
 pub mod Exchanging
@@ -28,3 +29,4 @@ pub mod Leaving
 pub mod SameBlocks
 pub mod Replacing
 pub mod Counts
+pub mod Ages

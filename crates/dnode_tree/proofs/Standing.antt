@@ -12,7 +12,7 @@ use Rattle.dnode_tree.specs.Laws.{TreesStandOnTheirBlocks, BlocksOfTreesAreKnown
 use Rattle.dnode_tree.specs.Subtree.{IsSubtree, joined}
 use Rattle.dnode_tree.specs.Tree.{property_of}
 
-in_joined : (parts : List (List Block)) (k : ℕ) (block : Block) → k < length parts → Contains (get_or parts k []) block → Contains (joined parts) block
+pub in_joined : (parts : List (List Block)) (k : ℕ) (block : Block) → k < length parts → Contains (get_or parts k []) block → Contains (joined parts) block
 in_joined [] k block low held = absurd (omega (arith, low))
 in_joined (part ∷ parts) zero block low held = Contains-append_left part (joined parts) block held
 in_joined (part ∷ parts) (suc k) block low held = Contains-append_right part (joined parts) block (in_joined parts k block (omega (arith, low)) held)
@@ -25,7 +25,7 @@ out_of_joined (part ∷ parts) block held =
       | inr later ↦ let there = out_of_joined parts block later in (suc there.0, omega (arith, there.1), there.2)
     ]
 
-first_in : (block : Block) (rest : List Block) → Contains (block ∷ rest) block
+pub first_in : (block : Block) (rest : List Block) → Contains (block ∷ rest) block
 first_in block rest = (0, omega arith, refl)
 
 only_one : (x y : Block) → Contains (x ∷ []) y → x ≡ y

@@ -1,6 +1,6 @@
 //! Laws of trees, as functions with no body: what each ensures follows from the definitions alone.
 ghost use Rattle.dnode_tree.specs.Freeing.{ReplacedAreFreed};
-ghost use Rattle.dnode_tree.specs.Laws.{TreesStandOnTheirBlocks, BlocksOfTreesAreKnown, HolesAreTrees};
+ghost use Rattle.dnode_tree.specs.Laws.{TreesStandOnTheirBlocks, BlocksOfTreesAreKnown, HolesAreTrees, BirthsStandOnTheirBlocks, BirthsAreWithin};
 
 /// A tree keeps its array and its blocks whatever becomes of other blocks.
 pub fn trees_stand_on_their_blocks()
@@ -21,4 +21,14 @@ pub fn holes_are_trees()
 /// as one of holes, and so has the object that `put_many` makes of it.
 pub fn replaced_blocks_are_freed()
     ensures { ReplacedAreFreed }
+{}
+
+/// The blocks of a tree keep their births whatever becomes of other blocks.
+pub fn births_stand_on_their_blocks()
+    ensures { BirthsStandOnTheirBlocks }
+{}
+
+/// A data block is as old as its tree, or older.
+pub fn births_are_within()
+    ensures { BirthsAreWithin }
 {}
