@@ -3,4 +3,5 @@ mod ChangedBlocks
 mod NodeLists
 mod Outcomes
 mod PutNodes
+mod Refusing
 mod SlotBytes

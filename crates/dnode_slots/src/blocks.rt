@@ -64,6 +64,8 @@ pub(crate) fn block_or_zeros<D: Disk + Drop>(
         (nodes : ℕ → Dnode) (blocks : List Block) → Holds store.old stored
         → IsTree stored birth set.now.dnodes array blocks → AreNodesOf array nodes
         → AnswersAreTrue store.old store.new → HasSlots bytes.items id nodes) }
+    ensures refused { IfErr result
+        (IsRefused store.old store.new missing.now set.now.dnodes birth id) }
     ensures cause { IfErr result (λ refusal. refusal ≢ Refusal.NoSpace) }
     ensures known { IfErr result (λ refusal. (stored : Contents) (array : ℕ → Option (List ℕ))
         (blocks : List Block) → Holds store.old stored

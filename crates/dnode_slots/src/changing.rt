@@ -1,5 +1,5 @@
 //! The blocks of dnodes that writes change.
-ghost use Rattle.std.specs.Prelude.{◌≡◌, ◌≢◌, ◌*◌, ◌/◌, ◌^◌, ◌<◌, ◌≤◌, ◌++◌, ◌∷◌, [], ℕ, List, Option, All, Any, IfOk, IfErr, OnOk, length, take, slice_index_or};
+ghost use Rattle.std.specs.Prelude.{◌≡◌, ◌≢◌, ◌⊎◌, ◌*◌, ◌/◌, ◌^◌, ◌<◌, ◌≤◌, ◌++◌, ◌∷◌, [], ℕ, List, Option, All, Any, IfOk, IfErr, OnOk, length, take, slice_index_or};
 ghost use Rattle.block_pointer.specs.declared.block.Block.{Block};
 ghost use Rattle.dnode.specs.declared.dnode.Dnode.{Dnode};
 ghost use Rattle.dnode.specs.ObjectSet.{FitsObjectSet};
@@ -7,8 +7,10 @@ ghost use Rattle.block_store.specs.Blocks.{Contents};
 ghost use Rattle.block_store.specs.Store.{Holds};
 ghost use Rattle.block_store.specs.Steps.{OnlyReadsBlocks, AnswersAreTrue, LossIsTolerable};
 ghost use Rattle.dnode_tree.specs.Tree.{IsTree};
+ghost use Rattle.dnode_tree.specs.Ways.{IsRefused};
 ghost use Rattle.dnode_tree.specs.Writes.{AreInOrder, AreWholeBlocks, written};
 ghost use Rattle.dnode_slots.specs.Nodes.{AreNodesOf};
+ghost use Rattle.dnode_slots.specs.Refused.{IsBlockUnread};
 ghost use Rattle.dnode_slots.specs.Slots.{HasSlots};
 ghost use Rattle.dnode_slots.specs.Writes.{AreNodeWrites, written_nodes};
 
@@ -41,6 +43,8 @@ fn changed_block<D: Disk + Drop>(
         → IsTree stored birth set.now.dnodes array blocks → AreNodesOf array nodes
         → AnswersAreTrue store.old store.new
         → HasSlots bytes.items id (written_nodes writes.now nodes)) }
+    ensures refused { IfErr result
+        (IsRefused store.old store.new missing.now set.now.dnodes birth id) }
     ensures cause { IfErr result (λ refusal. refusal ≢ Refusal.NoSpace) }
     ensures known { IfErr result (λ refusal. (stored : Contents) (array : ℕ → Option (List ℕ))
         (blocks : List Block) → Holds store.old stored
@@ -77,6 +81,8 @@ pub(crate) fn block_writes<D: Disk + Drop>(
         → IsTree stored birth set.now.dnodes array blocks → AreNodesOf array nodes
         → AnswersAreTrue store.old store.new
         → AreNodesOf (written changed.items array) (written_nodes writes.now nodes)) }
+    ensures refused { IfErr result (λ refusal. (refusal ≡ Refusal.NoMemory)
+        ⊎ IsBlockUnread store.old store.new missing.now set.now birth writes.now refusal) }
     ensures cause { IfErr result (λ refusal. refusal ≢ Refusal.NoSpace) }
     ensures known { IfErr result (λ refusal. (stored : Contents) (array : ℕ → Option (List ℕ))
         (blocks : List Block) → Holds store.old stored

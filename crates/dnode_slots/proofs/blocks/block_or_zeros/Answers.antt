@@ -6,6 +6,8 @@ use Rattle.dnode_slots.specs.Nodes.{slot_of}
 use Rattle.dnode_slots.proofs.BlockLists.{slots_of_block}
 use Rattle.dnode_slots.proofs.NodeLists.{spells_as}
 use Rattle.dnode_slots.proofs.SlotBytes.{zeros_are_free}
+use Rattle.dnode_tree.proofs.Refusing.{passed_on}
+use Rattle.dnode_slots.proofs.Refusing.{refused_for_memory}
 use Rattle.dnode_slots.proofs.blocks.block_or_zeros.Goals as goal
 
 pub returns-in-Some-clause-value : goal.returns-in-Some-clause-value
@@ -23,3 +25,6 @@ returns-in_ok-vec-in-None-clause-value g c = λ stored array nodes blocks held t
     let zeros : c.in_ok-vec-in-None.field-0.items ≡ replicate 16384 0 = c.in_ok-vec-in-None.ensures.items_if_clones_equal (λ y h. h) in
     spells_as (slot_of c.in_ok-vec-in-None.field-0.items place) (replicate 512 0) (nodes (32 * c.args.id + place)) Free
     (ap (λ bytes. slot_of bytes place) zeros ∙ zeros_are_free 16384 512 (512 * place) (omega (arith, low))) free (tt, refl)
+
+pub returns-in_err-vec-in-None-clause-refused : goal.returns-in_err-vec-in-None-clause-refused
+returns-in_err-vec-in-None-clause-refused g c = passed_on _ _ _ c.from_residual-in_err-vec-in-None.ensures.1 (refused_for_memory _ _ _ _ _ _)

@@ -1,4 +1,4 @@
-use Rattle.std.proofs.Common.{◌≡◌, ◌+◌, ◌*◌, ◌/◌, List, All, refl, sym, subst, arith}
+use Rattle.std.proofs.Common.{◌≡◌, inl, inr, ◌+◌, ◌*◌, ◌/◌, List, All, refl, sym, subst, arith}
 use Rattle.std.specs.List.{Any}
 use Rattle.dnode_tree.specs.declared.writes.BlockWrite.{BlockWrite}
 use Rattle.dnode_tree.specs.Writes.{written}
@@ -9,6 +9,7 @@ use Rattle.dnode_slots.specs.declared.writes.NodeWrite.{NodeWrite}
 use Rattle.dnode_slots.specs.Nodes.{AreNodesOf}
 use Rattle.dnode_slots.specs.Writes.{written_nodes}
 use Rattle.dnode_slots.proofs.ChangedBlocks.{IsChanging, changing_begins, block_changed, front_is_all, run_here}
+use Rattle.dnode_slots.proofs.Refusing.{first_unread}
 use Rattle.dnode_slots.proofs.changing.block_writes.Goals as goal
 
 pub loop-first-init : goal.loop-first-init
@@ -60,3 +61,10 @@ returns-clause-value g c = λ stored array nodes blocks held tree are honest.
     subst (λ writes. AreNodesOf (written c.loop-first.changed.items array) (written_nodes writes nodes))
     (front_is_all _ _ _ _ _ _ _ _ c.loop-first.invariant c.in_default.ensures.item.3)
     (c.loop-first.invariant.value stored array nodes blocks held tree are honest)
+
+pub returns-in_err-bytes-clause-refused : goal.returns-in_err-bytes-clause-refused
+returns-in_err-bytes-clause-refused g c =
+    passed_on _ _ _ c.from_residual.ensures.1
+    (inr (first_unread c.args.store.now c.loop-first.store c.changed_block.new.store c.args.missing.now c.args.set.now c.args.birth c.args.writes.now c.loop-first.invariant.front
+    c.loop-first.rest.now c.in-Some.first.now _ c.loop-first.invariant.all c.in-Some.ensures.item.3.0 (sym c.in-Some.ensures.item.1) c.loop-first.invariant.reads
+    c.in_err-bytes.ensures.refused))

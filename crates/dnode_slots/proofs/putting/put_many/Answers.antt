@@ -12,7 +12,9 @@ use Rattle.dnode_slots.specs.declared.writes.SetRewrite.{SetRewrite}
 use Rattle.dnode_slots.proofs.PutNodes.{set_fits, highest_least, nodes_rewritten}
 use Rattle.block_store.specs.Steps.{OnlyReadsBlocks}
 use Rattle.block_store.specs.Store.{Store}
-use Rattle.dnode_tree.specs.Spots.{spots_of, HavePlaces, LacksPlaces}
+use Rattle.block_store.specs.Demands.{HavePlaces}
+use Rattle.dnode_tree.specs.Spots.{demands_of}
+use Rattle.dnode_slots.proofs.Refusing.{blocks_of, places_had, reading_refused, writing_refused}
 use Rattle.dnode_slots.proofs.putting.put_many.Goals as goal
 
 pub returns-in_err-changed-clause-known : goal.returns-in_err-changed-clause-known
@@ -82,30 +84,23 @@ returns-clause-rewritten g c = λ stored planned bound nodes blocks plans has le
 pub returns-in_err-changed-clause-steps : goal.returns-in_err-changed-clause-steps
 returns-in_err-changed-clause-steps g c = steps_read _ _ _ c.in_err-changed.ensures.reads
 
--- ---- places
-
--- reads take no places
-same_spaces : (old new : Store) (missing : List ℕ) → OnlyReadsBlocks old new missing → new.spaces ≡ old.spaces
-same_spaces old new missing reads = ap (λ (s : Store). s.spaces) reads.rest
-
-pub returns-in_err-done-clause-no_place : goal.returns-in_err-done-clause-no_place
-returns-in_err-done-clause-no_place g c =
-    passed_on _ _ _ c.from_residual-in_err-done.ensures.1
-    (λ none. record {
-      blocks = c.in_ok-changed.changed.items;
-      are = record { order = c.in_ok-changed.ensures.order; each = c.in_ok-changed.ensures.only; all = c.in_ok-changed.ensures.reached };
-      lacks = subst (λ before. LacksPlaces c.args.set.now.dnodes c.args.copies before (spots_of c.args.set.now.dnodes c.in_ok-changed.changed.items) c.put_many.new.store.spaces)
-          (same_spaces _ _ _ c.in_ok-changed.ensures.reads)
-          (subst (λ (changed : List BlockWrite). LacksPlaces c.args.set.now.dnodes c.args.copies c.block_writes.new.store.spaces (spots_of c.args.set.now.dnodes changed) c.put_many.new.store.spaces)
-          c.deref.ensures.value (c.in_err-done.ensures.no_place none));
-    })
+-- ---- places and refusals
 
 pub returns-clause-places : goal.returns-clause-places
-returns-clause-places g c = record {
-  blocks = c.in_ok-changed.changed.items;
-  are = record { order = c.in_ok-changed.ensures.order; each = c.in_ok-changed.ensures.only; all = c.in_ok-changed.ensures.reached };
-  have = subst (λ before. HavePlaces c.args.set.now.dnodes c.args.copies before (spots_of c.args.set.now.dnodes c.in_ok-changed.changed.items) c.put_many.new.store.spaces)
-      (same_spaces _ _ _ c.in_ok-changed.ensures.reads)
-      (subst (λ (changed : List BlockWrite). HavePlaces c.args.set.now.dnodes c.args.copies c.block_writes.new.store.spaces (spots_of c.args.set.now.dnodes changed) c.put_many.new.store.spaces)
-      c.deref.ensures.value c.in_ok-done.ensures.places);
-}
+returns-clause-places g c =
+    places_had c.args.set.now c.args.copies c.args.writes.now c.in_ok-changed.changed.items c.args.store.now.spaces c.block_writes.new.store.spaces c.put_many.new.store.spaces
+    (blocks_of c.args.writes.now c.in_ok-changed.changed.items c.in_ok-changed.ensures.order c.in_ok-changed.ensures.only c.in_ok-changed.ensures.reached)
+    (ap (λ (s : Store). s.spaces) c.in_ok-changed.ensures.reads.rest)
+    (subst (λ (changed : List BlockWrite). HavePlaces c.block_writes.new.store.spaces (demands_of c.args.set.now.dnodes c.args.copies changed) c.put_many.new.store.spaces)
+    c.deref.ensures.value c.in_ok-done.ensures.places)
+
+pub returns-in_err-changed-clause-refused : goal.returns-in_err-changed-clause-refused
+returns-in_err-changed-clause-refused g c =
+    passed_on _ _ _ c.from_residual.ensures.1
+    (reading_refused c.args.store.now c.block_writes.new.store c.args.missing.now c.args.set.now c.args.copies c.args.birth c.args.writes.now _ c.in_err-changed.ensures.refused)
+
+pub returns-in_err-done-clause-refused : goal.returns-in_err-done-clause-refused
+returns-in_err-done-clause-refused g c =
+    passed_on _ _ _ c.from_residual-in_err-done.ensures.1
+    (writing_refused c.args.store.now c.block_writes.new.store c.put_many.new.store c.args.missing.now c.args.set.now c.args.copies c.args.birth c.args.writes.now _ c.in_ok-changed.changed.items _
+    c.deref.ensures.value c.in_ok-changed.ensures.reads c.in_ok-changed.ensures.order c.in_ok-changed.ensures.only c.in_ok-changed.ensures.reached c.in_err-done.ensures.refused)
