@@ -1,9 +1,14 @@
+pub mod Demands
+pub mod Exchanged
+pub mod Fits
+pub mod Found
+pub mod Gone
+pub mod Highest
 pub mod Kept
 pub mod Numbers
-pub mod Exchanged
-pub mod Highest
+pub mod Placing
+pub mod Refused
 pub mod Room
 pub mod Shapes
 pub mod Trees
 pub mod Underway
-pub mod Gone

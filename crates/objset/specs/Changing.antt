@@ -2,8 +2,9 @@
 use Rattle.std.specs.Prelude.{ℕ, ◌≡◌, ◌≢◌, ◌⊎◌, ◌≤◌, List, ◌++◌, Option, Some, None, All, Any}
 use Rattle.block_pointer.specs.declared.block.Block.{Block}
 use Rattle.block_store.specs.declared.refusal.Refusal.{Refusal}
-use Rattle.block_store.specs.declared.refusal.Refusal.TheVariants.{BadPointer}
+use Rattle.block_store.specs.declared.refusal.Refusal.TheVariants.{BadPointer, NoMemory, NoSpace}
 use Rattle.block_store.specs.Blocks.{Contents, Extends}
+use Rattle.block_store.specs.Demands.{Demand, HavePlaces, LackPlaces}
 use Rattle.block_store.specs.Plans.{Plans}
 use Rattle.block_store.specs.Steps.{AnswersAreTrue, LossIsTolerable}
 use Rattle.block_store.specs.Store.{Store}
@@ -15,13 +16,18 @@ use Rattle.dnode_slots.specs.Writes.{written_nodes}
 use Rattle.dnode_tree.specs.declared.writes.BlockWrite.{BlockWrite}
 use Rattle.dnode_tree.specs.declared.writes.CopyCounts.{CopyCounts}
 use Rattle.dnode_tree.specs.Rewriting.{IsExchanged}
-use Rattle.dnode_tree.specs.Tree.{IsTree}
+use Rattle.dnode_tree.specs.Refused.{IsWriteRefused}
+use Rattle.dnode_tree.specs.Spots.{demands_of}
+use Rattle.dnode_tree.specs.Tree.{IsTree, property_of}
+use Rattle.dnode_tree.specs.Ways.{root_of, IsWalkRefused}
 use Rattle.dnode_tree.specs.Writes.{written, IsForRoom}
 use Rattle.objset.specs.declared.changes.Change.{Change}
 use Rattle.objset.specs.declared.changes.Changing.{Changing}
 use Rattle.objset.specs.declared.changes.ObjectChange.{ObjectChange}
 use Rattle.objset.specs.Changes.{changed, highest_of, AreExchanged, MayChange, after_change, object_copies}
+use Rattle.objset.specs.Demands.{FitsChange, empty_node, demands_of_change, AreDemandsOf, HasFirstDemands}
 use Rattle.objset.specs.Objects.{Object, IsObject, AreObjects}
+use Rattle.objset.specs.Refused.{IsTreeRefused}
 
 -- an object of the node's type and size, with writes over an array that ends at this id
 abbrev pub object_with : ObjectNode → List BlockWrite → ℕ → (ℕ → Option (List ℕ)) → Object
@@ -115,3 +121,53 @@ abbrev pub LacksRoomForObject : Changing → Store → Store → ObjectNode → 
 LacksRoomForObject this old new node refusal =
     (stored planned : Contents) (bound : ℕ) (array : ℕ → Option (List ℕ)) (blocks : List Block) → Plans old stored planned
     → IsTree stored bound node array blocks → bound ≤ this.birth → AnswersAreTrue old new → LossIsTolerable old new this.missing.now → IsForRoom refusal
+
+-- ---- places
+
+-- for what the changes ask places are taken, one block after the other
+abbrev pub HavePlacesFor : Changing → Store → Store → ObjectSet → List ObjectChange → Type 0
+HavePlacesFor this old new set changes =
+    (demands : List Demand)
+    × AreDemandsOf old.spaces set this.birth this.copies changes demands
+    × HavePlaces old.spaces demands new.spaces
+
+-- so it is of the first of these blocks, and then no free place was left for a copy of the next
+abbrev pub LackPlacesFor : Changing → Store → Store → ObjectSet → List ObjectChange → Type 0
+LackPlacesFor this old new set changes =
+    (demands : List Demand)
+    × AreDemandsOf old.spaces set this.birth this.copies changes demands
+    × LackPlaces old.spaces demands new.spaces
+
+-- the same of some of the changes, from the first one on
+abbrev pub LacksRoomForFirst : Changing → Store → Store → ObjectSet → List ObjectChange → Type 0
+LacksRoomForFirst this old new set changes =
+    (demands : List Demand)
+    × HasFirstDemands old.spaces set this.birth this.copies changes demands
+    × LackPlaces old.spaces demands new.spaces
+
+-- why an object was not written
+abbrev pub IsWritingRefused :
+    Changing → Store → Store → ObjectNode → List BlockWrite → Refusal → Type 0
+IsWritingRefused this old new node writes refusal =
+    (refusal ≡ NoMemory)
+    ⊎ (((refusal ≡ NoSpace) × LackPlaces old.spaces
+    (demands_of node (object_copies this.copies) writes) new.spaces)
+    ⊎ IsWriteRefused old new this.missing.now node this.birth writes refusal)
+
+-- why an object was not written anew
+abbrev pub IsReplaceRefused :
+    Changing → Store → Store → ObjectNode → List BlockWrite → Refusal → Type 0
+IsReplaceRefused this old new node writes refusal =
+    (refusal ≡ NoMemory)
+    ⊎ (((refusal ≡ NoSpace) × LackPlaces old.spaces (demands_of
+    (empty_node node.object_type node.data_sectors) (object_copies this.copies) writes) new.spaces)
+    ⊎ IsWalkRefused old new this.missing.now (property_of node) (root_of node this.birth) refusal)
+
+-- why a change was not made of what a dnode is of
+abbrev pub IsDnodeRefused : Changing → Store → Store → Dnode → Change → Refusal → Type 0
+IsDnodeRefused this old new dnode change refusal =
+    (refusal ≡ NoMemory)
+    ⊎ (((refusal ≡ NoSpace) × FitsChange change dnode
+    × LackPlaces old.spaces (demands_of_change this.copies change dnode) new.spaces)
+    ⊎ (((refusal ≡ BadPointer) × ¬ FitsChange change dnode)
+    ⊎ IsTreeRefused old new this.missing.now this.birth change dnode refusal))

@@ -1,18 +1,23 @@
 //! Objects of a set are changed together.
-ghost use Rattle.std.specs.Prelude.{◌≡◌, ◌≢◌, ◌⊎◌, ◌↔◌, ◌*◌, ◌^◌, ◌<◌, ◌≤◌, ◌++◌, ◌∷◌, [], ℕ, List, Option, All, AllPairs, Any, IsTrue, OnOk, IfOk, IfErr};
+ghost use Rattle.std.specs.Prelude.{◌≡◌, ◌≢◌, ◌⊎◌, ◌↔◌, ◌*◌, ◌^◌, ◌<◌, ◌≤◌, ◌++◌, ◌∷◌, [], ℕ, List, Option, map, All, AllPairs, Any, IsTrue, OnOk, IfOk, IfErr};
 ghost use Rattle.block_pointer.specs.declared.block.Block.{Block};
 ghost use Rattle.block_store.specs.Blocks.{Contents};
+ghost use Rattle.block_store.specs.Demands.{Demand, HavePlaces};
 ghost use Rattle.block_store.specs.Plans.{Plans};
-ghost use Rattle.block_store.specs.Steps.{OnlyReadsAndPlans, AnswersAreTrue, LossIsTolerable};
+ghost use Rattle.block_store.specs.Steps.{OnlyReadsBlocks, OnlyReadsAndPlans, AnswersAreTrue, LossIsTolerable};
 ghost use Rattle.dnode.specs.Dnode.{FitsDnode};
 ghost use Rattle.dnode.specs.Node.{FitsNode};
 ghost use Rattle.dnode.specs.ObjectSet.{FitsObjectSet};
-ghost use Rattle.dnode_slots.specs.Writes.{AreNodeWrites};
-ghost use Rattle.dnode_tree.specs.Tree.{IsTree};
+ghost use Rattle.dnode_slots.specs.Writes.{AreNodeWrites, numbers_of};
+ghost use Rattle.dnode_tree.specs.Spots.{demands_of};
+ghost use Rattle.dnode_tree.specs.Tree.{IsTree, property_of};
+ghost use Rattle.dnode_tree.specs.Ways.{root_of, IsWalkRefused};
 ghost use Rattle.dnode_tree.specs.Writes.{IsForRoom};
-ghost use Rattle.objset.specs.Changes.{AreWhole, AreGoodWrites, IsGoodChange, MayChange, changed, AreChanged, IsGrownFor, HasNoRoom};
-ghost use Rattle.objset.specs.Changing.{ChangesEach, IsEachRefused, ChangesOne, IsOneRefused, ChangesNode, IsNodeRefused, WritesObject, ReplacesObject, LacksRoomForObject};
+ghost use Rattle.objset.specs.Changes.{AreWhole, AreGoodWrites, IsGoodChange, MayChange, changed, AreChanged, IsGrownFor, HasNoRoom, object_copies};
+ghost use Rattle.objset.specs.Changing.{ChangesEach, IsEachRefused, ChangesOne, IsOneRefused, ChangesNode, IsNodeRefused, WritesObject, ReplacesObject, LacksRoomForObject, HavePlacesFor, LackPlacesFor, LacksRoomForFirst, IsDnodeRefused, IsWritingRefused, IsReplaceRefused};
+ghost use Rattle.objset.specs.Demands.{FitsChange, empty_node, demands_of_change, HasDemands, LacksRoom};
 ghost use Rattle.objset.specs.Objects.{Object, AreObjects};
+ghost use Rattle.objset.specs.Refused.{IsChangeRefused};
 
 use crate::changes::{Change, Changing, ObjectChange, SetCopies};
 use block_pointer::{Block, BlockPtr};
@@ -65,6 +70,15 @@ pub fn change<D: Disk + Drop>(
         → LossIsTolerable store.old store.new missing.now → IsForRoom refusal
         ⊎ ((refusal ≡ Refusal.BadPointer)
         × Any (λ change. ¬ MayChange change.change (objects change.number)) changes.now)) }
+
+    // Whatever the set is: what places are taken for, and on a refusal its cause.
+    ensures places { OnOk result ((demands : List Demand)
+        × HasDemands store.old.spaces set.now birth copies changes.now demands
+        × HavePlaces store.old.spaces demands store.new.spaces) }
+    ensures refused { IfErr result (λ refusal. (refusal ≡ Refusal.NoMemory)
+        ⊎ (((refusal ≡ Refusal.NoSpace)
+        × LacksRoom store.old store.new set.now birth copies changes.now)
+        ⊎ IsChangeRefused store.old store.new missing.now set.now birth changes.now refusal)) }
 {
     let changing = Changing {
         birth,
@@ -117,6 +131,15 @@ impl<'a> Changing<'a> {
             → HasNoRoom store.old store.new self.entry.missing.now self.entry.copies) }
         ensures known { IfErr result
             (IsEachRefused self.entry store.old store.new set.now changes.now) }
+        ensures same { IfOk result (λ writes. numbers_of writes.items
+            ≡ map (λ change. change.number) changes.now) }
+        ensures places { OnOk result (HavePlacesFor self.entry store.old store.new set.now
+            changes.now) }
+        ensures refused { IfErr result (λ refusal. (refusal ≡ Refusal.NoMemory)
+            ⊎ (((refusal ≡ Refusal.NoSpace)
+            × LacksRoomForFirst self.entry store.old store.new set.now changes.now)
+            ⊎ IsChangeRefused store.old store.new self.entry.missing.now set.now self.entry.birth
+            changes.now refusal)) }
     {
         let mut writes = Vec::new(alloc);
         for change in changes {
@@ -147,6 +170,13 @@ impl<'a> Changing<'a> {
             → HasNoRoom store.old store.new self.entry.missing.now self.entry.copies) }
         ensures known { IfErr result
             (IsOneRefused self.entry store.old store.new set.now change.now) }
+        ensures places { OnOk result (HavePlacesFor self.entry store.old store.new set.now
+            (change.now ∷ [])) }
+        ensures refused { IfErr result (λ refusal. (refusal ≡ Refusal.NoMemory)
+            ⊎ (((refusal ≡ Refusal.NoSpace)
+            × LackPlacesFor self.entry store.old store.new set.now (change.now ∷ []))
+            ⊎ IsChangeRefused store.old store.new self.entry.missing.now set.now self.entry.birth
+            (change.now ∷ []) refusal)) }
     {
         let number = change.number;
         let dnode = dnode_slots::get(set, store, alloc, number, self.birth, self.missing)?;
@@ -174,6 +204,11 @@ impl<'a> Changing<'a> {
             → HasNoRoom store.old store.new self.entry.missing.now self.entry.copies) }
         ensures known { IfErr result
             (IsNodeRefused self.entry store.old store.new dnode change.now) }
+        ensures made { OnOk result (FitsChange change.now dnode) }
+        ensures places { OnOk result (HavePlaces store.old.spaces
+            (demands_of_change self.entry.copies change.now dnode) store.new.spaces) }
+        ensures refused { IfErr result
+            (IsDnodeRefused self.entry store.old store.new dnode change.now) }
     {
         match change {
             Change::Create {
@@ -240,6 +275,11 @@ impl<'a> Changing<'a> {
         ensures no_room { IfErr result (λ refusal. refusal ≡ Refusal.NoSpace
             → HasNoRoom store.old store.new self.entry.missing.now self.entry.copies) }
         ensures known { IfErr result (LacksRoomForObject self.entry store.old store.new node.now) }
+        ensures places { OnOk result (HavePlaces store.old.spaces
+            (demands_of (empty_node node.now.object_type node.now.data_sectors)
+            (object_copies self.entry.copies) writes.now) store.new.spaces) }
+        ensures refused { IfErr result
+            (IsReplaceRefused self.entry store.old store.new node.now writes.now) }
     {
         free_object(node, store, alloc, self.birth, self.missing, replaced)?;
         let empty = ObjectNode {
@@ -271,6 +311,10 @@ impl<'a> Changing<'a> {
         ensures no_room { IfErr result (λ refusal. refusal ≡ Refusal.NoSpace
             → HasNoRoom store.old store.new self.entry.missing.now self.entry.copies) }
         ensures known { IfErr result (LacksRoomForObject self.entry store.old store.new node.now) }
+        ensures places { OnOk result (HavePlaces store.old.spaces
+            (demands_of node.now (object_copies self.entry.copies) writes.now) store.new.spaces) }
+        ensures refused { IfErr result
+            (IsWritingRefused self.entry store.old store.new node.now writes.now) }
     {
         let done = dnode_tree::put_many(
             node,
@@ -313,6 +357,7 @@ fn free_object<D: Disk + Drop>(
     replaced: &mut Vec<Block>,
 ) -> Result<Dnode, Refusal>
     requires { node.now.highest < 128 ^ 5 }
+    ensures reads { OnlyReadsBlocks store.old store.new missing.now }
     ensures steps { OnlyReadsAndPlans store.old store.new missing.now }
     ensures free { IfOk result (λ after. after ≡ Dnode.Free) }
     ensures noted { IfOk result (λ _. (stored planned : Contents) (bound : ℕ)
@@ -326,6 +371,9 @@ fn free_object<D: Disk + Drop>(
         → IsTree stored bound node.now array blocks → bound ≤ birth
         → AnswersAreTrue store.old store.new
         → LossIsTolerable store.old store.new missing.now → refusal ≡ Refusal.NoMemory) }
+    ensures refused { IfErr result (λ refusal. (refusal ≡ Refusal.NoMemory)
+        ⊎ IsWalkRefused store.old store.new missing.now
+        (property_of node.now) (root_of node.now birth) refusal) }
 {
     let blocks = dnode_tree::walk(node, store, alloc, birth, missing)?;
     replaced.extend_from_slice(&blocks)?;

@@ -1,7 +1,7 @@
 use Rattle.std.proofs.Common.{List, inl, refl, subst}
 use Rattle.block_pointer.specs.declared.block.Block.{Block}
 use Rattle.dnode_slots.specs.declared.writes.NodeWrite.{NodeWrite}
-use Rattle.dnode_slots.specs.Writes.{AreNodesRewritten, IsGrownSet, written_nodes}
+use Rattle.dnode_slots.specs.Writes.{AreNodesRewritten, IsGrownSet, numbers_of, written_nodes}
 use Rattle.dnode_tree.proofs.Refusing.{passed_on}
 use Rattle.block_store.proofs.Steps.{steps_on}
 use Rattle.dnode_tree.proofs.Steps.{true_sooner, true_later, few_later}
@@ -11,6 +11,9 @@ use Rattle.objset.proofs.Room.{no_room_for_dnodes, no_room_sooner}
 use Rattle.objset.proofs.Underway.{set_changed, set_grown}
 use Rattle.objset.specs.Changes.{object_copies}
 use Rattle.objset.specs.Changing.{AreObjectsChanged}
+use Rattle.std.proofs.Common.{ap, ◌∙◌}
+use Rattle.objset.specs.declared.changes.Changing.{Changing}
+use Rattle.objset.proofs.Placing.{objects_refused, places_with_dnodes, dnodes_refused}
 use Rattle.objset.proofs.changing.change.Goals as goal
 
 pub returns-in_err-rewrite-clause-steps : goal.returns-in_err-rewrite-clause-steps
@@ -57,3 +60,21 @@ returns-clause-changed g c = λ stored planned bound objects own before plans ar
           (subst (λ (ws : List NodeWrite). AreNodesRewritten c.of_dnodes.result there.1 next.0 c.args.birth c.in_ok-rewrite.rewrite (written_nodes ws are.nodes) own) c.deref.ensures.value next.2))
           refl (appended c.change_each.new.replaced.items _ _ _ c.in_ok-extend_from_slice.ensures.items c.deref-2.ensures.value),
     )
+
+pub returns-in_err-writes-clause-refused : goal.returns-in_err-writes-clause-refused
+returns-in_err-writes-clause-refused g c =
+    let this : Changing = record { birth = c.args.birth; copies = c.args.copies; missing = c.args.missing } in
+    passed_on _ _ _ c.from_residual.ensures.1 (objects_refused this c.args.store.now c.change_each.new.store c.args.set.now c.args.changes.now _ c.in_err-writes.ensures.refused)
+
+pub returns-in_err-rewrite-clause-refused : goal.returns-in_err-rewrite-clause-refused
+returns-in_err-rewrite-clause-refused g c =
+    let this : Changing = record { birth = c.args.birth; copies = c.args.copies; missing = c.args.missing } in
+    passed_on _ _ _ c.from_residual-in_err-rewrite.ensures.1
+    (dnodes_refused this c.args.store.now c.change_each.new.store c.put_many.new.store c.args.set.now c.args.changes.now (numbers_of c.deref.result.now) c.of_dnodes.result
+    (ap numbers_of c.deref.ensures.value ∙ c.in_ok-writes.ensures.same) c.of_dnodes.ensures c.in_ok-writes.ensures.places _ c.in_ok-writes.ensures.steps c.in_err-rewrite.ensures.refused)
+
+pub returns-clause-places : goal.returns-clause-places
+returns-clause-places g c =
+    let this : Changing = record { birth = c.args.birth; copies = c.args.copies; missing = c.args.missing } in
+    places_with_dnodes this c.args.store.now c.change_each.new.store c.put_many.new.store c.args.set.now c.args.changes.now (numbers_of c.deref.result.now) c.of_dnodes.result
+    (ap numbers_of c.deref.ensures.value ∙ c.in_ok-writes.ensures.same) c.of_dnodes.ensures c.in_ok-writes.ensures.places c.in_ok-rewrite.ensures.places

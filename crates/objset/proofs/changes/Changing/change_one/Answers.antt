@@ -5,6 +5,12 @@ use Rattle.dnode_tree.proofs.Steps.{true_sooner, true_later, few_later}
 use Rattle.objset.proofs.Kept.{nodes_later}
 use Rattle.objset.proofs.Room.{no_room_sooner}
 use Rattle.objset.specs.Objects.{IsObject}
+use Rattle.std.proofs.Common.{List, inr, ap}
+use Rattle.block_store.specs.Demands.{Demand, HavePlaces}
+use Rattle.block_store.specs.Store.{Store}
+use Rattle.objset.specs.Demands.{demands_of_change}
+use Rattle.objset.proofs.Demands.{demands_of_one}
+use Rattle.objset.proofs.Refused.{node_refused, one_change_refused}
 use Rattle.objset.proofs.changes.Changing.change_one.Goals as goal
 
 pub returns-in_err-dnode-clause-known : goal.returns-in_err-dnode-clause-known
@@ -47,3 +53,23 @@ returns-clause-changed g c =
 
 pub returns-in_err-dnode-clause-steps : goal.returns-in_err-dnode-clause-steps
 returns-in_err-dnode-clause-steps g c = steps_read _ _ _ c.in_err-dnode.ensures.reads
+
+pub returns-in_err-dnode-clause-refused : goal.returns-in_err-dnode-clause-refused
+returns-in_err-dnode-clause-refused g c =
+    passed_on _ _ _ c.from_residual.ensures.1
+    (inr (inr (node_refused c.args.store.now c.get.new.store c.args.self.missing.now c.args.set.now c.args.self.birth c.args.change.now _ c.in_err-dnode.ensures.refused)))
+
+pub returns-in_err-node-clause-refused : goal.returns-in_err-node-clause-refused
+returns-in_err-node-clause-refused g c =
+    passed_on _ _ _ c.from_residual-in_err-node.ensures.1
+    (one_change_refused c.args.self c.args.store.now c.get.new.store c.change_dnode.new.store c.args.set.now c.args.change.now c.in_ok-dnode.dnode _ (steps_read _ _ _ c.in_ok-dnode.ensures.reads)
+    (ap (λ (s : Store). s.spaces) c.in_ok-dnode.ensures.reads.rest) c.in_ok-dnode.ensures.found c.in_err-node.ensures.refused)
+
+pub returns-clause-places : goal.returns-clause-places
+returns-clause-places g c =
+    let same = ap (λ (s : Store). s.spaces) c.in_ok-dnode.ensures.reads.rest in
+    let demands : List Demand = demands_of_change c.args.self.copies c.args.change.now.change c.in_ok-dnode.dnode in (
+      demands,
+      demands_of_one c.args.store.now.spaces c.args.set.now c.args.self.birth c.args.self.copies c.args.change.now c.in_ok-dnode.dnode c.in_ok-dnode.ensures.found c.in_ok-node.ensures.made,
+      subst (λ spaces. HavePlaces spaces demands c.change_dnode.new.store.spaces) same c.in_ok-node.ensures.places,
+    )

@@ -8,6 +8,13 @@ use Rattle.objset.proofs.Room.{no_room_sooner}
 use Rattle.objset.proofs.Trees.{tree_replaced}
 use Rattle.objset.specs.Changes.{object_copies}
 use Rattle.std.proofs.Common.{inl}
+use Rattle.std.proofs.Common.{List, ⊎_elim, inr, ap, subst}
+use Rattle.std.proofs.lemmas.Result.{on_ok_weaker}
+use Rattle.block_store.specs.Demands.{Demand, HavePlaces}
+use Rattle.dnode_tree.specs.Spots.{demands_of}
+use Rattle.objset.specs.Demands.{empty_node}
+use Rattle.block_store.specs.Store.{Store}
+use Rattle.objset.proofs.Fits.{replace_refused}
 use Rattle.objset.proofs.changes.Changing.replace_object.Goals as goal
 
 pub returns-in_err-free_object-clause-known : goal.returns-in_err-free_object-clause-known
@@ -42,3 +49,20 @@ returns-clause-known g c =
     is stored planned bound (λ id. None) [] mid.0 (empty_trees stored bound _ refl) le (true_later _ _ _ _ c.in_ok-free_object.ensures.steps c.write_object.ensures.steps honest)
     (few_later _ _ _ _ c.in_ok-free_object.ensures.steps c.write_object.ensures.steps few))
     c.write_object.ensures.known
+
+pub returns-in_err-free_object-clause-refused : goal.returns-in_err-free_object-clause-refused
+returns-in_err-free_object-clause-refused g c =
+    passed_on _ _ _ c.from_residual.ensures.1 (⊎_elim (λ memory. inl memory) (λ walk. inr (inr walk)) c.in_err-free_object.ensures.refused)
+
+pub returns-clause-places : goal.returns-clause-places
+returns-clause-places g c =
+    let same = ap (λ (s : Store). s.spaces) c.in_ok-free_object.ensures.reads.rest in
+    let demands : List Demand = demands_of (empty_node c.args.node.now.object_type c.args.node.now.data_sectors) (object_copies c.args.self.copies) c.args.writes.now in
+    on_ok_weaker c.write_object.result (λ have. subst (λ spaces. HavePlaces spaces demands c.write_object.new.store.spaces) same have) c.write_object.ensures.places
+
+pub returns-clause-refused : goal.returns-clause-refused
+returns-clause-refused g c =
+    let same = ap (λ (s : Store). s.spaces) c.in_ok-free_object.ensures.reads.rest in
+    IfErr-weaker c.write_object.result _ _
+    (λ refusal. replace_refused c.args.self c.args.store.now c.free_object.new.store c.write_object.new.store c.args.node.now c.args.writes.now refusal same)
+    c.write_object.ensures.refused
