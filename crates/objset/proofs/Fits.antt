@@ -5,7 +5,7 @@ use Rattle.block_store.specs.declared.refusal.Refusal.TheVariants.{NoMemory, NoS
 use Rattle.block_store.specs.Demands.{Demand, LackPlaces}
 use Rattle.block_store.specs.Store.{Store}
 use Rattle.dnode.specs.declared.dnode.Dnode.{Dnode}
-use Rattle.dnode.specs.declared.dnode.Dnode.TheVariants.{Free as Unused, Object as Node}
+use Rattle.dnode.specs.declared.dnode.Dnode.TheVariants.{Free as NoObject, Object as Node}
 use Rattle.dnode.specs.declared.node.ObjectNode.{ObjectNode}
 use Rattle.dnode_tree.specs.declared.writes.BlockWrite.{BlockWrite}
 use Rattle.dnode_tree.specs.declared.writes.CopyCounts.{CopyCounts}
@@ -23,17 +23,17 @@ use Rattle.objset.specs.Demands.{FitsChange, empty_node, demands_of_change}
 use Rattle.objset.specs.Refused.{IsTreeRefused}
 use Rattle.objset.proofs.Refused.{no_way_of_empty}
 
-no_object_is_unused : (node : ObjectNode) → Node node ≡ Unused → ⊥
-no_object_is_unused node is = cc
+an_object_is_there : (node : ObjectNode) → Node node ≡ NoObject → ⊥
+an_object_is_there node is = cc
 
 -- ---- an object is created
 
 module _ (change : Change) (dnode : Dnode) (object_type sectors : ℕ) (writes : Vec BlockWrite Global) (is : change ≡ changes.Create object_type sectors writes) where
-  pub create_fits : dnode ≡ Unused → FitsChange change dnode
+  pub create_fits : dnode ≡ NoObject → FitsChange change dnode
   create_fits free = subst (λ it. FitsChange it dnode) (sym is) free
 
   pub create_misfits : (node : ObjectNode) → dnode ≡ Node node → ¬ FitsChange change dnode
-  create_misfits node there fits = no_object_is_unused node (sym there ∙ subst (λ it. FitsChange it dnode) is fits)
+  create_misfits node there fits = an_object_is_there node (sym there ∙ subst (λ it. FitsChange it dnode) is fits)
 
   pub create_asks : (copies : SetCopies) (list : List BlockWrite) → list ≡ writes.items
       → demands_of (empty_node object_type sectors) (object_copies copies) list ≡ demands_of_change copies change dnode
@@ -43,7 +43,7 @@ module _ (change : Change) (dnode : Dnode) (object_type sectors : ℕ) (writes :
 -- ---- an object is written
 
 module _ (change : Change) (dnode : Dnode) (writes : Vec BlockWrite Global) (is : change ≡ changes.Put writes) where
-  pub put_misfits : dnode ≡ Unused → ¬ FitsChange change dnode
+  pub put_misfits : dnode ≡ NoObject → ¬ FitsChange change dnode
   put_misfits free fits = subst (λ there. FitsChange (changes.Put writes) there) free (subst (λ it. FitsChange it dnode) is fits)
 
   module _ (node : ObjectNode) (there : dnode ≡ Node node) where
@@ -68,12 +68,12 @@ module _ (change : Change) (dnode : Dnode) (writes : Vec BlockWrite Global) (is 
 -- ---- an object goes
 
 module _ (change : Change) (dnode : Dnode) (is : change ≡ changes.Free) where
-  pub free_misfits : dnode ≡ Unused → ¬ FitsChange change dnode
+  pub free_misfits : dnode ≡ NoObject → ¬ FitsChange change dnode
   free_misfits free fits = subst (λ it. FitsChange it dnode) is fits free
 
   module _ (node : ObjectNode) (there : dnode ≡ Node node) where
     pub free_fits : FitsChange change dnode
-    free_fits = subst (λ it. FitsChange it dnode) (sym is) (λ free. no_object_is_unused node (sym there ∙ free))
+    free_fits = subst (λ it. FitsChange it dnode) (sym is) (λ free. an_object_is_there node (sym there ∙ free))
 
     pub free_asks : (copies : SetCopies) → [] ≡ demands_of_change copies change dnode
     free_asks copies = ap (λ d. demands_of_change copies changes.Free d) (sym there) ∙ ap (λ it. demands_of_change copies it dnode) (sym is)
@@ -87,7 +87,7 @@ module _ (change : Change) (dnode : Dnode) (is : change ≡ changes.Free) where
 -- ---- an object is written anew
 
 module _ (change : Change) (dnode : Dnode) (writes : Vec BlockWrite Global) (is : change ≡ changes.Replace writes) where
-  pub replace_misfits : dnode ≡ Unused → ¬ FitsChange change dnode
+  pub replace_misfits : dnode ≡ NoObject → ¬ FitsChange change dnode
   replace_misfits free fits = subst (λ there. FitsChange (changes.Replace writes) there) free (subst (λ it. FitsChange it dnode) is fits)
 
   module _ (node : ObjectNode) (there : dnode ≡ Node node) where

@@ -5,7 +5,7 @@ use Rattle.block_store.specs.declared.space.VdevSpace.{VdevSpace}
 use Rattle.block_store.specs.Demands.{Demand, LackPlaces}
 use Rattle.block_store.specs.Store.{Store}
 use Rattle.dnode.specs.declared.dnode.Dnode.{Dnode}
-use Rattle.dnode.specs.declared.dnode.Dnode.TheVariants.{Free as Unused, Object as Node}
+use Rattle.dnode.specs.declared.dnode.Dnode.TheVariants.{Free as NoObject, Object as Node}
 use Rattle.dnode.specs.declared.node.ObjectNode.{ObjectNode}
 use Rattle.dnode.specs.declared.object_set.ObjectSet.{ObjectSet}
 use Rattle.dnode_slots.specs.Found.{IsNodeFound}
@@ -21,10 +21,10 @@ use Rattle.objset.specs.Shapes.{shape_of_dnode}
 -- The change may be made of what the dnode is in use for: an object is created where there is none,
 -- and written (whole blocks), freed or replaced (by whole blocks) where there is one.
 abbrev pub FitsChange : Change → Dnode → Type 0
-FitsChange (Create object_type sectors writes) dnode = dnode ≡ Unused
+FitsChange (Create object_type sectors writes) dnode = dnode ≡ NoObject
 FitsChange (Put writes) dnode =
     IsSomeAnd (shape_of_dnode dnode) (λ shape. AreWhole shape.data_sectors writes.items)
-FitsChange Free dnode = dnode ≢ Unused
+FitsChange Free dnode = dnode ≢ NoObject
 FitsChange (Replace writes) dnode =
     IsSomeAnd (shape_of_dnode dnode) (λ shape. AreWhole shape.data_sectors writes.items)
 
