@@ -13,13 +13,15 @@ use Rattle.dnode_tree.specs.declared.writes.BlockWrite.{BlockWrite}
 use Rattle.dnode_tree.specs.declared.writes.CopyCounts.{CopyCounts}
 use Rattle.dnode_tree.specs.declared.writes.Rewrite.{Rewrite}
 use Rattle.dnode_tree.specs.Rewriting.{IsExchanged, IsGrown, IsRewritten}
+use Rattle.dnode_tree.specs.Births.{HasBirths, births_after, height_of}
 use Rattle.dnode_tree.specs.Tree.{IsTree}
 use Rattle.dnode_tree.specs.Writes.{written}
 use Rattle.dnode_slots.specs.declared.writes.NodeWrite.{NodeWrite}
 use Rattle.dnode_slots.specs.declared.writes.SetRewrite.{SetRewrite}
 use Rattle.dnode_slots.specs.Nodes.{AreNodesOf, HasNodes}
-use Rattle.dnode_slots.specs.Writes.{AreNodeWrites, FitsWrite, AreNodesRewritten, written_nodes}
+use Rattle.dnode_slots.specs.Writes.{AreNodeWrites, FitsWrite, AreNodesRewritten, written_nodes, births_written}
 use Rattle.dnode_slots.proofs.NodeLists.{nodes_others}
+use Rattle.dnode_slots.proofs.NodeBirths.{blocks_born}
 
 -- the object of the dnodes has a place for each of them
 pub set_fits : (old : ObjectSet) (new : ObjectSet) (writes : List NodeWrite) (changed : List BlockWrite) → FitsObjectSet old → FitsNode new.dnodes → IsGrown old.dnodes new.dnodes changed
@@ -44,14 +46,18 @@ pub nodes_rewritten : {copies : CopyCounts} (old : ObjectSet) (stored planned la
     (rewrite : Rewrite) (done : SetRewrite) → AreNodeWrites writes → (has : HasNodes stored bound old nodes blocks) → done.set.dnodes ≡ rewrite.node → done.replaced.items ≡ rewrite.replaced.items
     → old.objects ≤ done.set.objects → All (λ write. write.number < done.set.objects) writes
     → IsRewritten copies planned later birth rewrite (written changed has.array) blocks
+    → HasBirths later rewrite.node (births_after (height_of old.dnodes) changed birth has.births)
+    → All (λ block. Any (λ write. write.number / 32 ≡ block.id) writes) changed → All (λ write. Any (λ block. block.id ≡ write.number / 32) changed) writes
     → AreNodesOf (written changed has.array) (written_nodes writes nodes)
-    → AreNodesRewritten copies planned later birth done (written_nodes writes nodes) blocks
-nodes_rewritten {copies = copies} old stored planned later bound birth nodes blocks writes changed rewrite done good has node_is replaced_is from room rewritten are = record {
+    → AreNodesRewritten copies planned later birth done (written_nodes writes nodes) (births_written writes birth (has.births 0)) blocks
+nodes_rewritten {copies = copies} old stored planned later bound birth nodes blocks writes changed rewrite done good has node_is replaced_is from room rewritten born only reached are = record {
   kept = rewritten.kept;
   blocks = rewritten.blocks;
   dnodes = record {
     array = written changed has.array;
     tree = subst (λ (node : ObjectNode). IsTree later birth node (written changed has.array) rewritten.blocks) (sym node_is) rewritten.tree;
+    births = births_after (height_of old.dnodes) changed birth has.births;
+    born = subst (λ (node : ObjectNode). HasBirths later node (births_after (height_of old.dnodes) changed birth has.births)) (sym node_is) born;
     each = are;
     first =
         nodes_others writes nodes 0 (All-weaker FitsWrite (λ (w : NodeWrite). w.number ≢ 0) (λ w fits is. omega (arith, fits.some, is)) writes good.each)
@@ -61,6 +67,7 @@ nodes_rewritten {copies = copies} old stored planned later bound birth nodes blo
         (All-weaker (λ (w : NodeWrite). w.number < done.set.objects) (λ (w : NodeWrite). w.number ≢ number) (λ w low is. omega (arith, low, is, past)) writes room)
         ∙ has.behind number (omega (arith, from, past));
   };
+  births_are = blocks_born (height_of old.dnodes) changed writes birth has.births only reached;
   exchanged = subst (λ (gone : List Block). IsExchanged copies birth planned later blocks rewritten.blocks gone) (sym replaced_is) rewritten.exchanged;
 }
 

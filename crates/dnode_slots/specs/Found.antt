@@ -7,7 +7,9 @@ use Rattle.block_store.specs.Store.{Store}
 use Rattle.dnode.specs.declared.dnode.Dnode.{Dnode}
 use Rattle.dnode.specs.declared.dnode.Dnode.TheVariants.{Free}
 use Rattle.dnode.specs.declared.object_set.ObjectSet.{ObjectSet}
-use Rattle.dnode_tree.specs.Ways.{IsFound, IsRefused}
+use Rattle.dnode_tree.specs.Ways.{bytes_in, IsFound, IsBlockFound, IsRefused}
+use Rattle.dnode_tree.specs.declared.reading.DataBlock.{DataBlock}
+use Rattle.dnode_slots.specs.declared.reading.FoundDnode.{FoundDnode}
 use Rattle.dnode_slots.specs.Nodes.{IsNodeIn, HasZeros}
 
 -- a block of dnodes, or a hole, has zeros where there is no object
@@ -15,16 +17,27 @@ abbrev pub HasZerosIn : ℕ → ℕ → Option (List ℕ) → Type 0
 HasZerosIn objects id None = Unit {0}
 HasZerosIn objects id (Some bytes) = HasZeros objects id bytes
 
--- the dnode stands at its place in its block, as that was read
-pub record IsNodeRead (spaces : List VdevSpace) (set : ObjectSet) (birth number : ℕ) (node : Dnode) : Type 0 where
-  pub block : Option (List ℕ)
-  pub found : IsFound spaces set.dnodes birth (number / 32) block
-  pub zeros : HasZerosIn set.objects (number / 32) block
-  pub is_in : IsNodeIn block (number % 32) node
+-- a dnode with the birth of its block
+abbrev pub found_dnode : Dnode → ℕ → FoundDnode
+found_dnode dnode birth = record { dnode = dnode; birth = birth }
+
+-- the birth of a block; where there is none, the one that it would be asked
+abbrev pub birth_or : ℕ → Option DataBlock → ℕ
+birth_or birth None = birth
+birth_or birth (Some block) = block.birth
+
+-- the dnode stands at its place in its block, as that was read, and the birth is the block's
+pub record IsNodeRead (spaces : List VdevSpace) (set : ObjectSet) (birth number : ℕ) (found : FoundDnode) : Type 0 where
+  pub block : Option DataBlock
+  pub block_found : IsBlockFound spaces set.dnodes birth (number / 32) block
+  pub zeros : HasZerosIn set.objects (number / 32) (bytes_in block)
+  pub is_in : IsNodeIn (bytes_in block) (number % 32) found.dnode
+  pub born : found.birth ≡ birth_or birth block
 
 -- what was found of a dnode: a free one behind the last, where nothing is read
-abbrev pub IsNodeFound : List VdevSpace → ObjectSet → ℕ → ℕ → Dnode → Type 0
-IsNodeFound spaces set birth number node = ((set.objects ≤ number) × (node ≡ Free)) ⊎ ((number < set.objects) × IsNodeRead spaces set birth number node)
+abbrev pub IsNodeFound : List VdevSpace → ObjectSet → ℕ → ℕ → FoundDnode → Type 0
+IsNodeFound spaces set birth number found =
+    ((set.objects ≤ number) × (found ≡ found_dnode Free birth)) ⊎ ((number < set.objects) × IsNodeRead spaces set birth number found)
 
 -- its block was read, and spells no dnode at its place, or has something else than zeros where there is no object
 pub record IsBadBlock (spaces : List VdevSpace) (set : ObjectSet) (birth number : ℕ) : Type 0 where

@@ -6,6 +6,7 @@ use Rattle.dnode.specs.declared.dnode.Dnode.TheVariants.{Free}
 use Rattle.dnode.specs.declared.object_set.ObjectSet.{ObjectSet}
 use Rattle.dnode.specs.Dnode.{SpellsDnode}
 use Rattle.block_store.specs.Blocks.{Contents}
+use Rattle.dnode_tree.specs.Births.{HasBirths}
 use Rattle.dnode_tree.specs.Tree.{IsTree}
 
 -- the bytes of a dnode of a block
@@ -29,10 +30,16 @@ IsUnused objects number = (number ≡ 0) ⊎ (objects ≤ number)
 abbrev pub HasZeros : ℕ → ℕ → List ℕ → Type 0
 HasZeros objects id bytes = (place : ℕ) → place < 32 → IsUnused objects (32 * id + place) → slot_of bytes place ≡ replicate 512 0
 
--- The set's dnodes by number, and the blocks that they stand in. Number 0 is free, and so is what is behind the last one.
+-- the birth of the block that has the dnode of that number, by those of the blocks of the dnodes
+abbrev pub birth_of : (ℕ → ℕ → ℕ) → ℕ → ℕ
+birth_of births number = births 0 (number / 32)
+
+-- The set's dnodes by number, and the blocks that they stand in, with their births. Number 0 is free, and so is what is behind the last one.
 pub record HasNodes (stored : Contents) (birth : ℕ) (set : ObjectSet) (nodes : ℕ → Dnode) (blocks : List Block) : Type 0 where
   pub array : ℕ → Option (List ℕ)
   pub tree : IsTree stored birth set.dnodes array blocks
+  pub births : ℕ → ℕ → ℕ
+  pub born : HasBirths stored set.dnodes births
   pub each : AreNodesOf array nodes
   pub first : nodes 0 ≡ Free
   pub behind : (number : ℕ) → set.objects ≤ number → nodes number ≡ Free

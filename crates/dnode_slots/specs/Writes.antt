@@ -21,6 +21,11 @@ abbrev pub written_nodes : List NodeWrite → (ℕ → Dnode) → ℕ → Dnode
 written_nodes [] nodes number = nodes number
 written_nodes (write ∷ writes) nodes number = if write.number == number then write.node else written_nodes writes nodes number
 
+-- the births of the blocks of dnodes after writes in a group: a block with a written dnode is new
+abbrev pub births_written : List NodeWrite → ℕ → (ℕ → ℕ) → ℕ → ℕ
+births_written [] birth births id = births id
+births_written (write ∷ writes) birth births id = if write.number / 32 == id then birth else births_written writes birth births id
+
 -- a dnode that may be written, with its number
 pub record FitsWrite (write : NodeWrite) : Type 0 where
   pub some : 0 < write.number
@@ -41,11 +46,13 @@ pub record IsGrownSet (old new : ObjectSet) (writes : List NodeWrite) : Type 0 w
   pub highest_from : old.dnodes.highest ≤ new.dnodes.highest
   pub highest_least : (highest : ℕ) → old.dnodes.highest ≤ highest → All (λ write. write.number / 32 ≤ highest) writes → new.dnodes.highest ≤ highest
 
--- The dnodes of the set are these now. Of the blocks that they stood in some stayed, those that are replaced gave way, and all others are new.
-pub record AreNodesRewritten (copies : CopyCounts) (planned later : Contents) (birth : ℕ) (done : SetRewrite) (nodes : ℕ → Dnode) (before : List Block) : Type 0 where
+-- The dnodes of the set are these now, and their blocks have these births. Of the blocks that they stood in some stayed, those that are
+-- replaced gave way, and all others are new.
+pub record AreNodesRewritten (copies : CopyCounts) (planned later : Contents) (birth : ℕ) (done : SetRewrite) (nodes : ℕ → Dnode) (births : ℕ → ℕ) (before : List Block) : Type 0 where
   pub kept : Extends planned later
   pub blocks : List Block
   pub dnodes : HasNodes later birth done.set nodes blocks
+  pub births_are : (id : ℕ) → dnodes.births 0 id ≡ births id
   pub exchanged : IsExchanged copies birth planned later before blocks done.replaced.items
 
 -- ---- places

@@ -11,6 +11,6 @@ mod writes;
 
 pub use block_store::Refusal;
 pub use putting::put_many;
-pub use reading::get;
+pub use reading::{FoundDnode, get};
 pub use set_blocks::{plan_set, read_set};
 pub use writes::{NodeWrite, SetRewrite};

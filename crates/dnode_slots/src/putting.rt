@@ -9,7 +9,8 @@ ghost use Rattle.block_store.specs.Steps.{OnlyReadsAndPlans, AnswersAreTrue, Los
 ghost use Rattle.dnode_tree.specs.Writes.{HasNoRoom, IsForRoom};
 ghost use Rattle.dnode_slots.specs.Nodes.{HasNodes};
 ghost use Rattle.dnode_slots.specs.Refused.{IsNodeWriteRefused};
-ghost use Rattle.dnode_slots.specs.Writes.{AreNodeWrites, AreNodesRewritten, IsGrownSet, written_nodes, HaveNodePlaces, LackNodePlaces, numbers_of};
+ghost use Rattle.dnode_slots.specs.Writes.{AreNodeWrites, AreNodesRewritten, IsGrownSet, written_nodes, births_written};
+ghost use Rattle.dnode_slots.specs.Writes.{HaveNodePlaces, LackNodePlaces, numbers_of};
 
 use crate::changing::block_writes;
 use crate::writes::{NodeWrite, SetRewrite};
@@ -42,11 +43,11 @@ pub fn put_many<D: Disk + Drop>(
     ensures grown { IfOk result (λ done. IsGrownSet set.now done.set writes.now) }
     ensures rewritten { IfOk result (λ done. (stored planned : Contents) (bound : ℕ)
         (nodes : ℕ → Dnode) (blocks : List Block) → Plans store.old stored planned
-        → HasNodes stored bound set.now nodes blocks → bound ≤ birth
+        → (has : HasNodes stored bound set.now nodes blocks) → bound ≤ birth
         → AnswersAreTrue store.old store.new
         → (later : Contents) × Plans store.new stored later
-        × AreNodesRewritten copies planned later birth done
-        (written_nodes writes.now nodes) blocks) }
+        × AreNodesRewritten copies planned later birth done (written_nodes writes.now nodes)
+        (births_written writes.now birth (has.births 0)) blocks) }
     ensures no_room { IfErr result (λ refusal. refusal ≡ Refusal.NoSpace
         → HasNoRoom store.old store.new missing.now set.now.dnodes copies) }
     ensures known { IfErr result (λ refusal. (stored planned : Contents) (bound : ℕ)

@@ -3,6 +3,7 @@ use Rattle.dnode.specs.declared.object_set.ObjectSet.{ObjectSet}
 use Rattle.dnode_tree.specs.declared.writes.BlockWrite.{BlockWrite}
 use Rattle.block_store.specs.Steps.{OnlyReadsAndPlans}
 use Rattle.dnode_tree.specs.Rewriting.{IsGrown, IsRewritten}
+use Rattle.dnode_tree.specs.Births.{HasBirths, births_after, height_of}
 use Rattle.dnode_tree.specs.Writes.{written}
 use Rattle.dnode_tree.proofs.Refusing.{passed_on}
 use Rattle.block_store.proofs.Steps.{steps_read, steps_on}
@@ -67,7 +68,7 @@ returns-clause-rewritten g c = λ stored planned bound nodes blocks plans has le
     let first : OnlyReadsAndPlans c.args.store.now c.block_writes.new.store c.args.missing.now = steps_read _ _ _ c.in_ok-changed.ensures.reads in
     let before = true_sooner _ _ _ _ first c.in_ok-done.ensures.steps honest in
     let after = true_later _ _ _ _ first c.in_ok-done.ensures.steps honest in
-    let rewritten = c.in_ok-done.ensures.rewritten stored planned bound has.array blocks (c.in_ok-changed.ensures.reads.plans stored planned plans) has.tree le after in
+    let rewritten = c.in_ok-done.ensures.ways stored planned bound has.array blocks has.births (c.in_ok-changed.ensures.reads.plans stored planned plans) has.tree has.born le after in
     let done : SetRewrite = record {
       set = record { dnodes = c.in_ok-done.done.node; kind = c.args.set.now.kind; objects = c.objects_after.result };
       replaced = c.in_ok-done.done.replaced;
@@ -77,6 +78,8 @@ returns-clause-rewritten g c = λ stored planned bound nodes blocks plans has le
       nodes_rewritten c.args.set.now stored planned rewritten.0 bound c.args.birth nodes blocks c.args.writes.now c.in_ok-changed.changed.items c.in_ok-done.done done
           c.requires.writes has refl refl c.objects_after.ensures.from c.objects_after.ensures.room
           (subst (λ (changed : List BlockWrite). IsRewritten c.args.copies planned rewritten.0 c.args.birth c.in_ok-done.done (written changed has.array) blocks) c.deref.ensures.value rewritten.2)
+          (subst (λ (changed : List BlockWrite). HasBirths rewritten.0 c.in_ok-done.done.node (births_after (height_of c.args.set.now.dnodes) changed c.args.birth has.births)) c.deref.ensures.value rewritten.3)
+          c.in_ok-changed.ensures.only c.in_ok-changed.ensures.reached
           (c.in_ok-changed.ensures.value stored has.array nodes blocks plans.held
           (tree_later stored bound c.args.birth c.args.set.now.dnodes has.array blocks le has.tree) has.each before),
     )
