@@ -17,12 +17,18 @@ fn read_again(alloc: Global, bytes: &[u8]) -> Result<(Vec<u8>, usize), Refusal> 
     Ok((out, len))
 }
 
+/// Whether the list of the bytes is read from all of them, and written as them.
+fn is_kept(alloc: Global, bytes: &[u8]) -> Result<bool, Refusal> {
+    let (again, len) = read_again(alloc, bytes)?;
+    Ok(again.as_slice() == bytes && len == bytes.len())
+}
+
 #[test]
 fn lists_are_read_and_written(rt: HostRuntime) -> Result<(), Fail> {
-    for bytes in [ONE_PAIR, EACH_TYPE.as_slice()] {
-        let (again, len) = read_again(rt.alloc(), bytes)?;
-        assert_eq!(rt; (again.as_slice(), len), (bytes, bytes.len()));
-    }
+    let one_pair = is_kept(rt.alloc(), ONE_PAIR)?;
+    let each_type = is_kept(rt.alloc(), EACH_TYPE)?;
+    assert!(rt; one_pair, "the list with one pair");
+    assert!(rt; each_type, "the list with each type");
     Ok(())
 }
 
@@ -112,12 +118,18 @@ fn nested(alloc: Global, depth: usize) -> Result<Vec<u8>, AllocError> {
     Ok(bytes)
 }
 
+/// Why so many lists in one another are refused, if they are.
+fn nested_refusal(alloc: Global, depth: usize) -> Result<Option<Refusal>, AllocError> {
+    let bytes = nested(alloc, depth)?;
+    Ok(refusal(alloc, &bytes))
+}
+
 #[test]
 fn lists_nest_six_deep(rt: HostRuntime) -> Result<(), Fail> {
-    for (depth, wanted) in [(6, None), (7, Some(Refusal::BadLabel))] {
-        let bytes = nested(rt.alloc(), depth)?;
-        assert_eq!(rt; refusal(rt.alloc(), &bytes), wanted);
-    }
+    let six = nested_refusal(rt.alloc(), 6)?;
+    let seven = nested_refusal(rt.alloc(), 7)?;
+    assert_eq!(rt; six, None);
+    assert_eq!(rt; seven, Some(Refusal::BadLabel));
     Ok(())
 }
 

@@ -127,12 +127,24 @@ fn is_spelled(dnode: ObjectNode, bytes: &[u8; 512]) -> bool
     dnode.encode() == *bytes && Dnode::decode(bytes) == Ok(dnode)
 }
 
+fn is_one_block_spelled() -> bool {
+    is_spelled(ONE_BLOCK, &one_block_bytes())
+}
+
+fn are_many_holes_spelled() -> bool {
+    is_spelled(MANY_HOLES, &many_holes_bytes())
+}
+
+/// Whether zeros are those of a free slot, and are read as it.
+fn is_free_spelled() -> bool {
+    Dnode::Free.encode() == [0; 512] && Dnode::decode(&[0; 512]) == Ok(Dnode::Free)
+}
+
 #[test]
 fn a_dnode_is_written_and_read(rt: HostRuntime) {
-    assert!(rt; is_spelled(ONE_BLOCK, &one_block_bytes()));
-    assert!(rt; is_spelled(MANY_HOLES, &many_holes_bytes()));
-    assert!(rt; Dnode::Free.encode() == [0; 512]);
-    assert_eq!(rt; Dnode::decode(&[0; 512]), Ok(Dnode::Free));
+    assert!(rt; is_one_block_spelled());
+    assert!(rt; are_many_holes_spelled());
+    assert!(rt; is_free_spelled());
 }
 
 /// What a byte of the dnode's must not become, and why.
@@ -193,15 +205,21 @@ fn two_pointers_bytes(alloc: Global) -> Result<Vec<u8>, AllocError> {
     two_pointers(alloc, DATA_BLOCK, INDIRECT_BLOCK)?.encode(alloc)
 }
 
+fn is_data_block(bytes: &[u8]) -> bool {
+    bytes == data_block_bytes().as_slice()
+}
+
 /// Whether there are zeros around the two pointers, whether the first is as it should be, and the
 /// fill of the last.
 fn parts_of(block: &[u8]) -> Option<(bool, bool, u8)> {
     if block.len() != 16_384 {
         return None;
     }
-    let holes = is_zero(block.get(..128)?) && is_zero(block.get(256..16_256)?);
-    let first = block.get(128..256)?.starts_with(&data_block_bytes());
-    Some((holes, first, *block.get(16_256 + 88)?))
+    let (front, others) = block.split_at(256);
+    let (before, first) = front.split_at(128);
+    let (between, last) = others.split_at(16_000);
+    let holes = is_zero(before) && is_zero(between);
+    Some((holes, is_data_block(first), last[88]))
 }
 
 #[test]
@@ -234,12 +252,21 @@ fn refusal(alloc: Global, len: usize, place: usize) -> Result<Option<Refusal>, A
     Ok(Indirect::decode(alloc, &bytes).err())
 }
 
+/// Which of these, by why they are none, is not refused as such.
+fn taken_block(alloc: Global) -> Result<Option<&'static str>, AllocError> {
+    let mut taken = None;
+    for &(len, place, why) in &NO_BLOCKS {
+        if refusal(alloc, len, place)? != Some(Refusal::BadPointer) {
+            taken = Some(why);
+        }
+    }
+    Ok(taken)
+}
+
 #[test]
 fn what_is_no_indirect_block_is_refused(rt: HostRuntime) -> Result<(), Fail> {
-    for (len, place, why) in NO_BLOCKS {
-        let refusal = refusal(rt.alloc(), len, place)?;
-        assert_eq!(rt; refusal, Some(Refusal::BadPointer), "{why}");
-    }
+    let taken = taken_block(rt.alloc())?;
+    assert_eq!(rt; taken, None);
     Ok(())
 }
 
