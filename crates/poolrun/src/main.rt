@@ -6,6 +6,7 @@ use clap::Command;
 use model_disk::MemDisk;
 use pool_core::Core;
 use programs::schedule;
+use std::alloc::Global;
 use std::io::{BufReader, BufWriter, ErrorKind};
 use std::process::ExitCode;
 use std::{env, io};
@@ -16,18 +17,35 @@ type Pool = Core<MemDisk>;
 const ABOUT: &str =
     "Runs a schedule from standard input against a storage pool, and prints a reply a line";
 
-fn run(rt: &HostRuntime) -> io::Result<u8> {
-    let alloc = rt.alloc();
+/// Prints what the words ask for in place of a run, and gives the status then.
+fn print_told(rt: &HostRuntime, error: &clap::Error) -> io::Result<u8> {
+    error.print(rt)?;
+    Ok(if error.use_stderr() { 2 } else { 0 })
+}
+
+/// The status where the words are others than none, and so nothing is run.
+fn status_by_words(rt: &HostRuntime, alloc: Global) -> io::Result<Option<u8>> {
     let words: Vec<String> = env::args(rt)?.collect(alloc)?;
     let command = Command::new(alloc, "poolrun").version("1.0").about(ABOUT);
-    if let Err(error) = command.try_get_matches_from(words.as_slice()) {
-        error.print(rt)?;
-        return Ok(if error.use_stderr() { 2 } else { 0 });
+    match command.try_get_matches_from(words.as_slice()) {
+        Ok(_) => Ok(None),
+        Err(error) => Ok(Some(print_told(rt, &error)?)),
     }
+}
+
+/// Runs the schedule, and gives its status.
+fn run_schedule(rt: &HostRuntime, alloc: Global) -> io::Result<u8> {
     let input = BufReader::new(alloc, rt.reader())?;
     let mut output = BufWriter::new(alloc, io::writer(rt))?;
     let status = schedule::<Pool, _, _, _>(alloc, input, &mut output, &mut rt.stderr());
     Ok(status.number())
+}
+
+fn run(rt: &HostRuntime) -> io::Result<u8> {
+    match status_by_words(rt, rt.alloc())? {
+        Some(status) => Ok(status),
+        None => run_schedule(rt, rt.alloc()),
+    }
 }
 
 fn main(rt: HostRuntime) -> ExitCode {
