@@ -10,9 +10,10 @@ use Rattle.dnode_tree.specs.Ways.{IsRefused}
 use Rattle.dnode_slots.specs.declared.writes.NodeWrite.{NodeWrite}
 use Rattle.dnode_slots.specs.Found.{IsNodeRefused}
 
--- A block of dnodes that are written was refused, behind reads and blocks that were planned: it could not be read, or the way to it
--- has a fill count that can't be.
-pub record IsNodeWriteRefused (old new : Store) (missing : List ℕ) (set : ObjectSet) (birth : ℕ) (numbers : List ℕ) (refusal : Refusal) : Type 0 where
+-- A block of dnodes that are written was refused, behind reads and blocks that were planned: it
+-- could not be read, or the way to it has a fill count that can't be.
+pub record IsNodeWriteRefused (old new : Store) (missing : List ℕ) (set : ObjectSet) (birth : ℕ)
+    (numbers : List ℕ) (refusal : Refusal) : Type 0 where
   -- a number in a block that one of these stands in
   pub number : ℕ
   pub is_one : Any (λ other. other / 32 ≡ number / 32) numbers
@@ -21,8 +22,10 @@ pub record IsNodeWriteRefused (old new : Store) (missing : List ℕ) (set : Obje
   pub why : IsNodeRefused mid new missing set birth number refusal
       ⊎ ((refusal ≡ BadPointer) × IsWayOverfull mid.spaces set.dnodes birth (number / 32))
 
--- The block of a dnode that is written was not read, behind other reads. Only the crate's own functions say it.
-pub record IsBlockUnread (old new : Store) (missing : List ℕ) (set : ObjectSet) (birth : ℕ) (writes : List NodeWrite) (refusal : Refusal) : Type 0 where
+-- The block of a dnode that is written was not read, behind other reads. Only the crate's own
+-- functions say it.
+pub record IsBlockUnread (old new : Store) (missing : List ℕ) (set : ObjectSet) (birth : ℕ)
+    (writes : List NodeWrite) (refusal : Refusal) : Type 0 where
   pub write : NodeWrite
   pub is_one : Contains writes write
   pub mid : Store

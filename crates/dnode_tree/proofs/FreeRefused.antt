@@ -1,5 +1,5 @@
 -- Why a walk behind reads was refused.
-use Rattle.std.proofs.Common.{◌≡◌, ℕ, ◌^◌, ◌<◌, List, ap, subst}
+use Rattle.std.proofs.Common.{ℕ, List, ap, subst}
 use Rattle.block_pointer.specs.declared.property.Property.{Property}
 use Rattle.block_store.specs.declared.refusal.Refusal.{Refusal}
 use Rattle.block_store.specs.Steps.{OnlyReadsBlocks}

@@ -1,5 +1,5 @@
 -- Ways to writes that are refused, and fill counts that can't be.
-use Rattle.std.proofs.Common.{◌≡◌, ◌≢◌, ◌⊎◌, inl, inr, ℕ, zero, suc, ◌+◌, ◌-◌, ◌*◌, ◌/◌, ◌%◌, ◌^◌, ◌<◌, ◌≤◌, List, [], ◌∷◌, ◌++◌, length, take, drop, get_or, set, Contains, refl, sym, ap, ◌∙◌, subst, arith, add-one}
+use Rattle.std.proofs.Common.{◌≡◌, ◌⊎◌, inl, inr, ℕ, zero, suc, ◌+◌, ◌-◌, ◌*◌, ◌/◌, ◌%◌, ◌^◌, ◌<◌, ◌≤◌, List, [], ◌∷◌, length, take, drop, get_or, set, Contains, refl, sym, ap, ◌∙◌, subst, arith, add-one}
 use Rattle.std.proofs.Math.Nat.{mul-le-mul_right, add-mul-div_right, div-eq_of_lt, add-mul-mod_self_right, mod-eq_of_lt}
 use Rattle.std.proofs.lemmas.Bool.{cases_lt, cases_eq}
 use Rattle.std.proofs.lemmas.List.{take-append-drop, get_or-set_same, get_or-set_other, get_or_default}
@@ -330,13 +330,18 @@ module _ (start now : Store) (missing : List ℕ) (node : ObjectNode) (level fir
     overfull_there there =
         let P : BlockPtr → ℕ → Type 0 = λ pointer m. HasOverfull start.spaces (property_of node) (reached level pointer bound) (there.write.id - m) in
         let has = overfull_in start.spaces now.spaces (property_of node) (reached level child bound) (there.write.id - begin) steps.shapes there.has in
-        inr (k, so_far.begun, low, record {
-          write = there.write;
-          is_one = in_writes there.write there.is_one;
-          from = omega (arith, there.from, begin_is);
-          within = omega (arith, there.within, begin_is);
-          has = subst (λ pointer. P pointer (first + k * 128 ^ level)) same_child (subst (λ m. P child m) begin_is has);
-        })
+        inr (
+          k,
+          so_far.begun,
+          low,
+          record {
+            write = there.write;
+            is_one = in_writes there.write there.is_one;
+            from = omega (arith, there.from, begin_is);
+            within = omega (arith, there.within, begin_is);
+            has = subst (λ pointer. P pointer (first + k * 128 ^ level)) same_child (subst (λ m. P child m) begin_is has);
+          },
+        )
 
     pub unread_there : (new : Store) (refusal : Refusal) → IsPartUnread now new missing node here begin run refusal
         → ArePartsUnread start new missing node parts first from writes refusal
@@ -382,7 +387,7 @@ module _ (start now : Store) (missing : List ℕ) (node : ObjectNode) (level fir
         now_full (inl all) (inl fits) = inl (λ j. elim (cases_eq j k) [
           | inl same ↦
               let at : get_or (set pointers k (At block)) j Hole ≡ At block = ap (λ i. get_or (set pointers k (At block)) i Hole) same
-                  ∙ get_or-set_same pointers k (At block) Hole (omega (arith, low, count)) in
+              ∙ get_or-set_same pointers k (At block) Hole (omega (arith, low, count)) in
               omega (arith, ap fill_of at, fits)
           | inr other ↦
               let at : get_or (set pointers k (At block)) j Hole ≡ get_or pointers j Hole = get_or-set_other pointers k j (At block) Hole other in

@@ -16,12 +16,13 @@ use Rattle.dnode_tree.specs.Births.{height_of}
 use Rattle.dnode_tree.specs.Tree.{property_of}
 use Rattle.dnode_tree.specs.Ways.{AreReadAs, Reached, asked_there, LeadsTo, root_of, IsRefused}
 
--- the fill count of a pointer that far above the data is of more data blocks than there can be below it
+-- the fill count of a pointer that far above the data is of more blocks than there can be below it
 abbrev pub IsOverfull : ℕ → BlockPtr → Type 0
 IsOverfull level pointer = 128 ^ level < fill_of pointer
 
 -- an indirect block that was read on the way to a data block has such a pointer
-pub record HasOverfull (spaces : List VdevSpace) (property : ℕ → Property) (here : Reached) (place : ℕ) : Type 0 where
+pub record HasOverfull (spaces : List VdevSpace) (property : ℕ → Property)
+    (here : Reached) (place : ℕ) : Type 0 where
   pub there : Reached
   pub leads : LeadsTo spaces property here place there
   pub level : ℕ
@@ -35,13 +36,17 @@ pub record HasOverfull (spaces : List VdevSpace) (property : ℕ → Property) (
 
 -- the root is such a pointer, or an indirect block on the way has one
 abbrev pub IsWayOverfull : List VdevSpace → ObjectNode → ℕ → ℕ → Type 0
-IsWayOverfull spaces node birth id = IsOverfull (height_of node) node.pointer ⊎ HasOverfull spaces (property_of node) (root_of node birth) id
+IsWayOverfull spaces node birth id =
+    IsOverfull (height_of node) node.pointer
+    ⊎ HasOverfull spaces (property_of node) (root_of node birth) id
 
--- The way to a data block that is written was refused, behind reads and blocks that were planned: a block on it could not be read, or
--- it has a fill count that can't be.
-pub record IsWriteRefused (old new : Store) (missing : List ℕ) (node : ObjectNode) (birth : ℕ) (writes : List BlockWrite) (refusal : Refusal) : Type 0 where
+-- The way to a data block that is written was refused, behind reads and blocks that were planned:
+-- a block on it could not be read, or it has a fill count that can't be.
+pub record IsWriteRefused (old new : Store) (missing : List ℕ) (node : ObjectNode) (birth : ℕ)
+    (writes : List BlockWrite) (refusal : Refusal) : Type 0 where
   pub write : BlockWrite
   pub is_one : Contains writes write
   pub mid : Store
   pub before : OnlyReadsAndPlans old mid missing
-  pub why : IsRefused mid new missing node birth write.id refusal ⊎ ((refusal ≡ BadPointer) × IsWayOverfull mid.spaces node birth write.id)
+  pub why : IsRefused mid new missing node birth write.id refusal
+      ⊎ ((refusal ≡ BadPointer) × IsWayOverfull mid.spaces node birth write.id)

@@ -1,4 +1,4 @@
-use Rattle.std.proofs.Common.{◌≡◌, inl, inr, refl, suc, get_or, ◌+◌, ◌*◌, ◌^◌, ◌-◌, ◌++◌, subst, sym, ap, ◌∙◌, arith}
+use Rattle.std.proofs.Common.{◌≡◌, inl, suc, get_or, ◌+◌, ◌*◌, ◌^◌, ◌-◌, ◌++◌, subst, sym, ap, ◌∙◌, arith}
 use Rattle.block_store.specs.Reading.{Asks}
 use Rattle.dnode_tree.proofs.Collecting.{parts_below}
 use Rattle.block_pointer.specs.declared.pointer.BlockPtr.TheVariants.{Hole}

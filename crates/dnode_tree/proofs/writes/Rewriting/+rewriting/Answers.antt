@@ -105,8 +105,7 @@ pub write_parts-loop-place-preserved-then-is_empty : goal.write_parts-loop-place
 write_parts-loop-place-preserved-then-is_empty g t c =
     let middle_is : c.start_of-start.result + c.span.result ≡ (c.args.first + c.loop-place.place * 128 ^ c.args.parts.level) + 128 ^ c.args.parts.level =
     omega (arith, c.start_of-start.ensures.value, c.span.ensures.value) in
-    let none : length c.split_at.result.0.now ≡ 0 = search rules in
-    (
+    let none : length c.split_at.result.0.now ≡ 0 = search rules in (
       following_skips c.args.store.now c.loop-place.store c.args.self.missing.now _ _ _ _ _ _ _ _ _ _ c.loop-place.invariant.0 c.loop-place-test.true c.loop-place.invariant.1.count
           c.loop-place.invariant.1.steps _ _ _ c.start_of-start.ensures.value c.split_at.ensures.front _ c.split_at.ensures.back,
       writing_skips _ _ _ _ _ _ _ _ _ _ _ _ _ _ _ _ c.loop-place.invariant.1 c.loop-place-test.true c.requires.bound _ _ middle_is c.count_before.ensures.before c.count_before.ensures.behind
@@ -144,8 +143,7 @@ write_parts-returns-in_err-block-clause-known g t c =
 pub write_parts-loop-place-preserved : goal.write_parts-loop-place-preserved
 write_parts-loop-place-preserved g t c =
     let middle_is : c.start_of-start.result + c.span.result ≡ (c.args.first + c.loop-place.place * 128 ^ c.args.parts.level) + 128 ^ c.args.parts.level =
-    omega (arith, c.start_of-start.ensures.value, c.span.ensures.value) in
-    (
+    omega (arith, c.start_of-start.ensures.value, c.span.ensures.value) in (
       following_goes_on c.args.store.now c.loop-place.store c.args.self.missing.now _ _ _ _ _ _ _ _ _ _ c.loop-place.invariant.0 c.loop-place-test.true c.loop-place.invariant.1.count
           c.loop-place.invariant.1.steps _ _ _ c.start_of-start.ensures.value c.split_at.ensures.front _ c.get.ensures.value _ _ _ c.set.ensures c.split_at.ensures.back c.in_ok-block.ensures.full,
       writing_goes_on _ _ _ _ _ _ _ _ _ _ _ _ _ _ _ _ c.loop-place.invariant.1 c.loop-place-test.true c.requires.bound _ _ middle_is c.count_before.ensures.before c.count_before.ensures.behind
@@ -202,16 +200,19 @@ pub write_part-returns-in_err-parts-clause-steps : goal.write_part-returns-in_er
 write_part-returns-in_err-parts-clause-steps g t c = steps_read _ _ _ c.in_err-parts.ensures.reads
 
 pub write_parts-loop-place-init : goal.write_parts-loop-place-init
-write_parts-loop-place-init g t c = (following_begins _ _ _ _ _ _ _ _, record {
-  steps = steps_none _ _;
-  between = c.requires.between;
-  order = c.requires.order;
-  whole = c.requires.whole;
-  filled = c.requires.some;
-  count = c.requires.count;
-  placed = parts_begin _ _ _ _ _ _ _;
-  rewriting = λ ages stored planned begun array new_array before after noted plans rewritten has aged honest. (begun, after, plans, rewritten, has, aged);
-})
+write_parts-loop-place-init g t c = (
+  following_begins _ _ _ _ _ _ _ _,
+  record {
+    steps = steps_none _ _;
+    between = c.requires.between;
+    order = c.requires.order;
+    whole = c.requires.whole;
+    filled = c.requires.some;
+    count = c.requires.count;
+    placed = parts_begin _ _ _ _ _ _ _;
+    rewriting = λ ages stored planned begun array new_array before after noted plans rewritten has aged honest. (begun, after, plans, rewritten, has, aged);
+  },
+)
 
 pub write_parts-returns-clause-steps : goal.write_parts-returns-clause-steps
 write_parts-returns-clause-steps g t c = steps_on _ _ _ _ c.loop-place.invariant.1.steps (c.plan_block.ensures.steps c.args.self.missing.now)
