@@ -1,4 +1,4 @@
-use Rattle.std.proofs.Common.{◌≡◌, ℕ, List, inl, refl, ap, subst}
+use Rattle.std.proofs.Common.{List, inl, refl, ap, subst}
 use Rattle.dnode.specs.declared.object_set.ObjectSet.{ObjectSet}
 use Rattle.dnode_tree.specs.declared.writes.BlockWrite.{BlockWrite}
 use Rattle.block_store.specs.Steps.{OnlyReadsAndPlans}
@@ -11,7 +11,6 @@ use Rattle.dnode_tree.proofs.Steps.{no_room_on, true_sooner, true_later, few_lat
 use Rattle.dnode_tree.proofs.WholeTree.{tree_later}
 use Rattle.dnode_slots.specs.declared.writes.SetRewrite.{SetRewrite}
 use Rattle.dnode_slots.proofs.PutNodes.{set_fits, highest_least, nodes_rewritten}
-use Rattle.block_store.specs.Steps.{OnlyReadsBlocks}
 use Rattle.block_store.specs.Store.{Store}
 use Rattle.block_store.specs.Demands.{HavePlaces}
 use Rattle.dnode_tree.specs.Spots.{demands_of}
