@@ -16,10 +16,10 @@ use Rattle.meta_objset.specs.Directory.{FitsRow, IsDirectory, LacksName, IsWith,
 use Rattle.meta_objset.specs.Names.{IsBefore}
 use Rattle.meta_objset.proofs.Rows.{Before, in_front}
 
-pairs_head : {X : Type 0} (R : X → X → Type 0) (x : X) (xs : List X) → AllPairs R (x ∷ xs) → All (R x) xs
+pub pairs_head : {X : Type 0} (R : X → X → Type 0) (x : X) (xs : List X) → AllPairs R (x ∷ xs) → All (R x) xs
 pairs_head R x xs pairs k d low = pairs 0 (suc k) d (omega arith) (omega (arith, low))
 
-pairs_tail : {X : Type 0} (R : X → X → Type 0) (x : X) (xs : List X) → AllPairs R (x ∷ xs) → AllPairs R xs
+pub pairs_tail : {X : Type 0} (R : X → X → Type 0) (x : X) (xs : List X) → AllPairs R (x ∷ xs) → AllPairs R xs
 pairs_tail R x xs pairs i j d lt low = pairs (suc i) (suc j) d (omega (arith, lt)) (omega (arith, low))
 
 all_left : {X : Type 0} (P : X → Type 0) (xs ys : List X) → All P (xs ++ ys) → All P xs
@@ -71,7 +71,7 @@ the_middle : {X : Type 0} (xs ys : List X) (x : X) → Contains (xs ++ x ∷ ys)
 the_middle xs ys x = Contains-append_right xs (x ∷ ys) x (0, omega arith, refl)
 
 -- names before and behind each other differ
-apart : (name other : List ℕ) → IsBefore name other → name ≢ other
+pub apart : (name other : List ℕ) → IsBefore name other → name ≢ other
 apart name other before same =
     let twice : slice_cmp nat_cmp other other ≡ Less = subst (λ n. slice_cmp nat_cmp n other ≡ Less) same before in
     let back : slice_cmp nat_cmp other other ≡ ordering_reverse Less = nat_list_cmp_total.antisymm other other ∙ ap ordering_reverse twice in

@@ -72,8 +72,8 @@ found_more spaces set birth number count bytes block so_far found =
       each = λ id lt. elim (cases_lt id count) [
         | inl before ↦ subst (λ (found_there : Option (List ℕ)). IsDataFound spaces set birth number id found_there) (sym (with_before so_far.array count block id before)) (so_far.each id before)
         | inr behind ↦
-          let at : count ≡ id = omega (arith, lt, behind) in
-          subst (λ n. IsDataFound spaces set birth number n (array n)) at (subst (λ (found_there : Option (List ℕ)). IsDataFound spaces set birth number count found_there) (sym last) found)
+            let at : count ≡ id = omega (arith, lt, behind) in
+            subst (λ n. IsDataFound spaces set birth number n (array n)) at (subst (λ (found_there : Option (List ℕ)). IsDataFound spaces set birth number count found_there) (sym last) found)
       ];
       front = one_more array count bytes block (front_same so_far.array array count bytes (λ id lt. with_before so_far.array count block id lt) so_far.front) (sym last);
     }

@@ -44,11 +44,14 @@ returns-in_default-clause-refused g c =
 
 pub returns-then-not-is_of_record-clause-refused : goal.returns-then-not-is_of_record-clause-refused
 returns-then-not-is_of_record-clause-refused g c =
-    inr (refl, (
-      Some c.in-Some.shape,
-      subst (λ (found : Option ObjectShape). IsShapeFound c.args.store.now.spaces c.args.set.now c.args.birth c.args.number found) c.in-Some.is c.in_ok-found.ensures.found,
-      λ is. let test = c.is_of_record.ensures.1 is in absurd cc,
-    ))
+    inr (
+      refl,
+      (
+        Some c.in-Some.shape,
+        subst (λ (found : Option ObjectShape). IsShapeFound c.args.store.now.spaces c.args.set.now c.args.birth c.args.number found) c.in-Some.is c.in_ok-found.ensures.found,
+        λ is. let test = c.is_of_record.ensures.1 is in absurd cc,
+      ),
+    )
 
 pub returns-clause-found : goal.returns-clause-found
 returns-clause-found g c = (

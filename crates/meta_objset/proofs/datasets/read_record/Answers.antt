@@ -129,11 +129,14 @@ returns-clause-refused g c =
     let there = subst (λ (found : Option (Vec ℕ Global)). IsDataFound c.expect_record.new.store.spaces c.args.set.now c.args.birth c.args.number 0 (bytes_of found)) c.in-Some.is c.in_ok-bytes.ensures.found in
     let block = subst (λ spaces. IsDataFound spaces c.args.set.now c.args.birth c.args.number 0 (Some c.in-Some.bytes.items)) (spaces_stay _ _ _ c.in_ok-expect_record.ensures.reads) there in
     IfErr-weaker c.record_of.result _ _
-    (λ refusal why. inr (inr (inl (why.0, inr (inr (record {
-      bytes = c.in-Some.bytes.items;
-      block = block;
-      none = λ size r spelled. why.1 (subst (λ (bytes : List ℕ). length bytes ≡ 512) (sym c.deref.ensures.value) size) r (subst (λ (bytes : List ℕ). SpellsRecord bytes r) (sym c.deref.ensures.value) spelled);
-    }))))))
+    (λ refusal why. inr (inr (inl (
+      why.0,
+      inr (inr (record {
+        bytes = c.in-Some.bytes.items;
+        block = block;
+        none = λ size r spelled. why.1 (subst (λ (bytes : List ℕ). length bytes ≡ 512) (sym c.deref.ensures.value) size) r (subst (λ (bytes : List ℕ). SpellsRecord bytes r) (sym c.deref.ensures.value) spelled);
+      })),
+    ))))
     c.record_of.ensures.refused
 
 pub returns-clause-one : goal.returns-clause-one

@@ -46,11 +46,14 @@ pub returns-clause-refused : goal.returns-clause-refused
 returns-clause-refused g c =
     IfErr-weaker c.directory_of.result _ _
     (λ refusal why. ⊎_elim (λ memory. inl memory)
-    (λ bad. inr (inr (bad.0, record {
-      rows = c.in_ok-rows.rows.items;
-      found = c.in_ok-rows.ensures.found;
-      none = λ has. bad.1 has.0 has.1 (c.deref.ensures.value ∙ has.2);
-    })))
+    (λ bad. inr (inr (
+      bad.0,
+      record {
+        rows = c.in_ok-rows.rows.items;
+        found = c.in_ok-rows.ensures.found;
+        none = λ has. bad.1 has.0 has.1 (c.deref.ensures.value ∙ has.2);
+      },
+    )))
     why)
     c.directory_of.ensures.refused
 

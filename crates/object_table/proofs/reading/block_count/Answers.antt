@@ -50,16 +50,23 @@ returns-in_default-clause-refused g c =
 
 pub returns-then-not-is_of_kind-clause-refused : goal.returns-then-not-is_of_kind-clause-refused
 returns-then-not-is_of_kind-clause-refused g c =
-    inr (refl, (
-      Some c.in-Some.shape,
-      subst (λ (found : Option ObjectShape). IsShapeFound c.args.store.now.spaces c.args.set.now c.args.birth c.args.number found) c.in-Some.is c.in_ok-found.ensures.found,
-      λ kind. let test = c.is_of_kind.ensures.1 kind in absurd cc,
-    ))
+    inr (
+      refl,
+      (
+        Some c.in-Some.shape,
+        subst (λ (found : Option ObjectShape). IsShapeFound c.args.store.now.spaces c.args.set.now c.args.birth c.args.number found) c.in-Some.is c.in_ok-found.ensures.found,
+        λ kind. let test = c.is_of_kind.ensures.1 kind in absurd cc,
+      ),
+    )
 
 pub returns-clause-found : goal.returns-clause-found
-returns-clause-found g c = (c.in-Some.shape.highest, refl, record {
-  shape = c.in-Some.shape;
-  found = subst (λ (found : Option ObjectShape). IsShapeFound c.args.store.now.spaces c.args.set.now c.args.birth c.args.number found) c.in-Some.is c.in_ok-found.ensures.found;
-  of_kind = c.is_of_kind.ensures.0 c.if-not-is_of_kind.false;
-  highest_is = refl;
-})
+returns-clause-found g c = (
+  c.in-Some.shape.highest,
+  refl,
+  record {
+    shape = c.in-Some.shape;
+    found = subst (λ (found : Option ObjectShape). IsShapeFound c.args.store.now.spaces c.args.set.now c.args.birth c.args.number found) c.in-Some.is c.in_ok-found.ensures.found;
+    of_kind = c.is_of_kind.ensures.0 c.if-not-is_of_kind.false;
+    highest_is = refl;
+  },
+)

@@ -105,10 +105,13 @@ returns-clause-refused g c =
     let read = bytes_read _ _ _ _ _ _ _ _ _ _ object.1 object.2 c.in_ok-count.ensures.reads c.in_ok-bytes.ensures.found in
     IfErr-weaker c.rows_of.result _ _
     (λ refusal why. ⊎_elim (λ memory. inl memory)
-    (λ bad. inr (inr (inl (bad.0, inr (record {
-      bytes = c.in_ok-bytes.bytes.items;
-      read = read;
-      none = λ rows spells. bad.1 rows (subst (λ (bytes : List ℕ). SpellsRows c.args.kind.rows bytes rows) (sym c.deref.ensures.value) spells);
-    })))))
+    (λ bad. inr (inr (inl (
+      bad.0,
+      inr (record {
+        bytes = c.in_ok-bytes.bytes.items;
+        read = read;
+        none = λ rows spells. bad.1 rows (subst (λ (bytes : List ℕ). SpellsRows c.args.kind.rows bytes rows) (sym c.deref.ensures.value) spells);
+      }),
+    ))))
     why)
     c.rows_of.ensures.refused

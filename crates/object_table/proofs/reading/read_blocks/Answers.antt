@@ -78,8 +78,11 @@ returns-in_err-found-clause-refused g c =
 pub returns-in_default-clause-refused : goal.returns-in_default-clause-refused
 returns-in_default-clause-refused g c =
     let hole = subst (λ (found : Option (Vec ℕ Global)). IsDataFound c.loop-id.store.spaces c.args.set.now c.args.birth c.args.number c.loop-id.id (bytes_of found)) c.in_default.is c.in_ok-found.ensures.found in
-    inr (inl (refl, record {
-      id = c.loop-id.id;
-      below = c.loop-id-test.true;
-      hole = subst (λ spaces. IsDataFound spaces c.args.set.now c.args.birth c.args.number c.loop-id.id None) (spaces_stay _ _ _ c.loop-id.invariant.reads) hole;
-    }))
+    inr (inl (
+      refl,
+      record {
+        id = c.loop-id.id;
+        below = c.loop-id-test.true;
+        hole = subst (λ spaces. IsDataFound spaces c.args.set.now c.args.birth c.args.number c.loop-id.id None) (spaces_stay _ _ _ c.loop-id.invariant.reads) hole;
+      },
+    ))

@@ -1,0 +1,2 @@
+pub mod Datasets
+pub mod Rows

@@ -1,0 +1,194 @@
+//! What a root has of a name.
+ghost use Rattle.std.specs.Prelude.{◌≡◌, ◌⊎◌, ℕ, List, Option, Some, IfOk, IfErr};
+ghost use Rattle.block_pointer.specs.declared.block.Block.{Block};
+ghost use Rattle.block_store.specs.Blocks.{Contents};
+ghost use Rattle.block_store.specs.Steps.{OnlyReadsBlocks, AnswersAreTrue, LossIsTolerable};
+ghost use Rattle.block_store.specs.Store.{Holds};
+ghost use Rattle.dnode.specs.declared.object_set.ObjectSet.{ObjectSet};
+ghost use Rattle.dnode.specs.declared.object_set.ObjectSetKind.TheVariants as sets;
+ghost use Rattle.dnode.specs.ObjectSet.{FitsObjectSet};
+ghost use Rattle.dnode_slots.specs.Sets.{IsSetBlock};
+ghost use Rattle.meta_objset.specs.declared.directory.DirectoryRow.{DirectoryRow};
+ghost use Rattle.meta_objset.specs.declared.record.DatasetRecord.{DatasetRecord};
+ghost use Rattle.meta_objset.specs.Datasets.{HasRecord};
+ghost use Rattle.meta_objset.specs.Found.{AreDirectoryRows, IsDirectoryFound, IsRecordFound, IsRecordRefused, IsRowsRefused};
+ghost use Rattle.meta_objset.specs.Reading.{HasDirectory, directory_kind};
+ghost use Rattle.meta_objset.specs.Record.{IsRecord};
+ghost use Rattle.objset.specs.Objects.{Object, AreObjects};
+ghost use Rattle.pool_model.specs.Pools.{PlainPool, volume_at};
+ghost use Rattle.volume.specs.Volume.{HasShape, block_of};
+ghost use Rattle.dataset_snapshots.specs.Finding.{HasDataset, IsVolumeOf, IsMetaFound, IsMetaRefused};
+ghost use Rattle.dataset_snapshots.specs.Finding.{IsNumberIn, IsFound, IsRefused};
+ghost use Rattle.dataset_snapshots.specs.Pools.{SpellsPool};
+
+use block_pointer::Block;
+use block_store::{BlockStore, Refusal};
+use dnode::{ObjectSet, ObjectSetKind};
+use dnode_slots::read_set;
+use meta_objset::{DatasetRecord, Directory, padded, read_directory, read_record};
+use model_disk::Disk;
+use pool_model::Name;
+use std::alloc::Global;
+use volume::VolumeSet;
+
+/// A dataset under a root.
+#[derive(Clone, Copy, Debug)]
+pub struct Dataset {
+    /// The number of the object that has its record.
+    pub object: u64,
+    pub record: DatasetRecord,
+    /// Its data: the object set that the record points to.
+    pub volume: VolumeSet,
+}
+
+/// The dataset of that name under a root: nothing where the root's directory hasn't got the name. It reads the root, its
+/// directory and the dataset's record, and none of the dataset's data. The root was born in the transaction group `birth` or
+/// before. The disks that are named are taken as missing. `BadPointer` where the block is no root of a pool, its object 1 no
+/// directory, or the object that the directory has for the name no record of a dataset.
+pub fn find<D: Disk + Drop>(
+    root: &Block,
+    store: &mut BlockStore<D>,
+    alloc: Global,
+    birth: u64,
+    name: &Name,
+    missing: &[usize],
+) -> Result<Option<Dataset>, Refusal>
+    ensures reads { OnlyReadsBlocks store.old store.new missing.now }
+
+    // It has the record and the bytes of the volume that the pool has there.
+    ensures value { IfOk result (λ found. (stored : Contents) (pool : PlainPool)
+        → Holds store.old stored → SpellsPool stored birth root.now pool
+        → AnswersAreTrue store.old store.new
+        → HasDataset stored (root.now).birth (volume_at name.now pool) found) }
+
+    // Whatever the root is: what was read, and on a refusal its cause.
+    ensures found { IfOk result (IsFound store.old.spaces birth root.now name.now) }
+    ensures refused { IfErr result (λ refusal. (refusal ≡ Refusal.NoMemory)
+        ⊎ IsRefused store.old store.new missing.now birth root.now name.now refusal) }
+
+    // And it is found, where no vdev misses more disks than it has parities and what they answer is true.
+    ensures known { IfErr result (λ refusal. (stored : Contents) (pool : PlainPool)
+        → Holds store.old stored → SpellsPool stored birth root.now pool
+        → AnswersAreTrue store.old store.new
+        → LossIsTolerable store.old store.new missing.now → refusal ≡ Refusal.NoMemory) }
+{
+    let set = read_meta(root, store, alloc, birth, missing)?;
+    let number = object_of(&set, store, alloc, root.birth, name, missing)?;
+    let Some(object) = number else {
+        return Ok(None);
+    };
+    let dataset = read_dataset(&set, store, alloc, root.birth, object, missing)?;
+    Ok(Some(dataset))
+}
+
+/// The meta object set of a root. `BadPointer` where the block spells another.
+fn read_meta<D: Disk + Drop>(
+    root: &Block,
+    store: &mut BlockStore<D>,
+    alloc: Global,
+    birth: u64,
+    missing: &[usize],
+) -> Result<ObjectSet, Refusal>
+    ensures reads { OnlyReadsBlocks store.old store.new missing.now }
+    ensures fits { IfOk result FitsObjectSet }
+    ensures value { IfOk result (λ found. (stored : Contents) (set : ObjectSet)
+        → Holds store.old stored → IsSetBlock stored birth root.now set
+        → AnswersAreTrue store.old store.new → found ≡ set) }
+    ensures found { IfOk result (IsMetaFound store.old.spaces birth root.now) }
+    ensures refused { IfErr result
+        (IsMetaRefused store.old store.new missing.now birth root.now) }
+    ensures known { IfErr result (λ refusal. (stored : Contents) (set : ObjectSet)
+        → Holds store.old stored → IsSetBlock stored birth root.now set → set.kind ≡ sets.Meta
+        → AnswersAreTrue store.old store.new → LossIsTolerable store.old store.new missing.now
+        → refusal ≡ Refusal.NoMemory) }
+{
+    let set = read_set(store, alloc, root, birth, missing)?;
+    match set.kind {
+        ObjectSetKind::Meta => Ok(set),
+        ObjectSetKind::Volume => Err(Refusal::BadPointer),
+    }
+}
+
+/// The number of the object that the directory has for a name.
+fn object_of<D: Disk + Drop>(
+    set: &ObjectSet,
+    store: &mut BlockStore<D>,
+    alloc: Global,
+    birth: u64,
+    name: &Name,
+    missing: &[usize],
+) -> Result<Option<u64>, Refusal>
+    requires { FitsObjectSet set.now }
+    ensures reads { OnlyReadsBlocks store.old store.new missing.now }
+    ensures value { IfOk result (λ number. (stored : Contents) (objects : ℕ → Option Object)
+        (own : List Block) (blocks : ℕ → List Block) (rows : List DirectoryRow)
+        → Holds store.old stored → AreObjects stored birth set.now objects own blocks
+        → HasDirectory (objects 1) rows → AnswersAreTrue store.old store.new
+        → IsNumberIn rows name.now number) }
+    ensures found { IfOk result (λ number. (rows : List DirectoryRow)
+        × IsDirectoryFound store.old.spaces set.now birth rows × IsNumberIn rows name.now number) }
+    ensures refused { IfErr result (λ refusal. (refusal ≡ Refusal.NoMemory)
+        ⊎ IsRowsRefused store.old store.new missing.now set.now birth directory_kind 1
+        AreDirectoryRows refusal) }
+    ensures known { IfErr result (λ refusal. (stored : Contents) (objects : ℕ → Option Object)
+        (own : List Block) (blocks : ℕ → List Block) (rows : List DirectoryRow)
+        → Holds store.old stored → AreObjects stored birth set.now objects own blocks
+        → HasDirectory (objects 1) rows → AnswersAreTrue store.old store.new
+        → LossIsTolerable store.old store.new missing.now → refusal ≡ Refusal.NoMemory) }
+{
+    let directory = read_directory(set, store, alloc, birth, missing)?;
+    Ok(number_in(&directory, name))
+}
+
+/// The number that a directory has for a name.
+fn number_in(directory: &Directory, name: &Name) -> Option<u64>
+    ensures { IsNumberIn directory.now name.now result }
+{
+    let name = padded(name.as_slice())?;
+    directory.get(&name)
+}
+
+/// The dataset whose record an object has.
+fn read_dataset<D: Disk + Drop>(
+    set: &ObjectSet,
+    store: &mut BlockStore<D>,
+    alloc: Global,
+    birth: u64,
+    object: u64,
+    missing: &[usize],
+) -> Result<Dataset, Refusal>
+    requires { FitsObjectSet set.now }
+    ensures reads { OnlyReadsBlocks store.old store.new missing.now }
+    ensures value { IfOk result (λ dataset. (stored : Contents) (objects : ℕ → Option Object)
+        (own : List Block) (blocks : ℕ → List Block) (r : DatasetRecord)
+        → Holds store.old stored → AreObjects stored birth set.now objects own blocks
+        → HasRecord (objects object) r → AnswersAreTrue store.old store.new
+        → dataset.record ≡ r) }
+    ensures is { IfOk result IsVolumeOf }
+    ensures object { IfOk result (λ dataset. dataset.object ≡ object) }
+    ensures found { IfOk result (λ dataset.
+        IsRecordFound store.old.spaces set.now birth object dataset.record) }
+    ensures refused { IfErr result (λ refusal. (refusal ≡ Refusal.NoMemory)
+        ⊎ IsRecordRefused store.old store.new missing.now set.now birth object refusal) }
+    ensures known { IfErr result (λ refusal. (stored : Contents) (objects : ℕ → Option Object)
+        (own : List Block) (blocks : ℕ → List Block) (r : DatasetRecord)
+        → Holds store.old stored → AreObjects stored birth set.now objects own blocks
+        → HasRecord (objects object) r → AnswersAreTrue store.old store.new
+        → LossIsTolerable store.old store.new missing.now → refusal ≡ Refusal.NoMemory) }
+{
+    let record = read_record(set, store, alloc, object, birth, missing)?;
+    Ok(Dataset {
+        object,
+        record,
+        volume: volume_of(&record),
+    })
+}
+
+/// The data of a dataset.
+fn volume_of(dataset: &DatasetRecord) -> VolumeSet
+    requires { IsRecord dataset.now }
+    ensures shape { HasShape result (dataset.now).size (dataset.now).block_size }
+    ensures block { block_of result ≡ (dataset.now).object_set }
+{
+    VolumeSet::new(dataset.size, dataset.block_size, dataset.object_set)
+}

@@ -1,0 +1,7 @@
+//! The datasets of a pool under a root: what a root spells, and what it has of a name.
+#![tactic(auto)]
+
+mod finding;
+
+pub use block_store::Refusal;
+pub use finding::{Dataset, find};
