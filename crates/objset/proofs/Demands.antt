@@ -8,16 +8,16 @@ use Rattle.block_store.specs.Store.{Store}
 use Rattle.block_store.proofs.Demands.{have_both, lack_later}
 use Rattle.dnode.specs.declared.dnode.Dnode.{Dnode}
 use Rattle.dnode.specs.declared.object_set.ObjectSet.{ObjectSet}
-use Rattle.dnode_slots.specs.Found.{IsNodeFound}
+use Rattle.objset.specs.Found.{IsDnodeFound}
 use Rattle.objset.specs.declared.changes.Changing.{Changing}
 use Rattle.objset.specs.declared.changes.ObjectChange.{ObjectChange}
 use Rattle.objset.specs.declared.changes.SetCopies.{SetCopies}
 use Rattle.objset.specs.Changing.{HavePlacesFor, LackPlacesFor, LacksRoomForFirst}
 use Rattle.objset.specs.Demands.{FitsChange, demands_of_change, AreDemandsOf}
-use Rattle.objset.proofs.Found.{node_found_in}
+use Rattle.objset.proofs.Found.{dnode_found_in}
 
 pub demands_of_one : (spaces : List VdevSpace) (set : ObjectSet) (birth : ℕ) (copies : SetCopies) (change : ObjectChange) (dnode : Dnode)
-    → IsNodeFound spaces set birth change.number dnode → FitsChange change.change dnode
+    → IsDnodeFound spaces set birth change.number dnode → FitsChange change.change dnode
     → AreDemandsOf spaces set birth copies (change ∷ []) (demands_of_change copies change.change dnode)
 demands_of_one spaces set birth copies change dnode found fits =
     (dnode, [], found, fits, refl, sym (append-nil (demands_of_change copies change.change dnode)))
@@ -40,7 +40,7 @@ demands_in : (spaces others : List VdevSpace) (same : shapes_of others ≡ shape
     → AreDemandsOf others set birth copies changes demands → AreDemandsOf spaces set birth copies changes demands
 demands_in spaces others same set birth copies [] demands are = are
 demands_in spaces others same set birth copies (change ∷ changes) demands (dnode, rest, found, fits, are, is) =
-    (dnode, rest, node_found_in spaces others same set birth change.number dnode found, fits, demands_in spaces others same set birth copies changes rest are, is)
+    (dnode, rest, dnode_found_in spaces others same set birth change.number dnode found, fits, demands_in spaces others same set birth copies changes rest are, is)
 
 -- places for changes, and then for more or for none of them
 module _ (this : Changing) (old mid new : Store) (set : ObjectSet) (changes later : List ObjectChange) (same : shapes_of mid.spaces ≡ shapes_of old.spaces)

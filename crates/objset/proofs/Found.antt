@@ -8,9 +8,12 @@ use Rattle.block_store.proofs.Steps.{read_in}
 use Rattle.dnode.specs.declared.dnode.Dnode.{Dnode}
 use Rattle.dnode.specs.declared.node.ObjectNode.{ObjectNode}
 use Rattle.dnode.specs.declared.object_set.ObjectSet.{ObjectSet}
-use Rattle.dnode_slots.specs.Found.{IsNodeFound}
+use Rattle.dnode_slots.specs.declared.reading.FoundDnode.{FoundDnode}
+use Rattle.dnode_slots.specs.Found.{found_dnode, IsNodeFound}
+use Rattle.dnode_tree.specs.declared.reading.DataBlock.{DataBlock}
+use Rattle.objset.specs.Found.{IsDnodeFound}
 use Rattle.dnode_tree.specs.Tree.{property_of}
-use Rattle.dnode_tree.specs.Ways.{Reached, root_of, ComesTo, HasFound, IsFound, asked_there}
+use Rattle.dnode_tree.specs.Ways.{Reached, root_of, bytes_in, ComesTo, HasFound, IsBlockFound, asked_there}
 
 module _ (spaces others : List VdevSpace) (same : shapes_of others ≡ shapes_of spaces) where
   comes_in : (property : ℕ → Property) (level birth : ℕ) (pointer : BlockPtr) (place : ℕ) (there : Reached) → ComesTo others property level birth pointer place there
@@ -30,20 +33,30 @@ module _ (spaces others : List VdevSpace) (same : shapes_of others ≡ shapes_of
   has_in property there None has = has
   has_in property there (Some bytes) (block, low, is, read) = (block, low, is, read_in spaces others (asked_there property there) block bytes same read)
 
-  found_in : (node : ObjectNode) (birth id : ℕ) (found : Option (List ℕ)) → IsFound others node birth id found → IsFound spaces node birth id found
-  found_in node birth id found (inl behind) = inl behind
-  found_in node birth id found (inr (low, below)) =
+  block_in : (node : ObjectNode) (birth id : ℕ) (found : Option DataBlock) → IsBlockFound others node birth id found → IsBlockFound spaces node birth id found
+  block_in node birth id found (inl behind) = inl behind
+  block_in node birth id found (inr (low, block)) =
       let root : Reached = root_of node birth in
       inr (
         low,
         record {
-          there = below.there;
-          leads = comes_in (property_of node) root.level root.birth root.pointer id below.there below.leads;
-          has = has_in (property_of node) below.there found below.has;
+          below = record {
+            there = block.below.there;
+            leads = comes_in (property_of node) root.level root.birth root.pointer id block.below.there block.below.leads;
+            has = has_in (property_of node) block.below.there (bytes_in found) block.below.has;
+          };
+          born = block.born;
         },
       )
 
-  pub node_found_in : (set : ObjectSet) (birth number : ℕ) (node : Dnode) → IsNodeFound others set birth number node → IsNodeFound spaces set birth number node
-  node_found_in set birth number node (inl behind) = inl behind
-  node_found_in set birth number node (inr (low, read)) =
-      inr (low, record { block = read.block; found = found_in set.dnodes birth _ read.block read.found; zeros = read.zeros; is_in = read.is_in })
+  node_found_in : (set : ObjectSet) (birth number : ℕ) (found : FoundDnode) → IsNodeFound others set birth number found → IsNodeFound spaces set birth number found
+  node_found_in set birth number found (inl behind) = inl behind
+  node_found_in set birth number found (inr (low, read)) =
+      inr (low, record { block = read.block; block_found = block_in set.dnodes birth _ read.block read.block_found; zeros = read.zeros; is_in = read.is_in; born = read.born })
+
+  pub dnode_found_in : (set : ObjectSet) (birth number : ℕ) (dnode : Dnode) → IsDnodeFound others set birth number dnode → IsDnodeFound spaces set birth number dnode
+  dnode_found_in set birth number dnode (block_birth, found) = (block_birth, node_found_in set birth number (found_dnode dnode block_birth) found)
+
+-- a dnode that was read, in its block
+pub dnode_found_of : {spaces : List VdevSpace} {set : ObjectSet} {birth number : ℕ} (found : FoundDnode) → IsNodeFound spaces set birth number found → IsDnodeFound spaces set birth number found.dnode
+dnode_found_of found is = (found.birth, is)

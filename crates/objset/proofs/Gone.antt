@@ -14,6 +14,7 @@ use Rattle.dnode_tree.proofs.Standing.{tree_blocks_known}
 use Rattle.dnode_tree.specs.declared.writes.CopyCounts.{CopyCounts}
 use Rattle.dnode_tree.specs.Freeing.{AreOnlyIn}
 use Rattle.dnode_tree.specs.Rewriting.{AreDistinct, IsExchanged}
+use Rattle.dnode_slots.specs.Nodes.{birth_of}
 use Rattle.objset.proofs.Numbers.{taken, passed}
 use Rattle.objset.specs.declared.changes.ObjectChange.{ObjectChange}
 use Rattle.objset.specs.Changes.{AreExchanged, object_copies}
@@ -349,7 +350,7 @@ replaced_are_freed copies stored planned later bound birth set done changes obje
   where
     all_known : (i : ℕ) (block : Block) → Contains (lists_of own before i) block → (bytes : List ℕ) × (planned block ≡ Some bytes)
     all_known zero block held = let there = tree_blocks_known stored bound set.dnodes are.dnodes.array own are.dnodes.tree block held in (there.1, kept block there.1 there.2)
-    all_known (suc number) block held = let there = object_known stored bound (are.nodes number) (objects number) (before number) (are.each number) block held in (there.0, kept block there.0 there.1)
+    all_known (suc number) block held = let there = object_known stored (birth_of are.dnodes.births number) (are.nodes number) (objects number) (before number) (are.each number) block held in (there.0, kept block there.0 there.1)
 
     others : (i : ℕ) → All (λ change. (i ≡ suc change.number) → ⊥) changes → lists_of own changed.after i ≡ lists_of own before i
     others zero none = refl

@@ -1,5 +1,5 @@
 -- Objects stay what they are where more is known and a later birth is asked.
-use Rattle.std.proofs.Common.{◌≡◌, ℕ, ◌≤◌, List, [], Option, Some, None, Contains, inl, inr, refl, sym, ◌∙◌, subst}
+use Rattle.std.proofs.Common.{◌≡◌, ◌≢◌, ℕ, ◌/◌, ◌%◌, ◌≤◌, arith, List, [], Option, Some, None, Contains, inl, inr, refl, sym, ◌∙◌, subst}
 use Rattle.std.specs.Prelude.{IsSomeAnd}
 use Rattle.block_pointer.specs.declared.block.Block.{Block}
 use Rattle.block_store.specs.Blocks.{Contents, Extends}
@@ -7,12 +7,14 @@ use Rattle.dnode.specs.declared.dnode.Dnode.{Dnode}
 use Rattle.dnode.specs.declared.dnode.Dnode.TheVariants.{Free, Object as Node}
 use Rattle.dnode.specs.declared.node.ObjectNode.{ObjectNode}
 use Rattle.dnode.specs.declared.object_set.ObjectSet.{ObjectSet}
-use Rattle.dnode_slots.specs.Nodes.{HasNodes}
+use Rattle.dnode_slots.specs.Nodes.{HasNodes, IsNodeIn, birth_of}
+use Rattle.dnode.specs.ObjectSet.{FitsObjectSet}
+use Rattle.dnode_tree.proofs.Ages.{births_stand, births_within}
 use Rattle.dnode_tree.proofs.Standing.{trees_stand}
 use Rattle.dnode_tree.proofs.WholeTree.{tree_later}
 use Rattle.dnode_tree.specs.Tree.{IsTree}
 use Rattle.objset.specs.Laws.{ObjectsStandOnTheirBlocks}
-use Rattle.objset.specs.Objects.{Object, IsObject}
+use Rattle.objset.specs.Objects.{Object, IsObject, AreObjects}
 
 object_stands : (old new : Contents) (bound birth : ℕ) (node : Dnode) (object : Option Object) (blocks : List Block)
     → ((block : Block) (bytes : List ℕ) → Contains blocks block → old block ≡ Some bytes → new block ≡ Some bytes) → bound ≤ birth
@@ -31,6 +33,8 @@ pub nodes_later : (stored : Contents) (bound birth : ℕ) (set : ObjectSet) (nod
 nodes_later stored bound birth set nodes own le has = record {
   array = has.array;
   tree = tree_later stored bound birth set.dnodes has.array own le has.tree;
+  births = has.births;
+  born = has.born;
   each = has.each;
   first = has.first;
   behind = has.behind;
@@ -39,15 +43,33 @@ nodes_later stored bound birth set nodes own le has = record {
 pub objects_stand : ObjectsStandOnTheirBlocks
 objects_stand old new bound birth set objects own blocks le keeps are = record {
   nodes = are.nodes;
-  dnodes = nodes_later new bound birth set are.nodes own le (record {
+  dnodes = record {
     array = are.dnodes.array;
-    tree = trees_stand old new bound set.dnodes are.dnodes.array own (λ block bytes held known. keeps block bytes (inl held) known) are.dnodes.tree;
+    tree = tree_later new bound birth set.dnodes are.dnodes.array own le
+        (trees_stand old new bound set.dnodes are.dnodes.array own (λ block bytes held known. keeps block bytes (inl held) known) are.dnodes.tree);
+    births = are.dnodes.births;
+    born = births_stand old new bound set.dnodes are.dnodes.array own are.dnodes.births (λ block bytes held known. keeps block bytes (inl held) known) are.dnodes.tree are.dnodes.born;
     each = are.dnodes.each;
     first = are.dnodes.first;
     behind = are.dnodes.behind;
-  });
-  each = λ number. object_stands old new bound birth (are.nodes number) (objects number) (blocks number) (λ block bytes held known. keeps block bytes (inr (number, held)) known) le (are.each number);
+  };
+  each = λ number. object_stands old new (birth_of are.dnodes.births number) (birth_of are.dnodes.births number) (are.nodes number) (objects number) (blocks number)
+      (λ block bytes held known. keeps block bytes (inr (number, held)) known) (omega arith) (are.each number);
 }
+
+-- the birth of its dnode's block is within the set's
+by_block : (stored : Contents) (birth bound : ℕ) (node : Dnode) (object : Option Object) (blocks : List Block) (cell : Option (List ℕ)) (place : ℕ) → IsNodeIn cell place node
+    → (cell ≢ None → birth ≤ bound) → IsObject stored birth node object blocks → IsObject stored bound node object blocks
+by_block stored birth bound Free object blocks cell place has le is = is
+by_block stored birth bound (Node node) object blocks None place has le is = absurd (let clash : Node node ≡ Free = has in cc)
+by_block stored birth bound (Node node) object blocks (Some bytes) place has le is =
+    object_kept stored stored birth bound (Node node) object blocks (λ block bytes known. known) (le (λ same. let clash : Some bytes ≡ None = same in cc)) is
+
+pub within_set : (stored : Contents) (bound : ℕ) (set : ObjectSet) (objects : ℕ → Option Object) (own : List Block) (blocks : ℕ → List Block) → FitsObjectSet set
+    → (are : AreObjects stored bound set objects own blocks) (number : ℕ) → IsObject stored bound (are.nodes number) (objects number) (blocks number)
+within_set stored bound set objects own blocks fits are number =
+    by_block stored (birth_of are.dnodes.births number) bound (are.nodes number) (objects number) (blocks number) (are.dnodes.array (number / 32)) (number % 32) (are.dnodes.each number)
+    (births_within stored bound set.dnodes are.dnodes.array own are.dnodes.births fits.0.0.highest are.dnodes.tree are.dnodes.born (number / 32)) (are.each number)
 
 -- the same object by equal names
 pub object_as : (stored : Contents) (birth : ℕ) (node other : Dnode) (object object_too : Option Object) (blocks blocks_too : List Block) → node ≡ other → object ≡ object_too → blocks ≡ blocks_too
@@ -60,6 +82,9 @@ object_as stored birth node other object object_too blocks blocks_too same_node 
 pub no_object : (stored : Contents) (birth : ℕ) (found node : Dnode) (object : Option Object) (blocks : List Block) → found ≡ node → found ≡ Free → IsObject stored birth node object blocks
     → (object ≡ None) × (blocks ≡ [])
 no_object stored birth found node object blocks same is there = subst (λ n. IsObject stored birth n object blocks) (sym same ∙ is) there
+
+pub used : (found : Dnode) (node : ObjectNode) → found ≡ Node node → found ≢ Free
+used found node is free = let clash : Node node ≡ Free = sym is ∙ free in cc
 
 -- what a dnode in use is the dnode of
 pub record HasTree (stored : Contents) (birth : ℕ) (node : ObjectNode) (object : Option Object) (blocks : List Block) : Type 0 where

@@ -1,5 +1,5 @@
 -- Objects and dnodes after one more of them was changed.
-use Rattle.std.proofs.Common.{◌≡◌, ◌≢◌, ℕ, ◌+◌, ◌<◌, List, [], ◌∷◌, ◌++◌, length, take, get_or, eqb, cond, Option, All, AllPairs, eq-eqb, length-take, sym, ap, ◌∙◌, subst, arith}
+use Rattle.std.proofs.Common.{◌≡◌, ◌≢◌, ℕ, ◌+◌, ◌<◌, List, [], ◌∷◌, ◌++◌, length, take, get_or, eqb, cond, Option, All, AllPairs, eq-eqb, length-take, refl, sym, ap, ◌∙◌, subst, arith}
 use Rattle.std.proofs.lemmas.Bool.{ne_eqb}
 use Rattle.std.proofs.lemmas.List.{length_push, get_or-take, take_more}
 use Rattle.std.proofs.lemmas.List.Elements.{All-head, All-tail, All-from_get_or}
@@ -63,3 +63,16 @@ module _ (changes : List ObjectChange) (i : ℕ) (last : ObjectChange) (low : i 
       let there : get_or (take i changes) k last ≡ get_or changes k last = get_or-take i changes k last short in
       let before : (get_or changes k last).number < (get_or changes i last).number = order k i last short low in
       omega (arith, before, ap (λ c. c.number) there, ap (λ c. c.number) is))
+
+-- where no dnode is written, and no object changed
+pub nodes_left : (writes : List NodeWrite) (nodes : ℕ → Dnode) (number : ℕ) → All (λ write. write.number ≢ number) writes → written_nodes writes nodes number ≡ nodes number
+nodes_left [] nodes number none = refl
+nodes_left (write ∷ writes) nodes number none =
+    passed write.number number write.node (written_nodes writes nodes number) (All-head (λ (w : NodeWrite). w.number ≢ number) write writes none)
+    ∙ nodes_left writes nodes number (All-tail (λ (w : NodeWrite). w.number ≢ number) write writes none)
+
+pub changed_left : (changes : List ObjectChange) (objects : ℕ → Option Object) (number : ℕ) → All (λ change. change.number ≢ number) changes → changed changes objects number ≡ objects number
+changed_left [] objects number none = refl
+changed_left (change ∷ changes) objects number none =
+    passed change.number number (after_change change.change (objects number)) (changed changes objects number) (All-head (λ (c : ObjectChange). c.number ≢ number) change changes none)
+    ∙ changed_left changes objects number (All-tail (λ (c : ObjectChange). c.number ≢ number) change changes none)

@@ -13,7 +13,8 @@ use Rattle.block_store.specs.Demands.{Demand, LackPlaces}
 use Rattle.block_store.proofs.Steps.{steps_none, steps_on}
 use Rattle.dnode.specs.declared.dnode.Dnode.{Dnode}
 use Rattle.dnode.specs.declared.object_set.ObjectSet.{ObjectSet}
-use Rattle.dnode_slots.specs.Found.{IsNodeFound, IsNodeRefused}
+use Rattle.dnode_slots.specs.Found.{IsNodeRefused}
+use Rattle.objset.specs.Found.{IsDnodeFound}
 use Rattle.dnode_slots.specs.Refused.{IsNodeWriteRefused}
 use Rattle.dnode_tree.specs.declared.writes.BlockWrite.{BlockWrite}
 use Rattle.dnode_tree.specs.Refused.{HasOverfull, IsWayOverfull, IsWriteRefused}
@@ -25,7 +26,7 @@ use Rattle.objset.specs.Changing.{IsDnodeRefused, LackPlacesFor}
 use Rattle.objset.specs.Demands.{empty_node, demands_of_change}
 use Rattle.objset.proofs.Demands.{demands_of_one}
 use Rattle.objset.specs.Refused.{IsObjectRefused, IsChangeRefused}
-use Rattle.objset.proofs.Found.{node_found_in}
+use Rattle.objset.proofs.Found.{dnode_found_in}
 
 -- ---- no way of an object that has no block is refused
 
@@ -76,7 +77,7 @@ module _ (old mid new : Store) (missing : List ℕ) (steps : OnlyReadsAndPlans o
   object_refused_on : (change : ObjectChange) → IsObjectRefused mid new missing set birth change refusal → IsObjectRefused old new missing set birth change refusal
   object_refused_on change refused = record {
     dnode = refused.dnode;
-    found = node_found_in old.spaces mid.spaces steps.shapes set birth change.number refused.dnode refused.found;
+    found = dnode_found_in old.spaces mid.spaces steps.shapes set birth change.number refused.dnode refused.found;
     mid = refused.mid;
     before = steps_on old mid refused.mid missing steps refused.before;
     why = refused.why;
@@ -120,7 +121,7 @@ node_refused old new missing set birth change refusal why =
 
 -- it was not made of the dnode that was found
 pub one_change_refused : (this : Changing) (old mid new : Store) (set : ObjectSet) (change : ObjectChange) (dnode : Dnode) (refusal : Refusal) → OnlyReadsAndPlans old mid this.missing.now → mid.spaces ≡ old.spaces
-    → IsNodeFound old.spaces set this.birth change.number dnode → IsDnodeRefused this mid new dnode change.change refusal
+    → IsDnodeFound old.spaces set this.birth change.number dnode → IsDnodeRefused this mid new dnode change.change refusal
     → (refusal ≡ NoMemory)
     ⊎ (((refusal ≡ NoSpace) × LackPlacesFor this old new set (change ∷ [])) ⊎ IsChangeRefused old new this.missing.now set this.birth (change ∷ []) refusal)
 one_change_refused this old mid new set change dnode refusal steps same found (inl memory) = inl memory

@@ -1,5 +1,5 @@
 -- Changes of objects, one after the other.
-use Rattle.std.proofs.Common.{◌≡◌, ◌≢◌, ◌⊎◌, ◌↔◌, inl, inr, ℕ, ◌+◌, ◌*◌, ◌^◌, ◌<◌, ◌≤◌, List, [], ◌∷◌, ◌++◌, length, take, get_or, cond, eqb, Option, All, AllPairs, append_assoc, refl, sym, ap, ◌∙◌, subst, arith}
+use Rattle.std.proofs.Common.{◌≡◌, ◌≢◌, ◌⊎◌, ◌↔◌, inl, inr, ℕ, ◌+◌, ◌*◌, ◌/◌, ◌^◌, ◌<◌, ◌≤◌, List, [], ◌∷◌, ◌++◌, length, take, get_or, cond, eqb, Option, All, AllPairs, append_assoc, refl, sym, ap, ◌∙◌, subst, arith}
 use Rattle.std.proofs.lemmas.Bool.{cases_eq}
 use Rattle.std.proofs.lemmas.List.{append-nil}
 use Rattle.std.proofs.lemmas.List.Elements.{All-nil, All-push, All-weaker}
@@ -10,19 +10,24 @@ use Rattle.block_store.specs.Plans.{Plans}
 use Rattle.block_store.specs.Store.{Store}
 use Rattle.dnode.specs.declared.dnode.Dnode.{Dnode}
 use Rattle.dnode.specs.declared.object_set.ObjectSet.{ObjectSet}
+use Rattle.dnode.specs.declared.dnode.Dnode.TheVariants.{Free}
 use Rattle.dnode.specs.Dnode.{FitsDnode}
+use Rattle.dnode.specs.ObjectSet.{FitsObjectSet}
+use Rattle.dnode_tree.specs.Births.{HasBirths}
+use Rattle.dnode_tree.specs.Tree.{IsTree}
+use Rattle.dnode_slots.proofs.NodeBirths.{IsWritten, IsLeft, written_or_left}
 use Rattle.dnode_slots.specs.declared.writes.NodeWrite.{NodeWrite}
 use Rattle.dnode_slots.specs.declared.writes.SetRewrite.{SetRewrite}
-use Rattle.dnode_slots.specs.Nodes.{HasNodes}
-use Rattle.dnode_slots.specs.Writes.{FitsWrite, AreNodeWrites, AreNodesRewritten, IsGrownSet, written_nodes}
+use Rattle.dnode_slots.specs.Nodes.{birth_of}
+use Rattle.dnode_slots.specs.Writes.{FitsWrite, AreNodeWrites, AreNodesRewritten, IsGrownSet, written_nodes, births_written}
 use Rattle.block_store.proofs.Steps.{steps_none, steps_on}
 use Rattle.dnode_tree.proofs.Steps.{true_sooner, true_later, few_later}
 use Rattle.dnode_tree.specs.declared.writes.CopyCounts.{CopyCounts}
 use Rattle.block_store.specs.Steps.{OnlyReadsAndPlans, AnswersAreTrue, LossIsTolerable}
 use Rattle.dnode_tree.specs.Rewriting.{IsExchanged}
 use Rattle.objset.proofs.Exchanged.{exchanged_last, exchanged_as}
-use Rattle.objset.proofs.Kept.{object_kept, object_as}
-use Rattle.objset.proofs.Numbers.{taken, passed, all_front, all_last, changed_here, changed_apart, nodes_here, nodes_apart, one_more, all_below}
+use Rattle.objset.proofs.Kept.{object_kept, object_as, within_set}
+use Rattle.objset.proofs.Numbers.{taken, passed, all_front, all_last, changed_here, changed_apart, nodes_here, nodes_apart, one_more, all_below, nodes_left, changed_left}
 use Rattle.objset.specs.declared.changes.ObjectChange.{ObjectChange}
 use Rattle.objset.specs.declared.changes.SetCopies.{SetCopies}
 use Rattle.objset.specs.Changes.{after_change, changed, MayChange, AreChanged, IsGrownFor, object_copies, dnode_copies}
@@ -47,19 +52,20 @@ pub record IsUnderway (copies : SetCopies) (start now : Store) (missing : List �
 
 -- nothing was changed so far
 pub none_changed : (copies : CopyCounts) (stored planned : Contents) (bound birth : ℕ) (set : ObjectSet) (objects : ℕ → Option Object) (own : List Block) (before : ℕ → List Block) (noted : List Block)
-    → Extends stored planned → (are : AreObjects stored bound set objects own before) → bound ≤ birth → AreObjectsChanged copies planned planned birth [] [] are.nodes objects before noted noted
-none_changed copies stored planned bound birth set objects own before noted kept are le = record {
+    → FitsObjectSet set → Extends stored planned → (are : AreObjects stored bound set objects own before) → bound ≤ birth → AreObjectsChanged copies planned planned birth [] [] are.nodes objects before noted noted
+none_changed copies stored planned bound birth set objects own before noted fits kept are le = record {
   kept = λ block bytes known. known;
   after = before;
-  each = λ number. object_kept stored planned bound birth (are.nodes number) (objects number) (before number) kept le (are.each number);
+  each = λ number. object_kept stored planned bound birth (are.nodes number) (objects number) (before number) kept le (within_set stored bound set objects own before fits are number);
   others = λ number none. refl;
+  all = λ number none. All-nil (λ (change : ObjectChange). change.number ≢ number);
   gone = [];
   noted_are = sym (append-nil noted);
   exchanged = (refl, refl);
 }
 
-pub underway_begins : (copies : SetCopies) (start : Store) (missing : List ℕ) (set : ObjectSet) (birth : ℕ) (noted : List Block) → IsUnderway copies start start missing set birth [] [] noted noted
-underway_begins copies start missing set birth noted = record {
+pub underway_begins : (copies : SetCopies) (start : Store) (missing : List ℕ) (set : ObjectSet) (birth : ℕ) (noted : List Block) → FitsObjectSet set → IsUnderway copies start start missing set birth [] [] noted noted
+underway_begins copies start missing set birth noted fits = record {
   steps = steps_none start missing;
   writes_are = record { order = λ i j d less low. absurd (omega (arith, low)); each = All-nil FitsWrite };
   below = λ number. (λ all. All-nil (λ (write : NodeWrite). write.number < number), λ all. All-nil (λ (change : ObjectChange). change.number < number));
@@ -67,7 +73,7 @@ underway_begins copies start missing set birth noted = record {
     All-nil (λ (change : ObjectChange). MayChange change.change (objects change.number)),
     planned,
     plans,
-    none_changed (object_copies copies) stored planned bound birth set objects own before noted plans.kept are le,
+    none_changed (object_copies copies) stored planned bound birth set objects own before noted fits plans.kept are le,
   );
 }
 
@@ -113,6 +119,9 @@ module _ (copies : CopyCounts) (planned mid later : Contents) (birth : ℕ) (cha
     others = λ number none.
         is_other number (λ e. all_last (λ (c : ObjectChange). c.number ≢ number) changes last none (sym e))
         ∙ so_far.others number (all_front (λ (c : ObjectChange). c.number ≢ number) changes last none);
+    all = λ number none.
+        All-push (λ (c : ObjectChange). c.number ≢ number) changes last (so_far.all number (all_front (λ (w : NodeWrite). w.number ≢ number) writes write none))
+        (λ is. all_last (λ (w : NodeWrite). w.number ≢ number) writes write none (same ∙ is));
     gone = so_far.gone ++ step.gone;
     noted_are = step.noted_are ∙ ap (λ front. front ++ step.gone) so_far.noted_are ∙ append_assoc noted so_far.gone step.gone;
     exchanged = exchanged_last copies birth planned mid later changes last before after_last so_far.gone step.gone
@@ -179,31 +188,55 @@ module _ (copies : SetCopies) (start now new : Store) (missing : List ℕ) (set 
       step stored there.1 bound objects own before there.2 are le (true_later start now new missing so_far.steps steps honest) (few_later start now new missing so_far.steps steps few)
 
 -- the set is rewritten with what was changed
-pub set_changed : (copies : SetCopies) (planned mid later : Contents) (birth : ℕ) (rewrite done : SetRewrite) (changes : List ObjectChange) (writes : List NodeWrite) (nodes : ℕ → Dnode)
-    (objects : ℕ → Option Object) (own : List Block) (before : ℕ → List Block) (noted : List Block)
-    → AreObjectsChanged (object_copies copies) planned mid birth changes writes nodes objects before [] noted
-    → AreNodesRewritten (dnode_copies copies) mid later birth rewrite (written_nodes writes nodes) own
-    → done.set ≡ rewrite.set → done.replaced.items ≡ noted ++ rewrite.replaced.items
-    → AreChanged copies planned later birth done changes (changed changes objects) own before
-set_changed copies planned mid later birth rewrite done changes writes nodes objects own before noted so_far step same replaced = record {
-  own_after = step.blocks;
-  after = so_far.after;
-  are = record {
-    nodes = written_nodes writes nodes;
-    dnodes = subst (λ set. HasNodes later birth set (written_nodes writes nodes) step.blocks) (sym same) step.dnodes;
-    each = λ number. object_kept mid later birth birth (written_nodes writes nodes number) (changed changes objects number) (so_far.after number) step.kept (omega arith) (so_far.each number);
-  };
-  others = so_far.others;
-  mid = mid;
-  gone = so_far.gone;
-  own_gone = rewrite.replaced.items;
-  of_objects = so_far.exchanged;
-  of_dnodes = step.exchanged;
-  kept_first = so_far.kept;
-  kept_last = step.kept;
-  kept = λ block bytes known. step.kept block bytes (so_far.kept block bytes known);
-  replaced = replaced ∙ ap (λ front. front ++ rewrite.replaced.items) so_far.noted_are;
-}
+module _ (copies : SetCopies) (stored planned mid later : Contents) (birth : ℕ) (rewrite done : SetRewrite) (changes : List ObjectChange) (writes : List NodeWrite) (nodes : ℕ → Dnode) (births : ℕ → ℕ)
+    (objects : ℕ → Option Object) (own : List Block) (before : ℕ → List Block) (noted : List Block) (kept : Extends stored planned)
+    (were : (number : ℕ) → IsObject stored (births (number / 32)) (nodes number) (objects number) (before number))
+    (so_far : AreObjectsChanged (object_copies copies) planned mid birth changes writes nodes objects before [] noted)
+    (step : AreNodesRewritten (dnode_copies copies) mid later birth rewrite (written_nodes writes nodes) (births_written writes birth births) own) where
+  -- a dnode's block is new, or the object is what it was
+  each_after : (number : ℕ) → IsWritten writes birth births (number / 32) ⊎ IsLeft writes birth births (number / 32)
+      → IsObject later (birth_of step.dnodes.births number) (written_nodes writes nodes number) (changed changes objects number) (so_far.after number)
+  each_after number (inl written) =
+      subst (λ born. IsObject later born (written_nodes writes nodes number) (changed changes objects number) (so_far.after number)) (sym (step.births_are (number / 32) ∙ written.is))
+      (object_kept mid later birth birth (written_nodes writes nodes number) (changed changes objects number) (so_far.after number) step.kept (omega arith) (so_far.each number))
+  each_after number (inr left) =
+      let none : All (λ write. write.number ≢ number) writes =
+      All-weaker (λ (w : NodeWrite). w.number / 32 ≢ number / 32) (λ (w : NodeWrite). w.number ≢ number) (λ w apart is. apart (ap (λ n. n / 32) is)) writes left.none in
+      let unchanged : All (λ change. change.number ≢ number) changes = so_far.all number none in
+      subst (λ born. IsObject later born (written_nodes writes nodes number) (changed changes objects number) (so_far.after number)) (sym (step.births_are (number / 32) ∙ left.is))
+      (object_as later (births (number / 32)) (nodes number) (written_nodes writes nodes number) (objects number) (changed changes objects number) (before number) (so_far.after number)
+      (sym (nodes_left writes nodes number none)) (sym (changed_left changes objects number unchanged)) (sym (so_far.others number unchanged))
+      (object_kept stored later (births (number / 32)) (births (number / 32)) (nodes number) (objects number) (before number)
+      (λ block bytes known. step.kept block bytes (so_far.kept block bytes (kept block bytes known))) (omega arith) (were number)))
+
+  pub set_changed : done.set ≡ rewrite.set → done.replaced.items ≡ noted ++ rewrite.replaced.items → AreChanged copies planned later birth done changes (changed changes objects) own before
+  set_changed same replaced = record {
+    own_after = step.blocks;
+    after = so_far.after;
+    are = record {
+      nodes = written_nodes writes nodes;
+      dnodes = record {
+        array = step.dnodes.array;
+        tree = subst (λ (set : ObjectSet). IsTree later birth set.dnodes step.dnodes.array step.blocks) (sym same) step.dnodes.tree;
+        births = step.dnodes.births;
+        born = subst (λ (set : ObjectSet). HasBirths later set.dnodes step.dnodes.births) (sym same) step.dnodes.born;
+        each = step.dnodes.each;
+        first = step.dnodes.first;
+        behind = subst (λ (set : ObjectSet). (number : ℕ) → set.objects ≤ number → written_nodes writes nodes number ≡ Free) (sym same) step.dnodes.behind;
+      };
+      each = λ number. each_after number (written_or_left writes birth births (number / 32));
+    };
+    others = so_far.others;
+    mid = mid;
+    gone = so_far.gone;
+    own_gone = rewrite.replaced.items;
+    of_objects = so_far.exchanged;
+    of_dnodes = step.exchanged;
+    kept_first = so_far.kept;
+    kept_last = step.kept;
+    kept = λ block bytes known. step.kept block bytes (so_far.kept block bytes known);
+    replaced = replaced ∙ ap (λ front. front ++ rewrite.replaced.items) so_far.noted_are;
+  }
 
 pub set_grown : (old new : ObjectSet) (changes : List ObjectChange) (writes : List NodeWrite)
     → ((number : ℕ) → All (λ change. change.number < number) changes ↔ All (λ write. write.number < number) writes) → IsGrownSet old new writes → IsGrownFor old new changes

@@ -50,6 +50,7 @@ pub record AreObjectsChanged (copies : CopyCounts) (planned later : Contents) (b
   pub after : ℕ → List Block
   pub each : (number : ℕ) → IsObject later birth (written_nodes writes nodes number) (changed changes objects number) (after number)
   pub others : (number : ℕ) → All (λ change. change.number ≢ number) changes → after number ≡ before number
+  pub all : (number : ℕ) → All (λ write. write.number ≢ number) writes → All (λ change. change.number ≢ number) changes
   pub gone : List Block
   pub noted_are : noted_later ≡ noted ++ gone
   pub exchanged : AreExchanged copies birth planned later changes before after gone

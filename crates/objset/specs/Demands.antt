@@ -8,7 +8,7 @@ use Rattle.dnode.specs.declared.dnode.Dnode.{Dnode}
 use Rattle.dnode.specs.declared.dnode.Dnode.TheVariants.{Free as NoObject, Object as Node}
 use Rattle.dnode.specs.declared.node.ObjectNode.{ObjectNode}
 use Rattle.dnode.specs.declared.object_set.ObjectSet.{ObjectSet}
-use Rattle.dnode_slots.specs.Found.{IsNodeFound}
+use Rattle.objset.specs.Found.{IsDnodeFound}
 use Rattle.dnode_slots.specs.Writes.{AreNodeDemands}
 use Rattle.dnode_tree.specs.Spots.{demands_of}
 use Rattle.objset.specs.declared.changes.Change.{Change}
@@ -50,7 +50,7 @@ abbrev pub AreDemandsOf :
 AreDemandsOf spaces set birth copies [] demands = demands ≡ []
 AreDemandsOf spaces set birth copies (change ∷ changes) demands =
     (dnode : Dnode) × (rest : List Demand)
-    × IsNodeFound spaces set birth change.number dnode × FitsChange change.change dnode
+    × IsDnodeFound spaces set birth change.number dnode × FitsChange change.change dnode
     × AreDemandsOf spaces set birth copies changes rest
     × (demands ≡ demands_of_change copies change.change dnode ++ rest)
 

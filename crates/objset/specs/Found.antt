@@ -5,29 +5,37 @@ use Rattle.block_store.specs.declared.refusal.Refusal.TheVariants.{BadPointer}
 use Rattle.block_store.specs.declared.space.VdevSpace.{VdevSpace}
 use Rattle.block_store.specs.Steps.{OnlyReadsBlocks}
 use Rattle.block_store.specs.Store.{Store}
+use Rattle.dnode.specs.declared.dnode.Dnode.{Dnode}
 use Rattle.dnode.specs.declared.dnode.Dnode.TheVariants.{Free, Object as Node}
 use Rattle.dnode.specs.declared.node.ObjectNode.{ObjectNode}
 use Rattle.dnode.specs.declared.object_set.ObjectSet.{ObjectSet}
 use Rattle.dnode_tree.specs.Ways.{IsFound, IsRefused}
-use Rattle.dnode_slots.specs.Found.{IsNodeFound, IsNodeRefused}
+use Rattle.dnode_slots.specs.Found.{found_dnode, IsNodeFound, IsNodeRefused}
 
--- the object's dnode was read, and behind it the data block, or a hole
+-- the dnode was read, in a block of some birth
+abbrev pub IsDnodeFound : List VdevSpace → ObjectSet → ℕ → ℕ → Dnode → Type 0
+IsDnodeFound spaces set birth number dnode =
+    (block_birth : ℕ) × IsNodeFound spaces set birth number (found_dnode dnode block_birth)
+
+-- The object's dnode was read, and behind it the data block, or a hole. What the dnode points to was born by the birth of the dnode's block.
 pub record IsDataFound (spaces : List VdevSpace) (set : ObjectSet) (birth number id : ℕ) (found : Option (List ℕ)) : Type 0 where
   pub node : ObjectNode
-  pub has_node : IsNodeFound spaces set birth number (Node node)
-  pub is : IsFound spaces node birth id found
+  pub block_birth : ℕ
+  pub has_node : IsNodeFound spaces set birth number (found_dnode (Node node) block_birth)
+  pub is : IsFound spaces node block_birth id found
 
 -- the object's dnode was read, and the cause is on the way from it
 pub record IsDataLost (old new : Store) (missing : List ℕ) (set : ObjectSet) (birth number id : ℕ) (refusal : Refusal) : Type 0 where
   pub node : ObjectNode
-  pub has_node : IsNodeFound old.spaces set birth number (Node node)
+  pub block_birth : ℕ
+  pub has_node : IsNodeFound old.spaces set birth number (found_dnode (Node node) block_birth)
   pub mid : Store
   pub before : OnlyReadsBlocks old mid missing
-  pub why : IsRefused mid new missing node birth id refusal
+  pub why : IsRefused mid new missing node block_birth id refusal
 
 -- why a data block of an object was not read: its dnode was not, or is free, or the cause is on the way from it
 abbrev pub IsDataRefused : Store → Store → List ℕ → ObjectSet → ℕ → ℕ → ℕ → Refusal → Type 0
 IsDataRefused old new missing set birth number id refusal =
     IsNodeRefused old new missing set birth number refusal
-    ⊎ (((refusal ≡ BadPointer) × IsNodeFound old.spaces set birth number Free)
+    ⊎ (((refusal ≡ BadPointer) × (block_birth : ℕ) × IsNodeFound old.spaces set birth number (found_dnode Free block_birth))
     ⊎ IsDataLost old new missing set birth number id refusal)

@@ -5,7 +5,7 @@ use Rattle.block_store.specs.Blocks.{Contents}
 use Rattle.dnode.specs.declared.dnode.Dnode.{Dnode}
 use Rattle.dnode.specs.declared.dnode.Dnode.TheVariants.{Free, Object as Node}
 use Rattle.dnode.specs.declared.object_set.ObjectSet.{ObjectSet}
-use Rattle.dnode_slots.specs.Nodes.{HasNodes}
+use Rattle.dnode_slots.specs.Nodes.{HasNodes, birth_of}
 use Rattle.dnode_tree.specs.Tree.{IsTree}
 
 -- what an object reads as: its highest block id, and the bytes of each data block, none at a hole
@@ -27,8 +27,9 @@ IsObject stored birth (Node node) (Some object) blocks =
     (object.object_type ≡ node.object_type) × (object.data_sectors ≡ node.data_sectors) × (object.highest ≡ node.highest)
     × IsTree stored birth node object.array blocks
 
--- The set's objects by number, the blocks of its dnodes, and the blocks of each object.
+-- The set's objects by number, the blocks of its dnodes, and the blocks of each object: these were born in the group of the block that has
+-- its dnode, or before.
 pub record AreObjects (stored : Contents) (birth : ℕ) (set : ObjectSet) (objects : ℕ → Option Object) (own : List Block) (blocks : ℕ → List Block) : Type 0 where
   pub nodes : ℕ → Dnode
   pub dnodes : HasNodes stored birth set nodes own
-  pub each : (number : ℕ) → IsObject stored birth (nodes number) (objects number) (blocks number)
+  pub each : (number : ℕ) → IsObject stored (birth_of dnodes.births number) (nodes number) (objects number) (blocks number)

@@ -7,7 +7,7 @@ use Rattle.block_store.specs.Store.{Store}
 use Rattle.dnode.specs.declared.dnode.Dnode.{Dnode}
 use Rattle.dnode.specs.declared.dnode.Dnode.TheVariants.{Object as Node}
 use Rattle.dnode.specs.declared.object_set.ObjectSet.{ObjectSet}
-use Rattle.dnode_slots.specs.Found.{IsNodeFound}
+use Rattle.objset.specs.Found.{IsDnodeFound}
 use Rattle.dnode_slots.specs.Refused.{IsNodeWriteRefused}
 use Rattle.dnode_tree.specs.Refused.{IsWriteRefused}
 use Rattle.dnode_tree.specs.Tree.{property_of}
@@ -33,7 +33,7 @@ IsTreeRefused old new missing birth change dnode refusal = ⊥
 pub record IsObjectRefused (old new : Store) (missing : List ℕ) (set : ObjectSet) (birth : ℕ)
     (change : ObjectChange) (refusal : Refusal) : Type 0 where
   pub dnode : Dnode
-  pub found : IsNodeFound old.spaces set birth change.number dnode
+  pub found : IsDnodeFound old.spaces set birth change.number dnode
   pub mid : Store
   pub before : OnlyReadsAndPlans old mid missing
   pub why : ((refusal ≡ BadPointer) × ¬ FitsChange change.change dnode)

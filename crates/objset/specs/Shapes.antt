@@ -4,7 +4,7 @@ use Rattle.block_store.specs.declared.space.VdevSpace.{VdevSpace}
 use Rattle.dnode.specs.declared.dnode.Dnode.{Dnode}
 use Rattle.dnode.specs.declared.dnode.Dnode.TheVariants.{Free, Object as Node}
 use Rattle.dnode.specs.declared.object_set.ObjectSet.{ObjectSet}
-use Rattle.dnode_slots.specs.Found.{IsNodeFound}
+use Rattle.dnode_slots.specs.Found.{found_dnode, IsNodeFound}
 use Rattle.objset.specs.declared.shape.ObjectShape.{ObjectShape}
 use Rattle.objset.specs.Objects.{Object, EndsAt}
 
@@ -23,4 +23,5 @@ HasShape (Some object) (Some shape) =
 
 -- the shape is that of the dnode that was read
 abbrev pub IsShapeFound : List VdevSpace → ObjectSet → ℕ → ℕ → Option ObjectShape → Type 0
-IsShapeFound spaces set birth number found = (dnode : Dnode) × IsNodeFound spaces set birth number dnode × (found ≡ shape_of_dnode dnode)
+IsShapeFound spaces set birth number found =
+    (dnode : Dnode) × (block_birth : ℕ) × IsNodeFound spaces set birth number (found_dnode dnode block_birth) × (found ≡ shape_of_dnode dnode)

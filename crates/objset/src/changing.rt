@@ -179,8 +179,8 @@ impl<'a> Changing<'a> {
             (change.now ∷ []) refusal)) }
     {
         let number = change.number;
-        let dnode = dnode_slots::get(set, store, alloc, number, self.birth, self.missing)?;
-        let node = self.change_dnode(dnode, store, alloc, &change.change, replaced)?;
+        let found = dnode_slots::get(set, store, alloc, number, self.birth, self.missing)?;
+        let node = self.change_dnode(found.dnode, store, alloc, &change.change, replaced)?;
         Ok(NodeWrite { number, node })
     }
 

@@ -44,6 +44,6 @@ pub fn find<D: Disk + Drop>(
         → AreObjects stored birth set.now objects own blocks → AnswersAreTrue store.old store.new
         → LossIsTolerable store.old store.new missing.now → refusal ≡ Refusal.NoMemory) }
 {
-    let dnode = dnode_slots::get(set, store, alloc, number, birth, missing)?;
-    Ok(ObjectShape::of_dnode(&dnode))
+    let found = dnode_slots::get(set, store, alloc, number, birth, missing)?;
+    Ok(ObjectShape::of_dnode(&found.dnode))
 }

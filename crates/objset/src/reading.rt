@@ -49,10 +49,11 @@ pub fn get<D: Disk + Drop>(
         → (refusal ≡ Refusal.NoMemory) ⊎ ((refusal ≡ Refusal.BadPointer)
         × (objects number ≡ None))) }
 {
-    let Dnode::Object(node) = dnode_slots::get(set, store, alloc, number, birth, missing)? else {
+    let found = dnode_slots::get(set, store, alloc, number, birth, missing)?;
+    let Dnode::Object(node) = found.dnode else {
         return Err(Refusal::BadPointer);
     };
-    dnode_tree::get(&node, store, alloc, id, birth, missing)
+    dnode_tree::get(&node, store, alloc, id, found.birth, missing)
 }
 
 /// All blocks of an object, each before those below it, and otherwise in the order of their data. `BadPointer` where there
@@ -80,8 +81,9 @@ pub fn walk<D: Disk + Drop>(
         → (refusal ≡ Refusal.NoMemory) ⊎ ((refusal ≡ Refusal.BadPointer)
         × (objects number ≡ None))) }
 {
-    let Dnode::Object(node) = dnode_slots::get(set, store, alloc, number, birth, missing)? else {
+    let found = dnode_slots::get(set, store, alloc, number, birth, missing)?;
+    let Dnode::Object(node) = found.dnode else {
         return Err(Refusal::BadPointer);
     };
-    dnode_tree::walk(&node, store, alloc, birth, missing)
+    dnode_tree::walk(&node, store, alloc, found.birth, missing)
 }

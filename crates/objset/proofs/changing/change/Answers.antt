@@ -1,7 +1,7 @@
 use Rattle.std.proofs.Common.{List, inl, refl, subst}
 use Rattle.block_pointer.specs.declared.block.Block.{Block}
 use Rattle.dnode_slots.specs.declared.writes.NodeWrite.{NodeWrite}
-use Rattle.dnode_slots.specs.Writes.{AreNodesRewritten, IsGrownSet, numbers_of, written_nodes}
+use Rattle.dnode_slots.specs.Writes.{AreNodesRewritten, IsGrownSet, numbers_of, written_nodes, births_written}
 use Rattle.dnode_tree.proofs.Refusing.{passed_on}
 use Rattle.block_store.proofs.Steps.{steps_on}
 use Rattle.dnode_tree.proofs.Steps.{true_sooner, true_later, few_later}
@@ -52,12 +52,13 @@ returns-clause-changed g c = λ stored planned bound objects own before plans ar
       there.0,
       next.0,
       next.1,
-      set_changed c.args.copies planned there.1 next.0 c.args.birth c.in_ok-rewrite.rewrite _ c.args.changes.now c.in_ok-writes.writes.items are.nodes objects own before c.change_each.new.replaced.items
+      set_changed c.args.copies stored planned there.1 next.0 c.args.birth c.in_ok-rewrite.rewrite _ c.args.changes.now c.in_ok-writes.writes.items are.nodes (are.dnodes.births 0) objects own before
+          c.change_each.new.replaced.items plans.kept are.each
           (subst
           (λ (noted : List Block). AreObjectsChanged (object_copies c.args.copies) planned there.1 c.args.birth c.args.changes.now c.in_ok-writes.writes.items are.nodes objects before noted c.change_each.new.replaced.items)
           c.new-replaced.ensures.items there.3)
-          (subst (λ counts. AreNodesRewritten counts there.1 next.0 c.args.birth c.in_ok-rewrite.rewrite (written_nodes c.in_ok-writes.writes.items are.nodes) own) c.of_dnodes.ensures
-          (subst (λ (ws : List NodeWrite). AreNodesRewritten c.of_dnodes.result there.1 next.0 c.args.birth c.in_ok-rewrite.rewrite (written_nodes ws are.nodes) own) c.deref.ensures.value next.2))
+          (subst (λ counts. AreNodesRewritten counts there.1 next.0 c.args.birth c.in_ok-rewrite.rewrite (written_nodes c.in_ok-writes.writes.items are.nodes) (births_written c.in_ok-writes.writes.items c.args.birth (are.dnodes.births 0)) own) c.of_dnodes.ensures
+          (subst (λ (ws : List NodeWrite). AreNodesRewritten c.of_dnodes.result there.1 next.0 c.args.birth c.in_ok-rewrite.rewrite (written_nodes ws are.nodes) (births_written ws c.args.birth (are.dnodes.births 0)) own) c.deref.ensures.value next.2))
           refl (appended c.change_each.new.replaced.items _ _ _ c.in_ok-extend_from_slice.ensures.items c.deref-2.ensures.value),
     )
 

@@ -1,36 +1,39 @@
-use Rattle.std.proofs.Common.{◌≡◌, Option, Some, None, inl, inr, refl, sym, ◌∙◌}
+use Rattle.std.proofs.Common.{◌≡◌, Option, Some, None, inl, inr, refl, sym, ◌∙◌, subst}
 use Rattle.std.proofs.lemmas.Result.{IfOk-weaker, IfErr-weaker}
 use Rattle.block_store.proofs.Steps.{reads_on}
 use Rattle.dnode_tree.proofs.FurtherReads.{true_before, true_after, few_after}
 use Rattle.dnode_tree.proofs.Refusing.{passed_on}
-use Rattle.objset.proofs.Kept.{no_object, object_there}
-use Rattle.objset.specs.Objects.{Object}
+use Rattle.objset.proofs.Kept.{no_object, used, object_there}
+use Rattle.dnode_slots.specs.Nodes.{birth_of}
+use Rattle.objset.specs.Objects.{Object, IsObject}
 use Rattle.objset.proofs.reading.walk.Goals as goal
 
 there_is_some : (object : Option Object) (there : Object) → object ≡ Some there → object ≡ None → ⊥
 there_is_some object there is none = let clash : None ≡ Some there = sym none ∙ is in cc
 
-pub returns-in_err-node-clause-known : goal.returns-in_err-node-clause-known
-returns-in_err-node-clause-known g c =
-    passed_on _ _ _ c.from_residual.ensures.1 (λ stored objects own blocks held are honest few. inl (c.in_err-node.ensures.known stored are.nodes own held are.dnodes honest few))
+pub returns-in_err-found-clause-known : goal.returns-in_err-found-clause-known
+returns-in_err-found-clause-known g c =
+    passed_on _ _ _ c.from_residual.ensures.1 (λ stored objects own blocks held are honest few. inl (c.in_err-found.ensures.known stored are.nodes own held are.dnodes honest few))
 
 pub returns-in_default-clause-known : goal.returns-in_default-clause-known
 returns-in_default-clause-known g c = λ stored objects own blocks held are honest few.
-    let none = no_object stored c.args.birth c.in_ok-node.field-0 (are.nodes c.args.number) (objects c.args.number) (blocks c.args.number)
-    (c.in_ok-node.ensures.value stored are.nodes own held are.dnodes honest) c.in_default.is (are.each c.args.number) in
+    let none = no_object stored (birth_of are.dnodes.births c.args.number) c.in_ok-found.found.dnode (are.nodes c.args.number) (objects c.args.number) (blocks c.args.number)
+    (c.in_ok-found.ensures.value stored are.nodes own held are.dnodes honest) c.in_default.is (are.each c.args.number) in
     inr (refl, none.0)
 
 pub returns-clause-reads : goal.returns-clause-reads
-returns-clause-reads g c = reads_on _ _ _ _ c.in_ok-node.ensures.reads c.walk.ensures.reads
+returns-clause-reads g c = reads_on _ _ _ _ c.in_ok-found.ensures.reads c.walk.ensures.reads
 
 pub returns-clause-blocks : goal.returns-clause-blocks
 returns-clause-blocks g c =
     IfOk-weaker c.walk.result _ _
     (λ found is stored objects own blocks held are honest.
-    let there = object_there stored c.args.birth c.in_ok-node.field-0 (are.nodes c.args.number) c.in-Object.node (objects c.args.number) (blocks c.args.number)
-    (c.in_ok-node.ensures.value stored are.nodes own held are.dnodes (true_before _ _ _ _ c.in_ok-node.ensures.reads c.walk.ensures.reads honest)) c.in-Object.is (are.each c.args.number) in (
+    let born = c.in_ok-found.ensures.born stored are.nodes own held are.dnodes (true_before _ _ _ _ c.in_ok-found.ensures.reads c.walk.ensures.reads honest) (used c.in_ok-found.found.dnode c.in-Object.node c.in-Object.is) in
+    let there = object_there stored c.in_ok-found.found.birth c.in_ok-found.found.dnode (are.nodes c.args.number) c.in-Object.node (objects c.args.number) (blocks c.args.number)
+    (c.in_ok-found.ensures.value stored are.nodes own held are.dnodes (true_before _ _ _ _ c.in_ok-found.ensures.reads c.walk.ensures.reads honest)) c.in-Object.is
+    (subst (λ birth. IsObject stored birth (are.nodes c.args.number) (objects c.args.number) (blocks c.args.number)) (sym born) (are.each c.args.number)) in (
       λ none. there_is_some (objects c.args.number) there.there there.is none,
-      is stored there.there.array (blocks c.args.number) (c.in_ok-node.ensures.reads.keeps stored held) there.tree (true_after _ _ _ _ c.in_ok-node.ensures.reads c.walk.ensures.reads honest),
+      is stored there.there.array (blocks c.args.number) (c.in_ok-found.ensures.reads.keeps stored held) there.tree (true_after _ _ _ _ c.in_ok-found.ensures.reads c.walk.ensures.reads honest),
     ))
     c.walk.ensures.blocks
 
@@ -38,8 +41,10 @@ pub returns-clause-known : goal.returns-clause-known
 returns-clause-known g c =
     IfErr-weaker c.walk.result _ _
     (λ refusal is stored objects own blocks held are honest few.
-    let there = object_there stored c.args.birth c.in_ok-node.field-0 (are.nodes c.args.number) c.in-Object.node (objects c.args.number) (blocks c.args.number)
-    (c.in_ok-node.ensures.value stored are.nodes own held are.dnodes (true_before _ _ _ _ c.in_ok-node.ensures.reads c.walk.ensures.reads honest)) c.in-Object.is (are.each c.args.number) in
-    inl (is stored there.there.array (blocks c.args.number) (c.in_ok-node.ensures.reads.keeps stored held) there.tree (true_after _ _ _ _ c.in_ok-node.ensures.reads c.walk.ensures.reads honest)
-    (few_after _ _ _ _ c.in_ok-node.ensures.reads c.walk.ensures.reads few)))
+    let born = c.in_ok-found.ensures.born stored are.nodes own held are.dnodes (true_before _ _ _ _ c.in_ok-found.ensures.reads c.walk.ensures.reads honest) (used c.in_ok-found.found.dnode c.in-Object.node c.in-Object.is) in
+    let there = object_there stored c.in_ok-found.found.birth c.in_ok-found.found.dnode (are.nodes c.args.number) c.in-Object.node (objects c.args.number) (blocks c.args.number)
+    (c.in_ok-found.ensures.value stored are.nodes own held are.dnodes (true_before _ _ _ _ c.in_ok-found.ensures.reads c.walk.ensures.reads honest)) c.in-Object.is
+    (subst (λ birth. IsObject stored birth (are.nodes c.args.number) (objects c.args.number) (blocks c.args.number)) (sym born) (are.each c.args.number)) in
+    inl (is stored there.there.array (blocks c.args.number) (c.in_ok-found.ensures.reads.keeps stored held) there.tree (true_after _ _ _ _ c.in_ok-found.ensures.reads c.walk.ensures.reads honest)
+    (few_after _ _ _ _ c.in_ok-found.ensures.reads c.walk.ensures.reads few)))
     c.walk.ensures.known

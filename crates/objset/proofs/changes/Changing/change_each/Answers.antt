@@ -23,7 +23,7 @@ loop-change-init g c =
     IsUnderway c.args.self.copies c.args.store.now c.args.store.now c.args.self.missing.now c.args.set.now c.args.self.birth [] ws c.args.replaced.now.items c.args.replaced.now.items
     × ArePlacedFor c.args.self c.args.store.now c.args.store.now c.args.set.now [] ws in
     subst Starts (sym c.new-writes.ensures.items) (
-      underway_begins c.args.self.copies c.args.store.now c.args.self.missing.now c.args.set.now c.args.self.birth c.args.replaced.now.items,
+      underway_begins c.args.self.copies c.args.store.now c.args.self.missing.now c.args.set.now c.args.self.birth c.args.replaced.now.items c.requires.set,
       placing_begins c.args.self c.args.store.now c.args.set.now,
     )
 
