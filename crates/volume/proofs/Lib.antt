@@ -4,6 +4,7 @@ mod Dividing
 pub mod Ids
 mod Laying
 pub mod Made
+pub mod Judging
 pub mod Putting
 mod Ranges
 pub mod Refusing

@@ -1,5 +1,5 @@
 -- Volumes that are made.
-use Rattle.std.proofs.Common.{◌≡◌, ℕ, ◌*◌, ◌/◌, List, [], replicate, None, refl, sym, ap, subst}
+use Rattle.std.proofs.Common.{◌≡◌, ℕ, ◌*◌, ◌/◌, ◌<◌, List, [], replicate, None, refl, sym, ap, subst}
 use Rattle.std.specs.Prelude.{Vec}
 use Rattle.std.specs.declared.alloc.Global.{Global}
 use Rattle.std.proofs.lemmas.List.{length-replicate}
@@ -13,7 +13,7 @@ use Rattle.dnode_tree.specs.Writes.{written}
 use Rattle.dnode_tree.proofs.Standing.{empty_trees}
 use Rattle.objset.specs.declared.changes.Change.{Change}
 use Rattle.objset.specs.declared.changes.Change.TheVariants.{Create}
-use Rattle.objset.specs.Changes.{changed, after_change}
+use Rattle.objset.specs.Changes.{changed, after_change, highest_of}
 use Rattle.objset.specs.Objects.{AreObjects}
 use Rattle.volume.specs.declared.volume.VolumeSet.{VolumeSet}
 use Rattle.volume.specs.Placing.{IsMade, IsSetPlanned, data_change}
@@ -37,13 +37,14 @@ no_objects stored birth set hole = record {
 
 -- the data of a volume of zeros
 pub data_of_zeros : (size block_size sectors : ℕ) (writes : Vec BlockWrite Global) → writes.items ≡ [] → sectors ≡ block_size / 512
-    → IsData size block_size (changed (data_change (Create 23 sectors writes)) (λ number. None)) (replicate size 0)
-data_of_zeros size block_size sectors writes none is = record {
+    → 0 < size / block_size → IsData size block_size (changed (data_change (Create 23 sectors writes)) (λ number. None)) (replicate size 0)
+data_of_zeros size block_size sectors writes none is some = record {
   others = λ number apart. other_object number (after_change (Create 23 sectors writes) None) None apart;
   there = _;
   there_is = refl;
   object_type = refl;
   sectors = is;
+  highest = subst (λ (blocks : List BlockWrite). highest_of blocks 0 < size / block_size) (sym none) some;
   size_is = length-replicate {A = ℕ} size 0;
   blocks = λ id lt. subst (λ (blocks : List BlockWrite). HasBytes block_size (written blocks (λ id. None) id) (part (replicate {A = ℕ} size 0) block_size id)) (sym none)
       (sym (slice_zeros size (id * block_size) block_size (block_fits id size block_size lt)));

@@ -64,6 +64,13 @@ written_behind (block ∷ blocks) array n id below past none =
 pub other_object : (number : ℕ) (x y : Option Object) → number ≢ 1 → (if 1 == number then x else y) ≡ y
 other_object number x y apart = grind (arith, apart)
 
+highest_below : (blocks : List BlockWrite) (id n : ℕ) → id < n → All (λ block. block.id < n) blocks → highest_of blocks id < n
+highest_below [] id n lt below = lt
+highest_below (block ∷ blocks) id n lt below =
+    let first : block.id < n = All-head (λ (b : BlockWrite). b.id < n) block blocks below in
+    let rest : highest_of blocks id < n = highest_below blocks id n lt (All-tail (λ (b : BlockWrite). b.id < n) block blocks below) in
+    omega arith
+
 pub data_with : (volume : VolumeSet) (objects : ℕ → Option Object) (array after : List ℕ) (blocks : Vec BlockWrite Global) → IsData volume.size volume.block_size objects array
     → AreBlocksOf volume blocks.items → IsArrayWith array volume.block_size blocks.items after
     → IsData volume.size volume.block_size (changed (data_change (Put blocks)) objects) after
@@ -73,6 +80,7 @@ data_with volume objects array after blocks data_is are with = record {
   there_is = ap (after_change (Put blocks)) data_is.there_is;
   object_type = data_is.object_type;
   sectors = data_is.sectors;
+  highest = highest_below blocks.items data_is.there.highest (volume.size / volume.block_size) data_is.highest are.ids;
   size_is = with.size ∙ data_is.size_is;
   blocks = λ id lt. written_has blocks.items data_is.there.array after volume.block_size id with.put
       (λ none. subst (λ (bytes : List ℕ). HasBytes volume.block_size (data_is.there.array id) bytes)
@@ -161,6 +169,7 @@ stays_with old new bound birth block size block_size array after blocks le more 
           there_is = data_is.there_is;
           object_type = data_is.object_type;
           sectors = data_is.sectors;
+          highest = data_is.highest;
           size_is = with.size ∙ data_is.size_is;
           blocks = λ id lt. subst (λ (bytes : List ℕ). HasBytes block_size (data_is.there.array id) bytes)
               (sym (with.others id (subst (λ (n : ℕ). id * block_size + block_size ≤ n) (sym data_is.size_is) (block_fits id size block_size lt)) (λ any. absurd (omega (arith, any.2, ap length none)))))

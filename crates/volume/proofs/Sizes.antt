@@ -1,9 +1,10 @@
 -- The sizes of blocks.
-use Rattle.std.proofs.Common.{◌≡◌, ℕ, ◌*◌, ◌/◌, ◌≤◌, Bool, true, false, List, [], ◌∷◌, refl, ap, ◌∙◌, arith, IsTrue}
+use Rattle.std.proofs.Common.{◌≡◌, ℕ, ◌*◌, ◌/◌, ◌<◌, ◌≤◌, Bool, true, false, List, [], ◌∷◌, refl, ap, ◌∙◌, arith, IsTrue}
 use Rattle.std.specs.Prelude.{◌==◌, ◌&&◌, nat_le}
 use Rattle.std.specs.List.{list_any, list_all}
 use Rattle.std.proofs.lemmas.Bool.Decides.{nat_tests}
 use Rattle.pool_model.specs.Names.{is_block_size}
+use Rattle.volume.proofs.Dividing.{le_div}
 
 is_size : ℕ → Bool
 is_size n = nat_le 512 n && (nat_le n 131072 && (n / 512 * 512 == n))
@@ -31,3 +32,10 @@ most_size n t = let e = size_is n t in grind (arith, nat_tests, e)
 pub whole_sectors : (n : ℕ) → IsTrue (is_block_size n) → n / 512 * 512 ≡ n
 unfolding is_size
 whole_sectors n t = let e = size_is n t in grind (arith, nat_tests, e)
+
+-- a volume has a block
+pub some_block : (size block_size : ℕ) → IsTrue (is_block_size block_size) → block_size ≤ size → 0 < size / block_size
+some_block size block_size sized least =
+    let some : 512 ≤ block_size = least_size block_size sized in
+    let one : 1 ≤ size / block_size = le_div size block_size 1 (omega arith) (omega arith) in
+    omega arith

@@ -31,13 +31,15 @@ abbrev pub HasBytes : ℕ → Option (List ℕ) → List ℕ → Type 0
 HasBytes block_size (Some known) bytes = known ≡ bytes
 HasBytes block_size None bytes = bytes ≡ replicate block_size 0
 
--- the objects have the data of a volume: object 1 alone, of type 23, with blocks of the volume's size, each with its part of the array
+-- The objects have the data of a volume: object 1 alone, of type 23, with blocks of the volume's size, each with its part of the array, and
+-- none of them behind the volume's last.
 pub record IsData (size block_size : ℕ) (objects : ℕ → Option Object) (array : List ℕ) : Type 0 where
   pub others : (number : ℕ) → number ≢ 1 → objects number ≡ None
   pub there : Object
   pub there_is : objects 1 ≡ Some there
   pub object_type : there.object_type ≡ 23
   pub sectors : there.data_sectors ≡ block_size / 512
+  pub highest : there.highest < size / block_size
   pub size_is : length array ≡ size
   pub blocks : (id : ℕ) → id < size / block_size → HasBytes block_size (there.array id) (part array block_size id)
   pub behind : (id : ℕ) → size / block_size ≤ id → there.array id ≡ None

@@ -9,16 +9,13 @@ ghost use Rattle.volume.specs.Placing.{IsMade, LacksRoom};
 ghost use Rattle.volume.specs.Volume.{HasShape, Spells};
 
 use crate::placing::plan_change;
-use crate::volume::VolumeSet;
+use crate::volume::{VOLUME_TYPE, VolumeSet};
 use block_pointer::BlockPtr;
 use block_store::{BlockStore, Refusal};
 use dnode::{ObjectNode, ObjectSet, ObjectSetKind};
 use model_disk::Disk;
 use objset::Change;
 use std::alloc::Global;
-
-/// The type of the object that has a volume's data.
-const VOLUME_TYPE: u8 = 23;
 
 /// A volume's object set with no object.
 const EMPTY: ObjectSet = ObjectSet {

@@ -4,6 +4,7 @@
 
 mod creating;
 mod laws;
+mod opening;
 mod placing;
 mod reading;
 mod volume;

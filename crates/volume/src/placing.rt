@@ -1,28 +1,27 @@
 //! A volume with other blocks of data.
-ghost use Rattle.std.specs.Prelude.{◌≡◌, ◌≢◌, ◌⊎◌, ◌≤◌, ◌<◌, ◌++◌, ◌∷◌, [], ℕ, List, Option, IfOk, IfErr, IsOkAnd};
+ghost use Rattle.std.specs.Prelude.{◌≡◌, ◌≢◌, ◌⊎◌, ◌≤◌, ◌<◌, ◌++◌, ◌∷◌, [], ℕ, List, Option, OnOk, IfOk, IfErr, IsOkAnd};
 ghost use Rattle.block_pointer.specs.declared.block.Block.{Block};
 ghost use Rattle.block_store.specs.Blocks.{Contents, Extends, count_of};
 ghost use Rattle.block_store.specs.Plans.{Plans};
 ghost use Rattle.block_store.specs.Steps.{OnlyReadsAndPlans, AnswersAreTrue, LossIsTolerable};
 ghost use Rattle.dnode.specs.declared.object_set.ObjectSet.{ObjectSet};
 ghost use Rattle.dnode.specs.ObjectSet.{FitsObjectSet};
-ghost use Rattle.dnode_slots.specs.Sets.{IsSetFound, IsSetRefused};
 ghost use Rattle.dnode_tree.specs.Writes.{IsForRoom};
 ghost use Rattle.objset.specs.Changes.{IsGoodChange, MayChange};
 ghost use Rattle.objset.specs.Objects.{Object, AreObjects};
 ghost use Rattle.volume.specs.Placing.{copies_of_datasets, IsPlaced, IsSetPlanned, LacksRoom};
+ghost use Rattle.volume.specs.Reading.{IsVolumeFound, IsVolumeRefused};
 ghost use Rattle.volume.specs.Volume.{size_of, block_size_of, block_of, HasData, HasShape, Spells};
 ghost use Rattle.volume.specs.Writing.{AreBlocksOf, IsArrayWith, IsChanged};
 ghost use Rattle.pool_model.specs.declared.volume.PlainVolume.{PlainVolume};
 ghost use Rattle.pool_now.specs.Overlay.{after_writes};
 
-use crate::reading::DATA;
-use crate::volume::VolumeSet;
+use crate::volume::{DATA, VolumeSet};
 use crate::writing::GroupWrites;
 use block_pointer::Block;
 use block_store::{BlockStore, CopyCount, Refusal};
 use dnode::ObjectSet;
-use dnode_slots::{plan_set, read_set};
+use dnode_slots::plan_set;
 use dnode_tree::BlockWrite;
 use model_disk::Disk;
 use objset::{Change, ObjectChange, SetCopies};
@@ -59,7 +58,8 @@ pub fn dataset_copies() -> SetCopies
 impl VolumeSet {
     /// Plans the volume with these blocks in the transaction group `birth`: each of them once, what is above them, and the
     /// block of the object set. With no blocks nothing is planned, and the volume stays the same. The volume before stays as
-    /// it was: its blocks were born in the group `birth` or before.
+    /// it was: its blocks were born in the group `birth` or before. `BadPointer` where its set spells no volume there, as in
+    /// `read`, or where the way to one of the blocks can't be read.
     ///
     /// After an error blocks may be planned that no volume has: begin another plan.
     pub fn placed<D: Disk + Drop>(
@@ -88,10 +88,12 @@ impl VolumeSet {
         ensures no_room { IfErr result (λ refusal. refusal ≡ Refusal.NoSpace
             → LacksRoom store.old store.new) }
 
-        // Whatever the volume is: its object set was not read, and why, or it was.
+        // Whatever the volume is: its object set was not read or is no volume's, and why, or it was found to be one.
         ensures unread { IfErr result (λ refusal.
-            IsSetRefused store.old store.new [] birth (block_of self.now) refusal
-            ⊎ ((set : ObjectSet) × IsSetFound store.old.spaces birth (block_of self.now) set)) }
+            IsVolumeRefused store.old store.new [] self.now birth refusal
+            ⊎ ((set : ObjectSet) × IsVolumeFound store.old.spaces self.now birth set)) }
+        ensures found { OnOk result (blocks.items ≢ [] → (set : ObjectSet)
+            × IsVolumeFound store.old.spaces self.now birth set) }
 
         // Only room is wanting, where no vdev misses more disks than it has parities and what they answer is true.
         ensures known { IfErr result (λ refusal. (stored planned : Contents) (bound : ℕ)
@@ -168,17 +170,19 @@ impl VolumeSet {
         ensures no_room { IfErr result (λ refusal. refusal ≡ Refusal.NoSpace
             → LacksRoom store.old store.new) }
 
-        // Whatever the volume is: its object set was not read, and why, or it was.
+        // Whatever the volume is: its object set was not read or is no volume's, and why, or it was found to be one.
         ensures unread { IfErr result (λ refusal.
-            IsSetRefused store.old store.new [] birth (block_of self.now) refusal
-            ⊎ ((set : ObjectSet) × IsSetFound store.old.spaces birth (block_of self.now) set)) }
+            IsVolumeRefused store.old store.new [] self.now birth refusal
+            ⊎ ((set : ObjectSet) × IsVolumeFound store.old.spaces self.now birth set)) }
+        ensures found { OnOk result ((set : ObjectSet)
+            × IsVolumeFound store.old.spaces self.now birth set) }
         ensures known { IfErr result (λ refusal. (stored planned : Contents) (bound : ℕ)
             (array : List ℕ) → Plans store.old stored planned
             → Spells stored bound self.now array → bound ≤ birth
             → AnswersAreTrue store.old store.new → LossIsTolerable store.old store.new []
             → IsForRoom refusal) }
     {
-        let set = read_set(store, alloc, &self.block, birth, &[])?;
+        let set = self.open(store, alloc, birth, &[])?;
         let change = Change::Put { writes: blocks };
         let planned = plan_change(&set, store, alloc, change, birth)?;
         Ok(self.rewritten(planned)?)

@@ -3,25 +3,23 @@ ghost use Rattle.std.specs.Prelude.{◌≡◌, ◌≢◌, ◌⊎◌, ◌+◌, �
 ghost use Rattle.block_store.specs.Blocks.{Contents};
 ghost use Rattle.block_store.specs.Steps.{OnlyReadsBlocks, AnswersAreTrue, LossIsTolerable};
 ghost use Rattle.block_store.specs.Store.{Holds};
+ghost use Rattle.dnode.specs.declared.object_set.ObjectSet.{ObjectSet};
 ghost use Rattle.dnode.specs.ObjectSet.{FitsObjectSet};
 ghost use Rattle.dnode_tree.specs.Ways.{bytes_of};
-ghost use Rattle.volume.specs.Reading.{IsBlockRefused, IsFound, IsReadRefused, IsUnread, LiesIn};
+ghost use Rattle.volume.specs.Reading.{IsBlockRefused, IsFound, IsReadRefused, IsUnread, IsVolumeFound, LiesIn};
 ghost use Rattle.volume.specs.Volume.{size_of, block_size_of, block_of, part, HasBytes, HasData, Spells};
 
-use crate::volume::VolumeSet;
+use crate::volume::{DATA, VolumeSet};
 use block_store::{BlockStore, Refusal};
 use dnode::ObjectSet;
-use dnode_slots::read_set;
 use model_disk::Disk;
 use std::alloc::Global;
 
-/// The number of the object that has a volume's data.
-pub(crate) const DATA: u64 = 1;
-
 impl VolumeSet {
-    /// A range of the volume's bytes. It reads the block of the object set once, and the way to each block in which the range
-    /// lies. The set's block was born in the transaction group `birth` or before. The disks that are named are taken as
-    /// missing. `BadPointer` where the set spells no volume there: no object set, no object 1, or a block of another size.
+    /// A range of the volume's bytes. It reads the block of the object set once and the way to the dnode of object 1, and then
+    /// the way to each block in which the range lies. The set's block was born in the transaction group `birth` or before. The
+    /// disks that are named are taken as missing. `BadPointer` where the set spells no volume there: no object set, or one of
+    /// another kind; no object 1, or one of another type, with blocks of another size or behind the volume's end.
     pub fn read<D: Disk + Drop>(
         &self,
         store: &mut BlockStore<D>,
@@ -40,7 +38,9 @@ impl VolumeSet {
             → AnswersAreTrue store.old store.new
             → read.items ≡ slice_range array offset (offset + len)) }
 
-        // Whatever the volume is: why it was not read.
+        // Whatever the volume is: that its set was found to be one, and on a refusal its cause.
+        ensures found { IfOk result (λ read. (set : ObjectSet)
+            × IsVolumeFound store.old.spaces self.now birth set) }
         ensures refused { IfErr result (λ refusal. (refusal ≡ Refusal.NoMemory)
             ⊎ IsReadRefused store.old store.new missing.now self.now birth
             (LiesIn self.now offset (offset + len)) refusal) }
@@ -51,7 +51,7 @@ impl VolumeSet {
             → AnswersAreTrue store.old store.new
             → LossIsTolerable store.old store.new missing.now → refusal ≡ Refusal.NoMemory) }
     {
-        let set = read_set(store, alloc, &self.block, birth, missing)?;
+        let set = self.open(store, alloc, birth, missing)?;
         self.read_data(&set, store, alloc, offset, len, missing)
     }
 
@@ -116,6 +116,7 @@ impl VolumeSet {
             × IsFound store.old.spaces self.now set.now id found) }
         ensures refused { IfErr result (λ refusal. (refusal ≡ Refusal.NoMemory)
             ⊎ IsBlockRefused store.old store.new missing.now self.now set.now id refusal) }
+        ensures cause { IfErr result (λ refusal. refusal ≢ Refusal.NoSpace) }
         ensures known { IfErr result (λ refusal. (stored : Contents) (array : List ℕ)
             → Holds store.old stored → HasData stored (block_of self.now).birth set.now
             (size_of self.now) (block_size_of self.now) array → AnswersAreTrue store.old store.new
@@ -134,6 +135,7 @@ impl VolumeSet {
         ensures refused { IfErr result (λ refusal. (refusal ≡ Refusal.NoMemory)
             ⊎ ((refusal ≡ Refusal.BadPointer) × ((bytes : List ℕ)
             × (bytes_of found ≡ Some bytes) × (length bytes ≢ block_size_of self.now)))) }
+        ensures cause { IfErr result (λ refusal. refusal ≢ Refusal.NoSpace) }
     {
         let Some(bytes) = found else {
             return Ok(vec![in alloc; 0; self.block_size() as usize]?);

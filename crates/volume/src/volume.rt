@@ -4,6 +4,12 @@ ghost use Rattle.pool_model.specs.Names.{is_block_size};
 
 use block_pointer::Block;
 
+/// The number of the object that has a volume's data.
+pub(crate) const DATA: u64 = 1;
+
+/// The type of that object.
+pub(crate) const VOLUME_TYPE: u8 = 23;
+
 /// A volume's size and the block of its object set. The set's only object is number 1: the volume's data, of type 23, in
 /// blocks of the volume's block size. A block that was never written is a hole, and reads as zeros.
 #[derive(Clone, Copy, Debug)]

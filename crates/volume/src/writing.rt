@@ -1,5 +1,5 @@
 //! The blocks that a group's writes change.
-ghost use Rattle.std.specs.Prelude.{◌≡◌, ◌⊎◌, ◌↔◌, ◌/◌, ◌<◌, ◌++◌, ◌∷◌, [], ℕ, List, IfOk, IfErr, OnOk, length, map, Option, Contains, All};
+ghost use Rattle.std.specs.Prelude.{◌≡◌, ◌≢◌, ◌⊎◌, ◌↔◌, ◌/◌, ◌<◌, ◌++◌, ◌∷◌, [], ℕ, List, IfOk, IfErr, OnOk, length, map, Option, Contains, All};
 ghost use Rattle.std.specs.List.Sorted.{IsStrictlyIncreasing};
 ghost use Rattle.pool_model.specs.declared.volume.PlainVolume.{PlainVolume};
 ghost use Rattle.pool_now.specs.Overlay.{after_writes};
@@ -15,7 +15,6 @@ ghost use Rattle.volume.specs.Writing.{Reaches, IsChanged, HasId, AreBlocksOf, I
 use crate::volume::VolumeSet;
 use block_store::{BlockStore, Refusal};
 use dnode::ObjectSet;
-use dnode_slots::read_set;
 use dnode_tree::BlockWrite;
 use model_disk::Disk;
 use pool_model::{Name, Write};
@@ -30,10 +29,9 @@ pub struct GroupWrites<'a> {
 }
 
 impl VolumeSet {
-    /// The blocks that writes change, whole, in the order of their ids. It only reads: the block of the object set once, and
-    /// the way to each of these blocks; nothing where no block is changed. The set's block was born in the transaction group
-    /// `birth` or before. `BadPointer` where the set spells no volume there: no object set, no object 1, or a block of
-    /// another size.
+    /// The blocks that writes change, whole, in the order of their ids. It only reads: the object set, as `read` does, and the
+    /// way to each of these blocks; nothing where no block is changed. The set's block was born in the transaction group
+    /// `birth` or before. `BadPointer` where the set spells no volume there, as in `read`.
     pub fn changed_blocks<D: Disk + Drop>(
         &self,
         store: &mut BlockStore<D>,
@@ -62,6 +60,7 @@ impl VolumeSet {
         ensures refused { IfErr result (λ refusal. (refusal ≡ Refusal.NoMemory)
             ⊎ IsReadRefused store.old store.new [] self.now birth
             (IsChanged self.now changes.now.name.now changes.now.writes.now) refusal) }
+        ensures cause { IfErr result (λ refusal. refusal ≢ Refusal.NoSpace) }
 
         // And they are read, where no vdev misses more disks than it has parities and what they answer is true.
         ensures known { IfErr result (λ refusal. (stored : Contents) (array : List ℕ)
@@ -73,7 +72,7 @@ impl VolumeSet {
         if ids.is_empty() {
             return Ok(Vec::new(alloc));
         }
-        let set = read_set(store, alloc, &self.block, birth, &[])?;
+        let set = self.open(store, alloc, birth, &[])?;
         self.blocks_of(&set, store, alloc, changes, &ids)
     }
 
@@ -104,6 +103,7 @@ impl VolumeSet {
             × IsFound store.old.spaces self.now set.now block.id found) blocks.items) }
         ensures refused { IfErr result (λ refusal. (refusal ≡ Refusal.NoMemory)
             ⊎ IsUnread store.old store.new [] self.now set.now (Contains ids.now) refusal) }
+        ensures cause { IfErr result (λ refusal. refusal ≢ Refusal.NoSpace) }
         ensures known { IfErr result (λ refusal. (stored : Contents) (array : List ℕ)
             → Holds store.old stored → HasData stored (block_of self.now).birth set.now
             (size_of self.now) (block_size_of self.now) array → AnswersAreTrue store.old store.new
@@ -141,6 +141,7 @@ impl VolumeSet {
             × IsFound store.old.spaces self.now set.now block.id found) }
         ensures refused { IfErr result (λ refusal. (refusal ≡ Refusal.NoMemory)
             ⊎ IsBlockRefused store.old store.new [] self.now set.now id refusal) }
+        ensures cause { IfErr result (λ refusal. refusal ≢ Refusal.NoSpace) }
         ensures known { IfErr result (λ refusal. (stored : Contents) (array : List ℕ)
             → Holds store.old stored → HasData stored (block_of self.now).birth set.now
             (size_of self.now) (block_size_of self.now) array → AnswersAreTrue store.old store.new

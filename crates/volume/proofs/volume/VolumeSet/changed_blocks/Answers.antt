@@ -40,7 +40,7 @@ returns-in_err-set-clause-refused g c = passed_on _ _ _ c.from_residual-in_err-s
 
 pub returns-in_err-set-clause-known : goal.returns-in_err-set-clause-known
 returns-in_err-set-clause-known g c =
-    passed_on _ _ _ c.from_residual-in_err-set.ensures.1 (λ stored array held is honest few. c.in_err-set.ensures.known stored is.set held is.is_set honest few)
+    passed_on _ _ _ c.from_residual-in_err-set.ensures.1 (λ stored array held is honest few. c.in_err-set.ensures.known stored _ array held is (omega arith) honest few)
 
 pub blocks_of-requires-clause-ids : goal.blocks_of-requires-clause-ids
 blocks_of-requires-clause-ids g c =
@@ -76,7 +76,7 @@ returns-clause-value g c =
     after_is_with c.args.self.now volume c.args.changes.now.name.now c.args.changes.now.writes.now blocks.items named is.has.data_is.size_is
     (same_ids blocks.items c.in_ok-ids.ids.items (IsChanged c.args.self.now c.args.changes.now.name.now c.args.changes.now.writes.now) (both.0 ∙ c.deref.ensures.value) c.in_ok-ids.ensures.ids)
     (both.1 stored volume (first.keeps stored held) named
-    (subst (λ (set : ObjectSet). HasData stored _ set _ _ volume.bytes) (sym (c.in_ok-set.ensures.value stored is.set held is.is_set (true_before _ _ _ _ first rest honest))) is.has)
+    (subst (λ (set : ObjectSet). HasData stored _ set _ _ volume.bytes) (sym (c.in_ok-set.ensures.value stored _ _ held is (omega arith) (true_before _ _ _ _ first rest honest))) is.has)
     (true_after _ _ _ _ first rest honest)))
     (ok_both c.blocks_of.result _ _ c.blocks_of.ensures.ids c.blocks_of.ensures.value)
 
@@ -84,7 +84,7 @@ pub returns-clause-found : goal.returns-clause-found
 returns-clause-found g c =
     IfOk-weaker c.blocks_of.result _ _
     (λ blocks found.
-    All-weaker (λ (block : BlockWrite). (found : Option (List ℕ)) × IsFound c.read_set.new.store.spaces c.args.self.now c.in_ok-set.set block.id found)
+    All-weaker (λ (block : BlockWrite). (found : Option (List ℕ)) × IsFound c.open.new.store.spaces c.args.self.now c.in_ok-set.set block.id found)
     (λ (block : BlockWrite). IsWayRead c.args.store.now.spaces c.args.self.now c.args.birth block.id)
     (λ block is. (
       c.in_ok-set.set,
@@ -101,7 +101,7 @@ returns-clause-refused g c =
     (λ unread. inr (inr (record {
       set = c.in_ok-set.set;
       is_set = c.in_ok-set.ensures.found;
-      mid = c.read_set.new.store;
+      mid = c.open.new.store;
       before = c.in_ok-set.ensures.reads;
       unread = record {
         id = unread.id;
@@ -120,6 +120,6 @@ returns-clause-known g c =
     IfErr-weaker c.blocks_of.result _ _
     (λ refusal known stored array held is honest few.
     known stored array (first.keeps stored held)
-    (subst (λ (set : ObjectSet). HasData stored _ set _ _ array) (sym (c.in_ok-set.ensures.value stored is.set held is.is_set (true_before _ _ _ _ first rest honest))) is.has)
+    (subst (λ (set : ObjectSet). HasData stored _ set _ _ array) (sym (c.in_ok-set.ensures.value stored _ _ held is (omega arith) (true_before _ _ _ _ first rest honest))) is.has)
     (true_after _ _ _ _ first rest honest) (few_after _ _ _ _ first rest few))
     c.blocks_of.ensures.known

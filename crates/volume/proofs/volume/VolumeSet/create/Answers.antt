@@ -2,6 +2,7 @@ use Rattle.std.proofs.Common.{[], None, refl, arith}
 use Rattle.volume.proofs.Made.{no_objects, data_of_zeros, made}
 use Rattle.volume.proofs.Putting.{planned_spells, volume_as}
 use Rattle.volume.proofs.Refusing.{passed_on}
+use Rattle.volume.proofs.Sizes.{some_block}
 use Rattle.volume.proofs.volume.VolumeSet.create.Goals as goal
 
 pub returns-in_err-planned-clause-known : goal.returns-in_err-planned-clause-known
@@ -17,6 +18,7 @@ returns-clause-value g c = λ stored planned plans honest.
       λ block bytes known. did.2.adds.kept block bytes (did.2.objects_are.kept block bytes known),
       volume_as did.0 c.args.birth c.new-2.result c.in_ok-planned.planned.block c.args.size c.args.block_size _ c.new-2.ensures.block c.new-2.ensures.shape.0 c.new-2.ensures.shape.1
           (planned_spells planned did.0 c.args.birth _ _ (λ number. None) [] (λ number. []) c.in_ok-planned.planned.block c.in_ok-planned.planned.replaced.items
-          c.args.size c.args.block_size _ did.2 refl (data_of_zeros c.args.size c.args.block_size _ c.new.result c.new.ensures.items refl)),
+          c.args.size c.args.block_size _ did.2 refl (data_of_zeros c.args.size c.args.block_size _ c.new.result c.new.ensures.items refl
+          (some_block c.args.size c.args.block_size c.requires.block_sized c.requires.least))),
       made planned did.0 c.args.birth c.new-2.result _ _ c.in_ok-planned.planned.block c.in_ok-planned.planned.replaced.items c.new-2.ensures.block did.2,
     )

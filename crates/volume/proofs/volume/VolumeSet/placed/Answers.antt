@@ -1,6 +1,6 @@
 use Rattle.std.proofs.Common.{◌≡◌, [], length, ap, arith}
 use Rattle.std.proofs.lemmas.Bool.Decides.{nat_tests}
-use Rattle.std.proofs.lemmas.Result.{IfOk-weaker}
+use Rattle.std.proofs.lemmas.Result.{IfOk-weaker, on_ok_weaker}
 use Rattle.block_store.proofs.Steps.{steps_none}
 use Rattle.volume.proofs.Putting.{stays_with, no_items}
 use Rattle.volume.proofs.volume.VolumeSet.placed.Goals as goal
@@ -26,3 +26,9 @@ returns-clause-value g c =
 
 pub returns-then-is_empty-clause-steps : goal.returns-then-is_empty-clause-steps
 returns-then-is_empty-clause-steps g c = steps_none c.args.store.now []
+
+pub returns-then-is_empty-clause-found : goal.returns-then-is_empty-clause-found
+returns-then-is_empty-clause-found g c = λ some. absurd (some (no_items c.args.blocks.items (grind (arith, nat_tests, c.is_empty.ensures, c.if-is_empty.true))))
+
+pub returns-clause-found : goal.returns-clause-found
+returns-clause-found g c = on_ok_weaker c.put.result (λ found some. found) c.put.ensures.found

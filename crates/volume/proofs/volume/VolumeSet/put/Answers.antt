@@ -5,7 +5,7 @@ use Rattle.dnode.specs.declared.object_set.ObjectSet.{ObjectSet}
 use Rattle.objset.specs.Objects.{AreObjects}
 use Rattle.objset.specs.declared.changes.Change.TheVariants.{Put}
 use Rattle.volume.specs.Placing.{IsSetPlanned}
-use Rattle.volume.proofs.Putting.{data_with, planned_spells, may_put, good_writes, set_later, lacks_on, volume_as}
+use Rattle.volume.proofs.Putting.{data_with, planned_spells, may_put, good_writes, lacks_on, volume_as}
 use Rattle.volume.proofs.Refusing.{passed_on}
 use Rattle.volume.proofs.volume.VolumeSet.put.Goals as goal
 
@@ -15,7 +15,7 @@ returns-in_err-set-clause-steps g c = steps_read _ _ _ c.in_err-set.ensures.read
 pub returns-in_err-set-clause-known : goal.returns-in_err-set-clause-known
 returns-in_err-set-clause-known g c =
     passed_on _ _ _ c.from_residual.ensures.1 (λ stored planned bound array plans is le honest few.
-    inl (c.in_err-set.ensures.known stored is.set plans.held (set_later stored bound c.args.birth c.args.self.now.block is.set le is.is_set) honest few))
+    inl (c.in_err-set.ensures.known stored bound array plans.held is le honest few))
 
 pub plan_change-requires-clause-good : goal.plan_change-requires-clause-good
 plan_change-requires-clause-good g c = good_writes c.args.self.now c.args.blocks.items c.requires.blocks
@@ -26,21 +26,21 @@ returns-in_err-planned-clause-steps g c = steps_on _ _ _ _ (steps_read _ _ _ c.i
 pub returns-in_err-planned-clause-no_room : goal.returns-in_err-planned-clause-no_room
 returns-in_err-planned-clause-no_room g c =
     passed_on _ _ _ c.from_residual-in_err-planned.ensures.1
-    (λ is. lacks_on c.args.store.now c.read_set.new.store c.plan_change.new.store (steps_read _ _ _ c.in_ok-set.ensures.reads) (c.in_err-planned.ensures.no_room is))
+    (λ is. lacks_on c.args.store.now c.open.new.store c.plan_change.new.store (steps_read _ _ _ c.in_ok-set.ensures.reads) (c.in_err-planned.ensures.no_room is))
 
 pub returns-in_err-planned-clause-known : goal.returns-in_err-planned-clause-known
 returns-in_err-planned-clause-known g c =
-    let first = steps_read c.args.store.now c.read_set.new.store [] c.in_ok-set.ensures.reads in
+    let first = steps_read c.args.store.now c.open.new.store [] c.in_ok-set.ensures.reads in
     passed_on _ _ _ c.from_residual-in_err-planned.ensures.1 (λ stored planned bound array plans is le honest few.
     let same : c.in_ok-set.set ≡ is.set =
-    c.in_ok-set.ensures.value stored is.set plans.held (set_later stored bound c.args.birth c.args.self.now.block is.set le is.is_set)
-    (true_before c.args.store.now c.read_set.new.store c.plan_change.new.store c.plan_change.ensures.steps.reads honest) in
+    c.in_ok-set.ensures.value stored bound array plans.held is le
+    (true_before c.args.store.now c.open.new.store c.plan_change.new.store c.plan_change.ensures.steps.reads honest) in
     c.in_err-planned.ensures.known stored planned c.args.self.now.block.birth is.has.objects is.has.own is.has.blocks (c.in_ok-set.ensures.reads.plans stored planned plans)
     (subst (λ (set : ObjectSet). AreObjects stored c.args.self.now.block.birth set is.has.objects is.has.own is.has.blocks) (sym same) is.has.are)
     (let early = is.is_set.asks.birth in omega arith)
     (may_put c.args.self.now is.has.objects array c.args.blocks is.has.data_is c.requires.blocks)
-    (true_after c.args.store.now c.read_set.new.store c.plan_change.new.store first.reads honest)
-    (few_after c.args.store.now c.read_set.new.store c.plan_change.new.store [] first.reads first.out first.shapes few))
+    (true_after c.args.store.now c.open.new.store c.plan_change.new.store first.reads honest)
+    (few_after c.args.store.now c.open.new.store c.plan_change.new.store [] first.reads first.out first.shapes few))
 
 pub returns-in_err-rewritten-clause-steps : goal.returns-in_err-rewritten-clause-steps
 returns-in_err-rewritten-clause-steps g c = steps_on _ _ _ _ (steps_read _ _ _ c.in_ok-set.ensures.reads) c.plan_change.ensures.steps
@@ -54,14 +54,14 @@ returns-clause-steps g c = steps_on _ _ _ _ (steps_read _ _ _ c.in_ok-set.ensure
 
 pub returns-clause-value : goal.returns-clause-value
 returns-clause-value g c = λ stored planned bound array plans is le honest.
-    let first = steps_read c.args.store.now c.read_set.new.store [] c.in_ok-set.ensures.reads in
+    let first = steps_read c.args.store.now c.open.new.store [] c.in_ok-set.ensures.reads in
     let same : c.in_ok-set.set ≡ is.set =
-    c.in_ok-set.ensures.value stored is.set plans.held (set_later stored bound c.args.birth c.args.self.now.block is.set le is.is_set)
-    (true_before c.args.store.now c.read_set.new.store c.plan_change.new.store c.plan_change.ensures.steps.reads honest) in
+    c.in_ok-set.ensures.value stored bound array plans.held is le
+    (true_before c.args.store.now c.open.new.store c.plan_change.new.store c.plan_change.ensures.steps.reads honest) in
     let did = c.in_ok-planned.ensures.value stored planned c.args.self.now.block.birth is.has.objects is.has.own is.has.blocks (c.in_ok-set.ensures.reads.plans stored planned plans)
     (subst (λ (set : ObjectSet). AreObjects stored c.args.self.now.block.birth set is.has.objects is.has.own is.has.blocks) (sym same) is.has.are)
     (let early = is.is_set.asks.birth in omega arith)
-    (true_after c.args.store.now c.read_set.new.store c.plan_change.new.store first.reads honest) in
+    (true_after c.args.store.now c.open.new.store c.plan_change.new.store first.reads honest) in
     let planned_is : IsSetPlanned planned did.0 c.args.birth is.set (Put c.args.blocks) is.has.objects is.has.own is.has.blocks c.in_ok-planned.planned.block c.in_ok-planned.planned.replaced.items =
     subst (λ (set : ObjectSet). IsSetPlanned planned did.0 c.args.birth set (Put c.args.blocks) is.has.objects is.has.own is.has.blocks c.in_ok-planned.planned.block c.in_ok-planned.planned.replaced.items) same did.2 in (
       did.0,
@@ -87,3 +87,6 @@ returns-in_err-planned-clause-unread g c = passed_on _ _ _ c.from_residual-in_er
 
 pub returns-in_err-rewritten-clause-unread : goal.returns-in_err-rewritten-clause-unread
 returns-in_err-rewritten-clause-unread g c = passed_on _ _ _ c.from_residual-in_err-rewritten.ensures.1 (inr (c.in_ok-set.set, c.in_ok-set.ensures.found))
+
+pub returns-clause-found : goal.returns-clause-found
+returns-clause-found g c = (c.in_ok-set.set, c.in_ok-set.ensures.found)

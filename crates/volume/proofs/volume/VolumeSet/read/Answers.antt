@@ -1,4 +1,4 @@
-use Rattle.std.proofs.Common.{inl, inr, ⊎_elim, sym, subst}
+use Rattle.std.proofs.Common.{inl, inr, ⊎_elim, sym, subst, arith}
 use Rattle.std.proofs.lemmas.Result.{IfOk-weaker, IfErr-weaker}
 use Rattle.block_store.proofs.Steps.{reads_on}
 use Rattle.dnode.specs.declared.object_set.ObjectSet.{ObjectSet}
@@ -12,7 +12,7 @@ returns-in_err-set-clause-refused g c = passed_on _ _ _ c.from_residual.ensures.
 
 pub returns-in_err-set-clause-known : goal.returns-in_err-set-clause-known
 returns-in_err-set-clause-known g c =
-    passed_on _ _ _ c.from_residual.ensures.1 (λ stored array held is honest few. c.in_err-set.ensures.known stored is.set held is.is_set honest few)
+    passed_on _ _ _ c.from_residual.ensures.1 (λ stored array held is honest few. c.in_err-set.ensures.known stored _ array held is (omega arith) honest few)
 
 pub returns-clause-reads : goal.returns-clause-reads
 returns-clause-reads g c = reads_on _ _ _ _ c.in_ok-set.ensures.reads c.read_data.ensures.reads
@@ -24,7 +24,7 @@ returns-clause-value g c =
     IfOk-weaker c.read_data.result _ _
     (λ read value stored array held is honest.
     value stored array (first.keeps stored held)
-    (subst (λ (set : ObjectSet). HasData stored _ set _ _ array) (sym (c.in_ok-set.ensures.value stored is.set held is.is_set (true_before _ _ _ _ first rest honest))) is.has)
+    (subst (λ (set : ObjectSet). HasData stored _ set _ _ array) (sym (c.in_ok-set.ensures.value stored _ _ held is (omega arith) (true_before _ _ _ _ first rest honest))) is.has)
     (true_after _ _ _ _ first rest honest))
     c.read_data.ensures.value
 
@@ -32,7 +32,7 @@ pub returns-clause-refused : goal.returns-clause-refused
 returns-clause-refused g c =
     IfErr-weaker c.read_data.result _ _
     (λ refusal why. ⊎_elim (λ memory. inl memory)
-    (λ unread. inr (inr (record { set = c.in_ok-set.set; is_set = c.in_ok-set.ensures.found; mid = c.read_set.new.store; before = c.in_ok-set.ensures.reads; unread = unread }))) why)
+    (λ unread. inr (inr (record { set = c.in_ok-set.set; is_set = c.in_ok-set.ensures.found; mid = c.open.new.store; before = c.in_ok-set.ensures.reads; unread = unread }))) why)
     c.read_data.ensures.refused
 
 pub returns-clause-known : goal.returns-clause-known
@@ -42,6 +42,9 @@ returns-clause-known g c =
     IfErr-weaker c.read_data.result _ _
     (λ refusal known stored array held is honest few.
     known stored array (first.keeps stored held)
-    (subst (λ (set : ObjectSet). HasData stored _ set _ _ array) (sym (c.in_ok-set.ensures.value stored is.set held is.is_set (true_before _ _ _ _ first rest honest))) is.has)
+    (subst (λ (set : ObjectSet). HasData stored _ set _ _ array) (sym (c.in_ok-set.ensures.value stored _ _ held is (omega arith) (true_before _ _ _ _ first rest honest))) is.has)
     (true_after _ _ _ _ first rest honest) (few_after _ _ _ _ first rest few))
     c.read_data.ensures.known
+
+pub returns-clause-found : goal.returns-clause-found
+returns-clause-found g c = IfOk-weaker c.read_data.result _ _ (λ read len. (c.in_ok-set.set, c.in_ok-set.ensures.found)) c.read_data.ensures.len
