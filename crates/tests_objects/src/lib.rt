@@ -9,6 +9,8 @@ mod nodes;
 #[cfg(test)]
 mod objects;
 #[cfg(test)]
+mod roots;
+#[cfg(test)]
 mod stores;
 #[cfg(test)]
 mod tables;

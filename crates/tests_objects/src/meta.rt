@@ -29,7 +29,7 @@ const KIND: TableKind = TableKind {
 };
 
 /// The set with one change, once it is stored.
-fn with(
+pub(crate) fn with(
     set: &ObjectSet,
     store: &mut Store,
     alloc: Global,
@@ -87,7 +87,7 @@ fn tables_are_read_as_they_were_written(rt: HostRuntime) -> Result<(), Fail> {
 }
 
 /// A name of one byte and its padding.
-fn name_of(byte: u8) -> [u8; 56] {
+pub(crate) fn name_of(byte: u8) -> [u8; 56] {
     let mut name = [0; 56];
     name[0] = byte;
     name
@@ -155,7 +155,7 @@ fn a_directory_is_read_as_it_was_stored(rt: HostRuntime) -> Result<(), Fail> {
     Ok(())
 }
 
-fn record_of(object_set: Block, created: u64) -> DatasetRecord
+pub(crate) fn record_of(object_set: Block, created: u64) -> DatasetRecord
     requires { FitsBlock object_set }
     ensures { FitsRecord result }
 {
@@ -173,7 +173,7 @@ fn record_of(object_set: Block, created: u64) -> DatasetRecord
 }
 
 /// Some block of an object set.
-fn block_of_set(store: &mut Store, alloc: Global) -> Result<Block, Refusal>
+pub(crate) fn block_of_set(store: &mut Store, alloc: Global) -> Result<Block, Refusal>
     ensures { IfOk result FitsBlock }
 {
     store.begin_plan(1);

@@ -1,0 +1,99 @@
+//! Roots of pools.
+ghost use Rattle.std.specs.Prelude.{◌<◌, ◌^◌, length, IfOk};
+ghost use Rattle.dnode.specs.ObjectSet.{FitsObjectSet};
+ghost use Rattle.meta_objset.specs.Record.{FitsRecord};
+
+use crate::meta::{block_of_set, name_of, record_of, with};
+use crate::stores::{Store, new_store, store_plan};
+use block_pointer::{Block, BlockPtr};
+use block_store::CopyCount;
+use dataset_snapshots::{Dataset, find};
+use dnode::{ObjectNode, ObjectSet, ObjectSetKind};
+use dnode_slots::plan_set;
+use meta_objset::{DatasetRecord, Directory, is_name, record_creation};
+use pool_model::Name;
+use std::alloc::Global;
+use std::test::Fail;
+
+/// A meta object set with no object.
+const EMPTY: ObjectSet = ObjectSet {
+    dnodes: ObjectNode {
+        object_type: 10,
+        data_sectors: 32,
+        highest: 0,
+        pointer: BlockPtr::Hole,
+    },
+    kind: ObjectSetKind::Meta,
+    objects: 1,
+};
+
+/// A directory in which the name `v` has object 5.
+fn directory_of_one(alloc: Global) -> Result<Directory, Fail>
+    ensures { IfOk result (λ directory. length directory < 2 ^ 40) }
+{
+    let mut directory = Directory::new(alloc);
+    let name = name_of(b'v');
+    if is_name(&name) {
+        directory.insert(&name, 5)?;
+    }
+    if directory.rows().len() > 1 {
+        return Ok(Directory::new(alloc));
+    }
+    Ok(directory)
+}
+
+/// A meta object set with that directory, and the record.
+fn set_with(store: &mut Store, alloc: Global, record: &DatasetRecord) -> Result<ObjectSet, Fail>
+    requires { FitsRecord record.now }
+    ensures { IfOk result FitsObjectSet }
+{
+    let made = record_creation(alloc, record)?;
+    let set = with(&EMPTY, store, alloc, 5, made, 1)?;
+    let made = directory_of_one(alloc)?.creation(alloc)?;
+    Ok(with(&set, store, alloc, 1, made, 2)?)
+}
+
+/// A root, once it is stored.
+fn root_with(store: &mut Store, alloc: Global, record: &DatasetRecord) -> Result<Block, Fail>
+    requires { FitsRecord record.now }
+{
+    let set = set_with(store, alloc, record)?;
+    store.begin_plan(3);
+    let root = plan_set(&set, store, alloc, 3, CopyCount::Three)?;
+    store_plan(store);
+    Ok(root)
+}
+
+fn find_letter(
+    root: &Block,
+    store: &mut Store,
+    alloc: Global,
+    letter: u8,
+) -> Result<Option<Dataset>, Fail> {
+    let name = Name::new(vec![in alloc; letter; 1]?);
+    Ok(find(root, store, alloc, 3, &name, &[])?)
+}
+
+/// What the root has of the name `v`: its object, its record and its size; and whether it has nothing of `w`.
+fn outcomes(alloc: Global) -> Result<[bool; 4], Fail> {
+    let mut store = new_store(alloc)?;
+    let record = record_of(block_of_set(&mut store, alloc)?, 1);
+    let root = root_with(&mut store, alloc, &record)?;
+    let found = find_letter(&root, &mut store, alloc, b'v')?;
+    let none = find_letter(&root, &mut store, alloc, b'w')?;
+    let Some(dataset) = found else {
+        return Ok([false; 4]);
+    };
+    Ok([
+        dataset.object == 5,
+        dataset.record == record,
+        dataset.volume.size() == record.size,
+        none.is_none(),
+    ])
+}
+
+#[test]
+fn a_name_is_found_under_a_root(rt: HostRuntime) -> Result<(), Fail> {
+    assert_eq!(rt; outcomes(rt.alloc())?, [true; 4]);
+    Ok(())
+}
