@@ -25,7 +25,8 @@ use std::alloc::Global;
 /// order of their numbers, and the set grows to the highest of them. The set before stays as it was: its blocks were born
 /// in the group `birth` or before.
 ///
-/// After an error blocks may be planned that no set has: begin another plan.
+/// `BadPointer`, `DiskFault` and `BadDigest` as `dnode_tree::put_many` has them, on the way to a block that has one of these
+/// dnodes; the other dnodes in it are not judged. After an error blocks may be planned that no set has: begin another plan.
 pub fn put_many<D: Disk + Drop>(
     set: &ObjectSet,
     store: &mut BlockStore<D>,

@@ -32,7 +32,9 @@ use std::alloc::Global;
 /// their ids, each has the bytes of a whole block, and the object grows to the highest of them. Each block on the way is
 /// planned once. The object before stays as it was: its blocks were born in the group `birth` or before.
 ///
-/// After an error blocks may be planned that no object has: begin another plan.
+/// `BadPointer` where a pointer on the way to a write may not be followed, and where the fill counts below a block that
+/// is planned anew are 2^64 or more. `DiskFault` or `BadDigest` where a block on the way can't be read. After an error
+/// blocks may be planned that no object has: begin another plan.
 pub fn put_many<D: Disk + Drop>(
     node: &ObjectNode,
     store: &mut BlockStore<D>,
