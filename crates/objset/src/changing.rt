@@ -31,7 +31,7 @@ use std::alloc::{AllocError, Global};
 /// Plans the set with these changes made of its objects, in the transaction group `birth`. The changes are in the order of
 /// their objects' numbers. Each block on the way is planned once, and no other object is read. The set before stays as it
 /// was: its blocks were born in the group `birth` or before. `BadPointer` where a change can't be made: an object is there
-/// already, or is not there, or its blocks have another size.
+/// already, or is not there, or its blocks have another size; and where a pointer on the way, or its fill count, is bad.
 ///
 /// After an error blocks may be planned that no object has: begin another plan.
 pub fn change<D: Disk + Drop>(
