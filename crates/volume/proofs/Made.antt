@@ -10,6 +10,8 @@ use Rattle.dnode.specs.declared.dnode.Dnode.TheVariants.{Free}
 use Rattle.dnode.specs.declared.object_set.ObjectSet.{ObjectSet}
 use Rattle.dnode_tree.specs.declared.writes.BlockWrite.{BlockWrite}
 use Rattle.dnode_tree.specs.Writes.{written}
+use Rattle.dnode_tree.specs.Births.{AreBirths, height_of}
+use Rattle.dnode_tree.proofs.Births.{births_at_hole}
 use Rattle.dnode_tree.proofs.Standing.{empty_trees}
 use Rattle.objset.specs.declared.changes.Change.{Change}
 use Rattle.objset.specs.declared.changes.Change.TheVariants.{Create}
@@ -28,6 +30,8 @@ no_objects stored birth set hole = record {
   dnodes = record {
     array = λ id. None;
     tree = empty_trees stored birth set.dnodes hole;
+    births = λ level first. 0;
+    born = subst (λ pointer. AreBirths stored (height_of set.dnodes) 0 pointer (λ level first. 0)) (sym hole) (births_at_hole stored (height_of set.dnodes) 0 (λ level first. 0));
     each = λ number. refl;
     first = refl;
     behind = λ number past. refl;
