@@ -5,7 +5,7 @@ ghost use Rattle.block_pointer.specs.Copies.{dvas};
 ghost use Rattle.dnode.specs.declared.object_set.ObjectSet.{ObjectSet};
 ghost use Rattle.dnode.specs.ObjectSet.{FitsObjectSet, object_set_bytes};
 ghost use Rattle.block_store.specs.Blocks.{Contents, Adds, count_of};
-ghost use Rattle.block_store.specs.Places.{RanOut};
+ghost use Rattle.block_store.specs.Places.{AreChosen, RanOut};
 ghost use Rattle.block_store.specs.Plans.{Plans};
 ghost use Rattle.block_store.specs.Store.{Holds};
 ghost use Rattle.block_store.specs.Steps.{OnlyReadsBlocks, OnlyReadsAndPlans, AnswersAreTrue, LossIsTolerable};
@@ -86,6 +86,8 @@ pub fn plan_set<D: Disk + Drop>(
         → (later : Contents) × Plans store.new stored later
         × Adds planned later block (object_set_bytes set.now)
         × IsSetBlock later birth block set.now) }
+    ensures places { IfOk result (λ block.
+        AreChosen store.old.spaces [] 2 (dvas block.copies) store.new.spaces) }
     ensures refused { IfErr result IsForRoom }
     ensures no_room { IfErr result (λ refusal. refusal ≡ Refusal.NoSpace
         → RanOut store.old.spaces 2 (count_of copies) store.new.spaces) }
