@@ -1,3 +1,4 @@
+pub mod Demands
 pub mod Laws
 pub mod Placing
 pub mod Reading

@@ -90,13 +90,15 @@ pub record IsUnreadIn (old new : Store) (missing : List ℕ) (volume : VolumeSet
   pub before : OnlyReadsBlocks old mid missing
   pub unread : IsUnread mid new missing volume set Wanted refusal
 
--- why blocks that are wanted were not read: the object set was not, or is no volume's, or one of them
+-- why blocks that are wanted were not read: the object set was not, or is no volume's, or one of
+-- them was not
 abbrev pub IsReadRefused : Store → Store → List ℕ → VolumeSet → ℕ → (ℕ → Type 0) → Refusal → Type 0
 IsReadRefused old new missing volume birth Wanted refusal =
     IsVolumeRefused old new missing volume birth refusal
     ⊎ IsUnreadIn old new missing volume birth Wanted refusal
 
--- the way to a block of data was read: the object set, which was judged, and what it has of the block
+-- the way to a block of data was read: the object set, which was judged, and what it has of it
 abbrev pub IsWayRead : List VdevSpace → VolumeSet → ℕ → ℕ → Type 0
 IsWayRead spaces volume birth id =
-    (set : ObjectSet) × IsVolumeFound spaces volume birth set × (found : Option (List ℕ)) × IsFound spaces volume set id found
+    (set : ObjectSet) × IsVolumeFound spaces volume birth set
+    × (found : Option (List ℕ)) × IsFound spaces volume set id found

@@ -31,8 +31,8 @@ abbrev pub HasBytes : ℕ → Option (List ℕ) → List ℕ → Type 0
 HasBytes block_size (Some known) bytes = known ≡ bytes
 HasBytes block_size None bytes = bytes ≡ replicate block_size 0
 
--- The objects have the data of a volume: object 1 alone, of type 23, with blocks of the volume's size, each with its part of the array, and
--- none of them behind the volume's last.
+-- The objects have the data of a volume: object 1 alone, of type 23, with blocks of the volume's
+-- size, each with its part of the array, and no block id behind the volume's last.
 pub record IsData (size block_size : ℕ) (objects : ℕ → Option Object) (array : List ℕ) : Type 0 where
   pub others : (number : ℕ) → number ≢ 1 → objects number ≡ None
   pub there : Object

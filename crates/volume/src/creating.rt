@@ -1,10 +1,12 @@
 //! A volume is made.
-ghost use Rattle.std.specs.Prelude.{◌≡◌, ◌%◌, ◌≤◌, ◌<◌, ◌^◌, [], IsTrue, IfOk, IfErr, replicate};
+ghost use Rattle.std.specs.Prelude.{◌≡◌, ◌%◌, ◌≤◌, ◌<◌, ◌^◌, [], IsTrue, OnOk, IfOk, IfErr, replicate};
 ghost use Rattle.block_store.specs.Blocks.{Contents, Extends};
 ghost use Rattle.block_store.specs.Plans.{Plans};
 ghost use Rattle.block_store.specs.Steps.{OnlyReadsAndPlans, AnswersAreTrue, LossIsTolerable};
 ghost use Rattle.dnode_tree.specs.Writes.{IsForRoom};
+ghost use Rattle.objset.specs.declared.changes.Change.{Change};
 ghost use Rattle.pool_model.specs.Names.{is_block_size};
+ghost use Rattle.volume.specs.Demands.{empty_set, HasPlacesFor, IsCreation, IsPlanRefused};
 ghost use Rattle.volume.specs.Placing.{IsMade, LacksRoom};
 ghost use Rattle.volume.specs.Volume.{HasShape, Spells};
 
@@ -54,6 +56,13 @@ impl VolumeSet {
             × IsMade planned later birth volume) }
         ensures no_room { IfErr result (λ refusal. refusal ≡ Refusal.NoSpace
             → LacksRoom store.old store.new) }
+
+        // What places are taken for, and on a refusal its cause.
+        ensures places { OnOk result ((change : Change) × IsCreation block_size change
+            × HasPlacesFor store.old store.new empty_set birth change) }
+        ensures refused { IfErr result (λ refusal. (change : Change)
+            × IsCreation block_size change
+            × IsPlanRefused store.old store.new empty_set birth change refusal) }
 
         // Only room is wanting, where no vdev misses more disks than it has parities and what they answer is true.
         ensures known { IfErr result (λ refusal. (stored planned : Contents)

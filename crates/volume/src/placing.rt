@@ -1,16 +1,18 @@
 //! A volume with other blocks of data.
-ghost use Rattle.std.specs.Prelude.{◌≡◌, ◌≢◌, ◌⊎◌, ◌≤◌, ◌<◌, ◌++◌, ◌∷◌, [], ℕ, List, Option, OnOk, IfOk, IfErr, IsOkAnd};
+ghost use Rattle.std.specs.Prelude.{◌≡◌, ◌≢◌, ◌⊎◌, ◌≤◌, ◌<◌, ◌++◌, ◌∷◌, [], ℕ, List, Vec, Option, OnOk, IfOk, IfErr, IsOkAnd};
+ghost use Rattle.std.specs.declared.alloc.Global.{Global};
 ghost use Rattle.block_pointer.specs.declared.block.Block.{Block};
 ghost use Rattle.block_store.specs.Blocks.{Contents, Extends, count_of};
 ghost use Rattle.block_store.specs.Plans.{Plans};
 ghost use Rattle.block_store.specs.Steps.{OnlyReadsAndPlans, AnswersAreTrue, LossIsTolerable};
 ghost use Rattle.dnode.specs.declared.object_set.ObjectSet.{ObjectSet};
 ghost use Rattle.dnode.specs.ObjectSet.{FitsObjectSet};
+ghost use Rattle.dnode_tree.specs.declared.writes.BlockWrite.{BlockWrite};
 ghost use Rattle.dnode_tree.specs.Writes.{IsForRoom};
 ghost use Rattle.objset.specs.Changes.{IsGoodChange, MayChange};
 ghost use Rattle.objset.specs.Objects.{Object, AreObjects};
+ghost use Rattle.volume.specs.Demands.{ArePutBy, HasPlaces, HasPlacesFor, IsPlacingRefused, IsPlanRefused, IsWritingRefused};
 ghost use Rattle.volume.specs.Placing.{copies_of_datasets, IsPlaced, IsSetPlanned, LacksRoom};
-ghost use Rattle.volume.specs.Reading.{IsVolumeFound, IsVolumeRefused};
 ghost use Rattle.volume.specs.Volume.{size_of, block_size_of, block_of, HasData, HasShape, Spells};
 ghost use Rattle.volume.specs.Writing.{AreBlocksOf, IsArrayWith, IsChanged};
 ghost use Rattle.pool_model.specs.declared.volume.PlainVolume.{PlainVolume};
@@ -88,12 +90,11 @@ impl VolumeSet {
         ensures no_room { IfErr result (λ refusal. refusal ≡ Refusal.NoSpace
             → LacksRoom store.old store.new) }
 
-        // Whatever the volume is: its object set was not read or is no volume's, and why, or it was found to be one.
-        ensures unread { IfErr result (λ refusal.
-            IsVolumeRefused store.old store.new [] self.now birth refusal
-            ⊎ ((set : ObjectSet) × IsVolumeFound store.old.spaces self.now birth set)) }
-        ensures found { OnOk result (blocks.items ≢ [] → (set : ObjectSet)
-            × IsVolumeFound store.old.spaces self.now birth set) }
+        // Whatever the volume is: what places are taken for, and on a refusal its cause.
+        ensures places { OnOk result (blocks.items ≢ []
+            → HasPlaces store.old store.new self.now birth blocks) }
+        ensures refused { IfErr result
+            (IsPlacingRefused store.old store.new self.now birth blocks) }
 
         // Only room is wanting, where no vdev misses more disks than it has parities and what they answer is true.
         ensures known { IfErr result (λ refusal. (stored planned : Contents) (bound : ℕ)
@@ -137,6 +138,11 @@ impl VolumeSet {
             (after_writes volume changes.now.writes.now).bytes) }
         ensures no_room { IfErr result (λ refusal. refusal ≡ Refusal.NoSpace
             → LacksRoom store.old store.new) }
+        ensures places { OnOk result ((blocks : Vec BlockWrite Global)
+            × ArePutBy self.now changes.now blocks.items × (blocks.items ≢ []
+            → HasPlaces store.old store.new self.now birth blocks)) }
+        ensures refused { IfErr result
+            (IsWritingRefused store.old store.new self.now birth_before birth changes.now) }
         ensures known { IfErr result (λ refusal. (stored planned : Contents) (array : List ℕ)
             → Plans store.old stored planned → Spells stored birth_before self.now array
             → birth_before ≤ birth → AnswersAreTrue store.old store.new
@@ -170,12 +176,9 @@ impl VolumeSet {
         ensures no_room { IfErr result (λ refusal. refusal ≡ Refusal.NoSpace
             → LacksRoom store.old store.new) }
 
-        // Whatever the volume is: its object set was not read or is no volume's, and why, or it was found to be one.
-        ensures unread { IfErr result (λ refusal.
-            IsVolumeRefused store.old store.new [] self.now birth refusal
-            ⊎ ((set : ObjectSet) × IsVolumeFound store.old.spaces self.now birth set)) }
-        ensures found { OnOk result ((set : ObjectSet)
-            × IsVolumeFound store.old.spaces self.now birth set) }
+        ensures places { OnOk result (HasPlaces store.old store.new self.now birth blocks) }
+        ensures refused { IfErr result
+            (IsPlacingRefused store.old store.new self.now birth blocks) }
         ensures known { IfErr result (λ refusal. (stored planned : Contents) (bound : ℕ)
             (array : List ℕ) → Plans store.old stored planned
             → Spells stored bound self.now array → bound ≤ birth
@@ -227,6 +230,8 @@ pub(crate) fn plan_change<D: Disk + Drop>(
         done.replaced.items) }
     ensures no_room { IfErr result (λ refusal. refusal ≡ Refusal.NoSpace
         → LacksRoom store.old store.new) }
+    ensures places { OnOk result (HasPlacesFor store.old store.new set.now birth change) }
+    ensures refused { IfErr result (IsPlanRefused store.old store.new set.now birth change) }
     ensures known { IfErr result (λ refusal. (stored planned : Contents) (bound : ℕ)
         (objects : ℕ → Option Object) (own : List Block) (before : ℕ → List Block)
         → Plans store.old stored planned → AreObjects stored bound set.now objects own before

@@ -1,8 +1,9 @@
-use Rattle.std.proofs.Common.{[], inr, ⊎_elim, refl, subst}
+use Rattle.std.proofs.Common.{[], inl, inr, ⊎_elim, refl, subst}
 use Rattle.block_store.proofs.Steps.{steps_on, true_before, no_room_now, no_room_on}
-use Rattle.objset.specs.Changes.{AreChanged, changed}
+use Rattle.objset.specs.Changes.{AreChanged, HasNoRoom, changed}
 use Rattle.objset.specs.declared.changes.SetCopies.{SetCopies}
 use Rattle.volume.specs.Placing.{data_change}
+use Rattle.volume.proofs.Demanding.{objects_refused, places_with_set, set_refused}
 use Rattle.volume.proofs.Putting.{not_refused}
 use Rattle.volume.proofs.Refusing.{passed_on}
 use Rattle.volume.proofs.placing.plan_change.Goals as goal
@@ -49,3 +50,24 @@ returns-clause-value g c = λ stored planned bound objects own before plans are 
         gone_are = refl;
       },
     )
+
+pub returns-in_err-rewrite-clause-refused : goal.returns-in_err-rewrite-clause-refused
+returns-in_err-rewrite-clause-refused g c =
+    passed_on _ _ _ c.from_residual.ensures.1
+    (objects_refused c.args.store.now c.change.new.store c.args.set.now c.args.birth c.dataset_copies.result c.args.change _ c.dataset_copies.ensures.are c.in_err-rewrite.ensures.refused)
+
+pub returns-in_err-block-clause-refused : goal.returns-in_err-block-clause-refused
+returns-in_err-block-clause-refused g c =
+    passed_on _ _ _ c.from_residual-in_err-block.ensures.1
+    (set_refused c.args.store.now c.change.new.store c.plan_set.new.store c.args.set.now c.args.birth c.dataset_copies.result c.args.change _ c.dataset_copies.ensures.are
+    c.in_ok-rewrite.ensures.places c.in_err-block.ensures.refused c.in_err-block.ensures.no_room)
+
+pub returns-clause-places : goal.returns-clause-places
+returns-clause-places g c =
+    places_with_set c.args.store.now c.change.new.store c.plan_set.new.store c.args.set.now c.args.birth c.dataset_copies.result c.args.change c.in_ok-block.block c.dataset_copies.ensures.are
+    c.in_ok-rewrite.ensures.places c.in_ok-block.ensures.copies c.in_ok-block.ensures.places
+
+pub returns-in_err-rewrite-clause-no_room : goal.returns-in_err-rewrite-clause-no_room
+returns-in_err-rewrite-clause-no_room g c =
+    passed_on _ _ _ c.from_residual.ensures.1
+    (λ is. inl (subst (λ (copies : SetCopies). HasNoRoom c.args.store.now c.change.new.store [] copies) c.dataset_copies.ensures.are (c.in_err-rewrite.ensures.no_room is)))

@@ -22,3 +22,10 @@ returns-clause-value g c = λ stored planned plans honest.
           (some_block c.args.size c.args.block_size c.requires.block_sized c.requires.least))),
       made planned did.0 c.args.birth c.new-2.result _ _ c.in_ok-planned.planned.block c.in_ok-planned.planned.replaced.items c.new-2.ensures.block did.2,
     )
+
+pub returns-in_err-planned-clause-refused : goal.returns-in_err-planned-clause-refused
+returns-in_err-planned-clause-refused g c =
+    passed_on _ _ _ c.from_residual.ensures.1 (_, (c.new.result, c.new.ensures.items, refl), c.in_err-planned.ensures.refused)
+
+pub returns-clause-places : goal.returns-clause-places
+returns-clause-places g c = (_, (c.new.result, c.new.ensures.items, refl), c.in_ok-planned.ensures.places)

@@ -27,8 +27,8 @@ returns-clause-value g c =
 pub returns-then-is_empty-clause-steps : goal.returns-then-is_empty-clause-steps
 returns-then-is_empty-clause-steps g c = steps_none c.args.store.now []
 
-pub returns-then-is_empty-clause-found : goal.returns-then-is_empty-clause-found
-returns-then-is_empty-clause-found g c = λ some. absurd (some (no_items c.args.blocks.items (grind (arith, nat_tests, c.is_empty.ensures, c.if-is_empty.true))))
+pub returns-then-is_empty-clause-places : goal.returns-then-is_empty-clause-places
+returns-then-is_empty-clause-places g c = λ some. absurd (some (no_items c.args.blocks.items (grind (arith, nat_tests, c.is_empty.ensures, c.if-is_empty.true))))
 
-pub returns-clause-found : goal.returns-clause-found
-returns-clause-found g c = on_ok_weaker c.put.result (λ found some. found) c.put.ensures.found
+pub returns-clause-places : goal.returns-clause-places
+returns-clause-places g c = on_ok_weaker c.put.result (λ places some. places) c.put.ensures.places

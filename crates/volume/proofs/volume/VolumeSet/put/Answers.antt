@@ -5,6 +5,7 @@ use Rattle.dnode.specs.declared.object_set.ObjectSet.{ObjectSet}
 use Rattle.objset.specs.Objects.{AreObjects}
 use Rattle.objset.specs.declared.changes.Change.TheVariants.{Put}
 use Rattle.volume.specs.Placing.{IsSetPlanned}
+use Rattle.volume.proofs.Demanding.{places_behind}
 use Rattle.volume.proofs.Putting.{data_with, planned_spells, may_put, good_writes, lacks_on, volume_as}
 use Rattle.volume.proofs.Refusing.{passed_on}
 use Rattle.volume.proofs.volume.VolumeSet.put.Goals as goal
@@ -79,14 +80,23 @@ returns-clause-value g c = λ stored planned bound array plans is le honest.
       },
     )
 
-pub returns-in_err-set-clause-unread : goal.returns-in_err-set-clause-unread
-returns-in_err-set-clause-unread g c = passed_on _ _ _ c.from_residual.ensures.1 (inl c.in_err-set.ensures.refused)
+pub returns-in_err-set-clause-refused : goal.returns-in_err-set-clause-refused
+returns-in_err-set-clause-refused g c = passed_on _ _ _ c.from_residual.ensures.1 (inr (inl c.in_err-set.ensures.refused))
 
-pub returns-in_err-planned-clause-unread : goal.returns-in_err-planned-clause-unread
-returns-in_err-planned-clause-unread g c = passed_on _ _ _ c.from_residual-in_err-planned.ensures.1 (inr (c.in_ok-set.set, c.in_ok-set.ensures.found))
+pub returns-in_err-planned-clause-refused : goal.returns-in_err-planned-clause-refused
+returns-in_err-planned-clause-refused g c =
+    passed_on _ _ _ c.from_residual-in_err-planned.ensures.1 (inr (inr (record {
+      set = c.in_ok-set.set;
+      is_set = c.in_ok-set.ensures.found;
+      mid = c.open.new.store;
+      before = c.in_ok-set.ensures.reads;
+      why = c.in_err-planned.ensures.refused;
+    })))
 
-pub returns-in_err-rewritten-clause-unread : goal.returns-in_err-rewritten-clause-unread
-returns-in_err-rewritten-clause-unread g c = passed_on _ _ _ c.from_residual-in_err-rewritten.ensures.1 (inr (c.in_ok-set.set, c.in_ok-set.ensures.found))
+pub returns-in_err-rewritten-clause-refused : goal.returns-in_err-rewritten-clause-refused
+returns-in_err-rewritten-clause-refused g c = passed_on _ _ _ c.from_residual-in_err-rewritten.ensures.1 (inl refl)
 
-pub returns-clause-found : goal.returns-clause-found
-returns-clause-found g c = (c.in_ok-set.set, c.in_ok-set.ensures.found)
+pub returns-clause-places : goal.returns-clause-places
+returns-clause-places g c =
+    places_behind c.args.store.now c.open.new.store c.plan_change.new.store c.args.self.now c.args.birth c.in_ok-set.set c.args.blocks c.in_ok-set.ensures.reads c.in_ok-set.ensures.found
+    c.in_ok-planned.ensures.places

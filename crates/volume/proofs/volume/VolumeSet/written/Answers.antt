@@ -1,7 +1,8 @@
-use Rattle.std.proofs.Common.{◌∙◌, [], inl}
-use Rattle.std.proofs.lemmas.Result.{IfOk-weaker, IfErr-weaker}
+use Rattle.std.proofs.Common.{◌∙◌, [], inl, inr, ⊎_elim}
+use Rattle.std.proofs.lemmas.Result.{IfOk-weaker, IfErr-weaker, on_ok_weaker}
 use Rattle.block_store.proofs.Steps.{steps_read, steps_on, true_before, true_after, few_after}
 use Rattle.pool_now.specs.Overlay.{after_writes}
+use Rattle.volume.proofs.Demanding.{all_behind}
 use Rattle.volume.proofs.Ids.{no_blocks}
 use Rattle.volume.proofs.Putting.{lacks_on}
 use Rattle.volume.proofs.Refusing.{passed_on}
@@ -51,3 +52,29 @@ returns-clause-known g c =
     (true_after c.args.store.now c.changed_blocks.new.store c.placed.new.store first.reads honest)
     (few_after c.args.store.now c.changed_blocks.new.store c.placed.new.store [] first.reads first.out first.shapes few))
     c.placed.ensures.known
+
+pub returns-in_err-blocks-clause-refused : goal.returns-in_err-blocks-clause-refused
+returns-in_err-blocks-clause-refused g c =
+    passed_on _ _ _ c.from_residual.ensures.1 (⊎_elim (λ memory. inl memory) (λ why. inr (inl why)) c.in_err-blocks.ensures.refused)
+
+pub returns-clause-places : goal.returns-clause-places
+returns-clause-places g c =
+    on_ok_weaker c.placed.result
+    (λ places. (
+      c.in_ok-blocks.blocks,
+      record { are = c.in_ok-blocks.ensures.blocks; which = c.in_ok-blocks.ensures.changed },
+      λ some. all_behind c.args.store.now c.changed_blocks.new.store c.placed.new.store c.args.self.now c.args.birth c.in_ok-blocks.blocks c.in_ok-blocks.ensures.reads (places some),
+    ))
+    c.placed.ensures.places
+
+pub returns-clause-refused : goal.returns-clause-refused
+returns-clause-refused g c =
+    IfErr-weaker c.placed.result _ _
+    (λ refusal why. inr (inr (record {
+      blocks = c.in_ok-blocks.blocks;
+      put = record { are = c.in_ok-blocks.ensures.blocks; which = c.in_ok-blocks.ensures.changed };
+      mid = c.changed_blocks.new.store;
+      before = c.in_ok-blocks.ensures.reads;
+      why = why;
+    })))
+    c.placed.ensures.refused
