@@ -1,5 +1,5 @@
 -- What a volume's blocks ask places for.
-use Rattle.std.proofs.Common.{◌≡◌, ◌⊎◌, ⊎_elim, inl, inr, ℕ, ◌<◌, List, [], ◌∷◌, ◌++◌, length, refl, sym, ap, subst}
+use Rattle.std.proofs.Common.{◌≡◌, ◌⊎◌, inl, inr, ℕ, List, [], ◌∷◌, ◌++◌, length, refl, ap, subst}
 use Rattle.std.specs.Prelude.{Vec}
 use Rattle.std.specs.declared.alloc.Global.{Global}
 use Rattle.block_pointer.specs.declared.block.Block.{Block}
@@ -7,7 +7,7 @@ use Rattle.block_pointer.specs.Copies.{dvas}
 use Rattle.block_store.specs.declared.refusal.Refusal.{Refusal}
 use Rattle.block_store.specs.declared.refusal.Refusal.TheVariants.{NoMemory, NoSpace}
 use Rattle.block_store.specs.declared.space.VdevSpace.{VdevSpace}
-use Rattle.block_store.specs.Demands.{Demand, HavePlaces, LackPlaces}
+use Rattle.block_store.specs.Demands.{Demand, HavePlaces}
 use Rattle.block_store.specs.Places.{AreChosen, RanOut}
 use Rattle.block_store.specs.Steps.{OnlyReadsBlocks}
 use Rattle.block_store.specs.Store.{Store}
@@ -48,15 +48,18 @@ pub set_refused : (old mid new : Store) (set : ObjectSet) (birth : ℕ) (copies 
     → ObjectsHave old mid set birth copies change → IsForRoom refusal → (refusal ≡ NoSpace → RanOut mid.spaces 2 2 new.spaces) → IsPlanRefused old new set birth change refusal
 set_refused old mid new set birth copies change refusal same objects (inl memory) ran_out = inl memory
 set_refused old mid new set birth copies change refusal same objects (inr is) ran_out =
-    inr (inl (is, inr (
-      objects.0 ++ demand_of_set ∷ [],
-      record {
-        of_objects = objects.0;
-        are = subst (λ (c : SetCopies). HasDemands old.spaces set birth c (data_change change) objects.0) same objects.1;
-        is = refl;
-      },
-      lack_later old.spaces mid.spaces new.spaces objects.0 (demand_of_set ∷ []) objects.2 (lack_one mid.spaces new.spaces 2 2 (ran_out is)),
-    )))
+    inr (inl (
+      is,
+      inr (
+        objects.0 ++ demand_of_set ∷ [],
+        record {
+          of_objects = objects.0;
+          are = subst (λ (c : SetCopies). HasDemands old.spaces set birth c (data_change change) objects.0) same objects.1;
+          is = refl;
+        },
+        lack_later old.spaces mid.spaces new.spaces objects.0 (demand_of_set ∷ []) objects.2 (lack_one mid.spaces new.spaces 2 2 (ran_out is)),
+      ),
+    ))
 
 -- the change of the objects was refused
 pub objects_refused : (old new : Store) (set : ObjectSet) (birth : ℕ) (copies : SetCopies) (change : Change) (refusal : Refusal) → copies ≡ copies_of_datasets

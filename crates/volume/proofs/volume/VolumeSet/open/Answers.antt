@@ -20,11 +20,14 @@ returns-in_err-set-clause-known g c =
 
 pub returns-then-not-is_of_volume-clause-refused : goal.returns-then-not-is_of_volume-clause-refused
 returns-then-not-is_of_volume-clause-refused g c =
-    inr (inl (refl, record {
-      set = c.in_ok-set.set;
-      is_set = c.in_ok-set.ensures.found;
-      why = inl (λ same. let no : false ≡ true = c.if-not-is_of_volume.ensures.1 same in true≢false (sym no));
-    }))
+    inr (inl (
+      refl,
+      record {
+        set = c.in_ok-set.set;
+        is_set = c.in_ok-set.ensures.found;
+        why = inl (λ same. let no : false ≡ true = c.if-not-is_of_volume.ensures.1 same in true≢false (sym no));
+      },
+    ))
 
 pub returns-then-not-is_of_volume-clause-known : goal.returns-then-not-is_of_volume-clause-known
 returns-then-not-is_of_volume-clause-known g c = λ stored bound array held is le honest few.
@@ -62,16 +65,19 @@ returns-then-not-has_shape-clause-reads g c = reads_on _ _ _ _ c.in_ok-set.ensur
 
 pub returns-then-not-has_shape-clause-refused : goal.returns-then-not-has_shape-clause-refused
 returns-then-not-has_shape-clause-refused g c =
-    inr (inl (refl, record {
-      set = c.in_ok-set.set;
-      is_set = c.in_ok-set.ensures.found;
-      why = inr (
-        c.in_ok-found.found,
-        subst (λ (spaces : List VdevSpace). IsObjectFound spaces c.args.self.now c.in_ok-set.set c.in_ok-found.found)
-            (ap (λ store. store.spaces) c.in_ok-set.ensures.reads.rest) c.in_ok-found.ensures.found,
-        λ is. let no : false ≡ true = c.if-not-has_shape.ensures.1 is in true≢false (sym no),
-      );
-    }))
+    inr (inl (
+      refl,
+      record {
+        set = c.in_ok-set.set;
+        is_set = c.in_ok-set.ensures.found;
+        why = inr (
+          c.in_ok-found.found,
+          subst (λ (spaces : List VdevSpace). IsObjectFound spaces c.args.self.now c.in_ok-set.set c.in_ok-found.found)
+              (ap (λ store. store.spaces) c.in_ok-set.ensures.reads.rest) c.in_ok-found.ensures.found,
+          λ is. let no : false ≡ true = c.if-not-has_shape.ensures.1 is in true≢false (sym no),
+        );
+      },
+    ))
 
 pub returns-then-not-has_shape-clause-known : goal.returns-then-not-has_shape-clause-known
 returns-then-not-has_shape-clause-known g c = λ stored bound array held is le honest few.
