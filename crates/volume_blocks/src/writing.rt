@@ -99,6 +99,7 @@ impl VolumeBlocks {
         requires fit { AreOfVolume self.now blocks.now }
         ensures kept { OnlyReadsAndPlans store.old store.new [] }
         ensures unread { store.new.disks ≡ store.old.disks }
+        ensures idle { blocks.now ≡ [] → store.new ≡ store.old }
         ensures changes { IfOk result (PutsOnly self.now (ids_of blocks.now) birth) }
 
         // Where the blocks are laid over what the volume spells, the new one spells that, once the plan is stored.

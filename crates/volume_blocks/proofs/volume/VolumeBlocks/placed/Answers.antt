@@ -1,4 +1,4 @@
-use Rattle.std.proofs.Common.{◌≡◌, ⊎_elim, inl, inr, ℕ, ◌+◌, List, [], ◌∷◌, ◌++◌, take, length, refl, sym, ap, ◌∙◌, subst}
+use Rattle.std.proofs.Common.{◌≡◌, ⊎_elim, inl, inr, ℕ, ◌+◌, List, [], ◌∷◌, ◌++◌, take, length, refl, sym, ap, ◌∙◌, subst, arith}
 use Rattle.std.proofs.lemmas.List.{take_all}
 use Rattle.std.proofs.lemmas.List.Elements.{All-get_or}
 use Rattle.block_store.proofs.Steps.{steps_none, steps_on}
@@ -16,6 +16,7 @@ pub loop-changed-init : goal.loop-changed-init
 loop-changed-init g c = record {
   kept = steps_none c.args.store.now [];
   unread = refl;
+  idle = λ none. refl;
   took = refl;
   shape = c.in_ok-after.ensures.shape;
   puts = puts_none (block_at c.args.self.now) (block_at c.in_ok-after.after) c.args.birth c.in_ok-after.ensures.blocks;
@@ -58,6 +59,7 @@ loop-changed-preserved g c =
     record {
       kept = steps_on c.args.store.now c.loop-changed.store c.plan_block.new.store [] c.loop-changed.invariant.kept c.plan_block.ensures.kept;
       unread = c.plan_block.ensures.unread ∙ c.loop-changed.invariant.unread;
+      idle = λ none. absurd (omega (arith, c.loop-changed-test.true, ap length none));
       took = took_more c.args.self.now c.args.store.now.spaces c.loop-changed.store.spaces c.plan_block.new.store.spaces so_far next changed.id more
           c.loop-changed.invariant.took c.in_ok-block.ensures.place;
       shape = (c.put.ensures.shape.0 ∙ c.loop-changed.invariant.shape.0, c.put.ensures.shape.1 ∙ c.loop-changed.invariant.shape.1);
@@ -92,3 +94,12 @@ pub returns-clause-places : goal.returns-clause-places
 returns-clause-places g c =
     subst (λ (xs : List ChangedBlock). TookFor c.args.store.now.spaces (sizes_of c.args.self.now (ids_of xs)) c.loop-changed.store.spaces)
     (take_all c.loop-changed.changed-index c.args.blocks.now c.loop-changed-test.false) c.loop-changed.invariant.took
+
+pub returns-in_err-block-clause-idle : goal.returns-in_err-block-clause-idle
+returns-in_err-block-clause-idle g c = λ none. absurd (omega (arith, c.loop-changed-test.true, ap length none))
+
+pub returns-in_err-put-clause-idle : goal.returns-in_err-put-clause-idle
+returns-in_err-put-clause-idle g c = λ none. absurd (omega (arith, c.loop-changed-test.true, ap length none))
+
+pub returns-clause-idle : goal.returns-clause-idle
+returns-clause-idle g c = c.loop-changed.invariant.idle

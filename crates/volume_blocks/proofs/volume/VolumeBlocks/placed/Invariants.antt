@@ -14,6 +14,7 @@ abbrev pub invariant-loop-changed : goal.invariant-loop-changed
 invariant-loop-changed g l = record {
   kept : OnlyReadsAndPlans l.fn.store l.store [];
   unread : l.store.disks ≡ l.fn.store.disks;
+  idle : l.blocks ≡ [] → l.store ≡ l.fn.store;
   took : TookFor l.fn.store.spaces (sizes_of l.self (ids_of (take l.changed-index l.blocks))) l.store.spaces;
   shape : HasShape l.after l.self.size l.self.block_size;
   puts : Puts (block_at l.self) (block_at l.after) l.birth (ids_of (take l.changed-index l.blocks));
