@@ -1,5 +1,5 @@
 -- What bytes spell is one list of pointers.
-use Rattle.std.proofs.Common.{◌≡◌, ◌≢◌, ℕ, ◌+◌, ◌*◌, ◌^◌, ◌<◌, ◌≤◌, List, [], ◌∷◌, ◌++◌, length, take, drop, get_or, refl, sym, ap, ◌∙◌, subst, arith}
+use Rattle.std.proofs.Common.{◌≡◌, ℕ, ◌+◌, ◌*◌, ◌^◌, ◌<◌, List, [], ◌∷◌, ◌++◌, length, take, drop, get_or, refl, sym, ap, ◌∙◌, arith}
 use Rattle.std.specs.Prelude.{replicate}
 use Rattle.std.specs.List.{flat_map, AllByRecursion}
 use Rattle.std.specs.Int.{w64, to_le_bytes}
@@ -16,7 +16,7 @@ use Rattle.block_pointer.specs.declared.pointer.BlockPtr.TheVariants.{Hole, Bloc
 use Rattle.block_pointer.specs.declared.property.Property.{Property}
 use Rattle.block_pointer.specs.Block.{FitsBlock, block_words}
 use Rattle.block_pointer.specs.Copies.{FitsCopies, copies_words}
-use Rattle.block_pointer.specs.Dva.{FitsDva, dva_words}
+use Rattle.block_pointer.specs.Dva.{FitsDva}
 use Rattle.block_pointer.specs.Pointer.{Fits, spelling}
 use Rattle.block_pointer.specs.Property.{FitsProperty, property_word}
 use Rattle.block_pointer.proofs.Parts.{AreWords-block, length-words}

@@ -15,7 +15,7 @@ use Rattle.block_store.specs.Steps.{OnlyReadsBlocks}
 use Rattle.dnode.specs.declared.node.ObjectNode.{ObjectNode}
 use Rattle.dnode_tree.specs.declared.reading.DataBlock.{DataBlock}
 use Rattle.dnode_tree.specs.Subtree.{asked_of}
-use Rattle.dnode_tree.specs.Ways.{AreReadAs, Reached, reached, asked_there, ComesTo, SpellsNoPointers, IsBad, IsCause, IsBlockFault, bytes_in, IsFoundBelow, IsBlockFoundBelow, IsFound, IsBlockFound, IsRefusedBelow}
+use Rattle.dnode_tree.specs.Ways.{AreReadAs, Reached, reached, asked_there, ComesTo, SpellsNoPointers, IsBad, IsCause, IsBlockFault, bytes_in, IsBlockFoundBelow, IsFound, IsBlockFound, IsRefusedBelow}
 use Rattle.block_store.proofs.Steps.{reads_none, reads_on}
 
 pub comes_at_once : (spaces : List VdevSpace) (property : ℕ → Property) (level birth : ℕ) (pointer : BlockPtr) (place : ℕ)

@@ -17,8 +17,8 @@ mod writing;
 pub use block_store::Refusal;
 pub use freeing::free_blocks;
 pub use laws::{
-    births_are_within, births_stand_on_their_blocks, blocks_of_trees_are_known, holes_are_trees, replaced_blocks_are_freed,
-    trees_stand_on_their_blocks,
+    births_are_within, births_stand_on_their_blocks, blocks_of_trees_are_known, holes_are_trees,
+    replaced_blocks_are_freed, trees_stand_on_their_blocks,
 };
 pub use putting::put_many;
 pub use reading::{DataBlock, get, get_block};

@@ -1,7 +1,5 @@
-use Rattle.std.proofs.Common.{◌≡◌, Option, sym, ap, subst, ◌∙◌}
-use Rattle.dnode_tree.specs.declared.reading.DataBlock.{DataBlock}
-use Rattle.dnode_tree.specs.Ways.{bytes_in, IsFound}
-use Rattle.dnode_tree.proofs.WayLemmas.{bytes_found}
+use Rattle.std.proofs.Common.{sym, ap, ◌∙◌}
+use Rattle.dnode_tree.specs.Ways.{bytes_in}
 use Rattle.dnode_tree.proofs.reading.get.Goals as goal
 
 pub returns-in-Some-clause-value : goal.returns-in-Some-clause-value
