@@ -6,7 +6,7 @@ use crate::stores::{Store, new_store, store_plan};
 use pool_model::{Bytes, Name, Write};
 use std::alloc::{AllocError, Global};
 use std::test::Fail;
-use volume::{GroupWrites, Refusal, Rewritten, VolumeSet};
+use volume::{GroupWrites, Refusal, Rewritten, VolumeSet, dataset_copies};
 
 /// In bytes: 300 blocks.
 const SIZE: u64 = 153_600;
@@ -109,6 +109,41 @@ fn a_volume_reads_as_it_was_written(rt: HostRuntime) -> Result<(), Fail> {
     assert_eq!(rt; replaced, 2);
     assert!(rt; is_after);
     assert!(rt; is_before);
+    Ok(())
+}
+
+/// Whether writes that are put in one call make the volume that they are to make.
+fn is_written_at_once(store: &mut Store, alloc: Global) -> Result<bool, Refusal> {
+    let before = made(store, alloc)?;
+    let name = name(alloc)?;
+    let writes = two_writes(alloc)?;
+    let changes = GroupWrites {
+        name: &name,
+        writes: &writes,
+    };
+    store.begin_plan(2);
+    let done = before.written(store, alloc, &changes, 1, 2)?;
+    store_plan(store);
+    let near = bytes_at(&done.volume, store, alloc, 256, 2)?;
+    Ok(done.replaced.len() == 2 && is_of(&near, 256, 5, 0))
+}
+
+fn is_written_in_memory(alloc: Global) -> Result<bool, Fail> {
+    let mut store = new_store(alloc)?;
+    Ok(is_written_at_once(&mut store, alloc)?)
+}
+
+#[test]
+fn a_volume_is_written_in_one_call(rt: HostRuntime) -> Result<(), Fail> {
+    assert!(rt; is_written_in_memory(rt.alloc())?);
+    Ok(())
+}
+
+#[test]
+fn data_blocks_have_one_copy_and_others_two(rt: HostRuntime) -> Result<(), Fail> {
+    let copies = dataset_copies();
+    assert_eq!(rt; copies.data.count(), 1);
+    assert_eq!(rt; copies.other.count(), 2);
     Ok(())
 }
 
