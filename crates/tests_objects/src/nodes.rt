@@ -9,7 +9,7 @@ use crate::stores::{Store, new_store, store_plan};
 use block_pointer::{Block, BlockPtr};
 use block_store::CopyCount;
 use dnode::{Dnode, ObjectNode, ObjectSet, ObjectSetKind};
-use dnode_slots::{NodeWrite, Refusal, SetRewrite, get, plan_set, put_many, read_set};
+use dnode_slots::{FoundDnode, NodeWrite, Refusal, SetRewrite, get, plan_set, put_many, read_set};
 use dnode_tree::{BlockWrite, CopyCounts, free_blocks};
 use std::alloc::{AllocError, Global};
 use std::test::Fail;
@@ -99,8 +99,8 @@ fn second_writes() -> [NodeWrite; 3]
 }
 
 /// The sectors of an object's data block: 0 of a free dnode.
-fn sectors_of(found: Result<Dnode, Refusal>) -> u32 {
-    match found {
+fn sectors_of(found: Result<FoundDnode, Refusal>) -> u32 {
+    match found.map(|found| found.dnode) {
         Ok(Dnode::Free) => 0,
         Ok(Dnode::Object(node))
             if node.object_type == 23 && node.highest == 9 && node.pointer == BlockPtr::Hole => {
