@@ -42,22 +42,22 @@ fn directory_of_one(alloc: Global) -> Result<Directory, Fail>
     Ok(directory)
 }
 
-/// A meta object set with that directory, and the record.
-fn set_with(store: &mut Store, alloc: Global, record: &DatasetRecord) -> Result<ObjectSet, Fail>
-    requires { FitsRecord record.now }
+/// A meta object set with that directory, and a record.
+fn set_with(store: &mut Store, alloc: Global, one: &DatasetRecord) -> Result<ObjectSet, Fail>
+    requires { FitsRecord one.now }
     ensures { IfOk result FitsObjectSet }
 {
-    let made = record_creation(alloc, record)?;
+    let made = record_creation(alloc, one)?;
     let set = with(&EMPTY, store, alloc, 5, made, 1)?;
     let made = directory_of_one(alloc)?.creation(alloc)?;
     Ok(with(&set, store, alloc, 1, made, 2)?)
 }
 
 /// A root, once it is stored.
-fn root_with(store: &mut Store, alloc: Global, record: &DatasetRecord) -> Result<Block, Fail>
-    requires { FitsRecord record.now }
+fn root_with(store: &mut Store, alloc: Global, one: &DatasetRecord) -> Result<Block, Fail>
+    requires { FitsRecord one.now }
 {
-    let set = set_with(store, alloc, record)?;
+    let set = set_with(store, alloc, one)?;
     store.begin_plan(3);
     let root = plan_set(&set, store, alloc, 3, CopyCount::Three)?;
     store_plan(store);
