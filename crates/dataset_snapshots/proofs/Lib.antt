@@ -1,2 +1,3 @@
 pub mod Datasets
 pub mod Rows
+pub mod Staying

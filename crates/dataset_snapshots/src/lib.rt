@@ -2,6 +2,8 @@
 #![tactic(auto)]
 
 mod finding;
+mod laws;
 
 pub use block_store::Refusal;
 pub use finding::{Dataset, find};
+pub use laws::roots_stay;

@@ -124,7 +124,8 @@ fn is_of_record(shape: &ObjectShape) -> bool
 fn record_of(block: &[u8]) -> Result<DatasetRecord, Refusal>
     ensures size { IfOk result (λ _. length block.now ≡ 512) }
     ensures found { IfOk result (SpellsRecord block.now) }
-    ensures only { (r : DatasetRecord) → SpellsRecord block.now r → IfOk result (λ found. found ≡ r) }
+    ensures only { (r : DatasetRecord) → SpellsRecord block.now r
+        → IfOk result (λ found. found ≡ r) }
     ensures refused { IfErr result (λ refusal. (refusal ≡ Refusal.BadPointer)
         × (length block.now ≡ 512 → (r : DatasetRecord) → ¬ SpellsRecord block.now r)) }
 {

@@ -1,5 +1,6 @@
 //! A volume is made.
 ghost use Rattle.std.specs.Prelude.{◌≡◌, ◌%◌, ◌≤◌, ◌<◌, ◌^◌, [], IsTrue, OnOk, IfOk, IfErr, replicate};
+ghost use Rattle.block_pointer.specs.Block.{FitsBlock};
 ghost use Rattle.block_store.specs.Blocks.{Contents, Extends};
 ghost use Rattle.block_store.specs.Plans.{Plans};
 ghost use Rattle.block_store.specs.Steps.{OnlyReadsAndPlans, AnswersAreTrue, LossIsTolerable};
@@ -8,7 +9,7 @@ ghost use Rattle.objset.specs.declared.changes.Change.{Change};
 ghost use Rattle.pool_model.specs.Names.{is_block_size};
 ghost use Rattle.volume.specs.Demands.{empty_set, HasPlacesFor, IsCreation, IsPlanRefused};
 ghost use Rattle.volume.specs.Placing.{IsMade, LacksRoom};
-ghost use Rattle.volume.specs.Volume.{HasShape, Spells};
+ghost use Rattle.volume.specs.Volume.{HasShape, Spells, block_of};
 
 use crate::placing::plan_change;
 use crate::volume::{VOLUME_TYPE, VolumeSet};
@@ -48,6 +49,7 @@ impl VolumeSet {
         requires most { size ≤ 2 ^ 40 }
         requires born { 0 < birth }
         ensures steps { OnlyReadsAndPlans store.old store.new [] }
+        ensures fits { IfOk result (λ volume. FitsBlock (block_of volume)) }
         ensures shape { IfOk result (λ volume. HasShape volume size block_size) }
         ensures value { IfOk result (λ volume. (stored planned : Contents)
             → Plans store.old stored planned → AnswersAreTrue store.old store.new

@@ -2,6 +2,7 @@
 ghost use Rattle.std.specs.Prelude.{◌≡◌, ◌≢◌, ◌⊎◌, ◌≤◌, ◌<◌, ◌++◌, ◌∷◌, [], ℕ, List, Vec, Option, OnOk, IfOk, IfErr, IsOkAnd};
 ghost use Rattle.std.specs.declared.alloc.Global.{Global};
 ghost use Rattle.block_pointer.specs.declared.block.Block.{Block};
+ghost use Rattle.block_pointer.specs.Block.{FitsBlock};
 ghost use Rattle.block_store.specs.Blocks.{Contents, Extends, count_of};
 ghost use Rattle.block_store.specs.Plans.{Plans};
 ghost use Rattle.block_store.specs.Steps.{OnlyReadsAndPlans, AnswersAreTrue, LossIsTolerable};
@@ -76,6 +77,8 @@ impl VolumeSet {
         ensures steps { OnlyReadsAndPlans store.old store.new [] }
         ensures idle { blocks.items ≡ [] → (store.new ≡ store.old) × IsOkAnd result (λ done.
             (done.volume ≡ self.now) × (done.replaced.items ≡ [])) }
+        ensures fits { IfOk result (λ done. blocks.items ≢ []
+            → FitsBlock (block_of done.volume)) }
         ensures shape { IfOk result (λ done.
             HasShape done.volume (size_of self.now) (block_size_of self.now)) }
         ensures value { IfOk result (λ done. (stored planned : Contents) (bound : ℕ)
@@ -163,6 +166,7 @@ impl VolumeSet {
         requires blocks { AreBlocksOf self.now blocks.items }
         requires born { 0 < birth }
         ensures steps { OnlyReadsAndPlans store.old store.new [] }
+        ensures fits { IfOk result (λ done. FitsBlock (block_of done.volume)) }
         ensures shape { IfOk result (λ done.
             HasShape done.volume (size_of self.now) (block_size_of self.now)) }
         ensures value { IfOk result (λ done. (stored planned : Contents) (bound : ℕ)
@@ -221,6 +225,7 @@ pub(crate) fn plan_change<D: Disk + Drop>(
     requires born { 0 < birth }
     ensures steps { OnlyReadsAndPlans store.old store.new [] }
     ensures born { IfOk result (λ done. done.block.birth ≡ birth) }
+    ensures fits { IfOk result (λ done. FitsBlock done.block) }
     ensures value { IfOk result (λ done. (stored planned : Contents) (bound : ℕ)
         (objects : ℕ → Option Object) (own : List Block) (before : ℕ → List Block)
         → Plans store.old stored planned → AreObjects stored bound set.now objects own before
