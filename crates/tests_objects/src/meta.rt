@@ -12,13 +12,14 @@ use block_store::CopyCount;
 use dnode::ObjectSet;
 use dnode_slots::plan_set;
 use meta_objset::{
-    DatasetKind, DatasetRecord, Directory, is_name, read_directory, read_record, record_change,
-    record_creation,
+    DatasetKind, DatasetRecord, Directory, config_creation, config_replacement, is_name,
+    read_config, read_directory, read_record, record_change, record_creation,
 };
 use object_table::{RowShape, TableKind, creation, read, replacement};
 use objset::{Change, ObjectChange, Refusal, change};
 use std::alloc::Global;
 use std::test::Fail;
+use vdev_label::Config;
 
 const KIND: TableKind = TableKind {
     object_type: 210,
@@ -152,6 +153,27 @@ fn stored(alloc: Global) -> Result<bool, Fail> {
 #[test]
 fn a_directory_is_read_as_it_was_stored(rt: HostRuntime) -> Result<(), Fail> {
     assert!(rt; stored(rt.alloc())?);
+    Ok(())
+}
+
+/// A configuration with no vdevs, made as object 2 and written anew: how many vdevs are read then.
+fn configs(alloc: Global) -> Result<[usize; 2], Fail> {
+    let mut store = new_store(alloc)?;
+    let config = Config {
+        vdevs: Vec::new(alloc),
+    };
+    let made = config_creation(alloc, &config)?;
+    let first = with(&EMPTY, &mut store, alloc, 2, made, 1)?;
+    let before = read_config(&first, &mut store, alloc, 1, &[])?;
+    let made = config_replacement(alloc, &config)?;
+    let second = with(&first, &mut store, alloc, 2, made, 2)?;
+    let after = read_config(&second, &mut store, alloc, 2, &[])?;
+    Ok([before.vdevs.len(), after.vdevs.len()])
+}
+
+#[test]
+fn a_configuration_is_read_as_it_was_stored(rt: HostRuntime) -> Result<(), Fail> {
+    assert_eq!(rt; configs(rt.alloc())?, [0; 2]);
     Ok(())
 }
 
