@@ -1,3 +1,4 @@
 pub mod Datasets
+pub mod FirstRoot
 pub mod Rows
 pub mod Staying

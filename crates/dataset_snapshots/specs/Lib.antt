@@ -1,3 +1,4 @@
+pub mod Creating
 pub mod Finding
 pub mod Laws
 pub mod Pools

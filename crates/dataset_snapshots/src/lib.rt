@@ -1,9 +1,11 @@
 //! The datasets of a pool under a root: what a root spells, and what it has of a name.
 #![tactic(auto)]
 
+mod creating;
 mod finding;
 mod laws;
 
 pub use block_store::Refusal;
+pub use creating::create;
 pub use finding::{Dataset, find};
 pub use laws::roots_stay;

@@ -7,13 +7,14 @@ use crate::meta::{block_of_set, name_of, record_of, with};
 use crate::stores::{Store, new_store, store_plan};
 use block_pointer::{Block, BlockPtr};
 use block_store::CopyCount;
-use dataset_snapshots::{Dataset, find};
+use dataset_snapshots::{Dataset, create, find};
 use dnode::{ObjectNode, ObjectSet, ObjectSetKind};
 use dnode_slots::plan_set;
 use meta_objset::{DatasetRecord, Directory, is_name, record_creation};
 use pool_model::Name;
 use std::alloc::Global;
 use std::test::Fail;
+use vdev_label::Config;
 
 /// A meta object set with no object.
 const EMPTY: ObjectSet = ObjectSet {
@@ -95,5 +96,24 @@ fn outcomes(alloc: Global) -> Result<[bool; 4], Fail> {
 #[test]
 fn a_name_is_found_under_a_root(rt: HostRuntime) -> Result<(), Fail> {
     assert_eq!(rt; outcomes(rt.alloc())?, [true; 4]);
+    Ok(())
+}
+
+/// Whether a root with no volumes is born in its group, and has nothing of the name `v`.
+fn is_created(alloc: Global) -> Result<[bool; 2], Fail> {
+    let mut store = new_store(alloc)?;
+    let config = Config {
+        vdevs: Vec::new(alloc),
+    };
+    store.begin_plan(1);
+    let root = create(&mut store, alloc, &config, 1)?;
+    store_plan(&mut store);
+    let found = find_letter(&root, &mut store, alloc, b'v')?;
+    Ok([root.birth == 1, found.is_none()])
+}
+
+#[test]
+fn a_root_is_created_with_no_volumes(rt: HostRuntime) -> Result<(), Fail> {
+    assert_eq!(rt; is_created(rt.alloc())?, [true; 2]);
     Ok(())
 }
