@@ -1,22 +1,21 @@
 -- Datasets that are found.
-use Rattle.std.proofs.Common.{◌≡◌, ℕ, List, Option, Some, None, refl, sym, ap, subst, ◌∙◌}
+use Rattle.std.proofs.Common.{◌≡◌, ℕ, List, Some, None, refl, sym, ap, subst, ◌∙◌}
 use Rattle.block_pointer.specs.declared.block.Block.{Block}
 use Rattle.block_store.specs.Blocks.{Contents}
-use Rattle.block_store.specs.declared.refusal.Refusal.{Refusal}
 use Rattle.block_store.specs.Steps.{OnlyReadsBlocks}
 use Rattle.block_store.specs.Store.{Store}
 use Rattle.dnode.specs.declared.object_set.ObjectSet.{ObjectSet}
 use Rattle.meta_objset.specs.declared.directory.DirectoryRow.{DirectoryRow}
 use Rattle.meta_objset.specs.declared.record.DatasetRecord.{DatasetRecord}
 use Rattle.meta_objset.specs.Datasets.{HasRecord}
-use Rattle.meta_objset.specs.Found.{IsDirectoryFound, IsRecordFound, IsRecordRefused}
+use Rattle.meta_objset.specs.Found.{IsDirectoryFound, IsRecordFound}
 use Rattle.object_table.proofs.Tables.{spaces_stay}
-use Rattle.objset.specs.Objects.{Object, AreObjects}
+use Rattle.objset.specs.Objects.{AreObjects}
 use Rattle.pool_model.specs.declared.volume.PlainVolume.{PlainVolume}
 use Rattle.pool_model.specs.Pools.{PlainPool, volume_at}
 use Rattle.volume.specs.Volume.{IsVolume}
 use Rattle.dataset_snapshots.specs.declared.finding.Dataset.{Dataset}
-use Rattle.dataset_snapshots.specs.Finding.{AreRowsFound, HasDataset, IsFound, IsMetaFound, IsNumberIn, IsRecordUnread, IsRowOf, IsVolumeOf}
+use Rattle.dataset_snapshots.specs.Finding.{AreRowsFound, HasDataset, IsFound, IsMetaFound, IsNumberIn, IsRowOf, IsVolumeOf}
 use Rattle.dataset_snapshots.specs.Pools.{IsRecordOf, SpellsPool}
 use Rattle.dataset_snapshots.proofs.Rows.{no_row, row_leads}
 

@@ -13,7 +13,7 @@ use Rattle.dnode_slots.specs.Sets.{IsSetFound, IsSetRefused}
 use Rattle.meta_objset.specs.declared.directory.DirectoryRow.{DirectoryRow}
 use Rattle.meta_objset.specs.Directory.{LacksName}
 use Rattle.meta_objset.specs.Found.{AreDirectoryRows, IsDirectoryFound, IsRecordFound, IsRecordRefused, IsRowsRefused}
-use Rattle.meta_objset.specs.Names.{IsName, IsNamed}
+use Rattle.meta_objset.specs.Names.{IsNamed}
 use Rattle.meta_objset.specs.Reading.{directory_kind}
 use Rattle.pool_model.specs.declared.volume.PlainVolume.{PlainVolume}
 use Rattle.volume.specs.Volume.{HasShape, Spells, block_of}

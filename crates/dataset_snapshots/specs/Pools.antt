@@ -1,5 +1,5 @@
 -- What a root spells: the pool of a group.
-use Rattle.std.specs.Prelude.{ℕ, ◌≡◌, List, Option, Some, None, length}
+use Rattle.std.specs.Prelude.{ℕ, ◌≡◌, List, Option, length}
 use Rattle.std.specs.List.{AllZip}
 use Rattle.block_pointer.specs.declared.block.Block.{Block}
 use Rattle.block_store.specs.Blocks.{Contents}

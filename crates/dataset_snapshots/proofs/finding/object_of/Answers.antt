@@ -1,4 +1,4 @@
-use Rattle.std.proofs.Common.{List, inl, inr, ⊎_elim, subst, ◌∙◌}
+use Rattle.std.proofs.Common.{List, ⊎_elim, subst}
 use Rattle.dnode_tree.proofs.Refusing.{passed_on}
 use Rattle.meta_objset.specs.declared.directory.DirectoryRow.{DirectoryRow}
 use Rattle.dataset_snapshots.specs.Finding.{IsNumberIn}
