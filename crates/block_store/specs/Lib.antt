@@ -4,6 +4,7 @@ pub mod Demands
 pub mod Elsewhere
 pub mod Forgetting
 pub mod Laws
+pub mod Losses
 pub mod Places
 pub mod Plans
 pub mod Reading
