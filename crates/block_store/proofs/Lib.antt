@@ -9,6 +9,7 @@ pub mod Extents
 pub mod Fewer
 pub mod Fitting
 pub mod Kept
+pub mod Losses
 pub mod Lost
 pub mod Making
 pub mod Outs

@@ -8,17 +8,18 @@ use Rattle.block_pointer.specs.declared.dva.Dva.{Dva}
 use Rattle.block_pointer.specs.Copies.{dvas}
 use Rattle.raidz_io.specs.declared.vdev.Extent.{Extent}
 use Rattle.raidz_io.specs.Elsewhere.{StandsWhileKept, StandsWithMoreAbsent}
-use Rattle.raidz_io.specs.Reads.{OnlyReads, AreUntouched, IsHonestSince, absent_since, FewAreLost, FewAreNotMore, ReadsKeepContents}
+use Rattle.raidz_io.specs.Reads.{OnlyReads, AreUntouched, IsHonestSince, absent_since, FewAreLost, ReadsKeepContents}
 use Rattle.raidz_io.specs.Stands.{ExtentStands}
 use Rattle.block_store.specs.declared.block.Asked.{Asked}
 use Rattle.block_store.specs.declared.refusal.Refusal.{Refusal}
 use Rattle.block_store.specs.declared.refusal.Refusal.TheVariants.{NoMemory, BadPointer, DiskFault, BadDigest}
 use Rattle.block_store.specs.Blocks.{Contents}
-use Rattle.block_store.specs.Reading.{Asks, IsReadable, AreTolerable, IsLastFault, IsFirstRead, IsFailedCopy, HaveFailed, IsReadUpTo}
+use Rattle.block_store.specs.Losses.{IsForLoss}
+use Rattle.block_store.specs.Reading.{Asks, IsReadable, IsLastFault, IsFirstRead, IsFailedCopy, HaveFailed, IsReadUpTo}
 use Rattle.block_store.specs.Store.{Store, outs, lost, Holds}
 use Rattle.block_store.proofs.Lost.{lose_same, lost_is_out}
 use Rattle.block_store.proofs.Kept.{IsKept}
-use Rattle.block_store.proofs.ReadingLost.{absent_earlier, honest_later, stands_later, few_lost}
+use Rattle.block_store.proofs.ReadingLost.{honest_later, stands_later}
 use Rattle.block_store.proofs.ReadingSteps.{reads_on, untouched_on, failed_by}
 use Rattle.block_store.proofs.Writing.{found_at}
 
@@ -27,7 +28,6 @@ pub record Laws : Type 0 where
   pub reads_keep : ReadsKeepContents
   pub kept : StandsWhileKept
   pub more_absent : StandsWithMoreAbsent
-  pub few_not_more : FewAreNotMore
   pub parts_honest : PartsAreHonest
 
 -- the copies of a block were read, and nothing but the disks is another
@@ -119,28 +119,23 @@ first_read old new missing block (Ok read) is = record {
 }
 first_read old new missing block (Err refusal) is = tt
 
--- a block that is stored is read where few disks are absent
+-- a block that is stored is read, unless it lacks too many columns
 pub is_known : Laws → (old new : Store) (missing : List ℕ) (block : Block) (asked : Asked) (result : Result (Vec ℕ Global) Refusal) → IsBlockRead old new missing block result
     → IfErr result (λ refusal. (stored : Contents) (bytes : List ℕ) → Holds old stored → stored block ≡ Some bytes → Asks asked block → IsHonestSince old.disks new.disks
-    → AreTolerable old.spaces (absent_since old.disks new.disks (outs old ++ missing)) → refusal ≡ NoMemory)
+    → IsForLoss refusal)
 is_known laws old new missing block asked (Ok read) is = tt
-is_known laws old new missing block asked (Err refusal) is = λ stored bytes holds known asks honest tolerable.
+is_known laws old new missing block asked (Err refusal) is = λ stored bytes holds known asks honest.
     let absent : List ℕ = absent_since is.read.mid new.disks (outs old ++ missing) in
     let extent : Extent = is.read.read.extent in
-    let at = is.read.read.is_copy.extent_is in
-    let few : FewAreLost extent absent =
-    few_lost at.space.shape.vdev extent (absent_since old.disks new.disks (outs old ++ missing)) absent at.vdev
-    (λ disk held. absent_earlier old.disks is.read.mid new.disks (outs old ++ missing) disk is.read.before held)
-    (tolerable is.read.read.is_copy.place.vdev at.space at.found) in
     elim is.read.read.refused [
-      | inl none ↦ none
-      | inr (inl (fault, more)) ↦ absurd (laws.few_not_more extent absent few more)
+      | inl none ↦ inl none
+      | inr (inl (fault, more)) ↦ inr fault
       | inr (inr (digest, none)) ↦
           let stands = stands_there laws old new missing block (Err refusal) stored bytes is holds known in
           let nil : absent ++ [] ≡ absent = append-nil absent in
           absurd (none.none_stands (honest_later laws.parts_honest old.disks is.read.mid new.disks is.read.before honest) bytes []
-          (subst (λ (xs : List ℕ). ExtentStands (content is.read.mid) xs extent bytes) (sym nil) stands) (subst (λ (xs : List ℕ). FewAreLost extent xs) (sym nil) few)
-          ((holds.placed.blocks block bytes known).digest))
+          (subst (λ (xs : List ℕ). ExtentStands (content is.read.mid) xs extent bytes) (sym nil) stands)
+          (subst (λ (xs : List ℕ). FewAreLost extent xs) (sym nil) none.enough) ((holds.placed.blocks block bytes known).digest))
     ]
 
 -- the pointer of a block that is stored may be read

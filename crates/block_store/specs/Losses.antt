@@ -4,7 +4,7 @@ use Rattle.block_pointer.specs.declared.block.Block.{Block}
 use Rattle.block_store.specs.declared.refusal.Refusal.{Refusal}
 use Rattle.block_store.specs.declared.refusal.Refusal.TheVariants.{NoMemory, DiskFault}
 use Rattle.block_store.specs.Reading.{IsLastFault}
-use Rattle.block_store.specs.Steps.{OnlyReadsAndPlans}
+use Rattle.block_store.specs.Steps.{OnlyReadsAndPlans, LossIsTolerable}
 use Rattle.block_store.specs.Store.{Store, outs}
 
 -- there is not enough memory, or a block could not be read for lack of disks
@@ -18,3 +18,7 @@ pub record IsBlockLost (old new : Store) (missing : List ℕ) : Type 0 where
   pub mid : Store
   pub before : OnlyReadsAndPlans old mid missing
   pub fault : IsLastFault mid new (outs mid ++ missing) block DiskFault
+
+-- where a block is lost, some vdev lacks more disks than it has parities
+abbrev pub LossesAreNotTolerable : Type 0
+LossesAreNotTolerable = (old new : Store) (missing : List ℕ) → IsBlockLost old new missing → ¬ LossIsTolerable old new missing

@@ -1,8 +1,9 @@
 //! Laws of what a store holds, as functions with no body: what each ensures follows from the definitions alone.
 ghost use Rattle.block_store.specs.Elsewhere.{BlocksLieInSectors, ReadsSpare, WritesElsewhereKeep};
 ghost use Rattle.block_store.specs.Forgetting.{FewerAreHeld, FewerArePlanned};
+ghost use Rattle.block_store.specs.Losses.{LossesAreNotTolerable};
 
-use raidz_io::{reads_keep_contents, stands_while_kept, stands_with_more_absent};
+use raidz_io::{few_are_not_more, reads_keep_contents, stands_while_kept, stands_with_more_absent};
 
 /// What a store holds, it holds of fewer blocks.
 pub fn fewer_are_held()
@@ -33,4 +34,11 @@ pub fn writes_elsewhere_keep()
 {
     stands_while_kept();
     stands_with_more_absent();
+}
+
+/// Where a block is lost, some vdev lacks more disks than it has parities.
+pub fn losses_are_not_tolerable()
+    ensures { LossesAreNotTolerable }
+{
+    few_are_not_more();
 }

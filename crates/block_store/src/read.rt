@@ -3,10 +3,11 @@ ghost use Rattle.std.specs.Prelude.{◌≡◌, ◌⊎◌, ◌++◌, ◌*◌, ◌
 ghost use Rattle.sha2.specs.Sha256.{sha256};
 ghost use Rattle.model_disk.specs.Joint.{Disks};
 ghost use Rattle.block_pointer.specs.Copies.{dvas};
-ghost use Rattle.raidz_io.specs.Reads.{OnlyReads, AreUntouched, IsHonestSince, absent_since};
+ghost use Rattle.raidz_io.specs.Reads.{OnlyReads, AreUntouched, IsHonestSince};
 ghost use Rattle.block_store.specs.Blocks.{Contents};
+ghost use Rattle.block_store.specs.Losses.{IsForLoss};
 ghost use Rattle.block_store.specs.Plans.{KeepsPlans};
-ghost use Rattle.block_store.specs.Reading.{Asks, IsReadable, AreTolerable, IsLastFault, IsFirstRead, IsFault};
+ghost use Rattle.block_store.specs.Reading.{Asks, IsReadable, IsLastFault, IsFirstRead, IsFault};
 ghost use Rattle.block_store.specs.Store.{Holds, Keeps, outs};
 
 use crate::block::Asked;
@@ -16,7 +17,7 @@ use arrayvec::ArrayVec;
 use block_pointer::{Block, Copies, Dva};
 use model_disk::Disk;
 use model_disk::laws::parts_are_honest;
-use raidz_io::{few_are_not_more, reads_keep_contents, stands_while_kept, stands_with_more_absent};
+use raidz_io::{reads_keep_contents, stands_while_kept, stands_with_more_absent};
 use std::alloc::{AllocError, Global};
 
 impl<D: Disk + Drop> BlockStore<D> {
@@ -55,18 +56,15 @@ impl<D: Disk + Drop> BlockStore<D> {
             ⊎ (((refusal ≡ Refusal.BadPointer) × ¬ IsReadable self.old.spaces asked block.now)
             ⊎ IsLastFault self.old self.new (outs self.old ++ missing.now) block.now refusal)) }
 
-        // And it is read, where no vdev misses more disks than it has parities and what they answer is true.
+        // And it is read, over disks that answer truly, unless too many disks miss of it.
         ensures known { IfErr result (λ refusal. (stored : Contents) (bytes : List ℕ)
             → Holds self.old stored → stored block.now ≡ Some bytes
             → Asks asked block.now → IsHonestSince self.old.disks self.new.disks
-            → AreTolerable self.old.spaces
-            (absent_since self.old.disks self.new.disks (outs self.old ++ missing.now))
-            → refusal ≡ Refusal.NoMemory) }
+            → IsForLoss refusal) }
     {
         reads_keep_contents();
         stands_while_kept();
         stands_with_more_absent();
-        few_are_not_more();
         parts_are_honest();
         if !self.is_readable(block, asked) {
             return Err(Refusal::BadPointer);

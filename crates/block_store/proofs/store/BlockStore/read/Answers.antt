@@ -5,7 +5,7 @@ use Rattle.block_store.proofs.ReadingWhole.{Laws, IsBlockRead, block_read, reads
 use Rattle.block_store.proofs.store.BlockStore.read.Goals as goal
 
 pub returns-then-not-is_readable-clause-known : goal.returns-then-not-is_readable-clause-known
-returns-then-not-is_readable-clause-known g c = λ stored bytes holds known asks honest tolerable.
+returns-then-not-is_readable-clause-known g c = λ stored bytes holds known asks honest.
     let no : false ≡ true = c.if-not-is_readable.ensures.1 (stored_is_readable c.args.self.now stored c.args.block.now bytes c.args.asked holds known asks) in
     absurd (cc)
 
@@ -20,7 +20,6 @@ returns g c =
       reads_keep = c.reads_keep_contents.ensures;
       kept = c.stands_while_kept.ensures;
       more_absent = c.stands_with_more_absent.ensures;
-      few_not_more = c.few_are_not_more.ensures;
       parts_honest = c.parts_are_honest.ensures.all;
     } in
     let is : IsBlockRead c.args.self.now c.read_places.new.self c.args.missing.now c.args.block.now c.read_places.result =
