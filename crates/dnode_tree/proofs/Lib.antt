@@ -26,6 +26,7 @@ pub mod WayLemmas
 pub mod Walks
 pub mod Standing
 pub mod Leaving
+pub mod Losses
 pub mod SameBlocks
 pub mod Replacing
 pub mod Counts

@@ -14,7 +14,7 @@ use Rattle.block_store.specs.Store.{Store}
 use Rattle.dnode_tree.specs.declared.writes.BlockWrite.{BlockWrite}
 use Rattle.dnode_tree.specs.declared.writes.CopyCounts.{CopyCounts}
 use Rattle.dnode_tree.specs.declared.writes.Rewrite.{Rewrite}
-use Rattle.block_store.specs.Steps.{OnlyReadsAndPlans, AnswersAreTrue, LossIsTolerable}
+use Rattle.block_store.specs.Steps.{OnlyReadsAndPlans, AnswersAreTrue}
 use Rattle.dnode_tree.specs.Births.{AreBirths, HasBirths, height_of, is_above, reaches, births_after}
 use Rattle.dnode_tree.specs.PartsRewritten.{Ages, AgesOfParts, AreBirthsAfter, IsPartRewritten, HasWrites}
 use Rattle.dnode_tree.proofs.Births.{reaches_taken, reaches_dropped}
@@ -30,7 +30,7 @@ use Rattle.dnode_tree.proofs.Kept.{subtree_as}
 use Rattle.dnode_tree.proofs.NewArrays.{behind_all, order_dropped, has_before, has_behind, written_others}
 use Rattle.dnode_tree.proofs.Spans.{span_up}
 use Rattle.block_store.proofs.Steps.{steps_on}
-use Rattle.dnode_tree.proofs.Steps.{true_sooner, true_later, few_later}
+use Rattle.dnode_tree.proofs.Steps.{true_sooner, true_later}
 
 -- where births are told, they are those of the object, and after the writes
 abbrev pub AgesOfTree : ℕ → Contents → ObjectNode → List BlockWrite → Option Ages → Type 0
@@ -243,15 +243,14 @@ module _ {copies : CopyCounts} (start now : Store) (missing : List ℕ) (node : 
         → ((ages : Option Ages) (stored planned present : Contents) (array new_array : ℕ → Option (List ℕ)) (before noted : List Block) → Plans now stored present
         → IsPartRewritten ages copies planned present (property_of node) level 0 birth pointer new_array before noted noted_now
         → ((id : ℕ) → 128 ^ level ≤ id → array id ≡ None) → HasWrites new_array array run (128 ^ level) (128 * 128 ^ level)
-        → AgesOfParts birth level 0 1 run ages → AnswersAreTrue now after_write
-        → LossIsTolerable now after_write missing → Refused)
+        → AgesOfParts birth level 0 1 run ages → AnswersAreTrue now after_write → Refused)
         → (stored planned : Contents) (bound : ℕ) (array : ℕ → Option (List ℕ)) (blocks : List Block) → Plans start stored planned → IsTree stored bound node array blocks → bound ≤ birth
-        → AnswersAreTrue start after_write → LossIsTolerable start after_write missing → Refused
-    raising_fails Refused step stored planned bound array blocks plans tree le honest few =
+        → AnswersAreTrue start after_write → Refused
+    raising_fails Refused step stored planned bound array blocks plans tree le honest =
         let none : AgesOfTree birth stored node writes None = untold birth stored node writes in
         let there = so_far.rewriting None stored planned array blocks plans (root_of stored bound birth node array blocks le tree) tree.behind none (true_sooner start now after_write missing so_far.steps steps honest) in
         step None stored planned there.0 array (written writes array) blocks [] there.1 there.2 (nothing_behind node array level enough so_far.above tree.behind)
-        (level_has (written writes array) array there.3) (level_ages None stored none) (true_later start now after_write missing so_far.steps steps honest) (few_later start now after_write missing so_far.steps steps few)
+        (level_has (written writes array) array there.3) (level_ages None stored none) (true_later start now after_write missing so_far.steps steps honest)
 
 -- the tree with all writes
 module _ {copies : CopyCounts} (start now : Store) (missing : List ℕ) (node : ObjectNode) (level birth : ℕ) (writes rest : List BlockWrite) (done : Rewrite)

@@ -12,7 +12,7 @@ use Rattle.block_store.specs.Plans.{Plans}
 use Rattle.block_store.specs.Store.{Store}
 use Rattle.dnode_tree.specs.declared.writes.BlockWrite.{BlockWrite}
 use Rattle.dnode_tree.specs.declared.writes.CopyCounts.{CopyCounts}
-use Rattle.block_store.specs.Steps.{OnlyReadsAndPlans, AnswersAreTrue, LossIsTolerable}
+use Rattle.block_store.specs.Steps.{OnlyReadsAndPlans, AnswersAreTrue}
 use Rattle.dnode_tree.specs.Births.{AreBirths, reaches}
 use Rattle.dnode_tree.specs.PartsRewritten.{Ages, AgesOfParts, AreBirthsAfter, IsPartRewritten, AreRewrittenTo, HasWrites}
 use Rattle.dnode_tree.proofs.Births.{after_taken, after_dropped}
@@ -26,7 +26,7 @@ use Rattle.dnode_tree.proofs.Rewriting.{part_skipped, part_rewritten}
 use Rattle.dnode_tree.proofs.Spots.{HavePlacesAt, HavePartsPlaced, parts_skip, parts_go_on}
 use Rattle.dnode_tree.specs.Spots.{spots_in}
 use Rattle.block_store.proofs.Steps.{steps_on}
-use Rattle.dnode_tree.proofs.Steps.{true_sooner, true_later, few_later}
+use Rattle.dnode_tree.proofs.Steps.{true_sooner, true_later}
 
 -- the parts before the k-th are written
 pub record IsWritingParts (copies : CopyCounts) (start now : Store) (missing : List ℕ) (node : ObjectNode) (level first bound birth from : ℕ) (origin pointers : List BlockPtr) (writes rest : List BlockWrite) (k : ℕ)
@@ -203,15 +203,15 @@ module _ {copies : CopyCounts} (start now : Store) (missing : List ℕ) (node : 
     -- or it could not be
     pub writing_fails : (Refused : Type 0)
         → ((stored planned : Contents) (array : ℕ → Option (List ℕ)) (blocks : List Block) → Plans now stored planned
-        → IsSubtree stored (property_of node) level begin bound child array blocks → AnswersAreTrue now after_write → LossIsTolerable now after_write missing → Refused)
+        → IsSubtree stored (property_of node) level begin bound child array blocks → AnswersAreTrue now after_write → Refused)
         → (ages : Option Ages) (stored planned begun : Contents) (array new_array : ℕ → Option (List ℕ)) (before after : List (List Block)) (noted : List Block) → Plans start stored begun
         → AreRewrittenTo ages copies stored planned begun (property_of node) level first bound birth origin array new_array before after from noted noted_first
         → HasWrites new_array array writes (first + from * 128 ^ level) (first + 128 * 128 ^ level) → AgesOfParts birth level first from writes ages
-        → AnswersAreTrue start after_write → LossIsTolerable start after_write missing → Refused
-    writing_fails Refused step ages stored planned begun array new_array before after noted plans rewritten has aged honest few =
+        → AnswersAreTrue start after_write → Refused
+    writing_fails Refused step ages stored planned begun array new_array before after noted plans rewritten has aged honest =
         let there = so_far.rewriting ages stored planned begun array new_array before after noted plans rewritten has aged (true_sooner start now after_write missing so_far.steps steps honest) in
         step stored there.0 array (get_or before k []) there.2 (part_left stored planned there.0 array new_array before there.1 noted begin child there.3 begin_is child_is)
-        (true_later start now after_write missing so_far.steps steps honest) (few_later start now after_write missing so_far.steps steps few)
+        (true_later start now after_write missing so_far.steps steps honest)
 
 -- what the write of a part asks
 pub run_is_between : (level first k n middle begin : ℕ) (run rest : List BlockWrite) → middle ≡ (first + k * 128 ^ level) + 128 ^ level

@@ -1,13 +1,14 @@
 -- Parts of a tree while it is rewritten. Only the crate's own functions say these.
-use Rattle.std.specs.Prelude.{ℕ, suc, ◌≡◌, ◌+◌, ◌-◌, ◌*◌, ◌^◌, ◌<◌, ◌≤◌, List, [], ◌∷◌, ◌++◌, length, slice_index_or, Option, Some, None, take, if◌then◌else◌}
+use Rattle.std.specs.Prelude.{ℕ, suc, ◌≡◌, ◌⊎◌, ◌+◌, ◌-◌, ◌*◌, ◌^◌, ◌<◌, ◌≤◌, List, [], ◌∷◌, ◌++◌, length, slice_index_or, Option, Some, None, take, if◌then◌else◌}
 use Rattle.block_pointer.specs.declared.block.Block.{Block}
 use Rattle.block_pointer.specs.declared.pointer.BlockPtr.{BlockPtr}
 use Rattle.block_pointer.specs.declared.pointer.BlockPtr.TheVariants.{Hole, Block as At}
 use Rattle.block_pointer.specs.declared.property.Property.{Property}
 use Rattle.block_store.specs.declared.refusal.Refusal.{Refusal}
+use Rattle.block_store.specs.declared.refusal.Refusal.TheVariants.{DiskFault}
 use Rattle.block_store.specs.Blocks.{Contents, Extends}
 use Rattle.block_store.specs.Plans.{Plans}
-use Rattle.block_store.specs.Steps.{AnswersAreTrue, LossIsTolerable}
+use Rattle.block_store.specs.Steps.{AnswersAreTrue}
 use Rattle.block_store.specs.Store.{Store}
 use Rattle.dnode.specs.Levels.{levels_of}
 use Rattle.dnode_tree.specs.declared.writes.Rewriting.{Rewriting}
@@ -97,11 +98,12 @@ WritesPart this old new part first writes noted noted_later pointer =
     → (later : Contents) × Plans new stored later
     × IsPartRewritten ages this.copies planned later (property_of this.node.now) part.level first this.birth pointer (written writes array) blocks noted noted_later
 
--- where the store has such a part, its answers are true and few disks are lost, the refusal is want of memory or of room
+-- where the store has such a part and its answers are true, the refusal is want of memory, of room or of disks
 abbrev pub LacksRoomForPart : Rewriting → Store → Store → Subtree → ℕ → Refusal → Type 0
 LacksRoomForPart this old new part first refusal =
     (stored planned : Contents) (array : ℕ → Option (List ℕ)) (blocks : List Block) → Plans old stored planned
-    → IsPart stored this.node.now first part array blocks → AnswersAreTrue old new → LossIsTolerable old new this.missing.now → IsForRoom refusal
+    → IsPart stored this.node.now first part array blocks → AnswersAreTrue old new
+    → IsForRoom refusal ⊎ (refusal ≡ DiskFault)
 
 -- Whatever the store has at the parts below a root, where those before one of them read as in the new array: it plans the parts with
 -- these writes, and a root above them.
@@ -114,14 +116,14 @@ WritesParts this old new parts first from writes noted_now noted_later block =
     → (later : Contents) × Plans new stored later
     × AreRewritten ages this.copies planned later (property_of this.node.now) parts.level first this.birth block new_array before noted noted_later
 
--- where the store has such parts, its answers are true and few disks are lost, the refusal is want of memory or of room
+-- where the store has such parts and its answers are true, the refusal is want of memory, of room or of disks
 abbrev pub LacksRoomForParts : Rewriting → Store → Store → Parts → ℕ → ℕ → List BlockWrite → List Block → Refusal → Type 0
 LacksRoomForParts this old new parts first from writes noted_now refusal =
     (ages : Option Ages) (stored planned now : Contents) (array new_array : ℕ → Option (List ℕ)) (before after : List (List Block)) (noted : List Block) → Plans old stored now
     → AreRewrittenTo ages this.copies stored planned now (property_of this.node.now) parts.level first parts.birth this.birth parts.pointers array new_array before after from noted noted_now
     → HasWrites new_array array writes (first + from * 128 ^ parts.level) (first + 128 * 128 ^ parts.level)
     → AgesOfParts this.birth parts.level first from writes ages → AnswersAreTrue old new
-    → LossIsTolerable old new this.missing.now → IsForRoom refusal
+    → IsForRoom refusal ⊎ (refusal ≡ DiskFault)
 
 -- Whatever the store plans as the tree of a root, behind which the old array has nothing: it plans a tree that is one level higher, with
 -- these writes.
@@ -134,11 +136,11 @@ Raises this old new root level writes noted_now noted_later pointer =
     → (later : Contents) × Plans new stored later
     × IsPartRewritten ages this.copies planned later (property_of this.node.now) (level + 1) 0 this.birth pointer new_array before noted noted_later
 
--- where the store plans such a tree, its answers are true and few disks are lost, the refusal is want of memory or of room
+-- where the store plans such a tree and its answers are true, the refusal is want of memory, of room or of disks
 abbrev pub LacksRoomToRaise : Rewriting → Store → Store → BlockPtr → ℕ → List BlockWrite → List Block → Refusal → Type 0
 LacksRoomToRaise this old new root level writes noted_now refusal =
     (ages : Option Ages) (stored planned now : Contents) (array new_array : ℕ → Option (List ℕ)) (before noted : List Block) → Plans old stored now
     → IsPartRewritten ages this.copies planned now (property_of this.node.now) level 0 this.birth root new_array before noted noted_now
     → ((id : ℕ) → 128 ^ level ≤ id → array id ≡ None) → HasWrites new_array array writes (128 ^ level) (128 * 128 ^ level)
     → AgesOfParts this.birth level 0 1 writes ages → AnswersAreTrue old new
-    → LossIsTolerable old new this.missing.now → IsForRoom refusal
+    → IsForRoom refusal ⊎ (refusal ≡ DiskFault)

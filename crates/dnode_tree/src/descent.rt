@@ -4,9 +4,10 @@ ghost use Rattle.block_pointer.specs.declared.block.Block.{Block};
 ghost use Rattle.block_pointer.specs.declared.pointer.BlockPtr.{BlockPtr};
 ghost use Rattle.dnode.specs.Indirect.{SpellsIndirect};
 ghost use Rattle.block_store.specs.Blocks.{Contents};
+ghost use Rattle.block_store.specs.Losses.{IsForLoss};
 ghost use Rattle.block_store.specs.Reading.{Asks};
 ghost use Rattle.block_store.specs.Store.{Holds};
-ghost use Rattle.block_store.specs.Steps.{OnlyReadsBlocks, AnswersAreTrue, LossIsTolerable};
+ghost use Rattle.block_store.specs.Steps.{OnlyReadsBlocks, AnswersAreTrue};
 ghost use Rattle.dnode_tree.specs.Births.{AreBirths};
 ghost use Rattle.dnode_tree.specs.Subtree.{asked_of, AreParts, blocks_at, joined};
 ghost use Rattle.dnode_tree.specs.Tree.{property_of, IsPart};
@@ -79,7 +80,7 @@ pub(crate) fn read_indirect<D: Disk + Drop>(
         (pointers : List BlockPtr) → Holds store.old stored
         → stored block.now ≡ Some bytes → SpellsIndirect bytes pointers → Asks asked block.now
         → AnswersAreTrue store.old store.new
-        → LossIsTolerable store.old store.new missing.now → refusal ≡ Refusal.NoMemory) }
+        → IsForLoss refusal) }
 {
     let bytes = store.read(alloc, block, asked, missing)?;
     match Indirect::decode(alloc, &bytes) {
@@ -131,8 +132,7 @@ pub(crate) fn parts_of<D: Disk + Drop>(
     ensures known { IfErr result (λ refusal. (stored : Contents) (first : ℕ)
         (array : ℕ → Option (List ℕ)) (blocks : List Block) → Holds store.old stored
         → IsPart stored node.now first part array blocks → AnswersAreTrue store.old store.new
-        → LossIsTolerable store.old store.new missing.now
-        → refusal ≡ Refusal.NoMemory) }
+        → IsForLoss refusal) }
 {
     let level = part.level - 1;
     let BlockPtr::Block(block) = part.pointer else {

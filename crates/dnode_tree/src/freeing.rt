@@ -3,9 +3,10 @@ ghost use Rattle.std.specs.Prelude.{◌≡◌, ◌≢◌, ◌^◌, ◌<◌, ◌�
 ghost use Rattle.std.specs.Bool.{MatchBool};
 ghost use Rattle.block_pointer.specs.declared.block.Block.{Block};
 ghost use Rattle.block_store.specs.Blocks.{Contents};
+ghost use Rattle.block_store.specs.Losses.{IsForLoss};
 ghost use Rattle.block_store.specs.Store.{Holds};
 ghost use Rattle.dnode_tree.specs.Freeing.{AreOnlyIn};
-ghost use Rattle.block_store.specs.Steps.{OnlyReadsBlocks, AnswersAreTrue, LossIsTolerable};
+ghost use Rattle.block_store.specs.Steps.{OnlyReadsBlocks, AnswersAreTrue};
 ghost use Rattle.dnode_tree.specs.Tree.{property_of, IsTree};
 ghost use Rattle.dnode_tree.specs.Ways.{root_of, IsWalkRefused};
 
@@ -41,7 +42,7 @@ pub fn free_blocks<D: Disk + Drop>(
         (array later : ℕ → Option (List ℕ)) (blocks others : List Block) → Holds store.old stored
         → IsTree stored bound before.now array blocks → bound ≤ birth
         → IsTree stored birth after.now later others → AnswersAreTrue store.old store.new
-        → LossIsTolerable store.old store.new missing.now → refusal ≡ Refusal.NoMemory) }
+        → IsForLoss refusal) }
 
     // Whatever the objects are: the walk over one of them was refused.
     ensures refused { IfErr result (λ refusal. IsWalkRefused store.old store.new missing.now

@@ -7,7 +7,7 @@ ghost use Rattle.dnode.specs.Node.{FitsNode};
 ghost use Rattle.block_store.specs.Blocks.{Contents};
 ghost use Rattle.block_store.specs.Demands.{HavePlaces, LackPlaces};
 ghost use Rattle.block_store.specs.Plans.{Plans};
-ghost use Rattle.block_store.specs.Steps.{OnlyReadsAndPlans, AnswersAreTrue, LossIsTolerable};
+ghost use Rattle.block_store.specs.Steps.{OnlyReadsAndPlans, AnswersAreTrue};
 ghost use Rattle.dnode_tree.specs.Births.{HasBirths, height_of, births_after};
 ghost use Rattle.dnode_tree.specs.PartsRewritten.{root_part, WritesPart, LacksRoomForPart, Raises, LacksRoomToRaise};
 ghost use Rattle.dnode_tree.specs.PartsRefused.{IsPartRefused, IsTreeOverfull};
@@ -72,7 +72,7 @@ pub fn put_many<D: Disk + Drop>(
         (array : ℕ → Option (List ℕ)) (blocks : List Block) → Plans store.old stored planned
         → IsTree stored bound node.now array blocks → bound ≤ birth
         → AnswersAreTrue store.old store.new
-        → LossIsTolerable store.old store.new missing.now → IsForRoom refusal) }
+        → IsForRoom refusal ⊎ (refusal ≡ Refusal.DiskFault)) }
 
     // For each of these blocks places are taken, once, and for nothing else.
     ensures places { OnOk result (HavePlaces store.old.spaces

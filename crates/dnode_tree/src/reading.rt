@@ -3,8 +3,9 @@ ghost use Rattle.std.specs.Prelude.{◌≡◌, ◌≢◌, ◌+◌, ◌^◌, ◌<
 ghost use Rattle.std.specs.Option.{option_map};
 ghost use Rattle.block_pointer.specs.declared.block.Block.{Block};
 ghost use Rattle.block_store.specs.Blocks.{Contents};
+ghost use Rattle.block_store.specs.Losses.{IsForLoss};
 ghost use Rattle.block_store.specs.Store.{Holds};
-ghost use Rattle.block_store.specs.Steps.{OnlyReadsBlocks, AnswersAreTrue, LossIsTolerable};
+ghost use Rattle.block_store.specs.Steps.{OnlyReadsBlocks, AnswersAreTrue};
 ghost use Rattle.dnode_tree.specs.Births.{AreBirths, HasBirths};
 ghost use Rattle.dnode_tree.specs.Tree.{property_of, IsPart, IsTree};
 ghost use Rattle.dnode_tree.specs.Ways.{reached, bytes_of, bytes_in, IsFound, IsBlockFound, IsRefused, IsBlockFoundBelow, IsRefusedBelow};
@@ -50,8 +51,7 @@ pub fn get<D: Disk + Drop>(
     ensures known { IfErr result (λ refusal. (stored : Contents) (array : ℕ → Option (List ℕ))
         (blocks : List Block) → Holds store.old stored
         → IsTree stored birth node.now array blocks → AnswersAreTrue store.old store.new
-        → LossIsTolerable store.old store.new missing.now
-        → refusal ≡ Refusal.NoMemory) }
+        → IsForLoss refusal) }
 {
     match get_block(node, store, alloc, id, birth, missing)? {
         Some(block) => Ok(Some(block.bytes)),
@@ -87,8 +87,7 @@ pub fn get_block<D: Disk + Drop>(
     ensures known { IfErr result (λ refusal. (stored : Contents) (array : ℕ → Option (List ℕ))
         (blocks : List Block) → Holds store.old stored
         → IsTree stored birth node.now array blocks → AnswersAreTrue store.old store.new
-        → LossIsTolerable store.old store.new missing.now
-        → refusal ≡ Refusal.NoMemory) }
+        → IsForLoss refusal) }
 {
     if id > node.highest {
         return Ok(None);
@@ -130,8 +129,7 @@ fn get_below<D: Disk + Drop>(
     ensures known { IfErr result (λ refusal. (stored : Contents) (first : ℕ)
         (array : ℕ → Option (List ℕ)) (blocks : List Block) → Holds store.old stored
         → IsPart stored node.now first part array blocks → AnswersAreTrue store.old store.new
-        → LossIsTolerable store.old store.new missing.now
-        → refusal ≡ Refusal.NoMemory) }
+        → IsForLoss refusal) }
 {
     let BlockPtr::Block(block) = part.pointer else {
         return Ok(None);

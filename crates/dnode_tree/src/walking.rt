@@ -2,9 +2,10 @@
 ghost use Rattle.std.specs.Prelude.{◌≡◌, ◌≢◌, ◌++◌, ◌^◌, ◌<◌, ◌∷◌, [], ℕ, List, Option, OnOk, IfOk, IfErr, ◌↔◌, IsTrue};
 ghost use Rattle.block_pointer.specs.declared.block.Block.{Block};
 ghost use Rattle.block_store.specs.Blocks.{Contents};
+ghost use Rattle.block_store.specs.Losses.{IsForLoss};
 ghost use Rattle.block_store.specs.Reading.{Asks};
 ghost use Rattle.block_store.specs.Store.{Holds};
-ghost use Rattle.block_store.specs.Steps.{OnlyReadsBlocks, AnswersAreTrue, LossIsTolerable};
+ghost use Rattle.block_store.specs.Steps.{OnlyReadsBlocks, AnswersAreTrue};
 ghost use Rattle.dnode_tree.specs.Tree.{property_of, IsPart, IsTree};
 ghost use Rattle.dnode_tree.specs.Ways.{reached, root_of, IsWalked, IsWalkRefused, AreWalked};
 
@@ -41,8 +42,7 @@ pub fn walk<D: Disk + Drop>(
     ensures known { IfErr result (λ refusal. (stored : Contents) (array : ℕ → Option (List ℕ))
         (blocks : List Block) → Holds store.old stored
         → IsTree stored birth node.now array blocks → AnswersAreTrue store.old store.new
-        → LossIsTolerable store.old store.new missing.now
-        → refusal ≡ Refusal.NoMemory) }
+        → IsForLoss refusal) }
 {
     let root = Subtree {
         level: node.levels() - 1,
@@ -79,8 +79,7 @@ fn collect_below<D: Disk + Drop>(
     ensures known { IfErr result (λ refusal. (stored : Contents) (first : ℕ)
         (array : ℕ → Option (List ℕ)) (blocks : List Block) → Holds store.old stored
         → IsPart stored node.now first part array blocks → AnswersAreTrue store.old store.new
-        → LossIsTolerable store.old store.new missing.now
-        → refusal ≡ Refusal.NoMemory) }
+        → IsForLoss refusal) }
 {
     let BlockPtr::Block(block) = part.pointer else {
         return Ok(());

@@ -25,10 +25,10 @@ pub returns-in_err-read_indirect-clause-known : goal.returns-in_err-read_indirec
 returns-in_err-read_indirect-clause-known g c =
     let e : c.args.part.level ≡ suc (c.args.part.level - 1) = omega arith in
     passed_on _ _ _ c.from_residual-in_err-read_indirect.ensures.1
-    (λ stored first array blocks held part honest few.
+    (λ stored first array blocks held part honest.
     let there = indirect_part stored (property_of c.args.node.now) c.args.part.level _ first c.args.part.birth c.args.part.pointer c.in-Block.block array blocks e c.in-Block.is part in
     c.in_err-read_indirect.ensures.known stored there.bytes there.pointers held there.known there.spelled
-    (subst (λ asked. Asks asked c.in-Block.block) (sym c.asked_at-asked.ensures) there.asks) honest few)
+    (subst (λ asked. Asks asked c.in-Block.block) (sym c.asked_at-asked.ensures) there.asks) honest)
 
 pub returns-clause-parts : goal.returns-clause-parts
 returns-clause-parts g c =

@@ -2,7 +2,7 @@ use Rattle.std.proofs.Common.{◌≡◌, suc, ◌+◌, ◌-◌, ◌*◌, ◌/◌
 use Rattle.std.proofs.lemmas.Result.{IfOk-weaker, IfErr-weaker}
 use Rattle.block_store.specs.Reading.{Asks, IsReadAs}
 use Rattle.block_store.proofs.Steps.{reads_on}
-use Rattle.dnode_tree.proofs.FurtherReads.{true_before, true_after, few_after}
+use Rattle.dnode_tree.proofs.FurtherReads.{true_before, true_after}
 use Rattle.std.specs.Prelude.{IfSome}
 use Rattle.dnode_tree.specs.declared.reading.DataBlock.{DataBlock}
 use Rattle.dnode_tree.proofs.Births.{births_below, child_births}
@@ -17,18 +17,18 @@ use Rattle.dnode_tree.proofs.reading.+get_below.Goals as goal
 pub returns-in_err-bytes-clause-known : goal.returns-in_err-bytes-clause-known
 returns-in_err-bytes-clause-known g t c =
     passed_on _ _ _ c.from_residual.ensures.1
-    (λ stored first array blocks held part honest few.
+    (λ stored first array blocks held part honest.
     let there = data_part stored (property_of c.args.node.now) c.args.part.level 0 first c.args.part.birth c.args.part.pointer c.in-Block.block array blocks c.if-part-eq0.true c.in-Block.is part in
-    c.in_err-bytes.ensures.known stored there.0 held there.1.known (subst (λ asked. Asks asked c.in-Block.block) (sym c.asked_at-asked.ensures) there.1.asks) honest few)
+    c.in_err-bytes.ensures.known stored there.0 held there.1.known (subst (λ asked. Asks asked c.in-Block.block) (sym c.asked_at-asked.ensures) there.1.asks) honest)
 
 pub returns-in_err-children-clause-known : goal.returns-in_err-children-clause-known
 returns-in_err-children-clause-known g t c =
     let e : c.args.part.level ≡ suc (c.args.part.level - 1) = omega arith in
     passed_on _ _ _ c.from_residual-in_err-children.ensures.1
-    (λ stored first array blocks held part honest few.
+    (λ stored first array blocks held part honest.
     let there = indirect_part stored (property_of c.args.node.now) c.args.part.level _ first c.args.part.birth c.args.part.pointer c.in-Block.block array blocks e c.in-Block.is part in
     c.in_err-children.ensures.known stored there.bytes there.pointers held there.known there.spelled
-    (subst (λ asked. Asks asked c.in-Block.block) (sym c.asked_at-asked.ensures) there.asks) honest few)
+    (subst (λ asked. Asks asked c.in-Block.block) (sym c.asked_at-asked.ensures) there.asks) honest)
 
 pub returns-clause-reads : goal.returns-clause-reads
 returns-clause-reads g t c = reads_on _ _ _ _ c.in_ok-children.ensures.reads c.get_below.ensures.reads
@@ -53,14 +53,13 @@ returns-clause-known g t c =
     let e : c.args.part.level ≡ suc (c.args.part.level - 1) = omega arith in
     let low : c.args.place / c.span-span.result < 128 = child_low _ _ _ _ e c.span-span.ensures.value c.span-span.ensures.some c.requires.within in
     IfErr-weaker c.get_below.result _ _
-    (λ refusal is stored first array blocks held part honest few.
+    (λ refusal is stored first array blocks held part honest.
     let there = indirect_part stored (property_of c.args.node.now) c.args.part.level (c.args.part.level - 1) first c.args.part.birth c.args.part.pointer c.in-Block.block array blocks e c.in-Block.is part in
     let before = true_before _ _ _ _ c.in_ok-children.ensures.reads c.get_below.ensures.reads honest in
     let child = child_part stored (property_of c.args.node.now) c.args.part.level (c.args.part.level - 1) first c.args.part.birth c.args.part.pointer c.in-Block.block array blocks
     _ c.get.result _ e c.in-Block.is part (c.in_ok-children.ensures.value stored there.bytes there.pointers held there.known there.spelled before) c.get.ensures.value low in
     is stored (first + c.args.place / c.span-span.result * 128 ^ (c.args.part.level - 1)) array child.0 (c.in_ok-children.ensures.reads.keeps stored held) child.1
-    (true_after _ _ _ _ c.in_ok-children.ensures.reads c.get_below.ensures.reads honest)
-    (few_after _ _ _ _ c.in_ok-children.ensures.reads c.get_below.ensures.reads few))
+    (true_after _ _ _ _ c.in_ok-children.ensures.reads c.get_below.ensures.reads honest))
     c.get_below.ensures.known
 
 pub returns-in_default-clause-found : goal.returns-in_default-clause-found

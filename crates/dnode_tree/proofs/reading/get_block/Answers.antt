@@ -16,7 +16,7 @@ returns-clause-value g c =
 pub returns-clause-known : goal.returns-clause-known
 returns-clause-known g c =
     IfErr-weaker c.get_below.result _ _
-    (λ refusal is stored array blocks held tree honest few.
+    (λ refusal is stored array blocks held tree honest.
     is stored 0 array blocks held
-    (subst (λ n. IsSubtree stored (property_of c.args.node.now) (n - 1) 0 c.args.birth c.args.node.now.pointer array blocks) (sym c.levels.ensures) tree.root) honest few)
+    (subst (λ n. IsSubtree stored (property_of c.args.node.now) (n - 1) 0 c.args.birth c.args.node.now.pointer array blocks) (sym c.levels.ensures) tree.root) honest)
     c.get_below.ensures.known

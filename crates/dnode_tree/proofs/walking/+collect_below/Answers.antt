@@ -1,7 +1,7 @@
 use Rattle.std.proofs.Common.{◌≡◌, ap, [], ◌∷◌, List, inl, inr, IsTrue, append-nil, suc, ◌-◌, refl, subst, sym, ◌∙◌, arith}
 use Rattle.block_store.specs.Reading.{Asks}
 use Rattle.block_store.proofs.Steps.{reads_on}
-use Rattle.dnode_tree.proofs.FurtherReads.{true_before, true_after, few_after}
+use Rattle.dnode_tree.proofs.FurtherReads.{true_before, true_after}
 use Rattle.dnode_tree.proofs.Parts.{data_part, indirect_part}
 use Rattle.dnode_tree.proofs.Collecting.{parts_below, part_at, collecting_begins, collecting_goes_on, collected_all}
 use Rattle.dnode_tree.proofs.Refusing.{passed_on}
@@ -20,10 +20,10 @@ pub returns-in_err-children-clause-known : goal.returns-in_err-children-clause-k
 returns-in_err-children-clause-known g t c =
     let e : c.args.part.level ≡ suc (c.args.part.level - 1) = omega arith in
     passed_on _ _ _ c.from_residual-in_err-children.ensures.1
-    (λ stored first array blocks held part honest few.
+    (λ stored first array blocks held part honest.
     let there = indirect_part stored (property_of c.args.node.now) c.args.part.level _ first c.args.part.birth c.args.part.pointer c.in-Block.block array blocks e c.in-Block.is part in
     c.in_err-children.ensures.known stored there.bytes there.pointers held there.known there.spelled
-    (subst (λ asked. Asks asked c.in-Block.block) (sym c.asked_at-asked.ensures) there.asks) honest few)
+    (subst (λ asked. Asks asked c.in-Block.block) (sym c.asked_at-asked.ensures) there.asks) honest)
 
 pub loop-pointer-init : goal.loop-pointer-init
 loop-pointer-init g t c = (collecting_begins _ _ _ _ _ _ _, none_walked _ _ _ _ _ _)
@@ -49,15 +49,14 @@ returns-in_err-collect_below-clause-known g t c =
     let later = reads_on _ _ _ _ c.loop-pointer.invariant.0.reads c.in_err-collect_below.ensures.reads in
     let sooner = reads_on _ _ _ _ c.in_ok-children.ensures.reads c.loop-pointer.invariant.0.reads in
     passed_on _ _ _ c.from_residual-in_err-collect_below.ensures.1
-    (λ stored first array blocks held part honest few.
+    (λ stored first array blocks held part honest.
     let there = indirect_part stored (property_of c.args.node.now) c.args.part.level (c.args.part.level - 1) first c.args.part.birth c.args.part.pointer c.in-Block.block array blocks e c.in-Block.is part in
     let before = true_before _ _ _ _ c.in_ok-children.ensures.reads later honest in
     let read = c.pointers-pointer-items.ensures.value ∙ c.in_ok-children.ensures.value stored there.bytes there.pointers held there.known there.spelled before in
     let are = parts_below stored (property_of c.args.node.now) c.args.part.level (c.args.part.level - 1) first c.args.part.birth c.args.part.pointer c.in-Block.block array blocks _ e c.in-Block.is part read in
     c.in_err-collect_below.ensures.known stored _ array _ (sooner.keeps stored held)
     (part_at stored (property_of c.args.node.now) (c.args.part.level - 1) first _ _ array _ c.loop-pointer.pointer-index _ _ are c.loop-pointer-test.true refl)
-    (true_after _ _ _ _ sooner c.in_err-collect_below.ensures.reads honest)
-    (few_after _ _ _ _ sooner c.in_err-collect_below.ensures.reads few))
+    (true_after _ _ _ _ sooner c.in_err-collect_below.ensures.reads honest))
 
 pub returns-clause-reads : goal.returns-clause-reads
 returns-clause-reads g t c = reads_on _ _ _ _ c.in_ok-children.ensures.reads c.loop-pointer.invariant.0.reads
@@ -124,7 +123,7 @@ returns-clause-found g t c =
     (blocks, added, are)
 
 pub returns-then-not-asks-clause-known : goal.returns-then-not-asks-clause-known
-returns-then-not-asks-clause-known g t c = λ stored first array blocks held part honest few.
+returns-then-not-asks-clause-known g t c = λ stored first array blocks held part honest.
     let there = data_part stored (property_of c.args.node.now) c.args.part.level 0 first c.args.part.birth c.args.part.pointer c.in-Block.block array blocks c.if-part-eq0.true c.in-Block.is part in
     let test : IsTrue c.asks.result = c.asks.ensures.1 (subst (λ asked. Asks asked c.in-Block.block) (sym c.asked_at-asked.ensures) there.1.asks) in
     absurd cc

@@ -9,6 +9,7 @@ use Rattle.dnode_tree.specs.Births.{reaches}
 use Rattle.dnode_tree.specs.PartsRewritten.{Ages}
 use Rattle.dnode_tree.specs.declared.writes.BlockWrite.{BlockWrite}
 use Rattle.dnode_tree.proofs.Fitting.{indirect_sectors}
+use Rattle.dnode_tree.proofs.Losses.{loss_in_plan}
 use Rattle.dnode_tree.proofs.NewArrays.{written_first, behind_all}
 use Rattle.dnode_tree.proofs.Refusing.{passed_on, ok_both}
 use Rattle.dnode_tree.proofs.Rewriting.{rewriting_begins, sum_fits, root_rewritten}
@@ -18,7 +19,7 @@ use Rattle.dnode_tree.proofs.Spots.{HavePlacesAt, LackPlacesAt, parts_begin, par
 use Rattle.dnode_tree.specs.Spots.{spots_in, spots_below}
 use Rattle.dnode_tree.proofs.Roots.{indirect_length, leaf_rewritten, part_has_root}
 use Rattle.block_store.proofs.Steps.{steps_none, steps_on, steps_read}
-use Rattle.dnode_tree.proofs.Steps.{true_sooner, true_later, few_later, no_room_on}
+use Rattle.dnode_tree.proofs.Steps.{true_sooner, true_later, no_room_on}
 use Rattle.dnode_tree.proofs.WritingParts.{writing_skips, writing_goes_on, writing_fails, run_is_between, run_in_order, run_whole, root_filled}
 use Rattle.dnode_tree.specs.Subtree.{asked_of}
 use Rattle.dnode_tree.specs.Tree.{property_of}
@@ -57,7 +58,7 @@ part_reached (write ∷ writes) level first some between =
 pub write_part-returns-in_err-parts-clause-known : goal.write_part-returns-in_err-parts-clause-known
 write_part-returns-in_err-parts-clause-known g t c =
     passed_on _ _ _ c.from_residual-in_err-parts.ensures.1
-    (λ stored planned array blocks plans part honest few. inl (c.in_err-parts.ensures.known stored c.args.first array blocks plans.held part honest few))
+    (λ stored planned array blocks plans part honest. loss_in_plan _ (c.in_err-parts.ensures.known stored c.args.first array blocks plans.held part honest))
 
 pub write_part-returns-clause-steps : goal.write_part-returns-clause-steps
 write_part-returns-clause-steps g t c = steps_on _ _ _ _ (steps_read _ _ _ c.in_ok-parts.ensures.reads) c.write_parts.ensures.steps
@@ -93,12 +94,12 @@ pub write_part-returns-clause-known : goal.write_part-returns-clause-known
 write_part-returns-clause-known g t c =
     let reads = steps_read _ _ _ c.in_ok-parts.ensures.reads in
     IfErr-weaker c.write_parts.result _ _
-    (λ refusal is stored planned array blocks plans part honest few.
+    (λ refusal is stored planned array blocks plans part honest.
     let below = c.in_ok-parts.ensures.parts stored c.args.first array blocks plans.held part (true_sooner _ _ _ _ reads c.write_parts.ensures.steps honest) in
     let begun = rewriting_begins stored planned (property_of c.args.self.node.now) c.in_ok-parts.parts.level c.args.first c.in_ok-parts.parts.birth c.args.self.birth c.in_ok-parts.parts.pointers
     array (written c.args.writes.now array) below.0 c.note.new.replaced.items plans.kept below.1 (λ told told_is. absurd cc) in
     is None stored planned planned array (written c.args.writes.now array) below.0 [] c.note.new.replaced.items (c.in_ok-parts.ensures.reads.plans stored planned plans) begun
-    (λ id above under. refl) (λ told told_is. absurd cc) (true_later _ _ _ _ reads c.write_parts.ensures.steps honest) (few_later _ _ _ _ reads c.write_parts.ensures.steps few))
+    (λ id above under. refl) (λ told told_is. absurd cc) (true_later _ _ _ _ reads c.write_parts.ensures.steps honest))
     c.write_parts.ensures.known
 
 pub write_parts-loop-place-preserved-then-is_empty : goal.write_parts-loop-place-preserved-then-is_empty
@@ -153,7 +154,7 @@ write_parts-loop-place-preserved g t c =
 
 pub write_parts-returns-in_default-clause-known : goal.write_parts-returns-in_default-clause-known
 write_parts-returns-in_default-clause-known g t c =
-    λ ages stored planned now array new_array before after noted plans rewritten has aged honest few.
+    λ ages stored planned now array new_array before after noted plans rewritten has aged honest.
     let there = c.loop-place.invariant.1.rewriting ages stored planned now array new_array before after noted plans rewritten has aged honest in
     let fits = sum_fits _ _ _ _ _ _ _ _ _ _ _ _ _ _ _ _ there.3 c.requires.low in
     absurd (omega (arith, fits, c.in_default.ensures.none.0 refl))
