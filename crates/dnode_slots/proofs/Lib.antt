@@ -1,5 +1,6 @@
 mod BlockLists
 mod ChangedBlocks
+pub mod Losses
 pub mod NodeBirths
 mod NodeLists
 mod Outcomes

@@ -4,8 +4,9 @@ ghost use Rattle.block_pointer.specs.declared.block.Block.{Block};
 ghost use Rattle.dnode.specs.declared.dnode.Dnode.{Dnode};
 ghost use Rattle.dnode.specs.ObjectSet.{FitsObjectSet};
 ghost use Rattle.block_store.specs.Blocks.{Contents};
+ghost use Rattle.block_store.specs.Losses.{IsForLoss};
 ghost use Rattle.block_store.specs.Store.{Holds};
-ghost use Rattle.block_store.specs.Steps.{OnlyReadsBlocks, AnswersAreTrue, LossIsTolerable};
+ghost use Rattle.block_store.specs.Steps.{OnlyReadsBlocks, AnswersAreTrue};
 ghost use Rattle.dnode_tree.specs.Tree.{IsTree};
 ghost use Rattle.dnode_tree.specs.Ways.{IsRefused};
 ghost use Rattle.dnode_tree.specs.Writes.{AreInOrder, AreWholeBlocks, written};
@@ -49,8 +50,7 @@ fn changed_block<D: Disk + Drop>(
     ensures known { IfErr result (λ refusal. (stored : Contents) (array : ℕ → Option (List ℕ))
         (blocks : List Block) → Holds store.old stored
         → IsTree stored birth set.now.dnodes array blocks → AnswersAreTrue store.old store.new
-        → LossIsTolerable store.old store.new missing.now
-        → refusal ≡ Refusal.NoMemory) }
+        → IsForLoss refusal) }
 {
     let mut bytes = block_or_zeros(set, store, alloc, id, birth, missing)?;
     put_nodes(bytes.as_mut_slice(), writes);
@@ -87,8 +87,7 @@ pub(crate) fn block_writes<D: Disk + Drop>(
     ensures known { IfErr result (λ refusal. (stored : Contents) (array : ℕ → Option (List ℕ))
         (blocks : List Block) → Holds store.old stored
         → IsTree stored birth set.now.dnodes array blocks → AnswersAreTrue store.old store.new
-        → LossIsTolerable store.old store.new missing.now
-        → refusal ≡ Refusal.NoMemory) }
+        → IsForLoss refusal) }
 {
     let mut changed = Vec::new(alloc);
     let mut rest = writes;

@@ -5,7 +5,7 @@ ghost use Rattle.dnode.specs.declared.dnode.Dnode.{Dnode};
 ghost use Rattle.dnode.specs.ObjectSet.{FitsObjectSet};
 ghost use Rattle.block_store.specs.Blocks.{Contents};
 ghost use Rattle.block_store.specs.Plans.{Plans};
-ghost use Rattle.block_store.specs.Steps.{OnlyReadsAndPlans, AnswersAreTrue, LossIsTolerable};
+ghost use Rattle.block_store.specs.Steps.{OnlyReadsAndPlans, AnswersAreTrue};
 ghost use Rattle.dnode_tree.specs.Writes.{HasNoRoom, IsForRoom};
 ghost use Rattle.dnode_slots.specs.Nodes.{HasNodes};
 ghost use Rattle.dnode_slots.specs.Refused.{IsNodeWriteRefused};
@@ -54,8 +54,8 @@ pub fn put_many<D: Disk + Drop>(
     ensures known { IfErr result (λ refusal. (stored planned : Contents) (bound : ℕ)
         (nodes : ℕ → Dnode) (blocks : List Block) → Plans store.old stored planned
         → HasNodes stored bound set.now nodes blocks → bound ≤ birth
-        → AnswersAreTrue store.old store.new → LossIsTolerable store.old store.new missing.now
-        → IsForRoom refusal) }
+        → AnswersAreTrue store.old store.new
+        → IsForRoom refusal ⊎ (refusal ≡ Refusal.DiskFault)) }
 
     // For each block with one of these dnodes, and those above, places are taken, once, and for nothing else.
     ensures places { OnOk result (HaveNodePlaces set.now copies (numbers_of writes.now)

@@ -5,8 +5,9 @@ ghost use Rattle.dnode.specs.declared.dnode.Dnode.{Dnode};
 ghost use Rattle.dnode.specs.Dnode.{FitsDnode};
 ghost use Rattle.dnode.specs.ObjectSet.{FitsObjectSet};
 ghost use Rattle.block_store.specs.Blocks.{Contents};
+ghost use Rattle.block_store.specs.Losses.{IsForLoss};
 ghost use Rattle.block_store.specs.Store.{Holds};
-ghost use Rattle.block_store.specs.Steps.{OnlyReadsBlocks, AnswersAreTrue, LossIsTolerable};
+ghost use Rattle.block_store.specs.Steps.{OnlyReadsBlocks, AnswersAreTrue};
 ghost use Rattle.dnode_tree.specs.Births.{HasBirths};
 ghost use Rattle.dnode_tree.specs.Tree.{IsTree};
 ghost use Rattle.dnode_tree.specs.Ways.{bytes_in, IsBlockFound, IsRefused};
@@ -63,8 +64,7 @@ pub fn get<D: Disk + Drop>(
     ensures known { IfErr result (λ refusal. (stored : Contents) (nodes : ℕ → Dnode)
         (blocks : List Block) → Holds store.old stored
         → HasNodes stored birth set.now nodes blocks → AnswersAreTrue store.old store.new
-        → LossIsTolerable store.old store.new missing.now
-        → refusal ≡ Refusal.NoMemory) }
+        → IsForLoss refusal) }
 {
     if number >= set.objects {
         let dnode = Dnode::Free;
@@ -111,8 +111,7 @@ fn data_block_at<D: Disk + Drop>(
     ensures known { IfErr result (λ refusal. (stored : Contents) (array : ℕ → Option (List ℕ))
         (blocks : List Block) → Holds store.old stored
         → IsTree stored birth set.now.dnodes array blocks → AnswersAreTrue store.old store.new
-        → LossIsTolerable store.old store.new missing.now
-        → refusal ≡ Refusal.NoMemory) }
+        → IsForLoss refusal) }
 {
     dnode_tree::get_block(&set.dnodes, store, alloc, id, birth, missing)
 }

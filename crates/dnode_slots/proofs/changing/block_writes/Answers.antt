@@ -3,7 +3,7 @@ use Rattle.std.specs.List.{Any}
 use Rattle.dnode_tree.specs.declared.writes.BlockWrite.{BlockWrite}
 use Rattle.dnode_tree.specs.Writes.{written}
 use Rattle.block_store.proofs.Steps.{reads_none, reads_on}
-use Rattle.dnode_tree.proofs.FurtherReads.{true_after, few_after}
+use Rattle.dnode_tree.proofs.FurtherReads.{true_after}
 use Rattle.dnode_tree.proofs.Refusing.{passed_on}
 use Rattle.dnode_slots.specs.declared.writes.NodeWrite.{NodeWrite}
 use Rattle.dnode_slots.specs.Nodes.{AreNodesOf}
@@ -28,10 +28,9 @@ returns-in_err-bytes-clause-reads g c = reads_on _ _ _ _ c.loop-first.invariant.
 pub returns-in_err-bytes-clause-known : goal.returns-in_err-bytes-clause-known
 returns-in_err-bytes-clause-known g c =
     passed_on _ _ _ c.from_residual.ensures.1
-    (λ stored array blocks held tree honest few.
+    (λ stored array blocks held tree honest.
     c.in_err-bytes.ensures.known stored array blocks (c.loop-first.invariant.reads.keeps stored held) tree
-    (true_after _ _ _ _ c.loop-first.invariant.reads c.in_err-bytes.ensures.reads honest)
-    (few_after _ _ _ _ c.loop-first.invariant.reads c.in_err-bytes.ensures.reads few))
+    (true_after _ _ _ _ c.loop-first.invariant.reads c.in_err-bytes.ensures.reads honest))
 
 pub loop-first-preserved : goal.loop-first-preserved
 loop-first-preserved g c =

@@ -1,13 +1,14 @@
-use Rattle.std.proofs.Common.{List, inl, refl, ap, subst}
+use Rattle.std.proofs.Common.{List, refl, ap, subst}
 use Rattle.dnode.specs.declared.object_set.ObjectSet.{ObjectSet}
 use Rattle.dnode_tree.specs.declared.writes.BlockWrite.{BlockWrite}
 use Rattle.block_store.specs.Steps.{OnlyReadsAndPlans}
 use Rattle.dnode_tree.specs.Rewriting.{IsGrown, IsRewritten}
 use Rattle.dnode_tree.specs.Births.{HasBirths, births_after, height_of}
 use Rattle.dnode_tree.specs.Writes.{written}
+use Rattle.dnode_tree.proofs.Losses.{loss_in_plan}
 use Rattle.dnode_tree.proofs.Refusing.{passed_on}
 use Rattle.block_store.proofs.Steps.{steps_read, steps_on}
-use Rattle.dnode_tree.proofs.Steps.{no_room_on, true_sooner, true_later, few_later}
+use Rattle.dnode_tree.proofs.Steps.{no_room_on, true_sooner, true_later}
 use Rattle.dnode_tree.proofs.WholeTree.{tree_later}
 use Rattle.dnode_slots.specs.declared.writes.SetRewrite.{SetRewrite}
 use Rattle.dnode_slots.proofs.PutNodes.{set_fits, highest_least, nodes_rewritten}
@@ -20,8 +21,8 @@ use Rattle.dnode_slots.proofs.putting.put_many.Goals as goal
 pub returns-in_err-changed-clause-known : goal.returns-in_err-changed-clause-known
 returns-in_err-changed-clause-known g c =
     passed_on _ _ _ c.from_residual.ensures.1
-    (λ stored planned bound nodes blocks plans has le honest few.
-    inl (c.in_err-changed.ensures.known stored has.array blocks plans.held (tree_later stored bound c.args.birth c.args.set.now.dnodes has.array blocks le has.tree) honest few))
+    (λ stored planned bound nodes blocks plans has le honest.
+    loss_in_plan _ (c.in_err-changed.ensures.known stored has.array blocks plans.held (tree_later stored bound c.args.birth c.args.set.now.dnodes has.array blocks le has.tree) honest))
 
 pub returns-in_err-done-clause-steps : goal.returns-in_err-done-clause-steps
 returns-in_err-done-clause-steps g c = steps_on _ _ _ _ (steps_read _ _ _ c.in_ok-changed.ensures.reads) c.in_err-done.ensures.steps
@@ -35,9 +36,9 @@ pub returns-in_err-done-clause-known : goal.returns-in_err-done-clause-known
 returns-in_err-done-clause-known g c =
     let first : OnlyReadsAndPlans c.args.store.now c.block_writes.new.store c.args.missing.now = steps_read _ _ _ c.in_ok-changed.ensures.reads in
     passed_on _ _ _ c.from_residual-in_err-done.ensures.1
-    (λ stored planned bound nodes blocks plans has le honest few.
+    (λ stored planned bound nodes blocks plans has le honest.
     c.in_err-done.ensures.known stored planned bound has.array blocks (c.in_ok-changed.ensures.reads.plans stored planned plans) has.tree le
-    (true_later _ _ _ _ first c.in_err-done.ensures.steps honest) (few_later _ _ _ _ first c.in_err-done.ensures.steps few))
+    (true_later _ _ _ _ first c.in_err-done.ensures.steps honest))
 
 pub returns-clause-steps : goal.returns-clause-steps
 returns-clause-steps g c = steps_on _ _ _ _ (steps_read _ _ _ c.in_ok-changed.ensures.reads) c.in_ok-done.ensures.steps

@@ -14,7 +14,7 @@ use Rattle.dnode_slots.proofs.reading.get.Goals as goal
 pub returns-in_err-block-clause-known : goal.returns-in_err-block-clause-known
 returns-in_err-block-clause-known g c =
     passed_on _ _ _ c.from_residual.ensures.1
-    (λ stored nodes blocks held has honest few. c.in_err-block.ensures.known stored has.array blocks held has.tree honest few)
+    (λ stored nodes blocks held has honest. c.in_err-block.ensures.known stored has.array blocks held has.tree honest)
 
 -- what the block has is what was read
 read_is : (array : ℕ → Option (List ℕ)) (id : ℕ) (found : Option DataBlock) (block : DataBlock) → found ≡ Some block → bytes_in found ≡ array id → array id ≡ Some block.bytes.items
@@ -62,7 +62,7 @@ returns-then-not-has_zeros-clause-refused g c =
     )
 
 pub returns-then-not-has_zeros-clause-known : goal.returns-then-not-has_zeros-clause-known
-returns-then-not-has_zeros-clause-known g c = λ stored nodes blocks held has honest few.
+returns-then-not-has_zeros-clause-known g c = λ stored nodes blocks held has honest.
     let is = read_is has.array (c.args.number / 32) _ c.in-Some.block c.in-Some.is (c.in_ok-block.ensures.value stored has.array blocks held has.tree honest) in
     let zeros = has_them has.array nodes c.args.set.now.objects (c.args.number / 32) c.in-Some.block.bytes.items has.each has.first has.behind is in
     let test : IsTrue c.has_zeros.result = c.has_zeros.ensures.1 (subst (λ (b : List ℕ). HasZeros c.args.set.now.objects (c.args.number / 32) b) (sym c.deref.ensures.value) zeros) in
@@ -84,7 +84,7 @@ returns-in_err-dnode-clause-refused g c =
 pub returns-in_err-dnode-clause-known : goal.returns-in_err-dnode-clause-known
 returns-in_err-dnode-clause-known g c =
     passed_on _ _ _ c.from_residual-in_err-dnode.ensures.1
-    (λ stored nodes blocks held has honest few.
+    (λ stored nodes blocks held has honest.
     let is = read_is has.array (c.args.number / 32) _ c.in-Some.block c.in-Some.is (c.in_ok-block.ensures.value stored has.array blocks held has.tree honest) in
     let there : IsNodeIn (Some c.in-Some.block.bytes.items) (c.args.number % 32) (nodes c.args.number) =
     subst (λ bytes. IsNodeIn bytes (c.args.number % 32) (nodes c.args.number)) is (has.each c.args.number) in

@@ -6,7 +6,7 @@ use Rattle.dnode_slots.proofs.set_blocks.read_set.Goals as goal
 pub returns-in_err-found-clause-known : goal.returns-in_err-found-clause-known
 returns-in_err-found-clause-known g c =
     passed_on _ _ _ c.from_residual.ensures.1
-    (λ stored set held is honest few. c.in_err-found.ensures.known stored is.bytes held is.known is.asks honest few)
+    (λ stored set held is honest. c.in_err-found.ensures.known stored is.bytes held is.known is.asks honest)
 
 pub returns-in-Ok-clause-value : goal.returns-in-Ok-clause-value
 returns-in-Ok-clause-value g c = λ stored set held is honest.
