@@ -5,6 +5,7 @@ pub mod Found
 pub mod Gone
 pub mod Highest
 pub mod Kept
+pub mod Losses
 pub mod Numbers
 pub mod Placing
 pub mod Refused

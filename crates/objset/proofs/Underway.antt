@@ -21,9 +21,9 @@ use Rattle.dnode_slots.specs.declared.writes.SetRewrite.{SetRewrite}
 use Rattle.dnode_slots.specs.Nodes.{birth_of}
 use Rattle.dnode_slots.specs.Writes.{FitsWrite, AreNodeWrites, AreNodesRewritten, IsGrownSet, written_nodes, births_written}
 use Rattle.block_store.proofs.Steps.{steps_none, steps_on}
-use Rattle.dnode_tree.proofs.Steps.{true_sooner, true_later, few_later}
+use Rattle.dnode_tree.proofs.Steps.{true_sooner, true_later}
 use Rattle.dnode_tree.specs.declared.writes.CopyCounts.{CopyCounts}
-use Rattle.block_store.specs.Steps.{OnlyReadsAndPlans, AnswersAreTrue, LossIsTolerable}
+use Rattle.block_store.specs.Steps.{OnlyReadsAndPlans, AnswersAreTrue}
 use Rattle.dnode_tree.specs.Rewriting.{IsExchanged}
 use Rattle.objset.proofs.Exchanged.{exchanged_last, exchanged_as}
 use Rattle.objset.proofs.Kept.{object_kept, object_as, within_set}
@@ -180,12 +180,12 @@ module _ (copies : SetCopies) (start now new : Store) (missing : List ℕ) (set 
   -- the next change can't be made
   pub underway_fails : (Refused : (ℕ → Option Object) → Type 0)
       → ((stored planned : Contents) (bound : ℕ) (objects : ℕ → Option Object) (own : List Block) (before : ℕ → List Block) → Plans now stored planned
-      → AreObjects stored bound set objects own before → bound ≤ birth → AnswersAreTrue now new → LossIsTolerable now new missing → Refused objects)
+      → AreObjects stored bound set objects own before → bound ≤ birth → AnswersAreTrue now new → Refused objects)
       → (stored planned : Contents) (bound : ℕ) (objects : ℕ → Option Object) (own : List Block) (before : ℕ → List Block) → Plans start stored planned
-      → AreObjects stored bound set objects own before → bound ≤ birth → AnswersAreTrue start new → LossIsTolerable start new missing → Refused objects
-  underway_fails Refused step stored planned bound objects own before plans are le honest few =
+      → AreObjects stored bound set objects own before → bound ≤ birth → AnswersAreTrue start new → Refused objects
+  underway_fails Refused step stored planned bound objects own before plans are le honest =
       let there = so_far.has_changed stored planned bound objects own before plans are le (true_sooner start now new missing so_far.steps steps honest) in
-      step stored there.1 bound objects own before there.2 are le (true_later start now new missing so_far.steps steps honest) (few_later start now new missing so_far.steps steps few)
+      step stored there.1 bound objects own before there.2 are le (true_later start now new missing so_far.steps steps honest)
 
 -- the set is rewritten with what was changed
 module _ (copies : SetCopies) (stored planned mid later : Contents) (birth : ℕ) (rewrite done : SetRewrite) (changes : List ObjectChange) (writes : List NodeWrite) (nodes : ℕ → Dnode) (births : ℕ → ℕ)

@@ -2,11 +2,11 @@
 use Rattle.std.specs.Prelude.{ℕ, ◌≡◌, ◌≢◌, ◌⊎◌, ◌≤◌, List, ◌++◌, Option, Some, None, All, Any}
 use Rattle.block_pointer.specs.declared.block.Block.{Block}
 use Rattle.block_store.specs.declared.refusal.Refusal.{Refusal}
-use Rattle.block_store.specs.declared.refusal.Refusal.TheVariants.{BadPointer, NoMemory, NoSpace}
+use Rattle.block_store.specs.declared.refusal.Refusal.TheVariants.{BadPointer, DiskFault, NoMemory, NoSpace}
 use Rattle.block_store.specs.Blocks.{Contents, Extends}
 use Rattle.block_store.specs.Demands.{Demand, HavePlaces, LackPlaces}
 use Rattle.block_store.specs.Plans.{Plans}
-use Rattle.block_store.specs.Steps.{AnswersAreTrue, LossIsTolerable}
+use Rattle.block_store.specs.Steps.{AnswersAreTrue}
 use Rattle.block_store.specs.Store.{Store}
 use Rattle.dnode.specs.declared.dnode.Dnode.{Dnode}
 use Rattle.dnode.specs.declared.node.ObjectNode.{ObjectNode}
@@ -64,12 +64,15 @@ ChangesEach this old new set changes noted noted_later writes =
     × (later : Contents) × Plans new stored later
     × AreObjectsChanged (object_copies this.copies) planned later this.birth changes writes are.nodes objects before noted noted_later
 
--- where the store has such a set, its answers are true and few disks are lost, room is wanting, or some change may not be made
+-- where the store has such a set and its answers are true: memory or room is wanting, a block is
+-- lost, or some change may not be made
 abbrev pub IsEachRefused : Changing → Store → Store → ObjectSet → List ObjectChange → Refusal → Type 0
 IsEachRefused this old new set changes refusal =
     (stored planned : Contents) (bound : ℕ) (objects : ℕ → Option Object) (own : List Block) (before : ℕ → List Block) → Plans old stored planned
-    → AreObjects stored bound set objects own before → bound ≤ this.birth → AnswersAreTrue old new → LossIsTolerable old new this.missing.now
-    → IsForRoom refusal ⊎ ((refusal ≡ BadPointer) × Any (λ change. ¬ MayChange change.change (objects change.number)) changes)
+    → AreObjects stored bound set objects own before → bound ≤ this.birth → AnswersAreTrue old new
+    → (IsForRoom refusal ⊎ (refusal ≡ DiskFault))
+    ⊎ ((refusal ≡ BadPointer)
+    × Any (λ change. ¬ MayChange change.change (objects change.number)) changes)
 
 -- the same of one change, with the dnode that the object has then
 abbrev pub ChangesOne : Changing → Store → Store → ObjectSet → ObjectChange → List Block → List Block → Dnode → Type 0
@@ -83,8 +86,9 @@ ChangesOne this old new set change noted noted_later node =
 abbrev pub IsOneRefused : Changing → Store → Store → ObjectSet → ObjectChange → Refusal → Type 0
 IsOneRefused this old new set change refusal =
     (stored planned : Contents) (bound : ℕ) (objects : ℕ → Option Object) (own : List Block) (before : ℕ → List Block) → Plans old stored planned
-    → AreObjects stored bound set objects own before → bound ≤ this.birth → AnswersAreTrue old new → LossIsTolerable old new this.missing.now
-    → IsForRoom refusal ⊎ ((refusal ≡ BadPointer) × ¬ MayChange change.change (objects change.number))
+    → AreObjects stored bound set objects own before → bound ≤ this.birth → AnswersAreTrue old new
+    → (IsForRoom refusal ⊎ (refusal ≡ DiskFault))
+    ⊎ ((refusal ≡ BadPointer) × ¬ MayChange change.change (objects change.number))
 
 -- the same of the object that a dnode is of
 abbrev pub ChangesNode : Changing → Store → Store → Dnode → Change → List Block → List Block → Dnode → Type 0
@@ -98,8 +102,9 @@ ChangesNode this old new dnode change noted noted_later after =
 abbrev pub IsNodeRefused : Changing → Store → Store → Dnode → Change → Refusal → Type 0
 IsNodeRefused this old new dnode change refusal =
     (stored planned : Contents) (bound : ℕ) (object : Option Object) (blocks : List Block) → Plans old stored planned
-    → IsObject stored bound dnode object blocks → bound ≤ this.birth → AnswersAreTrue old new → LossIsTolerable old new this.missing.now
-    → IsForRoom refusal ⊎ ((refusal ≡ BadPointer) × ¬ MayChange change object)
+    → IsObject stored bound dnode object blocks → bound ≤ this.birth → AnswersAreTrue old new
+    → (IsForRoom refusal ⊎ (refusal ≡ DiskFault))
+    ⊎ ((refusal ≡ BadPointer) × ¬ MayChange change object)
 
 -- whatever the store has as the object's tree, where its answers are true: it plans the object with the writes
 abbrev pub WritesObject : Changing → Store → Store → ObjectNode → List BlockWrite → List Block → List Block → Dnode → Type 0
@@ -117,11 +122,13 @@ ReplacesObject this old new node writes noted noted_later after =
     → (later : Contents) × Plans new stored later
     × IsObjectChanged (object_copies this.copies) planned later this.birth after (Some (object_with node writes 0 (λ id. None))) blocks noted noted_later
 
--- where the store has such a tree, its answers are true and few disks are lost, the refusal is want of memory or of room
+-- where the store has such a tree and its answers are true: memory or room is wanting, or a block
+-- is lost
 abbrev pub LacksRoomForObject : Changing → Store → Store → ObjectNode → Refusal → Type 0
 LacksRoomForObject this old new node refusal =
     (stored planned : Contents) (bound : ℕ) (array : ℕ → Option (List ℕ)) (blocks : List Block) → Plans old stored planned
-    → IsTree stored bound node array blocks → bound ≤ this.birth → AnswersAreTrue old new → LossIsTolerable old new this.missing.now → IsForRoom refusal
+    → IsTree stored bound node array blocks → bound ≤ this.birth → AnswersAreTrue old new
+    → IsForRoom refusal ⊎ (refusal ≡ DiskFault)
 
 -- ---- places
 

@@ -9,7 +9,8 @@ use Rattle.dnode.specs.declared.dnode.Dnode.{Dnode}
 use Rattle.dnode.specs.declared.dnode.Dnode.TheVariants.{Free, Object as Node}
 use Rattle.dnode.specs.declared.node.ObjectNode.{ObjectNode}
 use Rattle.dnode.specs.declared.object_set.ObjectSet.{ObjectSet}
-use Rattle.dnode_tree.specs.Ways.{IsFound, IsRefused}
+use Rattle.dnode_tree.specs.Tree.{property_of}
+use Rattle.dnode_tree.specs.Ways.{root_of, IsFound, IsRefused, IsWalkRefused}
 use Rattle.dnode_slots.specs.Found.{found_dnode, IsNodeFound, IsNodeRefused}
 
 -- the dnode was read, in a block of some birth
@@ -39,3 +40,22 @@ IsDataRefused old new missing set birth number id refusal =
     IsNodeRefused old new missing set birth number refusal
     ⊎ (((refusal ≡ BadPointer) × (block_birth : ℕ) × IsNodeFound old.spaces set birth number (found_dnode Free block_birth))
     ⊎ IsDataLost old new missing set birth number id refusal)
+
+-- the object's dnode was read, and the walk from it was refused
+pub record IsObjectWalkLost (old new : Store) (missing : List ℕ) (set : ObjectSet)
+    (birth number : ℕ) (refusal : Refusal) : Type 0 where
+  pub node : ObjectNode
+  pub block_birth : ℕ
+  pub has_node : IsNodeFound old.spaces set birth number (found_dnode (Node node) block_birth)
+  pub mid : Store
+  pub before : OnlyReadsBlocks old mid missing
+  pub why : IsWalkRefused mid new missing (property_of node) (root_of node block_birth) refusal
+
+-- why the blocks of an object were not walked: its dnode was not read, or is free, or the walk
+-- from it was refused
+abbrev pub IsObjectWalkRefused : Store → Store → List ℕ → ObjectSet → ℕ → ℕ → Refusal → Type 0
+IsObjectWalkRefused old new missing set birth number refusal =
+    IsNodeRefused old new missing set birth number refusal
+    ⊎ (((refusal ≡ BadPointer) × (block_birth : ℕ)
+    × IsNodeFound old.spaces set birth number (found_dnode Free block_birth))
+    ⊎ IsObjectWalkLost old new missing set birth number refusal)

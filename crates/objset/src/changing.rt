@@ -3,8 +3,9 @@ ghost use Rattle.std.specs.Prelude.{◌≡◌, ◌≢◌, ◌⊎◌, ◌↔◌, 
 ghost use Rattle.block_pointer.specs.declared.block.Block.{Block};
 ghost use Rattle.block_store.specs.Blocks.{Contents};
 ghost use Rattle.block_store.specs.Demands.{Demand, HavePlaces};
+ghost use Rattle.block_store.specs.Losses.{IsForLoss};
 ghost use Rattle.block_store.specs.Plans.{Plans};
-ghost use Rattle.block_store.specs.Steps.{OnlyReadsBlocks, OnlyReadsAndPlans, AnswersAreTrue, LossIsTolerable};
+ghost use Rattle.block_store.specs.Steps.{OnlyReadsBlocks, OnlyReadsAndPlans, AnswersAreTrue};
 ghost use Rattle.dnode.specs.Dnode.{FitsDnode};
 ghost use Rattle.dnode.specs.Node.{FitsNode};
 ghost use Rattle.dnode.specs.ObjectSet.{FitsObjectSet};
@@ -63,12 +64,14 @@ pub fn change<D: Disk + Drop>(
         own before) }
     ensures no_room { IfErr result (λ refusal. refusal ≡ Refusal.NoSpace
         → HasNoRoom store.old store.new missing.now copies) }
+
+    // And they are made, over disks that answer truly, unless there is no room or too many disks
+    // miss of a block.
     ensures known { IfErr result (λ refusal. (stored planned : Contents) (bound : ℕ)
         (objects : ℕ → Option Object) (own : List Block) (before : ℕ → List Block)
         → Plans store.old stored planned → AreObjects stored bound set.now objects own before
         → bound ≤ birth → AnswersAreTrue store.old store.new
-        → LossIsTolerable store.old store.new missing.now → IsForRoom refusal
-        ⊎ ((refusal ≡ Refusal.BadPointer)
+        → (IsForRoom refusal ⊎ (refusal ≡ Refusal.DiskFault)) ⊎ ((refusal ≡ Refusal.BadPointer)
         × Any (λ change. ¬ MayChange change.change (objects change.number)) changes.now)) }
 
     // Whatever the set is: what places are taken for, and on a refusal its cause.
@@ -369,8 +372,7 @@ fn free_object<D: Disk + Drop>(
     ensures known { IfErr result (λ refusal. (stored planned : Contents) (bound : ℕ)
         (array : ℕ → Option (List ℕ)) (blocks : List Block) → Plans store.old stored planned
         → IsTree stored bound node.now array blocks → bound ≤ birth
-        → AnswersAreTrue store.old store.new
-        → LossIsTolerable store.old store.new missing.now → refusal ≡ Refusal.NoMemory) }
+        → AnswersAreTrue store.old store.new → IsForLoss refusal) }
     ensures refused { IfErr result (λ refusal. (refusal ≡ Refusal.NoMemory)
         ⊎ IsWalkRefused store.old store.new missing.now
         (property_of node.now) (root_of node.now birth) refusal) }

@@ -2,7 +2,8 @@
 ghost use Rattle.std.specs.Prelude.{◌≡◌, ◌≢◌, ◌^◌, ◌<◌, ℕ, List, Option, IfOk, IfErr, IfSome};
 ghost use Rattle.block_pointer.specs.declared.block.Block.{Block};
 ghost use Rattle.block_store.specs.Blocks.{Contents};
-ghost use Rattle.block_store.specs.Steps.{OnlyReadsBlocks, AnswersAreTrue, LossIsTolerable};
+ghost use Rattle.block_store.specs.Losses.{IsForLoss};
+ghost use Rattle.block_store.specs.Steps.{OnlyReadsBlocks, AnswersAreTrue};
 ghost use Rattle.block_store.specs.Store.{Holds};
 ghost use Rattle.dnode.specs.ObjectSet.{FitsObjectSet};
 ghost use Rattle.dnode_slots.specs.Found.{IsNodeRefused};
@@ -39,10 +40,12 @@ pub fn find<D: Disk + Drop>(
     ensures refused { IfErr result
         (IsNodeRefused store.old store.new missing.now set.now birth number) }
     ensures cause { IfErr result (λ refusal. refusal ≢ Refusal.NoSpace) }
+
+    // And it is found, over disks that answer truly, unless too many disks miss of a block.
     ensures known { IfErr result (λ refusal. (stored : Contents) (objects : ℕ → Option Object)
         (own : List Block) (blocks : ℕ → List Block) → Holds store.old stored
         → AreObjects stored birth set.now objects own blocks → AnswersAreTrue store.old store.new
-        → LossIsTolerable store.old store.new missing.now → refusal ≡ Refusal.NoMemory) }
+        → IsForLoss refusal) }
 {
     let found = dnode_slots::get(set, store, alloc, number, birth, missing)?;
     Ok(ObjectShape::of_dnode(&found.dnode))

@@ -3,11 +3,12 @@ ghost use Rattle.std.specs.Prelude.{◌≡◌, ◌≢◌, ◌⊎◌, ℕ, List, 
 ghost use Rattle.std.specs.Option.{option_map};
 ghost use Rattle.block_pointer.specs.declared.block.Block.{Block};
 ghost use Rattle.block_store.specs.Blocks.{Contents};
+ghost use Rattle.block_store.specs.Losses.{IsForLoss};
 ghost use Rattle.block_store.specs.Store.{Holds};
 ghost use Rattle.dnode.specs.ObjectSet.{FitsObjectSet};
-ghost use Rattle.block_store.specs.Steps.{OnlyReadsBlocks, AnswersAreTrue, LossIsTolerable};
+ghost use Rattle.block_store.specs.Steps.{OnlyReadsBlocks, AnswersAreTrue};
 ghost use Rattle.dnode_tree.specs.Ways.{bytes_of};
-ghost use Rattle.objset.specs.Found.{IsDataFound, IsDataRefused};
+ghost use Rattle.objset.specs.Found.{IsDataFound, IsDataRefused, IsObjectWalkRefused};
 ghost use Rattle.objset.specs.Objects.{Object, AreObjects};
 
 use block_pointer::Block;
@@ -42,11 +43,12 @@ pub fn get<D: Disk + Drop>(
     ensures refused { IfErr result
         (IsDataRefused store.old store.new missing.now set.now birth number id) }
     ensures cause { IfErr result (λ refusal. refusal ≢ Refusal.NoSpace) }
+
+    // And it is read, over disks that answer truly, unless too many disks miss of a block.
     ensures known { IfErr result (λ refusal. (stored : Contents) (objects : ℕ → Option Object)
         (own : List Block) (blocks : ℕ → List Block) → Holds store.old stored
         → AreObjects stored birth set.now objects own blocks → AnswersAreTrue store.old store.new
-        → LossIsTolerable store.old store.new missing.now
-        → (refusal ≡ Refusal.NoMemory) ⊎ ((refusal ≡ Refusal.BadPointer)
+        → IsForLoss refusal ⊎ ((refusal ≡ Refusal.BadPointer)
         × (objects number ≡ None))) }
 {
     let found = dnode_slots::get(set, store, alloc, number, birth, missing)?;
@@ -73,12 +75,17 @@ pub fn walk<D: Disk + Drop>(
         (own : List Block) (blocks : ℕ → List Block) → Holds store.old stored
         → AreObjects stored birth set.now objects own blocks → AnswersAreTrue store.old store.new
         → (objects number ≢ None) × (found.items ≡ blocks number)) }
+
+    // Whatever the set is: on a refusal its cause.
+    ensures refused { IfErr result
+        (IsObjectWalkRefused store.old store.new missing.now set.now birth number) }
     ensures cause { IfErr result (λ refusal. refusal ≢ Refusal.NoSpace) }
+
+    // And it is read, over disks that answer truly, unless too many disks miss of a block.
     ensures known { IfErr result (λ refusal. (stored : Contents) (objects : ℕ → Option Object)
         (own : List Block) (blocks : ℕ → List Block) → Holds store.old stored
         → AreObjects stored birth set.now objects own blocks → AnswersAreTrue store.old store.new
-        → LossIsTolerable store.old store.new missing.now
-        → (refusal ≡ Refusal.NoMemory) ⊎ ((refusal ≡ Refusal.BadPointer)
+        → IsForLoss refusal ⊎ ((refusal ≡ Refusal.BadPointer)
         × (objects number ≡ None))) }
 {
     let found = dnode_slots::get(set, store, alloc, number, birth, missing)?;

@@ -4,7 +4,7 @@ use Rattle.dnode_slots.specs.declared.writes.NodeWrite.{NodeWrite}
 use Rattle.dnode_slots.specs.Writes.{AreNodesRewritten, IsGrownSet, numbers_of, written_nodes, births_written}
 use Rattle.dnode_tree.proofs.Refusing.{passed_on}
 use Rattle.block_store.proofs.Steps.{steps_on}
-use Rattle.dnode_tree.proofs.Steps.{true_sooner, true_later, few_later}
+use Rattle.dnode_tree.proofs.Steps.{true_sooner, true_later}
 use Rattle.dnode_tree.specs.Writes.{HasNoRoom}
 use Rattle.objset.proofs.Exchanged.{appended}
 use Rattle.objset.proofs.Room.{no_room_for_dnodes, no_room_sooner}
@@ -29,10 +29,9 @@ returns-in_err-rewrite-clause-no_room g c =
 pub returns-in_err-rewrite-clause-known : goal.returns-in_err-rewrite-clause-known
 returns-in_err-rewrite-clause-known g c =
     passed_on _ _ _ c.from_residual-in_err-rewrite.ensures.1
-    (λ stored planned bound objects own before plans are le honest few.
+    (λ stored planned bound objects own before plans are le honest.
     let there = c.in_ok-writes.ensures.changed stored planned bound objects own before plans are le (true_sooner _ _ _ _ c.in_ok-writes.ensures.steps c.in_err-rewrite.ensures.steps honest) in
-    inl (c.in_err-rewrite.ensures.known stored there.1 bound are.nodes own there.2 are.dnodes le (true_later _ _ _ _ c.in_ok-writes.ensures.steps c.in_err-rewrite.ensures.steps honest)
-    (few_later _ _ _ _ c.in_ok-writes.ensures.steps c.in_err-rewrite.ensures.steps few)))
+    inl (c.in_err-rewrite.ensures.known stored there.1 bound are.nodes own there.2 are.dnodes le (true_later _ _ _ _ c.in_ok-writes.ensures.steps c.in_err-rewrite.ensures.steps honest)))
 
 pub returns-in_err-extend_from_slice-clause-steps : goal.returns-in_err-extend_from_slice-clause-steps
 returns-in_err-extend_from_slice-clause-steps g c = steps_on _ _ _ _ c.in_ok-writes.ensures.steps c.in_ok-rewrite.ensures.steps

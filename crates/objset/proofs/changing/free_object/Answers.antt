@@ -8,8 +8,8 @@ use Rattle.objset.proofs.changing.free_object.Goals as goal
 pub returns-in_err-blocks-clause-known : goal.returns-in_err-blocks-clause-known
 returns-in_err-blocks-clause-known g c =
     passed_on _ _ _ c.from_residual.ensures.1
-    (λ stored planned bound array blocks plans tree le honest few.
-    c.in_err-blocks.ensures.known stored array blocks plans.held (tree_later stored bound c.args.birth c.args.node.now array blocks le tree) honest few)
+    (λ stored planned bound array blocks plans tree le honest.
+    c.in_err-blocks.ensures.known stored array blocks plans.held (tree_later stored bound c.args.birth c.args.node.now array blocks le tree) honest)
 
 pub returns-clause-noted : goal.returns-clause-noted
 returns-clause-noted g c = λ stored planned bound array blocks plans tree le honest. (

@@ -9,7 +9,7 @@ use Rattle.objset.proofs.finding.find.Goals as goal
 
 pub returns-in_err-found-clause-known : goal.returns-in_err-found-clause-known
 returns-in_err-found-clause-known g c =
-    passed_on _ _ _ c.from_residual.ensures.1 (λ stored objects own blocks held are honest few. c.in_err-found.ensures.known stored are.nodes own held are.dnodes honest few)
+    passed_on _ _ _ c.from_residual.ensures.1 (λ stored objects own blocks held are honest. c.in_err-found.ensures.known stored are.nodes own held are.dnodes honest)
 
 pub returns-in_err-found-clause-refused : goal.returns-in_err-found-clause-refused
 returns-in_err-found-clause-refused g c = passed_on _ _ _ c.from_residual.ensures.1 c.in_err-found.ensures.refused

@@ -1,9 +1,11 @@
 use Rattle.std.proofs.Common.{◌≡◌, Option, Some, None, inl, inr, refl, sym, ◌∙◌, subst}
 use Rattle.std.proofs.lemmas.Result.{IfOk-weaker, IfErr-weaker}
 use Rattle.block_store.proofs.Steps.{reads_on}
-use Rattle.dnode_tree.proofs.FurtherReads.{true_before, true_after, few_after}
+use Rattle.dnode_tree.proofs.FurtherReads.{true_before, true_after}
 use Rattle.dnode_tree.proofs.Refusing.{passed_on}
 use Rattle.objset.proofs.Kept.{no_object, used, object_there}
+use Rattle.dnode.specs.declared.dnode.Dnode.{Dnode}
+use Rattle.dnode_slots.specs.Found.{found_dnode, IsNodeFound}
 use Rattle.dnode_slots.specs.Nodes.{birth_of}
 use Rattle.objset.specs.Objects.{Object, IsObject}
 use Rattle.objset.proofs.reading.walk.Goals as goal
@@ -13,10 +15,10 @@ there_is_some object there is none = let clash : None ≡ Some there = sym none 
 
 pub returns-in_err-found-clause-known : goal.returns-in_err-found-clause-known
 returns-in_err-found-clause-known g c =
-    passed_on _ _ _ c.from_residual.ensures.1 (λ stored objects own blocks held are honest few. inl (c.in_err-found.ensures.known stored are.nodes own held are.dnodes honest few))
+    passed_on _ _ _ c.from_residual.ensures.1 (λ stored objects own blocks held are honest. inl (c.in_err-found.ensures.known stored are.nodes own held are.dnodes honest))
 
 pub returns-in_default-clause-known : goal.returns-in_default-clause-known
-returns-in_default-clause-known g c = λ stored objects own blocks held are honest few.
+returns-in_default-clause-known g c = λ stored objects own blocks held are honest.
     let none = no_object stored (birth_of are.dnodes.births c.args.number) c.in_ok-found.found.dnode (are.nodes c.args.number) (objects c.args.number) (blocks c.args.number)
     (c.in_ok-found.ensures.value stored are.nodes own held are.dnodes honest) c.in_default.is (are.each c.args.number) in
     inr (refl, none.0)
@@ -40,11 +42,30 @@ returns-clause-blocks g c =
 pub returns-clause-known : goal.returns-clause-known
 returns-clause-known g c =
     IfErr-weaker c.walk.result _ _
-    (λ refusal is stored objects own blocks held are honest few.
+    (λ refusal is stored objects own blocks held are honest.
     let born = c.in_ok-found.ensures.born stored are.nodes own held are.dnodes (true_before _ _ _ _ c.in_ok-found.ensures.reads c.walk.ensures.reads honest) (used c.in_ok-found.found.dnode c.in-Object.node c.in-Object.is) in
     let there = object_there stored c.in_ok-found.found.birth c.in_ok-found.found.dnode (are.nodes c.args.number) c.in-Object.node (objects c.args.number) (blocks c.args.number)
     (c.in_ok-found.ensures.value stored are.nodes own held are.dnodes (true_before _ _ _ _ c.in_ok-found.ensures.reads c.walk.ensures.reads honest)) c.in-Object.is
     (subst (λ birth. IsObject stored birth (are.nodes c.args.number) (objects c.args.number) (blocks c.args.number)) (sym born) (are.each c.args.number)) in
-    inl (is stored there.there.array (blocks c.args.number) (c.in_ok-found.ensures.reads.keeps stored held) there.tree (true_after _ _ _ _ c.in_ok-found.ensures.reads c.walk.ensures.reads honest)
-    (few_after _ _ _ _ c.in_ok-found.ensures.reads c.walk.ensures.reads few)))
+    inl (is stored there.there.array (blocks c.args.number) (c.in_ok-found.ensures.reads.keeps stored held) there.tree (true_after _ _ _ _ c.in_ok-found.ensures.reads c.walk.ensures.reads honest)))
     c.walk.ensures.known
+
+pub returns-in_err-found-clause-refused : goal.returns-in_err-found-clause-refused
+returns-in_err-found-clause-refused g c = passed_on _ _ _ c.from_residual.ensures.1 (inl c.in_err-found.ensures.refused)
+
+pub returns-in_default-clause-refused : goal.returns-in_default-clause-refused
+returns-in_default-clause-refused g c =
+    inr (inl (refl, c.in_ok-found.found.birth, subst (λ (node : Dnode). IsNodeFound c.args.store.now.spaces c.args.set.now c.args.birth c.args.number (found_dnode node c.in_ok-found.found.birth)) c.in_default.is c.in_ok-found.ensures.found))
+
+pub returns-clause-refused : goal.returns-clause-refused
+returns-clause-refused g c =
+    IfErr-weaker c.walk.result _ _
+    (λ refusal is. inr (inr (record {
+      node = c.in-Object.node;
+      block_birth = c.in_ok-found.found.birth;
+      has_node = subst (λ (node : Dnode). IsNodeFound c.args.store.now.spaces c.args.set.now c.args.birth c.args.number (found_dnode node c.in_ok-found.found.birth)) c.in-Object.is c.in_ok-found.ensures.found;
+      mid = c.get.new.store;
+      before = c.in_ok-found.ensures.reads;
+      why = is;
+    })))
+    c.walk.ensures.refused

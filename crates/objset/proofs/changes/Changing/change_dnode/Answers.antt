@@ -14,6 +14,7 @@ use Rattle.block_store.specs.Demands.{Demand, HavePlaces}
 use Rattle.block_store.specs.Store.{Store}
 use Rattle.objset.proofs.Fits.{create_fits, create_misfits, create_asks, put_misfits, put_fits, put_not_whole, put_asks, put_tree, free_misfits, free_fits, free_asks, free_tree, replace_misfits, replace_fits, replace_not_whole, replace_asks, replace_tree, dnode_refused}
 use Rattle.objset.proofs.Refused.{no_way_of_empty}
+use Rattle.dnode_tree.proofs.Losses.{loss_in_plan}
 use Rattle.objset.proofs.changes.Changing.change_dnode.Goals as goal
 
 pub returns-in-Free-dnode-clause-changed : goal.returns-in-Free-dnode-clause-changed
@@ -28,7 +29,7 @@ returns-in-Free-dnode-clause-changed g c =
 pub returns-in-Free-dnode-clause-known : goal.returns-in-Free-dnode-clause-known
 returns-in-Free-dnode-clause-known g c =
     IfErr-weaker c.write_object.result _ _
-    (λ refusal is stored planned bound object blocks plans there le honest few. inl (is stored planned bound (λ id. None) [] plans (empty_trees stored bound _ refl) le honest few))
+    (λ refusal is stored planned bound object blocks plans there le honest. inl (is stored planned bound (λ id. None) [] plans (empty_trees stored bound _ refl) le honest))
     c.write_object.ensures.known
 
 pub returns-else-not-are_whole-clause-changed : goal.returns-else-not-are_whole-clause-changed
@@ -44,9 +45,9 @@ returns-else-not-are_whole-clause-changed g c =
 pub returns-else-not-are_whole-clause-known : goal.returns-else-not-are_whole-clause-known
 returns-else-not-are_whole-clause-known g c =
     IfErr-weaker c.write_object-in-Put.result _ _
-    (λ refusal is stored planned bound object blocks plans there le honest few.
+    (λ refusal is stored planned bound object blocks plans there le honest.
     let has = object_there stored bound c.args.dnode c.args.dnode c.in-Object.node object blocks refl c.in-Object.is there in
-    inl (is stored planned bound has.there.array blocks plans has.tree le honest few))
+    inl (is stored planned bound has.there.array blocks plans has.tree le honest))
     c.write_object-in-Put.ensures.known
 
 pub returns-in-Object-dnode-clause-changed : goal.returns-in-Object-dnode-clause-changed
@@ -61,9 +62,9 @@ returns-in-Object-dnode-clause-changed g c =
 pub returns-in-Object-dnode-clause-known : goal.returns-in-Object-dnode-clause-known
 returns-in-Object-dnode-clause-known g c =
     IfErr-weaker c.free_object.result _ _
-    (λ refusal is stored planned bound object blocks plans there le honest few.
+    (λ refusal is stored planned bound object blocks plans there le honest.
     let has = object_there stored bound c.args.dnode c.args.dnode c.in-Object-dnode.node object blocks refl c.in-Object-dnode.is there in
-    inl (inl (is stored planned bound has.there.array blocks plans has.tree le honest few)))
+    inl (loss_in_plan refusal (is stored planned bound has.there.array blocks plans has.tree le honest)))
     c.free_object.ensures.known
 
 pub returns-in_default-clause-steps : goal.returns-in_default-clause-steps
@@ -97,9 +98,9 @@ returns-else-not-are_whole-2-clause-changed g c =
 pub returns-else-not-are_whole-2-clause-known : goal.returns-else-not-are_whole-2-clause-known
 returns-else-not-are_whole-2-clause-known g c =
     IfErr-weaker c.replace_object.result _ _
-    (λ refusal is stored planned bound object blocks plans there le honest few.
+    (λ refusal is stored planned bound object blocks plans there le honest.
     let has = object_there stored bound c.args.dnode c.args.dnode c.in-Object-dnode-2.node object blocks refl c.in-Object-dnode-2.is there in
-    inl (is stored planned bound has.there.array blocks plans has.tree le honest few))
+    inl (is stored planned bound has.there.array blocks plans has.tree le honest))
     c.replace_object.ensures.known
 
 pub returns-in_default-clause-refused : goal.returns-in_default-clause-refused

@@ -2,7 +2,7 @@ use Rattle.std.proofs.Common.{◌≡◌, ◌⊎◌, ◌↔◌, ℕ, ◌+◌, ◌
 use Rattle.std.specs.Prelude.{Any}
 use Rattle.std.proofs.lemmas.List.{take_all}
 use Rattle.block_store.specs.declared.refusal.Refusal.{Refusal}
-use Rattle.block_store.specs.declared.refusal.Refusal.TheVariants.{BadPointer}
+use Rattle.block_store.specs.declared.refusal.Refusal.TheVariants.{BadPointer, DiskFault}
 use Rattle.dnode_slots.specs.declared.writes.NodeWrite.{NodeWrite}
 use Rattle.dnode_tree.proofs.Refusing.{passed_on}
 use Rattle.block_store.proofs.Steps.{steps_on}
@@ -41,11 +41,11 @@ returns-in_err-write-clause-known g c =
     (underway_fails c.args.self.copies c.args.store.now c.loop-change.store c.change_one.new.store c.args.self.missing.now c.args.set.now c.args.self.birth c.args.changes.now c.loop-change.change-index c.change-item.result
     c.loop-change.writes.items c.args.replaced.now.items c.loop-change.replaced.items c.loop-change.invariant.0 c.loop-change-test.true c.change-item.is c.requires.numbers c.requires.order
     c.in_err-write.ensures.steps
-    (λ (objects : ℕ → Option Object). IsForRoom refusal ⊎ ((refusal ≡ BadPointer) × Any (λ (change : ObjectChange). ¬ MayChange change.change (objects change.number)) c.args.changes.now))
-    (λ stored planned bound objects own before plans are le honest few.
+    (λ (objects : ℕ → Option Object). (IsForRoom refusal ⊎ (refusal ≡ DiskFault)) ⊎ ((refusal ≡ BadPointer) × Any (λ (change : ObjectChange). ¬ MayChange change.change (objects change.number)) c.args.changes.now))
+    (λ stored planned bound objects own before plans are le honest.
     ⊎_elim (λ room. inl room)
     (λ bad. inr (bad.0, (c.loop-change.change-index, c.change-item.result, c.loop-change-test.true, sym c.change-item.is, bad.1)))
-    (c.in_err-write.ensures.known stored planned bound objects own before plans are le honest few)))
+    (c.in_err-write.ensures.known stored planned bound objects own before plans are le honest)))
 
 pub returns-in_err-push-clause-steps : goal.returns-in_err-push-clause-steps
 returns-in_err-push-clause-steps g c = steps_on _ _ _ _ c.loop-change.invariant.0.steps c.in_ok-write.ensures.steps

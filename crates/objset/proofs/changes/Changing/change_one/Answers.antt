@@ -1,9 +1,10 @@
 use Rattle.std.proofs.Common.{inl, sym, subst}
 use Rattle.dnode_tree.proofs.Refusing.{passed_on}
 use Rattle.block_store.proofs.Steps.{steps_on, steps_read}
-use Rattle.dnode_tree.proofs.Steps.{true_sooner, true_later, few_later}
+use Rattle.dnode_tree.proofs.Steps.{true_sooner, true_later}
 use Rattle.objset.proofs.Kept.{nodes_later, within_set}
 use Rattle.objset.proofs.Room.{no_room_sooner}
+use Rattle.dnode_tree.proofs.Losses.{loss_in_plan}
 use Rattle.objset.specs.Objects.{IsObject}
 use Rattle.std.proofs.Common.{List, inr, ap}
 use Rattle.block_store.specs.Demands.{Demand, HavePlaces}
@@ -17,8 +18,8 @@ use Rattle.objset.proofs.changes.Changing.change_one.Goals as goal
 pub returns-in_err-found-clause-known : goal.returns-in_err-found-clause-known
 returns-in_err-found-clause-known g c =
     passed_on _ _ _ c.from_residual.ensures.1
-    (λ stored planned bound objects own before plans are le honest few.
-    inl (inl (c.in_err-found.ensures.known stored are.nodes own plans.held (nodes_later stored bound c.args.self.birth c.args.set.now are.nodes own le are.dnodes) honest few)))
+    (λ stored planned bound objects own before plans are le honest.
+    inl (loss_in_plan _ (c.in_err-found.ensures.known stored are.nodes own plans.held (nodes_later stored bound c.args.self.birth c.args.set.now are.nodes own le are.dnodes) honest)))
 
 pub returns-in_err-node-clause-steps : goal.returns-in_err-node-clause-steps
 returns-in_err-node-clause-steps g c = steps_on _ _ _ _ (steps_read _ _ _ c.in_ok-found.ensures.reads) c.in_err-node.ensures.steps
@@ -32,12 +33,12 @@ pub returns-in_err-node-clause-known : goal.returns-in_err-node-clause-known
 returns-in_err-node-clause-known g c =
     let read = steps_read _ _ _ c.in_ok-found.ensures.reads in
     passed_on _ _ _ c.from_residual-in_err-node.ensures.1
-    (λ stored planned bound objects own before plans are le honest few.
+    (λ stored planned bound objects own before plans are le honest.
     let same = c.in_ok-found.ensures.value stored are.nodes own plans.held (nodes_later stored bound c.args.self.birth c.args.set.now are.nodes own le are.dnodes)
     (true_sooner _ _ _ _ read c.in_err-node.ensures.steps honest) in
     c.in_err-node.ensures.known stored planned bound (objects c.args.change.now.number) (before c.args.change.now.number) (c.in_ok-found.ensures.reads.plans stored planned plans)
     (subst (λ dnode. IsObject stored bound dnode (objects c.args.change.now.number) (before c.args.change.now.number)) (sym same) (within_set stored bound c.args.set.now objects own before c.requires.set are c.args.change.now.number)) le
-    (true_later _ _ _ _ read c.in_err-node.ensures.steps honest) (few_later _ _ _ _ read c.in_err-node.ensures.steps few))
+    (true_later _ _ _ _ read c.in_err-node.ensures.steps honest))
 
 pub returns-clause-steps : goal.returns-clause-steps
 returns-clause-steps g c = steps_on _ _ _ _ (steps_read _ _ _ c.in_ok-found.ensures.reads) c.in_ok-node.ensures.steps

@@ -3,8 +3,9 @@ use Rattle.std.proofs.lemmas.Result.{IfOk-weaker, IfErr-weaker}
 use Rattle.block_store.proofs.Steps.{steps_on}
 use Rattle.dnode_tree.proofs.Refusing.{passed_on}
 use Rattle.dnode_tree.proofs.Standing.{empty_trees}
-use Rattle.dnode_tree.proofs.Steps.{true_sooner, true_later, few_later}
+use Rattle.dnode_tree.proofs.Steps.{true_sooner, true_later}
 use Rattle.objset.proofs.Room.{no_room_sooner}
+use Rattle.dnode_tree.proofs.Losses.{loss_in_plan}
 use Rattle.objset.proofs.Trees.{tree_replaced}
 use Rattle.objset.specs.Changes.{object_copies}
 use Rattle.std.proofs.Common.{inl}
@@ -20,7 +21,7 @@ use Rattle.objset.proofs.changes.Changing.replace_object.Goals as goal
 pub returns-in_err-free_object-clause-known : goal.returns-in_err-free_object-clause-known
 returns-in_err-free_object-clause-known g c =
     passed_on _ _ _ c.from_residual.ensures.1
-    (λ stored planned bound array blocks plans tree le honest few. inl (c.in_err-free_object.ensures.known stored planned bound array blocks plans tree le honest few))
+    (λ stored planned bound array blocks plans tree le honest. loss_in_plan _ (c.in_err-free_object.ensures.known stored planned bound array blocks plans tree le honest))
 
 pub returns-clause-steps : goal.returns-clause-steps
 returns-clause-steps g c = steps_on _ _ _ _ c.in_ok-free_object.ensures.steps c.write_object.ensures.steps
@@ -44,10 +45,9 @@ returns-clause-no_room g c =
 pub returns-clause-known : goal.returns-clause-known
 returns-clause-known g c =
     IfErr-weaker c.write_object.result _ _
-    (λ refusal is stored planned bound array blocks plans tree le honest few.
+    (λ refusal is stored planned bound array blocks plans tree le honest.
     let mid = c.in_ok-free_object.ensures.noted stored planned bound array blocks plans tree le (true_sooner _ _ _ _ c.in_ok-free_object.ensures.steps c.write_object.ensures.steps honest) in
-    is stored planned bound (λ id. None) [] mid.0 (empty_trees stored bound _ refl) le (true_later _ _ _ _ c.in_ok-free_object.ensures.steps c.write_object.ensures.steps honest)
-    (few_later _ _ _ _ c.in_ok-free_object.ensures.steps c.write_object.ensures.steps few))
+    is stored planned bound (λ id. None) [] mid.0 (empty_trees stored bound _ refl) le (true_later _ _ _ _ c.in_ok-free_object.ensures.steps c.write_object.ensures.steps honest))
     c.write_object.ensures.known
 
 pub returns-in_err-free_object-clause-refused : goal.returns-in_err-free_object-clause-refused
