@@ -1,3 +1,4 @@
 pub mod Seams
 pub mod Tables
 pub mod Written
+pub mod Losses

@@ -1,7 +1,7 @@
 use Rattle.std.proofs.Common.{◌≡◌, ℕ, List, inl, inr, ⊎_elim, sym, ap, subst, ◌∙◌, arith}
 use Rattle.std.proofs.lemmas.Result.{IfOk-weaker, IfErr-weaker}
 use Rattle.block_store.proofs.Steps.{reads_on}
-use Rattle.dnode_tree.proofs.FurtherReads.{true_before, true_after, few_after}
+use Rattle.dnode_tree.proofs.FurtherReads.{true_before, true_after}
 use Rattle.dnode_tree.proofs.Refusing.{passed_on}
 use Rattle.object_table.specs.Rows.{SpellsRows}
 use Rattle.object_table.specs.Tables.{bytes_to}
@@ -10,7 +10,7 @@ use Rattle.object_table.proofs.reading.read.Goals as goal
 
 pub returns-in_err-count-clause-known : goal.returns-in_err-count-clause-known
 returns-in_err-count-clause-known g c =
-    passed_on _ _ _ c.from_residual.ensures.1 (λ stored objects own blocks held are honest few. c.in_err-count.ensures.known stored objects own blocks held are honest few)
+    passed_on _ _ _ c.from_residual.ensures.1 (λ stored objects own blocks held are honest. c.in_err-count.ensures.known stored objects own blocks held are honest)
 
 pub returns-in_err-bytes-clause-reads : goal.returns-in_err-bytes-clause-reads
 returns-in_err-bytes-clause-reads g c = reads_on _ _ _ _ c.in_ok-count.ensures.reads c.in_err-bytes.ensures.reads
@@ -20,11 +20,11 @@ returns-in_err-bytes-clause-known g c =
     let first = c.in_ok-count.ensures.reads in
     let rest = c.in_err-bytes.ensures.reads in
     passed_on _ _ _ c.from_residual-in_err-bytes.ensures.1
-    (λ stored objects own blocks held are honest few.
+    (λ stored objects own blocks held are honest.
     let object = c.in_ok-count.ensures.value stored objects own blocks held are (true_before _ _ _ _ first rest honest) in
     ⊎_elim (λ memory. inl memory)
     (λ bad. inr (bad.0, λ rows has. (table_of _ _ object.0 rows object.1 has).1.no_hole bad.1.0 (omega (arith, bad.1.1, object.4)) bad.1.2))
-    (c.in_err-bytes.ensures.known stored objects own blocks (first.keeps stored held) are (true_after _ _ _ _ first rest honest) (few_after _ _ _ _ first rest few) object.0 object.1))
+    (c.in_err-bytes.ensures.known stored objects own blocks (first.keeps stored held) are (true_after _ _ _ _ first rest honest) object.0 object.1))
 
 pub returns-clause-reads : goal.returns-clause-reads
 returns-clause-reads g c = reads_on _ _ _ _ c.in_ok-count.ensures.reads c.in_ok-bytes.ensures.reads
@@ -54,10 +54,10 @@ returns-clause-known g c =
     let first = c.in_ok-count.ensures.reads in
     let rest = c.in_ok-bytes.ensures.reads in
     IfErr-weaker c.rows_of.result _ _
-    (λ refusal why stored objects own blocks held are honest few.
+    (λ refusal why stored objects own blocks held are honest.
     let object = c.in_ok-count.ensures.value stored objects own blocks held are (true_before _ _ _ _ first rest honest) in
     let front = c.in_ok-bytes.ensures.value stored objects own blocks (first.keeps stored held) are (true_after _ _ _ _ first rest honest) object.0 object.1 in
-    ⊎_elim (λ memory. inl memory)
+    ⊎_elim (λ memory. inl (inl memory))
     (λ bad. inr (
       bad.0,
       λ rows has. bad.1 rows (subst (λ (bytes : List ℕ). SpellsRows c.args.kind.rows bytes rows) (sym (c.deref.ensures.value ∙ front.1 ∙ ap (bytes_to object.0.array) (sym object.4))) (table_of _ _ object.0 rows object.1 has).1.spelled),

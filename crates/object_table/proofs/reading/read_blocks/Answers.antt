@@ -2,7 +2,7 @@ use Rattle.std.proofs.Common.{◌≡◌, ℕ, ◌+◌, List, ◌++◌, Option, S
 use Rattle.std.specs.Prelude.{Vec, IsSomeAnd}
 use Rattle.std.specs.declared.alloc.Global.{Global}
 use Rattle.block_store.proofs.Steps.{reads_on}
-use Rattle.dnode_tree.proofs.FurtherReads.{true_after, few_after}
+use Rattle.dnode_tree.proofs.FurtherReads.{true_after}
 use Rattle.dnode_tree.proofs.Refusing.{passed_on}
 use Rattle.dnode_tree.specs.Ways.{bytes_of}
 use Rattle.objset.specs.Found.{IsDataFound}
@@ -24,15 +24,15 @@ returns-in_err-found-clause-known g c =
     let before = c.loop-id.invariant.reads in
     let step = c.in_err-found.ensures.reads in
     passed_on _ _ _ c.from_residual.ensures.1
-    (λ stored objects own blocks held are honest few there is.
+    (λ stored objects own blocks held are honest there is.
     ⊎_elim (λ memory. inl memory) (λ bad. let clash : Some there ≡ None = sym is ∙ bad.1 in absurd cc)
-    (c.in_err-found.ensures.known stored objects own blocks (before.keeps stored held) are (true_after _ _ _ _ before step honest) (few_after _ _ _ _ before step few)))
+    (c.in_err-found.ensures.known stored objects own blocks (before.keeps stored held) are (true_after _ _ _ _ before step honest)))
 
 pub returns-in_default-clause-reads : goal.returns-in_default-clause-reads
 returns-in_default-clause-reads g c = reads_on _ _ _ _ c.loop-id.invariant.reads c.in_ok-found.ensures.reads
 
 pub returns-in_default-clause-known : goal.returns-in_default-clause-known
-returns-in_default-clause-known g c = λ stored objects own blocks held are honest few there is.
+returns-in_default-clause-known g c = λ stored objects own blocks held are honest there is.
     let before = c.loop-id.invariant.reads in
     let step = c.in_ok-found.ensures.reads in
     let hole = some_is (objects c.args.number) there (λ object. bytes_of c.in_ok-found.found ≡ object.array c.loop-id.id)
