@@ -4,3 +4,4 @@ pub mod InOrder
 pub mod Records
 pub mod Rows
 pub mod Edits
+pub mod Losses

@@ -2,7 +2,8 @@
 ghost use Rattle.std.specs.Prelude.{◌≡◌, ◌≢◌, ◌⊎◌, ◌↔◌, ℕ, List, Option, Some, None, length, IsTrue, IfOk, IfErr};
 ghost use Rattle.block_pointer.specs.declared.block.Block.{Block};
 ghost use Rattle.block_store.specs.Blocks.{Contents};
-ghost use Rattle.block_store.specs.Steps.{OnlyReadsBlocks, AnswersAreTrue, LossIsTolerable};
+ghost use Rattle.block_store.specs.Losses.{IsForLoss};
+ghost use Rattle.block_store.specs.Steps.{OnlyReadsBlocks, AnswersAreTrue};
 ghost use Rattle.block_store.specs.Store.{Holds};
 ghost use Rattle.dnode.specs.ObjectSet.{FitsObjectSet};
 ghost use Rattle.dnode_slots.specs.Found.{IsNodeRefused};
@@ -58,11 +59,12 @@ pub fn read_record<D: Disk + Drop>(
     ensures refused { IfErr result (λ refusal. (refusal ≡ Refusal.NoMemory)
         ⊎ IsRecordRefused store.old store.new missing.now set.now birth number refusal) }
     ensures cause { IfErr result (λ refusal. refusal ≢ Refusal.NoSpace) }
+
+    // And it is read, over disks that answer truly, unless too many disks miss of a block.
     ensures known { IfErr result (λ refusal. (stored : Contents) (objects : ℕ → Option Object)
         (own : List Block) (blocks : ℕ → List Block) → Holds store.old stored
         → AreObjects stored birth set.now objects own blocks → AnswersAreTrue store.old store.new
-        → LossIsTolerable store.old store.new missing.now
-        → (refusal ≡ Refusal.NoMemory) ⊎ ((refusal ≡ Refusal.BadPointer)
+        → IsForLoss refusal ⊎ ((refusal ≡ Refusal.BadPointer)
         × ((r : DatasetRecord) → ¬ HasRecord (objects number) r))) }
 {
     expect_record(set, store, alloc, number, birth, missing)?;
@@ -96,8 +98,7 @@ fn expect_record<D: Disk + Drop>(
     ensures known { IfErr result (λ refusal. (stored : Contents) (objects : ℕ → Option Object)
         (own : List Block) (blocks : ℕ → List Block) → Holds store.old stored
         → AreObjects stored birth set.now objects own blocks → AnswersAreTrue store.old store.new
-        → LossIsTolerable store.old store.new missing.now
-        → (refusal ≡ Refusal.NoMemory) ⊎ ((refusal ≡ Refusal.BadPointer)
+        → IsForLoss refusal ⊎ ((refusal ≡ Refusal.BadPointer)
         × ((r : DatasetRecord) → ¬ HasRecord (objects number) r))) }
 {
     let found = objset::find(set, store, alloc, number, birth, missing)?;

@@ -2,7 +2,8 @@
 ghost use Rattle.std.specs.Prelude.{◌≡◌, ◌≢◌, ◌⊎◌, ℕ, List, Option, IfOk, IfErr};
 ghost use Rattle.block_pointer.specs.declared.block.Block.{Block};
 ghost use Rattle.block_store.specs.Blocks.{Contents};
-ghost use Rattle.block_store.specs.Steps.{OnlyReadsBlocks, AnswersAreTrue, LossIsTolerable};
+ghost use Rattle.block_store.specs.Losses.{IsForLoss};
+ghost use Rattle.block_store.specs.Steps.{OnlyReadsBlocks, AnswersAreTrue};
 ghost use Rattle.block_store.specs.Store.{Holds};
 ghost use Rattle.dnode.specs.ObjectSet.{FitsObjectSet};
 ghost use Rattle.objset.specs.Objects.{Object, AreObjects};
@@ -51,11 +52,12 @@ pub fn read_directory<D: Disk + Drop>(
         ⊎ IsRowsRefused store.old store.new missing.now set.now birth directory_kind 1
         AreDirectoryRows refusal) }
     ensures cause { IfErr result (λ refusal. refusal ≢ Refusal.NoSpace) }
+
+    // And it is read, over disks that answer truly, unless too many disks miss of a block.
     ensures known { IfErr result (λ refusal. (stored : Contents) (objects : ℕ → Option Object)
         (own : List Block) (blocks : ℕ → List Block) → Holds store.old stored
         → AreObjects stored birth set.now objects own blocks → AnswersAreTrue store.old store.new
-        → LossIsTolerable store.old store.new missing.now
-        → (refusal ≡ Refusal.NoMemory) ⊎ ((refusal ≡ Refusal.BadPointer)
+        → IsForLoss refusal ⊎ ((refusal ≡ Refusal.BadPointer)
         × ((rows : List DirectoryRow) → ¬ HasDirectory (objects 1) rows))) }
 {
     let rows = object_table::read(set, store, alloc, DIRECTORY_KIND, DIRECTORY, birth, missing)?;
@@ -106,11 +108,12 @@ pub fn read_config<D: Disk + Drop>(
         ⊎ IsRowsRefused store.old store.new missing.now set.now birth config_kind 2
         AreConfigRows refusal) }
     ensures cause { IfErr result (λ refusal. refusal ≢ Refusal.NoSpace) }
+
+    // And it is read, over disks that answer truly, unless too many disks miss of a block.
     ensures known { IfErr result (λ refusal. (stored : Contents) (objects : ℕ → Option Object)
         (own : List Block) (blocks : ℕ → List Block) → Holds store.old stored
         → AreObjects stored birth set.now objects own blocks → AnswersAreTrue store.old store.new
-        → LossIsTolerable store.old store.new missing.now
-        → (refusal ≡ Refusal.NoMemory) ⊎ ((refusal ≡ Refusal.BadPointer)
+        → IsForLoss refusal ⊎ ((refusal ≡ Refusal.BadPointer)
         × ((vdevs : List PlainVdev) → ¬ HasConfig (objects 2) vdevs))) }
 {
     let rows = object_table::read(set, store, alloc, CONFIG_KIND, CONFIG, birth, missing)?;

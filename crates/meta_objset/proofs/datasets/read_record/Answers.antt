@@ -3,7 +3,7 @@ use Rattle.std.specs.Prelude.{Vec, IsSomeAnd}
 use Rattle.std.specs.declared.alloc.Global.{Global}
 use Rattle.std.proofs.lemmas.Result.{IfOk-weaker, IfErr-weaker}
 use Rattle.block_store.proofs.Steps.{reads_on}
-use Rattle.dnode_tree.proofs.FurtherReads.{true_before, true_after, few_after}
+use Rattle.dnode_tree.proofs.FurtherReads.{true_before, true_after}
 use Rattle.dnode_tree.proofs.Refusing.{passed_on, ok_both}
 use Rattle.dnode_tree.specs.Ways.{bytes_of}
 use Rattle.objset.specs.Found.{IsDataFound}
@@ -14,7 +14,7 @@ use Rattle.meta_objset.proofs.datasets.read_record.Goals as goal
 
 pub returns-in_err-expect_record-clause-known : goal.returns-in_err-expect_record-clause-known
 returns-in_err-expect_record-clause-known g c =
-    passed_on _ _ _ c.from_residual.ensures.1 (λ stored objects own blocks held are honest few. c.in_err-expect_record.ensures.known stored objects own blocks held are honest few)
+    passed_on _ _ _ c.from_residual.ensures.1 (λ stored objects own blocks held are honest. c.in_err-expect_record.ensures.known stored objects own blocks held are honest)
 
 pub returns-in_err-bytes-clause-reads : goal.returns-in_err-bytes-clause-reads
 returns-in_err-bytes-clause-reads g c = reads_on _ _ _ _ c.in_ok-expect_record.ensures.reads c.in_err-bytes.ensures.reads
@@ -24,16 +24,16 @@ returns-in_err-bytes-clause-known g c =
     let first = c.in_ok-expect_record.ensures.reads in
     let rest = c.in_err-bytes.ensures.reads in
     passed_on _ _ _ c.from_residual-in_err-bytes.ensures.1
-    (λ stored objects own blocks held are honest few.
+    (λ stored objects own blocks held are honest.
     let there = c.in_ok-expect_record.ensures.value stored objects own blocks held are (true_before _ _ _ _ first rest honest) in
     ⊎_elim (λ memory. inl memory) (λ bad. let clash : Some there.0 ≡ None = sym there.1 ∙ bad.1 in absurd cc)
-    (c.in_err-bytes.ensures.known stored objects own blocks (first.keeps stored held) are (true_after _ _ _ _ first rest honest) (few_after _ _ _ _ first rest few)))
+    (c.in_err-bytes.ensures.known stored objects own blocks (first.keeps stored held) are (true_after _ _ _ _ first rest honest)))
 
 pub returns-in_default-clause-reads : goal.returns-in_default-clause-reads
 returns-in_default-clause-reads g c = reads_on _ _ _ _ c.in_ok-expect_record.ensures.reads c.in_ok-bytes.ensures.reads
 
 pub returns-in_default-clause-known : goal.returns-in_default-clause-known
-returns-in_default-clause-known g c = λ stored objects own blocks held are honest few.
+returns-in_default-clause-known g c = λ stored objects own blocks held are honest.
     let first = c.in_ok-expect_record.ensures.reads in
     let rest = c.in_ok-bytes.ensures.reads in
     let there = c.in_ok-expect_record.ensures.value stored objects own blocks held are (true_before _ _ _ _ first rest honest) in
@@ -76,7 +76,7 @@ returns-clause-known g c =
     let first = c.in_ok-expect_record.ensures.reads in
     let rest = c.in_ok-bytes.ensures.reads in
     IfErr-weaker c.record_of.result _ _
-    (λ refusal why stored objects own blocks held are honest few.
+    (λ refusal why stored objects own blocks held are honest.
     let there = c.in_ok-expect_record.ensures.value stored objects own blocks held are (true_before _ _ _ _ first rest honest) in
     let block = some_is (objects c.args.number) there.0 (λ object. Some c.in-Some.bytes.items ≡ object.array 0)
     (subst (λ (found : Option (Vec ℕ Global)). IsSomeAnd (objects c.args.number) (λ object. bytes_of found ≡ object.array 0)) c.in-Some.is

@@ -12,8 +12,8 @@ use Rattle.meta_objset.proofs.reading.read_directory.Goals as goal
 pub returns-in_err-rows-clause-known : goal.returns-in_err-rows-clause-known
 returns-in_err-rows-clause-known g c =
     passed_on _ _ _ c.from_residual.ensures.1
-    (λ stored objects own blocks held are honest few.
-    ⊎_elim (λ memory. inl memory) (λ bad. inr (bad.0, λ rows has. bad.1 _ has.1)) (c.in_err-rows.ensures.known stored objects own blocks held are honest few))
+    (λ stored objects own blocks held are honest.
+    ⊎_elim (λ memory. inl memory) (λ bad. inr (bad.0, λ rows has. bad.1 _ has.1)) (c.in_err-rows.ensures.known stored objects own blocks held are honest))
 
 pub returns-clause-value : goal.returns-clause-value
 returns-clause-value g c =
@@ -26,8 +26,8 @@ returns-clause-value g c =
 pub returns-clause-known : goal.returns-clause-known
 returns-clause-known g c =
     IfErr-weaker c.directory_of.result _ _
-    (λ refusal why stored objects own blocks held are honest few.
-    ⊎_elim (λ memory. inl memory)
+    (λ refusal why stored objects own blocks held are honest.
+    ⊎_elim (λ memory. inl (inl memory))
     (λ bad. inr (bad.0, λ rows has. bad.1 rows has.0 (c.deref.ensures.value ∙ c.in_ok-rows.ensures.one stored objects own blocks held are honest _ has.1)))
     why)
     c.directory_of.ensures.refused
