@@ -81,7 +81,7 @@ pub fn walk<D: Disk + Drop>(
         (IsObjectWalkRefused store.old store.new missing.now set.now birth number) }
     ensures cause { IfErr result (λ refusal. refusal ≢ Refusal.NoSpace) }
 
-    // And it is read, over disks that answer truly, unless too many disks miss of a block.
+    // And it is walked, over disks that answer truly, unless too many disks miss of a block.
     ensures known { IfErr result (λ refusal. (stored : Contents) (objects : ℕ → Option Object)
         (own : List Block) (blocks : ℕ → List Block) → Holds store.old stored
         → AreObjects stored birth set.now objects own blocks → AnswersAreTrue store.old store.new
