@@ -6,6 +6,7 @@ pub mod Ids
 mod Laying
 pub mod Made
 pub mod Judging
+pub mod Losses
 pub mod Putting
 mod Ranges
 pub mod Refusing

@@ -1,9 +1,23 @@
 -- What follows from these definitions for those who have volumes.
-use Rattle.std.specs.Prelude.{ℕ, ◌≡◌, ◌≤◌, ◌⊎◌, List, Some}
+use Rattle.std.specs.Prelude.{ℕ, ◌≡◌, ◌≤◌, ◌⊎◌, List, [], Some, Vec}
+use Rattle.std.specs.declared.alloc.Global.{Global}
 use Rattle.block_pointer.specs.declared.block.Block.{Block}
+use Rattle.block_store.specs.declared.refusal.Refusal.{Refusal}
+use Rattle.block_store.specs.declared.refusal.Refusal.TheVariants.{DiskFault}
 use Rattle.block_store.specs.Blocks.{Contents, Extends}
+use Rattle.block_store.specs.Losses.{IsBlockLost}
+use Rattle.block_store.specs.Store.{Store}
+use Rattle.dnode.specs.declared.object_set.ObjectSet.{ObjectSet}
+use Rattle.dnode_tree.specs.declared.writes.BlockWrite.{BlockWrite}
+use Rattle.objset.specs.declared.changes.Change.{Change}
 use Rattle.objset.specs.Laws.{IsOfSet}
+use Rattle.pool_model.specs.declared.item.Write.{Write}
+use Rattle.volume.specs.declared.volume.VolumeSet.{VolumeSet}
+use Rattle.volume.specs.declared.writing.GroupWrites.{GroupWrites}
+use Rattle.volume.specs.Demands.{IsPlacingRefused, IsPlanRefused, IsWritingRefused}
+use Rattle.volume.specs.Reading.{IsReadRefused, LiesIn}
 use Rattle.volume.specs.Volume.{IsVolume}
+use Rattle.volume.specs.Writing.{IsChanged}
 
 -- a block of the volume: that of the object set, or one of the dnodes or of the data
 abbrev pub IsOfVolume : Block → List Block → (ℕ → List Block) → Block → Type 0
@@ -23,3 +37,26 @@ abbrev pub VolumesStay : Type 0
 VolumesStay =
     (old new : Contents) (bound birth : ℕ) (set_block : Block) (size block_size : ℕ) (array : List ℕ) → bound ≤ birth → Extends old new
     → IsVolume old bound set_block size block_size array → IsVolume new birth set_block size block_size array
+
+-- A block is lost where a fault of disks refuses a read of a range, or of the blocks that writes
+-- change; a plan that changes a set's object 1; the placing of blocks; or the writes of a group.
+pub record LossesOfVolumes : Type 0 where
+  pub ranges : (old new : Store) (missing : List ℕ) (volume : VolumeSet) (birth offset end : ℕ)
+      (refusal : Refusal)
+      → IsReadRefused old new missing volume birth (LiesIn volume offset end) refusal
+      → refusal ≡ DiskFault → IsBlockLost old new missing
+  pub changed : (old new : Store) (missing : List ℕ) (volume : VolumeSet) (birth : ℕ)
+      (name : List ℕ) (writes : List Write) (refusal : Refusal)
+      → IsReadRefused old new missing volume birth (IsChanged volume name writes) refusal
+      → refusal ≡ DiskFault → IsBlockLost old new missing
+  pub plans : (old new : Store) (set : ObjectSet) (birth : ℕ) (change : Change) (refusal : Refusal)
+      → IsPlanRefused old new set birth change refusal
+      → refusal ≡ DiskFault → IsBlockLost old new []
+  pub placings : (old new : Store) (volume : VolumeSet) (birth : ℕ)
+      (blocks : Vec BlockWrite Global) (refusal : Refusal)
+      → IsPlacingRefused old new volume birth blocks refusal
+      → refusal ≡ DiskFault → IsBlockLost old new []
+  pub writings : (old new : Store) (volume : VolumeSet) (birth_before birth : ℕ)
+      (changes : GroupWrites) (refusal : Refusal)
+      → IsWritingRefused old new volume birth_before birth changes refusal
+      → refusal ≡ DiskFault → IsBlockLost old new []

@@ -1,9 +1,9 @@
 //! A volume is made.
-ghost use Rattle.std.specs.Prelude.{◌≡◌, ◌%◌, ◌≤◌, ◌<◌, ◌^◌, [], IsTrue, OnOk, IfOk, IfErr, replicate};
+ghost use Rattle.std.specs.Prelude.{◌≡◌, ◌⊎◌, ◌%◌, ◌≤◌, ◌<◌, ◌^◌, [], IsTrue, OnOk, IfOk, IfErr, replicate};
 ghost use Rattle.block_pointer.specs.Block.{FitsBlock};
 ghost use Rattle.block_store.specs.Blocks.{Contents, Extends};
 ghost use Rattle.block_store.specs.Plans.{Plans};
-ghost use Rattle.block_store.specs.Steps.{OnlyReadsAndPlans, AnswersAreTrue, LossIsTolerable};
+ghost use Rattle.block_store.specs.Steps.{OnlyReadsAndPlans, AnswersAreTrue};
 ghost use Rattle.dnode_tree.specs.Writes.{IsForRoom};
 ghost use Rattle.objset.specs.declared.changes.Change.{Change};
 ghost use Rattle.pool_model.specs.Names.{is_block_size};
@@ -66,10 +66,11 @@ impl VolumeSet {
             × IsCreation block_size change
             × IsPlanRefused store.old store.new empty_set birth change refusal) }
 
-        // Only room is wanting, where no vdev misses more disks than it has parities and what they answer is true.
+        // Only room is wanting, over disks that answer truly, unless too many disks miss of a
+        // block.
         ensures known { IfErr result (λ refusal. (stored planned : Contents)
             → Plans store.old stored planned → AnswersAreTrue store.old store.new
-            → LossIsTolerable store.old store.new [] → IsForRoom refusal) }
+            → IsForRoom refusal ⊎ (refusal ≡ Refusal.DiskFault)) }
     {
         let creation = Change::Create {
             object_type: VOLUME_TYPE,

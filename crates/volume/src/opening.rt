@@ -1,7 +1,8 @@
 //! The object set of a volume is read and judged.
 ghost use Rattle.std.specs.Prelude.{◌≡◌, ◌≢◌, ◌≤◌, ◌↔◌, ℕ, List, IsTrue, IfOk, IfErr, IsSomeAnd};
 ghost use Rattle.block_store.specs.Blocks.{Contents};
-ghost use Rattle.block_store.specs.Steps.{OnlyReadsBlocks, AnswersAreTrue, LossIsTolerable};
+ghost use Rattle.block_store.specs.Losses.{IsForLoss};
+ghost use Rattle.block_store.specs.Steps.{OnlyReadsBlocks, AnswersAreTrue};
 ghost use Rattle.block_store.specs.Store.{Holds};
 ghost use Rattle.dnode.specs.ObjectSet.{FitsObjectSet};
 ghost use Rattle.dnode.specs.declared.object_set.ObjectSetKind.TheVariants as kinds;
@@ -38,11 +39,10 @@ impl VolumeSet {
             (IsVolumeRefused store.old store.new missing.now self.now birth) }
         ensures cause { IfErr result (λ refusal. refusal ≢ Refusal.NoSpace) }
 
-        // And it is read, where no vdev misses more disks than it has parities and what they answer is true.
+        // And it is read, over disks that answer truly, unless too many disks miss of a block.
         ensures known { IfErr result (λ refusal. (stored : Contents) (bound : ℕ) (array : List ℕ)
             → Holds store.old stored → Spells stored bound self.now array → bound ≤ birth
-            → AnswersAreTrue store.old store.new
-            → LossIsTolerable store.old store.new missing.now → refusal ≡ Refusal.NoMemory) }
+            → AnswersAreTrue store.old store.new → IsForLoss refusal) }
     {
         let set = read_set(store, alloc, &self.block, birth, missing)?;
         if !is_of_volume(&set) {

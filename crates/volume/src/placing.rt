@@ -5,7 +5,7 @@ ghost use Rattle.block_pointer.specs.declared.block.Block.{Block};
 ghost use Rattle.block_pointer.specs.Block.{FitsBlock};
 ghost use Rattle.block_store.specs.Blocks.{Contents, Extends, count_of};
 ghost use Rattle.block_store.specs.Plans.{Plans};
-ghost use Rattle.block_store.specs.Steps.{OnlyReadsAndPlans, AnswersAreTrue, LossIsTolerable};
+ghost use Rattle.block_store.specs.Steps.{OnlyReadsAndPlans, AnswersAreTrue};
 ghost use Rattle.dnode.specs.declared.object_set.ObjectSet.{ObjectSet};
 ghost use Rattle.dnode.specs.ObjectSet.{FitsObjectSet};
 ghost use Rattle.dnode_tree.specs.declared.writes.BlockWrite.{BlockWrite};
@@ -99,12 +99,13 @@ impl VolumeSet {
         ensures refused { IfErr result
             (IsPlacingRefused store.old store.new self.now birth blocks) }
 
-        // Only room is wanting, where no vdev misses more disks than it has parities and what they answer is true.
+        // Only room is wanting, over disks that answer truly, unless too many disks miss of a
+        // block.
         ensures known { IfErr result (λ refusal. (stored planned : Contents) (bound : ℕ)
             (array : List ℕ) → Plans store.old stored planned
             → Spells stored bound self.now array → bound ≤ birth
-            → AnswersAreTrue store.old store.new → LossIsTolerable store.old store.new []
-            → IsForRoom refusal) }
+            → AnswersAreTrue store.old store.new
+            → IsForRoom refusal ⊎ (refusal ≡ Refusal.DiskFault)) }
     {
         if blocks.is_empty() {
             return Ok(Rewritten {
@@ -149,7 +150,7 @@ impl VolumeSet {
         ensures known { IfErr result (λ refusal. (stored planned : Contents) (array : List ℕ)
             → Plans store.old stored planned → Spells stored birth_before self.now array
             → birth_before ≤ birth → AnswersAreTrue store.old store.new
-            → LossIsTolerable store.old store.new [] → IsForRoom refusal) }
+            → IsForRoom refusal ⊎ (refusal ≡ Refusal.DiskFault)) }
     {
         let blocks = self.changed_blocks(store, alloc, birth_before, changes)?;
         self.placed(store, alloc, blocks, birth)
@@ -186,8 +187,8 @@ impl VolumeSet {
         ensures known { IfErr result (λ refusal. (stored planned : Contents) (bound : ℕ)
             (array : List ℕ) → Plans store.old stored planned
             → Spells stored bound self.now array → bound ≤ birth
-            → AnswersAreTrue store.old store.new → LossIsTolerable store.old store.new []
-            → IsForRoom refusal) }
+            → AnswersAreTrue store.old store.new
+            → IsForRoom refusal ⊎ (refusal ≡ Refusal.DiskFault)) }
     {
         let set = self.open(store, alloc, birth, &[])?;
         let change = Change::Put { writes: blocks };
@@ -241,7 +242,7 @@ pub(crate) fn plan_change<D: Disk + Drop>(
         (objects : ℕ → Option Object) (own : List Block) (before : ℕ → List Block)
         → Plans store.old stored planned → AreObjects stored bound set.now objects own before
         → bound ≤ birth → MayChange change (objects 1) → AnswersAreTrue store.old store.new
-        → LossIsTolerable store.old store.new [] → IsForRoom refusal) }
+        → IsForRoom refusal ⊎ (refusal ≡ Refusal.DiskFault)) }
 {
     let changes = [ObjectChange {
         number: DATA,

@@ -1,7 +1,8 @@
 //! Reads of a volume.
 ghost use Rattle.std.specs.Prelude.{◌≡◌, ◌≢◌, ◌⊎◌, ◌+◌, ◌/◌, ◌≤◌, ◌<◌, ◌^◌, ℕ, List, Some, Option, length, IfOk, IfErr, slice_range};
 ghost use Rattle.block_store.specs.Blocks.{Contents};
-ghost use Rattle.block_store.specs.Steps.{OnlyReadsBlocks, AnswersAreTrue, LossIsTolerable};
+ghost use Rattle.block_store.specs.Losses.{IsForLoss};
+ghost use Rattle.block_store.specs.Steps.{OnlyReadsBlocks, AnswersAreTrue};
 ghost use Rattle.block_store.specs.Store.{Holds};
 ghost use Rattle.dnode.specs.declared.object_set.ObjectSet.{ObjectSet};
 ghost use Rattle.dnode.specs.ObjectSet.{FitsObjectSet};
@@ -45,11 +46,10 @@ impl VolumeSet {
             ⊎ IsReadRefused store.old store.new missing.now self.now birth
             (LiesIn self.now offset (offset + len)) refusal) }
 
-        // And it is read, where no vdev misses more disks than it has parities and what they answer is true.
+        // And it is read, over disks that answer truly, unless too many disks miss of a block.
         ensures known { IfErr result (λ refusal. (stored : Contents) (array : List ℕ)
             → Holds store.old stored → Spells stored birth self.now array
-            → AnswersAreTrue store.old store.new
-            → LossIsTolerable store.old store.new missing.now → refusal ≡ Refusal.NoMemory) }
+            → AnswersAreTrue store.old store.new → IsForLoss refusal) }
     {
         let set = self.open(store, alloc, birth, missing)?;
         self.read_data(&set, store, alloc, offset, len, missing)
@@ -80,7 +80,7 @@ impl VolumeSet {
         ensures known { IfErr result (λ refusal. (stored : Contents) (array : List ℕ)
             → Holds store.old stored → HasData stored (block_of self.now).birth set.now
             (size_of self.now) (block_size_of self.now) array → AnswersAreTrue store.old store.new
-            → LossIsTolerable store.old store.new missing.now → refusal ≡ Refusal.NoMemory) }
+            → IsForLoss refusal) }
     {
         let block_size = self.block_size();
         let mut read = Vec::new(alloc);
@@ -120,8 +120,7 @@ impl VolumeSet {
         ensures known { IfErr result (λ refusal. (stored : Contents) (array : List ℕ)
             → Holds store.old stored → HasData stored (block_of self.now).birth set.now
             (size_of self.now) (block_size_of self.now) array → AnswersAreTrue store.old store.new
-            → id < size_of self.now / block_size_of self.now
-            → LossIsTolerable store.old store.new missing.now → refusal ≡ Refusal.NoMemory) }
+            → id < size_of self.now / block_size_of self.now → IsForLoss refusal) }
     {
         let found = objset::get(set, store, alloc, DATA, id, self.block.birth, missing)?;
         self.whole(alloc, found)

@@ -4,7 +4,8 @@ ghost use Rattle.std.specs.List.Sorted.{IsStrictlyIncreasing};
 ghost use Rattle.pool_model.specs.declared.volume.PlainVolume.{PlainVolume};
 ghost use Rattle.pool_now.specs.Overlay.{after_writes};
 ghost use Rattle.block_store.specs.Blocks.{Contents};
-ghost use Rattle.block_store.specs.Steps.{OnlyReadsBlocks, AnswersAreTrue, LossIsTolerable};
+ghost use Rattle.block_store.specs.Losses.{IsForLoss};
+ghost use Rattle.block_store.specs.Steps.{OnlyReadsBlocks, AnswersAreTrue};
 ghost use Rattle.block_store.specs.Store.{Holds};
 ghost use Rattle.dnode.specs.ObjectSet.{FitsObjectSet};
 ghost use Rattle.dnode_tree.specs.declared.writes.BlockWrite.{BlockWrite};
@@ -62,11 +63,10 @@ impl VolumeSet {
             (IsChanged self.now changes.now.name.now changes.now.writes.now) refusal) }
         ensures cause { IfErr result (λ refusal. refusal ≢ Refusal.NoSpace) }
 
-        // And they are read, where no vdev misses more disks than it has parities and what they answer is true.
+        // And they are read, over disks that answer truly, unless too many disks miss of a block.
         ensures known { IfErr result (λ refusal. (stored : Contents) (array : List ℕ)
             → Holds store.old stored → Spells stored birth self.now array
-            → AnswersAreTrue store.old store.new
-            → LossIsTolerable store.old store.new [] → refusal ≡ Refusal.NoMemory) }
+            → AnswersAreTrue store.old store.new → IsForLoss refusal) }
     {
         let ids = self.changed_ids(alloc, changes.name, changes.writes)?;
         if ids.is_empty() {
@@ -107,7 +107,7 @@ impl VolumeSet {
         ensures known { IfErr result (λ refusal. (stored : Contents) (array : List ℕ)
             → Holds store.old stored → HasData stored (block_of self.now).birth set.now
             (size_of self.now) (block_size_of self.now) array → AnswersAreTrue store.old store.new
-            → LossIsTolerable store.old store.new [] → refusal ≡ Refusal.NoMemory) }
+            → IsForLoss refusal) }
     {
         let mut blocks = Vec::new(alloc);
         for id in ids {
@@ -145,7 +145,7 @@ impl VolumeSet {
         ensures known { IfErr result (λ refusal. (stored : Contents) (array : List ℕ)
             → Holds store.old stored → HasData stored (block_of self.now).birth set.now
             (size_of self.now) (block_size_of self.now) array → AnswersAreTrue store.old store.new
-            → LossIsTolerable store.old store.new [] → refusal ≡ Refusal.NoMemory) }
+            → IsForLoss refusal) }
     {
         let mut bytes = self.block_bytes(set, store, alloc, id, &[])?;
         let offset = id * self.block_size();

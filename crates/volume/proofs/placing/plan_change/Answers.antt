@@ -10,9 +10,9 @@ use Rattle.volume.proofs.placing.plan_change.Goals as goal
 
 pub returns-in_err-rewrite-clause-known : goal.returns-in_err-rewrite-clause-known
 returns-in_err-rewrite-clause-known g c =
-    passed_on _ _ _ c.from_residual.ensures.1 (λ stored planned bound objects own before plans are le may honest few.
-    ⊎_elim (λ room. room) (λ bad. not_refused c.args.change objects may bad.1)
-    (c.in_err-rewrite.ensures.known stored planned bound objects own before plans are le honest few))
+    passed_on _ _ _ c.from_residual.ensures.1 (λ stored planned bound objects own before plans are le may honest.
+    ⊎_elim (λ wanting. wanting) (λ bad. not_refused c.args.change objects may bad.1)
+    (c.in_err-rewrite.ensures.known stored planned bound objects own before plans are le honest))
 
 pub returns-in_err-block-clause-steps : goal.returns-in_err-block-clause-steps
 returns-in_err-block-clause-steps g c = steps_on _ _ _ _ c.in_ok-rewrite.ensures.steps c.plan_set.ensures.steps
@@ -25,7 +25,7 @@ returns-in_err-block-clause-no_room g c =
 
 pub returns-in_err-block-clause-known : goal.returns-in_err-block-clause-known
 returns-in_err-block-clause-known g c =
-    passed_on _ _ _ c.from_residual-in_err-block.ensures.1 (λ stored planned bound objects own before plans are le may honest few. c.in_err-block.ensures.refused)
+    passed_on _ _ _ c.from_residual-in_err-block.ensures.1 (λ stored planned bound objects own before plans are le may honest. inl c.in_err-block.ensures.refused)
 
 pub returns-clause-steps : goal.returns-clause-steps
 returns-clause-steps g c = steps_on _ _ _ _ c.in_ok-rewrite.ensures.steps c.plan_set.ensures.steps

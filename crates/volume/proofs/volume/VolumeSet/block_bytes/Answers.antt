@@ -11,9 +11,9 @@ returns-in_err-found-clause-refused g c = passed_on _ _ _ c.from_residual.ensure
 pub returns-in_err-found-clause-known : goal.returns-in_err-found-clause-known
 returns-in_err-found-clause-known g c =
     passed_on _ _ _ c.from_residual.ensures.1
-    (λ stored array held has honest lt few.
-    ⊎_elim (λ memory. memory) (λ none. no_clash (has.objects 1) has.data_is.there has.data_is.there_is none.1)
-    (c.in_err-found.ensures.known stored has.objects has.own has.blocks held has.are honest few))
+    (λ stored array held has honest lt.
+    ⊎_elim (λ loss. loss) (λ none. no_clash (has.objects 1) has.data_is.there has.data_is.there_is none.1)
+    (c.in_err-found.ensures.known stored has.objects has.own has.blocks held has.are honest))
 
 pub returns-clause-value : goal.returns-clause-value
 returns-clause-value g c =
@@ -35,8 +35,8 @@ returns-clause-refused g c =
 pub returns-clause-known : goal.returns-clause-known
 returns-clause-known g c =
     IfErr-weaker c.whole.result _ _
-    (λ refusal why stored array held has honest lt few.
-    ⊎_elim (λ memory. memory)
+    (λ refusal why stored array held has honest lt.
+    ⊎_elim (λ memory. inl memory)
     (λ bad. absurd (bad.1.2 (block_len stored _ _ _ _ array bad.1.0 has (bytes_of c.in_ok-found.found) c.args.id (c.in_ok-found.ensures.value stored has.objects has.own has.blocks held has.are honest) lt bad.1.1)))
     why)
     c.whole.ensures.refused

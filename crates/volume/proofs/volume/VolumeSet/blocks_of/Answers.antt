@@ -3,7 +3,7 @@ use Rattle.std.proofs.lemmas.List.{take_all}
 use Rattle.std.proofs.lemmas.List.Elements.{Contains-get_or}
 use Rattle.block_store.proofs.Steps.{reads_on}
 use Rattle.block_store.specs.declared.space.VdevSpace.{VdevSpace}
-use Rattle.dnode_tree.proofs.FurtherReads.{true_before, true_after, few_after}
+use Rattle.dnode_tree.proofs.FurtherReads.{true_before, true_after}
 use Rattle.dnode_tree.specs.declared.writes.BlockWrite.{BlockWrite}
 use Rattle.pool_now.specs.Overlay.{after_writes}
 use Rattle.volume.specs.Reading.{IsFound}
@@ -34,9 +34,9 @@ returns-in_err-block-clause-refused g c =
 
 pub returns-in_err-block-clause-known : goal.returns-in_err-block-clause-known
 returns-in_err-block-clause-known g c =
-    passed_on _ _ _ c.from_residual.ensures.1 (λ stored array held has honest few.
+    passed_on _ _ _ c.from_residual.ensures.1 (λ stored array held has honest.
     c.in_err-block.ensures.known stored array (c.loop-id.invariant.reads.keeps stored held) has
-    (true_after _ _ _ _ c.loop-id.invariant.reads c.changed_block.ensures.reads honest) (few_after _ _ _ _ c.loop-id.invariant.reads c.changed_block.ensures.reads few))
+    (true_after _ _ _ _ c.loop-id.invariant.reads c.changed_block.ensures.reads honest))
 
 pub loop-id-preserved : goal.loop-id-preserved
 loop-id-preserved g c =

@@ -8,7 +8,7 @@ use Rattle.volume.proofs.volume.VolumeSet.changed_block.Goals as goal
 
 pub returns-in_err-bytes-clause-known : goal.returns-in_err-bytes-clause-known
 returns-in_err-bytes-clause-known g c =
-    passed_on _ _ _ c.from_residual.ensures.1 (λ stored array held has honest few. c.in_err-bytes.ensures.known stored array held has honest c.requires.id few)
+    passed_on _ _ _ c.from_residual.ensures.1 (λ stored array held has honest. c.in_err-bytes.ensures.known stored array held has honest c.requires.id)
 
 pub returns-clause-value : goal.returns-clause-value
 returns-clause-value g c = λ stored volume held named has honest.

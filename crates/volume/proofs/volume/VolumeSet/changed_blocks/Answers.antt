@@ -6,7 +6,7 @@ use Rattle.std.proofs.lemmas.Result.{IfOk-weaker, IfErr-weaker}
 use Rattle.block_store.proofs.Steps.{reads_on}
 use Rattle.block_store.specs.declared.space.VdevSpace.{VdevSpace}
 use Rattle.dnode.specs.declared.object_set.ObjectSet.{ObjectSet}
-use Rattle.dnode_tree.proofs.FurtherReads.{true_before, true_after, few_after}
+use Rattle.dnode_tree.proofs.FurtherReads.{true_before, true_after}
 use Rattle.dnode_tree.proofs.Refusing.{ok_both}
 use Rattle.dnode_tree.specs.declared.writes.BlockWrite.{BlockWrite}
 use Rattle.volume.specs.Reading.{IsFound, IsWayRead}
@@ -40,7 +40,7 @@ returns-in_err-set-clause-refused g c = passed_on _ _ _ c.from_residual-in_err-s
 
 pub returns-in_err-set-clause-known : goal.returns-in_err-set-clause-known
 returns-in_err-set-clause-known g c =
-    passed_on _ _ _ c.from_residual-in_err-set.ensures.1 (λ stored array held is honest few. c.in_err-set.ensures.known stored _ array held is (omega arith) honest few)
+    passed_on _ _ _ c.from_residual-in_err-set.ensures.1 (λ stored array held is honest. c.in_err-set.ensures.known stored _ array held is (omega arith) honest)
 
 pub blocks_of-requires-clause-ids : goal.blocks_of-requires-clause-ids
 blocks_of-requires-clause-ids g c =
@@ -118,8 +118,8 @@ returns-clause-known g c =
     let first = c.in_ok-set.ensures.reads in
     let rest = c.blocks_of.ensures.reads in
     IfErr-weaker c.blocks_of.result _ _
-    (λ refusal known stored array held is honest few.
+    (λ refusal known stored array held is honest.
     known stored array (first.keeps stored held)
     (subst (λ (set : ObjectSet). HasData stored _ set _ _ array) (sym (c.in_ok-set.ensures.value stored _ _ held is (omega arith) (true_before _ _ _ _ first rest honest))) is.has)
-    (true_after _ _ _ _ first rest honest) (few_after _ _ _ _ first rest few))
+    (true_after _ _ _ _ first rest honest))
     c.blocks_of.ensures.known

@@ -2,7 +2,7 @@ use Rattle.std.proofs.Common.{◌≡◌, ◌∙◌, true, false, true≢false, L
 use Rattle.block_store.proofs.Steps.{reads_on}
 use Rattle.block_store.specs.declared.space.VdevSpace.{VdevSpace}
 use Rattle.dnode.specs.declared.object_set.ObjectSet.{ObjectSet}
-use Rattle.dnode_tree.proofs.FurtherReads.{true_before, true_after, few_after}
+use Rattle.dnode_tree.proofs.FurtherReads.{true_before, true_after}
 use Rattle.objset.specs.Objects.{AreObjects}
 use Rattle.volume.specs.Reading.{IsObjectFound}
 use Rattle.volume.proofs.Judging.{data_shape, judged}
@@ -15,8 +15,8 @@ returns-in_err-set-clause-refused g c = passed_on _ _ _ c.from_residual.ensures.
 
 pub returns-in_err-set-clause-known : goal.returns-in_err-set-clause-known
 returns-in_err-set-clause-known g c =
-    passed_on _ _ _ c.from_residual.ensures.1 (λ stored bound array held is le honest few.
-    c.in_err-set.ensures.known stored is.set held (set_later stored bound c.args.birth c.args.self.now.block is.set le is.is_set) honest few)
+    passed_on _ _ _ c.from_residual.ensures.1 (λ stored bound array held is le honest.
+    c.in_err-set.ensures.known stored is.set held (set_later stored bound c.args.birth c.args.self.now.block is.set le is.is_set) honest)
 
 pub returns-then-not-is_of_volume-clause-refused : goal.returns-then-not-is_of_volume-clause-refused
 returns-then-not-is_of_volume-clause-refused g c =
@@ -30,7 +30,7 @@ returns-then-not-is_of_volume-clause-refused g c =
     ))
 
 pub returns-then-not-is_of_volume-clause-known : goal.returns-then-not-is_of_volume-clause-known
-returns-then-not-is_of_volume-clause-known g c = λ stored bound array held is le honest few.
+returns-then-not-is_of_volume-clause-known g c = λ stored bound array held is le honest.
     let same : c.in_ok-set.set ≡ is.set =
     c.in_ok-set.ensures.value stored is.set held (set_later stored bound c.args.birth c.args.self.now.block is.set le is.is_set) honest in
     let no : false ≡ true = c.if-not-is_of_volume.ensures.1 (ap (λ set. set.kind) same ∙ is.kind) in
@@ -53,12 +53,12 @@ pub returns-in_err-found-clause-known : goal.returns-in_err-found-clause-known
 returns-in_err-found-clause-known g c =
     let first = c.in_ok-set.ensures.reads in
     let rest = c.in_err-found.ensures.reads in
-    passed_on _ _ _ c.from_residual-in_err-found.ensures.1 (λ stored bound array held is le honest few.
+    passed_on _ _ _ c.from_residual-in_err-found.ensures.1 (λ stored bound array held is le honest.
     let same : c.in_ok-set.set ≡ is.set =
     c.in_ok-set.ensures.value stored is.set held (set_later stored bound c.args.birth c.args.self.now.block is.set le is.is_set) (true_before _ _ _ _ first rest honest) in
     c.in_err-found.ensures.known stored is.has.objects is.has.own is.has.blocks (first.keeps stored held)
     (subst (λ (set : ObjectSet). AreObjects stored c.args.self.now.block.birth set is.has.objects is.has.own is.has.blocks) (sym same) is.has.are)
-    (true_after _ _ _ _ first rest honest) (few_after _ _ _ _ first rest few))
+    (true_after _ _ _ _ first rest honest))
 
 pub returns-then-not-has_shape-clause-reads : goal.returns-then-not-has_shape-clause-reads
 returns-then-not-has_shape-clause-reads g c = reads_on _ _ _ _ c.in_ok-set.ensures.reads c.in_ok-found.ensures.reads
@@ -80,7 +80,7 @@ returns-then-not-has_shape-clause-refused g c =
     ))
 
 pub returns-then-not-has_shape-clause-known : goal.returns-then-not-has_shape-clause-known
-returns-then-not-has_shape-clause-known g c = λ stored bound array held is le honest few.
+returns-then-not-has_shape-clause-known g c = λ stored bound array held is le honest.
     let first = c.in_ok-set.ensures.reads in
     let rest = c.in_ok-found.ensures.reads in
     let same : c.in_ok-set.set ≡ is.set =

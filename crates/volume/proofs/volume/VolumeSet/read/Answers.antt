@@ -2,7 +2,7 @@ use Rattle.std.proofs.Common.{inl, inr, ⊎_elim, sym, subst, arith}
 use Rattle.std.proofs.lemmas.Result.{IfOk-weaker, IfErr-weaker}
 use Rattle.block_store.proofs.Steps.{reads_on}
 use Rattle.dnode.specs.declared.object_set.ObjectSet.{ObjectSet}
-use Rattle.dnode_tree.proofs.FurtherReads.{true_before, true_after, few_after}
+use Rattle.dnode_tree.proofs.FurtherReads.{true_before, true_after}
 use Rattle.volume.specs.Volume.{HasData}
 use Rattle.volume.proofs.Refusing.{passed_on}
 use Rattle.volume.proofs.volume.VolumeSet.read.Goals as goal
@@ -12,7 +12,7 @@ returns-in_err-set-clause-refused g c = passed_on _ _ _ c.from_residual.ensures.
 
 pub returns-in_err-set-clause-known : goal.returns-in_err-set-clause-known
 returns-in_err-set-clause-known g c =
-    passed_on _ _ _ c.from_residual.ensures.1 (λ stored array held is honest few. c.in_err-set.ensures.known stored _ array held is (omega arith) honest few)
+    passed_on _ _ _ c.from_residual.ensures.1 (λ stored array held is honest. c.in_err-set.ensures.known stored _ array held is (omega arith) honest)
 
 pub returns-clause-reads : goal.returns-clause-reads
 returns-clause-reads g c = reads_on _ _ _ _ c.in_ok-set.ensures.reads c.read_data.ensures.reads
@@ -40,10 +40,10 @@ returns-clause-known g c =
     let first = c.in_ok-set.ensures.reads in
     let rest = c.read_data.ensures.reads in
     IfErr-weaker c.read_data.result _ _
-    (λ refusal known stored array held is honest few.
+    (λ refusal known stored array held is honest.
     known stored array (first.keeps stored held)
     (subst (λ (set : ObjectSet). HasData stored _ set _ _ array) (sym (c.in_ok-set.ensures.value stored _ _ held is (omega arith) (true_before _ _ _ _ first rest honest))) is.has)
-    (true_after _ _ _ _ first rest honest) (few_after _ _ _ _ first rest few))
+    (true_after _ _ _ _ first rest honest))
     c.read_data.ensures.known
 
 pub returns-clause-found : goal.returns-clause-found

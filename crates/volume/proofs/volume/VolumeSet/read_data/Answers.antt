@@ -3,7 +3,7 @@ use Rattle.std.specs.Prelude.{slice_range}
 use Rattle.std.proofs.lemmas.Slice.{pushed}
 use Rattle.std.proofs.lemmas.List.Edits.{length-between}
 use Rattle.block_store.proofs.Steps.{reads_on}
-use Rattle.dnode_tree.proofs.FurtherReads.{true_before, true_after, few_after}
+use Rattle.dnode_tree.proofs.FurtherReads.{true_before, true_after}
 use Rattle.volume.specs.Volume.{part}
 use Rattle.volume.proofs.BlockData.{fits_at}
 use Rattle.volume.proofs.Ranges.{read_more, block_at_below}
@@ -15,11 +15,10 @@ returns-in_err-block-clause-reads g c = reads_on _ _ _ _ c.parts.invariant.reads
 
 pub returns-in_err-block-clause-known : goal.returns-in_err-block-clause-known
 returns-in_err-block-clause-known g c =
-    passed_on _ _ _ c.from_residual.ensures.1 (λ stored array held has honest few.
+    passed_on _ _ _ c.from_residual.ensures.1 (λ stored array held has honest.
     c.in_err-block.ensures.known stored array (c.parts.invariant.reads.keeps stored held) has
     (true_after _ _ _ _ c.parts.invariant.reads c.block_bytes.ensures.reads honest)
-    (block_at_below (c.args.offset + c.len-done.result) c.block_size-block_size.result c.args.self.now c.block_size-block_size.ensures.value (omega arith))
-    (few_after _ _ _ _ c.parts.invariant.reads c.block_bytes.ensures.reads few))
+    (block_at_below (c.args.offset + c.len-done.result) c.block_size-block_size.result c.args.self.now c.block_size-block_size.ensures.value (omega arith)))
 
 pub returns-in_err-block-clause-refused : goal.returns-in_err-block-clause-refused
 returns-in_err-block-clause-refused g c =

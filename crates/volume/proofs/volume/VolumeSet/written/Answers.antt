@@ -1,6 +1,7 @@
 use Rattle.std.proofs.Common.{◌∙◌, [], inl, inr, ⊎_elim}
 use Rattle.std.proofs.lemmas.Result.{IfOk-weaker, IfErr-weaker, on_ok_weaker}
-use Rattle.block_store.proofs.Steps.{steps_read, steps_on, true_before, true_after, few_after}
+use Rattle.block_store.proofs.Steps.{steps_read, steps_on, true_before, true_after}
+use Rattle.dnode_tree.proofs.Losses.{loss_in_plan}
 use Rattle.pool_now.specs.Overlay.{after_writes}
 use Rattle.volume.proofs.Demanding.{all_behind}
 use Rattle.volume.proofs.Ids.{no_blocks}
@@ -13,7 +14,7 @@ returns-in_err-blocks-clause-steps g c = steps_read _ _ _ c.in_err-blocks.ensure
 
 pub returns-in_err-blocks-clause-known : goal.returns-in_err-blocks-clause-known
 returns-in_err-blocks-clause-known g c =
-    passed_on _ _ _ c.from_residual.ensures.1 (λ stored planned array plans is le honest few. inl (c.in_err-blocks.ensures.known stored array plans.held is honest few))
+    passed_on _ _ _ c.from_residual.ensures.1 (λ stored planned array plans is le honest. loss_in_plan _ (c.in_err-blocks.ensures.known stored array plans.held is honest))
 
 pub returns-clause-steps : goal.returns-clause-steps
 returns-clause-steps g c = steps_on _ _ _ _ (steps_read _ _ _ c.in_ok-blocks.ensures.reads) c.placed.ensures.steps
@@ -47,10 +48,9 @@ pub returns-clause-known : goal.returns-clause-known
 returns-clause-known g c =
     let first = steps_read c.args.store.now c.changed_blocks.new.store [] c.in_ok-blocks.ensures.reads in
     IfErr-weaker c.placed.result _ _
-    (λ refusal known stored planned array plans is le honest few.
+    (λ refusal known stored planned array plans is le honest.
     known stored planned c.args.birth_before array (c.in_ok-blocks.ensures.reads.plans stored planned plans) is le
-    (true_after c.args.store.now c.changed_blocks.new.store c.placed.new.store first.reads honest)
-    (few_after c.args.store.now c.changed_blocks.new.store c.placed.new.store [] first.reads first.out first.shapes few))
+    (true_after c.args.store.now c.changed_blocks.new.store c.placed.new.store first.reads honest))
     c.placed.ensures.known
 
 pub returns-in_err-blocks-clause-refused : goal.returns-in_err-blocks-clause-refused
