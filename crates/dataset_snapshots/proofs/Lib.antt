@@ -1,4 +1,5 @@
 pub mod Datasets
 pub mod FirstRoot
+pub mod Losses
 pub mod Rows
 pub mod Staying

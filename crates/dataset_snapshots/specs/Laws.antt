@@ -1,8 +1,13 @@
 -- What follows from these definitions for those who have roots.
-use Rattle.std.specs.Prelude.{ℕ, ◌≤◌}
+use Rattle.std.specs.Prelude.{ℕ, ◌≡◌, ◌≤◌, List}
 use Rattle.block_pointer.specs.declared.block.Block.{Block}
+use Rattle.block_store.specs.declared.refusal.Refusal.{Refusal}
+use Rattle.block_store.specs.declared.refusal.Refusal.TheVariants.{DiskFault}
 use Rattle.block_store.specs.Blocks.{Contents, Extends}
+use Rattle.block_store.specs.Losses.{IsBlockLost}
+use Rattle.block_store.specs.Store.{Store}
 use Rattle.pool_model.specs.Pools.{PlainPool}
+use Rattle.dataset_snapshots.specs.Finding.{IsRefused}
 use Rattle.dataset_snapshots.specs.Pools.{SpellsPool}
 
 -- A root spells its pool still where more blocks are known, and for a later group.
@@ -10,3 +15,10 @@ abbrev pub RootsStay : Type 0
 RootsStay =
     (old new : Contents) (bound birth : ℕ) (root : Block) (pool : PlainPool) → bound ≤ birth
     → Extends old new → SpellsPool old bound root pool → SpellsPool new birth root pool
+
+-- A block is lost where a name is not found for a fault of disks.
+abbrev pub LossesOfDatasets : Type 0
+LossesOfDatasets =
+    (old new : Store) (missing : List ℕ) (birth : ℕ) (root : Block) (name : List ℕ)
+    (refusal : Refusal) → IsRefused old new missing birth root name refusal
+    → refusal ≡ DiskFault → IsBlockLost old new missing

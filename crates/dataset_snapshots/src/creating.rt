@@ -4,7 +4,7 @@ ghost use Rattle.block_pointer.specs.Block.{FitsBlock};
 ghost use Rattle.block_pointer.specs.Copies.{dvas};
 ghost use Rattle.block_store.specs.Blocks.{Contents, Extends};
 ghost use Rattle.block_store.specs.Plans.{Plans};
-ghost use Rattle.block_store.specs.Steps.{OnlyReadsAndPlans, AnswersAreTrue, LossIsTolerable};
+ghost use Rattle.block_store.specs.Steps.{OnlyReadsAndPlans, AnswersAreTrue};
 ghost use Rattle.dnode_tree.specs.Writes.{IsForRoom};
 ghost use Rattle.pool_model.specs.Pools.{no_volumes};
 ghost use Rattle.vdev_label.specs.Config.{FitsConfig, config_bytes};
@@ -84,10 +84,10 @@ pub fn create<D: Disk + Drop>(
     ensures no_room { IfErr result (λ refusal. refusal ≡ Refusal.NoSpace
         → LacksRoom store.old store.new) }
 
-    // Only room is wanting, where no vdev misses more disks than it has parities and what they answer is true.
+    // Only room is wanting, over disks that answer truly, however many are missing.
     ensures known { IfErr result (λ refusal. (stored planned : Contents)
         → Plans store.old stored planned → AnswersAreTrue store.old store.new
-        → LossIsTolerable store.old store.new [] → IsForRoom refusal) }
+        → IsForRoom refusal) }
 {
     let Ok(changes) = first_changes(alloc, config) else {
         return Err(Refusal::NoMemory);

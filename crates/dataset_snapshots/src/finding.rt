@@ -2,7 +2,8 @@
 ghost use Rattle.std.specs.Prelude.{◌≡◌, ◌⊎◌, ℕ, List, Option, Some, IfOk, IfErr};
 ghost use Rattle.block_pointer.specs.declared.block.Block.{Block};
 ghost use Rattle.block_store.specs.Blocks.{Contents};
-ghost use Rattle.block_store.specs.Steps.{OnlyReadsBlocks, AnswersAreTrue, LossIsTolerable};
+ghost use Rattle.block_store.specs.Losses.{IsForLoss};
+ghost use Rattle.block_store.specs.Steps.{OnlyReadsBlocks, AnswersAreTrue};
 ghost use Rattle.block_store.specs.Store.{Holds};
 ghost use Rattle.dnode.specs.declared.object_set.ObjectSet.{ObjectSet};
 ghost use Rattle.dnode.specs.declared.object_set.ObjectSetKind.TheVariants as sets;
@@ -66,11 +67,10 @@ pub fn find<D: Disk + Drop>(
     ensures refused { IfErr result (λ refusal. (refusal ≡ Refusal.NoMemory)
         ⊎ IsRefused store.old store.new missing.now birth root.now name.now refusal) }
 
-    // And it is found, where no vdev misses more disks than it has parities and what they answer is true.
+    // And it is found, over disks that answer truly, unless too many disks miss of a block.
     ensures known { IfErr result (λ refusal. (stored : Contents) (pool : PlainPool)
         → Holds store.old stored → SpellsPool stored birth root.now pool
-        → AnswersAreTrue store.old store.new
-        → LossIsTolerable store.old store.new missing.now → refusal ≡ Refusal.NoMemory) }
+        → AnswersAreTrue store.old store.new → IsForLoss refusal) }
 {
     let set = read_meta(root, store, alloc, birth, missing)?;
     let number = object_of(&set, store, alloc, root.birth, name, missing)?;
@@ -99,8 +99,7 @@ fn read_meta<D: Disk + Drop>(
         (IsMetaRefused store.old store.new missing.now birth root.now) }
     ensures known { IfErr result (λ refusal. (stored : Contents) (set : ObjectSet)
         → Holds store.old stored → IsSetBlock stored birth root.now set → set.kind ≡ sets.Meta
-        → AnswersAreTrue store.old store.new → LossIsTolerable store.old store.new missing.now
-        → refusal ≡ Refusal.NoMemory) }
+        → AnswersAreTrue store.old store.new → IsForLoss refusal) }
 {
     let set = read_set(store, alloc, root, birth, missing)?;
     match set.kind {
@@ -134,7 +133,7 @@ fn object_of<D: Disk + Drop>(
         (own : List Block) (blocks : ℕ → List Block) (rows : List DirectoryRow)
         → Holds store.old stored → AreObjects stored birth set.now objects own blocks
         → HasDirectory (objects 1) rows → AnswersAreTrue store.old store.new
-        → LossIsTolerable store.old store.new missing.now → refusal ≡ Refusal.NoMemory) }
+        → IsForLoss refusal) }
 {
     let directory = read_directory(set, store, alloc, birth, missing)?;
     Ok(number_in(&directory, name))
@@ -174,7 +173,7 @@ fn read_dataset<D: Disk + Drop>(
         (own : List Block) (blocks : ℕ → List Block) (r : DatasetRecord)
         → Holds store.old stored → AreObjects stored birth set.now objects own blocks
         → HasRecord (objects object) r → AnswersAreTrue store.old store.new
-        → LossIsTolerable store.old store.new missing.now → refusal ≡ Refusal.NoMemory) }
+        → IsForLoss refusal) }
 {
     let record = read_record(set, store, alloc, object, birth, missing)?;
     Ok(Dataset {

@@ -1,7 +1,12 @@
 //! What follows from the definitions, as functions with no body.
-ghost use Rattle.dataset_snapshots.specs.Laws.{RootsStay};
+ghost use Rattle.dataset_snapshots.specs.Laws.{LossesOfDatasets, RootsStay};
 
 /// A root spells its pool where more blocks are known, and for a later group.
 pub fn roots_stay()
     ensures { RootsStay }
+{}
+
+/// Where a name is not found for a fault of disks, a block is lost.
+pub fn losses_of_datasets()
+    ensures { LossesOfDatasets }
 {}

@@ -8,4 +8,4 @@ mod laws;
 pub use block_store::Refusal;
 pub use creating::create;
 pub use finding::{Dataset, find};
-pub use laws::roots_stay;
+pub use laws::{losses_of_datasets, roots_stay};

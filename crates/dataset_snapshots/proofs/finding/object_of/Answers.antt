@@ -10,8 +10,8 @@ returns-in_err-directory-clause-refused g c = passed_on _ _ _ c.from_residual.en
 pub returns-in_err-directory-clause-known : goal.returns-in_err-directory-clause-known
 returns-in_err-directory-clause-known g c =
     passed_on _ _ _ c.from_residual.ensures.1
-    (λ stored objects own blocks rows held are has honest few.
-    ⊎_elim (λ memory. memory) (λ bad. absurd (bad.1 rows has)) (c.in_err-directory.ensures.known stored objects own blocks held are honest few))
+    (λ stored objects own blocks rows held are has honest.
+    ⊎_elim (λ loss. loss) (λ bad. absurd (bad.1 rows has)) (c.in_err-directory.ensures.known stored objects own blocks held are honest))
 
 pub returns-clause-value : goal.returns-clause-value
 returns-clause-value g c = λ stored objects own blocks rows held are has honest.
