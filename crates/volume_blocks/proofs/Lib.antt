@@ -2,6 +2,7 @@ mod Changed
 mod Changing
 mod Dividing
 mod Laying
+mod Losses
 mod Planning
 mod Ranges
 mod ReadBlocks
