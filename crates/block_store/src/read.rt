@@ -56,7 +56,7 @@ impl<D: Disk + Drop> BlockStore<D> {
             ⊎ (((refusal ≡ Refusal.BadPointer) × ¬ IsReadable self.old.spaces asked block.now)
             ⊎ IsLastFault self.old self.new (outs self.old ++ missing.now) block.now refusal)) }
 
-        // And it is read, over disks that answer truly, unless too many disks miss of it.
+        // And it is read, over disks that answer truly, unless too many disks miss of the block.
         ensures known { IfErr result (λ refusal. (stored : Contents) (bytes : List ℕ)
             → Holds self.old stored → stored block.now ≡ Some bytes
             → Asks asked block.now → IsHonestSince self.old.disks self.new.disks

@@ -51,6 +51,9 @@ pub fn put_many<D: Disk + Drop>(
         (births_written writes.now birth (has.births 0)) blocks) }
     ensures no_room { IfErr result (λ refusal. refusal ≡ Refusal.NoSpace
         → HasNoRoom store.old store.new missing.now set.now.dnodes copies) }
+
+    // And a whole set is rewritten, over disks that answer truly, unless there is no room or too
+    // many disks miss of a block.
     ensures known { IfErr result (λ refusal. (stored planned : Contents) (bound : ℕ)
         (nodes : ℕ → Dnode) (blocks : List Block) → Plans store.old stored planned
         → HasNodes stored bound set.now nodes blocks → bound ≤ birth

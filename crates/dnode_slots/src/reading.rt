@@ -61,6 +61,9 @@ pub fn get<D: Disk + Drop>(
     ensures refused { IfErr result
         (IsNodeRefused store.old store.new missing.now set.now birth number) }
     ensures cause { IfErr result (λ refusal. refusal ≢ Refusal.NoSpace) }
+
+    // And a dnode of a whole set is read, over disks that answer truly, unless too many disks miss
+    // of a block.
     ensures known { IfErr result (λ refusal. (stored : Contents) (nodes : ℕ → Dnode)
         (blocks : List Block) → Holds store.old stored
         → HasNodes stored birth set.now nodes blocks → AnswersAreTrue store.old store.new

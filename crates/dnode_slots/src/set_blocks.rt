@@ -48,6 +48,8 @@ pub fn read_set<D: Disk + Drop>(
     ensures found { IfOk result (IsSetFound store.old.spaces birth block.now) }
     ensures refused { IfErr result (IsSetRefused store.old store.new missing.now birth block.now) }
     ensures cause { IfErr result (λ refusal. refusal ≢ Refusal.NoSpace) }
+
+    // And it is read, over disks that answer truly, unless too many disks miss of a block.
     ensures known { IfErr result (λ refusal. (stored : Contents) (set : ObjectSet)
         → Holds store.old stored → IsSetBlock stored birth block.now set
         → AnswersAreTrue store.old store.new → IsForLoss refusal) }

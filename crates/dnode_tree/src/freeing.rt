@@ -38,6 +38,8 @@ pub fn free_blocks<D: Disk + Drop>(
         → IsTree stored birth after.now later others → AnswersAreTrue store.old store.new
         → AreOnlyIn blocks others freed.items) }
     ensures cause { IfErr result (λ refusal. refusal ≢ Refusal.NoSpace) }
+
+    // And whole trees are walked, over disks that answer truly, unless too many disks miss of a block.
     ensures known { IfErr result (λ refusal. (stored : Contents) (bound : ℕ)
         (array later : ℕ → Option (List ℕ)) (blocks others : List Block) → Holds store.old stored
         → IsTree stored bound before.now array blocks → bound ≤ birth

@@ -48,6 +48,8 @@ pub fn get<D: Disk + Drop>(
         (bytes_of found)) }
     ensures refused { IfErr result (IsRefused store.old store.new missing.now node.now birth id) }
     ensures cause { IfErr result (λ refusal. refusal ≢ Refusal.NoSpace) }
+
+    // And a whole tree is read, over disks that answer truly, unless too many disks miss of a block.
     ensures known { IfErr result (λ refusal. (stored : Contents) (array : ℕ → Option (List ℕ))
         (blocks : List Block) → Holds store.old stored
         → IsTree stored birth node.now array blocks → AnswersAreTrue store.old store.new
@@ -84,6 +86,8 @@ pub fn get_block<D: Disk + Drop>(
     ensures found { IfOk result (IsBlockFound store.old.spaces node.now birth id) }
     ensures refused { IfErr result (IsRefused store.old store.new missing.now node.now birth id) }
     ensures cause { IfErr result (λ refusal. refusal ≢ Refusal.NoSpace) }
+
+    // And a whole tree is read, over disks that answer truly, unless too many disks miss of a block.
     ensures known { IfErr result (λ refusal. (stored : Contents) (array : ℕ → Option (List ℕ))
         (blocks : List Block) → Holds store.old stored
         → IsTree stored birth node.now array blocks → AnswersAreTrue store.old store.new

@@ -39,6 +39,8 @@ pub fn walk<D: Disk + Drop>(
     ensures refused { IfErr result (IsWalkRefused store.old store.new missing.now
         (property_of node.now) (root_of node.now birth)) }
     ensures cause { IfErr result (λ refusal. refusal ≢ Refusal.NoSpace) }
+
+    // And a whole tree is walked, over disks that answer truly, unless too many disks miss of a block.
     ensures known { IfErr result (λ refusal. (stored : Contents) (array : ℕ → Option (List ℕ))
         (blocks : List Block) → Holds store.old stored
         → IsTree stored birth node.now array blocks → AnswersAreTrue store.old store.new
