@@ -1,5 +1,5 @@
 -- Directories with a name more or less.
-use Rattle.std.proofs.Common.{◌≡◌, ◌≢◌, ◌⊎◌, ℕ, zero, suc, ◌+◌, ◌<◌, List, [], ◌∷◌, ◌++◌, length, take, drop, get_or, All, AllPairs, Contains, inl, inr, refl, sym, ap, subst, ◌∙◌, add-one, arith}
+use Rattle.std.proofs.Common.{◌≡◌, ◌≢◌, ◌⊎◌, ℕ, zero, suc, ◌+◌, ◌<◌, ◌≤◌, List, [], ◌∷◌, ◌++◌, length, take, drop, get_or, All, AllPairs, Contains, inl, inr, refl, sym, ap, subst, ◌∙◌, add-one, arith}
 use Rattle.std.specs.Cmp.Lexicographic.{slice_cmp}
 use Rattle.std.specs.declared.cmp.Ordering.{Ordering}
 use Rattle.std.specs.declared.cmp.Ordering.TheVariants.{Less, Equal, Greater}
@@ -12,7 +12,7 @@ use Rattle.std.proofs.lemmas.List.Elements.{All-cons, All-head, All-tail, All-ni
 use Rattle.std.proofs.lemmas.List.Kept.{AllPairs-cons}
 use Rattle.std.proofs.lemmas.List.Quantifiers.{all_pairs_remove}
 use Rattle.meta_objset.specs.declared.directory.DirectoryRow.{DirectoryRow}
-use Rattle.meta_objset.specs.Directory.{FitsRow, IsDirectory, LacksName, IsWith, IsWithout}
+use Rattle.meta_objset.specs.Directory.{FitsRow, IsDirectory, IsPlacedAmong, LacksName, IsWith, IsWithout}
 use Rattle.meta_objset.specs.Names.{IsBefore}
 use Rattle.meta_objset.proofs.Rows.{Before, in_front}
 
@@ -22,15 +22,16 @@ pairs_head R x xs pairs k d low = pairs 0 (suc k) d (omega arith) (omega (arith,
 pub pairs_tail : {X : Type 0} (R : X → X → Type 0) (x : X) (xs : List X) → AllPairs R (x ∷ xs) → AllPairs R xs
 pairs_tail R x xs pairs i j d lt low = pairs (suc i) (suc j) d (omega (arith, lt)) (omega (arith, low))
 
-all_left : {X : Type 0} (P : X → Type 0) (xs ys : List X) → All P (xs ++ ys) → All P xs
+pub all_left : {X : Type 0} (P : X → Type 0) (xs ys : List X) → All P (xs ++ ys) → All P xs
 all_left P [] ys all = All-nil P
 all_left P (x ∷ xs) ys all = All-cons P x xs (All-head P x (xs ++ ys) all) (all_left P xs ys (All-tail P x (xs ++ ys) all))
 
-all_right : {X : Type 0} (P : X → Type 0) (xs ys : List X) → All P (xs ++ ys) → All P ys
+pub all_right : {X : Type 0} (P : X → Type 0) (xs ys : List X) → All P (xs ++ ys) → All P ys
 all_right P [] ys all = all
 all_right P (x ∷ xs) ys all = all_right P xs ys (All-tail P x (xs ++ ys) all)
 
-pairs_between : {X : Type 0} (R : X → X → Type 0) (xs ys : List X) (x : X) → AllPairs R (xs ++ ys) → All (λ before. R before x) xs → All (R x) ys → AllPairs R (xs ++ x ∷ ys)
+-- one more between two parts of a list
+pub pairs_between : {X : Type 0} (R : X → X → Type 0) (xs ys : List X) (x : X) → AllPairs R (xs ++ ys) → All (λ before. R before x) xs → All (R x) ys → AllPairs R (xs ++ x ∷ ys)
 pairs_between R [] ys x pairs before behind = AllPairs-cons R x ys behind pairs
 pairs_between R (first ∷ xs) ys x pairs before behind =
     let rest = pairs_head R first (xs ++ ys) pairs in
@@ -115,6 +116,9 @@ module _ (rows : List DirectoryRow) (row : DirectoryRow) (at : ℕ) (is : IsDire
     each = All-append FitsRow (take at rows) (row ∷ drop at rows) (All-take FitsRow at rows is.each) (All-cons FitsRow row (drop at rows) fits (All-drop FitsRow at rows is.each));
     order = pairs_between Before (take at rows) (drop at rows) row (subst (AllPairs Before) (sym parts) is.order) before (behind_it (drop at rows) refl);
   }
+
+  pub row_placed : at ≤ length rows → IsPlacedAmong rows row (insert rows at row)
+  row_placed within = record { at = at; within = within; front = before; behind = behind_it (drop at rows) refl; placed = refl }
 
 pub row_added : (rows : List DirectoryRow) (row : DirectoryRow) (at : ℕ) → IsWith rows row (insert rows at row)
 row_added rows row at other = (

@@ -1,9 +1,9 @@
 -- Names and their padding.
-use Rattle.std.proofs.Common.{◌≡◌, ◌≢◌, ℕ, ◌+◌, ◌-◌, ◌<◌, false, Option, Some, None, List, ◌++◌, length, take, drop, get_or, inl, inr, sym, ap, ◌∙◌, arith}
+use Rattle.std.proofs.Common.{◌≡◌, ◌≢◌, ℕ, ◌+◌, ◌-◌, ◌<◌, false, Option, Some, None, List, ◌++◌, length, take, drop, get_or, inl, inr, sym, ap, subst, ◌∙◌, arith}
 use Rattle.std.specs.Prelude.{replicate, is_some, MatchOption}
 use Rattle.std.proofs.Math.ListN.{get_or-append}
 use Rattle.std.proofs.lemmas.Bool.{cases_lt}
-use Rattle.std.proofs.lemmas.List.{take-append-drop, drop_at, drop-replicate, length-append, length-replicate, length-take-le, length-drop, get_or-take, get_or-append-add, get_or-replicate}
+use Rattle.std.proofs.lemmas.List.{take-append-drop, take_at, drop_at, drop-replicate, length-append, length-replicate, length-take-le, length-drop, get_or-take, get_or-append-add, get_or-replicate}
 use Rattle.std.proofs.lemmas.List.Elements.{All-from_get_or, All-get_or}
 use Rattle.meta_objset.specs.Names.{IsNamed, IsName}
 
@@ -59,6 +59,12 @@ zeros_behind padded name n is e =
     let zeros : List ℕ = replicate (56 - length name) none in
     let left : drop n padded ≡ zeros = ap (drop n) is.padded_is ∙ drop_at name zeros n (sym e) in
     left ∙ ap (λ m. replicate m none) (sym (ap length left ∙ length-replicate (56 - length name) none))
+
+-- what stands before the first zero of a padded name is the name
+pub taken_named : (padded name : List ℕ) (n : ℕ) → IsNamed padded name → n ≡ length name → IsNamed padded (take n padded)
+taken_named padded name n is e =
+    let zeros : List ℕ = replicate (56 - length name) 0 in
+    subst (IsNamed padded) (sym (ap (take n) is.padded_is ∙ take_at name zeros n (sym e))) is
 
 -- a name with no zero, and zeros behind it
 pub padded_named : (padded name : List ℕ) (found : Option ℕ) (Seen : ℕ → Type 0) → 0 < length name → length name < 56 → is_some found ≡ false

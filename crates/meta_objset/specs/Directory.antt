@@ -1,5 +1,5 @@
 -- Names and the objects that they name.
-use Rattle.std.specs.Prelude.{ℕ, ◌≡◌, ◌≢◌, ◌⊎◌, ◌↔◌, ◌^◌, ◌<◌, List, [], ◌∷◌, ◌++◌, All, AllPairs, Contains}
+use Rattle.std.specs.Prelude.{ℕ, ◌≡◌, ◌≢◌, ◌⊎◌, ◌↔◌, ◌^◌, ◌<◌, ◌≤◌, List, [], ◌∷◌, ◌++◌, length, take, drop, insert, All, AllPairs, Contains}
 use Rattle.std.specs.List.{flat_map}
 use Rattle.words.specs.Words.{word_bytes}
 use Rattle.object_table.specs.declared.shape.RowShape.{RowShape}
@@ -24,6 +24,15 @@ LacksName rows name = All (λ row. row.name ≢ name) rows
 -- these are the rows before and one more
 abbrev pub IsWith : List DirectoryRow → DirectoryRow → List DirectoryRow → Type 0
 IsWith before row after = (other : DirectoryRow) → Contains after other ↔ (Contains before other ⊎ (other ≡ row))
+
+-- the row was put among the rows before where its name belongs
+pub record IsPlacedAmong (before : List DirectoryRow) (row : DirectoryRow) (after : List DirectoryRow)
+    : Type 0 where
+  pub at : ℕ
+  pub within : at ≤ length before
+  pub front : All (λ other. IsBefore other.name row.name) (take at before)
+  pub behind : All (λ other. IsBefore row.name other.name) (drop at before)
+  pub placed : after ≡ insert before at row
 
 -- these are the rows before but for the one of that name
 abbrev pub IsWithout : List DirectoryRow → List ℕ → List DirectoryRow → Type 0

@@ -5,7 +5,7 @@ ghost use Rattle.objset.specs.Objects.{Object};
 ghost use Rattle.object_table.specs.Rows.{SpellsRows};
 ghost use Rattle.object_table.specs.Tables.{IsOfKind};
 ghost use Rattle.meta_objset.specs.declared.directory.DirectoryRow.{DirectoryRow};
-ghost use Rattle.meta_objset.specs.Directory.{FitsRow, IsDirectory, LacksName, IsWith, IsWithout, SpellsRow, row_bytes, rows_bytes, SpellsDirectory};
+ghost use Rattle.meta_objset.specs.Directory.{FitsRow, IsDirectory, IsPlacedAmong, LacksName, IsWith, IsWithout, SpellsRow, row_bytes, rows_bytes, SpellsDirectory};
 ghost use Rattle.meta_objset.specs.Names.{IsName, IsBefore};
 ghost use Rattle.meta_objset.specs.Reading.{directory_kind, HasDirectory};
 
@@ -133,6 +133,8 @@ impl Directory {
         requires { IsName name.now }
         ensures added { IfOk result (λ added. IsTrue added → LacksName self.old name.now
             × IsWith self.old (record { name = name.now; object = object }) self.new) }
+        ensures placed { IfOk result (λ added. IsTrue added
+            → IsPlacedAmong self.old (record { name = name.now; object = object }) self.new) }
         ensures there { IfOk result (λ added. ¬ IsTrue added → (¬ LacksName self.old name.now)
             × (self.new ≡ self.old)) }
         ensures kept { IfErr result (λ _. self.new ≡ self.old) }

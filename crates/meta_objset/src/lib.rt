@@ -11,7 +11,7 @@ mod record;
 pub use config::{config_creation, config_replacement, decode_config, encode_config};
 pub use datasets::{read_record, record_change, record_creation};
 pub use directory::{Directory, DirectoryRow};
-pub use names::{is_name, padded};
+pub use names::{is_name, padded, unpadded};
 pub use object_table::Refusal;
 pub use reading::{read_config, read_directory};
 pub use record::{DatasetKind, DatasetRecord};

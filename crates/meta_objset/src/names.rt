@@ -41,6 +41,18 @@ pub fn padded(name: &[u8]) -> Option<[u8; 56]>
     Some(padded)
 }
 
+/// The name in the 56 bytes of a row, without the zeros behind it.
+pub fn unpadded(padded: &[u8; 56]) -> &[u8]
+    requires { IsName padded.now }
+    ensures { IsNamed padded.now result.now }
+{
+    let Some(end) = first_zero(padded) else {
+        return padded;
+    };
+    let (name, _) = padded.split_at(end);
+    name
+}
+
 /// Whether a name stands before another in byte order.
 pub(crate) fn is_before(name: &[u8], other: &[u8]) -> bool
     ensures { IsTrue result ↔ IsBefore name.now other.now }

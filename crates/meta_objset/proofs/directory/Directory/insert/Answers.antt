@@ -1,9 +1,9 @@
-use Rattle.std.proofs.Common.{◌≡◌, ◌<◌, ℕ, Bool, true, false, List, Option, Some, None, length, take, get_or, All, refl, sym, subst, ◌∙◌}
+use Rattle.std.proofs.Common.{◌≡◌, ◌<◌, ◌≤◌, ℕ, Bool, true, false, List, Option, Some, None, length, take, get_or, All, refl, sym, subst, ◌∙◌}
 use Rattle.std.specs.Prelude.{is_some}
 use Rattle.meta_objset.specs.declared.directory.DirectoryRow.{DirectoryRow}
-use Rattle.meta_objset.specs.Directory.{IsDirectory, LacksName, IsWith}
+use Rattle.meta_objset.specs.Directory.{IsDirectory, IsPlacedAmong, LacksName, IsWith}
 use Rattle.meta_objset.specs.Names.{IsBefore}
-use Rattle.meta_objset.proofs.Edits.{with_row, row_added}
+use Rattle.meta_objset.proofs.Edits.{with_row, row_added, row_placed}
 use Rattle.meta_objset.proofs.Rows.{Before}
 use Rattle.meta_objset.proofs.directory.Directory.insert.Goals as goal
 
@@ -33,3 +33,17 @@ returns-clause-added c = λ _.
       subst (λ (all : List DirectoryRow). IsWith all row c.insert.new.self.items) same
           (subst (λ (all : List DirectoryRow). IsWith rows row all) (sym c.in_ok-insert.ensures.items) (row_added rows row c.count_before-at.result)),
     )
+
+pub returns-clause-placed : goal.returns-clause-placed
+returns-clause-placed c = λ _.
+    let rows : List DirectoryRow = c.self.inside.rows.items in
+    let row : DirectoryRow = record { name = c.args.name.now; object = c.args.object } in
+    let at : ℕ = c.count_before-at.result in
+    let same : c.args.self.now ≡ rows = cc in
+    let lacks : LacksName rows row.name = subst (λ (all : List DirectoryRow). LacksName all row.name) same (c.get.ensures.none (is_none _ _ c.is_some.ensures c.if-is_some.false)) in
+    let within : at ≤ length rows = subst (λ (all : List DirectoryRow). at ≤ length all) c.deref.ensures.value c.count_before-at.ensures.within in
+    let before : All (λ other. Before other row) (take at rows) = subst (λ (all : List DirectoryRow). All (λ other. Before other row) (take at all)) c.deref.ensures.value c.count_before-at.ensures.before in
+    let behind : (other : DirectoryRow) → at < length rows → ¬ IsBefore (get_or rows at other).name row.name =
+    subst (λ (all : List DirectoryRow). (other : DirectoryRow) → at < length all → ¬ IsBefore (get_or all at other).name row.name) c.deref.ensures.value c.count_before-at.ensures.behind in
+    subst (λ (all : List DirectoryRow). IsPlacedAmong all row c.insert.new.self.items) (sym same)
+    (subst (λ (all : List DirectoryRow). IsPlacedAmong rows row all) (sym c.in_ok-insert.ensures.items) (row_placed rows row at c.self.invariant lacks before behind within))
