@@ -20,7 +20,7 @@ use Rattle.dataset_snapshots.specs.Pools.{IsRecordOf, SpellsPool}
 use Rattle.dataset_snapshots.proofs.Rows.{no_row, row_leads}
 
 -- the dataset of a record
-has_dataset : (stored : Contents) (birth : ℕ) (volume : PlainVolume) (dataset : Dataset) (r : DatasetRecord) → dataset.record ≡ r → IsVolumeOf dataset → IsRecordOf r volume
+pub has_dataset : (stored : Contents) (birth : ℕ) (volume : PlainVolume) (dataset : Dataset) (r : DatasetRecord) → dataset.record ≡ r → IsVolumeOf dataset → IsRecordOf r volume
     → IsVolume stored birth r.object_set r.size r.block_size volume.bytes → HasDataset stored birth (Some volume) (Some dataset)
 has_dataset stored birth volume dataset r same of is bytes =
     let record_is : IsRecordOf dataset.record volume = subst (λ (other : DatasetRecord). IsRecordOf other volume) (sym same) is in

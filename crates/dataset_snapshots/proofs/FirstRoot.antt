@@ -143,6 +143,7 @@ first_root copies planned mid later birth root rewrite bytes vdevs changes first
         (λ block known_bytes held known. adds.kept block known_bytes known) is.are;
     rows = [];
     directory = subst (λ (cs : List ObjectChange). HasDirectory (changed cs nothing 1) []) (sym first.are) first.has_directory;
+    apart = λ i j d before within. absurd (omega (arith, within));
     volumes = tt;
   },
   record {

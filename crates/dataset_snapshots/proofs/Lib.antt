@@ -1,5 +1,15 @@
+pub mod ChangedRows
 pub mod Datasets
 pub mod FirstRoot
+pub mod GroupRoot
 pub mod Losses
+pub mod MakingChanges
+pub mod MakingRefusals
+pub mod MakingSteps
+pub mod MakingVolumes
+pub mod NamingOrder
+pub mod PlacedRecord
+pub mod Pushing
 pub mod Rows
 pub mod Staying
+pub mod WrittenObjects

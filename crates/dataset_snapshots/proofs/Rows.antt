@@ -22,14 +22,14 @@ front padded name is =
     ap (take (length name)) is.padded_is ∙ take_at name (replicate (56 - length name) none) (length name) refl
 
 -- a padded name has one name in it
-names_same : (padded name other : List ℕ) → IsNamed padded name → IsNamed padded other → name ≡ other
+pub names_same : (padded name other : List ℕ) → IsNamed padded name → IsNamed padded other → name ≡ other
 names_same padded name other is also =
     let len : length name ≡ length other =
     first_zero_is padded other (length name) also (zero_behind padded name is) (λ k lt. no_zero_before padded name k is lt) in
     sym (front padded name is) ∙ ap (λ n. take n padded) len ∙ front padded other also
 
 -- and a name is padded in one way
-padded_same : (padded other name again : List ℕ) → IsNamed padded name → IsNamed other again → name ≡ again → padded ≡ other
+pub padded_same : (padded other name again : List ℕ) → IsNamed padded name → IsNamed other again → name ≡ again → padded ≡ other
 padded_same padded other name again is also same_name =
     let none : ℕ = 0 in
     is.padded_is ∙ ap (λ (n : List ℕ). n ++ replicate (56 - length n) none) same_name ∙ sym also.padded_is
@@ -41,7 +41,7 @@ is_one : {X : Type 0} (x other : X) → Contains (x ∷ []) other → x ≡ othe
 is_one x other (zero, low, is) = is
 is_one x other (suc k, low, is) = absurd (omega (arith, low))
 
-first_or_later : (row other : DirectoryRow) (rows : List DirectoryRow) → Contains (row ∷ rows) other → (row ≡ other) ⊎ Contains rows other
+pub first_or_later : (row other : DirectoryRow) (rows : List DirectoryRow) → Contains (row ∷ rows) other → (row ≡ other) ⊎ Contains rows other
 first_or_later row other rows held = elim (Contains-append_cases (row ∷ []) rows other held) [
   | inl one ↦ inl (is_one row other one)
   | inr later ↦ inr later

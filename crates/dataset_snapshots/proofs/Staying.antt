@@ -10,17 +10,19 @@ use Rattle.volume.proofs.Standing.{volumes_stay}
 use Rattle.dataset_snapshots.specs.Laws.{RootsStay}
 use Rattle.dataset_snapshots.specs.Pools.{SpellsDataset}
 
-datasets_stay : (old new : Contents) (birth : ℕ) (objects : ℕ → Option Object) (rows : List DirectoryRow) (volumes : List PlainVolume) → Extends old new
+pub datasets_stay : (old new : Contents) (birth : ℕ) (objects : ℕ → Option Object) (rows : List DirectoryRow) (volumes : List PlainVolume) → Extends old new
     → AllZip (SpellsDataset old birth objects) rows volumes → AllZip (SpellsDataset new birth objects) rows volumes
 datasets_stay old new birth objects [] [] more spells = spells
 datasets_stay old new birth objects (row ∷ rows) (volume ∷ volumes) more spells =
     let first = spells.0 in (
       record {
         name = first.name;
+        behind = first.behind;
         r = first.r;
         has = first.has;
         is = first.is;
         bytes = volumes_stay old new birth birth first.r.object_set first.r.size first.r.block_size volume.bytes (omega arith) more first.bytes;
+        dead = first.dead;
       },
       datasets_stay old new birth objects rows volumes more spells.1,
     )
@@ -43,5 +45,6 @@ roots_stay old new bound birth root pool le more is = record {
   are = objects_stand old new root.birth root.birth is.set is.objects is.own is.blocks (omega arith) (λ block bytes held known. more block bytes known) is.are;
   rows = is.rows;
   directory = is.directory;
+  apart = is.apart;
   volumes = datasets_stay old new root.birth is.objects is.rows pool.volumes more is.volumes;
 }

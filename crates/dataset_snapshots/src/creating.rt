@@ -54,7 +54,7 @@ const SPACE_MAPS: TableKind = TableKind {
 };
 
 /// All blocks of the meta object set have three copies.
-const COPIES: SetCopies = SetCopies {
+pub(crate) const COPIES: SetCopies = SetCopies {
     data: CopyCount::Three,
     other: CopyCount::Three,
 };

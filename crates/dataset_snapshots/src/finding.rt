@@ -82,7 +82,7 @@ pub fn find<D: Disk + Drop>(
 }
 
 /// The meta object set of a root. `BadPointer` where the block spells another.
-fn read_meta<D: Disk + Drop>(
+pub(crate) fn read_meta<D: Disk + Drop>(
     root: &Block,
     store: &mut BlockStore<D>,
     alloc: Global,
@@ -140,7 +140,7 @@ fn object_of<D: Disk + Drop>(
 }
 
 /// The number that a directory has for a name.
-fn number_in(directory: &Directory, name: &Name) -> Option<u64>
+pub(crate) fn number_in(directory: &Directory, name: &Name) -> Option<u64>
     ensures { IsNumberIn directory.now name.now result }
 {
     let name = padded(name.as_slice())?;
@@ -148,7 +148,7 @@ fn number_in(directory: &Directory, name: &Name) -> Option<u64>
 }
 
 /// The dataset whose record an object has.
-fn read_dataset<D: Disk + Drop>(
+pub(crate) fn read_dataset<D: Disk + Drop>(
     set: &ObjectSet,
     store: &mut BlockStore<D>,
     alloc: Global,

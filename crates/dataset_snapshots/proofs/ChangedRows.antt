@@ -1,0 +1,248 @@
+-- What becomes of the rows of a directory by the changes that a group's writes make.
+use Rattle.std.proofs.Common.{◌≡◌, ◌≢◌, ◌⊎◌, ℕ, zero, suc, ◌<◌, ◌≤◌, Bool, true, false, true≢false, eqb, cond, List, [], ◌∷◌, map, length, Option, Some, None, All, AllPairs, Contains, inl, inr, ⊎_elim, eqb-true, eq-eqb, refl, sym, ap, subst, ◌∙◌, arith}
+use Rattle.std.specs.Prelude.{Any, fold, find}
+use Rattle.std.specs.List.{AllZip}
+use Rattle.std.proofs.lemmas.Bool.{cases_lt}
+use Rattle.std.proofs.lemmas.Simd.{map-map}
+use Rattle.std.proofs.lemmas.List.Elements.{All-cons, All-head, All-tail, All-nil, All-contains, Contains-append_cases}
+use Rattle.block_pointer.specs.declared.block.Block.{Block}
+use Rattle.block_store.specs.Blocks.{Contents, Extends}
+use Rattle.dnode.specs.declared.dnode.Dnode.{Dnode}
+use Rattle.dnode.specs.declared.object_set.ObjectSet.{ObjectSet}
+use Rattle.dnode_slots.specs.Nodes.{birth_of}
+use Rattle.meta_objset.specs.declared.directory.DirectoryRow.{DirectoryRow}
+use Rattle.meta_objset.specs.declared.record.DatasetRecord.{DatasetRecord}
+use Rattle.meta_objset.specs.Datasets.{HasRecord}
+use Rattle.meta_objset.specs.Names.{IsNamed}
+use Rattle.meta_objset.proofs.Edits.{pairs_head, pairs_tail}
+use Rattle.object_table.specs.Tables.{HasTable}
+use Rattle.objset.specs.declared.changes.ObjectChange.{ObjectChange}
+use Rattle.objset.specs.Changes.{MayChange, after_change, changed}
+use Rattle.objset.specs.Objects.{Object, IsObject, AreObjects}
+use Rattle.objset.proofs.Numbers.{passed, taken}
+use Rattle.pool_model.specs.declared.item.Write.{Write}
+use Rattle.pool_model.specs.declared.volume.PlainVolume.{PlainVolume}
+use Rattle.pool_model.specs.declared.volume.VolumeKind.TheVariants.{Volume}
+use Rattle.pool_model.specs.Names.{same}
+use Rattle.pool_model.specs.Names.{stored as with_bytes}
+use Rattle.pool_model.specs.Pools.{volume_after}
+use Rattle.pool_model.proofs.Places.{is_same, same_is}
+use Rattle.pool_now.specs.Overlay.{after_writes}
+use Rattle.pool_now.proofs.Overlays.{name_after_writes}
+use Rattle.volume.proofs.Standing.{volumes_stay}
+use Rattle.dataset_snapshots.specs.Finding.{IsRowOf}
+use Rattle.dataset_snapshots.specs.Pools.{AreApart, IsRecordOf, SpellsDataset, dead_list_kind}
+use Rattle.dataset_snapshots.specs.Writing.{ChangesRecord, IsChangedFrom, IsWritten, SpellsEach}
+
+-- ---- lists
+
+is_one : {X : Type 0} (x other : X) → Contains (x ∷ []) other → x ≡ other
+is_one x other (zero, low, is) = is
+is_one x other (suc k, low, is) = absurd (omega (arith, low))
+
+pub first_or_later : {X : Type 0} (x other : X) (xs : List X) → Contains (x ∷ xs) other → (x ≡ other) ⊎ Contains xs other
+first_or_later x other xs held = elim (Contains-append_cases (x ∷ []) xs other held) [
+  | inl one ↦ inl (is_one x other one)
+  | inr later ↦ inr later
+]
+
+pub is_first : {X : Type 0} (x : X) (xs : List X) → Contains (x ∷ xs) x
+is_first x xs = (0, omega arith, refl)
+
+pub is_later : {X : Type 0} (x other : X) (xs : List X) → Contains xs other → Contains (x ∷ xs) other
+is_later x other xs (k, low, is) = (suc k, omega (arith, low), is)
+
+pub nothing_in : {X : Type 0} (x : X) → Contains [] x → ⊥
+nothing_in x (k, low, is) = omega (arith, low)
+
+-- what is behind a row leads on
+pub zip_has : {A B : Type 0} (R : A → B → Type 0) (xs : List A) (ys : List B) (x : A) → AllZip R xs ys → Contains xs x → (y : B) × R x y
+zip_has R [] ys x all held = absurd (nothing_in x held)
+zip_has R (first ∷ xs) [] x all held = absurd all
+zip_has R (first ∷ xs) (y ∷ ys) x all held =
+    ⊎_elim (λ is. (y, subst (λ z. R z y) is all.0)) (λ later. zip_has R xs ys x all.1 later) (first_or_later first x xs held)
+
+pub all_from : {X : Type 0} (P : X → Type 0) (xs : List X) → ((x : X) → Contains xs x → P x) → All P xs
+all_from P [] each = All-nil P
+all_from P (x ∷ xs) each = All-cons P x xs (each x (is_first x xs)) (all_from P xs (λ y held. each y (is_later x y xs held)))
+
+pub any_of : {X : Type 0} (P : X → Type 0) (xs : List X) (x : X) → Contains xs x → P x → Any P xs
+any_of P xs x held is = (held.0, x, held.1, held.2, is)
+
+-- ---- changes
+
+-- what a list of changes makes of an object: nothing, or what one of them does
+abbrev pub IsChangedOrNot : List ObjectChange → (ℕ → Option Object) → ℕ → Type 0
+IsChangedOrNot changes objects number =
+    (((change : ObjectChange) → Contains changes change → change.number ≢ number) × (changed changes objects number ≡ objects number))
+    ⊎ ((change : ObjectChange) × Contains changes change × (change.number ≡ number) × (changed changes objects number ≡ after_change change.change (objects number)))
+
+by_test : (b : Bool) (change : ObjectChange) (changes : List ObjectChange) (objects : ℕ → Option Object) (number : ℕ) → eqb change.number number ≡ b → IsChangedOrNot changes objects number
+    → IsChangedOrNot (change ∷ changes) objects number
+by_test true change changes objects number e rest =
+    inr (change, is_first change changes, eqb-true change.number number e, ap (λ t. cond t (after_change change.change (objects number)) (changed changes objects number)) e)
+by_test false change changes objects number e (inl none) = inl (
+  λ other held is. ⊎_elim (λ one. true≢false (sym (taken_true change.number number (ap (λ (c : ObjectChange). c.number) one ∙ is)) ∙ e)) (λ later. none.0 other later is) (first_or_later change other changes held),
+  ap (λ t. cond t (after_change change.change (objects number)) (changed changes objects number)) e ∙ none.1,
+)
+  where
+    taken_true : (a b : ℕ) → a ≡ b → eqb a b ≡ true
+    taken_true a b same = eq-eqb a b same
+by_test false change changes objects number e (inr (other, held, is, now)) =
+    inr (other, is_later change other changes held, is, ap (λ t. cond t (after_change change.change (objects number)) (changed changes objects number)) e ∙ now)
+
+pub changed_or_not : (changes : List ObjectChange) (objects : ℕ → Option Object) (number : ℕ) → IsChangedOrNot changes objects number
+changed_or_not [] objects number = inl (λ change held is. nothing_in change held, refl)
+changed_or_not (change ∷ changes) objects number = by_test (eqb change.number number) change changes objects number refl (changed_or_not changes objects number)
+
+-- ---- writes
+
+-- a volume that no write names is as it was
+pub unwritten : (volume : PlainVolume) (writes : List Write) → ((write : Write) → Contains writes write → write.volume ≢ volume.name) → after_writes volume writes ≡ volume
+unwritten volume [] none = refl
+unwritten volume (write ∷ writes) none =
+    ap (λ (v : PlainVolume). after_writes v writes) (passed_by volume write (same volume.name write.volume) refl (none write (is_first write writes)))
+    ∙ unwritten volume writes (λ other held. none other (is_later write other writes held))
+  where
+    passed_by : (v : PlainVolume) (w : Write) (b : Bool) → same v.name w.volume ≡ b → w.volume ≢ v.name → volume_after w v ≡ v
+    passed_by v w true e apart = absurd (apart (sym (same_is v.name w.volume e)))
+    passed_by v w false e apart = ap (λ t. cond t (record v { bytes = with_bytes w.offset w.bytes v.bytes }) v) e
+
+-- ---- rows
+
+-- no object is behind the last of a set
+pub none_behind : (stored : Contents) (birth : ℕ) (set : ObjectSet) (objects : ℕ → Option Object) (own : List Block) (blocks : ℕ → List Block) (number : ℕ) → AreObjects stored birth set objects own blocks
+    → set.objects ≤ number → objects number ≡ None
+none_behind stored birth set objects own blocks number are le =
+    (subst (λ (node : Dnode). IsObject stored (birth_of are.dnodes.births number) node (objects number) (blocks number)) (are.dnodes.behind number le) (are.each number)).0
+
+-- an object that is there is not behind it
+pub some_within : (stored : Contents) (birth : ℕ) (set : ObjectSet) (objects : ℕ → Option Object) (own : List Block) (blocks : ℕ → List Block) (number : ℕ) (there : Object)
+    → AreObjects stored birth set objects own blocks → objects number ≡ Some there → number < set.objects
+some_within stored birth set objects own blocks number there are is = elim (cases_lt number set.objects) [
+  | inl lt ↦ lt
+  | inr ge ↦ let clash : None ≡ Some there = sym (none_behind stored birth set objects own blocks number are ge) ∙ is in absurd cc
+]
+
+-- ---- the volume of an object
+
+abbrev pub no_volume : PlainVolume
+no_volume = record { name = []; bytes = []; block_size = 0; group = 0; kind = Volume }
+
+abbrev pub look : List DirectoryRow → List PlainVolume → ℕ → PlainVolume
+look [] volumes number = no_volume
+look (row ∷ rows) [] number = no_volume
+look (row ∷ rows) (volume ∷ volumes) number = cond (eqb row.object number) volume (look rows volumes number)
+
+map_same : {X Y : Type 0} (f h : X → Y) (xs : List X) → ((x : X) → Contains xs x → f x ≡ h x) → map f xs ≡ map h xs
+map_same f h [] same = refl
+map_same f h (x ∷ xs) same = λ i. same x (is_first x xs) i ∷ map_same f h xs (λ y held. same y (is_later x y xs held)) i
+
+-- behind the first row others have other objects
+passed_first : (first : DirectoryRow) (rows : List DirectoryRow) (volume : PlainVolume) (volumes : List PlainVolume) (row : DirectoryRow) → AreApart (first ∷ rows) → Contains rows row
+    → look (first ∷ rows) (volume ∷ volumes) row.object ≡ look rows volumes row.object
+passed_first first rows volume volumes row apart later =
+    passed first.object row.object volume (look rows volumes row.object)
+    (All-contains (λ (other : DirectoryRow). first.object ≢ other.object) rows row (pairs_head (λ (a b : DirectoryRow). a.object ≢ b.object) first rows apart) later)
+
+pub looked_up : (R : DirectoryRow → PlainVolume → Type 0) (rows : List DirectoryRow) (volumes : List PlainVolume) → AreApart rows → AllZip R rows volumes
+    → (row : DirectoryRow) → Contains rows row → R row (look rows volumes row.object)
+looked_up R [] volumes apart all row held = absurd (nothing_in row held)
+looked_up R (first ∷ rows) [] apart all row held = absurd all
+looked_up R (first ∷ rows) (volume ∷ volumes) apart all row held = elim (first_or_later first row rows held) [
+  | inl one ↦ subst (λ (r : DirectoryRow). R r (look (first ∷ rows) (volume ∷ volumes) r.object)) one
+      (subst (R first) (sym (taken first.object first.object volume (look rows volumes first.object) refl)) all.0)
+  | inr later ↦ subst (R row) (sym (passed_first first rows volume volumes row apart later))
+      (looked_up R rows volumes (pairs_tail (λ (a b : DirectoryRow). a.object ≢ b.object) first rows apart) all.1 row later)
+]
+
+pub looked_all : (R : DirectoryRow → PlainVolume → Type 0) (rows : List DirectoryRow) (volumes : List PlainVolume) → AreApart rows → AllZip R rows volumes
+    → volumes ≡ map (λ row. look rows volumes row.object) rows
+looked_all R [] [] apart all = refl
+looked_all R [] (volume ∷ volumes) apart all = absurd all
+looked_all R (first ∷ rows) [] apart all = absurd all
+looked_all R (first ∷ rows) (volume ∷ volumes) apart all =
+    let rest = looked_all R rows volumes (pairs_tail (λ (a b : DirectoryRow). a.object ≢ b.object) first rows apart) all.1 in
+    let same = map_same (λ (row : DirectoryRow). look (first ∷ rows) (volume ∷ volumes) row.object) (λ row. look rows volumes row.object) rows
+    (λ row later. passed_first first rows volume volumes row apart later) in
+    λ i. sym (taken first.object first.object volume (look rows volumes first.object) refl) i ∷ (rest ∙ sym same) i
+
+zip_from : {A B : Type 0} (S : A → B → Type 0) (h : A → B) (xs : List A) → ((x : A) → Contains xs x → S x (h x)) → AllZip S xs (map h xs)
+zip_from S h [] each = tt
+zip_from S h (x ∷ xs) each = (each x (is_first x xs), zip_from S h xs (λ y held. each y (is_later x y xs held)))
+
+-- ---- rows after writes
+
+module _ (stored later : Contents) (bound birth : ℕ) (objects : ℕ → Option Object) (writes : List Write) (rows : List DirectoryRow) (volumes : ℕ → PlainVolume) (changes : List ObjectChange)
+    (more : Extends stored later) (le : bound ≤ birth) (spelled : SpellsEach stored bound objects rows volumes)
+    (each : All (IsChangedFrom later birth objects volumes writes) changes)
+    (all : (object : ℕ) → IsWritten rows writes object → (change : ObjectChange) × Contains changes change × (change.number ≡ object)) where
+  change_is : (change : ObjectChange) → Contains changes change → IsChangedFrom later birth objects volumes writes change
+  change_is change held = All-contains (IsChangedFrom later birth objects volumes writes) changes change each held
+
+  pub others_stay : (number : ℕ) (there : Object) → objects number ≡ Some there → there.object_type ≢ 201 → changed changes objects number ≡ objects number
+  others_stay number there is other = elim (changed_or_not changes objects number) [
+    | inl none ↦ none.1
+    | inr one ↦
+        let has = change_is one.0 one.1 in
+        let one_there : Some has.there ≡ Some there = sym has.is_there ∙ (ap objects one.2 ∙ is) in
+        let same_object : has.there ≡ there = cc in
+        absurd (other (ap (λ (o : Object). o.object_type) (sym same_object) ∙ has.of_record.object_type))
+  ]
+
+  pub all_may : All (λ change. MayChange change.change (objects change.number)) changes
+  all_may = all_from (λ (change : ObjectChange). MayChange change.change (objects change.number)) changes (λ change held. (change_is change held).may)
+
+  -- a dead list is no record
+  dead_stays : (number : ℕ) → HasTable dead_list_kind (objects number) [] → HasTable dead_list_kind (changed changes objects number) []
+  dead_stays number dead =
+      let other : dead.there.object_type ≢ 201 = λ is. let clash : 202 ≡ 201 = sym dead.of_kind.0 ∙ is in omega (arith, clash) in
+      subst (λ (o : Option Object). HasTable dead_list_kind o []) (sym (others_stay number dead.there dead.is other)) dead
+
+  row_after : (row : DirectoryRow) → Contains rows row → SpellsDataset later birth (λ number. changed changes objects number) row (after_writes (volumes row.object) writes)
+  row_after row held =
+      let volume : PlainVolume = volumes row.object in
+      let is : SpellsDataset stored bound objects row volume = spelled row held in
+      elim (changed_or_not changes objects row.object) [
+        | inl none ↦
+            let same_volume : after_writes volume writes ≡ volume = unwritten volume writes (λ write within named.
+            let one = all row.object (any_of (λ (w : Write). IsRowOf rows w.volume row.object) writes write within (row, held, subst (IsNamed row.name) (sym named) is.name, refl)) in
+            none.0 one.0 one.1 one.2) in
+            subst (λ (v : PlainVolume). SpellsDataset later birth (λ number. changed changes objects number) row v) (sym same_volume) (record {
+              name = is.name;
+              behind = is.behind;
+              r = is.r;
+              has = subst (λ (o : Option Object). HasRecord o is.r) (sym none.1) is.has;
+              is = is.is;
+              bytes = volumes_stay stored later bound birth is.r.object_set is.r.size is.r.block_size volume.bytes le more is.bytes;
+              dead = dead_stays is.r.dead_list is.dead;
+            })
+        | inr one ↦
+            let to : ChangesRecord later birth objects row.object (after_writes volume writes) one.0.change =
+            subst (λ n. ChangesRecord later birth objects n (after_writes (volumes n) writes) one.0.change) one.2 (change_is one.0 one.1) in
+            record {
+              name = subst (IsNamed row.name) (sym (name_after_writes volume writes)) is.name;
+              behind = is.behind;
+              r = to.r;
+              has = subst (λ (o : Option Object). HasRecord o to.r) (sym one.3) to.has;
+              is = to.is;
+              bytes = to.bytes;
+              dead = dead_stays to.r.dead_list to.dead;
+            }
+      ]
+
+  pub rows_after : AllZip (SpellsDataset later birth (λ number. changed changes objects number)) rows (map (λ row. after_writes (volumes row.object) writes) rows)
+  rows_after = zip_from (SpellsDataset later birth (λ number. changed changes objects number)) (λ row. after_writes (volumes row.object) writes) rows row_after
+
+-- they are the volumes after the writes, in order
+pub rows_after_all : (stored later : Contents) (bound birth : ℕ) (objects : ℕ → Option Object) (writes : List Write) (rows : List DirectoryRow) (volumes : List PlainVolume) (changes : List ObjectChange)
+    → Extends stored later → bound ≤ birth → AreApart rows → AllZip (SpellsDataset stored bound objects) rows volumes
+    → All (IsChangedFrom later birth objects (look rows volumes) writes) changes
+    → ((object : ℕ) → IsWritten rows writes object → (change : ObjectChange) × Contains changes change × (change.number ≡ object))
+    → AllZip (SpellsDataset later birth (λ number. changed changes objects number)) rows (map (λ volume. after_writes volume writes) volumes)
+rows_after_all stored later bound birth objects writes rows volumes changes more le apart spelled each all =
+    let R : DirectoryRow → PlainVolume → Type 0 = SpellsDataset stored bound objects in
+    subst (AllZip (SpellsDataset later birth (λ number. changed changes objects number)) rows)
+    (sym (map-map (λ (volume : PlainVolume). after_writes volume writes) (λ (row : DirectoryRow). look rows volumes row.object) rows)
+    ∙ ap (map (λ (volume : PlainVolume). after_writes volume writes)) (sym (looked_all R rows volumes apart spelled)))
+    (rows_after stored later bound birth objects writes rows (look rows volumes) changes more le (looked_up R rows volumes apart spelled) each all)

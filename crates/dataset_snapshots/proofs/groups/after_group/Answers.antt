@@ -1,0 +1,86 @@
+use Rattle.std.proofs.Common.{◌≤◌, [], List, sym, subst, arith}
+use Rattle.std.specs.Prelude.{All, fold}
+use Rattle.std.proofs.lemmas.Result.{IfOk-weaker, IfErr-weaker}
+use Rattle.block_store.proofs.Steps.{steps_on, steps_read, true_before, true_after}
+use Rattle.dnode.specs.declared.object_set.ObjectSetKind.{ObjectSetKind}
+use Rattle.dnode_tree.proofs.Losses.{loss_in_plan}
+use Rattle.dnode_tree.proofs.Refusing.{ok_both, passed_on}
+use Rattle.objset.specs.declared.changes.ObjectChange.{ObjectChange}
+use Rattle.objset.specs.Changes.{MayChange, changed}
+use Rattle.pool_model.specs.declared.item.Action.{Action}
+use Rattle.pool_model.specs.declared.item.Write.{Write}
+use Rattle.pool_model.specs.Pools.{applied, written}
+use Rattle.pool_model.specs.Pools.{changed as pool_changed}
+use Rattle.dataset_snapshots.specs.Groups.{IsSetOf, SpellsAfter}
+use Rattle.dataset_snapshots.specs.Making.{AreGoodCreations}
+use Rattle.dataset_snapshots.proofs.Datasets.{are_of_root}
+use Rattle.dataset_snapshots.proofs.GroupRoot.{spells_root}
+use Rattle.dataset_snapshots.proofs.groups.after_group.Goals as goal
+
+pub returns-in_err-opened-clause-steps : goal.returns-in_err-opened-clause-steps
+returns-in_err-opened-clause-steps g c = steps_read _ _ _ c.in_err-opened.ensures.reads
+
+pub returns-in_err-opened-clause-known : goal.returns-in_err-opened-clause-known
+returns-in_err-opened-clause-known g c =
+    passed_on _ _ _ c.from_residual.ensures.1 (λ stored planned pool plans is honest good. loss_in_plan _ (c.in_err-opened.ensures.known stored pool plans.held is honest))
+
+pub returns-in_err-changes-clause-steps : goal.returns-in_err-changes-clause-steps
+returns-in_err-changes-clause-steps g c = steps_on _ _ _ _ (steps_read _ _ _ c.in_ok-opened.ensures.reads) c.changes_of.ensures.steps
+
+pub returns-in_err-changes-clause-known : goal.returns-in_err-changes-clause-known
+returns-in_err-changes-clause-known g c =
+    let first = c.in_ok-opened.ensures.reads in
+    passed_on _ _ _ c.from_residual-in_err-changes.ensures.1 (λ stored planned pool plans is honest good.
+    let before = true_before c.args.store.now c.open_group.new.store c.changes_of.new.store c.changes_of.ensures.steps.reads honest in
+    let after = true_after c.args.store.now c.open_group.new.store c.changes_of.new.store first.reads honest in
+    c.in_err-changes.ensures.known stored planned _ c.args.root.now pool _ (first.plans stored planned plans) is (omega (arith, c.in_ok-opened.ensures.early)) c.in_ok-opened.ensures.opened
+    (c.in_ok-opened.ensures.value stored pool plans.held is before) after (subst AreGoodCreations (sym c.actions.ensures) good))
+
+pub returns-clause-steps : goal.returns-clause-steps
+returns-clause-steps g c = steps_on _ _ _ _ (steps_on _ _ _ _ (steps_read _ _ _ c.in_ok-opened.ensures.reads) c.in_ok-changes.ensures.steps) c.plan_root.ensures.steps
+
+pub returns-clause-value : goal.returns-clause-value
+returns-clause-value g c =
+    let first = c.in_ok-opened.ensures.reads in
+    let second = c.in_ok-changes.ensures.steps in
+    let both = steps_on c.args.store.now c.open_group.new.store c.changes_of.new.store [] (steps_read c.args.store.now c.open_group.new.store [] first) second in
+    IfOk-weaker c.plan_root.result _ _ (λ root planned_root stored planned pool plans is honest.
+    let so_far = true_before c.args.store.now c.changes_of.new.store c.plan_root.new.store c.plan_root.ensures.steps.reads honest in
+    let le : c.args.root.now.birth ≤ c.args.group = omega (arith, c.in_ok-opened.ensures.early) in
+    let from = c.in_ok-opened.ensures.value stored pool plans.held is (true_before c.args.store.now c.open_group.new.store c.changes_of.new.store second.reads so_far) in
+    let changes = c.in_ok-changes.ensures.value stored planned _ c.args.root.now pool _ (first.plans stored planned plans) is le c.in_ok-opened.ensures.opened from
+    (true_after c.args.store.now c.open_group.new.store c.changes_of.new.store first.reads so_far) in
+    let are = are_of_root stored _ c.args.root.now pool c.in_ok-opened.opened.set is from.set in
+    let made = planned_root.0 stored changes.0 c.args.root.now.birth is.objects is.own is.blocks changes.1 are le
+    (true_after c.args.store.now c.changes_of.new.store c.plan_root.new.store both.reads honest) in
+    let list : List ObjectChange = c.in_ok-changes.changes.items in
+    let of_list : IsSetOf made.0 c.args.group root c.in_ok-opened.opened.set.kind (changed list is.objects) =
+    subst (λ (cs : List ObjectChange). IsSetOf made.0 c.args.group root c.in_ok-opened.opened.set.kind (changed cs is.objects)) c.deref.ensures.value made.3 in
+    let set = subst (λ (kind : ObjectSetKind). IsSetOf made.0 c.args.group root kind (changed list is.objects)) c.in_ok-opened.ensures.kind of_list in
+    let of_writes = subst (λ (ws : List Write). SpellsAfter changes.0 c.args.group is.objects list (fold (λ p a. pool_changed c.args.group p a.change) (fold written pool ws) c.actions.result.now))
+    c.writes.ensures changes.3 in
+    let of_items = subst (λ (actions : List Action). SpellsAfter changes.0 c.args.group is.objects list
+    (fold (λ p a. pool_changed c.args.group p a.change) (fold written pool c.args.items.now.writes) actions)) c.actions.ensures of_writes in
+    let spells = spells_root changes.0 made.0 c.args.group root is.objects list (applied c.args.group pool c.args.items.now) of_items made.2 set planned_root.1 in (
+      made.0,
+      made.1,
+      λ block bytes known. made.2 block bytes (changes.2 block bytes known),
+      spells.0,
+      spells.1,
+    )) (ok_both c.plan_root.result _ _ c.plan_root.ensures.value c.plan_root.ensures.born)
+
+pub returns-clause-known : goal.returns-clause-known
+returns-clause-known g c =
+    let first = c.in_ok-opened.ensures.reads in
+    let second = c.in_ok-changes.ensures.steps in
+    let both = steps_on c.args.store.now c.open_group.new.store c.changes_of.new.store [] (steps_read c.args.store.now c.open_group.new.store [] first) second in
+    IfErr-weaker c.plan_root.result _ _ (λ refusal why stored planned pool plans is honest good.
+    let so_far = true_before c.args.store.now c.changes_of.new.store c.plan_root.new.store c.plan_root.ensures.steps.reads honest in
+    let le : c.args.root.now.birth ≤ c.args.group = omega (arith, c.in_ok-opened.ensures.early) in
+    let from = c.in_ok-opened.ensures.value stored pool plans.held is (true_before c.args.store.now c.open_group.new.store c.changes_of.new.store second.reads so_far) in
+    let changes = c.in_ok-changes.ensures.value stored planned _ c.args.root.now pool _ (first.plans stored planned plans) is le c.in_ok-opened.ensures.opened from
+    (true_after c.args.store.now c.open_group.new.store c.changes_of.new.store first.reads so_far) in
+    let are = are_of_root stored _ c.args.root.now pool c.in_ok-opened.opened.set is from.set in
+    why stored changes.0 c.args.root.now.birth is.objects is.own is.blocks changes.1 are le
+    (true_after c.args.store.now c.changes_of.new.store c.plan_root.new.store both.reads honest)
+    (subst (All (λ (change : ObjectChange). MayChange change.change (is.objects change.number))) (sym c.deref.ensures.value) changes.3.may)) c.plan_root.ensures.known

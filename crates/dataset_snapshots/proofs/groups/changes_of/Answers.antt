@@ -1,0 +1,69 @@
+use Rattle.std.proofs.Common.{◌≡◌, ◌+◌, ◌∷◌, [], ℕ, zero, suc, List, length, max, refl, sym, ap, subst, ◌∙◌, arith}
+use Rattle.std.specs.Prelude.{fold}
+use Rattle.std.proofs.lemmas.List.{append-nil, length-append}
+use Rattle.std.proofs.lemmas.Result.{IfOk-weaker}
+use Rattle.block_store.proofs.Steps.{steps_on, true_before, true_after}
+use Rattle.dnode_tree.proofs.Refusing.{passed_on}
+use Rattle.meta_objset.specs.declared.directory.DirectoryRow.{DirectoryRow}
+use Rattle.objset.specs.declared.changes.ObjectChange.{ObjectChange}
+use Rattle.pool_model.specs.Pools.{written}
+use Rattle.pool_model.specs.Pools.{changed as pool_changed}
+use Rattle.dataset_snapshots.specs.Making.{GoesOn}
+use Rattle.dataset_snapshots.specs.declared.making.Making.{Making}
+use Rattle.dataset_snapshots.specs.Pools.{SpellsDataset}
+use Rattle.dataset_snapshots.proofs.ChangedRows.{look, looked_up}
+use Rattle.dataset_snapshots.proofs.GroupRoot.{making_begins, ready}
+use Rattle.dataset_snapshots.proofs.groups.changes_of.Goals as goal
+
+-- a list that isn't longer has no more
+none_more : {X : Type 0} (made : List X) (n : ℕ) → n + length made ≡ n → made ≡ []
+none_more [] n same = refl
+none_more (x ∷ xs) n same = absurd (omega (arith, same))
+
+idle : (old new : Making) (count : ℕ) → GoesOn old new → length old.changes.items ≡ count → length new.changes.items ≡ count → new.directory ≡ old.directory
+idle old new count goes was now =
+    goes.idle (none_more goes.made count (omega (arith, was, now, ap length goes.are, length-append old.changes.items goes.made)))
+
+pub returns-in_err-changes-clause-known : goal.returns-in_err-changes-clause-known
+returns-in_err-changes-clause-known g c =
+    passed_on _ _ _ c.from_residual.ensures.1 (λ stored planned birth root pool writes plans is le opens from honest good.
+    c.in_err-changes.ensures.known stored planned root.birth is.objects writes is.rows (look is.rows pool.volumes) plans le honest from.read
+    (looked_up (SpellsDataset stored root.birth is.objects) is.rows pool.volumes is.apart is.volumes))
+
+pub make_all-requires-clause-ready : goal.make_all-requires-clause-ready
+make_all-requires-clause-ready g c =
+    ready c.requires.opened.0 c.args.opened c.in_ok-changes.changes.items (record { directory = c.args.opened.directory; changes = c.in_ok-changes.changes; next = c.max-next.result }) c.max-next.result
+    c.requires.opened.1 c.in_ok-changes.ensures.numbers c.in_ok-changes.ensures.good refl refl c.max-next.ensures
+
+pub returns-in_err-make_all-clause-steps : goal.returns-in_err-make_all-clause-steps
+returns-in_err-make_all-clause-steps g c = steps_on _ _ _ _ c.in_ok-changes.ensures.steps c.make_all.ensures.steps
+
+pub returns-in_err-make_all-clause-known : goal.returns-in_err-make_all-clause-known
+returns-in_err-make_all-clause-known g c =
+    passed_on _ _ _ c.from_residual-in_err-make_all.ensures.1 (λ stored planned birth root pool writes plans is le opens from honest good.
+    let placed = c.in_ok-changes.ensures.value stored planned root.birth is.objects writes is.rows (look is.rows pool.volumes) plans le
+    (true_before c.args.store.now c.place_written.new.store c.make_all.new.store c.make_all.ensures.steps.reads honest) from.read
+    (looked_up (SpellsDataset stored root.birth is.objects) is.rows pool.volumes is.apart is.volumes) in
+    c.in_err-make_all.ensures.known good stored placed.0 placed.1
+    (true_after c.args.store.now c.place_written.new.store c.make_all.new.store c.in_ok-changes.ensures.steps.reads honest))
+
+pub returns-clause-steps : goal.returns-clause-steps
+returns-clause-steps g c = steps_on _ _ _ _ c.in_ok-changes.ensures.steps c.make_all.ensures.steps
+
+pub returns-clause-value : goal.returns-clause-value
+returns-clause-value g c =
+    let making : Making = record { directory = c.args.opened.directory; changes = c.in_ok-changes.changes; next = c.max-next.result } in
+    IfOk-weaker c.with_directory.result _ _ (λ changes after stored planned birth root pool writes plans is le opens from honest.
+    let looked = looked_up (SpellsDataset stored root.birth is.objects) is.rows pool.volumes is.apart is.volumes in
+    let placed = c.in_ok-changes.ensures.value stored planned root.birth is.objects writes is.rows (look is.rows pool.volumes) plans le
+    (true_before c.args.store.now c.place_written.new.store c.make_all.new.store c.make_all.ensures.steps.reads honest) from.read looked in
+    let begins = making_begins stored placed.0 birth c.args.group root pool writes is c.args.opened making (λ block bytes known. placed.2 block bytes (plans.kept block bytes known)) le opens from placed.3
+    c.in_ok-changes.ensures.numbers refl (omega (arith, c.max-next.ensures)) in
+    let made = c.in_ok-make_all.ensures.value stored placed.0 is.objects (fold written pool writes) placed.1 begins
+    (true_after c.args.store.now c.place_written.new.store c.make_all.new.store c.in_ok-changes.ensures.steps.reads honest) in (
+      made.0,
+      made.1,
+      λ block bytes known. made.2 block bytes (placed.2 block bytes known),
+      after made.0 c.args.group is.objects (fold (λ p a. pool_changed c.args.group p a.change) (fold written pool writes) c.args.actions.now) is.rows is.directory made.3
+          (λ same. idle making c.make_all.new.self c.len-count.result c.in_ok-make_all.ensures.goes_on (omega (arith, c.len-count.ensures, c.in_ok-changes.changes.ok.0)) same ∙ from.directory),
+    )) c.with_directory.ensures.value

@@ -1,0 +1,88 @@
+use Rattle.std.proofs.Common.{◌≡◌, ℕ, List, map, ⊎_elim, sym, subst, ◌∙◌}
+use Rattle.std.specs.Prelude.{All, Contains}
+use Rattle.std.specs.List.{AllZip}
+use Rattle.std.specs.List.Sorted.{IsStrictlyIncreasing}
+use Rattle.block_store.proofs.Steps.{reads_on}
+use Rattle.dnode_tree.proofs.FurtherReads.{true_before, true_after}
+use Rattle.dnode_tree.proofs.Refusing.{passed_on}
+use Rattle.meta_objset.specs.declared.directory.DirectoryRow.{DirectoryRow}
+use Rattle.dataset_snapshots.specs.declared.writing.WrittenVolume.{WrittenVolume}
+use Rattle.dataset_snapshots.specs.Pools.{SpellsDataset}
+use Rattle.dataset_snapshots.specs.Writing.{HasRow, IsReadFrom}
+use Rattle.dataset_snapshots.proofs.ChangedRows.{all_from}
+use Rattle.dataset_snapshots.proofs.Datasets.{are_of_root}
+use Rattle.dataset_snapshots.proofs.groups.open_group.Goals as goal
+
+pub returns-in_err-set-clause-known : goal.returns-in_err-set-clause-known
+returns-in_err-set-clause-known g c =
+    passed_on _ _ _ c.from_residual.ensures.1 (λ stored pool held is honest. c.in_err-set.ensures.known stored is.set held is.is_set is.kind honest)
+
+pub returns-in_err-directory-clause-reads : goal.returns-in_err-directory-clause-reads
+returns-in_err-directory-clause-reads g c = reads_on _ _ _ _ c.in_ok-set.ensures.reads c.in_err-directory.ensures.reads
+
+pub returns-in_err-directory-clause-known : goal.returns-in_err-directory-clause-known
+returns-in_err-directory-clause-known g c =
+    let first = c.in_ok-set.ensures.reads in
+    let second = c.in_err-directory.ensures.reads in
+    passed_on _ _ _ c.from_residual-in_err-directory.ensures.1 (λ stored pool held is honest.
+    let are = are_of_root stored _ _ pool _ is (c.in_ok-set.ensures.value stored is.set held is.is_set (true_before _ _ _ _ first second honest)) in
+    ⊎_elim (λ loss. loss) (λ bad. absurd (bad.1 is.rows is.directory))
+    (c.in_err-directory.ensures.known stored is.objects is.own is.blocks (first.keeps stored held) are (true_after _ _ _ _ first second honest)))
+
+pub returns-in_err-objects-clause-reads : goal.returns-in_err-objects-clause-reads
+returns-in_err-objects-clause-reads g c = reads_on _ _ _ _ c.in_ok-set.ensures.reads c.in_ok-directory.ensures.reads
+
+pub read_written-requires-clause-rows : goal.read_written-requires-clause-rows
+read_written-requires-clause-rows g c =
+    subst (All (λ object. (row : DirectoryRow) × HasRow c.in_ok-directory.directory object row)) (sym c.deref.ensures.value)
+    (all_from (λ object. (row : DirectoryRow) × HasRow c.in_ok-directory.directory object row) c.in_ok-objects.objects.items
+    (λ object held. let named = (c.in_ok-objects.ensures.objects object).0 held in let row = named.4 in (row.0, (row.1, row.3))))
+
+pub returns-in_err-written-clause-reads : goal.returns-in_err-written-clause-reads
+returns-in_err-written-clause-reads g c =
+    reads_on _ _ _ _ (reads_on _ _ _ _ c.in_ok-set.ensures.reads c.in_ok-directory.ensures.reads) c.in_err-written.ensures.reads
+
+pub returns-in_err-written-clause-known : goal.returns-in_err-written-clause-known
+returns-in_err-written-clause-known g c =
+    let first = c.in_ok-set.ensures.reads in
+    let second = c.in_ok-directory.ensures.reads in
+    let both = reads_on _ _ _ _ first second in
+    let third = c.in_err-written.ensures.reads in
+    passed_on _ _ _ c.from_residual-in_err-written.ensures.1 (λ stored pool held is honest.
+    let before = true_before _ _ _ _ both third honest in
+    let are = are_of_root stored _ _ pool _ is (c.in_ok-set.ensures.value stored is.set held is.is_set (true_before _ _ _ _ first second before)) in
+    let same = c.in_ok-directory.ensures.one stored is.objects is.own is.blocks (first.keeps stored held) are (true_after _ _ _ _ first second before) is.rows is.directory in
+    c.in_err-written.ensures.known stored is.objects is.own is.blocks pool.volumes (both.keeps stored held) are
+    (subst (λ (rows : List DirectoryRow). AllZip (SpellsDataset stored c.args.root.now.birth is.objects) rows pool.volumes) (sym same) is.volumes) (true_after _ _ _ _ both third honest))
+
+pub returns-clause-reads : goal.returns-clause-reads
+returns-clause-reads g c =
+    reads_on _ _ _ _ (reads_on _ _ _ _ c.in_ok-set.ensures.reads c.in_ok-directory.ensures.reads) c.in_ok-written.ensures.reads
+
+pub returns-clause-opened : goal.returns-clause-opened
+returns-clause-opened g c =
+    let objects : List ℕ = c.in_ok-objects.objects.items in
+    let are : map (λ (w : WrittenVolume). w.dataset.object) c.in_ok-written.written.items ≡ objects = c.in_ok-written.ensures.objects ∙ c.deref.ensures.value in
+    record {
+      set = c.in_ok-set.ensures.fits;
+      once = subst IsStrictlyIncreasing (sym are) c.in_ok-objects.ensures.once;
+      each = c.in_ok-written.ensures.fits;
+      all = λ object named. subst (λ (ns : List ℕ). Contains ns object) (sym are) ((c.in_ok-objects.ensures.objects object).1 named);
+    }
+
+pub returns-clause-value : goal.returns-clause-value
+returns-clause-value g c = λ stored pool held is honest.
+    let first = c.in_ok-set.ensures.reads in
+    let second = c.in_ok-directory.ensures.reads in
+    let both = reads_on _ _ _ _ first second in
+    let third = c.in_ok-written.ensures.reads in
+    let before = true_before _ _ _ _ both third honest in
+    let set = c.in_ok-set.ensures.value stored is.set held is.is_set (true_before _ _ _ _ first second before) in
+    let are = are_of_root stored _ _ pool _ is set in
+    let same = c.in_ok-directory.ensures.one stored is.objects is.own is.blocks (first.keeps stored held) are (true_after _ _ _ _ first second before) is.rows is.directory in
+    record {
+      set = set;
+      directory = same;
+      read = subst (λ (rows : List DirectoryRow). All (IsReadFrom stored c.args.root.now.birth is.objects c.args.writes.now rows) c.in_ok-written.written.items) same
+          (c.in_ok-written.ensures.value stored is.objects is.own is.blocks (both.keeps stored held) are (true_after _ _ _ _ both third honest));
+    }

@@ -1,0 +1,51 @@
+use Rattle.std.proofs.Common.{[], ℕ, List, All, inl, inr, ⊎_elim, subst, arith}
+use Rattle.std.specs.Prelude.{Any}
+use Rattle.std.proofs.lemmas.Result.{IfOk-weaker, IfErr-weaker}
+use Rattle.block_store.proofs.Steps.{no_room_now, no_room_on, steps_on, true_before}
+use Rattle.dnode_tree.proofs.Refusing.{ok_both, passed_on}
+use Rattle.objset.proofs.Kept.{objects_stand}
+use Rattle.objset.specs.Changes.{changed}
+use Rattle.dataset_snapshots.proofs.groups.plan_root.Goals as goal
+
+all_or_none : {X : Type 0} (P : X → Type 0) (xs : List X) → All P xs → Any (λ x. ¬ P x) xs → ⊥
+all_or_none P xs all (k, x, within, at, none) = none (subst P at (all k x within))
+
+pub returns-in_err-rewrite-clause-known : goal.returns-in_err-rewrite-clause-known
+returns-in_err-rewrite-clause-known g c =
+    passed_on _ _ _ c.from_residual.ensures.1 (λ stored planned bound objects own blocks plans are le honest may.
+    ⊎_elim (λ why. why) (λ bad. absurd (all_or_none _ _ may bad.1)) (c.in_err-rewrite.ensures.known stored planned bound objects own blocks plans are le honest))
+
+pub returns-clause-steps : goal.returns-clause-steps
+returns-clause-steps g c = steps_on _ _ _ _ c.in_ok-rewrite.ensures.steps c.plan_set.ensures.steps
+
+pub returns-clause-value : goal.returns-clause-value
+returns-clause-value g c =
+    IfOk-weaker c.plan_set.result _ _
+    (λ root both stored planned bound objects own blocks plans are le honest.
+    let one = c.in_ok-rewrite.ensures.changed stored planned bound objects own blocks plans are le
+    (true_before c.args.store.now c.change.new.store c.plan_set.new.store c.plan_set.ensures.steps.reads honest) in
+    let two = both.0 stored one.1 one.2 in (
+      two.0,
+      two.1,
+      λ block bytes known. two.2.kept block bytes (one.3.kept block bytes known),
+      record {
+        set = c.in_ok-rewrite.rewrite.set;
+        is_set = two.3;
+        kind_is = c.in_ok-rewrite.ensures.kind;
+        own = one.3.own_after;
+        blocks = one.3.after;
+        are = objects_stand one.1 two.0 c.args.group root.birth c.in_ok-rewrite.rewrite.set (changed c.args.changes.now objects) one.3.own_after one.3.after (omega (arith, both.1))
+            (λ block known_bytes held known. two.2.kept block known_bytes known) one.3.are;
+      },
+    ))
+    (ok_both c.plan_set.result _ _ c.plan_set.ensures.planned c.plan_set.ensures.birth)
+
+pub returns-clause-no_room : goal.returns-clause-no_room
+returns-clause-no_room g c =
+    IfErr-weaker c.plan_set.result _ _
+    (λ refusal no is. inr (no_room_on c.args.store.now c.change.new.store c.plan_set.new.store [] 2 3 c.in_ok-rewrite.ensures.steps
+    (no_room_now c.change.new.store c.plan_set.new.store [] 2 3 (no is))))
+    c.plan_set.ensures.no_room
+
+pub returns-clause-known : goal.returns-clause-known
+returns-clause-known g c = IfErr-weaker c.plan_set.result _ _ (λ refusal room stored planned bound objects own blocks plans are le honest may. inl room) c.plan_set.ensures.refused

@@ -1,0 +1,64 @@
+use Rattle.std.proofs.Common.{◌≡◌, ℕ, ◌+◌, ◌≤◌, Bool, true, false, [], Option, Some, None, inl, refl, sym, ◌∙◌, arith}
+use Rattle.std.specs.Prelude.{is_some, IfSome}
+use Rattle.std.proofs.lemmas.Result.{IfErr-weaker, IfOk-weaker}
+use Rattle.block_store.proofs.Steps.{steps_none}
+use Rattle.dnode_tree.proofs.Refusing.{passed_on}
+use Rattle.dataset_snapshots.specs.Making.{numbers_end}
+use Rattle.dataset_snapshots.proofs.MakingSteps.{goes_on_after, ready_after, volume_made, volume_passed}
+use Rattle.dataset_snapshots.proofs.making.Making.make.Goals as goal
+
+is_none : (found : Option ℕ) (test : Bool) → test ≡ is_some found → test ≡ false → found ≡ None
+is_none None test is off = refl
+is_none (Some object) test is off = let clash : true ≡ false = sym is ∙ off in absurd cc
+
+is_there : (found : Option ℕ) (test : Bool) (P : ℕ → Type 0) → test ≡ is_some found → test ≡ true → IfSome found P → (object : ℕ) × P object
+is_there None test P is on there = let clash : false ≡ true = sym is ∙ on in absurd cc
+is_there (Some object) test P is on there = (object, there)
+
+pub returns-in_err-new-clause-steps : goal.returns-in_err-new-clause-steps
+returns-in_err-new-clause-steps g c = steps_none c.args.store.now []
+
+pub returns-then-is_some-clause-steps : goal.returns-then-is_some-clause-steps
+returns-then-is_some-clause-steps g c = steps_none c.args.store.now []
+
+pub returns-then-is_some-clause-value : goal.returns-then-is_some-clause-value
+returns-then-is_some-clause-value g c = λ stored planned plans honest.
+    let there = is_there c.get.result _ _ c.is_some.ensures c.if-is_some.true c.get.ensures.found in (
+      planned,
+      plans,
+      λ block bytes known. known,
+      λ objects pool spells. volume_passed c.args.self.now c.args.change.now c.in_ok-new.new c.args.group there.0 planned objects pool c.in_ok-new.ensures.is there.1 spells,
+    )
+
+pub returns-then-self-gt-NUMBERS_END-clause-steps : goal.returns-then-self-gt-NUMBERS_END-clause-steps
+returns-then-self-gt-NUMBERS_END-clause-steps g c = steps_none c.args.store.now []
+
+pub returns-in_err-object_set-clause-no_room : goal.returns-in_err-object_set-clause-no_room
+returns-in_err-object_set-clause-no_room g c = passed_on _ _ _ c.from_residual-in_err-object_set.ensures.1 (λ is. inl (c.in_err-object_set.ensures.no_room is))
+
+pub returns-clause-ready : goal.returns-clause-ready
+returns-clause-ready g c =
+    let left : c.args.self.now.next + 2 ≤ numbers_end = omega arith in
+    IfOk-weaker c.add.result _ _ (λ done added. ready_after c.args.self.now c.add.new.self c.in_ok-new.new.name c.record-dataset.result c.requires.ready added left) c.add.ensures.added
+
+pub returns-clause-goes_on : goal.returns-clause-goes_on
+returns-clause-goes_on g c =
+    IfOk-weaker c.add.result _ _ (λ done added. goes_on_after c.args.self.now c.add.new.self c.in_ok-new.new.name c.record-dataset.result c.requires.ready added) c.add.ensures.added
+
+pub returns-clause-value : goal.returns-clause-value
+returns-clause-value g c =
+    let lacks = c.get.ensures.none (is_none _ _ c.is_some.ensures c.if-is_some.false) in
+    IfOk-weaker c.add.result _ _
+    (λ done added stored planned plans honest.
+    let is = c.in_ok-object_set.ensures.value stored planned plans honest in (
+      is.0,
+      is.1,
+      is.2,
+      λ objects pool spells.
+          volume_made c.args.self.now c.add.new.self c.args.change.now c.in_ok-new.new c.args.group c.in_ok-object_set.object_set c.record-dataset.result planned is.0 objects pool
+          c.in_ok-new.ensures.is c.requires.ready lacks added c.record-dataset.ensures.value is.2 is.3 spells,
+    ))
+    c.add.ensures.added
+
+pub returns-clause-known : goal.returns-clause-known
+returns-clause-known g c = IfErr-weaker c.add.result _ _ (λ refusal memory good stored planned plans honest. inl (inl memory)) c.add.ensures.refused

@@ -1,0 +1,32 @@
+use Rattle.std.proofs.Common.{sym, subst}
+use Rattle.std.specs.Prelude.{replicate}
+use Rattle.block_pointer.specs.declared.block.Block.{Block}
+use Rattle.dnode_tree.proofs.Refusing.{passed_on}
+use Rattle.volume.specs.Volume.{IsVolume}
+use Rattle.dataset_snapshots.proofs.MakingRefusals.{not_config}
+use Rattle.dataset_snapshots.proofs.new_volume.NewVolume.planned.Goals as goal
+
+pub returns-in_err-volume-clause-cause : goal.returns-in_err-volume-clause-cause
+returns-in_err-volume-clause-cause g c =
+    let refused = c.in_err-volume.ensures.refused in
+    passed_on _ _ _ c.from_residual.ensures.1 (not_config _ _ _ _ _ refused.0 _ refused.1 refused.2)
+
+pub returns-in_err-volume-clause-no_room : goal.returns-in_err-volume-clause-no_room
+returns-in_err-volume-clause-no_room g c = passed_on _ _ _ c.from_residual.ensures.1 (λ is. c.in_err-volume.ensures.no_room is)
+
+pub returns-in_err-volume-clause-known : goal.returns-in_err-volume-clause-known
+returns-in_err-volume-clause-known g c =
+    passed_on _ _ _ c.from_residual.ensures.1 (λ stored planned plans honest. c.in_err-volume.ensures.known stored planned plans honest)
+
+pub returns-clause-value : goal.returns-clause-value
+returns-clause-value g c = λ stored planned plans honest.
+    let size = c.args.self.now.size in
+    let is = c.in_ok-volume.ensures.value stored planned plans honest in
+    let shape = c.in_ok-volume.ensures.shape in (
+      is.0,
+      is.1,
+      is.2,
+      subst (λ (b : Block). IsVolume is.0 c.args.group b size c.args.self.now.block_size (replicate size 0)) (sym c.block.ensures)
+          (subst (λ n. IsVolume is.0 c.args.group c.in_ok-volume.volume.block n c.args.self.now.block_size (replicate size 0)) shape.0
+          (subst (λ n. IsVolume is.0 c.args.group c.in_ok-volume.volume.block c.in_ok-volume.volume.size n (replicate size 0)) shape.1 is.3)),
+    )

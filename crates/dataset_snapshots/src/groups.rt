@@ -1,0 +1,274 @@
+//! The root of a pool after a group.
+ghost use Rattle.std.specs.Prelude.{◌≡◌, ◌⊎◌, ◌≤◌, ◌<◌, ◌-◌, ◌*◌, ◌^◌, ℕ, List, [], Option, Some, All, AllPairs, IfOk, IfErr, OnOk, ◌∷◌, fold, length};
+ghost use Rattle.block_pointer.specs.Block.{FitsBlock};
+ghost use Rattle.block_pointer.specs.Copies.{dvas};
+ghost use Rattle.block_pointer.specs.declared.block.Block.{Block};
+ghost use Rattle.block_store.specs.Blocks.{Contents, Extends};
+ghost use Rattle.block_store.specs.Losses.{IsForLoss};
+ghost use Rattle.block_store.specs.Plans.{Plans};
+ghost use Rattle.block_store.specs.Steps.{OnlyReadsAndPlans, OnlyReadsBlocks, AnswersAreTrue, HasNoRoomFor};
+ghost use Rattle.block_store.specs.Store.{Holds};
+ghost use Rattle.dnode.specs.ObjectSet.{FitsObjectSet};
+ghost use Rattle.dnode.specs.declared.object_set.ObjectSetKind.TheVariants as sets;
+ghost use Rattle.dnode_tree.specs.Writes.{IsForRoom};
+ghost use Rattle.meta_objset.specs.declared.directory.DirectoryRow.{DirectoryRow};
+ghost use Rattle.meta_objset.specs.Reading.{HasDirectory, directory_kind};
+ghost use Rattle.object_table.specs.Tables.{IsOfKind};
+ghost use Rattle.objset.specs.Changes.{HasNoRoom, IsGoodChange, MayChange, after_change, changed};
+ghost use Rattle.objset.specs.Objects.{Object, AreObjects};
+ghost use Rattle.pool_model.specs.declared.item.Write.{Write};
+ghost use Rattle.pool_model.specs.Pools.{PlainPool, applied, written};
+ghost use Rattle.pool_model.specs.Pools.{changed as pool_changed};
+ghost use Rattle.vdev_label.specs.Plain.{PlainVdev};
+ghost use Rattle.dataset_snapshots.specs.Creating.{HasFirstTables, copies_of_meta};
+ghost use Rattle.dataset_snapshots.specs.Groups.{IsOpened, IsOpenedFrom, IsSetOf, SpellsAfter};
+ghost use Rattle.dataset_snapshots.specs.Making.{AreGoodCreations, IsReady, SpellsMaking};
+ghost use Rattle.dataset_snapshots.specs.Pools.{SpellsPool};
+
+use crate::creating::COPIES;
+use crate::finding::read_meta;
+use crate::making::Making;
+use crate::writing::{WrittenVolume, place_written, read_written, written_objects};
+use block_pointer::Block;
+use block_store::{BlockStore, CopyCount, Refusal};
+use dnode::ObjectSet;
+use dnode_slots::plan_set;
+use meta_objset::{Directory, read_directory};
+use model_disk::Disk;
+use objset::ObjectChange;
+use pool_model::{Action, Write};
+use std::alloc::{AllocError, Global};
+use txg_pipeline::Pending;
+
+/// What a group is planned from: the meta object set, its directory, and the volumes that the group writes to.
+#[derive(Debug, Drop)]
+pub(crate) struct Opened {
+    pub set: ObjectSet,
+    pub directory: Directory,
+    pub written: Vec<WrittenVolume>,
+}
+
+/// The number of the directory's object.
+const DIRECTORY: u64 = 1;
+
+/// A directory of so many names has 2^46 bytes.
+const MOST_NAMES: usize = 1 << 40;
+
+/// The number of the first object behind the tables.
+const FIRST_OBJECT: u64 = 5;
+
+/// Plans the root of a pool after the items of the transaction group `group`: its writes, and then the volumes that it makes. `root`
+/// is the root of the group before. Each block that a write reaches is read, and then each of them is planned anew: so where
+/// one can't be read that is the answer, whether or not there is room. A volume without writes isn't looked at. All changes of
+/// the meta object set are planned at once; its own block is new in each group. `BadConfig` where a volume can't have its name or
+/// its sizes.
+///
+/// After an error blocks may be planned that no root has: begin another plan.
+pub fn after_group<D: Disk + Drop>(
+    root: &Block,
+    store: &mut BlockStore<D>,
+    alloc: Global,
+    group: u64,
+    items: &Pending,
+) -> Result<Block, Refusal>
+    requires born { 0 < group }
+    ensures steps { OnlyReadsAndPlans store.old store.new [] }
+    ensures fits { IfOk result FitsBlock }
+    ensures born { IfOk result (λ after. after.birth ≡ group) }
+    ensures copies { IfOk result (λ after. length (dvas after.copies) ≡ 3) }
+
+    // It spells the pool after the group, once the plan is stored, and has the other tables that there were.
+    ensures value { IfOk result (λ after. (stored planned : Contents) (pool : PlainPool)
+        → Plans store.old stored planned → (is : SpellsPool stored (group - 1) root.now pool)
+        → AnswersAreTrue store.old store.new
+        → (later : Contents) × Plans store.new stored later × Extends planned later
+        × (then : SpellsPool later group after (applied group pool items.now))
+        × ((vdevs : List PlainVdev) → HasFirstTables is.objects vdevs
+        → HasFirstTables then.objects vdevs)) }
+
+    // Over disks that answer truly, and where all may be made, only room is wanting, or disks.
+    ensures known { IfErr result (λ refusal. (stored planned : Contents) (pool : PlainPool)
+        → Plans store.old stored planned → SpellsPool stored (group - 1) root.now pool
+        → AnswersAreTrue store.old store.new → AreGoodCreations items.now.actions
+        → IsForRoom refusal ⊎ (refusal ≡ Refusal.DiskFault)) }
+{
+    let opened = open_group(root, store, alloc, group - 1, items.writes())?;
+    let set = opened.set;
+    let changes = changes_of(opened, store, alloc, group, items.actions())?;
+    plan_root(&set, store, alloc, &changes, group)
+}
+
+/// Reads what the group is planned from. The root was born in the transaction group `birth` or before.
+fn open_group<D: Disk + Drop>(
+    root: &Block,
+    store: &mut BlockStore<D>,
+    alloc: Global,
+    birth: u64,
+    writes: &[Write],
+) -> Result<Opened, Refusal>
+    ensures reads { OnlyReadsBlocks store.old store.new [] }
+    ensures opened { IfOk result (IsOpened writes.now) }
+    ensures kind { IfOk result (λ opened. opened.set.kind ≡ sets.Meta) }
+    ensures early { IfOk result (λ opened. root.now.birth ≤ birth) }
+    ensures value { IfOk result (λ opened. (stored : Contents) (pool : PlainPool)
+        → Holds store.old stored → (is : SpellsPool stored birth root.now pool)
+        → AnswersAreTrue store.old store.new
+        → IsOpenedFrom stored birth root.now pool is writes.now opened) }
+    ensures known { IfErr result (λ refusal. (stored : Contents) (pool : PlainPool)
+        → Holds store.old stored → SpellsPool stored birth root.now pool
+        → AnswersAreTrue store.old store.new → IsForLoss refusal) }
+{
+    let set = read_meta(root, store, alloc, birth, &[])?;
+    let directory = read_directory(&set, store, alloc, root.birth, &[])?;
+    let objects = written_objects(&directory, alloc, writes)?;
+    let written = read_written(&set, store, alloc, root.birth, &directory, &objects, writes)?;
+    Ok(Opened {
+        set,
+        directory,
+        written,
+    })
+}
+
+/// Plans the volumes after the group: the changes of the meta object set, in the order of their objects' numbers.
+fn changes_of<D: Disk + Drop>(
+    opened: Opened,
+    store: &mut BlockStore<D>,
+    alloc: Global,
+    group: u64,
+    actions: &[Action],
+) -> Result<Vec<ObjectChange>, Refusal>
+    requires born { 0 < group }
+    requires opened { (writes : List Write) × IsOpened writes opened }
+    ensures steps { OnlyReadsAndPlans store.old store.new [] }
+    ensures numbers { IfOk result (λ changes. All (λ change. (0 < change.number)
+        × (change.number < 32 * 128 ^ 5)) changes.items) }
+    ensures order { IfOk result (λ changes.
+        AllPairs (λ change later. change.number < later.number) changes.items) }
+    ensures good { IfOk result (λ changes. All (λ change. IsGoodChange change.change)
+        changes.items) }
+    ensures value { IfOk result (λ changes. (stored planned : Contents) (birth : ℕ)
+        (root : Block) (pool : PlainPool) (writes : List Write)
+        → Plans store.old stored planned → (is : SpellsPool stored birth root pool)
+        → root.birth ≤ group → IsOpened writes opened
+        → IsOpenedFrom stored birth root pool is writes opened
+        → AnswersAreTrue store.old store.new
+        → (later : Contents) × Plans store.new stored later × Extends planned later
+        × SpellsAfter later group is.objects changes.items
+        (fold (λ p a. pool_changed group p a.change) (fold written pool writes) actions.now)) }
+    ensures known { IfErr result (λ refusal. (stored planned : Contents) (birth : ℕ)
+        (root : Block) (pool : PlainPool) (writes : List Write)
+        → Plans store.old stored planned → (is : SpellsPool stored birth root pool)
+        → root.birth ≤ group → IsOpened writes opened
+        → IsOpenedFrom stored birth root pool is writes opened
+        → AnswersAreTrue store.old store.new → AreGoodCreations actions.now
+        → IsForRoom refusal ⊎ (refusal ≡ Refusal.DiskFault)) }
+{
+    let next = opened.set.objects.max(FIRST_OBJECT);
+    let changes = place_written(store, alloc, group, opened.set.objects, opened.written)?;
+    let count = changes.len();
+    let mut making = Making {
+        directory: opened.directory,
+        changes,
+        next,
+    };
+    making.make_all(store, alloc, group, actions)?;
+    with_directory(making, alloc, count)
+}
+
+/// The changes, and in front of them that of the directory where there are more of them than so many: where a volume was made.
+/// `NoMemory` is the only error, also where the directory would have 2^40 names.
+fn with_directory(making: Making, alloc: Global, count: usize) -> Result<Vec<ObjectChange>, Refusal>
+    requires ready { IsReady making }
+    ensures numbers { IfOk result (λ changes. All (λ change. (0 < change.number)
+        × (change.number < 32 * 128 ^ 5)) changes.items) }
+    ensures order { IfOk result (λ changes.
+        AllPairs (λ change later. change.number < later.number) changes.items) }
+    ensures good { IfOk result (λ changes. All (λ change. IsGoodChange change.change)
+        changes.items) }
+    ensures value { IfOk result (λ changes. (stored : Contents) (birth : ℕ)
+        (objects : ℕ → Option Object) (pool : PlainPool) (rows : List DirectoryRow)
+        → HasDirectory (objects 1) rows → SpellsMaking stored birth objects making pool
+        → (length making.changes.items ≡ count → making.directory ≡ rows)
+        → SpellsAfter stored birth objects changes.items pool) }
+    ensures refused { IfErr result (λ refusal. refusal ≡ Refusal.NoMemory) }
+{
+    let Making {
+        directory,
+        mut changes,
+        ..
+    } = making;
+    if changes.len() == count {
+        return Ok(changes);
+    }
+    let directory = directory_change(&directory, alloc)?;
+    put_first(&mut changes, directory)?;
+    Ok(changes)
+}
+
+/// Puts a change in front of others.
+fn put_first(changes: &mut Vec<ObjectChange>, change: ObjectChange) -> Result<(), AllocError>
+    ensures { OnOk result (changes.new.items ≡ change ∷ changes.old.items) }
+{
+    changes.insert(0, change)?;
+    Ok(())
+}
+
+/// The change that writes the directory anew.
+fn directory_change(directory: &Directory, alloc: Global) -> Result<ObjectChange, Refusal>
+    ensures number { IfOk result (λ change. change.number ≡ 1) }
+    ensures good { IfOk result (λ change. IsGoodChange change.change) }
+    ensures may { IfOk result (λ change. (object : Object) → IsOfKind directory_kind object
+        → MayChange change.change (Some object)) }
+    ensures made { IfOk result (λ change. (object : Object) → IsOfKind directory_kind object
+        → HasDirectory (after_change change.change (Some object)) directory.now) }
+    ensures refused { IfErr result (λ refusal. refusal ≡ Refusal.NoMemory) }
+{
+    if directory.rows().len() >= MOST_NAMES {
+        return Err(Refusal::NoMemory);
+    }
+    match directory.replacement(alloc) {
+        Ok(change) => Ok(ObjectChange {
+            number: DIRECTORY,
+            change,
+        }),
+        Err(_) => Err(Refusal::NoMemory),
+    }
+}
+
+/// Plans a meta object set with these changes, and its block. All blocks have three copies.
+fn plan_root<D: Disk + Drop>(
+    set: &ObjectSet,
+    store: &mut BlockStore<D>,
+    alloc: Global,
+    changes: &[ObjectChange],
+    group: u64,
+) -> Result<Block, Refusal>
+    requires set { FitsObjectSet set.now }
+    requires numbers { All (λ change. (0 < change.number) × (change.number < 32 * 128 ^ 5))
+        changes.now }
+    requires order { AllPairs (λ change later. change.number < later.number) changes.now }
+    requires good { All (λ change. IsGoodChange change.change) changes.now }
+    requires born { 0 < group }
+    ensures steps { OnlyReadsAndPlans store.old store.new [] }
+    ensures fits { IfOk result FitsBlock }
+    ensures born { IfOk result (λ root. root.birth ≡ group) }
+    ensures copies { IfOk result (λ root. length (dvas root.copies) ≡ 3) }
+    ensures value { IfOk result (λ root. (stored planned : Contents) (bound : ℕ)
+        (objects : ℕ → Option Object) (own : List Block) (blocks : ℕ → List Block)
+        → Plans store.old stored planned → AreObjects stored bound set.now objects own blocks
+        → bound ≤ group → AnswersAreTrue store.old store.new
+        → (later : Contents) × Plans store.new stored later × Extends planned later
+        × IsSetOf later group root set.now.kind (changed changes.now objects)) }
+    ensures no_room { IfErr result (λ refusal. refusal ≡ Refusal.NoSpace
+        → HasNoRoom store.old store.new [] copies_of_meta
+        ⊎ HasNoRoomFor store.old store.new [] 2 3) }
+    ensures known { IfErr result (λ refusal. (stored planned : Contents) (bound : ℕ)
+        (objects : ℕ → Option Object) (own : List Block) (blocks : ℕ → List Block)
+        → Plans store.old stored planned → AreObjects stored bound set.now objects own blocks
+        → bound ≤ group → AnswersAreTrue store.old store.new
+        → All (λ change. MayChange change.change (objects change.number)) changes.now
+        → IsForRoom refusal ⊎ (refusal ≡ Refusal.DiskFault)) }
+{
+    let rewrite = objset::change(set, store, alloc, changes, group, COPIES, &[])?;
+    plan_set(&rewrite.set, store, alloc, group, CopyCount::Three)
+}
