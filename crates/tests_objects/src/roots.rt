@@ -65,14 +65,15 @@ fn root_with(store: &mut Store, alloc: Global, one: &DatasetRecord) -> Result<Bl
     Ok(root)
 }
 
-fn find_letter(
+/// What a root has of a name of one letter.
+pub(crate) fn find_letter(
     root: &Block,
     store: &mut Store,
     alloc: Global,
     letter: u8,
 ) -> Result<Option<Dataset>, Fail> {
     let name = Name::new(vec![in alloc; letter; 1]?);
-    Ok(find(root, store, alloc, 3, &name, &[])?)
+    Ok(find(root, store, alloc, root.birth, &name, &[])?)
 }
 
 /// What the root has of the name `v`: its object, its record and its size; and whether it has nothing of `w`.
@@ -99,15 +100,21 @@ fn a_name_is_found_under_a_root(rt: HostRuntime) -> Result<(), Fail> {
     Ok(())
 }
 
-/// Whether a root with no volumes is born in its group, and has nothing of the name `v`.
-fn is_created(alloc: Global) -> Result<[bool; 2], Fail> {
-    let mut store = new_store(alloc)?;
+/// The root of a pool with no volumes, born in group 1, once it is stored.
+pub(crate) fn create_empty(store: &mut Store, alloc: Global) -> Result<Block, Fail> {
     let config = Config {
         vdevs: Vec::new(alloc),
     };
     store.begin_plan(1);
-    let root = create(&mut store, alloc, &config, 1)?;
-    store_plan(&mut store);
+    let root = create(store, alloc, &config, 1)?;
+    store_plan(store);
+    Ok(root)
+}
+
+/// Whether a root with no volumes is born in its group, and has nothing of the name `v`.
+fn is_created(alloc: Global) -> Result<[bool; 2], Fail> {
+    let mut store = new_store(alloc)?;
+    let root = create_empty(&mut store, alloc)?;
     let found = find_letter(&root, &mut store, alloc, b'v')?;
     Ok([root.birth == 1, found.is_none()])
 }
