@@ -40,8 +40,8 @@ fn write(alloc: Global) -> Result<Item, Fail> {
 }
 
 /// A group that has accepted one item.
-fn group_of(alloc: Global, group: u64, item: Item) -> Result<Pipeline, Fail> {
-    let mut pipeline = Pipeline::new(alloc, group.saturating_sub(1));
+fn group_of(alloc: Global, item: Item) -> Result<Pipeline, Fail> {
+    let mut pipeline = Pipeline::new(alloc, 3);
     pipeline.hold(1)?;
     pipeline.accept(item)?;
     Ok(pipeline)
@@ -50,7 +50,7 @@ fn group_of(alloc: Global, group: u64, item: Item) -> Result<Pipeline, Fail> {
 /// The root after a group of one item, once it is stored.
 fn next_root(root: &Block, store: &mut Store, alloc: Global, item: Item) -> Result<Block, Fail> {
     let group = root.birth.saturating_add(1);
-    let pipeline = group_of(alloc, group, item)?;
+    let pipeline = group_of(alloc, item)?;
     store.begin_plan(group);
     let root = after_group(root, store, alloc, group, pipeline.open_items())?;
     store_plan(store);
