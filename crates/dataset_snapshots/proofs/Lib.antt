@@ -1,3 +1,4 @@
+pub mod Asking
 pub mod ChangedRows
 pub mod Datasets
 pub mod FirstRoot
@@ -8,6 +9,7 @@ pub mod MakingRefusals
 pub mod MakingSteps
 pub mod MakingVolumes
 pub mod NamingOrder
+pub mod Opening
 pub mod PlacedRecord
 pub mod Pushing
 pub mod Rows

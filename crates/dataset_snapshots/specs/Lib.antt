@@ -1,8 +1,10 @@
 pub mod Creating
+pub mod Demands
 pub mod Finding
 pub mod Groups
 pub mod Laws
 pub mod Making
 pub mod NewVolumes
+pub mod Opening
 pub mod Pools
 pub mod Writing

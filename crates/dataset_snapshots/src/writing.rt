@@ -4,6 +4,7 @@ ghost use Rattle.std.specs.List.{AllZip};
 ghost use Rattle.std.specs.List.Sorted.{IsStrictlyIncreasing};
 ghost use Rattle.block_pointer.specs.declared.block.Block.{Block};
 ghost use Rattle.block_store.specs.Blocks.{Contents, Extends};
+ghost use Rattle.block_store.specs.Demands.{Demand, HavePlaces};
 ghost use Rattle.block_store.specs.Losses.{IsForLoss};
 ghost use Rattle.block_store.specs.Plans.{Plans};
 ghost use Rattle.block_store.specs.Steps.{OnlyReadsAndPlans, OnlyReadsBlocks, AnswersAreTrue};
@@ -17,8 +18,11 @@ ghost use Rattle.objset.specs.Objects.{Object, AreObjects};
 ghost use Rattle.pool_model.specs.declared.item.Write.{Write};
 ghost use Rattle.pool_model.specs.declared.volume.PlainVolume.{PlainVolume};
 ghost use Rattle.pool_now.specs.Overlay.{after_writes};
+ghost use Rattle.volume.specs.Demands.{IsPlacingRefused};
 ghost use Rattle.volume.specs.Volume.{Spells, block_size_of};
 ghost use Rattle.volume.specs.Writing.{AreBlocksOf, IsArrayWith};
+ghost use Rattle.dataset_snapshots.specs.Demands.{HavePlacesFor, HasVolumeDemands, IsVolumeUnplaced};
+ghost use Rattle.dataset_snapshots.specs.Opening.{AreBlocksFound, AreBlocksRefused, IsOneUnread, IsWrittenFound, IsWrittenOf, IsWrittenRefused};
 ghost use Rattle.dataset_snapshots.specs.Pools.{SpellsDataset};
 ghost use Rattle.dataset_snapshots.specs.Writing.{ChangesRecord, FitsWritten, HasRow, IsChangedFrom, IsReadFor, IsReadFrom, IsWritten, SpellsEach};
 
@@ -95,6 +99,13 @@ pub(crate) fn read_written<D: Disk + Drop>(
         → Holds store.old stored → AreObjects stored birth set.now there own blocks
         → AllZip (SpellsDataset stored birth there) directory.now volumes
         → AnswersAreTrue store.old store.new → IsForLoss refusal) }
+
+    // Whatever the set is: what was read, and on a refusal its cause.
+    ensures found { IfOk result (λ read.
+        All (IsWrittenOf store.old.spaces set.now birth writes.now directory.now) read.items) }
+    ensures refused { IfErr result (λ refusal. (refusal ≡ Refusal.NoMemory)
+        ⊎ IsOneUnread store.old store.new set.now birth writes.now directory.now objects.now
+        refusal) }
 {
     let mut read = Vec::new(alloc);
     for object in objects {
@@ -139,6 +150,10 @@ fn read_one<D: Disk + Drop>(
         → Holds store.old stored → AreObjects stored birth set.now there own blocks
         → SpellsDataset stored birth there row.now volume
         → AnswersAreTrue store.old store.new → IsForLoss refusal) }
+    ensures found { IfOk result
+        (IsWrittenFound store.old.spaces set.now birth writes.now row.now) }
+    ensures refused { IfErr result
+        (IsWrittenRefused store.old store.new set.now birth writes.now row.now) }
 {
     if row.object <= LAST_TABLE || row.object >= set.objects {
         return Err(Refusal::BadPointer);
@@ -168,6 +183,10 @@ fn changed_blocks<D: Disk + Drop>(
     ensures known { IfErr result (λ refusal. (stored : Contents) (array : List ℕ)
         → Holds store.old stored → Spells stored birth volume.now array
         → AnswersAreTrue store.old store.new → IsForLoss refusal) }
+    ensures found { IfOk result (λ blocks.
+        AreBlocksFound store.old.spaces volume.now birth writes.now row.now blocks.items) }
+    ensures refused { IfErr result (λ refusal. (refusal ≡ Refusal.NoMemory)
+        ⊎ AreBlocksRefused store.old store.new volume.now birth writes.now row.now refusal) }
 {
     let name = Name::new(Vec::from_slice(alloc, unpadded(&row.name))?);
     let changes = GroupWrites {
@@ -218,6 +237,12 @@ pub(crate) fn place_written<D: Disk + Drop>(
         → All (IsReadFrom stored bound there writes rows) written.items
         → SpellsEach stored bound there rows volumes
         → IsForRoom refusal ⊎ (refusal ≡ Refusal.DiskFault)) }
+
+    // Whatever the volumes are: what places are taken for, and on a refusal its cause.
+    ensures places { OnOk result (HavePlacesFor store.old store.new
+        (HasVolumeDemands store.old.spaces group) written.items) }
+    ensures refused { IfErr result (λ refusal. (refusal ≡ Refusal.NoMemory)
+        ⊎ IsVolumeUnplaced store.old store.new group written.items refusal) }
 {
     let mut changes = Vec::new(alloc);
     let mut left = VecDeque::from_vec(written);
@@ -257,6 +282,11 @@ fn place_one<D: Disk + Drop>(
         → IsReadFor stored bound there writes row written
         → SpellsDataset stored bound there row volume
         → IsForRoom refusal ⊎ (refusal ≡ Refusal.DiskFault)) }
+    ensures places { OnOk result ((demands : List Demand)
+        × HasVolumeDemands store.old.spaces group written demands
+        × HavePlaces store.old.spaces demands store.new.spaces) }
+    ensures refused { IfErr result (IsPlacingRefused store.old store.new
+        written.dataset.volume group written.blocks) }
 {
     let WrittenVolume { dataset, blocks } = written;
     let placed = dataset.volume.placed(store, alloc, blocks, group)?;

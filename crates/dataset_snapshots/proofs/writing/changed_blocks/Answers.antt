@@ -1,5 +1,7 @@
-use Rattle.std.proofs.Common.{sym, ◌∙◌}
+use Rattle.std.proofs.Common.{ℕ, List, sym, subst, ◌∙◌}
 use Rattle.std.proofs.lemmas.Result.{IfOk-weaker}
+use Rattle.dnode_tree.proofs.Refusing.{ok_both}
+use Rattle.meta_objset.specs.Names.{IsNamed}
 use Rattle.dataset_snapshots.proofs.Rows.{names_same}
 use Rattle.dataset_snapshots.proofs.writing.changed_blocks.Goals as goal
 
@@ -8,3 +10,15 @@ returns-clause-value g c =
     IfOk-weaker c.changed_blocks.result _ _ (λ blocks laid stored plain held named spells honest.
     laid stored plain held (names_same c.args.row.now.name plain.name c.unpadded.result.now named c.unpadded.ensures ∙ (sym c.in_ok-from_slice.ensures.items ∙ sym c.new-name.ensures)) spells honest)
     c.changed_blocks.ensures.value
+
+pub returns-clause-found : goal.returns-clause-found
+returns-clause-found g c =
+    IfOk-weaker c.changed_blocks.result _ _
+    (λ blocks both. record {
+      are = both.0;
+      name = c.new-name.result;
+      named = subst (IsNamed c.args.row.now.name) (sym c.in_ok-from_slice.ensures.items ∙ sym c.new-name.ensures) c.unpadded.ensures;
+      which = both.1.0;
+      read = both.1.1;
+    })
+    (ok_both c.changed_blocks.result _ _ c.changed_blocks.ensures.blocks (ok_both c.changed_blocks.result _ _ c.changed_blocks.ensures.changed c.changed_blocks.ensures.found))

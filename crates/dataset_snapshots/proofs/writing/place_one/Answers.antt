@@ -6,6 +6,7 @@ use Rattle.block_pointer.specs.declared.block.Block.{Block}
 use Rattle.block_pointer.specs.Block.{FitsBlock}
 use Rattle.pool_now.specs.Overlay.{after_writes}
 use Rattle.volume.specs.Writing.{IsArrayWith}
+use Rattle.dataset_snapshots.proofs.Asking.{volume_places}
 use Rattle.dataset_snapshots.proofs.Datasets.{has_dataset}
 use Rattle.dataset_snapshots.proofs.PlacedRecord.{changes_record, fits_block, fits_with}
 use Rattle.dataset_snapshots.proofs.writing.place_one.Goals as goal
@@ -42,3 +43,8 @@ returns-clause-value g c = λ stored planned bound there writes row volume plans
           (c.with_object_set-record.ensures ∙ ap (λ (b : Block). record dataset.record { object_set = b }) c.block.ensures) c.in_ok-placed.ensures.shape spells
           c.in_ok-record_change.ensures.may c.in_ok-record_change.ensures.made,
     )
+
+pub returns-clause-places : goal.returns-clause-places
+returns-clause-places g c =
+    let placed = c.in_ok-placed.ensures in
+    volume_places c.args.store.now c.placed.new.store c.args.group c.args.written (λ none. (placed.idle none).0) placed.places

@@ -1,4 +1,4 @@
-use Rattle.std.proofs.Common.{◌≡◌, [], ◌∷◌, ◌++◌, ℕ, List, map, All, Contains, refl, sym, ap, ◌∙◌, subst, append_assoc}
+use Rattle.std.proofs.Common.{◌≡◌, inr, [], ◌∷◌, ◌++◌, ℕ, List, map, All, Contains, refl, sym, ap, ◌∙◌, subst, append_assoc}
 use Rattle.std.proofs.lemmas.List.{append-nil, map-append}
 use Rattle.std.proofs.lemmas.List.Elements.{All-contains, All-head, All-nil, All-tail, All-weaker, Contains-append_right}
 use Rattle.block_store.proofs.Steps.{steps_none, steps_on, true_before, true_after}
@@ -9,7 +9,9 @@ use Rattle.objset.specs.Changes.{IsGoodChange}
 use Rattle.pool_now.specs.Overlay.{after_writes}
 use Rattle.txg_pipeline.proofs.Running.{drops_nothing}
 use Rattle.dataset_snapshots.specs.declared.writing.WrittenVolume.{WrittenVolume}
+use Rattle.dataset_snapshots.specs.Demands.{HavePlacesFor, HasVolumeDemands}
 use Rattle.dataset_snapshots.specs.Writing.{ChangesRecord, FitsWritten, IsChangedFrom, IsReadFrom}
+use Rattle.dataset_snapshots.proofs.Asking.{no_places, places_more, volume_demands_in}
 use Rattle.dataset_snapshots.proofs.ChangedRows.{is_first}
 use Rattle.dataset_snapshots.proofs.PlacedRecord.{change_stays}
 use Rattle.dataset_snapshots.proofs.Pushing.{all_more}
@@ -23,7 +25,12 @@ next_held done left rest all next parts is =
 pub placing-init : goal.placing-init
 placing-init g c = record {
   steps = steps_none c.args.store.now [];
-  front = ([], c.from_vec-left.ensures.items, ap (map (λ (change : ObjectChange). change.number)) c.new-changes.ensures.items);
+  front = (
+    [],
+    c.from_vec-left.ensures.items,
+    ap (map (λ (change : ObjectChange). change.number)) c.new-changes.ensures.items,
+    no_places c.args.store.now (HasVolumeDemands c.args.store.now.spaces c.args.group),
+  );
   fits = subst (All (FitsWritten c.args.objects)) (sym c.from_vec-left.ensures.items) c.requires.fits;
   good = subst (All (λ (change : ObjectChange). IsGoodChange change.change)) (sym c.new-changes.ensures.items) (All-nil (λ (change : ObjectChange). IsGoodChange change.change));
   value = λ stored planned bound there writes rows volumes plans le honest read spelled. (
@@ -65,6 +72,7 @@ placing-preserved g c =
     let now : List ObjectChange = c.push_change.new.changes.items in
     let more : now ≡ so_far ++ one ∷ [] = c.in_ok-push_change.ensures in
     let held = next_held front.0 c.placing.left.items rest c.args.written.items next front.1 c.in-Some.ensures.items in
+    let placed = c.in_ok-change.ensures.places in
     record {
       steps = steps_on _ _ _ _ i.steps c.place_one.ensures.steps;
       front = (
@@ -73,6 +81,11 @@ placing-preserved g c =
         ap (map (λ (change : ObjectChange). change.number)) more ∙ (map-append (λ (change : ObjectChange). change.number) so_far (one ∷ [])
             ∙ (ap (λ (ns : List ℕ). ns ++ one.number ∷ []) front.2 ∙ (ap (λ n. map (λ (w : WrittenVolume). w.dataset.object) front.0 ++ n ∷ []) c.in_ok-change.ensures.number
             ∙ sym (map-append (λ (w : WrittenVolume). w.dataset.object) front.0 (next ∷ []))))),
+        places_more c.args.store.now c.placing.store c.place_one.new.store (HasVolumeDemands c.args.store.now.spaces c.args.group) front.0 next front.3 (
+          placed.0,
+          volume_demands_in c.args.store.now.spaces c.placing.store.spaces i.steps.shapes c.args.group next placed.0 placed.1,
+          placed.2,
+        ),
       );
       fits = All-tail (FitsWritten c.args.objects) next rest (subst (All (FitsWritten c.args.objects)) c.in-Some.ensures.items i.fits);
       good = all_more (λ (change : ObjectChange). IsGoodChange change.change) so_far now one more i.good c.in_ok-change.ensures.good;
@@ -92,6 +105,32 @@ placing-preserved g c =
             all_more (IsChangedFrom placed.0 c.args.group there volumes writes) so_far now one more old here,
           );
     }
+
+pub returns-in_err-change-clause-refused : goal.returns-in_err-change-clause-refused
+returns-in_err-change-clause-refused g c =
+    let i = c.placing.invariant in
+    passed_on _ _ _ c.from_residual.ensures.1
+    (inr (record {
+      first = i.front.0;
+      next = c.in-Some.next;
+      left = c.pop_front.new.self.items;
+      are = sym i.front.1 ∙ ap (λ (xs : List WrittenVolume). i.front.0 ++ xs) c.in-Some.ensures.items;
+      mid = c.placing.store;
+      before = i.steps;
+      places = i.front.3;
+      why = c.in_err-change.ensures.refused;
+    }))
+
+-- nothing is left of them
+all_done : (done left all : List WrittenVolume) → [] ≡ left → done ++ left ≡ all → done ≡ all
+all_done done left all none parts = sym (append-nil done) ∙ (ap (λ (xs : List WrittenVolume). done ++ xs) none ∙ parts)
+
+pub returns-clause-places : goal.returns-clause-places
+returns-clause-places g c =
+    let front = c.placing.invariant.front in
+    let none = drops_nothing c.placing.left.items (c.in_default.ensures.items ∙ c.pop_front.ensures.rest) in
+    subst (λ (done : List WrittenVolume). HavePlacesFor c.args.store.now c.placing.store (HasVolumeDemands c.args.store.now.spaces c.args.group) done)
+    (all_done front.0 c.placing.left.items c.args.written.items (sym none) front.1) front.3
 
 pub returns-clause-numbers : goal.returns-clause-numbers
 returns-clause-numbers g c =

@@ -10,6 +10,7 @@ use Rattle.objset.specs.Objects.{Object}
 use Rattle.pool_model.specs.declared.item.Write.{Write}
 use Rattle.pool_model.specs.declared.volume.PlainVolume.{PlainVolume}
 use Rattle.dataset_snapshots.specs.declared.writing.WrittenVolume.{WrittenVolume}
+use Rattle.dataset_snapshots.specs.Demands.{HavePlacesFor, HasVolumeDemands}
 use Rattle.dataset_snapshots.specs.Writing.{FitsWritten, IsChangedFrom, IsReadFrom, SpellsEach}
 use Rattle.dataset_snapshots.proofs.writing.place_written.Given as goal
 
@@ -18,7 +19,8 @@ abbrev pub invariant-placing : goal.invariant-placing
 invariant-placing g l = record {
   steps : OnlyReadsAndPlans l.fn.store l.store [];
   front : (done : List WrittenVolume) × (done ++ l.left.items ≡ l.fn.written.items)
-      × (map (λ change. change.number) l.changes.items ≡ map (λ written. written.dataset.object) done);
+      × (map (λ change. change.number) l.changes.items ≡ map (λ written. written.dataset.object) done)
+      × HavePlacesFor l.fn.store l.store (HasVolumeDemands l.fn.store.spaces l.group) done;
   fits : All (FitsWritten l.objects) l.left.items;
   good : All (λ change. IsGoodChange change.change) l.changes.items;
   value : (stored planned : Contents) (bound : ℕ) (there : ℕ → Option Object) (writes : List Write) (rows : List DirectoryRow) (volumes : ℕ → PlainVolume)

@@ -6,6 +6,7 @@ use Rattle.meta_objset.specs.declared.record.DatasetRecord.{DatasetRecord}
 use Rattle.pool_now.specs.Overlay.{after_writes}
 use Rattle.volume.specs.Writing.{IsArrayWith}
 use Rattle.dataset_snapshots.proofs.Datasets.{has_dataset}
+use Rattle.dataset_snapshots.proofs.Opening.{blocks_refused, record_refused}
 use Rattle.dataset_snapshots.proofs.writing.read_one.Goals as goal
 
 pub returns-in_err-dataset-clause-known : goal.returns-in_err-dataset-clause-known
@@ -39,3 +40,12 @@ returns-clause-value g c = λ stored there own blocks held are honest volume is.
       subst (λ n. IsArrayWith volume.bytes n c.in_ok-blocks.blocks.items (after_writes volume c.args.writes.now).bytes) sized
           (c.in_ok-blocks.ensures.value stored volume (first.keeps stored held) is.name found.1 (true_after _ _ _ _ first second honest)),
     )
+
+pub returns-in_err-dataset-clause-refused : goal.returns-in_err-dataset-clause-refused
+returns-in_err-dataset-clause-refused g c = passed_on _ _ _ c.from_residual.ensures.1 (record_refused _ _ _ _ _ c.args.row.now _ c.in_err-dataset.ensures.refused)
+
+pub returns-in_err-blocks-clause-refused : goal.returns-in_err-blocks-clause-refused
+returns-in_err-blocks-clause-refused g c =
+    let read = c.in_ok-dataset.ensures in
+    passed_on _ _ _ c.from_residual-in_err-blocks.ensures.1
+    (blocks_refused _ _ _ _ _ _ c.args.row.now c.in_ok-dataset.dataset _ read.reads (record { object = read.object; volume = read.is; of_record = read.found }) c.in_err-blocks.ensures.refused)

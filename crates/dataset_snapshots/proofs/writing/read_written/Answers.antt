@@ -1,8 +1,12 @@
-use Rattle.std.proofs.Common.{◌∙◌, List, sym}
+use Rattle.std.proofs.Common.{◌∙◌, inr, Contains, List, ap, sym, subst}
 use Rattle.std.proofs.lemmas.List.{take_all}
+use Rattle.std.proofs.lemmas.List.Elements.{Contains-get_or}
 use Rattle.block_store.proofs.Steps.{reads_on}
 use Rattle.dnode_tree.proofs.FurtherReads.{true_before, true_after}
 use Rattle.dnode_tree.proofs.Refusing.{passed_on}
+use Rattle.block_store.specs.declared.space.VdevSpace.{VdevSpace}
+use Rattle.block_store.specs.Store.{Store}
+use Rattle.dataset_snapshots.specs.Opening.{IsWrittenFound, IsWrittenOf}
 use Rattle.dataset_snapshots.specs.Pools.{SpellsDataset}
 use Rattle.dataset_snapshots.specs.Writing.{FitsWritten, IsReadFrom}
 use Rattle.dataset_snapshots.specs.declared.writing.WrittenVolume.{WrittenVolume}
@@ -51,7 +55,32 @@ loop-object-preserved g c =
             (c.in-Some.ensures.held.0, sym c.in_ok-written.ensures.object),
             c.in_ok-written.ensures.value stored there own blocks (first.keeps stored held) are (true_after _ _ _ _ first reads honest),
           );
+      found = all_more (IsWrittenOf c.args.store.now.spaces c.args.set.now c.args.birth c.args.writes.now c.args.directory.now) so_far now one c.in_ok-push.ensures c.loop-object.invariant.found (
+        c.in-Some.row.now,
+        (c.in-Some.ensures.held.0, sym c.in_ok-written.ensures.object),
+        subst (λ (spaces : List VdevSpace). IsWrittenFound spaces c.args.set.now c.args.birth c.args.writes.now c.in-Some.row.now one) (ap (λ (s : Store). s.spaces) first.rest) c.in_ok-written.ensures.found,
+      );
     }
 
 pub returns-clause-objects : goal.returns-clause-objects
 returns-clause-objects g c = c.loop-object.invariant.objects ∙ take_all c.loop-object.object-index c.args.objects.now c.loop-object-test.false
+
+pub returns-in_default-clause-refused : goal.returns-in_default-clause-refused
+returns-in_default-clause-refused g c =
+    let there = c.requires.rows c.loop-object.object-index 0 c.loop-object-test.true in
+    absurd (c.in_default.ensures.none there.0 there.1)
+
+pub returns-in_err-written-clause-refused : goal.returns-in_err-written-clause-refused
+returns-in_err-written-clause-refused g c =
+    passed_on _ _ _ c.from_residual.ensures.1
+    (inr (record {
+      row = c.in-Some.row.now;
+      is_one = subst (Contains c.args.objects.now) (sym c.in-Some.ensures.held.1) (Contains-get_or c.args.objects.now c.loop-object.object-index 0 c.loop-object-test.true);
+      is_row = c.in-Some.ensures.held.0;
+      mid = c.loop-object.store;
+      before = c.loop-object.invariant.reads;
+      why = c.in_err-written.ensures.refused;
+    }))
+
+pub returns-clause-found : goal.returns-clause-found
+returns-clause-found g c = c.loop-object.invariant.found

@@ -5,6 +5,7 @@ use Rattle.block_store.specs.Blocks.{Contents}
 use Rattle.block_store.specs.Steps.{OnlyReadsBlocks, AnswersAreTrue}
 use Rattle.block_store.specs.Store.{Holds}
 use Rattle.objset.specs.Objects.{Object, AreObjects}
+use Rattle.dataset_snapshots.specs.Opening.{IsWrittenOf}
 use Rattle.dataset_snapshots.specs.Writing.{FitsWritten, IsReadFrom}
 use Rattle.dataset_snapshots.proofs.writing.read_written.Given as goal
 
@@ -17,4 +18,5 @@ invariant-loop-object g l = record {
   value : (stored : Contents) (there : ℕ → Option Object) (own : List Block) (blocks : ℕ → List Block) → Holds l.fn.store stored
       → AreObjects stored l.birth l.set there own blocks → AnswersAreTrue l.fn.store l.store
       → All (IsReadFrom stored l.birth there l.writes l.directory) l.read.items;
+  found : All (IsWrittenOf l.fn.store.spaces l.set l.birth l.writes l.directory) l.read.items;
 }

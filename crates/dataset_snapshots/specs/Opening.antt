@@ -1,0 +1,88 @@
+-- What was read of the volumes that a group writes to, whether or not the root is whole.
+use Rattle.std.specs.Prelude.{ℕ, ◌≡◌, ◌⊎◌, ◌↔◌, ◌≤◌, List, [], Contains, All}
+use Rattle.block_store.specs.declared.refusal.Refusal.{Refusal}
+use Rattle.block_store.specs.declared.refusal.Refusal.TheVariants.{NoMemory, BadPointer}
+use Rattle.block_store.specs.declared.space.VdevSpace.{VdevSpace}
+use Rattle.block_store.specs.Steps.{OnlyReadsBlocks}
+use Rattle.block_store.specs.Store.{Store}
+use Rattle.dnode.specs.declared.object_set.ObjectSet.{ObjectSet}
+use Rattle.dnode_tree.specs.declared.writes.BlockWrite.{BlockWrite}
+use Rattle.meta_objset.specs.declared.directory.DirectoryRow.{DirectoryRow}
+use Rattle.meta_objset.specs.Found.{IsRecordFound, IsRecordRefused}
+use Rattle.meta_objset.specs.Names.{IsNamed}
+use Rattle.pool_model.specs.declared.item.Write.{Write}
+use Rattle.volume.specs.declared.volume.VolumeSet.{VolumeSet}
+use Rattle.volume.specs.Reading.{IsReadRefused, IsWayRead}
+use Rattle.volume.specs.Writing.{AreBlocksOf, HasId, IsChanged}
+use Rattle.dataset_snapshots.specs.declared.finding.Dataset.{Dataset}
+use Rattle.dataset_snapshots.specs.declared.writing.WrittenVolume.{WrittenVolume}
+use Rattle.dataset_snapshots.specs.Finding.{IsVolumeOf}
+use Rattle.dataset_snapshots.specs.Writing.{HasRow}
+
+-- these are the blocks that the writes to the row's volume change, and the way to each was read
+pub record AreBlocksFound (spaces : List VdevSpace) (volume : VolumeSet) (birth : ℕ)
+    (writes : List Write) (row : DirectoryRow) (blocks : List BlockWrite) : Type 0 where
+  pub are : AreBlocksOf volume blocks
+  pub name : List ℕ
+  pub named : IsNamed row.name name
+  pub which : (id : ℕ) → HasId blocks id ↔ IsChanged volume name writes id
+  pub read : All (λ block. IsWayRead spaces volume birth block.id) blocks
+
+-- one of the blocks that the writes to the row's volume change was not read, or the volume's set
+abbrev pub AreBlocksRefused :
+    Store → Store → VolumeSet → ℕ → List Write → DirectoryRow → Refusal → Type 0
+AreBlocksRefused old new volume birth writes row refusal =
+    (name : List ℕ) × IsNamed row.name name
+    × IsReadRefused old new [] volume birth (IsChanged volume name writes) refusal
+
+-- the row's volume is the dataset: its object has the record, which was read
+pub record IsDatasetFound (spaces : List VdevSpace) (set : ObjectSet) (birth : ℕ)
+    (row : DirectoryRow) (dataset : Dataset) : Type 0 where
+  pub object : dataset.object ≡ row.object
+  pub volume : IsVolumeOf dataset
+  pub of_record : IsRecordFound spaces set birth row.object dataset.record
+
+-- the row's volume was read for the writes: its record, and the blocks that they change
+pub record IsWrittenFound (spaces : List VdevSpace) (set : ObjectSet) (birth : ℕ)
+    (writes : List Write) (row : DirectoryRow) (written : WrittenVolume) : Type 0 where
+  pub dataset : IsDatasetFound spaces set birth row written.dataset
+  pub blocks : AreBlocksFound spaces written.dataset.volume birth writes row written.blocks.items
+
+-- the record was read, and then a block that the writes change was not
+pub record AreBlocksUnread (old new : Store) (set : ObjectSet) (birth : ℕ) (writes : List Write)
+    (row : DirectoryRow) (refusal : Refusal) : Type 0 where
+  pub dataset : Dataset
+  pub found : IsDatasetFound old.spaces set birth row dataset
+  pub mid : Store
+  pub before : OnlyReadsBlocks old mid []
+  pub why : AreBlocksRefused mid new dataset.volume birth writes row refusal
+
+-- the row's object is none that a record may have
+abbrev pub IsNoRecordNumber : ObjectSet → DirectoryRow → Type 0
+IsNoRecordNumber set row = (row.object ≤ 4) ⊎ (set.objects ≤ row.object)
+
+-- why the row's volume was not read for the writes
+abbrev pub IsWrittenRefused :
+    Store → Store → ObjectSet → ℕ → List Write → DirectoryRow → Refusal → Type 0
+IsWrittenRefused old new set birth writes row refusal =
+    (refusal ≡ NoMemory)
+    ⊎ (((refusal ≡ BadPointer) × IsNoRecordNumber set row)
+    ⊎ (IsRecordRefused old new [] set birth row.object refusal
+    ⊎ AreBlocksUnread old new set birth writes row refusal))
+
+-- the volume of one of the rows, by its object, was read for the writes
+abbrev pub IsWrittenOf : List VdevSpace → ObjectSet → ℕ → List Write → List DirectoryRow
+    → WrittenVolume → Type 0
+IsWrittenOf spaces set birth writes rows written =
+    (row : DirectoryRow) × HasRow rows written.dataset.object row
+    × IsWrittenFound spaces set birth writes row written
+
+-- behind other reads, a row of one of these objects was read last, and its volume was refused
+pub record IsOneUnread (old new : Store) (set : ObjectSet) (birth : ℕ) (writes : List Write)
+    (rows : List DirectoryRow) (objects : List ℕ) (refusal : Refusal) : Type 0 where
+  pub row : DirectoryRow
+  pub is_one : Contains objects row.object
+  pub is_row : Contains rows row
+  pub mid : Store
+  pub before : OnlyReadsBlocks old mid []
+  pub why : IsWrittenRefused mid new set birth writes row refusal
