@@ -5,6 +5,7 @@ pub mod FirstRoot
 pub mod GroupRoot
 pub mod Losses
 pub mod MakingChanges
+pub mod MakingDemands
 pub mod MakingRefusals
 pub mod MakingSteps
 pub mod MakingVolumes

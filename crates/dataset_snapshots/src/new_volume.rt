@@ -1,5 +1,5 @@
 //! A volume that a group makes.
-ghost use Rattle.std.specs.Prelude.{◌≡◌, ◌≢◌, ◌⊎◌, ◌<◌, [], true, replicate, IfOk, IfErr};
+ghost use Rattle.std.specs.Prelude.{◌≡◌, ◌≢◌, ◌⊎◌, ◌<◌, [], true, replicate, IfOk, IfErr, OnOk};
 ghost use Rattle.block_pointer.specs.Block.{FitsBlock};
 ghost use Rattle.block_store.specs.Blocks.{Contents, Extends};
 ghost use Rattle.block_store.specs.Plans.{Plans};
@@ -33,6 +33,7 @@ pub(crate) struct NewVolume {
 }
 
 impl NewVolume {
+    ghost use Rattle.dataset_snapshots.specs.Demands.{HasNewPlaces, IsNewRefused};
     ghost use Rattle.dataset_snapshots.specs.Making.{IsGoodCreation};
     ghost use Rattle.dataset_snapshots.specs.NewVolumes.{IsNewVolume, new_record};
 
@@ -103,6 +104,10 @@ impl NewVolume {
         ensures known { IfErr result (λ refusal. (stored planned : Contents)
             → Plans store.old stored planned → AnswersAreTrue store.old store.new
             → IsForRoom refusal ⊎ (refusal ≡ Refusal.DiskFault)) }
+        ensures places { OnOk result
+            (HasNewPlaces store.old store.new group self.now.block_size) }
+        ensures refused { IfErr result
+            (IsNewRefused store.old store.new group self.now.block_size) }
     {
         let volume = VolumeSet::create(store, alloc, self.size, self.block_size, group)?;
         Ok(volume.block())

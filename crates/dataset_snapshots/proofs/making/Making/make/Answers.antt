@@ -1,9 +1,16 @@
-use Rattle.std.proofs.Common.{◌≡◌, ℕ, ◌+◌, ◌≤◌, Bool, true, false, [], Option, Some, None, inl, refl, sym, ◌∙◌, arith}
+use Rattle.std.proofs.Common.{◌≡◌, ℕ, ◌+◌, ◌≤◌, Bool, true, false, [], Option, Some, None, List, inl, inr, refl, sym, subst, ◌∙◌, arith}
 use Rattle.std.specs.Prelude.{is_some, IfSome}
 use Rattle.std.proofs.lemmas.Result.{IfErr-weaker, IfOk-weaker}
 use Rattle.block_store.proofs.Steps.{steps_none}
 use Rattle.dnode_tree.proofs.Refusing.{passed_on}
 use Rattle.dataset_snapshots.specs.Making.{numbers_end}
+use Rattle.meta_objset.specs.declared.directory.DirectoryRow.{DirectoryRow}
+use Rattle.meta_objset.specs.Directory.{LacksName}
+use Rattle.pool_model.specs.declared.item.Change.{Change}
+use Rattle.dataset_snapshots.specs.declared.new_volume.NewVolume.{NewVolume}
+use Rattle.dataset_snapshots.specs.Demands.{HasNewPlaces, IsThereAlready}
+use Rattle.dataset_snapshots.specs.NewVolumes.{IsNewVolume}
+use Rattle.dataset_snapshots.proofs.MakingDemands.{has_change, lacks_change, one_made, sized_change, sized_refused}
 use Rattle.dataset_snapshots.proofs.MakingSteps.{goes_on_after, ready_after, volume_made, volume_passed}
 use Rattle.dataset_snapshots.proofs.making.Making.make.Goals as goal
 
@@ -62,3 +69,45 @@ returns-clause-value g c =
 
 pub returns-clause-known : goal.returns-clause-known
 returns-clause-known g c = IfErr-weaker c.add.result _ _ (λ refusal memory good stored planned plans honest. inl (inl memory)) c.add.ensures.refused
+
+pub returns-then-is_some-clause-places : goal.returns-then-is_some-clause-places
+returns-then-is_some-clause-places g c =
+    let there = is_there c.get.result _ _ c.is_some.ensures c.if-is_some.true c.get.ensures.found in
+    inl (has_change c.args.self.now.directory c.args.change.now c.in_ok-new.new there.0 c.in_ok-new.ensures.is there.1, refl, refl)
+
+pub returns-in_err-new-clause-refused : goal.returns-in_err-new-clause-refused
+returns-in_err-new-clause-refused g c = passed_on _ _ _ c.from_residual.ensures.1 (inr (inl c.in_err-new.ensures.refused))
+
+-- the name is new
+name_lacks : (rows : List DirectoryRow) (change : Change) (v : NewVolume) → IsNewVolume change v → LacksName rows v.name → ¬ IsThereAlready rows [] change
+name_lacks rows change v is lacks (inl there) = lacks_change rows change v is lacks there
+name_lacks rows change v is lacks (inr asked) = absurd (let low = asked.2 in omega (arith, low))
+
+pub returns-then-self-gt-NUMBERS_END-clause-refused : goal.returns-then-self-gt-NUMBERS_END-clause-refused
+returns-then-self-gt-NUMBERS_END-clause-refused g c =
+    let lacks = c.get.ensures.none (is_none _ _ c.is_some.ensures c.if-is_some.false) in
+    inr (inr (name_lacks c.args.self.now.directory c.args.change.now c.in_ok-new.new c.in_ok-new.ensures.is lacks, inl (refl, omega arith)))
+
+pub returns-in_err-object_set-clause-refused : goal.returns-in_err-object_set-clause-refused
+returns-in_err-object_set-clause-refused g c =
+    let lacks = c.get.ensures.none (is_none _ _ c.is_some.ensures c.if-is_some.false) in
+    passed_on _ _ _ c.from_residual-in_err-object_set.ensures.1
+    (inr (inr (
+      name_lacks c.args.self.now.directory c.args.change.now c.in_ok-new.new c.in_ok-new.ensures.is lacks,
+      inr (sized_refused c.args.store.now c.planned.new.store c.args.group _ _ _ (sized_change c.args.change.now c.in_ok-new.new c.in_ok-new.ensures.is) c.in_err-object_set.ensures.refused),
+    )))
+
+pub returns-clause-refused : goal.returns-clause-refused
+returns-clause-refused g c = IfErr-weaker c.add.result _ _ (λ refusal memory. inl memory) c.add.ensures.refused
+
+pub returns-clause-places : goal.returns-clause-places
+returns-clause-places g c =
+    let lacks = c.get.ensures.none (is_none _ _ c.is_some.ensures c.if-is_some.false) in
+    IfOk-weaker c.add.result _ _
+    (λ done added.
+    inr (
+      lacks_change c.args.self.now.directory c.args.change.now c.in_ok-new.new c.in_ok-new.ensures.is lacks,
+      one_made c.args.self.now c.add.new.self c.record-dataset.result c.args.change.now c.in_ok-new.new c.in_ok-new.ensures.is added,
+      subst (λ n. HasNewPlaces c.args.store.now c.planned.new.store c.args.group n) (sized_change c.args.change.now c.in_ok-new.new c.in_ok-new.ensures.is) c.in_ok-object_set.ensures.places,
+    ))
+    c.add.ensures.added

@@ -1,11 +1,14 @@
-use Rattle.std.proofs.Common.{[], inl, inr, ⊎_elim, subst, arith}
+use Rattle.std.proofs.Common.{[], List, inl, inr, ⊎_elim, sym, subst, arith}
 use Rattle.std.specs.Prelude.{fold, take}
 use Rattle.std.proofs.lemmas.List.{take_all}
 use Rattle.block_store.proofs.Steps.{steps_none, steps_on, true_after, true_before}
 use Rattle.dnode_tree.proofs.Refusing.{passed_on}
+use Rattle.pool_model.specs.declared.item.Action.{Action}
 use Rattle.pool_model.specs.Pools.{PlainPool, changed}
 use Rattle.volume.proofs.Putting.{lacks_on}
+use Rattle.dataset_snapshots.specs.Demands.{MakesAll}
 use Rattle.dataset_snapshots.specs.Making.{SpellsMaking}
+use Rattle.dataset_snapshots.proofs.MakingDemands.{action_refused, makes_more, makes_none, taken_more}
 use Rattle.dataset_snapshots.proofs.MakingSteps.{goes_on_none, goes_on_on, one_good, pool_more}
 use Rattle.dataset_snapshots.proofs.making.Making.make_all.Goals as goal
 
@@ -16,6 +19,7 @@ loop-action-init g c = record {
   goes_on = goes_on_none c.args.self.now;
   next = omega arith;
   value = λ stored planned plans honest. (planned, plans, λ block bytes known. known, λ objects pool spells. spells);
+  made = makes_none c.args.store.now c.args.group c.args.self.now;
 }
 
 pub returns-in_err-make-clause-steps : goal.returns-in_err-make-clause-steps
@@ -59,7 +63,23 @@ loop-action-preserved g c =
                 (pool_more c.args.group pool c.args.actions.now c.loop-action.action-index c.action-item.result c.loop-action-test.true c.action-item.is)
                 (two.3 objects (fold (λ p a. changed c.args.group p a.change) pool (take c.loop-action.action-index c.args.actions.now)) (one.3 objects pool spells)),
           );
+      made = subst (λ (actions : List Action). MakesAll c.args.store.now c.make.new.store c.args.group c.args.self.now c.make.new.self actions)
+          (sym (taken_more c.args.actions.now c.loop-action.action-index c.action-item.result c.loop-action-test.true c.action-item.is))
+          (makes_more c.args.store.now c.loop-action.store c.make.new.store c.args.group c.args.self.now c.loop-action.self c.make.new.self (take c.loop-action.action-index c.args.actions.now)
+          c.action-item.result so_far.steps.shapes so_far.made c.in_ok-make.ensures.places);
     }
+
+pub returns-in_err-make-clause-refused : goal.returns-in_err-make-clause-refused
+returns-in_err-make-clause-refused g c =
+    let so_far = c.loop-action.invariant in
+    passed_on _ _ _ c.from_residual.ensures.1
+    (inr (action_refused c.args.store.now c.loop-action.store c.make.new.store c.args.group c.args.self.now c.loop-action.self c.args.actions.now c.loop-action.action-index c.action-item.result _
+    c.loop-action-test.true c.action-item.is so_far.steps so_far.made c.in_err-make.ensures.refused))
+
+pub returns-clause-places : goal.returns-clause-places
+returns-clause-places g c =
+    subst (λ (actions : List Action). MakesAll c.args.store.now c.loop-action.store c.args.group c.args.self.now c.loop-action.self actions)
+    (take_all c.loop-action.action-index c.args.actions.now c.loop-action-test.false) c.loop-action.invariant.made
 
 pub returns-clause-value : goal.returns-clause-value
 returns-clause-value g c = λ stored planned objects pool plans spells honest.

@@ -30,3 +30,6 @@ returns-clause-value g c = λ stored planned plans honest.
           (subst (λ n. IsVolume is.0 c.args.group c.in_ok-volume.volume.block n c.args.self.now.block_size (replicate size 0)) shape.0
           (subst (λ n. IsVolume is.0 c.args.group c.in_ok-volume.volume.block c.in_ok-volume.volume.size n (replicate size 0)) shape.1 is.3)),
     )
+
+pub returns-in_err-volume-clause-refused : goal.returns-in_err-volume-clause-refused
+returns-in_err-volume-clause-refused g c = passed_on _ _ _ c.from_residual.ensures.1 c.in_err-volume.ensures.refused
