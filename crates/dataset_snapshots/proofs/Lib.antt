@@ -2,6 +2,7 @@ pub mod Asking
 pub mod ChangedRows
 pub mod Datasets
 pub mod FirstRoot
+pub mod GroupDemands
 pub mod GroupRoot
 pub mod Losses
 pub mod MakingChanges

@@ -1,25 +1,34 @@
 -- What a group's root asks places for, and why it is not planned.
-use Rattle.std.specs.Prelude.{ℕ, ◌≡◌, ◌≢◌, ◌⊎◌, ◌↔◌, ◌+◌, ◌*◌, ◌<◌, List, [], ◌∷◌, ◌++◌, length, map, Any, Contains}
+use Rattle.std.specs.Prelude.{ℕ, ◌≡◌, ◌≢◌, ◌⊎◌, ◌↔◌, ◌+◌, ◌*◌, ◌<◌, ◌-◌, List, [], ◌∷◌, ◌++◌, length, map, max, Any, Contains}
 use Rattle.std.specs.List.{range_with_len}
+use Rattle.block_pointer.specs.declared.block.Block.{Block}
 use Rattle.block_store.specs.declared.refusal.Refusal.{Refusal}
 use Rattle.block_store.specs.declared.refusal.Refusal.TheVariants.{NoMemory, NoSpace, BadConfig}
 use Rattle.block_store.specs.declared.space.VdevSpace.{VdevSpace}
-use Rattle.block_store.specs.Demands.{Demand, HavePlaces}
-use Rattle.block_store.specs.Steps.{OnlyReadsAndPlans}
+use Rattle.block_store.specs.Demands.{Demand, HavePlaces, LackPlaces}
+use Rattle.block_store.specs.Steps.{OnlyReadsAndPlans, OnlyReadsBlocks}
 use Rattle.block_store.specs.Store.{Store}
 use Rattle.dnode.specs.declared.object_set.ObjectSet.{ObjectSet}
 use Rattle.meta_objset.specs.declared.directory.DirectoryRow.{DirectoryRow}
 use Rattle.meta_objset.specs.Names.{IsNamed}
 use Rattle.objset.specs.declared.changes.Change.{Change as ObjectsChange}
 use Rattle.objset.specs.declared.changes.Change.TheVariants.{Put}
+use Rattle.objset.specs.declared.changes.ObjectChange.{ObjectChange}
+use Rattle.objset.specs.Demands.{HasDemands, LacksRoom}
+use Rattle.objset.specs.Refused.{IsChangeRefused}
+use Rattle.pool_model.specs.Pools.{Entry}
 use Rattle.pool_model.specs.declared.item.Action.{Action}
 use Rattle.pool_model.specs.declared.item.Change.{Change}
 use Rattle.pool_model.specs.declared.item.Change.TheVariants.{Create}
 use Rattle.volume.specs.Demands.{empty_set, HasPlacesFor, HasSetDemands, IsCreation, IsPlacingRefused, IsPlanRefused}
 use Rattle.volume.specs.Reading.{IsVolumeFound}
+use Rattle.dataset_snapshots.specs.declared.groups.Opened.{Opened}
 use Rattle.dataset_snapshots.specs.declared.making.Making.{Making}
 use Rattle.dataset_snapshots.specs.declared.writing.WrittenVolume.{WrittenVolume}
+use Rattle.dataset_snapshots.specs.Creating.{copies_of_meta}
+use Rattle.dataset_snapshots.specs.Groups.{objects_of}
 use Rattle.dataset_snapshots.specs.Making.{IsGoodCreation, numbers_end}
+use Rattle.dataset_snapshots.specs.Opening.{IsGroupFound, IsGroupUnread}
 
 -- each of these things asks some, and these are all of them, one after the other
 abbrev pub AreAsked : {X : Type 0} → (X → List Demand → Type 0) → List X → List Demand → Type 0
@@ -170,3 +179,129 @@ pub record IsActionRefused (old new : Store) (group : ℕ) (rows : List Director
   pub before : OnlyReadsAndPlans old mid []
   pub places : HavePlacesFor old mid (HasActionDemands old.spaces group) made
   pub why : IsMakingRefused mid new group rows first (next + 2 * length made) action.change refusal
+
+-- ---- the meta object set
+
+-- the block of the set: 2 sectors, three copies
+abbrev pub demand_of_root : Demand
+demand_of_root = record { sectors = 2; copies = 3 }
+
+-- what changes of the set's objects ask, and then its block
+pub record HasRootDemands (spaces : List VdevSpace) (set : ObjectSet) (group : ℕ)
+    (changes : List ObjectChange) (demands : List Demand) : Type 0 where
+  pub of_objects : List Demand
+  pub are : HasDemands spaces set group copies_of_meta changes of_objects
+  pub is : demands ≡ of_objects ++ demand_of_root ∷ []
+
+-- for what they ask places were taken, and for nothing else
+abbrev pub HasRootPlaces : Store → Store → ObjectSet → ℕ → List ObjectChange → Type 0
+HasRootPlaces old new set group changes =
+    (demands : List Demand) × HasRootDemands old.spaces set group changes demands
+    × HavePlaces old.spaces demands new.spaces
+
+-- no place for a block of the objects, or for the block of the set behind all of them
+abbrev pub LacksRootPlaces : Store → Store → ObjectSet → ℕ → List ObjectChange → Type 0
+LacksRootPlaces old new set group changes =
+    LacksRoom old new set group copies_of_meta changes
+    ⊎ ((demands : List Demand) × HasRootDemands old.spaces set group changes demands
+    × LackPlaces old.spaces demands new.spaces)
+
+-- why a meta object set with these changes was not planned
+abbrev pub IsRootRefused :
+    Store → Store → ObjectSet → ℕ → List ObjectChange → Refusal → Type 0
+IsRootRefused old new set group changes refusal =
+    (refusal ≡ NoMemory)
+    ⊎ (((refusal ≡ NoSpace) × LacksRootPlaces old new set group changes)
+    ⊎ IsChangeRefused old new [] set group changes refusal)
+
+-- ---- the group
+
+-- the first number behind the tables and behind the objects that are there
+abbrev pub first_number : ObjectSet → ℕ
+first_number set = max set.objects 5
+
+-- The objects that a group changes: the directory where a volume is made, those of the volumes that
+-- are written to, and two for each that is made.
+abbrev pub changed_numbers : Opened → List Action → List ℕ
+changed_numbers opened [] = objects_of opened
+changed_numbers opened (first ∷ made) = 1 ∷ (objects_of opened
+    ++ range_with_len (first_number opened.set) (2 * length (first ∷ made)))
+
+-- the volumes of a group were placed, those that are written to and then those that are made, and
+-- the meta object set is to have these changes
+pub record HasVolumePlaces (old new : Store) (group : ℕ) (opened : Opened) (actions : List Action)
+    (changes : List ObjectChange) : Type 0 where
+  pub made : List Action
+  pub made_are : AreMade opened.directory [] actions made
+  pub numbers : map (λ change. change.number) changes ≡ changed_numbers opened made
+  pub of_written : List Demand
+  pub written_ask : AreAsked (HasVolumeDemands old.spaces group) opened.written.items of_written
+  pub of_made : List Demand
+  pub made_ask : AreAsked (HasActionDemands old.spaces group) made of_made
+  pub places : HavePlaces old.spaces (of_written ++ of_made) new.spaces
+
+-- all volumes that are written to were placed, and then one of those that are made was refused
+pub record AreActionsRefused (old new : Store) (group : ℕ) (opened : Opened) (actions : List Action)
+    (refusal : Refusal) : Type 0 where
+  pub mid : Store
+  pub before : OnlyReadsAndPlans old mid []
+  pub places : HavePlacesFor old mid (HasVolumeDemands old.spaces group) opened.written.items
+  pub why : IsActionRefused mid new group opened.directory (first_number opened.set) actions refusal
+
+-- why the volumes of a group were not placed
+abbrev pub AreVolumesRefused :
+    Store → Store → ℕ → Opened → List Action → Refusal → Type 0
+AreVolumesRefused old new group opened actions refusal =
+    (refusal ≡ NoMemory)
+    ⊎ (IsVolumeUnplaced old new group opened.written.items refusal
+    ⊎ AreActionsRefused old new group opened actions refusal)
+
+-- what a group asks: its volumes, and then its changes of the meta object set
+pub record HasGroupDemands (spaces : List VdevSpace) (group : ℕ) (opened : Opened)
+    (actions : List Action) (demands : List Demand) : Type 0 where
+  pub made : List Action
+  pub made_are : AreMade opened.directory [] actions made
+  pub of_written : List Demand
+  pub written_ask : AreAsked (HasVolumeDemands spaces group) opened.written.items of_written
+  pub of_made : List Demand
+  pub made_ask : AreAsked (HasActionDemands spaces group) made of_made
+  pub changes : List ObjectChange
+  pub numbers : map (λ change. change.number) changes ≡ changed_numbers opened made
+  pub of_root : List Demand
+  pub root_asks : HasRootDemands spaces opened.set group changes of_root
+  pub is : demands ≡ of_written ++ of_made ++ of_root
+
+-- the root was read, and then places were taken for what the group asks, and for nothing else
+pub record HasGroupPlaces (old new : Store) (root : Block) (group : ℕ) (items : Entry) : Type 0 where
+  pub opened : Opened
+  pub found : IsGroupFound old.spaces (group - 1) root items.writes opened
+  pub demands : List Demand
+  pub ask : HasGroupDemands old.spaces group opened items.actions demands
+  pub places : HavePlaces old.spaces demands new.spaces
+
+-- all volumes were placed, and then the changes of the meta object set were refused
+pub record AreChangesRefused (old new : Store) (group : ℕ) (opened : Opened) (actions : List Action)
+    (refusal : Refusal) : Type 0 where
+  pub mid : Store
+  pub before : OnlyReadsAndPlans old mid []
+  pub changes : List ObjectChange
+  pub volumes : HasVolumePlaces old mid group opened actions changes
+  pub why : IsRootRefused mid new opened.set group changes refusal
+
+-- the root was read, and then the group's volumes were refused, or its changes
+pub record IsGroupUnplanned (old new : Store) (root : Block) (group : ℕ) (items : Entry)
+    (refusal : Refusal) : Type 0 where
+  pub opened : Opened
+  pub found : IsGroupFound old.spaces (group - 1) root items.writes opened
+  pub mid : Store
+  pub before : OnlyReadsBlocks old mid []
+  pub why : AreVolumesRefused mid new group opened items.actions refusal
+      ⊎ AreChangesRefused mid new group opened items.actions refusal
+
+-- why the root after a group was not planned: the root before was not read, or behind it a volume,
+-- or there was no memory, or a part of the group was refused
+abbrev pub IsGroupRefused : Store → Store → Block → ℕ → Entry → Refusal → Type 0
+IsGroupRefused old new root group items refusal =
+    (refusal ≡ NoMemory)
+    ⊎ (IsGroupUnread old new (group - 1) root items.writes refusal
+    ⊎ IsGroupUnplanned old new root group items refusal)

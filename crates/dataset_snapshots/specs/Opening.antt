@@ -1,5 +1,6 @@
 -- What was read of the volumes that a group writes to, whether or not the root is whole.
 use Rattle.std.specs.Prelude.{ℕ, ◌≡◌, ◌⊎◌, ◌↔◌, ◌≤◌, List, [], Contains, All}
+use Rattle.block_pointer.specs.declared.block.Block.{Block}
 use Rattle.block_store.specs.declared.refusal.Refusal.{Refusal}
 use Rattle.block_store.specs.declared.refusal.Refusal.TheVariants.{NoMemory, BadPointer}
 use Rattle.block_store.specs.declared.space.VdevSpace.{VdevSpace}
@@ -15,9 +16,11 @@ use Rattle.volume.specs.declared.volume.VolumeSet.{VolumeSet}
 use Rattle.volume.specs.Reading.{IsReadRefused, IsWayRead}
 use Rattle.volume.specs.Writing.{AreBlocksOf, HasId, IsChanged}
 use Rattle.dataset_snapshots.specs.declared.finding.Dataset.{Dataset}
+use Rattle.dataset_snapshots.specs.declared.groups.Opened.{Opened}
 use Rattle.dataset_snapshots.specs.declared.writing.WrittenVolume.{WrittenVolume}
-use Rattle.dataset_snapshots.specs.Finding.{IsVolumeOf}
-use Rattle.dataset_snapshots.specs.Writing.{HasRow}
+use Rattle.dataset_snapshots.specs.Finding.{AreRowsFound, IsDirectoryRefused, IsMetaRefused, IsVolumeOf}
+use Rattle.dataset_snapshots.specs.Groups.{IsOpened, objects_of}
+use Rattle.dataset_snapshots.specs.Writing.{HasRow, IsWritten}
 
 -- these are the blocks that the writes to the row's volume change, and the way to each was read
 pub record AreBlocksFound (spaces : List VdevSpace) (volume : VolumeSet) (birth : ℕ)
@@ -86,3 +89,33 @@ pub record IsOneUnread (old new : Store) (set : ObjectSet) (birth : ℕ) (writes
   pub mid : Store
   pub before : OnlyReadsBlocks old mid []
   pub why : IsWrittenRefused mid new set birth writes row refusal
+
+-- the root was read, its directory, and the volumes that the writes name, no others
+pub record IsGroupFound (spaces : List VdevSpace) (birth : ℕ) (root : Block) (writes : List Write)
+    (opened : Opened) : Type 0 where
+  pub rows : AreRowsFound spaces birth root opened.set opened.directory
+  pub is : IsOpened writes opened
+  pub which : (object : ℕ) → Contains (objects_of opened) object
+      ↔ IsWritten opened.directory writes object
+  pub each : All (IsWrittenOf spaces opened.set root.birth writes opened.directory)
+      opened.written.items
+
+-- the root and its directory were read, and then one of the volumes that the writes name was not
+pub record IsVolumeUnread (old new : Store) (birth : ℕ) (root : Block) (writes : List Write)
+    (refusal : Refusal) : Type 0 where
+  pub set : ObjectSet
+  pub rows : List DirectoryRow
+  pub read : AreRowsFound old.spaces birth root set rows
+  pub objects : List ℕ
+  pub which : (object : ℕ) → Contains objects object ↔ IsWritten rows writes object
+  pub mid : Store
+  pub before : OnlyReadsBlocks old mid []
+  pub why : IsOneUnread mid new set root.birth writes rows objects refusal
+
+-- why a group's root was not read for its writes
+abbrev pub IsGroupUnread :
+    Store → Store → ℕ → Block → List Write → Refusal → Type 0
+IsGroupUnread old new birth root writes refusal =
+    IsMetaRefused old new [] birth root refusal
+    ⊎ (IsDirectoryRefused old new [] birth root refusal
+    ⊎ IsVolumeUnread old new birth root writes refusal)

@@ -1,5 +1,5 @@
 //! The root of a pool after a group.
-ghost use Rattle.std.specs.Prelude.{◌≡◌, ◌⊎◌, ◌≤◌, ◌<◌, ◌-◌, ◌*◌, ◌^◌, ℕ, List, [], Option, Some, All, AllPairs, IfOk, IfErr, OnOk, ◌∷◌, fold, length};
+ghost use Rattle.std.specs.Prelude.{◌≡◌, ◌≢◌, ◌⊎◌, ◌≤◌, ◌<◌, ◌-◌, ◌*◌, ◌^◌, ℕ, List, [], Option, Some, All, AllPairs, IfOk, IfErr, OnOk, ◌∷◌, fold, length, map};
 ghost use Rattle.block_pointer.specs.Block.{FitsBlock};
 ghost use Rattle.block_pointer.specs.Copies.{dvas};
 ghost use Rattle.block_pointer.specs.declared.block.Block.{Block};
@@ -21,8 +21,10 @@ ghost use Rattle.pool_model.specs.Pools.{PlainPool, applied, written};
 ghost use Rattle.pool_model.specs.Pools.{changed as pool_changed};
 ghost use Rattle.vdev_label.specs.Plain.{PlainVdev};
 ghost use Rattle.dataset_snapshots.specs.Creating.{HasFirstTables, copies_of_meta};
+ghost use Rattle.dataset_snapshots.specs.Demands.{AreVolumesRefused, HasGroupPlaces, HasRootPlaces, HasVolumePlaces, IsGroupRefused, IsRootRefused, numbers_of};
 ghost use Rattle.dataset_snapshots.specs.Groups.{IsOpened, IsOpenedFrom, IsSetOf, SpellsAfter};
 ghost use Rattle.dataset_snapshots.specs.Making.{AreGoodCreations, IsReady, SpellsMaking};
+ghost use Rattle.dataset_snapshots.specs.Opening.{IsGroupFound, IsGroupUnread};
 ghost use Rattle.dataset_snapshots.specs.Pools.{SpellsPool};
 
 use crate::creating::COPIES;
@@ -91,6 +93,11 @@ pub fn after_group<D: Disk + Drop>(
         → Plans store.old stored planned → SpellsPool stored (group - 1) root.now pool
         → AnswersAreTrue store.old store.new → AreGoodCreations items.now.actions
         → IsForRoom refusal ⊎ (refusal ≡ Refusal.DiskFault)) }
+
+    // Whatever the root is: what places are taken for, and on a refusal its cause.
+    ensures places { OnOk result (HasGroupPlaces store.old store.new root.now group items.now) }
+    ensures refused { IfErr result
+        (IsGroupRefused store.old store.new root.now group items.now) }
 {
     let opened = open_group(root, store, alloc, group - 1, items.writes())?;
     let set = opened.set;
@@ -117,6 +124,9 @@ fn open_group<D: Disk + Drop>(
     ensures known { IfErr result (λ refusal. (stored : Contents) (pool : PlainPool)
         → Holds store.old stored → SpellsPool stored birth root.now pool
         → AnswersAreTrue store.old store.new → IsForLoss refusal) }
+    ensures found { IfOk result (IsGroupFound store.old.spaces birth root.now writes.now) }
+    ensures refused { IfErr result (λ refusal. (refusal ≡ Refusal.NoMemory)
+        ⊎ IsGroupUnread store.old store.new birth root.now writes.now refusal) }
 {
     let set = read_meta(root, store, alloc, birth, &[])?;
     let directory = read_directory(&set, store, alloc, root.birth, &[])?;
@@ -162,6 +172,10 @@ fn changes_of<D: Disk + Drop>(
         → IsOpenedFrom stored birth root pool is writes opened
         → AnswersAreTrue store.old store.new → AreGoodCreations actions.now
         → IsForRoom refusal ⊎ (refusal ≡ Refusal.DiskFault)) }
+    ensures places { IfOk result (λ changes.
+        HasVolumePlaces store.old store.new group opened actions.now changes.items) }
+    ensures refused { IfErr result
+        (AreVolumesRefused store.old store.new group opened actions.now) }
 {
     let next = opened.set.objects.max(FIRST_OBJECT);
     let changes = place_written(store, alloc, group, opened.set.objects, opened.written)?;
@@ -190,6 +204,10 @@ fn with_directory(making: Making, alloc: Global, count: usize) -> Result<Vec<Obj
         → HasDirectory (objects 1) rows → SpellsMaking stored birth objects making pool
         → (length making.changes.items ≡ count → making.directory ≡ rows)
         → SpellsAfter stored birth objects changes.items pool) }
+    ensures same { IfOk result (λ changes. length making.changes.items ≡ count
+        → map (λ change. change.number) changes.items ≡ numbers_of making) }
+    ensures more { IfOk result (λ changes. length making.changes.items ≢ count
+        → map (λ change. change.number) changes.items ≡ 1 ∷ numbers_of making) }
     ensures refused { IfErr result (λ refusal. refusal ≡ Refusal.NoMemory) }
 {
     let Making {
@@ -268,6 +286,10 @@ fn plan_root<D: Disk + Drop>(
         → bound ≤ group → AnswersAreTrue store.old store.new
         → All (λ change. MayChange change.change (objects change.number)) changes.now
         → IsForRoom refusal ⊎ (refusal ≡ Refusal.DiskFault)) }
+    ensures places { OnOk result
+        (HasRootPlaces store.old store.new set.now group changes.now) }
+    ensures refused { IfErr result
+        (IsRootRefused store.old store.new set.now group changes.now) }
 {
     let rewrite = objset::change(set, store, alloc, changes, group, COPIES, &[])?;
     plan_set(&rewrite.set, store, alloc, group, CopyCount::Three)

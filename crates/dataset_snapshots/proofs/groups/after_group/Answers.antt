@@ -1,4 +1,4 @@
-use Rattle.std.proofs.Common.{◌≤◌, [], List, sym, subst, arith}
+use Rattle.std.proofs.Common.{◌≤◌, ◌-◌, [], List, sym, subst, arith}
 use Rattle.std.specs.Prelude.{All, fold}
 use Rattle.std.proofs.lemmas.Result.{IfOk-weaker, IfErr-weaker}
 use Rattle.block_store.proofs.Steps.{steps_on, steps_read, true_before, true_after}
@@ -15,6 +15,11 @@ use Rattle.dataset_snapshots.specs.Groups.{IsSetOf, SpellsAfter}
 use Rattle.dataset_snapshots.specs.Making.{AreGoodCreations}
 use Rattle.dataset_snapshots.proofs.Datasets.{are_of_root}
 use Rattle.dataset_snapshots.proofs.GroupRoot.{spells_root}
+use Rattle.std.specs.Prelude.{AllPairs}
+use Rattle.std.proofs.Common.{◌<◌}
+use Rattle.dataset_snapshots.specs.Demands.{AreVolumesRefused, HasRootPlaces, HasVolumePlaces, IsRootRefused}
+use Rattle.dataset_snapshots.specs.Opening.{IsGroupFound}
+use Rattle.dataset_snapshots.proofs.GroupDemands.{group_changes_refused, group_has, group_unread, group_volumes_refused, on_ok_so}
 use Rattle.dataset_snapshots.proofs.groups.after_group.Goals as goal
 
 pub returns-in_err-opened-clause-steps : goal.returns-in_err-opened-clause-steps
@@ -84,3 +89,48 @@ returns-clause-known g c =
     why stored changes.0 c.args.root.now.birth is.objects is.own is.blocks changes.1 are le
     (true_after c.args.store.now c.changes_of.new.store c.plan_root.new.store both.reads honest)
     (subst (All (λ (change : ObjectChange). MayChange change.change (is.objects change.number))) (sym c.deref.ensures.value) changes.3.may)) c.plan_root.ensures.known
+
+pub returns-in_err-opened-clause-refused : goal.returns-in_err-opened-clause-refused
+returns-in_err-opened-clause-refused g c =
+    passed_on _ _ _ c.from_residual.ensures.1
+    (group_unread c.args.store.now c.open_group.new.store c.args.root.now c.args.group c.args.items.now c.writes.result.now _ c.writes.ensures c.in_err-opened.ensures.refused)
+
+pub returns-in_err-changes-clause-refused : goal.returns-in_err-changes-clause-refused
+returns-in_err-changes-clause-refused g c =
+    let opened = c.in_ok-opened.opened in
+    let found = subst (λ (ws : List Write). IsGroupFound c.args.store.now.spaces (c.args.group - 1) c.args.root.now ws opened) c.writes.ensures c.in_ok-opened.ensures.found in
+    IfErr-weaker c.from_residual-in_err-changes.result _ _
+    (λ refusal why.
+    group_volumes_refused c.args.store.now c.open_group.new.store c.open_group.new.store c.changes_of.new.store c.args.root.now c.args.group c.args.items.now opened c.in_ok-opened.ensures.reads found refusal
+    (subst (λ (actions : List Action). AreVolumesRefused c.open_group.new.store c.changes_of.new.store c.args.group opened actions refusal) c.actions.ensures why))
+    (passed_on _ _ _ c.from_residual-in_err-changes.ensures.1 c.in_err-changes.ensures.refused)
+
+pub plan_root-requires-clause-order : goal.plan_root-requires-clause-order
+plan_root-requires-clause-order g c =
+    subst (AllPairs (λ (change later : ObjectChange). change.number < later.number)) (sym c.deref.ensures.value) c.in_ok-changes.ensures.order
+
+pub returns-clause-places : goal.returns-clause-places
+returns-clause-places g c =
+    let opened = c.in_ok-opened.opened in
+    let list : List ObjectChange = c.in_ok-changes.changes.items in
+    let found = subst (λ (ws : List Write). IsGroupFound c.args.store.now.spaces (c.args.group - 1) c.args.root.now ws opened) c.writes.ensures c.in_ok-opened.ensures.found in
+    let volumes = subst (λ (actions : List Action). HasVolumePlaces c.open_group.new.store c.changes_of.new.store c.args.group opened actions list) c.actions.ensures c.in_ok-changes.ensures.places in
+    on_ok_so c.plan_root.result _ _
+    (λ has.
+    group_has c.args.store.now c.open_group.new.store c.changes_of.new.store c.plan_root.new.store c.args.root.now c.args.group c.args.items.now opened c.in_ok-opened.ensures.reads found list
+    c.in_ok-changes.ensures.steps volumes
+    (subst (λ (cs : List ObjectChange). HasRootPlaces c.changes_of.new.store c.plan_root.new.store opened.set c.args.group cs) c.deref.ensures.value has))
+    c.plan_root.ensures.places
+
+pub returns-clause-refused : goal.returns-clause-refused
+returns-clause-refused g c =
+    let opened = c.in_ok-opened.opened in
+    let list : List ObjectChange = c.in_ok-changes.changes.items in
+    let found = subst (λ (ws : List Write). IsGroupFound c.args.store.now.spaces (c.args.group - 1) c.args.root.now ws opened) c.writes.ensures c.in_ok-opened.ensures.found in
+    let volumes = subst (λ (actions : List Action). HasVolumePlaces c.open_group.new.store c.changes_of.new.store c.args.group opened actions list) c.actions.ensures c.in_ok-changes.ensures.places in
+    IfErr-weaker c.plan_root.result _ _
+    (λ refusal why.
+    group_changes_refused c.args.store.now c.open_group.new.store c.changes_of.new.store c.plan_root.new.store c.args.root.now c.args.group c.args.items.now opened c.in_ok-opened.ensures.reads found list refusal
+    c.in_ok-changes.ensures.steps volumes
+    (subst (λ (cs : List ObjectChange). IsRootRefused c.changes_of.new.store c.plan_root.new.store opened.set c.args.group cs refusal) c.deref.ensures.value why))
+    c.plan_root.ensures.refused

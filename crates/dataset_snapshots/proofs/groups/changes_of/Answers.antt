@@ -1,11 +1,9 @@
-use Rattle.std.proofs.Common.{◌≡◌, ◌+◌, ◌∷◌, [], ℕ, zero, suc, List, length, max, refl, sym, ap, subst, ◌∙◌, arith}
+use Rattle.std.proofs.Common.{◌≡◌, ◌+◌, ◌∷◌, [], ℕ, List, length, refl, ap, ◌∙◌, arith}
 use Rattle.std.specs.Prelude.{fold}
-use Rattle.std.proofs.lemmas.List.{append-nil, length-append}
+use Rattle.std.proofs.lemmas.List.{length-append}
 use Rattle.std.proofs.lemmas.Result.{IfOk-weaker}
 use Rattle.block_store.proofs.Steps.{steps_on, true_before, true_after}
 use Rattle.dnode_tree.proofs.Refusing.{passed_on}
-use Rattle.meta_objset.specs.declared.directory.DirectoryRow.{DirectoryRow}
-use Rattle.objset.specs.declared.changes.ObjectChange.{ObjectChange}
 use Rattle.pool_model.specs.Pools.{written}
 use Rattle.pool_model.specs.Pools.{changed as pool_changed}
 use Rattle.dataset_snapshots.specs.Making.{GoesOn}
@@ -13,6 +11,8 @@ use Rattle.dataset_snapshots.specs.declared.making.Making.{Making}
 use Rattle.dataset_snapshots.specs.Pools.{SpellsDataset}
 use Rattle.dataset_snapshots.proofs.ChangedRows.{look, looked_up}
 use Rattle.dataset_snapshots.proofs.GroupRoot.{making_begins, ready}
+use Rattle.dnode_tree.proofs.Refusing.{ok_both}
+use Rattle.dataset_snapshots.proofs.GroupDemands.{actions_refused, group_numbers, volume_refused, volumes_have}
 use Rattle.dataset_snapshots.proofs.groups.changes_of.Goals as goal
 
 -- a list that isn't longer has no more
@@ -67,3 +67,27 @@ returns-clause-value g c =
       after made.0 c.args.group is.objects (fold (λ p a. pool_changed c.args.group p a.change) (fold written pool writes) c.args.actions.now) is.rows is.directory made.3
           (λ same. idle making c.make_all.new.self c.len-count.result c.in_ok-make_all.ensures.goes_on (omega (arith, c.len-count.ensures, c.in_ok-changes.changes.ok.0)) same ∙ from.directory),
     )) c.with_directory.ensures.value
+
+pub returns-in_err-changes-clause-refused : goal.returns-in_err-changes-clause-refused
+returns-in_err-changes-clause-refused g c =
+    passed_on _ _ _ c.from_residual.ensures.1 (volume_refused c.args.store.now c.place_written.new.store c.args.group c.args.opened c.args.actions.now _ c.in_err-changes.ensures.refused)
+
+pub returns-in_err-make_all-clause-refused : goal.returns-in_err-make_all-clause-refused
+returns-in_err-make_all-clause-refused g c =
+    let making : Making = record { directory = c.args.opened.directory; changes = c.in_ok-changes.changes; next = c.max-next.result } in
+    passed_on _ _ _ c.from_residual-in_err-make_all.ensures.1
+    (actions_refused c.args.store.now c.place_written.new.store c.make_all.new.store c.args.group c.args.opened making c.args.actions.now _ c.in_ok-changes.ensures.steps c.in_ok-changes.ensures.places
+    c.max-next.ensures c.in_err-make_all.ensures.refused)
+
+pub returns-clause-places : goal.returns-clause-places
+returns-clause-places g c =
+    let making : Making = record { directory = c.args.opened.directory; changes = c.in_ok-changes.changes; next = c.max-next.result } in
+    let last : Making = c.make_all.new.self in
+    let made = c.in_ok-make_all.ensures.places in
+    IfOk-weaker c.with_directory.result _ _
+    (λ changes both.
+    volumes_have c.args.store.now c.place_written.new.store c.make_all.new.store c.args.group c.args.opened making c.args.actions.now last changes.items c.in_ok-changes.ensures.steps.shapes
+    c.in_ok-changes.ensures.places refl made
+    (group_numbers c.args.opened making last made.made c.len-count.result changes.items c.in_ok-changes.ensures.numbers c.max-next.ensures (omega (arith, c.len-count.ensures, c.in_ok-changes.changes.ok.0))
+    made.objects.numbers both.0 both.1))
+    (ok_both c.with_directory.result _ _ c.with_directory.ensures.same c.with_directory.ensures.more)

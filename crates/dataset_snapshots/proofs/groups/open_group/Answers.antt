@@ -1,8 +1,10 @@
-use Rattle.std.proofs.Common.{◌≡◌, ℕ, List, map, ⊎_elim, sym, subst, ◌∙◌}
+use Rattle.std.proofs.Common.{◌≡◌, ℕ, ◌↔◌, List, map, ⊎_elim, ap, sym, subst, ◌∙◌}
 use Rattle.std.specs.Prelude.{All, Contains}
 use Rattle.std.specs.List.{AllZip}
 use Rattle.std.specs.List.Sorted.{IsStrictlyIncreasing}
 use Rattle.block_store.proofs.Steps.{reads_on}
+use Rattle.block_store.specs.declared.space.VdevSpace.{VdevSpace}
+use Rattle.block_store.specs.Store.{Store}
 use Rattle.dnode_tree.proofs.FurtherReads.{true_before, true_after}
 use Rattle.dnode_tree.proofs.Refusing.{passed_on}
 use Rattle.meta_objset.specs.declared.directory.DirectoryRow.{DirectoryRow}
@@ -11,6 +13,9 @@ use Rattle.dataset_snapshots.specs.Pools.{SpellsDataset}
 use Rattle.dataset_snapshots.specs.Writing.{HasRow, IsReadFrom}
 use Rattle.dataset_snapshots.proofs.ChangedRows.{all_from}
 use Rattle.dataset_snapshots.proofs.Datasets.{are_of_root}
+use Rattle.dataset_snapshots.specs.Opening.{IsWrittenOf}
+use Rattle.dataset_snapshots.specs.Writing.{IsWritten}
+use Rattle.dataset_snapshots.proofs.GroupDemands.{directory_refused, rows_found, volume_unread}
 use Rattle.dataset_snapshots.proofs.groups.open_group.Goals as goal
 
 pub returns-in_err-set-clause-known : goal.returns-in_err-set-clause-known
@@ -85,4 +90,33 @@ returns-clause-value g c = λ stored pool held is honest.
       directory = same;
       read = subst (λ (rows : List DirectoryRow). All (IsReadFrom stored c.args.root.now.birth is.objects c.args.writes.now rows) c.in_ok-written.written.items) same
           (c.in_ok-written.ensures.value stored is.objects is.own is.blocks (both.keeps stored held) are (true_after _ _ _ _ both third honest));
+    }
+
+pub returns-in_err-directory-clause-refused : goal.returns-in_err-directory-clause-refused
+returns-in_err-directory-clause-refused g c =
+    passed_on _ _ _ c.from_residual-in_err-directory.ensures.1
+    (directory_refused c.args.store.now c.read_meta.new.store c.read_directory.new.store c.args.birth c.args.root.now c.args.writes.now c.in_ok-set.set _ c.in_ok-set.ensures.reads c.in_ok-set.ensures.found
+    c.in_err-directory.ensures.refused)
+
+pub returns-in_err-written-clause-refused : goal.returns-in_err-written-clause-refused
+returns-in_err-written-clause-refused g c =
+    let first = c.in_ok-set.ensures.reads in
+    passed_on _ _ _ c.from_residual-in_err-written.ensures.1
+    (volume_unread c.args.store.now c.read_directory.new.store c.read_written.new.store c.args.birth c.args.root.now c.args.writes.now c.in_ok-set.set c.in_ok-directory.directory c.deref.result.now _
+    (reads_on _ _ _ _ first c.in_ok-directory.ensures.reads)
+    (rows_found c.args.store.now c.read_meta.new.store c.args.birth c.args.root.now c.in_ok-set.set c.in_ok-directory.directory first c.in_ok-set.ensures.found c.in_ok-directory.ensures.found)
+    (subst (λ (objects : List ℕ). (object : ℕ) → Contains objects object ↔ IsWritten c.in_ok-directory.directory c.args.writes.now object) (sym c.deref.ensures.value) c.in_ok-objects.ensures.objects)
+    c.in_err-written.ensures.refused)
+
+pub returns-clause-found : goal.returns-clause-found
+returns-clause-found g c =
+    let first = c.in_ok-set.ensures.reads in
+    let both = reads_on _ _ _ _ first c.in_ok-directory.ensures.reads in
+    let are : map (λ (w : WrittenVolume). w.dataset.object) c.in_ok-written.written.items ≡ c.in_ok-objects.objects.items = c.in_ok-written.ensures.objects ∙ c.deref.ensures.value in
+    record {
+      rows = rows_found c.args.store.now c.read_meta.new.store c.args.birth c.args.root.now c.in_ok-set.set c.in_ok-directory.directory first c.in_ok-set.ensures.found c.in_ok-directory.ensures.found;
+      is = returns-clause-opened g c;
+      which = subst (λ (objects : List ℕ). (object : ℕ) → Contains objects object ↔ IsWritten c.in_ok-directory.directory c.args.writes.now object) (sym are) c.in_ok-objects.ensures.objects;
+      each = subst (λ (spaces : List VdevSpace). All (IsWrittenOf spaces c.in_ok-set.set c.args.root.now.birth c.args.writes.now c.in_ok-directory.directory) c.in_ok-written.written.items)
+          (ap (λ (s : Store). s.spaces) both.rest) c.in_ok-written.ensures.found;
     }

@@ -1,6 +1,7 @@
-use Rattle.std.proofs.Common.{[], ℕ, List, All, inl, inr, ⊎_elim, subst, arith}
+use Rattle.std.proofs.Common.{[], List, All, inl, inr, ⊎_elim, refl, subst, arith}
 use Rattle.std.specs.Prelude.{Any}
 use Rattle.std.proofs.lemmas.Result.{IfOk-weaker, IfErr-weaker}
+use Rattle.dataset_snapshots.proofs.GroupDemands.{err_both, objects_refused, ok_so, root_places, root_refused}
 use Rattle.block_store.proofs.Steps.{no_room_now, no_room_on, steps_on, true_before}
 use Rattle.dnode_tree.proofs.Refusing.{ok_both, passed_on}
 use Rattle.objset.proofs.Kept.{objects_stand}
@@ -49,3 +50,16 @@ returns-clause-no_room g c =
 
 pub returns-clause-known : goal.returns-clause-known
 returns-clause-known g c = IfErr-weaker c.plan_set.result _ _ (λ refusal room stored planned bound objects own blocks plans are le honest may. inl room) c.plan_set.ensures.refused
+
+pub returns-in_err-rewrite-clause-refused : goal.returns-in_err-rewrite-clause-refused
+returns-in_err-rewrite-clause-refused g c = passed_on _ _ _ c.from_residual.ensures.1 (objects_refused _ _ _ _ _ _ _ refl c.in_err-rewrite.ensures.refused)
+
+pub returns-clause-places : goal.returns-clause-places
+returns-clause-places g c =
+    ok_so c.plan_set.result _ _ (λ block both. root_places c.args.store.now c.change.new.store c.plan_set.new.store c.args.set.now c.args.group _ c.args.changes.now block refl
+    c.in_ok-rewrite.ensures.places both.0 both.1) (ok_both c.plan_set.result _ _ c.plan_set.ensures.copies c.plan_set.ensures.places)
+
+pub returns-clause-refused : goal.returns-clause-refused
+returns-clause-refused g c =
+    IfErr-weaker c.plan_set.result _ _ (λ refusal both. root_refused c.args.store.now c.change.new.store c.plan_set.new.store c.args.set.now c.args.group _ c.args.changes.now refusal refl
+    c.in_ok-rewrite.ensures.places both.0 both.1) (err_both c.plan_set.result _ _ c.plan_set.ensures.refused c.plan_set.ensures.no_room)

@@ -1,4 +1,4 @@
-use Rattle.std.proofs.Common.{ℕ, ap, sym, subst, ◌∙◌}
+use Rattle.std.proofs.Common.{ap, sym, subst, ◌∙◌}
 use Rattle.dnode_tree.proofs.Refusing.{passed_on}
 use Rattle.volume.specs.declared.volume.VolumeSet.{VolumeSet}
 use Rattle.meta_objset.specs.declared.record.DatasetRecord.{DatasetRecord}

@@ -1,8 +1,7 @@
-use Rattle.std.proofs.Common.{◌≡◌, inr, [], ◌∷◌, ◌++◌, ℕ, List, map, All, Contains, refl, sym, ap, ◌∙◌, subst, append_assoc}
+use Rattle.std.proofs.Common.{◌≡◌, inr, [], ◌∷◌, ◌++◌, ℕ, List, map, All, Contains, sym, ap, ◌∙◌, subst, append_assoc}
 use Rattle.std.proofs.lemmas.List.{append-nil, map-append}
 use Rattle.std.proofs.lemmas.List.Elements.{All-contains, All-head, All-nil, All-tail, All-weaker, Contains-append_right}
 use Rattle.block_store.proofs.Steps.{steps_none, steps_on, true_before, true_after}
-use Rattle.block_store.specs.Blocks.{Contents, Extends}
 use Rattle.dnode_tree.proofs.Refusing.{passed_on}
 use Rattle.objset.specs.declared.changes.ObjectChange.{ObjectChange}
 use Rattle.objset.specs.Changes.{IsGoodChange}

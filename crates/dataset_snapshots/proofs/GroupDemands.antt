@@ -1,0 +1,227 @@
+-- What a group's root asks places for, from what its parts ask.
+use Rattle.std.proofs.Common.{◌≡◌, ◌⊎◌, ◌↔◌, inl, inr, Ok, Err, Result, ℕ, ◌+◌, ◌*◌, ◌-◌, List, [], ◌∷◌, ◌++◌, length, map, Contains, refl, sym, ap, subst, ◌∙◌, arith}
+use Rattle.std.specs.Prelude.{◌≢◌, IfErr, IfOk, OnOk}
+use Rattle.std.specs.List.{range_with_len}
+use Rattle.std.proofs.lemmas.List.{append-nil, length-append, length-map}
+use Rattle.std.proofs.lemmas.List.FromFn.{length-range_with_len}
+use Rattle.block_pointer.specs.declared.block.Block.{Block}
+use Rattle.block_pointer.specs.Copies.{dvas}
+use Rattle.block_store.proofs.Demands.{have_both, have_one, lack_later, lack_one}
+use Rattle.block_store.specs.declared.refusal.Refusal.{Refusal}
+use Rattle.block_store.specs.declared.refusal.Refusal.TheVariants.{NoMemory, NoSpace}
+use Rattle.block_store.specs.declared.space.VdevSpace.{VdevSpace}
+use Rattle.block_store.specs.Demands.{Demand, HavePlaces}
+use Rattle.block_store.specs.Places.{AreChosen, RanOut, shapes_of}
+use Rattle.block_store.specs.Steps.{OnlyReadsAndPlans, OnlyReadsBlocks}
+use Rattle.block_store.specs.Store.{Store}
+use Rattle.dnode.specs.declared.object_set.ObjectSet.{ObjectSet}
+use Rattle.dnode_tree.specs.Writes.{IsForRoom}
+use Rattle.meta_objset.specs.declared.directory.DirectoryRow.{DirectoryRow}
+use Rattle.meta_objset.specs.Found.{AreDirectoryRows, IsDirectoryFound, IsRowsRefused}
+use Rattle.meta_objset.specs.Reading.{directory_kind}
+use Rattle.objset.specs.declared.changes.ObjectChange.{ObjectChange}
+use Rattle.objset.specs.declared.changes.SetCopies.{SetCopies}
+use Rattle.objset.specs.Demands.{HasDemands, LacksRoom}
+use Rattle.objset.specs.Refused.{IsChangeRefused}
+use Rattle.pool_model.specs.declared.item.Action.{Action}
+use Rattle.pool_model.specs.declared.item.Write.{Write}
+use Rattle.pool_model.specs.Pools.{Entry}
+use Rattle.volume.specs.Demands.{empty_set}
+use Rattle.dataset_snapshots.specs.declared.groups.Opened.{Opened}
+use Rattle.dataset_snapshots.specs.declared.making.Making.{Making}
+use Rattle.dataset_snapshots.specs.Creating.{copies_of_meta}
+use Rattle.dataset_snapshots.specs.Demands.{AreAsked, AreMade, AreVolumesRefused, HasActionDemands, HasGroupDemands, HasGroupPlaces, HasRootDemands, HasRootPlaces, HasVolumeDemands, HasVolumePlaces, HavePlacesFor, IsActionRefused, IsGroupRefused, IsRootRefused, IsVolumeUnplaced, MakesAll, changed_numbers, demand_of_root, first_number, numbers_of}
+use Rattle.dataset_snapshots.specs.Finding.{AreRowsFound, IsMetaFound}
+use Rattle.dataset_snapshots.specs.Groups.{objects_of}
+use Rattle.dataset_snapshots.specs.Opening.{IsGroupFound, IsGroupUnread, IsOneUnread}
+use Rattle.dataset_snapshots.specs.Writing.{IsWritten}
+use Rattle.dataset_snapshots.proofs.Asking.{all_demands_in, set_demands_in}
+
+pub ok_so : {T E : Type 0} (result : Result T E) (P : T → Type 0) (Q : Type 0) → ((x : T) → P x → Q) → IfOk result P → OnOk result Q
+ok_so (Ok x) P Q so is = so x is
+ok_so (Err e) P Q so is = tt
+
+pub on_ok_so : {T E : Type 0} (result : Result T E) (P Q : Type 0) → (P → Q) → OnOk result P → OnOk result Q
+on_ok_so (Ok x) P Q so is = so is
+on_ok_so (Err e) P Q so is = tt
+
+pub err_both : {T E : Type 0} (result : Result T E) (P Q : E → Type 0) → IfErr result P → IfErr result Q → IfErr result (λ e. P e × Q e)
+err_both (Ok x) P Q one two = tt
+err_both (Err e) P Q one two = (one, two)
+
+-- ---- the meta object set
+
+-- what objects asked places for by these copies, and had them
+abbrev pub ObjectsHave : Store → Store → ObjectSet → ℕ → SetCopies → List ObjectChange → Type 0
+ObjectsHave old mid set group copies changes =
+    (demands : List Demand) × HasDemands old.spaces set group copies changes demands × HavePlaces old.spaces demands mid.spaces
+
+root_demands : (spaces : List VdevSpace) (set : ObjectSet) (group : ℕ) (copies : SetCopies) (changes : List ObjectChange) (demands : List Demand) → copies ≡ copies_of_meta
+    → HasDemands spaces set group copies changes demands → HasRootDemands spaces set group changes (demands ++ demand_of_root ∷ [])
+root_demands spaces set group copies changes demands same has =
+    record { of_objects = demands; are = subst (λ (c : SetCopies). HasDemands spaces set group c changes demands) same has; is = refl }
+
+pub root_places : (old mid new : Store) (set : ObjectSet) (group : ℕ) (copies : SetCopies) (changes : List ObjectChange) (block : Block) → copies ≡ copies_of_meta
+    → ObjectsHave old mid set group copies changes → length (dvas block.copies) ≡ 3 → AreChosen mid.spaces [] 2 (dvas block.copies) new.spaces → HasRootPlaces old new set group changes
+root_places old mid new set group copies changes block same objects three chosen = (
+  objects.0 ++ demand_of_root ∷ [],
+  root_demands old.spaces set group copies changes objects.0 same objects.1,
+  have_both old.spaces mid.spaces new.spaces objects.0 (demand_of_root ∷ []) objects.2 (have_one mid.spaces new.spaces 2 3 (dvas block.copies) three chosen),
+)
+
+pub root_refused : (old mid new : Store) (set : ObjectSet) (group : ℕ) (copies : SetCopies) (changes : List ObjectChange) (refusal : Refusal) → copies ≡ copies_of_meta
+    → ObjectsHave old mid set group copies changes → IsForRoom refusal → (refusal ≡ NoSpace → RanOut mid.spaces 2 3 new.spaces) → IsRootRefused old new set group changes refusal
+root_refused old mid new set group copies changes refusal same objects (inl memory) ran_out = inl memory
+root_refused old mid new set group copies changes refusal same objects (inr is) ran_out =
+    inr (inl (
+      is,
+      inr (
+        objects.0 ++ demand_of_root ∷ [],
+        root_demands old.spaces set group copies changes objects.0 same objects.1,
+        lack_later old.spaces mid.spaces new.spaces objects.0 (demand_of_root ∷ []) objects.2 (lack_one mid.spaces new.spaces 2 3 (ran_out is)),
+      ),
+    ))
+
+pub objects_refused : (old new : Store) (set : ObjectSet) (group : ℕ) (copies : SetCopies) (changes : List ObjectChange) (refusal : Refusal) → copies ≡ copies_of_meta
+    → ((refusal ≡ NoMemory) ⊎ (((refusal ≡ NoSpace) × LacksRoom old new set group copies changes) ⊎ IsChangeRefused old new [] set group changes refusal))
+    → IsRootRefused old new set group changes refusal
+objects_refused old new set group copies changes refusal same (inl memory) = inl memory
+objects_refused old new set group copies changes refusal same (inr (inl lacks)) =
+    inr (inl (lacks.0, inl (subst (λ (c : SetCopies). LacksRoom old new set group c changes) same lacks.1)))
+objects_refused old new set group copies changes refusal same (inr (inr why)) = inr (inr why)
+
+-- ---- what was read
+
+pub rows_found : (old mid : Store) (birth : ℕ) (root : Block) (set : ObjectSet) (rows : List DirectoryRow) → OnlyReadsBlocks old mid [] → IsMetaFound old.spaces birth root set
+    → IsDirectoryFound mid.spaces set root.birth rows → AreRowsFound old.spaces birth root set rows
+rows_found old mid birth root set rows reads meta found =
+    record { meta = meta; directory = subst (λ (spaces : List VdevSpace). IsDirectoryFound spaces set root.birth rows) (ap (λ (s : Store). s.spaces) reads.rest) found }
+
+pub directory_refused : (old mid new : Store) (birth : ℕ) (root : Block) (writes : List Write) (set : ObjectSet) (refusal : Refusal) → OnlyReadsBlocks old mid [] → IsMetaFound old.spaces birth root set
+    → (refusal ≡ NoMemory) ⊎ IsRowsRefused mid new [] set root.birth directory_kind 1 AreDirectoryRows refusal
+    → (refusal ≡ NoMemory) ⊎ IsGroupUnread old new birth root writes refusal
+directory_refused old mid new birth root writes set refusal reads meta (inl memory) = inl memory
+directory_refused old mid new birth root writes set refusal reads meta (inr why) =
+    inr (inr (inl (record { set = set; meta = meta; mid = mid; before = reads; why = why })))
+
+pub volume_unread : (old mid new : Store) (birth : ℕ) (root : Block) (writes : List Write) (set : ObjectSet) (rows : List DirectoryRow) (objects : List ℕ) (refusal : Refusal)
+    → OnlyReadsBlocks old mid [] → AreRowsFound old.spaces birth root set rows → ((object : ℕ) → Contains objects object ↔ IsWritten rows writes object)
+    → (refusal ≡ NoMemory) ⊎ IsOneUnread mid new set root.birth writes rows objects refusal → (refusal ≡ NoMemory) ⊎ IsGroupUnread old new birth root writes refusal
+volume_unread old mid new birth root writes set rows objects refusal reads read which (inl memory) = inl memory
+volume_unread old mid new birth root writes set rows objects refusal reads read which (inr why) =
+    inr (inr (inr (record { set = set; rows = rows; read = read; objects = objects; which = which; mid = mid; before = reads; why = why })))
+
+-- ---- the volumes
+
+asked_so : {X : Type 0} (Asks Others : X → List Demand → Type 0) → ((x : X) (demands : List Demand) → Asks x demands → Others x demands) → (xs : List X) (demands : List Demand)
+    → AreAsked Asks xs demands → AreAsked Others xs demands
+asked_so Asks Others so [] demands none = none
+asked_so Asks Others so (x ∷ xs) demands (first, rest, here, later, is) = (first, rest, so x first here, asked_so Asks Others so xs rest later, is)
+
+as_many : (making : Making) (numbers : List ℕ) → numbers_of making ≡ numbers → length making.changes.items ≡ length numbers
+as_many making numbers are = sym (length-map making.changes.items (λ (c : ObjectChange). c.number)) ∙ ap length are
+
+pub group_numbers : (opened : Opened) (first last : Making) (made : List Action) (count : ℕ) (changes : List ObjectChange) → numbers_of first ≡ objects_of opened → first.next ≡ first_number opened.set
+    → length first.changes.items ≡ count → numbers_of last ≡ numbers_of first ++ range_with_len first.next (2 * length made)
+    → (length last.changes.items ≡ count → map (λ (c : ObjectChange). c.number) changes ≡ numbers_of last)
+    → (length last.changes.items ≢ count → map (λ (c : ObjectChange). c.number) changes ≡ 1 ∷ numbers_of last)
+    → map (λ (c : ObjectChange). c.number) changes ≡ changed_numbers opened made
+group_numbers opened first last [] count changes written next len numbers same more =
+    let all : numbers_of last ≡ numbers_of first = numbers ∙ append-nil (numbers_of first) in
+    let long : length last.changes.items ≡ length first.changes.items = as_many last (numbers_of first) all ∙ length-map first.changes.items (λ (c : ObjectChange). c.number) in
+    same (long ∙ len) ∙ all ∙ written
+group_numbers opened first last (action ∷ made) count changes written next len numbers same more =
+    let behind : List ℕ = range_with_len first.next (2 * length (action ∷ made)) in
+    let parts : length (numbers_of first ++ behind) ≡ length (numbers_of first) + length behind = length-append (numbers_of first) behind in
+    let mapped : length (numbers_of first) ≡ length first.changes.items = length-map first.changes.items (λ (c : ObjectChange). c.number) in
+    let two : length behind ≡ 2 * length (action ∷ made) = length-range_with_len first.next (2 * length (action ∷ made)) in
+    let all = as_many last (numbers_of first ++ behind) numbers in
+    let longer : length last.changes.items ≢ count = λ is. omega (arith, is, all, parts, mapped, two, len) in
+    more longer ∙ ap (λ (rest : List ℕ). 1 ∷ rest) (numbers ∙ (ap (λ (front : List ℕ). front ++ behind) written ∙ ap (λ n. objects_of opened ++ range_with_len n (2 * length (action ∷ made))) next))
+
+pub volume_refused : (old new : Store) (group : ℕ) (opened : Opened) (actions : List Action) (refusal : Refusal) → (refusal ≡ NoMemory) ⊎ IsVolumeUnplaced old new group opened.written.items refusal
+    → AreVolumesRefused old new group opened actions refusal
+volume_refused old new group opened actions refusal (inl memory) = inl memory
+volume_refused old new group opened actions refusal (inr why) = inr (inl why)
+
+module _ (old mid new : Store) (group : ℕ) (opened : Opened) (first : Making) (actions : List Action) where
+  pub actions_refused : (refusal : Refusal) → OnlyReadsAndPlans old mid [] → HavePlacesFor old mid (HasVolumeDemands old.spaces group) opened.written.items → first.next ≡ first_number opened.set
+      → (refusal ≡ NoMemory) ⊎ IsActionRefused mid new group opened.directory first.next actions refusal → AreVolumesRefused old new group opened actions refusal
+  actions_refused refusal steps places next (inl memory) = inl memory
+  actions_refused refusal steps places next (inr why) =
+      inr (inr (record {
+        mid = mid;
+        before = steps;
+        places = places;
+        why = subst (λ n. IsActionRefused mid new group opened.directory n actions refusal) next why;
+      }))
+
+  pub volumes_have : (last : Making) (changes : List ObjectChange) → shapes_of mid.spaces ≡ shapes_of old.spaces → HavePlacesFor old mid (HasVolumeDemands old.spaces group) opened.written.items
+      → first.directory ≡ opened.directory → (made : MakesAll mid new group first last actions) → map (λ (c : ObjectChange). c.number) changes ≡ changed_numbers opened made.made
+      → HasVolumePlaces old new group opened actions changes
+  volumes_have last changes same written is made numbers =
+      let asked = made.places in record {
+        made = made.made;
+        made_are = subst (λ (rows : List DirectoryRow). AreMade rows [] actions made.made) is made.are;
+        numbers = numbers;
+        of_written = written.0;
+        written_ask = written.1;
+        of_made = asked.0;
+        made_ask = asked_so (HasActionDemands mid.spaces group) (HasActionDemands old.spaces group)
+            (λ action demands has. (has.0, has.1, set_demands_in old.spaces mid.spaces same empty_set group has.0 demands has.2)) made.made asked.0 asked.1;
+        places = have_both old.spaces mid.spaces new.spaces written.0 asked.0 written.2 asked.2;
+      }
+
+-- ---- the group
+
+module _ (old first second new : Store) (root : Block) (group : ℕ) (items : Entry) (opened : Opened) (reads : OnlyReadsBlocks old first [])
+    (found : IsGroupFound old.spaces (group - 1) root items.writes opened) where
+  pub group_volumes_refused : (refusal : Refusal) → AreVolumesRefused first new group opened items.actions refusal → IsGroupRefused old new root group items refusal
+  group_volumes_refused refusal why = inr (inr (record { opened = opened; found = found; mid = first; before = reads; why = inl why }))
+
+  pub group_changes_refused : (changes : List ObjectChange) (refusal : Refusal) → OnlyReadsAndPlans first second [] → HasVolumePlaces first second group opened items.actions changes
+      → IsRootRefused second new opened.set group changes refusal → IsGroupRefused old new root group items refusal
+  group_changes_refused changes refusal steps volumes why =
+      inr (inr (record {
+        opened = opened;
+        found = found;
+        mid = first;
+        before = reads;
+        why = inr (record { mid = second; before = steps; changes = changes; volumes = volumes; why = why });
+      }))
+
+  pub group_has : (changes : List ObjectChange) → OnlyReadsAndPlans first second [] → HasVolumePlaces first second group opened items.actions changes
+      → HasRootPlaces second new opened.set group changes → HasGroupPlaces old new root group items
+  group_has changes steps volumes (of_root, root_asks, root_has) =
+      let same : first.spaces ≡ old.spaces = ap (λ (s : Store). s.spaces) reads.rest in
+      let demands : List Demand = (volumes.of_written ++ volumes.of_made) ++ of_root in
+      let ask : HasGroupDemands first.spaces group opened items.actions demands = record {
+        made = volumes.made;
+        made_are = volumes.made_are;
+        of_written = volumes.of_written;
+        written_ask = volumes.written_ask;
+        of_made = volumes.of_made;
+        made_ask = volumes.made_ask;
+        changes = changes;
+        numbers = volumes.numbers;
+        of_root = of_root;
+        root_asks = record {
+          of_objects = root_asks.of_objects;
+          are = all_demands_in first.spaces second.spaces steps.shapes opened.set group copies_of_meta changes root_asks.of_objects root_asks.are;
+          is = root_asks.is;
+        };
+        is = refl;
+      } in
+      let have : HavePlaces first.spaces demands new.spaces =
+      have_both first.spaces second.spaces new.spaces (volumes.of_written ++ volumes.of_made) of_root volumes.places root_has in record {
+        opened = opened;
+        found = found;
+        demands = demands;
+        ask = subst (λ (spaces : List VdevSpace). HasGroupDemands spaces group opened items.actions demands) same ask;
+        places = subst (λ (spaces : List VdevSpace). HavePlaces spaces demands new.spaces) same have;
+      }
+
+pub group_unread : (old new : Store) (root : Block) (group : ℕ) (items : Entry) (writes : List Write) (refusal : Refusal) → writes ≡ items.writes
+    → (refusal ≡ NoMemory) ⊎ IsGroupUnread old new (group - 1) root writes refusal → IsGroupRefused old new root group items refusal
+group_unread old new root group items writes refusal same (inl memory) = inl memory
+group_unread old new root group items writes refusal same (inr why) = inr (inl (subst (λ (ws : List Write). IsGroupUnread old new (group - 1) root ws refusal) same why))
