@@ -41,7 +41,7 @@ pairs_between R (first ∷ xs) ys x pairs before behind =
     (pairs_between R xs ys x (pairs_tail R first (xs ++ ys) pairs) (All-tail (λ before. R before x) first xs before) behind)
 
 -- what stands behind an element in the list
-pairs_behind : {X : Type 0} (R : X → X → Type 0) (xs ys : List X) (x : X) → AllPairs R (xs ++ x ∷ ys) → All (R x) ys
+pub pairs_behind : {X : Type 0} (R : X → X → Type 0) (xs ys : List X) (x : X) → AllPairs R (xs ++ x ∷ ys) → All (R x) ys
 pairs_behind R [] ys x pairs = pairs_head R x ys pairs
 pairs_behind R (first ∷ xs) ys x pairs = pairs_behind R xs ys x (pairs_tail R first (xs ++ x ∷ ys) pairs)
 
@@ -50,7 +50,7 @@ is_one x other (zero, low, is) = is
 is_one x other (suc k, low, is) = absurd (omega (arith, low))
 
 -- what is in a list with one more in the middle
-in_middle : {X : Type 0} (xs ys : List X) (x other : X) → Contains (xs ++ x ∷ ys) other → Contains (xs ++ ys) other ⊎ (x ≡ other)
+pub in_middle : {X : Type 0} (xs ys : List X) (x other : X) → Contains (xs ++ x ∷ ys) other → Contains (xs ++ ys) other ⊎ (x ≡ other)
 in_middle xs ys x other held =
     elim (Contains-append_cases xs (x ∷ ys) other held) [
       | inl front ↦ inl (Contains-append_left xs ys other front)
@@ -61,14 +61,14 @@ in_middle xs ys x other held =
           ]
     ]
 
-still_in : {X : Type 0} (xs ys : List X) (x other : X) → Contains (xs ++ ys) other → Contains (xs ++ x ∷ ys) other
+pub still_in : {X : Type 0} (xs ys : List X) (x other : X) → Contains (xs ++ ys) other → Contains (xs ++ x ∷ ys) other
 still_in xs ys x other held =
     elim (Contains-append_cases xs ys other held) [
       | inl front ↦ Contains-append_left xs (x ∷ ys) other front
       | inr back ↦ Contains-append_right xs (x ∷ ys) other (Contains-append_right (x ∷ []) ys other back)
     ]
 
-the_middle : {X : Type 0} (xs ys : List X) (x : X) → Contains (xs ++ x ∷ ys) x
+pub the_middle : {X : Type 0} (xs ys : List X) (x : X) → Contains (xs ++ x ∷ ys) x
 the_middle xs ys x = Contains-append_right xs (x ∷ ys) x (0, omega arith, refl)
 
 -- names before and behind each other differ

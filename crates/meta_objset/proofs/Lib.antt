@@ -4,4 +4,6 @@ pub mod InOrder
 pub mod Records
 pub mod Rows
 pub mod Edits
+pub mod Ordered
+pub mod Spans
 pub mod Losses

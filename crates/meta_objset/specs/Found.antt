@@ -1,7 +1,7 @@
 -- What was read of the pool's tables and records, whether or not the meta object set is whole.
-use Rattle.std.specs.Prelude.{ℕ, ◌≡◌, ◌≢◌, ◌⊎◌, List, Option, Some, None, length, IsSomeAnd}
+use Rattle.std.specs.Prelude.{ℕ, ◌≡◌, ◌⊎◌, List, Option, Some, None, length, IsSomeAnd}
 use Rattle.block_store.specs.declared.refusal.Refusal.{Refusal}
-use Rattle.block_store.specs.declared.refusal.Refusal.TheVariants.{NoMemory, BadPointer}
+use Rattle.block_store.specs.declared.refusal.Refusal.TheVariants.{BadPointer}
 use Rattle.block_store.specs.declared.space.VdevSpace.{VdevSpace}
 use Rattle.block_store.specs.Steps.{OnlyReadsBlocks}
 use Rattle.block_store.specs.Store.{Store}
@@ -16,8 +16,10 @@ use Rattle.vdev_label.specs.Config.{FitsConfig, config_bytes}
 use Rattle.vdev_label.specs.Plain.{PlainVdev}
 use Rattle.meta_objset.specs.declared.directory.DirectoryRow.{DirectoryRow}
 use Rattle.meta_objset.specs.declared.record.DatasetRecord.{DatasetRecord}
+use Rattle.meta_objset.specs.declared.stale_spans.StaleSpan.{StaleSpan}
 use Rattle.meta_objset.specs.Directory.{IsDirectory, rows_bytes}
 use Rattle.meta_objset.specs.Reading.{directory_kind, config_kind}
+use Rattle.meta_objset.specs.StaleSpans.{AreStaleSpans, spans_bytes, spans_kind}
 use Rattle.meta_objset.specs.Record.{SpellsRecord}
 
 -- a table was found, and its rows are none of those that it may have
@@ -42,6 +44,15 @@ AreDirectoryRows bytes = (rows : List DirectoryRow) × IsDirectory rows × (byte
 abbrev pub IsDirectoryFound : List VdevSpace → ObjectSet → ℕ → List DirectoryRow → Type 0
 IsDirectoryFound spaces set birth rows =
     IsDirectory rows × IsTableFound spaces set birth directory_kind 1 (rows_bytes rows)
+
+-- these rows are stale spans
+abbrev pub AreSpanRows : List ℕ → Type 0
+AreSpanRows bytes = (spans : List StaleSpan) × AreStaleSpans spans × (bytes ≡ spans_bytes spans)
+
+-- the stale spans were found
+abbrev pub AreSpansFound : List VdevSpace → ObjectSet → ℕ → List StaleSpan → Type 0
+AreSpansFound spaces set birth spans =
+    AreStaleSpans spans × IsTableFound spaces set birth spans_kind 3 (spans_bytes spans)
 
 -- these rows are a configuration's
 abbrev pub AreConfigRows : List ℕ → Type 0

@@ -5,3 +5,4 @@ pub mod Found
 pub mod Names
 pub mod Reading
 pub mod Record
+pub mod StaleSpans

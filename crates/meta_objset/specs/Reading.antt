@@ -7,7 +7,9 @@ use Rattle.vdev_label.specs.Config.{FitsConfig, config_bytes}
 use Rattle.vdev_label.specs.Plain.{PlainVdev}
 use Rattle.meta_objset.specs.declared.directory.DirectoryRow.{DirectoryRow}
 use Rattle.meta_objset.specs.Config.{config_shape}
+use Rattle.meta_objset.specs.declared.stale_spans.StaleSpan.{StaleSpan}
 use Rattle.meta_objset.specs.Directory.{IsDirectory, rows_bytes, directory_shape}
+use Rattle.meta_objset.specs.StaleSpans.{AreStaleSpans, spans_bytes, spans_kind}
 
 -- the directory has type 200, and the configuration 203
 abbrev pub directory_kind : TableKind
@@ -23,3 +25,7 @@ HasDirectory object rows = IsDirectory rows × HasTable directory_kind object (r
 -- or of this configuration
 abbrev pub HasConfig : Option Object → List PlainVdev → Type 0
 HasConfig object vdevs = FitsConfig vdevs × HasTable config_kind object (config_bytes vdevs)
+
+-- or of these stale spans
+abbrev pub HasStaleSpans : Option Object → List StaleSpan → Type 0
+HasStaleSpans object spans = AreStaleSpans spans × HasTable spans_kind object (spans_bytes spans)

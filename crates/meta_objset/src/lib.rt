@@ -7,11 +7,14 @@ mod directory;
 mod names;
 mod reading;
 mod record;
+mod stale_spans;
+mod word_rows;
 
 pub use config::{config_creation, config_replacement, decode_config, encode_config};
 pub use datasets::{read_record, record_change, record_creation};
 pub use directory::{Directory, DirectoryRow};
 pub use names::{is_name, padded, unpadded};
 pub use object_table::Refusal;
-pub use reading::{read_config, read_directory};
+pub use reading::{read_config, read_directory, read_stale_spans};
 pub use record::{DatasetKind, DatasetRecord};
+pub use stale_spans::{STALE_SPANS_KIND, StaleSpan, StaleSpans};

@@ -8,14 +8,17 @@ ghost use Rattle.block_store.specs.Store.{Holds};
 ghost use Rattle.dnode.specs.ObjectSet.{FitsObjectSet};
 ghost use Rattle.objset.specs.Objects.{Object, AreObjects};
 ghost use Rattle.meta_objset.specs.declared.directory.DirectoryRow.{DirectoryRow};
+ghost use Rattle.meta_objset.specs.declared.stale_spans.StaleSpan.{StaleSpan};
 ghost use Rattle.meta_objset.specs.Directory.{IsDirectory, rows_bytes};
-ghost use Rattle.meta_objset.specs.Found.{AreConfigRows, AreDirectoryRows, IsConfigFound, IsDirectoryFound, IsRowsRefused};
-ghost use Rattle.meta_objset.specs.Reading.{HasDirectory, HasConfig, config_kind, directory_kind};
+ghost use Rattle.meta_objset.specs.Found.{AreConfigRows, AreDirectoryRows, AreSpanRows, AreSpansFound, IsConfigFound, IsDirectoryFound, IsRowsRefused};
+ghost use Rattle.meta_objset.specs.Reading.{HasDirectory, HasConfig, HasStaleSpans, config_kind, directory_kind};
+ghost use Rattle.meta_objset.specs.StaleSpans.{AreStaleSpans, spans_bytes, spans_kind};
 ghost use Rattle.vdev_label.specs.Config.{SpellsConfig};
 ghost use Rattle.vdev_label.specs.Plain.{PlainVdev, config_view};
 
 use crate::config::{KIND as CONFIG_KIND, config_in};
 use crate::directory::{Directory, KIND as DIRECTORY_KIND};
+use crate::stale_spans::{STALE_SPANS_KIND, StaleSpans};
 use block_store::{BlockStore, Refusal};
 use dnode::ObjectSet;
 use model_disk::Disk;
@@ -130,6 +133,73 @@ fn config_of(alloc: Global, rows: &[u8]) -> Result<Config, Refusal>
 {
     match config_in(alloc, rows) {
         Ok(config) => Ok(config),
+        Err(object_table::Refusal::BadPointer) => Err(Refusal::BadPointer),
+        Err(object_table::Refusal::NoMemory) => Err(Refusal::NoMemory),
+    }
+}
+
+/// The number of the stale spans' object.
+const STALE_SPANS: u64 = 3;
+
+/// The stale spans in a meta object set. `BadPointer` where object 3 has none. The set's blocks were born in the
+/// transaction group `birth` or before. The disks that are named are taken as missing.
+pub fn read_stale_spans<D: Disk + Drop>(
+    set: &ObjectSet,
+    store: &mut BlockStore<D>,
+    alloc: Global,
+    birth: u64,
+    missing: &[usize],
+) -> Result<StaleSpans, Refusal>
+    requires { FitsObjectSet set.now }
+    ensures reads { OnlyReadsBlocks store.old store.new missing.now }
+    ensures value { IfOk result (λ spans. (stored : Contents) (objects : ℕ → Option Object)
+        (own : List Block) (blocks : ℕ → List Block) → Holds store.old stored
+        → AreObjects stored birth set.now objects own blocks → AnswersAreTrue store.old store.new
+        → HasStaleSpans (objects 3) spans) }
+    // There are no others.
+    ensures one { IfOk result (λ spans. (stored : Contents) (objects : ℕ → Option Object)
+        (own : List Block) (blocks : ℕ → List Block) → Holds store.old stored
+        → AreObjects stored birth set.now objects own blocks → AnswersAreTrue store.old store.new
+        → (other : List StaleSpan) → HasStaleSpans (objects 3) other → spans ≡ other) }
+
+    // Whatever the set is: what was read, and on a refusal its cause.
+    ensures found { IfOk result (AreSpansFound store.old.spaces set.now birth) }
+    ensures refused { IfErr result (λ refusal. (refusal ≡ Refusal.NoMemory)
+        ⊎ IsRowsRefused store.old store.new missing.now set.now birth spans_kind 3
+        AreSpanRows refusal) }
+    ensures cause { IfErr result (λ refusal. refusal ≢ Refusal.NoSpace) }
+
+    // And it is read, over disks that answer truly, unless too many disks miss of a block.
+    ensures known { IfErr result (λ refusal. (stored : Contents) (objects : ℕ → Option Object)
+        (own : List Block) (blocks : ℕ → List Block) → Holds store.old stored
+        → AreObjects stored birth set.now objects own blocks → AnswersAreTrue store.old store.new
+        → IsForLoss refusal ⊎ ((refusal ≡ Refusal.BadPointer)
+        × ((spans : List StaleSpan) → ¬ HasStaleSpans (objects 3) spans))) }
+{
+    let rows = object_table::read(
+        set,
+        store,
+        alloc,
+        STALE_SPANS_KIND,
+        STALE_SPANS,
+        birth,
+        missing,
+    )?;
+    spans_of(alloc, &rows)
+}
+
+/// The spans whose rows these are.
+fn spans_of(alloc: Global, rows: &[u8]) -> Result<StaleSpans, Refusal>
+    ensures found { IfOk result (λ found. AreStaleSpans found × (rows.now ≡ spans_bytes found)) }
+    ensures only { (other : List StaleSpan) → AreStaleSpans other → rows.now ≡ spans_bytes other
+        → IfOk result (λ found. found ≡ other) }
+    ensures cause { IfErr result (λ refusal. refusal ≢ Refusal.NoSpace) }
+    ensures refused { IfErr result (λ refusal. (refusal ≡ Refusal.NoMemory)
+        ⊎ ((refusal ≡ Refusal.BadPointer)
+        × ((found : List StaleSpan) → AreStaleSpans found → rows.now ≢ spans_bytes found))) }
+{
+    match StaleSpans::from_rows(alloc, rows) {
+        Ok(spans) => Ok(spans),
         Err(object_table::Refusal::BadPointer) => Err(Refusal::BadPointer),
         Err(object_table::Refusal::NoMemory) => Err(Refusal::NoMemory),
     }
