@@ -6,4 +6,5 @@ pub mod Rows
 pub mod Edits
 pub mod Ordered
 pub mod Spans
+pub mod Maps
 pub mod Losses

@@ -164,6 +164,15 @@ module _ {X K : Type 0} (key : X → K) (Lt : K → K → Type 0) (is : IsOrder 
   put_is : (row : X) → set rows at row ≡ take at rows ++ row ∷ drop (suc at) rows
   put_is row = ap (λ all. set all at row) whole ∙ set_at (take at rows) old (drop (suc at) rows) row at (length-take-le at rows (omega (arith, low)))
 
+  pub put_ordered : (row : X) → Fits row → key old ≡ key row → AreOrdered Fits (ByKey X K key Lt) (set rows at row)
+  put_ordered row fits same =
+      subst (AreOrdered Fits (ByKey X K key Lt)) (sym (put_is row))
+      (record {
+        each = All-append Fits (take at rows) (row ∷ drop (suc at) rows) (All-take Fits at rows ordered.each) (All-cons Fits row (drop (suc at) rows) fits (All-drop Fits (suc at) rows ordered.each));
+        order = pairs_between (ByKey X K key Lt) (take at rows) (drop (suc at) rows) row taken_ordered.order (subst (λ (k : K). All (λ other. Lt (key other) k) (take at rows)) same front)
+            (subst (λ (k : K). All (λ other. Lt k (key other)) (drop (suc at) rows)) same back);
+      })
+
   pub put_set : (row : X) → key old ≡ key row → IsSet key rows row (set rows at row)
   put_set row same = subst (IsSet key rows row) (sym (put_is row)) each
     where

@@ -16,9 +16,11 @@ use Rattle.vdev_label.specs.Config.{FitsConfig, config_bytes}
 use Rattle.vdev_label.specs.Plain.{PlainVdev}
 use Rattle.meta_objset.specs.declared.directory.DirectoryRow.{DirectoryRow}
 use Rattle.meta_objset.specs.declared.record.DatasetRecord.{DatasetRecord}
+use Rattle.meta_objset.specs.declared.space_maps.MetaslabMap.{MetaslabMap}
 use Rattle.meta_objset.specs.declared.stale_spans.StaleSpan.{StaleSpan}
 use Rattle.meta_objset.specs.Directory.{IsDirectory, rows_bytes}
 use Rattle.meta_objset.specs.Reading.{directory_kind, config_kind}
+use Rattle.meta_objset.specs.SpaceMaps.{AreSpaceMaps, maps_bytes, maps_kind}
 use Rattle.meta_objset.specs.StaleSpans.{AreStaleSpans, spans_bytes, spans_kind}
 use Rattle.meta_objset.specs.Record.{SpellsRecord}
 
@@ -53,6 +55,15 @@ AreSpanRows bytes = (spans : List StaleSpan) × AreStaleSpans spans × (bytes �
 abbrev pub AreSpansFound : List VdevSpace → ObjectSet → ℕ → List StaleSpan → Type 0
 AreSpansFound spaces set birth spans =
     AreStaleSpans spans × IsTableFound spaces set birth spans_kind 3 (spans_bytes spans)
+
+-- these rows are space maps
+abbrev pub AreMapRows : List ℕ → Type 0
+AreMapRows bytes = (maps : List MetaslabMap) × AreSpaceMaps maps × (bytes ≡ maps_bytes maps)
+
+-- the space maps were found
+abbrev pub AreMapsFound : List VdevSpace → ObjectSet → ℕ → List MetaslabMap → Type 0
+AreMapsFound spaces set birth maps =
+    AreSpaceMaps maps × IsTableFound spaces set birth maps_kind 4 (maps_bytes maps)
 
 -- these rows are a configuration's
 abbrev pub AreConfigRows : List ℕ → Type 0

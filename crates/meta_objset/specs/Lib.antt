@@ -5,4 +5,5 @@ pub mod Found
 pub mod Names
 pub mod Reading
 pub mod Record
+pub mod SpaceMaps
 pub mod StaleSpans

@@ -7,8 +7,10 @@ use Rattle.vdev_label.specs.Config.{FitsConfig, config_bytes}
 use Rattle.vdev_label.specs.Plain.{PlainVdev}
 use Rattle.meta_objset.specs.declared.directory.DirectoryRow.{DirectoryRow}
 use Rattle.meta_objset.specs.Config.{config_shape}
+use Rattle.meta_objset.specs.declared.space_maps.MetaslabMap.{MetaslabMap}
 use Rattle.meta_objset.specs.declared.stale_spans.StaleSpan.{StaleSpan}
 use Rattle.meta_objset.specs.Directory.{IsDirectory, rows_bytes, directory_shape}
+use Rattle.meta_objset.specs.SpaceMaps.{AreSpaceMaps, maps_bytes, maps_kind}
 use Rattle.meta_objset.specs.StaleSpans.{AreStaleSpans, spans_bytes, spans_kind}
 
 -- the directory has type 200, and the configuration 203
@@ -29,3 +31,7 @@ HasConfig object vdevs = FitsConfig vdevs × HasTable config_kind object (config
 -- or of these stale spans
 abbrev pub HasStaleSpans : Option Object → List StaleSpan → Type 0
 HasStaleSpans object spans = AreStaleSpans spans × HasTable spans_kind object (spans_bytes spans)
+
+-- or of these space maps
+abbrev pub HasSpaceMaps : Option Object → List MetaslabMap → Type 0
+HasSpaceMaps object maps = AreSpaceMaps maps × HasTable maps_kind object (maps_bytes maps)

@@ -8,16 +8,19 @@ ghost use Rattle.block_store.specs.Store.{Holds};
 ghost use Rattle.dnode.specs.ObjectSet.{FitsObjectSet};
 ghost use Rattle.objset.specs.Objects.{Object, AreObjects};
 ghost use Rattle.meta_objset.specs.declared.directory.DirectoryRow.{DirectoryRow};
+ghost use Rattle.meta_objset.specs.declared.space_maps.MetaslabMap.{MetaslabMap};
 ghost use Rattle.meta_objset.specs.declared.stale_spans.StaleSpan.{StaleSpan};
 ghost use Rattle.meta_objset.specs.Directory.{IsDirectory, rows_bytes};
-ghost use Rattle.meta_objset.specs.Found.{AreConfigRows, AreDirectoryRows, AreSpanRows, AreSpansFound, IsConfigFound, IsDirectoryFound, IsRowsRefused};
-ghost use Rattle.meta_objset.specs.Reading.{HasDirectory, HasConfig, HasStaleSpans, config_kind, directory_kind};
+ghost use Rattle.meta_objset.specs.Found.{AreConfigRows, AreDirectoryRows, AreMapRows, AreMapsFound, AreSpanRows, AreSpansFound, IsConfigFound, IsDirectoryFound, IsRowsRefused};
+ghost use Rattle.meta_objset.specs.Reading.{HasDirectory, HasConfig, HasSpaceMaps, HasStaleSpans, config_kind, directory_kind};
+ghost use Rattle.meta_objset.specs.SpaceMaps.{AreSpaceMaps, maps_bytes, maps_kind};
 ghost use Rattle.meta_objset.specs.StaleSpans.{AreStaleSpans, spans_bytes, spans_kind};
 ghost use Rattle.vdev_label.specs.Config.{SpellsConfig};
 ghost use Rattle.vdev_label.specs.Plain.{PlainVdev, config_view};
 
 use crate::config::{KIND as CONFIG_KIND, config_in};
 use crate::directory::{Directory, KIND as DIRECTORY_KIND};
+use crate::space_maps::{SPACE_MAPS_KIND, SpaceMaps};
 use crate::stale_spans::{STALE_SPANS_KIND, StaleSpans};
 use block_store::{BlockStore, Refusal};
 use dnode::ObjectSet;
@@ -200,6 +203,73 @@ fn spans_of(alloc: Global, rows: &[u8]) -> Result<StaleSpans, Refusal>
 {
     match StaleSpans::from_rows(alloc, rows) {
         Ok(spans) => Ok(spans),
+        Err(object_table::Refusal::BadPointer) => Err(Refusal::BadPointer),
+        Err(object_table::Refusal::NoMemory) => Err(Refusal::NoMemory),
+    }
+}
+
+/// The number of the space maps' object.
+const SPACE_MAPS: u64 = 4;
+
+/// The space maps in a meta object set. `BadPointer` where object 4 has none. The set's blocks were born in the
+/// transaction group `birth` or before. The disks that are named are taken as missing.
+pub fn read_space_maps<D: Disk + Drop>(
+    set: &ObjectSet,
+    store: &mut BlockStore<D>,
+    alloc: Global,
+    birth: u64,
+    missing: &[usize],
+) -> Result<SpaceMaps, Refusal>
+    requires { FitsObjectSet set.now }
+    ensures reads { OnlyReadsBlocks store.old store.new missing.now }
+    ensures value { IfOk result (λ maps. (stored : Contents) (objects : ℕ → Option Object)
+        (own : List Block) (blocks : ℕ → List Block) → Holds store.old stored
+        → AreObjects stored birth set.now objects own blocks → AnswersAreTrue store.old store.new
+        → HasSpaceMaps (objects 4) maps) }
+    // There are no others.
+    ensures one { IfOk result (λ maps. (stored : Contents) (objects : ℕ → Option Object)
+        (own : List Block) (blocks : ℕ → List Block) → Holds store.old stored
+        → AreObjects stored birth set.now objects own blocks → AnswersAreTrue store.old store.new
+        → (other : List MetaslabMap) → HasSpaceMaps (objects 4) other → maps ≡ other) }
+
+    // Whatever the set is: what was read, and on a refusal its cause.
+    ensures found { IfOk result (AreMapsFound store.old.spaces set.now birth) }
+    ensures refused { IfErr result (λ refusal. (refusal ≡ Refusal.NoMemory)
+        ⊎ IsRowsRefused store.old store.new missing.now set.now birth maps_kind 4
+        AreMapRows refusal) }
+    ensures cause { IfErr result (λ refusal. refusal ≢ Refusal.NoSpace) }
+
+    // And it is read, over disks that answer truly, unless too many disks miss of a block.
+    ensures known { IfErr result (λ refusal. (stored : Contents) (objects : ℕ → Option Object)
+        (own : List Block) (blocks : ℕ → List Block) → Holds store.old stored
+        → AreObjects stored birth set.now objects own blocks → AnswersAreTrue store.old store.new
+        → IsForLoss refusal ⊎ ((refusal ≡ Refusal.BadPointer)
+        × ((maps : List MetaslabMap) → ¬ HasSpaceMaps (objects 4) maps))) }
+{
+    let rows = object_table::read(
+        set,
+        store,
+        alloc,
+        SPACE_MAPS_KIND,
+        SPACE_MAPS,
+        birth,
+        missing,
+    )?;
+    maps_of(alloc, &rows)
+}
+
+/// The space maps whose rows these are.
+fn maps_of(alloc: Global, rows: &[u8]) -> Result<SpaceMaps, Refusal>
+    ensures found { IfOk result (λ found. AreSpaceMaps found × (rows.now ≡ maps_bytes found)) }
+    ensures only { (other : List MetaslabMap) → AreSpaceMaps other → rows.now ≡ maps_bytes other
+        → IfOk result (λ found. found ≡ other) }
+    ensures cause { IfErr result (λ refusal. refusal ≢ Refusal.NoSpace) }
+    ensures refused { IfErr result (λ refusal. (refusal ≡ Refusal.NoMemory)
+        ⊎ ((refusal ≡ Refusal.BadPointer)
+        × ((found : List MetaslabMap) → AreSpaceMaps found → rows.now ≢ maps_bytes found))) }
+{
+    match SpaceMaps::from_rows(alloc, rows) {
+        Ok(maps) => Ok(maps),
         Err(object_table::Refusal::BadPointer) => Err(Refusal::BadPointer),
         Err(object_table::Refusal::NoMemory) => Err(Refusal::NoMemory),
     }
