@@ -358,24 +358,31 @@ fn walk(
 
 #[test]
 fn blocks_are_read_with_a_disk_missing(rt: HostRuntime) -> Result<(), Fail> {
-    let one = [[].as_slice(), &[0], &[1], &[2]];
-    let two = [[0, 1], [0, 2], [1, 2]];
-    let mut steps = Vec::new(rt.alloc());
-    steps.push((Step::Begin, Outcome::Done))?;
-    steps.push((Step::Plan(3, 1, CopyCount::One), Outcome::Done))?;
-    steps.push((Step::Plan(5, 7, CopyCount::Two), Outcome::Done))?;
-    steps.push((Step::Plan(9, LARGE, CopyCount::Three), Outcome::Done))?;
-    steps.push((Step::Write, Outcome::Count(0)))?;
-    steps.push((Step::Finish, Outcome::Done))?;
-    for missing in one {
-        for which in 0..3 {
-            steps.push((Step::Read(which, missing), Outcome::Right))?;
-        }
-    }
-    for missing in &two {
-        steps.push((Step::Read(2, missing), Outcome::Refused(Refusal::DiskFault)))?;
-    }
-    assert_eq!(rt; walk(rt.alloc(), NEVER, steps.as_slice())?, None);
+    let lost = Outcome::Refused(Refusal::DiskFault);
+    let steps = [
+        (Step::Begin, Outcome::Done),
+        (Step::Plan(3, 1, CopyCount::One), Outcome::Done),
+        (Step::Plan(5, 7, CopyCount::Two), Outcome::Done),
+        (Step::Plan(9, LARGE, CopyCount::Three), Outcome::Done),
+        (Step::Write, Outcome::Count(0)),
+        (Step::Finish, Outcome::Done),
+        (Step::Read(0, &[]), Outcome::Right),
+        (Step::Read(1, &[]), Outcome::Right),
+        (Step::Read(2, &[]), Outcome::Right),
+        (Step::Read(0, &[0]), Outcome::Right),
+        (Step::Read(1, &[0]), Outcome::Right),
+        (Step::Read(2, &[0]), Outcome::Right),
+        (Step::Read(0, &[1]), Outcome::Right),
+        (Step::Read(1, &[1]), Outcome::Right),
+        (Step::Read(2, &[1]), Outcome::Right),
+        (Step::Read(0, &[2]), Outcome::Right),
+        (Step::Read(1, &[2]), Outcome::Right),
+        (Step::Read(2, &[2]), Outcome::Right),
+        (Step::Read(2, &[0, 1]), lost),
+        (Step::Read(2, &[0, 2]), lost),
+        (Step::Read(2, &[1, 2]), lost),
+    ];
+    assert_eq!(rt; walk(rt.alloc(), NEVER, &steps)?, None);
     Ok(())
 }
 
