@@ -1,5 +1,5 @@
 //! The values of a list's pairs, by their names.
-ghost use Rattle.std.specs.Prelude.{◌≡◌, ◌≢◌, ◌≤◌, ℕ, List, IfOk, IfErr, Some};
+ghost use Rattle.std.specs.Prelude.{◌≡◌, ◌≢◌, ◌≤◌, ◌↔◌, ℕ, List, IfOk, IfErr, IsTrue, Some};
 ghost use Rattle.nvlist.specs.Find.{find};
 ghost use Rattle.nvlist.specs.Plain.{PlainList, PlainLists, number, text, list, lists};
 ghost use Rattle.nvlist.specs.View.{list_view, lists_view};
@@ -22,6 +22,26 @@ pub(crate) fn number_of(pairs: &NvList, name: &str) -> Result<u64, Refusal>
     match pairs.number(name) {
         Some(n) => Ok(n),
         None => Err(BAD_PAIRS),
+    }
+}
+
+/// Whether the pair of that name is this number.
+pub(crate) fn has_number(pairs: &NvList, name: &str, expected: u64) -> bool
+    ensures { IsTrue result ↔ (find name.now (list_view pairs.now) ≡ Some (number expected)) }
+{
+    match pairs.number(name) {
+        Some(n) => n == expected,
+        None => false,
+    }
+}
+
+/// Whether the pair of that name is this text.
+pub(crate) fn has_text(pairs: &NvList, name: &str, expected: &str) -> bool
+    ensures { IsTrue result ↔ (find name.now (list_view pairs.now) ≡ Some (text expected.now)) }
+{
+    match pairs.text(name) {
+        Some(t) => t == expected,
+        None => false,
     }
 }
 

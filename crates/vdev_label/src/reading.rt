@@ -1,8 +1,8 @@
 //! From pairs to a label.
-ghost use Rattle.std.specs.Prelude.{◌≡◌, ◌≢◌, ℕ, List, [], map, codes, IfOk, IfErr, Some};
+ghost use Rattle.std.specs.Prelude.{◌≡◌, ◌≢◌, ℕ, List, [], map, codes, IfOk, IfErr, IsTrue, Some, string_bytes};
 ghost use Rattle.std.specs.List.{list_all};
 ghost use Rattle.nvlist.specs.Find.{find};
-ghost use Rattle.nvlist.specs.Plain.{number};
+ghost use Rattle.nvlist.specs.Plain.{number, text, list, lists, pair_count};
 ghost use Rattle.vdev_label.specs.declared.label.State.{State};
 ghost use Rattle.nvlist.specs.Grammar.{FitsBehind, FitsLists};
 ghost use Rattle.nvlist.specs.View.{list_view, lists_view, lists_of as plain_lists};
@@ -11,7 +11,9 @@ ghost use Rattle.vdev_label.specs.Plain.{PlainVdev, PlainLabel, vdev_view, confi
 ghost use Rattle.vdev_label.specs.Refuses.{Refuses};
 
 use crate::label::{Config, Label, SECTOR_SHIFT, State, Vdev};
-use crate::pairs::{BAD_PAIRS, count_of, list_of, lists_of, number_of, text_of};
+use crate::pairs::{
+    BAD_PAIRS, count_of, has_number, has_text, list_of, lists_of, number_of, text_of,
+};
 use crate::refusal::Refusal;
 use nvlist::NvList;
 use std::alloc::Global;
@@ -46,7 +48,36 @@ fn children_of(alloc: Global, lists: &[NvList]) -> Result<Vec<u64>, Refusal>
     Ok(guids)
 }
 
-/// A vdev. Its sectors have 512 bytes, so its shift is 9.
+/// Whether there are as many pairs as a vdev has, and those that each vdev of its number has. Its
+/// sectors have 512 bytes, so its shift is 9.
+fn is_raidz(id: u64, pairs: &NvList) -> bool
+    ensures shift { IsTrue result → find (codes "ashift") (list_view pairs.now) ≡ Some (number 9) }
+    ensures own { IsTrue result → find (codes "id") (list_view pairs.now) ≡ Some (number id) }
+    ensures kind { IsTrue result
+        → find (codes "type") (list_view pairs.now) ≡ Some (text (codes "raidz")) }
+    ensures count { IsTrue result → pair_count (list_view pairs.now) ≡ 9 }
+    ensures is { (v : PlainVdev) → list_view pairs.now ≡ vdev_pairs id v → IsTrue result }
+{
+    pairs.len() == 9
+        && has_number(pairs, "ashift", SECTOR_SHIFT)
+        && has_number(pairs, "id", id)
+        && has_text(pairs, "type", "raidz")
+}
+
+/// The disks of a vdev.
+#[tactic(auto, using(crate::proofs::Vdevs::disks_causes))]
+fn disks_of(alloc: Global, pairs: &NvList) -> Result<Vec<u64>, Refusal>
+    requires { FitsBehind [] (list_view pairs.now) }
+    ensures found { IfOk result (λ guids. find (codes "children") (list_view pairs.now)
+        ≡ Some (lists (plain_lists (numbered child_pairs 0 guids.items)))) }
+    ensures bad { IfErr result (λ refusal. Refuses refusal ((guids : List ℕ)
+        → find (codes "children") (list_view pairs.now)
+        ≢ Some (lists (plain_lists (numbered child_pairs 0 guids))))) }
+{
+    children_of(alloc, lists_of(pairs, "children")?)
+}
+
+/// A vdev, by its number in the pool.
 #[tactic(auto, using(crate::proofs::Vdevs::vdev_causes))]
 fn vdev_of(alloc: Global, id: u64, pairs: &NvList) -> Result<Vdev, Refusal>
     requires { FitsBehind [] (list_view pairs.now) }
@@ -54,10 +85,7 @@ fn vdev_of(alloc: Global, id: u64, pairs: &NvList) -> Result<Vdev, Refusal>
     ensures bad { IfErr result (λ refusal. Refuses refusal ((v : PlainVdev)
         → list_view pairs.now ≢ vdev_pairs id v)) }
 {
-    let shift = number_of(pairs, "ashift")?;
-    let own = number_of(pairs, "id")?;
-    let kind = text_of(pairs, "type")?;
-    if shift != SECTOR_SHIFT || own != id || kind != "raidz" || pairs.len() != 9 {
+    if !is_raidz(id, pairs) {
         return Err(BAD_PAIRS);
     }
     Ok(Vdev {
@@ -66,7 +94,7 @@ fn vdev_of(alloc: Global, id: u64, pairs: &NvList) -> Result<Vdev, Refusal>
         child_sectors: number_of(pairs, "asize")?,
         slab_shift: number_of(pairs, "ms_shift")?,
         meta_slabs: number_of(pairs, "meta_slabs")?,
-        children: children_of(alloc, lists_of(pairs, "children")?)?,
+        children: disks_of(alloc, pairs)?,
     })
 }
 
@@ -141,6 +169,33 @@ fn state_of(pairs: &NvList) -> Result<State, Refusal>
     }
 }
 
+/// The name of the pool.
+fn pool_name_of(alloc: Global, pairs: &NvList) -> Result<String, Refusal>
+    ensures found { IfOk result (λ name. find (codes "name") (list_view pairs.now)
+        ≡ Some (text (string_bytes name))) }
+    ensures name { IfOk result (λ name. IsTrue (is_name (string_bytes name))) }
+    ensures bad { IfErr result (λ refusal. Refuses refusal ((t : List ℕ) → IsTrue (is_name t)
+        → find (codes "name") (list_view pairs.now) ≢ Some (text t))) }
+{
+    let name = text_of(pairs, "name")?;
+    if !is_pool_name(name.as_bytes()) {
+        return Err(BAD_PAIRS);
+    }
+    Ok(String::from_str(alloc, name)?)
+}
+
+/// The configuration of a label.
+#[tactic(auto, using(crate::proofs::Labels::tree_causes))]
+fn tree_of(alloc: Global, pairs: &NvList) -> Result<Config, Refusal>
+    requires { FitsBehind [] (list_view pairs.now) }
+    ensures found { IfOk result (λ config. find (codes "vdev_tree") (list_view pairs.now)
+        ≡ Some (list (tree_pairs (config_view config)))) }
+    ensures bad { IfErr result (λ refusal. Refuses refusal ((vdevs : List PlainVdev)
+        → find (codes "vdev_tree") (list_view pairs.now) ≢ Some (list (tree_pairs vdevs)))) }
+{
+    config_of(alloc, list_of(pairs, "vdev_tree")?)
+}
+
 /// A label. Its version is 1.
 #[tactic(auto, using(crate::proofs::Labels::label_causes))]
 pub(crate) fn label_of(alloc: Global, pairs: &NvList) -> Result<Label, Refusal>
@@ -150,19 +205,17 @@ pub(crate) fn label_of(alloc: Global, pairs: &NvList) -> Result<Label, Refusal>
     ensures bad { IfErr result (λ refusal. Refuses refusal ((label : PlainLabel) → InRange label
         → list_view pairs.now ≢ label_pairs label)) }
 {
-    let version = number_of(pairs, "version")?;
-    let name = text_of(pairs, "name")?;
-    if version != 1 || !is_pool_name(name.as_bytes()) || pairs.len() != 9 {
+    if pairs.len() != 9 || !has_number(pairs, "version", 1) {
         return Err(BAD_PAIRS);
     }
     Ok(Label {
         claim: count_of(pairs, "claim")?,
         guid: number_of(pairs, "guid")?,
-        name: String::from_str(alloc, name)?,
         pool_guid: number_of(pairs, "pool_guid")?,
         state: state_of(pairs)?,
         top_guid: number_of(pairs, "top_guid")?,
         group: count_of(pairs, "txg")?,
-        config: config_of(alloc, list_of(pairs, "vdev_tree")?)?,
+        name: pool_name_of(alloc, pairs)?,
+        config: tree_of(alloc, pairs)?,
     })
 }
