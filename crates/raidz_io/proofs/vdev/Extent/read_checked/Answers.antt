@@ -117,3 +117,33 @@ returns-clause-refused g c =
           c.parity-3.ensures (rw (c.split_at.ensures.back, c.parity-2.ensures) refl) c.as_slice-bytes.ensures.value c.as_slice-lost.ensures.value
           (none_at c.in_ok-block.field-0 _ c.in-None.is c.in_ok-block.ensures.none),
     ))
+
+pub returns-in_err-read_parity-clause-reads : goal.returns-in_err-read_parity-clause-reads
+returns-in_err-read_parity-clause-reads g c = (c.read_parity.ensures.reads c.args.disks.now c.in_ok-read.ensures.read).0
+
+pub returns-in_err-read_parity-clause-untouched : goal.returns-in_err-read_parity-clause-untouched
+returns-in_err-read_parity-clause-untouched g c = (c.read_parity.ensures.reads c.args.disks.now c.in_ok-read.ensures.read).1
+
+pub returns-then-parity-len-clause-reads : goal.returns-then-parity-len-clause-reads
+returns-then-parity-len-clause-reads g c = (c.read_parity.ensures.reads c.args.disks.now c.in_ok-read.ensures.read).0
+
+pub returns-then-parity-len-clause-untouched : goal.returns-then-parity-len-clause-untouched
+returns-then-parity-len-clause-untouched g c = (c.read_parity.ensures.reads c.args.disks.now c.in_ok-read.ensures.read).1
+
+pub returns-in_err-block-clause-reads : goal.returns-in_err-block-clause-reads
+returns-in_err-block-clause-reads g c = (c.read_parity.ensures.reads c.args.disks.now c.in_ok-read.ensures.read).0
+
+pub returns-in_err-block-clause-untouched : goal.returns-in_err-block-clause-untouched
+returns-in_err-block-clause-untouched g c = (c.read_parity.ensures.reads c.args.disks.now c.in_ok-read.ensures.read).1
+
+pub returns-in-Some-clause-reads : goal.returns-in-Some-clause-reads
+returns-in-Some-clause-reads g c = (c.read_parity.ensures.reads c.args.disks.now c.in_ok-read.ensures.read).0
+
+pub returns-in-Some-clause-untouched : goal.returns-in-Some-clause-untouched
+returns-in-Some-clause-untouched g c = (c.read_parity.ensures.reads c.args.disks.now c.in_ok-read.ensures.read).1
+
+pub returns-clause-reads : goal.returns-clause-reads
+returns-clause-reads g c = (c.read_parity.ensures.reads c.args.disks.now c.in_ok-read.ensures.read).0
+
+pub returns-clause-untouched : goal.returns-clause-untouched
+returns-clause-untouched g c = (c.read_parity.ensures.reads c.args.disks.now c.in_ok-read.ensures.read).1
