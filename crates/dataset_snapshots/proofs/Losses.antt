@@ -1,25 +1,91 @@
 -- Refusals for lack of disks: a block is lost.
-use Rattle.std.proofs.Common.{ℕ, ◌≡◌, inl, inr, List}
+use Rattle.std.proofs.Common.{ℕ, ◌≡◌, inl, inr, List, []}
 use Rattle.block_pointer.specs.declared.block.Block.{Block}
-use Rattle.block_store.proofs.Losses.{lost_behind_reads}
+use Rattle.block_store.proofs.Losses.{lost_behind_reads, lost_later}
 use Rattle.block_store.specs.declared.refusal.Refusal.{Refusal}
 use Rattle.block_store.specs.declared.refusal.Refusal.TheVariants.{DiskFault}
 use Rattle.block_store.specs.Losses.{IsBlockLost}
 use Rattle.block_store.specs.Store.{Store}
+use Rattle.dnode.specs.declared.object_set.ObjectSet.{ObjectSet}
 use Rattle.dnode_slots.proofs.Losses.{set_lost}
 use Rattle.meta_objset.proofs.Losses.{record_lost, rows_lost}
+use Rattle.meta_objset.specs.declared.directory.DirectoryRow.{DirectoryRow}
 use Rattle.meta_objset.specs.Found.{AreDirectoryRows}
 use Rattle.meta_objset.specs.Reading.{directory_kind}
-use Rattle.dataset_snapshots.specs.Finding.{IsMetaRefused}
-use Rattle.dataset_snapshots.specs.Laws.{LossesOfDatasets}
+use Rattle.objset.proofs.Losses.{change_lost}
+use Rattle.objset.specs.declared.changes.ObjectChange.{ObjectChange}
+use Rattle.pool_model.specs.declared.item.Action.{Action}
+use Rattle.pool_model.specs.declared.item.Change.{Change}
+use Rattle.pool_model.specs.declared.item.Write.{Write}
+use Rattle.volume.proofs.Losses.{placing_lost, plan_lost, read_lost}
+use Rattle.volume.specs.Demands.{empty_set}
+use Rattle.dataset_snapshots.specs.declared.groups.Opened.{Opened}
+use Rattle.dataset_snapshots.specs.Demands.{AreVolumesRefused, IsMakingRefused, IsRootRefused}
+use Rattle.dataset_snapshots.specs.Finding.{IsDirectoryRefused, IsMetaRefused}
+use Rattle.dataset_snapshots.specs.Laws.{LossesOfDatasets, LossesOfGroups}
+use Rattle.dataset_snapshots.specs.Opening.{IsGroupUnread, IsWrittenRefused}
 
 pub meta_lost : (old new : Store) (missing : List ℕ) (birth : ℕ) (root : Block) (refusal : Refusal) → IsMetaRefused old new missing birth root refusal → refusal ≡ DiskFault → IsBlockLost old new missing
 meta_lost old new missing birth root refusal (inl unread) is = set_lost old new missing birth root refusal unread is
 meta_lost old new missing birth root refusal (inr (bad, other)) is = absurd (cc)
 
+directory_lost : (old new : Store) (missing : List ℕ) (birth : ℕ) (root : Block) (refusal : Refusal) → IsDirectoryRefused old new missing birth root refusal → refusal ≡ DiskFault
+    → IsBlockLost old new missing
+directory_lost old new missing birth root refusal directory is =
+    lost_behind_reads old directory.mid new missing directory.before (rows_lost directory.mid new missing directory.set root.birth directory_kind 1 AreDirectoryRows refusal directory.why is)
+
 pub losses_of_datasets : LossesOfDatasets
 losses_of_datasets old new missing birth root name refusal (inl refused) is = meta_lost old new missing birth root refusal refused is
-losses_of_datasets old new missing birth root name refusal (inr (inl directory)) is =
-    lost_behind_reads old directory.mid new missing directory.before (rows_lost directory.mid new missing directory.set root.birth directory_kind 1 AreDirectoryRows refusal directory.why is)
+losses_of_datasets old new missing birth root name refusal (inr (inl directory)) is = directory_lost old new missing birth root refusal directory is
 losses_of_datasets old new missing birth root name refusal (inr (inr unread)) is =
     lost_behind_reads old unread.mid new missing unread.before (record_lost unread.mid new missing unread.set root.birth unread.object refusal unread.why is)
+
+-- ---- groups
+
+blocks_lost : (old new : Store) (set : ObjectSet) (birth : ℕ) (writes : List Write) (row : DirectoryRow) (refusal : Refusal) → IsWrittenRefused old new set birth writes row refusal
+    → refusal ≡ DiskFault → IsBlockLost old new []
+blocks_lost old new set birth writes row refusal (inl memory) is = absurd (cc)
+blocks_lost old new set birth writes row refusal (inr (inl (bad, number))) is = absurd (cc)
+blocks_lost old new set birth writes row refusal (inr (inr (inl of_record))) is = record_lost old new [] set birth row.object refusal of_record is
+blocks_lost old new set birth writes row refusal (inr (inr (inr unread))) is =
+    lost_behind_reads old unread.mid new [] unread.before (read_lost unread.mid new [] unread.dataset.volume birth _ refusal unread.why.2 is)
+
+unread_lost : (old new : Store) (birth : ℕ) (root : Block) (writes : List Write) (refusal : Refusal) → IsGroupUnread old new birth root writes refusal → refusal ≡ DiskFault → IsBlockLost old new []
+unread_lost old new birth root writes refusal (inl refused) is = meta_lost old new [] birth root refusal refused is
+unread_lost old new birth root writes refusal (inr (inl directory)) is = directory_lost old new [] birth root refusal directory is
+unread_lost old new birth root writes refusal (inr (inr volume)) is =
+    let one = volume.why in
+    lost_behind_reads old volume.mid new [] volume.before
+    (lost_behind_reads volume.mid one.mid new [] one.before (blocks_lost one.mid new volume.set root.birth writes one.row refusal one.why is))
+
+making_lost : (old new : Store) (group : ℕ) (rows : List DirectoryRow) (earlier : List Action) (next : ℕ) (change : Change) (refusal : Refusal)
+    → IsMakingRefused old new group rows earlier next change refusal → refusal ≡ DiskFault → IsBlockLost old new []
+making_lost old new group rows earlier next change refusal (inl memory) is = absurd (cc)
+making_lost old new group rows earlier next change refusal (inr (inl (bad, none))) is = absurd (cc)
+making_lost old new group rows earlier next change refusal (inr (inr (lacks, inl (space, full)))) is = absurd (cc)
+making_lost old new group rows earlier next change refusal (inr (inr (lacks, inr (creation, made, why)))) is = plan_lost old new empty_set group creation refusal why is
+
+volumes_lost : (old new : Store) (group : ℕ) (opened : Opened) (actions : List Action) (refusal : Refusal) → AreVolumesRefused old new group opened actions refusal → refusal ≡ DiskFault
+    → IsBlockLost old new []
+volumes_lost old new group opened actions refusal (inl memory) is = absurd (cc)
+volumes_lost old new group opened actions refusal (inr (inl unplaced)) is =
+    lost_later old unplaced.mid new [] unplaced.before (placing_lost unplaced.mid new unplaced.next.dataset.volume group unplaced.next.blocks refusal unplaced.why is)
+volumes_lost old new group opened actions refusal (inr (inr refused)) is =
+    let one = refused.why in
+    lost_later old refused.mid new [] refused.before
+    (lost_later refused.mid one.mid new [] one.before (making_lost one.mid new group opened.directory one.first _ one.action.change refusal one.why is))
+
+root_lost : (old new : Store) (set : ObjectSet) (group : ℕ) (changes : List ObjectChange) (refusal : Refusal) → IsRootRefused old new set group changes refusal → refusal ≡ DiskFault
+    → IsBlockLost old new []
+root_lost old new set group changes refusal (inl memory) is = absurd (cc)
+root_lost old new set group changes refusal (inr (inl (space, lacks))) is = absurd (cc)
+root_lost old new set group changes refusal (inr (inr refused)) is = change_lost old new [] set group changes refusal refused is
+
+pub losses_of_groups : LossesOfGroups
+losses_of_groups old new root group items refusal (inl memory) is = absurd (cc)
+losses_of_groups old new root group items refusal (inr (inl unread)) is = unread_lost old new _ root items.writes refusal unread is
+losses_of_groups old new root group items refusal (inr (inr unplanned)) is =
+    lost_behind_reads old unplanned.mid new [] unplanned.before (elim unplanned.why [
+      | inl volumes ↦ volumes_lost unplanned.mid new group unplanned.opened items.actions refusal volumes is
+      | inr changes ↦ lost_later unplanned.mid changes.mid new [] changes.before (root_lost changes.mid new unplanned.opened.set group changes.changes refusal changes.why is)
+    ])

@@ -1,12 +1,13 @@
 -- What follows from these definitions for those who have roots.
-use Rattle.std.specs.Prelude.{ℕ, ◌≡◌, ◌≤◌, List}
+use Rattle.std.specs.Prelude.{ℕ, ◌≡◌, ◌≤◌, List, []}
 use Rattle.block_pointer.specs.declared.block.Block.{Block}
 use Rattle.block_store.specs.declared.refusal.Refusal.{Refusal}
 use Rattle.block_store.specs.declared.refusal.Refusal.TheVariants.{DiskFault}
 use Rattle.block_store.specs.Blocks.{Contents, Extends}
 use Rattle.block_store.specs.Losses.{IsBlockLost}
 use Rattle.block_store.specs.Store.{Store}
-use Rattle.pool_model.specs.Pools.{PlainPool}
+use Rattle.pool_model.specs.Pools.{Entry, PlainPool}
+use Rattle.dataset_snapshots.specs.Demands.{IsGroupRefused}
 use Rattle.dataset_snapshots.specs.Finding.{IsRefused}
 use Rattle.dataset_snapshots.specs.Pools.{SpellsPool}
 
@@ -22,3 +23,10 @@ LossesOfDatasets =
     (old new : Store) (missing : List ℕ) (birth : ℕ) (root : Block) (name : List ℕ)
     (refusal : Refusal) → IsRefused old new missing birth root name refusal
     → refusal ≡ DiskFault → IsBlockLost old new missing
+
+-- And where the root after a group is refused for a fault of disks.
+abbrev pub LossesOfGroups : Type 0
+LossesOfGroups =
+    (old new : Store) (root : Block) (group : ℕ) (items : Entry) (refusal : Refusal)
+    → IsGroupRefused old new root group items refusal → refusal ≡ DiskFault
+    → IsBlockLost old new []

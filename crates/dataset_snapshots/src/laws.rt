@@ -1,5 +1,5 @@
 //! What follows from the definitions, as functions with no body.
-ghost use Rattle.dataset_snapshots.specs.Laws.{LossesOfDatasets, RootsStay};
+ghost use Rattle.dataset_snapshots.specs.Laws.{LossesOfDatasets, LossesOfGroups, RootsStay};
 
 /// A root spells its pool where more blocks are known, and for a later group.
 pub fn roots_stay()
@@ -9,4 +9,9 @@ pub fn roots_stay()
 /// Where a name is not found for a fault of disks, a block is lost.
 pub fn losses_of_datasets()
     ensures { LossesOfDatasets }
+{}
+
+/// Where the root after a group is refused for a fault of disks, a block is lost.
+pub fn losses_of_groups()
+    ensures { LossesOfGroups }
 {}

@@ -13,4 +13,4 @@ pub use block_store::Refusal;
 pub use creating::create;
 pub use finding::{Dataset, find};
 pub use groups::after_group;
-pub use laws::{losses_of_datasets, roots_stay};
+pub use laws::{losses_of_datasets, losses_of_groups, roots_stay};
