@@ -30,7 +30,7 @@ use Rattle.volume.specs.Demands.{empty_set}
 use Rattle.dataset_snapshots.specs.declared.groups.Opened.{Opened}
 use Rattle.dataset_snapshots.specs.declared.making.Making.{Making}
 use Rattle.dataset_snapshots.specs.Creating.{copies_of_meta}
-use Rattle.dataset_snapshots.specs.Demands.{AreAsked, AreMade, AreVolumesRefused, HasActionDemands, HasGroupDemands, HasGroupPlaces, HasRootDemands, HasRootPlaces, HasVolumeDemands, HasVolumePlaces, HavePlacesFor, IsActionRefused, IsGroupRefused, IsRootRefused, IsVolumeUnplaced, MakesAll, changed_numbers, demand_of_root, first_number, numbers_of}
+use Rattle.dataset_snapshots.specs.Demands.{AreAsked, AreMade, AreOfGroup, AreVolumesRefused, HasActionDemands, HasGroupDemands, HasGroupPlaces, HasRootDemands, HasRootPlaces, HasVolumeDemands, HasVolumePlaces, HavePlacesFor, IsActionRefused, IsGroupRefused, IsRootRefused, IsVolumeUnplaced, MakesAll, changed_numbers, demand_of_root, first_number, numbers_of}
 use Rattle.dataset_snapshots.specs.Finding.{AreRowsFound, IsMetaFound}
 use Rattle.dataset_snapshots.specs.Groups.{objects_of}
 use Rattle.dataset_snapshots.specs.Opening.{IsGroupFound, IsGroupUnread, IsOneUnread}
@@ -158,12 +158,13 @@ module _ (old mid new : Store) (group : ℕ) (opened : Opened) (first : Making) 
 
   pub volumes_have : (last : Making) (changes : List ObjectChange) → shapes_of mid.spaces ≡ shapes_of old.spaces → HavePlacesFor old mid (HasVolumeDemands old.spaces group) opened.written.items
       → first.directory ≡ opened.directory → (made : MakesAll mid new group first last actions) → map (λ (c : ObjectChange). c.number) changes ≡ changed_numbers opened made.made
-      → HasVolumePlaces old new group opened actions changes
-  volumes_have last changes same written is made numbers =
+      → AreOfGroup (length last.directory) changes → HasVolumePlaces old new group opened actions changes
+  volumes_have last changes same written is made numbers kinds =
       let asked = made.places in record {
         made = made.made;
         made_are = subst (λ (rows : List DirectoryRow). AreMade rows [] actions made.made) is made.are;
         numbers = numbers;
+        kinds = subst (λ n. AreOfGroup n changes) (made.objects.rows ∙ ap (λ (rows : List DirectoryRow). length rows + length made.made) is) kinds;
         of_written = written.0;
         written_ask = written.1;
         of_made = asked.0;
@@ -204,6 +205,7 @@ module _ (old first second new : Store) (root : Block) (group : ℕ) (items : En
         made_ask = volumes.made_ask;
         changes = changes;
         numbers = volumes.numbers;
+        kinds = volumes.kinds;
         of_root = of_root;
         root_asks = record {
           of_objects = root_asks.of_objects;

@@ -1,8 +1,10 @@
 -- The volumes that actions make, with what they ask places for.
+use Rattle.std.specs.Prelude.{All}
 use Rattle.std.proofs.Common.{◌≡◌, ◌⊎◌, ◌↔◌, ℕ, zero, suc, ◌+◌, ◌*◌, ◌<◌, List, [], ◌∷◌, ◌++◌, length, map, take, drop, get_or, Contains, inl, inr, ⊎_elim, refl, sym, ap, subst, ◌∙◌, append_assoc, arith}
 use Rattle.std.specs.List.{range_with_len}
 use Rattle.std.proofs.lemmas.List.{append-nil, length-append, map-append, take-append-drop, take_more}
-use Rattle.std.proofs.lemmas.List.Elements.{All-contains}
+use Rattle.std.proofs.lemmas.List.Edits.{length-insert}
+use Rattle.std.proofs.lemmas.List.Elements.{All-append, All-cons, All-contains, All-nil}
 use Rattle.std.proofs.lemmas.List.Quantifiers.{Any-push}
 use Rattle.block_store.specs.declared.refusal.Refusal.{Refusal}
 use Rattle.block_store.specs.Demands.{Demand, HavePlaces}
@@ -21,7 +23,7 @@ use Rattle.pool_model.specs.declared.item.Change.TheVariants.{Create}
 use Rattle.volume.specs.Demands.{empty_set}
 use Rattle.dataset_snapshots.specs.declared.making.Making.{Making}
 use Rattle.dataset_snapshots.specs.declared.new_volume.NewVolume.{NewVolume}
-use Rattle.dataset_snapshots.specs.Demands.{AreMade, HasActionDemands, HasNewPlaces, IsActionRefused, IsMakingRefused, IsNameAsked, IsNameThere, IsNewRefused, IsThereAlready, IsVolumeMade, MakesAll, MakesObjectsOf, MakesOne, name_of, new_block_size, numbers_of}
+use Rattle.dataset_snapshots.specs.Demands.{AreMade, AreOfDatasets, WritesRecord, MakesObject, HasActionDemands, HasNewPlaces, IsActionRefused, IsMakingRefused, IsNameAsked, IsNameThere, IsNewRefused, IsThereAlready, IsVolumeMade, MakesAll, MakesObjectsOf, MakesOne, name_of, new_block_size, numbers_of}
 use Rattle.dataset_snapshots.specs.NewVolumes.{IsAdded, IsNewVolume}
 use Rattle.dataset_snapshots.proofs.Asking.{no_places, places_more, set_demands_in}
 use Rattle.dataset_snapshots.proofs.Rows.{names_same, padded_same}
@@ -62,6 +64,16 @@ names_with before after row name named more other = (
       ⊎_elim (λ old. (old.0, (more old.0).1 (inl old.1), old.2)) (λ same. (row, (more row).1 (inr refl), subst (IsNamed row.name) same named)) either,
 )
 
+-- its two objects are made
+pub made_of_datasets : (old new : Making) (name : List ℕ) (r : DatasetRecord) → IsAdded old name r new → AreOfDatasets old.changes.items → AreOfDatasets new.changes.items
+made_of_datasets old new name r added so_far =
+    let P : ObjectChange → Type 0 = λ change. WritesRecord change.change ⊎ MakesObject change.change in
+    let of_record : ObjectChange = record { number = old.next; change = added.objects.of_record } in
+    let of_dead : ObjectChange = record { number = old.next + 1; change = added.objects.of_dead } in
+    subst (All P) (sym added.objects.are)
+    (All-append P old.changes.items (of_record ∷ of_dead ∷ []) so_far
+    (All-cons P of_record (of_dead ∷ []) (inr (inl (r, added.objects.has))) (All-cons P of_dead [] (inr (inr added.objects.dead)) (All-nil P))))
+
 pub one_made : (old new : Making) (r : DatasetRecord) (change : Change) (v : NewVolume) → IsNewVolume change v → IsAdded old v.name r new → IsVolumeMade old new (name_of change)
 one_made old new r change v is added = record {
   names =
@@ -69,6 +81,7 @@ one_made old new r change v is added = record {
       names_with old.directory new.directory row (name_of change) (named_change change v is)
       (subst (IsWith old.directory row) (sym added.row.placed) (row_added old.directory row added.row.at));
   next = added.next;
+  rows = ap length added.row.placed ∙ length-insert old.directory added.row.at (record { name = v.name; object = old.next }) added.row.within;
   numbers = ap (map (λ (change : ObjectChange). change.number)) added.objects.are ∙ map-append (λ (change : ObjectChange). change.number) old.changes.items _;
 }
 
@@ -149,10 +162,13 @@ objects_more old between new actions made action so_far one =
     let len : length (made ++ action ∷ []) ≡ length made + 1 = length-append made (action ∷ []) in
     let before = so_far.next in
     let after = one.next in
+    let rows = so_far.rows in
+    let row = one.rows in
     let two : 2 * length made + 2 ≡ 2 * length (made ++ action ∷ []) = omega (arith, len) in
     record {
       names = names_more old between new actions action made so_far one;
       next = omega (arith, before, after, len);
+      rows = omega (arith, rows, row, len);
       numbers = one.numbers ∙ ap (λ (front : List ℕ). front ++ between.next ∷ (between.next + 1) ∷ []) so_far.numbers
           ∙ append_assoc (numbers_of old) (range_with_len old.next (2 * length made)) (between.next ∷ (between.next + 1) ∷ [])
           ∙ ap (λ (rest : List ℕ). numbers_of old ++ rest) (range_more old.next (2 * length made) between.next before ∙ ap (range_with_len old.next) two);
@@ -171,6 +187,7 @@ makes_none store group making = record {
   objects = record {
     names = λ name. (λ is. inl is, λ either. ⊎_elim (λ is. is) (λ asked. absurd (let low = asked.2 in omega (arith, low))) either);
     next = omega arith;
+    rows = omega arith;
     numbers = sym (append-nil (numbers_of making));
   };
   places = no_places store (HasActionDemands store.spaces group);
@@ -183,7 +200,7 @@ makes_more old mid new group first between last actions action same so_far (inl 
     (record {
       made = so_far.made;
       are = made_there first.directory action [] actions so_far.made so_far.are ((so_far.objects.names (name_of action.change)).0 there);
-      objects = record { names = names_kept first between actions action so_far.made so_far.objects there; next = so_far.objects.next; numbers = so_far.objects.numbers };
+      objects = record { names = names_kept first between actions action so_far.made so_far.objects there; next = so_far.objects.next; rows = so_far.objects.rows; numbers = so_far.objects.numbers };
       places =
           let have = so_far.places in
           (have.0, have.1, subst (HavePlaces old.spaces have.0) (sym spaces) have.2);

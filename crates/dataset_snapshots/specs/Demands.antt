@@ -1,5 +1,5 @@
 -- What a group's root asks places for, and why it is not planned.
-use Rattle.std.specs.Prelude.{ℕ, ◌≡◌, ◌≢◌, ◌⊎◌, ◌↔◌, ◌+◌, ◌*◌, ◌<◌, ◌-◌, List, [], ◌∷◌, ◌++◌, length, map, max, Any, Contains}
+use Rattle.std.specs.Prelude.{ℕ, ◌≡◌, ◌≢◌, ◌⊎◌, ◌↔◌, ◌+◌, ◌*◌, ◌<◌, ◌-◌, List, [], ◌∷◌, ◌++◌, length, map, max, Any, All, Contains, Some, None}
 use Rattle.std.specs.List.{range_with_len}
 use Rattle.block_pointer.specs.declared.block.Block.{Block}
 use Rattle.block_store.specs.declared.refusal.Refusal.{Refusal}
@@ -10,11 +10,17 @@ use Rattle.block_store.specs.Steps.{OnlyReadsAndPlans, OnlyReadsBlocks}
 use Rattle.block_store.specs.Store.{Store}
 use Rattle.dnode.specs.declared.object_set.ObjectSet.{ObjectSet}
 use Rattle.meta_objset.specs.declared.directory.DirectoryRow.{DirectoryRow}
+use Rattle.meta_objset.specs.declared.record.DatasetRecord.{DatasetRecord}
+use Rattle.meta_objset.specs.Datasets.{HasRecord, IsRecordObject}
 use Rattle.meta_objset.specs.Names.{IsNamed}
+use Rattle.meta_objset.specs.Reading.{HasDirectory, directory_kind}
+use Rattle.object_table.specs.Tables.{HasTable, IsOfKind}
 use Rattle.objset.specs.declared.changes.Change.{Change as ObjectsChange}
 use Rattle.objset.specs.declared.changes.Change.TheVariants.{Put}
 use Rattle.objset.specs.declared.changes.ObjectChange.{ObjectChange}
+use Rattle.objset.specs.Changes.{MayChange, after_change}
 use Rattle.objset.specs.Demands.{HasDemands, LacksRoom}
+use Rattle.objset.specs.Objects.{Object}
 use Rattle.objset.specs.Refused.{IsChangeRefused}
 use Rattle.pool_model.specs.Pools.{Entry}
 use Rattle.pool_model.specs.declared.item.Action.{Action}
@@ -29,6 +35,7 @@ use Rattle.dataset_snapshots.specs.Creating.{copies_of_meta}
 use Rattle.dataset_snapshots.specs.Groups.{objects_of}
 use Rattle.dataset_snapshots.specs.Making.{IsGoodCreation, numbers_end}
 use Rattle.dataset_snapshots.specs.Opening.{IsGroupFound, IsGroupUnread}
+use Rattle.dataset_snapshots.specs.Pools.{dead_list_kind}
 
 -- each of these things asks some, and these are all of them, one after the other
 abbrev pub AreAsked : {X : Type 0} → (X → List Demand → Type 0) → List X → List Demand → Type 0
@@ -131,6 +138,7 @@ pub record IsVolumeMade (old new : Making) (name : List ℕ) : Type 0 where
       ↔ (IsNameThere old.directory other ⊎ (name ≡ other))
   pub next : new.next ≡ old.next + 2
   pub numbers : numbers_of new ≡ numbers_of old ++ old.next ∷ (old.next + 1) ∷ []
+  pub rows : length new.directory ≡ length old.directory + 1
 
 -- the volume of the change was made, or nothing where its name was there
 abbrev pub MakesOne : Store → Store → ℕ → Making → Making → Change → Type 0
@@ -146,6 +154,7 @@ pub record MakesObjectsOf (old new : Making) (actions made : List Action) : Type
       ↔ (IsNameThere old.directory name ⊎ IsNameAsked actions name)
   pub next : new.next ≡ old.next + 2 * length made
   pub numbers : numbers_of new ≡ numbers_of old ++ range_with_len old.next (2 * length made)
+  pub rows : length new.directory ≡ length old.directory + length made
 
 -- the volumes of these actions were made, where their names were not there already
 pub record MakesAll (before after : Store) (group : ℕ) (old new : Making) (actions : List Action)
@@ -181,6 +190,36 @@ pub record IsActionRefused (old new : Store) (group : ℕ) (rows : List Director
   pub why : IsMakingRefused mid new group rows first (next + 2 * length made) action.change refusal
 
 -- ---- the meta object set
+
+-- the change writes a record to each object that may have one
+abbrev pub WritesRecord : ObjectsChange → Type 0
+WritesRecord change =
+    (r : DatasetRecord) × ((object : Object) → IsRecordObject object
+    → MayChange change (Some object) × HasRecord (after_change change (Some object)) r)
+
+-- the change makes an object with a record, or with an empty dead list
+abbrev pub MakesObject : ObjectsChange → Type 0
+MakesObject change =
+    ((r : DatasetRecord) × HasRecord (after_change change None) r)
+    ⊎ HasTable dead_list_kind (after_change change None) []
+
+-- the change writes a directory of so many names anew
+abbrev pub WritesDirectory : ℕ → ObjectsChange → Type 0
+WritesDirectory names change =
+    (rows : List DirectoryRow) × (length rows ≡ names)
+    × ((object : Object) → IsOfKind directory_kind object
+    → MayChange change (Some object) × HasDirectory (after_change change (Some object)) rows)
+
+-- each of the changes writes a record or makes an object
+abbrev pub AreOfDatasets : List ObjectChange → Type 0
+AreOfDatasets changes =
+    All (λ change. WritesRecord change.change ⊎ MakesObject change.change) changes
+
+-- or it writes the directory, which has so many names then
+abbrev pub AreOfGroup : ℕ → List ObjectChange → Type 0
+AreOfGroup names changes =
+    All (λ change. WritesDirectory names change.change
+    ⊎ (WritesRecord change.change ⊎ MakesObject change.change)) changes
 
 -- the block of the set: 2 sectors, three copies
 abbrev pub demand_of_root : Demand
@@ -234,6 +273,7 @@ pub record HasVolumePlaces (old new : Store) (group : ℕ) (opened : Opened) (ac
   pub made : List Action
   pub made_are : AreMade opened.directory [] actions made
   pub numbers : map (λ change. change.number) changes ≡ changed_numbers opened made
+  pub kinds : AreOfGroup (length opened.directory + length made) changes
   pub of_written : List Demand
   pub written_ask : AreAsked (HasVolumeDemands old.spaces group) opened.written.items of_written
   pub of_made : List Demand
@@ -267,6 +307,7 @@ pub record HasGroupDemands (spaces : List VdevSpace) (group : ℕ) (opened : Ope
   pub made_ask : AreAsked (HasActionDemands spaces group) made of_made
   pub changes : List ObjectChange
   pub numbers : map (λ change. change.number) changes ≡ changed_numbers opened made
+  pub kinds : AreOfGroup (length opened.directory + length made) changes
   pub of_root : List Demand
   pub root_asks : HasRootDemands spaces opened.set group changes of_root
   pub is : demands ≡ of_written ++ of_made ++ of_root

@@ -21,7 +21,7 @@ ghost use Rattle.pool_now.specs.Overlay.{after_writes};
 ghost use Rattle.volume.specs.Demands.{IsPlacingRefused};
 ghost use Rattle.volume.specs.Volume.{Spells, block_size_of};
 ghost use Rattle.volume.specs.Writing.{AreBlocksOf, IsArrayWith};
-ghost use Rattle.dataset_snapshots.specs.Demands.{HavePlacesFor, HasVolumeDemands, IsVolumeUnplaced};
+ghost use Rattle.dataset_snapshots.specs.Demands.{HavePlacesFor, HasVolumeDemands, IsVolumeUnplaced, WritesRecord};
 ghost use Rattle.dataset_snapshots.specs.Opening.{AreBlocksFound, AreBlocksRefused, IsOneUnread, IsWrittenFound, IsWrittenOf, IsWrittenRefused};
 ghost use Rattle.dataset_snapshots.specs.Pools.{SpellsDataset};
 ghost use Rattle.dataset_snapshots.specs.Writing.{ChangesRecord, FitsWritten, HasRow, IsChangedFrom, IsReadFor, IsReadFrom, IsWritten, SpellsEach};
@@ -239,6 +239,8 @@ pub(crate) fn place_written<D: Disk + Drop>(
         → IsForRoom refusal ⊎ (refusal ≡ Refusal.DiskFault)) }
 
     // Whatever the volumes are: what places are taken for, and on a refusal its cause.
+    ensures writes { IfOk result (λ changes.
+        All (λ change. WritesRecord change.change) changes.items) }
     ensures places { OnOk result (HavePlacesFor store.old store.new
         (HasVolumeDemands store.old.spaces group) written.items) }
     ensures refused { IfErr result (λ refusal. (refusal ≡ Refusal.NoMemory)
@@ -282,6 +284,7 @@ fn place_one<D: Disk + Drop>(
         → IsReadFor stored bound there writes row written
         → SpellsDataset stored bound there row volume
         → IsForRoom refusal ⊎ (refusal ≡ Refusal.DiskFault)) }
+    ensures writes { IfOk result (λ change. WritesRecord change.change) }
     ensures places { OnOk result ((demands : List Demand)
         × HasVolumeDemands store.old.spaces group written demands
         × HavePlaces store.old.spaces demands store.new.spaces) }

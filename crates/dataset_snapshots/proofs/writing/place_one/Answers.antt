@@ -48,3 +48,8 @@ pub returns-clause-places : goal.returns-clause-places
 returns-clause-places g c =
     let placed = c.in_ok-placed.ensures in
     volume_places c.args.store.now c.placed.new.store c.args.group c.args.written (λ none. (placed.idle none).0) placed.places
+
+pub returns-clause-writes : goal.returns-clause-writes
+returns-clause-writes g c =
+    let made = c.in_ok-record_change.ensures in
+    (c.with_object_set-record.result, λ object is. (made.may object is, made.made object is))

@@ -8,7 +8,7 @@ use Rattle.objset.specs.Changes.{IsGoodChange}
 use Rattle.pool_now.specs.Overlay.{after_writes}
 use Rattle.txg_pipeline.proofs.Running.{drops_nothing}
 use Rattle.dataset_snapshots.specs.declared.writing.WrittenVolume.{WrittenVolume}
-use Rattle.dataset_snapshots.specs.Demands.{HavePlacesFor, HasVolumeDemands}
+use Rattle.dataset_snapshots.specs.Demands.{HavePlacesFor, HasVolumeDemands, WritesRecord}
 use Rattle.dataset_snapshots.specs.Writing.{ChangesRecord, FitsWritten, IsChangedFrom, IsReadFrom}
 use Rattle.dataset_snapshots.proofs.Asking.{no_places, places_more, volume_demands_in}
 use Rattle.dataset_snapshots.proofs.ChangedRows.{is_first}
@@ -32,6 +32,7 @@ placing-init g c = record {
   );
   fits = subst (All (FitsWritten c.args.objects)) (sym c.from_vec-left.ensures.items) c.requires.fits;
   good = subst (All (λ (change : ObjectChange). IsGoodChange change.change)) (sym c.new-changes.ensures.items) (All-nil (λ (change : ObjectChange). IsGoodChange change.change));
+  writes = subst (All (λ (change : ObjectChange). WritesRecord change.change)) (sym c.new-changes.ensures.items) (All-nil (λ (change : ObjectChange). WritesRecord change.change));
   value = λ stored planned bound there writes rows volumes plans le honest read spelled. (
     planned,
     plans,
@@ -88,6 +89,7 @@ placing-preserved g c =
       );
       fits = All-tail (FitsWritten c.args.objects) next rest (subst (All (FitsWritten c.args.objects)) c.in-Some.ensures.items i.fits);
       good = all_more (λ (change : ObjectChange). IsGoodChange change.change) so_far now one more i.good c.in_ok-change.ensures.good;
+      writes = all_more (λ (change : ObjectChange). WritesRecord change.change) so_far now one more i.writes c.in_ok-change.ensures.writes;
       value = λ stored planned bound there writes rows volumes plans le honest read spelled.
           let before = i.value stored planned bound there writes rows volumes plans le (true_before c.args.store.now c.placing.store c.place_one.new.store c.place_one.ensures.steps.reads honest) read spelled in
           let from = All-contains (IsReadFrom stored bound there writes rows) c.args.written.items next read held in

@@ -10,7 +10,7 @@ use Rattle.objset.specs.Objects.{Object}
 use Rattle.pool_model.specs.declared.item.Write.{Write}
 use Rattle.pool_model.specs.declared.volume.PlainVolume.{PlainVolume}
 use Rattle.dataset_snapshots.specs.declared.writing.WrittenVolume.{WrittenVolume}
-use Rattle.dataset_snapshots.specs.Demands.{HavePlacesFor, HasVolumeDemands}
+use Rattle.dataset_snapshots.specs.Demands.{HavePlacesFor, HasVolumeDemands, WritesRecord}
 use Rattle.dataset_snapshots.specs.Writing.{FitsWritten, IsChangedFrom, IsReadFrom, SpellsEach}
 use Rattle.dataset_snapshots.proofs.writing.place_written.Given as goal
 
@@ -23,6 +23,7 @@ invariant-placing g l = record {
       × HavePlacesFor l.fn.store l.store (HasVolumeDemands l.fn.store.spaces l.group) done;
   fits : All (FitsWritten l.objects) l.left.items;
   good : All (λ change. IsGoodChange change.change) l.changes.items;
+  writes : All (λ change. WritesRecord change.change) l.changes.items;
   value : (stored planned : Contents) (bound : ℕ) (there : ℕ → Option Object) (writes : List Write) (rows : List DirectoryRow) (volumes : ℕ → PlainVolume)
       → Plans l.fn.store stored planned → bound ≤ l.group → AnswersAreTrue l.fn.store l.store → All (IsReadFrom stored bound there writes rows) l.fn.written.items
       → SpellsEach stored bound there rows volumes
