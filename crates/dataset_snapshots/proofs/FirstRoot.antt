@@ -32,7 +32,9 @@ use Rattle.objset.specs.Refused.{IsChangeRefused, IsObjectRefused, IsTreeRefused
 use Rattle.objset.proofs.Kept.{objects_stand}
 use Rattle.pool_model.specs.Pools.{no_volumes}
 use Rattle.vdev_label.specs.Plain.{PlainVdev}
-use Rattle.dataset_snapshots.specs.Creating.{AreFirstChanges, HasFirstTables, maps_kind, spans_kind}
+use Rattle.meta_objset.specs.SpaceMaps.{maps_kind}
+use Rattle.meta_objset.specs.StaleSpans.{spans_kind}
+use Rattle.dataset_snapshots.specs.Creating.{AreFirstChanges, HasFirstTables}
 use Rattle.dataset_snapshots.specs.Pools.{SpellsPool}
 
 -- the first has it, or one behind it

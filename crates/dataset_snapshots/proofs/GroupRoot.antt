@@ -28,7 +28,9 @@ use Rattle.pool_now.specs.Overlay.{after_writes}
 use Rattle.vdev_label.specs.Plain.{PlainVdev}
 use Rattle.dataset_snapshots.specs.declared.groups.Opened.{Opened}
 use Rattle.dataset_snapshots.specs.declared.making.Making.{Making}
-use Rattle.dataset_snapshots.specs.Creating.{HasFirstTables, maps_kind, spans_kind}
+use Rattle.meta_objset.specs.SpaceMaps.{maps_kind}
+use Rattle.meta_objset.specs.StaleSpans.{spans_kind}
+use Rattle.dataset_snapshots.specs.Creating.{HasFirstTables}
 use Rattle.dataset_snapshots.specs.Groups.{IsOpened, IsOpenedFrom, IsSetOf, SpellsAfter, objects_of}
 use Rattle.dataset_snapshots.specs.Making.{IsReady, SpellsMaking, numbers_end}
 use Rattle.dataset_snapshots.specs.Pools.{AreApart, SpellsDataset, SpellsPool, dead_list_kind}

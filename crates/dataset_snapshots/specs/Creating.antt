@@ -4,8 +4,8 @@ use Rattle.block_store.specs.declared.block.CopyCount.TheVariants.{Three}
 use Rattle.block_store.specs.Steps.{HasNoRoomFor}
 use Rattle.block_store.specs.Store.{Store}
 use Rattle.meta_objset.specs.Reading.{HasConfig, HasDirectory}
-use Rattle.object_table.specs.declared.kind.TableKind.{TableKind}
-use Rattle.object_table.specs.declared.shape.RowShape.{RowShape}
+use Rattle.meta_objset.specs.SpaceMaps.{maps_kind}
+use Rattle.meta_objset.specs.StaleSpans.{spans_kind}
 use Rattle.object_table.specs.Tables.{HasTable}
 use Rattle.objset.specs.declared.changes.Change.{Change}
 use Rattle.objset.specs.declared.changes.ObjectChange.{ObjectChange}
@@ -13,17 +13,6 @@ use Rattle.objset.specs.declared.changes.SetCopies.{SetCopies}
 use Rattle.objset.specs.Changes.{HasNoRoom, IsGoodChange, after_change}
 use Rattle.objset.specs.Objects.{Object}
 use Rattle.vdev_label.specs.Plain.{PlainVdev}
-
--- rows of 32 bytes
-abbrev pub rows_of_32 : RowShape
-rows_of_32 = record { first_len = 32; row_len = 32 }
-
--- stale spans have type 204, and space maps 205
-abbrev pub spans_kind : TableKind
-spans_kind = record { object_type = 204; rows = rows_of_32 }
-
-abbrev pub maps_kind : TableKind
-maps_kind = record { object_type = 205; rows = rows_of_32 }
 
 -- the tables beside the directory: the configuration, and no stale spans and no space maps
 pub record HasFirstTables (objects : ℕ → Option Object) (vdevs : List PlainVdev) : Type 0 where

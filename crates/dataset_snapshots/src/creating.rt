@@ -16,9 +16,8 @@ use block_pointer::{Block, BlockPtr};
 use block_store::{BlockStore, CopyCount, Refusal};
 use dnode::{ObjectNode, ObjectSet, ObjectSetKind};
 use dnode_slots::plan_set;
-use meta_objset::{Directory, config_creation};
+use meta_objset::{Directory, SPACE_MAPS_KIND, STALE_SPANS_KIND, config_creation};
 use model_disk::Disk;
-use object_table::{RowShape, TableKind};
 use objset::{Change, ObjectChange, SetCopies};
 use std::alloc::Global;
 use vdev_label::Config;
@@ -33,24 +32,6 @@ const EMPTY: ObjectSet = ObjectSet {
     },
     kind: ObjectSetKind::Meta,
     objects: 1,
-};
-
-/// Rows of 32 bytes.
-const ROWS: RowShape = RowShape {
-    first_len: 32,
-    row_len: 32,
-};
-
-/// The table of stale spans.
-const STALE_SPANS: TableKind = TableKind {
-    object_type: 204,
-    rows: ROWS,
-};
-
-/// The table of space maps.
-const SPACE_MAPS: TableKind = TableKind {
-    object_type: 205,
-    rows: ROWS,
 };
 
 /// All blocks of the meta object set have three copies.
@@ -104,8 +85,8 @@ fn first_changes(alloc: Global, config: &Config) -> Result<[ObjectChange; 4], ob
 {
     let directory = Directory::new(alloc).creation(alloc)?;
     let config = config_creation(alloc, config)?;
-    let spans = object_table::creation(alloc, STALE_SPANS, &[])?;
-    let maps = object_table::creation(alloc, SPACE_MAPS, &[])?;
+    let spans = object_table::creation(alloc, STALE_SPANS_KIND, &[])?;
+    let maps = object_table::creation(alloc, SPACE_MAPS_KIND, &[])?;
     Ok([
         change_of(1, directory),
         change_of(2, config),
