@@ -132,7 +132,7 @@ IsNewRefused old new group block_size refusal =
 abbrev pub numbers_of : Making → List ℕ
 numbers_of making = map (λ change. change.number) making.changes.items
 
--- one volume of that name was made: its name is there too, and its two objects have the next numbers
+-- one volume of that name was made: its name is there too, its two objects have the next numbers
 pub record IsVolumeMade (old new : Making) (name : List ℕ) : Type 0 where
   pub names : (other : List ℕ) → IsNameThere new.directory other
       ↔ (IsNameThere old.directory other ⊎ (name ≡ other))
@@ -313,7 +313,8 @@ pub record HasGroupDemands (spaces : List VdevSpace) (group : ℕ) (opened : Ope
   pub is : demands ≡ of_written ++ of_made ++ of_root
 
 -- the root was read, and then places were taken for what the group asks, and for nothing else
-pub record HasGroupPlaces (old new : Store) (root : Block) (group : ℕ) (items : Entry) : Type 0 where
+pub record HasGroupPlaces (old new : Store) (root : Block) (group : ℕ) (items : Entry)
+    : Type 0 where
   pub opened : Opened
   pub found : IsGroupFound old.spaces (group - 1) root items.writes opened
   pub demands : List Demand
