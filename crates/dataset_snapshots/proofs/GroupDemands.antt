@@ -1,9 +1,7 @@
 -- What a group's root asks places for, from what its parts ask.
-use Rattle.std.proofs.Common.{◌≡◌, ◌⊎◌, ◌↔◌, inl, inr, Ok, Err, Result, ℕ, ◌+◌, ◌*◌, ◌-◌, List, [], ◌∷◌, ◌++◌, length, map, Contains, refl, sym, ap, subst, ◌∙◌, arith}
-use Rattle.std.specs.Prelude.{◌≢◌, IfErr, IfOk, OnOk}
-use Rattle.std.specs.List.{range_with_len}
-use Rattle.std.proofs.lemmas.List.{append-nil, length-append, length-map}
-use Rattle.std.proofs.lemmas.List.FromFn.{length-range_with_len}
+use Rattle.std.proofs.Common.{◌≡◌, ◌⊎◌, ◌↔◌, inl, inr, Ok, Err, Result, ℕ, ◌+◌, ◌-◌, List, [], ◌∷◌, ◌++◌, length, map, Contains, refl, ap, subst, ◌∙◌, arith}
+use Rattle.std.specs.Prelude.{◌≢◌, IfErr, IfOk, OnOk, All}
+use Rattle.std.proofs.lemmas.List.{append-nil, length-append}
 use Rattle.block_pointer.specs.declared.block.Block.{Block}
 use Rattle.block_pointer.specs.Copies.{dvas}
 use Rattle.block_store.proofs.Demands.{have_both, have_one, lack_later, lack_one}
@@ -30,7 +28,7 @@ use Rattle.volume.specs.Demands.{empty_set}
 use Rattle.dataset_snapshots.specs.declared.groups.Opened.{Opened}
 use Rattle.dataset_snapshots.specs.declared.making.Making.{Making}
 use Rattle.dataset_snapshots.specs.Creating.{copies_of_meta}
-use Rattle.dataset_snapshots.specs.Demands.{AreAsked, AreMade, AreOfGroup, AreVolumesRefused, HasActionDemands, HasGroupDemands, HasGroupPlaces, HasRootDemands, HasRootPlaces, HasVolumeDemands, HasVolumePlaces, HavePlacesFor, IsActionRefused, IsGroupRefused, IsRootRefused, IsVolumeUnplaced, MakesAll, changed_numbers, demand_of_root, first_number, numbers_of}
+use Rattle.dataset_snapshots.specs.Demands.{AreAsked, AreGroupChanges, AreMade, AreNewObjects, AreVolumesRefused, HasActionDemands, HasGroupDemands, HasGroupPlaces, HasRootDemands, HasRootPlaces, HasVolumeDemands, HasVolumePlaces, HavePlacesFor, IsActionRefused, IsGroupRefused, IsRootRefused, IsVolumeUnplaced, IsWithDirectory, MakesAll, MakesObjectsOf, WritesDirectory, WritesRecord, demand_of_root, first_number}
 use Rattle.dataset_snapshots.specs.Finding.{AreRowsFound, IsMetaFound}
 use Rattle.dataset_snapshots.specs.Groups.{objects_of}
 use Rattle.dataset_snapshots.specs.Opening.{IsGroupFound, IsGroupUnread, IsOneUnread}
@@ -118,26 +116,42 @@ asked_so : {X : Type 0} (Asks Others : X → List Demand → Type 0) → ((x : X
 asked_so Asks Others so [] demands none = none
 asked_so Asks Others so (x ∷ xs) demands (first, rest, here, later, is) = (first, rest, so x first here, asked_so Asks Others so xs rest later, is)
 
-as_many : (making : Making) (numbers : List ℕ) → numbers_of making ≡ numbers → length making.changes.items ≡ length numbers
-as_many making numbers are = sym (length-map making.changes.items (λ (c : ObjectChange). c.number)) ∙ ap length are
+two_more : (all later : List ObjectChange) (one two : ObjectChange) → all ≡ one ∷ two ∷ later → length all ≡ length later + 2
+two_more all later one two is = let same : length all ≡ length (one ∷ two ∷ later) = ap length is in omega (arith, same)
 
-pub group_numbers : (opened : Opened) (first last : Making) (made : List Action) (count : ℕ) (changes : List ObjectChange) → numbers_of first ≡ objects_of opened → first.next ≡ first_number opened.set
-    → length first.changes.items ≡ count → numbers_of last ≡ numbers_of first ++ range_with_len first.next (2 * length made)
-    → (length last.changes.items ≡ count → map (λ (c : ObjectChange). c.number) changes ≡ numbers_of last)
-    → (length last.changes.items ≢ count → map (λ (c : ObjectChange). c.number) changes ≡ 1 ∷ numbers_of last)
-    → map (λ (c : ObjectChange). c.number) changes ≡ changed_numbers opened made
-group_numbers opened first last [] count changes written next len numbers same more =
-    let all : numbers_of last ≡ numbers_of first = numbers ∙ append-nil (numbers_of first) in
-    let long : length last.changes.items ≡ length first.changes.items = as_many last (numbers_of first) all ∙ length-map first.changes.items (λ (c : ObjectChange). c.number) in
-    same (long ∙ len) ∙ all ∙ written
-group_numbers opened first last (action ∷ made) count changes written next len numbers same more =
-    let behind : List ℕ = range_with_len first.next (2 * length (action ∷ made)) in
-    let parts : length (numbers_of first ++ behind) ≡ length (numbers_of first) + length behind = length-append (numbers_of first) behind in
-    let mapped : length (numbers_of first) ≡ length first.changes.items = length-map first.changes.items (λ (c : ObjectChange). c.number) in
-    let two : length behind ≡ 2 * length (action ∷ made) = length-range_with_len first.next (2 * length (action ∷ made)) in
-    let all = as_many last (numbers_of first ++ behind) numbers in
-    let longer : length last.changes.items ≢ count = λ is. omega (arith, is, all, parts, mapped, two, len) in
-    more longer ∙ ap (λ (rest : List ℕ). 1 ∷ rest) (numbers ∙ (ap (λ (front : List ℕ). front ++ behind) written ∙ ap (λ n. objects_of opened ++ range_with_len n (2 * length (action ∷ made))) next))
+pub group_changes : (opened : Opened) (first last : Making) (actions made : List Action) (count : ℕ) (changes : List ObjectChange) → map (λ (c : ObjectChange). c.number) first.changes.items ≡ objects_of opened
+    → All (λ (c : ObjectChange). WritesRecord c.change) first.changes.items → first.directory ≡ opened.directory → first.next ≡ first_number opened.set → length first.changes.items ≡ count
+    → MakesObjectsOf first last actions made → (length last.changes.items ≡ count → changes ≡ last.changes.items) → (length last.changes.items ≢ count → IsWithDirectory last changes)
+    → AreGroupChanges opened made changes
+group_changes opened first last actions [] count changes numbers records is next len made same more =
+    let all : last.changes.items ≡ first.changes.items = made.changes ∙ (ap (λ (behind : List ObjectChange). first.changes.items ++ behind) made.made_are ∙ append-nil first.changes.items) in record {
+      of_directory = [];
+      directory_are = refl;
+      of_written = first.changes.items;
+      numbers = numbers;
+      records = records;
+      of_made = made.of_made;
+      made_are = made.made_are;
+      are = same (ap length all ∙ len) ∙ made.changes;
+    }
+group_changes opened first last actions (action ∷ before) count changes numbers records is next len made same more =
+    let new = made.made_are in
+    let parts : length (first.changes.items ++ made.of_made) ≡ length first.changes.items + length made.of_made = length-append first.changes.items made.of_made in
+    let all : length last.changes.items ≡ length (first.changes.items ++ made.of_made) = ap length made.changes in
+    let some : length made.of_made ≡ length new.2 + 2 = two_more made.of_made new.2 _ _ new.6 in
+    let longer : length last.changes.items ≢ count = λ e. omega (arith, e, all, parts, some, len) in
+    let with_first = more longer in
+    let names : length last.directory ≡ length opened.directory + length (action ∷ before) =
+    made.rows ∙ ap (λ (rows : List DirectoryRow). length rows + length (action ∷ before)) is in record {
+      of_directory = record { number = 1; change = with_first.0 } ∷ [];
+      directory_are = (with_first.0, subst (λ n. WritesDirectory n with_first.0) names with_first.1, refl);
+      of_written = first.changes.items;
+      numbers = numbers;
+      records = records;
+      of_made = made.of_made;
+      made_are = subst (λ n. AreNewObjects n (action ∷ before) made.of_made) next made.made_are;
+      are = with_first.2 ∙ ap (λ (rest : List ObjectChange). record { number = 1; change = with_first.0 } ∷ rest) made.changes;
+    }
 
 pub volume_refused : (old new : Store) (group : ℕ) (opened : Opened) (actions : List Action) (refusal : Refusal) → (refusal ≡ NoMemory) ⊎ IsVolumeUnplaced old new group opened.written.items refusal
     → AreVolumesRefused old new group opened actions refusal
@@ -157,14 +171,13 @@ module _ (old mid new : Store) (group : ℕ) (opened : Opened) (first : Making) 
       }))
 
   pub volumes_have : (last : Making) (changes : List ObjectChange) → shapes_of mid.spaces ≡ shapes_of old.spaces → HavePlacesFor old mid (HasVolumeDemands old.spaces group) opened.written.items
-      → first.directory ≡ opened.directory → (made : MakesAll mid new group first last actions) → map (λ (c : ObjectChange). c.number) changes ≡ changed_numbers opened made.made
-      → AreOfGroup (length last.directory) changes → HasVolumePlaces old new group opened actions changes
-  volumes_have last changes same written is made numbers kinds =
+      → first.directory ≡ opened.directory → (made : MakesAll mid new group first last actions) → AreGroupChanges opened made.made changes
+      → HasVolumePlaces old new group opened actions changes
+  volumes_have last changes same written is made are =
       let asked = made.places in record {
         made = made.made;
         made_are = subst (λ (rows : List DirectoryRow). AreMade rows [] actions made.made) is made.are;
-        numbers = numbers;
-        kinds = subst (λ n. AreOfGroup n changes) (made.objects.rows ∙ ap (λ (rows : List DirectoryRow). length rows + length made.made) is) kinds;
+        changes_are = are;
         of_written = written.0;
         written_ask = written.1;
         of_made = asked.0;
@@ -204,8 +217,7 @@ module _ (old first second new : Store) (root : Block) (group : ℕ) (items : En
         of_made = volumes.of_made;
         made_ask = volumes.made_ask;
         changes = changes;
-        numbers = volumes.numbers;
-        kinds = volumes.kinds;
+        changes_are = volumes.changes_are;
         of_root = of_root;
         root_asks = record {
           of_objects = root_asks.of_objects;

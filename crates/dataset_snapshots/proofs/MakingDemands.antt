@@ -1,10 +1,8 @@
 -- The volumes that actions make, with what they ask places for.
-use Rattle.std.specs.Prelude.{All}
-use Rattle.std.proofs.Common.{◌≡◌, ◌⊎◌, ◌↔◌, ℕ, zero, suc, ◌+◌, ◌*◌, ◌<◌, List, [], ◌∷◌, ◌++◌, length, map, take, drop, get_or, Contains, inl, inr, ⊎_elim, refl, sym, ap, subst, ◌∙◌, append_assoc, arith}
-use Rattle.std.specs.List.{range_with_len}
-use Rattle.std.proofs.lemmas.List.{append-nil, length-append, map-append, take-append-drop, take_more}
+use Rattle.std.proofs.Common.{◌≡◌, ◌⊎◌, ◌↔◌, ℕ, ◌+◌, ◌*◌, ◌<◌, List, [], ◌∷◌, ◌++◌, length, take, drop, get_or, Contains, inl, inr, ⊎_elim, refl, sym, ap, subst, ◌∙◌, append_assoc, arith}
+use Rattle.std.proofs.lemmas.List.{append-nil, length-append, take-append-drop, take_more}
 use Rattle.std.proofs.lemmas.List.Edits.{length-insert}
-use Rattle.std.proofs.lemmas.List.Elements.{All-append, All-cons, All-contains, All-nil}
+use Rattle.std.proofs.lemmas.List.Elements.{All-contains}
 use Rattle.std.proofs.lemmas.List.Quantifiers.{Any-push}
 use Rattle.block_store.specs.declared.refusal.Refusal.{Refusal}
 use Rattle.block_store.specs.Demands.{Demand, HavePlaces}
@@ -16,6 +14,7 @@ use Rattle.meta_objset.specs.declared.directory.DirectoryRow.{DirectoryRow}
 use Rattle.meta_objset.specs.declared.record.DatasetRecord.{DatasetRecord}
 use Rattle.meta_objset.specs.Directory.{IsWith, LacksName}
 use Rattle.meta_objset.specs.Names.{IsNamed}
+use Rattle.objset.specs.declared.changes.Change.{Change as ObjectsChange}
 use Rattle.objset.specs.declared.changes.ObjectChange.{ObjectChange}
 use Rattle.pool_model.specs.declared.item.Action.{Action}
 use Rattle.pool_model.specs.declared.item.Change.{Change}
@@ -23,7 +22,7 @@ use Rattle.pool_model.specs.declared.item.Change.TheVariants.{Create}
 use Rattle.volume.specs.Demands.{empty_set}
 use Rattle.dataset_snapshots.specs.declared.making.Making.{Making}
 use Rattle.dataset_snapshots.specs.declared.new_volume.NewVolume.{NewVolume}
-use Rattle.dataset_snapshots.specs.Demands.{AreMade, AreOfDatasets, WritesRecord, MakesObject, HasActionDemands, HasNewPlaces, IsActionRefused, IsMakingRefused, IsNameAsked, IsNameThere, IsNewRefused, IsThereAlready, IsVolumeMade, MakesAll, MakesObjectsOf, MakesOne, name_of, new_block_size, numbers_of}
+use Rattle.dataset_snapshots.specs.Demands.{AreMade, AreNewObjects, HasActionDemands, HasNewPlaces, IsActionRefused, IsMakingRefused, IsNameAsked, IsNameThere, IsNewRefused, IsThereAlready, IsVolumeMade, MakesAll, MakesDeadList, MakesObjectsOf, MakesOne, MakesRecord, name_of, new_block_size}
 use Rattle.dataset_snapshots.specs.NewVolumes.{IsAdded, IsNewVolume}
 use Rattle.dataset_snapshots.proofs.Asking.{no_places, places_more, set_demands_in}
 use Rattle.dataset_snapshots.proofs.Rows.{names_same, padded_same}
@@ -64,16 +63,6 @@ names_with before after row name named more other = (
       ⊎_elim (λ old. (old.0, (more old.0).1 (inl old.1), old.2)) (λ same. (row, (more row).1 (inr refl), subst (IsNamed row.name) same named)) either,
 )
 
--- its two objects are made
-pub made_of_datasets : (old new : Making) (name : List ℕ) (r : DatasetRecord) → IsAdded old name r new → AreOfDatasets old.changes.items → AreOfDatasets new.changes.items
-made_of_datasets old new name r added so_far =
-    let P : ObjectChange → Type 0 = λ change. WritesRecord change.change ⊎ MakesObject change.change in
-    let of_record : ObjectChange = record { number = old.next; change = added.objects.of_record } in
-    let of_dead : ObjectChange = record { number = old.next + 1; change = added.objects.of_dead } in
-    subst (All P) (sym added.objects.are)
-    (All-append P old.changes.items (of_record ∷ of_dead ∷ []) so_far
-    (All-cons P of_record (of_dead ∷ []) (inr (inl (r, added.objects.has))) (All-cons P of_dead [] (inr (inr added.objects.dead)) (All-nil P))))
-
 pub one_made : (old new : Making) (r : DatasetRecord) (change : Change) (v : NewVolume) → IsNewVolume change v → IsAdded old v.name r new → IsVolumeMade old new (name_of change)
 one_made old new r change v is added = record {
   names =
@@ -82,17 +71,31 @@ one_made old new r change v is added = record {
       (subst (IsWith old.directory row) (sym added.row.placed) (row_added old.directory row added.row.at));
   next = added.next;
   rows = ap length added.row.placed ∙ length-insert old.directory added.row.at (record { name = v.name; object = old.next }) added.row.within;
-  numbers = ap (map (λ (change : ObjectChange). change.number)) added.objects.are ∙ map-append (λ (change : ObjectChange). change.number) old.changes.items _;
+  of_record = added.objects.of_record;
+  of_dead = added.objects.of_dead;
+  makes = ((r, added.objects.has), added.objects.dead);
+  changes = added.objects.are;
 }
 
 -- ---- one after the other
 
-range_more : (a n b : ℕ) → b ≡ a + n → range_with_len a n ++ b ∷ (b + 1) ∷ [] ≡ range_with_len a (n + 2)
-range_more a zero b is = let same : b ≡ a = omega (arith, is) in ap (λ n. n ∷ (n + 1) ∷ []) same
-range_more a (suc n) b is =
-    let later : b ≡ a + 1 + n = omega (arith, is) in
-    let two : suc (n + 2) ≡ suc n + 2 = omega arith in
-    ap (λ rest. a ∷ rest) (range_more (a + 1) n b later) ∙ ap (range_with_len a) two
+new_more : (next at : ℕ) (made : List Action) (action : Action) (changes : List ObjectChange) (of_record of_dead : ObjectsChange) → AreNewObjects next made changes → at ≡ next + 2 * length made
+    → MakesRecord of_record → MakesDeadList of_dead
+    → AreNewObjects next (made ++ action ∷ []) (changes ++ record { number = at; change = of_record } ∷ record { number = at + 1; change = of_dead } ∷ [])
+new_more next at [] action changes of_record of_dead none is record_is dead_is =
+    let same : at ≡ next = omega (arith, is) in
+    let two : ℕ → List ObjectChange = λ n. record { number = n; change = of_record } ∷ record { number = n + 1; change = of_dead } ∷ [] in
+    (of_record, of_dead, [], record_is, dead_is, refl, ap (λ (front : List ObjectChange). front ++ two at) none ∙ ap two same)
+new_more next at (first ∷ made) action changes of_record of_dead (r, d, later, r_is, d_is, rest, are) is record_is dead_is =
+    let two : List ObjectChange = record { number = at; change = of_record } ∷ record { number = at + 1; change = of_dead } ∷ [] in (
+      r,
+      d,
+      later ++ two,
+      r_is,
+      d_is,
+      new_more (next + 2) at made action later of_record of_dead rest (omega (arith, is)) record_is dead_is,
+      ap (λ (front : List ObjectChange). front ++ two) are,
+    )
 
 module _ (rows : List DirectoryRow) (action : Action) where
   made_there : (earlier actions made : List Action) → AreMade rows earlier actions made → IsThereAlready rows (earlier ++ actions) action.change
@@ -164,14 +167,14 @@ objects_more old between new actions made action so_far one =
     let after = one.next in
     let rows = so_far.rows in
     let row = one.rows in
-    let two : 2 * length made + 2 ≡ 2 * length (made ++ action ∷ []) = omega (arith, len) in
     record {
       names = names_more old between new actions action made so_far one;
       next = omega (arith, before, after, len);
       rows = omega (arith, rows, row, len);
-      numbers = one.numbers ∙ ap (λ (front : List ℕ). front ++ between.next ∷ (between.next + 1) ∷ []) so_far.numbers
-          ∙ append_assoc (numbers_of old) (range_with_len old.next (2 * length made)) (between.next ∷ (between.next + 1) ∷ [])
-          ∙ ap (λ (rest : List ℕ). numbers_of old ++ rest) (range_more old.next (2 * length made) between.next before ∙ ap (range_with_len old.next) two);
+      of_made = so_far.of_made ++ record { number = between.next; change = one.of_record } ∷ record { number = between.next + 1; change = one.of_dead } ∷ [];
+      made_are = new_more old.next between.next made action so_far.of_made one.of_record one.of_dead so_far.made_are before one.makes.0 one.makes.1;
+      changes = one.changes ∙ ap (λ (front : List ObjectChange). front ++ record { number = between.next; change = one.of_record } ∷ record { number = between.next + 1; change = one.of_dead } ∷ []) so_far.changes
+          ∙ append_assoc old.changes.items so_far.of_made _;
     }
 
 new_places_in : (old mid new : Store) (group : ℕ) (action : Action) → shapes_of mid.spaces ≡ shapes_of old.spaces → HasNewPlaces mid new group (new_block_size action.change)
@@ -188,7 +191,9 @@ makes_none store group making = record {
     names = λ name. (λ is. inl is, λ either. ⊎_elim (λ is. is) (λ asked. absurd (let low = asked.2 in omega (arith, low))) either);
     next = omega arith;
     rows = omega arith;
-    numbers = sym (append-nil (numbers_of making));
+    of_made = [];
+    made_are = refl;
+    changes = sym (append-nil making.changes.items);
   };
   places = no_places store (HasActionDemands store.spaces group);
 }
@@ -200,7 +205,14 @@ makes_more old mid new group first between last actions action same so_far (inl 
     (record {
       made = so_far.made;
       are = made_there first.directory action [] actions so_far.made so_far.are ((so_far.objects.names (name_of action.change)).0 there);
-      objects = record { names = names_kept first between actions action so_far.made so_far.objects there; next = so_far.objects.next; rows = so_far.objects.rows; numbers = so_far.objects.numbers };
+      objects = record {
+        names = names_kept first between actions action so_far.made so_far.objects there;
+        next = so_far.objects.next;
+        rows = so_far.objects.rows;
+        of_made = so_far.objects.of_made;
+        made_are = so_far.objects.made_are;
+        changes = so_far.objects.changes;
+      };
       places =
           let have = so_far.places in
           (have.0, have.1, subst (HavePlaces old.spaces have.0) (sym spaces) have.2);

@@ -1,6 +1,5 @@
 -- What a group's root asks places for, and why it is not planned.
 use Rattle.std.specs.Prelude.{ℕ, ◌≡◌, ◌≢◌, ◌⊎◌, ◌↔◌, ◌+◌, ◌*◌, ◌<◌, ◌-◌, List, [], ◌∷◌, ◌++◌, length, map, max, Any, All, Contains, Some, None}
-use Rattle.std.specs.List.{range_with_len}
 use Rattle.block_pointer.specs.declared.block.Block.{Block}
 use Rattle.block_store.specs.declared.refusal.Refusal.{Refusal}
 use Rattle.block_store.specs.declared.refusal.Refusal.TheVariants.{NoMemory, NoSpace, BadConfig}
@@ -78,6 +77,46 @@ pub record IsVolumeUnplaced (old new : Store) (group : ℕ) (written : List Writ
   pub places : HavePlacesFor old mid (HasVolumeDemands old.spaces group) first
   pub why : IsPlacingRefused mid new next.dataset.volume group next.blocks refusal
 
+-- ---- changes of the meta object set
+
+-- the change writes a record to each object that may have one
+abbrev pub WritesRecord : ObjectsChange → Type 0
+WritesRecord change =
+    (r : DatasetRecord) × ((object : Object) → IsRecordObject object
+    → MayChange change (Some object) × HasRecord (after_change change (Some object)) r)
+
+-- the change makes an object with a record
+abbrev pub MakesRecord : ObjectsChange → Type 0
+MakesRecord change = (r : DatasetRecord) × HasRecord (after_change change None) r
+
+-- the change makes an object with an empty dead list
+abbrev pub MakesDeadList : ObjectsChange → Type 0
+MakesDeadList change = HasTable dead_list_kind (after_change change None) []
+
+-- the change writes a directory of so many names anew
+abbrev pub WritesDirectory : ℕ → ObjectsChange → Type 0
+WritesDirectory names change =
+    (rows : List DirectoryRow) × (length rows ≡ names)
+    × ((object : Object) → IsOfKind directory_kind object
+    → MayChange change (Some object) × HasDirectory (after_change change (Some object)) rows)
+
+-- two objects are made for each of these volumes, with the numbers from that on: one with a record,
+-- and the next with an empty dead list
+abbrev pub AreNewObjects : ℕ → List Action → List ObjectChange → Type 0
+AreNewObjects next [] changes = changes ≡ []
+AreNewObjects next (action ∷ made) changes =
+    (of_record : ObjectsChange) × (of_dead : ObjectsChange) × (later : List ObjectChange)
+    × MakesRecord of_record × MakesDeadList of_dead × AreNewObjects (next + 2) made later
+    × (changes ≡ record { number = next; change = of_record }
+    ∷ record { number = next + 1; change = of_dead } ∷ later)
+
+-- where volumes are made the directory is written anew, with so many names
+abbrev pub AreDirectoryChanges : ℕ → List Action → List ObjectChange → Type 0
+AreDirectoryChanges names [] changes = changes ≡ []
+AreDirectoryChanges names (action ∷ made) changes =
+    (directory : ObjectsChange) × WritesDirectory names directory
+    × (changes ≡ record { number = 1; change = directory } ∷ [])
+
 -- ---- volumes that are made
 
 abbrev pub name_of : Change → List ℕ
@@ -129,16 +168,18 @@ IsNewRefused old new group block_size refusal =
     (creation : ObjectsChange) × IsCreation block_size creation
     × IsPlanRefused old new empty_set group creation refusal
 
-abbrev pub numbers_of : Making → List ℕ
-numbers_of making = map (λ change. change.number) making.changes.items
-
 -- one volume of that name was made: its name is there too, its two objects have the next numbers
 pub record IsVolumeMade (old new : Making) (name : List ℕ) : Type 0 where
   pub names : (other : List ℕ) → IsNameThere new.directory other
       ↔ (IsNameThere old.directory other ⊎ (name ≡ other))
   pub next : new.next ≡ old.next + 2
-  pub numbers : numbers_of new ≡ numbers_of old ++ old.next ∷ (old.next + 1) ∷ []
   pub rows : length new.directory ≡ length old.directory + 1
+  pub of_record : ObjectsChange
+  pub of_dead : ObjectsChange
+  pub makes : MakesRecord of_record × MakesDeadList of_dead
+  pub changes : new.changes.items
+      ≡ old.changes.items ++ record { number = old.next; change = of_record }
+      ∷ record { number = old.next + 1; change = of_dead } ∷ []
 
 -- the volume of the change was made, or nothing where its name was there
 abbrev pub MakesOne : Store → Store → ℕ → Making → Making → Change → Type 0
@@ -153,8 +194,10 @@ pub record MakesObjectsOf (old new : Making) (actions made : List Action) : Type
   pub names : (name : List ℕ) → IsNameThere new.directory name
       ↔ (IsNameThere old.directory name ⊎ IsNameAsked actions name)
   pub next : new.next ≡ old.next + 2 * length made
-  pub numbers : numbers_of new ≡ numbers_of old ++ range_with_len old.next (2 * length made)
   pub rows : length new.directory ≡ length old.directory + length made
+  pub of_made : List ObjectChange
+  pub made_are : AreNewObjects old.next made of_made
+  pub changes : new.changes.items ≡ old.changes.items ++ of_made
 
 -- the volumes of these actions were made, where their names were not there already
 pub record MakesAll (before after : Store) (group : ℕ) (old new : Making) (actions : List Action)
@@ -191,35 +234,11 @@ pub record IsActionRefused (old new : Store) (group : ℕ) (rows : List Director
 
 -- ---- the meta object set
 
--- the change writes a record to each object that may have one
-abbrev pub WritesRecord : ObjectsChange → Type 0
-WritesRecord change =
-    (r : DatasetRecord) × ((object : Object) → IsRecordObject object
-    → MayChange change (Some object) × HasRecord (after_change change (Some object)) r)
-
--- the change makes an object with a record, or with an empty dead list
-abbrev pub MakesObject : ObjectsChange → Type 0
-MakesObject change =
-    ((r : DatasetRecord) × HasRecord (after_change change None) r)
-    ⊎ HasTable dead_list_kind (after_change change None) []
-
--- the change writes a directory of so many names anew
-abbrev pub WritesDirectory : ℕ → ObjectsChange → Type 0
-WritesDirectory names change =
-    (rows : List DirectoryRow) × (length rows ≡ names)
-    × ((object : Object) → IsOfKind directory_kind object
-    → MayChange change (Some object) × HasDirectory (after_change change (Some object)) rows)
-
--- each of the changes writes a record or makes an object
-abbrev pub AreOfDatasets : List ObjectChange → Type 0
-AreOfDatasets changes =
-    All (λ change. WritesRecord change.change ⊎ MakesObject change.change) changes
-
--- or it writes the directory, which has so many names then
-abbrev pub AreOfGroup : ℕ → List ObjectChange → Type 0
-AreOfGroup names changes =
-    All (λ change. WritesDirectory names change.change
-    ⊎ (WritesRecord change.change ⊎ MakesObject change.change)) changes
+-- in front of what was made so far the directory is written anew
+abbrev pub IsWithDirectory : Making → List ObjectChange → Type 0
+IsWithDirectory making changes =
+    (directory : ObjectsChange) × WritesDirectory (length making.directory) directory
+    × (changes ≡ record { number = 1; change = directory } ∷ making.changes.items)
 
 -- the block of the set: 2 sectors, three copies
 abbrev pub demand_of_root : Demand
@@ -259,12 +278,19 @@ IsRootRefused old new set group changes refusal =
 abbrev pub first_number : ObjectSet → ℕ
 first_number set = max set.objects 5
 
--- The objects that a group changes: the directory where a volume is made, those of the volumes that
--- are written to, and two for each that is made.
-abbrev pub changed_numbers : Opened → List Action → List ℕ
-changed_numbers opened [] = objects_of opened
-changed_numbers opened (first ∷ made) = 1 ∷ (objects_of opened
-    ++ range_with_len (first_number opened.set) (2 * length (first ∷ made)))
+-- The changes that a group makes of the set: that of the directory, where volumes are made; a
+-- record for each volume that is written to; and the objects of those that are made.
+pub record AreGroupChanges (opened : Opened) (made : List Action) (changes : List ObjectChange)
+    : Type 0 where
+  pub of_directory : List ObjectChange
+  pub directory_are :
+      AreDirectoryChanges (length opened.directory + length made) made of_directory
+  pub of_written : List ObjectChange
+  pub numbers : map (λ change. change.number) of_written ≡ objects_of opened
+  pub records : All (λ change. WritesRecord change.change) of_written
+  pub of_made : List ObjectChange
+  pub made_are : AreNewObjects (first_number opened.set) made of_made
+  pub are : changes ≡ of_directory ++ of_written ++ of_made
 
 -- the volumes of a group were placed, those that are written to and then those that are made, and
 -- the meta object set is to have these changes
@@ -272,8 +298,7 @@ pub record HasVolumePlaces (old new : Store) (group : ℕ) (opened : Opened) (ac
     (changes : List ObjectChange) : Type 0 where
   pub made : List Action
   pub made_are : AreMade opened.directory [] actions made
-  pub numbers : map (λ change. change.number) changes ≡ changed_numbers opened made
-  pub kinds : AreOfGroup (length opened.directory + length made) changes
+  pub changes_are : AreGroupChanges opened made changes
   pub of_written : List Demand
   pub written_ask : AreAsked (HasVolumeDemands old.spaces group) opened.written.items of_written
   pub of_made : List Demand
@@ -306,8 +331,7 @@ pub record HasGroupDemands (spaces : List VdevSpace) (group : ℕ) (opened : Ope
   pub of_made : List Demand
   pub made_ask : AreAsked (HasActionDemands spaces group) made of_made
   pub changes : List ObjectChange
-  pub numbers : map (λ change. change.number) changes ≡ changed_numbers opened made
-  pub kinds : AreOfGroup (length opened.directory + length made) changes
+  pub changes_are : AreGroupChanges opened made changes
   pub of_root : List Demand
   pub root_asks : HasRootDemands spaces opened.set group changes of_root
   pub is : demands ≡ of_written ++ of_made ++ of_root

@@ -1,5 +1,5 @@
 //! The root of a pool after a group.
-ghost use Rattle.std.specs.Prelude.{◌≡◌, ◌≢◌, ◌⊎◌, ◌≤◌, ◌<◌, ◌-◌, ◌*◌, ◌^◌, ℕ, List, [], Option, Some, All, AllPairs, IfOk, IfErr, OnOk, ◌∷◌, fold, length, map};
+ghost use Rattle.std.specs.Prelude.{◌≡◌, ◌≢◌, ◌⊎◌, ◌≤◌, ◌<◌, ◌-◌, ◌*◌, ◌^◌, ℕ, List, [], Option, Some, All, AllPairs, IfOk, IfErr, OnOk, ◌∷◌, fold, length};
 ghost use Rattle.block_pointer.specs.Block.{FitsBlock};
 ghost use Rattle.block_pointer.specs.Copies.{dvas};
 ghost use Rattle.block_pointer.specs.declared.block.Block.{Block};
@@ -21,7 +21,7 @@ ghost use Rattle.pool_model.specs.Pools.{PlainPool, applied, written};
 ghost use Rattle.pool_model.specs.Pools.{changed as pool_changed};
 ghost use Rattle.vdev_label.specs.Plain.{PlainVdev};
 ghost use Rattle.dataset_snapshots.specs.Creating.{HasFirstTables, copies_of_meta};
-ghost use Rattle.dataset_snapshots.specs.Demands.{AreOfDatasets, AreOfGroup, AreVolumesRefused, HasGroupPlaces, HasRootPlaces, HasVolumePlaces, IsGroupRefused, IsRootRefused, numbers_of};
+ghost use Rattle.dataset_snapshots.specs.Demands.{AreVolumesRefused, HasGroupPlaces, HasRootPlaces, HasVolumePlaces, IsGroupRefused, IsRootRefused, IsWithDirectory};
 ghost use Rattle.dataset_snapshots.specs.Groups.{IsOpened, IsOpenedFrom, IsSetOf, SpellsAfter};
 ghost use Rattle.dataset_snapshots.specs.Making.{AreGoodCreations, IsReady, SpellsMaking};
 ghost use Rattle.dataset_snapshots.specs.Opening.{IsGroupFound, IsGroupUnread};
@@ -204,12 +204,10 @@ fn with_directory(making: Making, alloc: Global, count: usize) -> Result<Vec<Obj
         → HasDirectory (objects 1) rows → SpellsMaking stored birth objects making pool
         → (length making.changes.items ≡ count → making.directory ≡ rows)
         → SpellsAfter stored birth objects changes.items pool) }
-    ensures kinds { IfOk result (λ changes. AreOfDatasets making.changes.items
-        → AreOfGroup (length making.directory) changes.items) }
     ensures same { IfOk result (λ changes. length making.changes.items ≡ count
-        → map (λ change. change.number) changes.items ≡ numbers_of making) }
+        → changes.items ≡ making.changes.items) }
     ensures more { IfOk result (λ changes. length making.changes.items ≢ count
-        → map (λ change. change.number) changes.items ≡ 1 ∷ numbers_of making) }
+        → IsWithDirectory making changes.items) }
     ensures refused { IfErr result (λ refusal. refusal ≡ Refusal.NoMemory) }
 {
     let Making {

@@ -10,7 +10,7 @@ ghost use Rattle.meta_objset.specs.Record.{FitsRecord};
 ghost use Rattle.objset.specs.Objects.{Object};
 ghost use Rattle.pool_model.specs.Pools.{PlainPool, changed};
 ghost use Rattle.volume.specs.Placing.{LacksRoom};
-ghost use Rattle.dataset_snapshots.specs.Demands.{AreOfDatasets, IsActionRefused, IsMakingRefused, MakesAll, MakesOne};
+ghost use Rattle.dataset_snapshots.specs.Demands.{IsActionRefused, IsMakingRefused, MakesAll, MakesOne};
 ghost use Rattle.dataset_snapshots.specs.NewVolumes.{IsAdded, MakesObjects};
 ghost use Rattle.dataset_snapshots.specs.Making.{AreGoodCreations, GoesOn, HasNoNumbers, IsGoodCreation, IsReady, SpellsMaking, numbers_end};
 
@@ -85,8 +85,6 @@ impl Making {
             → IsForRoom refusal ⊎ (refusal ≡ Refusal.DiskFault)) }
 
         // What places are taken for, and on a refusal its cause.
-        ensures kinds { OnOk result (AreOfDatasets self.old.changes.items
-            → AreOfDatasets self.new.changes.items) }
         ensures places { OnOk result
             (MakesAll store.old store.new group self.old self.new actions.now) }
         ensures refused { IfErr result (λ refusal. (refusal ≡ Refusal.NoMemory)
@@ -127,8 +125,6 @@ impl Making {
             → (stored planned : Contents) → Plans store.old stored planned
             → AnswersAreTrue store.old store.new
             → IsForRoom refusal ⊎ (refusal ≡ Refusal.DiskFault)) }
-        ensures kinds { OnOk result (AreOfDatasets self.old.changes.items
-            → AreOfDatasets self.new.changes.items) }
         ensures places { OnOk result
             (MakesOne store.old store.new group self.old self.new change.now) }
         ensures refused { IfErr result (IsMakingRefused store.old store.new group

@@ -1,21 +1,18 @@
-use Rattle.std.proofs.Common.{◌≡◌, ◌⊎◌, inl, ◌+◌, ◌∷◌, [], ℕ, List, length, refl, ap, ◌∙◌, arith}
-use Rattle.std.specs.Prelude.{All, fold}
-use Rattle.std.proofs.lemmas.List.Elements.{All-weaker}
+use Rattle.std.proofs.Common.{◌≡◌, ◌+◌, ◌∷◌, [], ℕ, List, length, refl, ap, ◌∙◌, arith}
+use Rattle.std.specs.Prelude.{fold}
 use Rattle.std.proofs.lemmas.List.{length-append}
 use Rattle.std.proofs.lemmas.Result.{IfOk-weaker}
 use Rattle.block_store.proofs.Steps.{steps_on, true_before, true_after}
 use Rattle.dnode_tree.proofs.Refusing.{passed_on}
 use Rattle.pool_model.specs.Pools.{written}
 use Rattle.pool_model.specs.Pools.{changed as pool_changed}
-use Rattle.objset.specs.declared.changes.ObjectChange.{ObjectChange}
-use Rattle.dataset_snapshots.specs.Demands.{AreOfDatasets, MakesObject, WritesRecord}
 use Rattle.dataset_snapshots.specs.Making.{GoesOn}
 use Rattle.dataset_snapshots.specs.declared.making.Making.{Making}
 use Rattle.dataset_snapshots.specs.Pools.{SpellsDataset}
 use Rattle.dataset_snapshots.proofs.ChangedRows.{look, looked_up}
 use Rattle.dataset_snapshots.proofs.GroupRoot.{making_begins, ready}
 use Rattle.dnode_tree.proofs.Refusing.{ok_both}
-use Rattle.dataset_snapshots.proofs.GroupDemands.{actions_refused, group_numbers, volume_refused, volumes_have}
+use Rattle.dataset_snapshots.proofs.GroupDemands.{actions_refused, group_changes, volume_refused, volumes_have}
 use Rattle.dataset_snapshots.proofs.groups.changes_of.Goals as goal
 
 -- a list that isn't longer has no more
@@ -82,10 +79,6 @@ returns-in_err-make_all-clause-refused g c =
     (actions_refused c.args.store.now c.place_written.new.store c.make_all.new.store c.args.group c.args.opened making c.args.actions.now _ c.in_ok-changes.ensures.steps c.in_ok-changes.ensures.places
     c.max-next.ensures c.in_err-make_all.ensures.refused)
 
-of_datasets : (changes : List ObjectChange) → All (λ (change : ObjectChange). WritesRecord change.change) changes → AreOfDatasets changes
-of_datasets changes are =
-    All-weaker (λ (change : ObjectChange). WritesRecord change.change) (λ (change : ObjectChange). WritesRecord change.change ⊎ MakesObject change.change) (λ change writes. inl writes) changes are
-
 pub returns-clause-places : goal.returns-clause-places
 returns-clause-places g c =
     let making : Making = record { directory = c.args.opened.directory; changes = c.in_ok-changes.changes; next = c.max-next.result } in
@@ -95,8 +88,6 @@ returns-clause-places g c =
     (λ changes both.
     volumes_have c.args.store.now c.place_written.new.store c.make_all.new.store c.args.group c.args.opened making c.args.actions.now last changes.items c.in_ok-changes.ensures.steps.shapes
     c.in_ok-changes.ensures.places refl made
-    (group_numbers c.args.opened making last made.made c.len-count.result changes.items c.in_ok-changes.ensures.numbers c.max-next.ensures (omega (arith, c.len-count.ensures, c.in_ok-changes.changes.ok.0))
-    made.objects.numbers both.0 both.1.0)
-    (both.1.1 (c.in_ok-make_all.ensures.kinds (of_datasets c.in_ok-changes.changes.items c.in_ok-changes.ensures.writes))))
-    (ok_both c.with_directory.result _ _ c.with_directory.ensures.same
-    (ok_both c.with_directory.result _ _ c.with_directory.ensures.more c.with_directory.ensures.kinds))
+    (group_changes c.args.opened making last c.args.actions.now made.made c.len-count.result changes.items c.in_ok-changes.ensures.numbers c.in_ok-changes.ensures.writes refl c.max-next.ensures
+    (omega (arith, c.len-count.ensures, c.in_ok-changes.changes.ok.0)) made.objects both.0 both.1))
+    (ok_both c.with_directory.result _ _ c.with_directory.ensures.same c.with_directory.ensures.more)

@@ -1,7 +1,7 @@
-use Rattle.std.proofs.Common.{◌≡◌, ◌⊎◌, ◌∷◌, ℕ, List, inl, inr, length, refl, sym, subst, arith}
-use Rattle.std.proofs.lemmas.List.Elements.{All-cons, All-weaker}
+use Rattle.std.proofs.Common.{◌≡◌, ◌∷◌, ℕ, List, length, refl, sym, ap, ◌∙◌, subst, arith}
+use Rattle.objset.specs.declared.changes.Change.{Change}
 use Rattle.objset.specs.declared.changes.ObjectChange.{ObjectChange}
-use Rattle.dataset_snapshots.specs.Demands.{AreOfDatasets, AreOfGroup, MakesObject, WritesDirectory, WritesRecord}
+use Rattle.dataset_snapshots.specs.Demands.{WritesDirectory}
 use Rattle.dataset_snapshots.specs.Groups.{SpellsAfter}
 use Rattle.dataset_snapshots.proofs.GroupRoot.{after_made, after_none}
 use Rattle.dataset_snapshots.proofs.groups.with_directory.Goals as goal
@@ -16,21 +16,19 @@ returns-clause-value c = λ stored birth objects pool rows directory spells same
     (after_made stored birth objects c.args.making pool rows c.requires.ready directory spells c.in_ok-directory.directory c.in_ok-directory.ensures.number c.in_ok-directory.ensures.may
     c.in_ok-directory.ensures.made)
 
-of_group : (names : ℕ) (changes : List ObjectChange) → AreOfDatasets changes → AreOfGroup names changes
-of_group names changes are =
-    All-weaker (λ (change : ObjectChange). WritesRecord change.change ⊎ MakesObject change.change)
-    (λ (change : ObjectChange). WritesDirectory names change.change ⊎ (WritesRecord change.change ⊎ MakesObject change.change)) (λ change kind. inr kind) changes are
+pub returns-then-len-count-clause-more : goal.returns-then-len-count-clause-more
+returns-then-len-count-clause-more c = λ other. absurd (other (omega (arith, c.len.ensures, c.if-len-count.true, c.args.making.changes.ok.0)))
 
-with_first : (names : ℕ) (changes all : List ObjectChange) (first : ObjectChange) → all ≡ first ∷ changes → WritesDirectory names first.change → AreOfDatasets changes → AreOfGroup names all
-with_first names changes all first is writes are =
-    subst (AreOfGroup names) (sym is)
-    (All-cons (λ (change : ObjectChange). WritesDirectory names change.change ⊎ (WritesRecord change.change ⊎ MakesObject change.change)) first changes (inl writes) (of_group names changes are))
+pub returns-clause-same : goal.returns-clause-same
+returns-clause-same c = λ same. absurd (c.if-len-count.false (omega (arith, c.len.ensures, same, c.args.making.changes.ok.0)))
 
-pub returns-then-len-count-clause-kinds : goal.returns-then-len-count-clause-kinds
-returns-then-len-count-clause-kinds c = of_group (length c.args.making.directory) c.args.making.changes.items
+first_is : (names : ℕ) (changes all : List ObjectChange) (first : ObjectChange) → all ≡ first ∷ changes → first.number ≡ 1 → WritesDirectory names first.change
+    → (directory : Change) × WritesDirectory names directory × (all ≡ record { number = 1; change = directory } ∷ changes)
+first_is names changes all first is number writes =
+    (first.change, writes, is ∙ ap (λ n. record { number = n; change = first.change } ∷ changes) number)
 
-pub returns-clause-kinds : goal.returns-clause-kinds
-returns-clause-kinds c =
+pub returns-clause-more : goal.returns-clause-more
+returns-clause-more c = λ other.
     let directory = c.in_ok-directory.ensures in
-    with_first (length c.args.making.directory) c.args.making.changes.items _ c.in_ok-directory.directory c.in_ok-put_first.ensures
+    first_is (length c.args.making.directory) c.args.making.changes.items _ c.in_ok-directory.directory c.in_ok-put_first.ensures directory.number
     (c.args.making.directory, refl, λ object is. (directory.may object is, directory.made object is))

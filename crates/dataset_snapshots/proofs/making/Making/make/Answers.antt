@@ -10,7 +10,7 @@ use Rattle.pool_model.specs.declared.item.Change.{Change}
 use Rattle.dataset_snapshots.specs.declared.new_volume.NewVolume.{NewVolume}
 use Rattle.dataset_snapshots.specs.Demands.{HasNewPlaces, IsThereAlready}
 use Rattle.dataset_snapshots.specs.NewVolumes.{IsNewVolume}
-use Rattle.dataset_snapshots.proofs.MakingDemands.{has_change, lacks_change, made_of_datasets, one_made, sized_change, sized_refused}
+use Rattle.dataset_snapshots.proofs.MakingDemands.{has_change, lacks_change, one_made, sized_change, sized_refused}
 use Rattle.dataset_snapshots.proofs.MakingSteps.{goes_on_after, ready_after, volume_made, volume_passed}
 use Rattle.dataset_snapshots.proofs.making.Making.make.Goals as goal
 
@@ -111,10 +111,3 @@ returns-clause-places g c =
       subst (λ n. HasNewPlaces c.args.store.now c.planned.new.store c.args.group n) (sized_change c.args.change.now c.in_ok-new.new c.in_ok-new.ensures.is) c.in_ok-object_set.ensures.places,
     ))
     c.add.ensures.added
-
-pub returns-then-is_some-clause-kinds : goal.returns-then-is_some-clause-kinds
-returns-then-is_some-clause-kinds g c = λ so_far. so_far
-
-pub returns-clause-kinds : goal.returns-clause-kinds
-returns-clause-kinds g c =
-    IfOk-weaker c.add.result _ _ (λ done added. made_of_datasets c.args.self.now c.add.new.self c.in_ok-new.new.name c.record-dataset.result added) c.add.ensures.added

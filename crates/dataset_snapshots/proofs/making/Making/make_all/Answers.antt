@@ -19,7 +19,6 @@ loop-action-init g c = record {
   goes_on = goes_on_none c.args.self.now;
   next = omega arith;
   value = λ stored planned plans honest. (planned, plans, λ block bytes known. known, λ objects pool spells. spells);
-  kinds = λ are. are;
   made = makes_none c.args.store.now c.args.group c.args.self.now;
 }
 
@@ -64,7 +63,6 @@ loop-action-preserved g c =
                 (pool_more c.args.group pool c.args.actions.now c.loop-action.action-index c.action-item.result c.loop-action-test.true c.action-item.is)
                 (two.3 objects (fold (λ p a. changed c.args.group p a.change) pool (take c.loop-action.action-index c.args.actions.now)) (one.3 objects pool spells)),
           );
-      kinds = λ are. c.in_ok-make.ensures.kinds (so_far.kinds are);
       made = subst (λ (actions : List Action). MakesAll c.args.store.now c.make.new.store c.args.group c.args.self.now c.make.new.self actions)
           (sym (taken_more c.args.actions.now c.loop-action.action-index c.action-item.result c.loop-action-test.true c.action-item.is))
           (makes_more c.args.store.now c.loop-action.store c.make.new.store c.args.group c.args.self.now c.loop-action.self c.make.new.self (take c.loop-action.action-index c.args.actions.now)

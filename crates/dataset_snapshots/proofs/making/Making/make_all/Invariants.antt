@@ -5,7 +5,7 @@ use Rattle.block_store.specs.Plans.{Plans}
 use Rattle.block_store.specs.Steps.{OnlyReadsAndPlans, AnswersAreTrue}
 use Rattle.objset.specs.Objects.{Object}
 use Rattle.pool_model.specs.Pools.{PlainPool, changed}
-use Rattle.dataset_snapshots.specs.Demands.{AreOfDatasets, MakesAll}
+use Rattle.dataset_snapshots.specs.Demands.{MakesAll}
 use Rattle.dataset_snapshots.specs.Making.{GoesOn, IsReady, SpellsMaking}
 use Rattle.dataset_snapshots.proofs.making.Making.make_all.Given as goal
 
@@ -20,6 +20,5 @@ invariant-loop-action g l = record {
       → (later : Contents) × Plans l.store stored later × Extends planned later
       × ((objects : ℕ → Option Object) (pool : PlainPool) → SpellsMaking planned l.group objects l.fn.self pool
       → SpellsMaking later l.group objects l.self (fold (λ p a. changed l.group p a.change) pool (take l.action-index l.actions)));
-  kinds : AreOfDatasets l.fn.self.changes.items → AreOfDatasets l.self.changes.items;
   made : MakesAll l.fn.store l.store l.group l.fn.self l.self (take l.action-index l.actions);
 }
