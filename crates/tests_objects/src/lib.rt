@@ -15,6 +15,8 @@ mod objects;
 #[cfg(test)]
 mod roots;
 #[cfg(test)]
+mod rows;
+#[cfg(test)]
 mod stores;
 #[cfg(test)]
 mod tables;
