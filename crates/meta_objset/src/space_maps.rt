@@ -3,7 +3,6 @@ ghost use Rattle.std.specs.Prelude.{◌≡◌, ◌≢◌, ◌↔◌, ◌^◌, �
 ghost use Rattle.objset.specs.Changes.{IsGoodChange, MayChange, after_change};
 ghost use Rattle.objset.specs.Objects.{Object};
 ghost use Rattle.object_table.specs.Tables.{IsOfKind};
-ghost use Rattle.words.specs.Words.{AreWords};
 ghost use Rattle.meta_objset.specs.declared.space_maps.MetaslabMap.{MetaslabMap};
 ghost use Rattle.meta_objset.specs.declared.space_maps.MetaslabPlace.{MetaslabPlace};
 ghost use Rattle.meta_objset.specs.SpaceMaps.{AreSpaceMaps, FitsMap, IsEarlier, IsWithMap, IsWithoutMetaslab, LacksMetaslab, SpellsMaps, map_bytes, map_words, maps_bytes, maps_kind};

@@ -3,7 +3,6 @@ ghost use Rattle.std.specs.Prelude.{◌≡◌, ◌≢◌, ◌↔◌, ◌^◌, �
 ghost use Rattle.objset.specs.Changes.{IsGoodChange, MayChange, after_change};
 ghost use Rattle.objset.specs.Objects.{Object};
 ghost use Rattle.object_table.specs.Tables.{IsOfKind};
-ghost use Rattle.words.specs.Words.{AreWords};
 ghost use Rattle.meta_objset.specs.declared.stale_spans.StaleSpan.{StaleSpan};
 ghost use Rattle.meta_objset.specs.StaleSpans.{AreStaleSpans, FitsSpan, IsWithSpan, IsWithoutDisk, LacksDisk, SpellsSpans, span_bytes, span_words, spans_bytes, spans_kind};
 ghost use Rattle.meta_objset.specs.Reading.{HasStaleSpans};
