@@ -148,8 +148,10 @@ impl StaleSpans {
 
     /// The spans that the bytes of a table's rows spell.
     pub(crate) fn from_rows(alloc: Global, bytes: &[u8]) -> Result<StaleSpans, Refusal>
-        ensures found { IfOk result (λ spans. AreStaleSpans spans × (bytes.now ≡ spans_bytes spans)) }
-        ensures only { (spans : List StaleSpan) → AreStaleSpans spans → bytes.now ≡ spans_bytes spans
+        ensures found { IfOk result (λ spans. AreStaleSpans spans
+            × (bytes.now ≡ spans_bytes spans)) }
+        ensures only { (spans : List StaleSpan) → AreStaleSpans spans
+            → bytes.now ≡ spans_bytes spans
             → IfOk result (λ found. found ≡ spans) }
         ensures bad { IsErrOf result Refusal.BadPointer → (spans : List StaleSpan)
             → AreStaleSpans spans
