@@ -20,7 +20,7 @@ use Rattle.dnode_tree.proofs.Spans.{span_positive, span_up}
 use Rattle.dnode_tree.proofs.Spellings.{spelled_once}
 use Rattle.dnode_tree.proofs.Standing.{first_in, in_joined}
 
-same_bytes : (known other : Option (List ℕ)) (bytes more : List ℕ) → known ≡ other → known ≡ Some bytes → other ≡ Some more → bytes ≡ more
+pub same_bytes : (known other : Option (List ℕ)) (bytes more : List ℕ) → known ≡ other → known ≡ Some bytes → other ≡ Some more → bytes ≡ more
 same_bytes known other bytes more same one two = let e : Some bytes ≡ Some more = sym one ∙ same ∙ two in cc
 
 part_stands : (old new : Contents) (property : ℕ → Property) (level first birth : ℕ) (pointer : BlockPtr) (array : ℕ → Option (List ℕ)) (blocks : List Block) (births : ℕ → ℕ → ℕ)
@@ -86,7 +86,7 @@ levels_at : (highest : ℕ) (a b c d e : Bool) → nat_le 1 highest ≡ a → na
     → levels_of highest ≡ 1 + count_by (λ test. test) (a ∷ b ∷ c ∷ d ∷ e ∷ [])
 levels_at highest a b c d e one two three four five = λ i. 1 + count_by (λ test. test) (one i ∷ two i ∷ three i ∷ four i ∷ five i ∷ [])
 
-height_has : (highest : ℕ) → highest < 128 ^ 5 → highest < 128 ^ (levels_of highest - 1)
+pub height_has : (highest : ℕ) → highest < 128 ^ 5 → highest < 128 ^ (levels_of highest - 1)
 height_has highest low =
     elim (cases_lt highest 1) [
       | inl u ↦

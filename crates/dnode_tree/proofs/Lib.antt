@@ -9,6 +9,7 @@ pub mod Kept
 pub mod Spellings
 pub mod Births
 pub mod Fills
+pub mod Enough
 pub mod Exchanging
 pub mod NewArrays
 pub mod Overfull
@@ -31,3 +32,4 @@ pub mod SameBlocks
 pub mod Replacing
 pub mod Counts
 pub mod Ages
+pub mod Ids

@@ -23,5 +23,5 @@ pub use laws::{
 pub use putting::put_many;
 pub use reading::{DataBlock, get, get_block};
 pub use walking::walk;
-pub use within::walk_within;
+pub use within::{are_distinct, walk_within};
 pub use writes::{BlockWrite, CopyCounts, Rewrite};

@@ -1,9 +1,12 @@
 //! A walk over a tree that need not be one: so many blocks are read at most.
-ghost use Rattle.std.specs.Prelude.{◌≡◌, ◌≢◌, ◌⊎◌, ◌↔◌, ◌+◌, ◌++◌, ◌^◌, ◌<◌, ◌≤◌, List, OnOk, IfOk, IfErr, IsTrue};
+ghost use Rattle.std.specs.Prelude.{◌≡◌, ◌≢◌, ◌⊎◌, ◌↔◌, ◌+◌, ◌++◌, ◌^◌, ◌<◌, ◌≤◌, ℕ, List, Option, OnOk, IfOk, IfErr, IsTrue};
 ghost use Rattle.block_pointer.specs.declared.block.Block.{Block};
-ghost use Rattle.block_store.specs.Steps.{OnlyReadsBlocks};
+ghost use Rattle.block_store.specs.Blocks.{Contents};
+ghost use Rattle.block_store.specs.Losses.{IsForLoss};
+ghost use Rattle.block_store.specs.Steps.{OnlyReadsBlocks, AnswersAreTrue};
+ghost use Rattle.block_store.specs.Store.{Holds};
 ghost use Rattle.dnode_tree.specs.Rewriting.{AreDistinct};
-ghost use Rattle.dnode_tree.specs.Tree.{property_of};
+ghost use Rattle.dnode_tree.specs.Tree.{property_of, IsPart, IsTree};
 ghost use Rattle.dnode_tree.specs.Ways.{reached, IsWalked, IsWalkRefused, AreWalked};
 ghost use Rattle.dnode_tree.specs.Within.{indirect_count, IsWithinRefused};
 
@@ -32,6 +35,10 @@ pub fn walk_within<D: Disk + Drop>(
     requires { node.now.highest < 128 ^ 5 }
     ensures reads { OnlyReadsBlocks store.old store.new missing.now }
     ensures fewer { left.new ≤ left.old }
+    ensures blocks { IfOk result (λ found. (stored : Contents) (array : ℕ → Option (List ℕ))
+        (blocks : List Block) → Holds store.old stored
+        → IsTree stored birth node.now array blocks → AnswersAreTrue store.old store.new
+        → found.items ≡ blocks) }
     ensures found { IfOk result (λ found. AreWalked store.old.spaces node.now birth found.items) }
     ensures once { IfOk result (λ found. AreDistinct found.items) }
 
@@ -40,6 +47,14 @@ pub fn walk_within<D: Disk + Drop>(
     ensures refused { IfErr result
         (IsWithinRefused store.old store.new missing.now node.now birth left.new) }
     ensures cause { IfErr result (λ refusal. refusal ≢ Refusal.NoSpace) }
+
+    // And a whole tree that has each block once is walked, over disks that answer truly, where as
+    // many are left, unless too many disks miss of a block.
+    ensures known { IfErr result (λ refusal. (stored : Contents) (array : ℕ → Option (List ℕ))
+        (blocks : List Block) → Holds store.old stored
+        → IsTree stored birth node.now array blocks → AreDistinct blocks
+        → indirect_count blocks ≤ left.old → AnswersAreTrue store.old store.new
+        → IsForLoss refusal) }
 {
     let root = Subtree {
         level: node.levels() - 1,
@@ -67,6 +82,10 @@ fn collect_within<D: Disk + Drop>(
 ) -> Result<(), Refusal>
     ensures reads { OnlyReadsBlocks store.old store.new missing.now }
     ensures fewer { left.new ≤ left.old }
+    ensures blocks { OnOk result ((stored : Contents) (first : ℕ) (array : ℕ → Option (List ℕ))
+        (blocks : List Block) → Holds store.old stored
+        → IsPart stored node.now first part array blocks → AnswersAreTrue store.old store.new
+        → found.new.items ≡ found.old.items ++ blocks) }
     ensures found { OnOk result ((blocks : List Block)
         × (found.new.items ≡ found.old.items ++ blocks)
         × IsWalked store.old.spaces (property_of node.now) part.level part.birth part.pointer
@@ -77,6 +96,10 @@ fn collect_within<D: Disk + Drop>(
         (property_of node.now) (reached part.level part.pointer part.birth) refusal
         ⊎ ((refusal ≡ Refusal.BadPointer) × (left.new ≡ 0))) }
     ensures cause { IfErr result (λ refusal. refusal ≢ Refusal.NoSpace) }
+    ensures known { IfErr result (λ refusal. (stored : Contents) (first : ℕ)
+        (array : ℕ → Option (List ℕ)) (blocks : List Block) → Holds store.old stored
+        → IsPart stored node.now first part array blocks → indirect_count blocks ≤ left.old
+        → AnswersAreTrue store.old store.new → IsForLoss refusal) }
 {
     let BlockPtr::Block(block) = part.pointer else {
         return Ok(());
@@ -106,7 +129,7 @@ fn collect_within<D: Disk + Drop>(
 }
 
 /// Whether no block is there twice.
-fn are_distinct(alloc: Global, blocks: &[Block]) -> Result<bool, AllocError>
+pub fn are_distinct(alloc: Global, blocks: &[Block]) -> Result<bool, AllocError>
     ensures { IfOk result (λ test. IsTrue test ↔ AreDistinct blocks.now) }
 {
     let mut seen = HashSet::new(alloc);

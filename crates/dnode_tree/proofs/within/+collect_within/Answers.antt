@@ -1,6 +1,11 @@
 use Rattle.std.proofs.Common.{◌≡◌, ap, [], ◌∷◌, List, inl, inr, IsTrue, append-nil, suc, ◌-◌, refl, subst, sym, ◌∙◌, arith}
 use Rattle.block_store.specs.Reading.{Asks}
-use Rattle.block_store.proofs.Steps.{reads_none, reads_on}
+use Rattle.block_store.proofs.Steps.{reads_on}
+use Rattle.dnode_tree.proofs.Enough.{root_counted, still_enough}
+use Rattle.dnode_tree.specs.Subtree.{joined}
+use Rattle.dnode_tree.proofs.FurtherReads.{true_before, true_after}
+use Rattle.dnode_tree.proofs.Parts.{data_part, indirect_part}
+use Rattle.dnode_tree.proofs.Collecting.{parts_below, part_at, collecting_begins, collecting_goes_on, collected_all}
 use Rattle.dnode_tree.proofs.Refusing.{passed_on}
 use Rattle.dnode_tree.specs.Tree.{property_of}
 use Rattle.dnode_tree.specs.Ways.{AreReadAs}
@@ -18,14 +23,15 @@ read_there : (spaces : List VdevSpace) (asked other : Asked) (block : Block) (fo
 read_there spaces asked other block found items e same read = subst (λ a. AreReadAs spaces a block items) e (subst (λ x. AreReadAs spaces asked block x) (sym same) read)
 
 pub loop-pointer-init : goal.loop-pointer-init
-loop-pointer-init g t c = (reads_none _ _, none_walked _ _ _ _ _ _, refl, omega arith)
+loop-pointer-init g t c = (collecting_begins _ _ _ _ _ _ _, none_walked _ _ _ _ _ _, refl, omega arith)
 
 pub loop-pointer-preserved : goal.loop-pointer-preserved
 loop-pointer-preserved g t c =
-    let spaces = ap (λ store. store.spaces) c.loop-pointer.invariant.0.rest in
+    let spaces = ap (λ store. store.spaces) c.loop-pointer.invariant.0.reads.rest in
     let items : List BlockPtr = c.pointers-pointer-items.result.now in
     let (more, added, walked) = c.in_ok-collect_within.ensures.found in (
-      reads_on _ _ _ _ c.loop-pointer.invariant.0 c.in_ok-collect_within.ensures.reads,
+      collecting_goes_on _ _ _ _ _ _ _ _ _ _ _ _ _ _ c.loop-pointer.invariant.0 c.loop-pointer-test.true refl c.in_ok-collect_within.ensures.reads
+          c.in_ok-collect_within.ensures.blocks,
       one_more_walked c.read_indirect.new.store.spaces _ (property_of c.args.node.now) (c.args.part.level - 1) c.in-Block.block.birth items c.loop-pointer.pointer-index
           c.push.new.blocks.items c.loop-pointer.found.items c.collect_within.new.found.items more _ _ spaces c.loop-pointer.invariant.1 c.loop-pointer-test.true refl added walked,
       c.loop-pointer.invariant.2 ∙ c.in_ok-collect_within.ensures.count,
@@ -34,10 +40,10 @@ loop-pointer-preserved g t c =
 
 pub returns-in_err-collect_within-clause-reads : goal.returns-in_err-collect_within-clause-reads
 returns-in_err-collect_within-clause-reads g t c =
-    reads_on _ _ _ _ c.in_ok-children.ensures.reads (reads_on _ _ _ _ c.loop-pointer.invariant.0 c.in_err-collect_within.ensures.reads)
+    reads_on _ _ _ _ c.in_ok-children.ensures.reads (reads_on _ _ _ _ c.loop-pointer.invariant.0.reads c.in_err-collect_within.ensures.reads)
 
 pub returns-clause-reads : goal.returns-clause-reads
-returns-clause-reads g t c = reads_on _ _ _ _ c.in_ok-children.ensures.reads c.loop-pointer.invariant.0
+returns-clause-reads g t c = reads_on _ _ _ _ c.in_ok-children.ensures.reads c.loop-pointer.invariant.0.reads
 
 pub returns-in_default-clause-found : goal.returns-in_default-clause-found
 returns-in_default-clause-found g t c =
@@ -74,7 +80,7 @@ returns-in_err-collect_within-clause-refused g t c =
       | inl below ↦ inl
           (refused_in_child c.args.store.now c.loop-pointer.store c.collect_within.new.store c.args.missing.now (property_of c.args.node.now) c.args.part.level (c.args.part.level - 1) c.args.part.birth c.args.part.pointer
           c.in-Block.block items c.loop-pointer.pointer-index _ _ e c.in-Block.is read c.loop-pointer-test.true refl
-          (reads_on _ _ _ _ c.in_ok-children.ensures.reads c.loop-pointer.invariant.0) _ below)
+          (reads_on _ _ _ _ c.in_ok-children.ensures.reads c.loop-pointer.invariant.0.reads) _ below)
       | inr none ↦ inr none
     ])
 
@@ -118,3 +124,57 @@ returns-clause-count g t c =
       indirect_counted c.args.node.now c.args.part.level c.args.part.birth c.in-Block.block c.asked_at-asked.result c.args.found.now.items c.push.new.blocks.items
           (omega arith) c.asked_at-asked.ensures c.in_ok-children.ensures.asks.property c.in_ok-push.ensures.ok,
     )
+
+pub returns-in_err-children-clause-known : goal.returns-in_err-children-clause-known
+returns-in_err-children-clause-known g t c =
+    let e : c.args.part.level ≡ suc (c.args.part.level - 1) = omega arith in
+    passed_on _ _ _ c.from_residual-in_err-children.ensures.1
+    (λ stored first array blocks held part enough honest.
+    let there = indirect_part stored (property_of c.args.node.now) c.args.part.level _ first c.args.part.birth c.args.part.pointer c.in-Block.block array blocks e c.in-Block.is part in
+    c.in_err-children.ensures.known stored there.bytes there.pointers held there.known there.spelled
+    (subst (λ asked. Asks asked c.in-Block.block) (sym c.asked_at-asked.ensures) there.asks) honest)
+
+pub returns-clause-blocks : goal.returns-clause-blocks
+returns-clause-blocks g t c =
+    let e : c.args.part.level ≡ suc (c.args.part.level - 1) = omega arith in
+    λ stored first array blocks held part honest.
+    let there = indirect_part stored (property_of c.args.node.now) c.args.part.level (c.args.part.level - 1) first c.args.part.birth c.args.part.pointer c.in-Block.block array blocks e c.in-Block.is part in
+    let before = true_before _ _ _ _ c.in_ok-children.ensures.reads c.loop-pointer.invariant.0.reads honest in
+    let read = c.pointers-pointer-items.ensures.value ∙ c.in_ok-children.ensures.value stored there.bytes there.pointers held there.known there.spelled before in
+    let are = parts_below stored (property_of c.args.node.now) c.args.part.level (c.args.part.level - 1) first c.args.part.birth c.args.part.pointer c.in-Block.block array blocks _ e c.in-Block.is part read in
+    collected_all _ _ _ _ _ _ _ _ _ _ _ _ _ c.loop-pointer.invariant.0 c.loop-pointer-test.false c.in_ok-push.ensures.ok stored first array _
+    (c.in_ok-children.ensures.reads.keeps stored held) are
+    (true_after _ _ _ _ c.in_ok-children.ensures.reads c.loop-pointer.invariant.0.reads honest) there.blocks_are
+
+pub returns-then-not-asks-clause-known : goal.returns-then-not-asks-clause-known
+returns-then-not-asks-clause-known g t c = λ stored first array blocks held part enough honest.
+    let there = data_part stored (property_of c.args.node.now) c.args.part.level 0 first c.args.part.birth c.args.part.pointer c.in-Block.block array blocks c.if-part-eq0.true c.in-Block.is part in
+    let test : IsTrue c.asks.result = c.asks.ensures.1 (subst (λ asked. Asks asked c.in-Block.block) (sym c.asked_at-asked.ensures) there.1.asks) in
+    absurd cc
+
+pub returns-in_err-collect_within-clause-known : goal.returns-in_err-collect_within-clause-known
+returns-in_err-collect_within-clause-known g t c =
+    let e : c.args.part.level ≡ suc (c.args.part.level - 1) = omega arith in
+    let later = reads_on _ _ _ _ c.loop-pointer.invariant.0.reads c.in_err-collect_within.ensures.reads in
+    let sooner = reads_on _ _ _ _ c.in_ok-children.ensures.reads c.loop-pointer.invariant.0.reads in
+    passed_on _ _ _ c.from_residual-in_err-collect_within.ensures.1
+    (λ stored first array blocks held part enough honest.
+    let there = indirect_part stored (property_of c.args.node.now) c.args.part.level (c.args.part.level - 1) first c.args.part.birth c.args.part.pointer c.in-Block.block array blocks e c.in-Block.is part in
+    let before = true_before _ _ _ _ c.in_ok-children.ensures.reads later honest in
+    let read = c.pointers-pointer-items.ensures.value ∙ c.in_ok-children.ensures.value stored there.bytes there.pointers held there.known there.spelled before in
+    let are = parts_below stored (property_of c.args.node.now) c.args.part.level (c.args.part.level - 1) first c.args.part.birth c.args.part.pointer c.in-Block.block array blocks _ e c.in-Block.is part read in
+    c.in_err-collect_within.ensures.known stored _ array _ (sooner.keeps stored held)
+    (part_at stored (property_of c.args.node.now) (c.args.part.level - 1) first _ _ array _ c.loop-pointer.pointer-index _ _ are c.loop-pointer-test.true refl)
+    (still_enough c.args.node.now c.args.part.level c.args.part.birth c.in-Block.block blocks there.parts c.loop-pointer.pointer-index c.push.new.blocks.items c.loop-pointer.found.items
+    c.args.left.now (c.args.left.now - 1) c.loop-pointer.left (omega arith) there.asks there.blocks_are (omega (arith, c.loop-pointer-test.true, are.pointer_count, are.count))
+    (c.loop-pointer.invariant.0.so_far stored first array there.parts (c.in_ok-children.ensures.reads.keeps stored held) are
+    (true_after _ _ _ _ c.in_ok-children.ensures.reads c.loop-pointer.invariant.0.reads (true_before _ _ _ _ sooner c.in_err-collect_within.ensures.reads honest)))
+    c.loop-pointer.invariant.2 (omega arith) enough)
+    (true_after _ _ _ _ sooner c.in_err-collect_within.ensures.reads honest))
+
+pub returns-then-left-eq0-clause-known : goal.returns-then-left-eq0-clause-known
+returns-then-left-eq0-clause-known g t c = λ stored first array blocks held part enough honest.
+    let e : c.args.part.level ≡ suc (c.args.part.level - 1) = omega arith in
+    let there = indirect_part stored (property_of c.args.node.now) c.args.part.level (c.args.part.level - 1) first c.args.part.birth c.args.part.pointer c.in-Block.block array blocks e c.in-Block.is part in
+    let some = root_counted c.args.node.now c.args.part.level c.args.part.birth c.in-Block.block blocks (joined there.parts) (omega arith) there.asks there.blocks_are in
+    absurd (omega (arith, some, enough))

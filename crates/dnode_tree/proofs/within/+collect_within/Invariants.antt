@@ -1,5 +1,5 @@
 use Rattle.std.proofs.Common.{◌≡◌, ◌≤◌, ◌+◌, ◌-◌}
-use Rattle.block_store.specs.Steps.{OnlyReadsBlocks}
+use Rattle.dnode_tree.proofs.Collecting.{IsCollecting}
 use Rattle.dnode_tree.proofs.Walks.{HaveWalked}
 use Rattle.dnode_tree.specs.Tree.{property_of}
 use Rattle.dnode_tree.specs.Within.{indirect_count}
@@ -10,7 +10,7 @@ decreases-collect_within g l = l.part.level
 
 abbrev pub invariant-loop-pointer : goal.invariant-loop-pointer
 invariant-loop-pointer g l =
-    OnlyReadsBlocks l.initial.store l.store l.missing
+    IsCollecting l.initial.store l.store l.missing l.node (l.part.level - 1) l.block.birth l.pointer-items l.pointer-index l.initial.found.items l.found.items
     × HaveWalked l.initial.store.spaces (property_of l.node) (l.part.level - 1) l.block.birth l.pointer-items l.pointer-index l.initial.found.items l.found.items
     × (l.initial.left + indirect_count l.initial.found.items ≡ l.left + indirect_count l.found.items)
     × (l.left ≤ l.initial.left)

@@ -3,6 +3,7 @@ use Rattle.std.proofs.Common.{IsTrue}
 use Rattle.dnode_tree.proofs.Refusing.{passed_on}
 use Rattle.dnode_tree.proofs.Walks.{refused_for_memory}
 use Rattle.dnode_tree.specs.Rewriting.{AreDistinct}
+use Rattle.dnode_tree.specs.Subtree.{IsSubtree}
 use Rattle.dnode_tree.specs.Tree.{property_of}
 use Rattle.dnode.specs.Levels.{levels_of}
 use Rattle.dnode_tree.specs.Ways.{reached, IsWalked, IsWalkRefused}
@@ -49,3 +50,25 @@ returns-then-not-is_once-clause-refused g c =
             absurd cc,
       ),
     )
+
+pub returns-clause-blocks : goal.returns-clause-blocks
+returns-clause-blocks g c =
+    λ stored array blocks held tree honest.
+    c.in_ok-collect_within.ensures.blocks stored 0 array blocks held
+    (subst (λ n. IsSubtree stored (property_of c.args.node.now) (n - 1) 0 c.args.birth c.args.node.now.pointer array blocks) (sym c.levels.ensures) tree.root) honest
+    ∙ ap (λ earlier. earlier ++ blocks) c.new-found.ensures.items
+
+pub returns-in_err-collect_within-clause-known : goal.returns-in_err-collect_within-clause-known
+returns-in_err-collect_within-clause-known g c =
+    passed_on _ _ _ c.from_residual.ensures.1
+    (λ stored array blocks held tree once enough honest. c.in_err-collect_within.ensures.known stored 0 array blocks held
+    (subst (λ n. IsSubtree stored (property_of c.args.node.now) (n - 1) 0 c.args.birth c.args.node.now.pointer array blocks) (sym c.levels.ensures) tree.root) enough honest)
+
+pub returns-then-not-is_once-clause-known : goal.returns-then-not-is_once-clause-known
+returns-then-not-is_once-clause-known g c =
+    λ stored array blocks held tree once enough honest.
+    let found_is = c.in_ok-collect_within.ensures.blocks stored 0 array blocks held
+    (subst (λ n. IsSubtree stored (property_of c.args.node.now) (n - 1) 0 c.args.birth c.args.node.now.pointer array blocks) (sym c.levels.ensures) tree.root) honest
+    ∙ ap (λ earlier. earlier ++ blocks) c.new-found.ensures.items in
+    let told : IsTrue c.in_ok-is_once.is_once = c.in_ok-is_once.ensures.1 (subst (λ bs. AreDistinct bs) (sym (c.deref.ensures.value ∙ found_is)) once) in
+    absurd cc
