@@ -7,3 +7,5 @@ mod Outcomes
 mod PutNodes
 mod Refusing
 mod SlotBytes
+pub mod Objects
+pub mod WithinLemmas

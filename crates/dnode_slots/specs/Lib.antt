@@ -4,3 +4,4 @@ pub mod Refused
 pub mod Sets
 pub mod Slots
 pub mod Writes
+pub mod Within

@@ -7,10 +7,12 @@ mod putting;
 mod reading;
 mod set_blocks;
 mod slots;
+mod within;
 mod writes;
 
 pub use block_store::Refusal;
 pub use putting::put_many;
 pub use reading::{FoundDnode, get};
 pub use set_blocks::{plan_set, read_set};
+pub use within::{FoundNode, FoundNodes, nodes_within};
 pub use writes::{NodeWrite, SetRewrite};

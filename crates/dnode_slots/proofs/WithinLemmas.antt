@@ -1,0 +1,115 @@
+-- The blocks of the dnodes, one after the other.
+use Rattle.std.proofs.Common.{◌≡◌, ◌≢◌, ℕ, ◌+◌, ◌*◌, ◌<◌, ◌≤◌, List, [], ◌∷◌, ◌++◌, length, take, drop, get_or, Option, Some, None, Contains, refl, sym, ap, ◌∙◌, subst, arith, append-nil, inr, true, false}
+use Rattle.std.specs.Prelude.{not, ◌==◌}
+use Rattle.std.specs.List.{flat_map}
+use Rattle.std.proofs.lemmas.Bool.{ne_eqb, eq-eqb}
+use Rattle.std.proofs.lemmas.List.{take_more, length-drop}
+use Rattle.std.proofs.lemmas.List.Concat.{flat_map-append}
+use Rattle.std.proofs.lemmas.List.Elements.{Contains-get_or}
+use Rattle.std.proofs.lemmas.List.Sums.{count_by_more_no, count_by_more_yes, count_by-le-length, sum_by-take-drop}
+use Rattle.block_pointer.specs.declared.block.Block.{Block}
+use Rattle.block_store.specs.Blocks.{Contents}
+use Rattle.block_store.specs.declared.refusal.Refusal.{Refusal}
+use Rattle.block_store.specs.Steps.{OnlyReadsBlocks}
+use Rattle.block_store.specs.Store.{Store}
+use Rattle.dnode.specs.declared.dnode.Dnode.{Dnode}
+use Rattle.dnode.specs.declared.node.ObjectNode.{ObjectNode}
+use Rattle.dnode.specs.declared.object_set.ObjectSet.{ObjectSet}
+use Rattle.dnode_tree.proofs.Ids.{HaveIds, HasId, IsDataOf, at_id, id_at}
+use Rattle.dnode_tree.specs.Ways.{AreWalked}
+use Rattle.dnode_tree.specs.Within.{indirect_count}
+use Rattle.dnode_slots.proofs.BlockLists.{slots_of_block}
+use Rattle.dnode_slots.specs.Nodes.{IsNodeIn, AreNodesOf}
+use Rattle.dnode_slots.specs.Slots.{HasSlots}
+use Rattle.dnode_slots.specs.Within.{IsBlockRefused, AreNodesRefused}
+
+-- ---- counts
+
+is_above : (block : Block) → block.property.level ≢ 0 → not (block.property.level == 0) ≡ true
+is_above block apart = ap not (ne_eqb block.property.level 0 apart)
+
+is_data : (block : Block) → block.property.level ≡ 0 → not (block.property.level == 0) ≡ false
+is_data block same = ap not (eq-eqb block.property.level 0 same)
+
+pub no_more : (blocks : List Block) (k : ℕ) (block other : Block) → k < length blocks → block ≡ get_or blocks k other → block.property.level ≡ 0
+    → indirect_count (take (k + 1) blocks) ≡ indirect_count (take k blocks)
+no_more blocks k block other low is same =
+    count_by_more_no (λ (b : Block). not (b.property.level == 0)) blocks k other low (ap (λ (b : Block). not (b.property.level == 0)) (sym is) ∙ is_data block same)
+
+pub more : (blocks : List Block) (k : ℕ) (block other : Block) → k < length blocks → block ≡ get_or blocks k other → block.property.level ≢ 0
+    → indirect_count (take (k + 1) blocks) ≡ indirect_count (take k blocks) + 1
+more blocks k block other low is apart =
+    count_by_more_yes (λ (b : Block). not (b.property.level == 0)) blocks k other low (ap (λ (b : Block). not (b.property.level == 0)) (sym is) ∙ is_above block apart)
+
+pub within_all : (blocks : List Block) → indirect_count blocks ≤ length blocks
+within_all blocks = count_by-le-length (λ (b : Block). not (b.property.level == 0)) blocks
+
+-- where a block of dnodes comes, as many are left as there are behind it, and one for itself
+pub still_one : (blocks : List Block) (k : ℕ) (block other : Block) → k < length blocks → block ≡ get_or blocks k other → block.property.level ≡ 0
+    → indirect_count blocks + k < indirect_count (take k blocks) + length blocks
+still_one blocks k block other low is same =
+    let none = no_more blocks k block other low is same in
+    let sum : indirect_count (take (k + 1) blocks) + indirect_count (drop (k + 1) blocks) ≡ indirect_count blocks = sum_by-take-drop _ blocks (k + 1) in
+    let rest = within_all (drop (k + 1) blocks) in
+    omega (arith, none, sum, rest, length-drop (k + 1) blocks, low)
+
+-- ---- ids
+
+data_id : (stored : Contents) (node : ObjectNode) (array : ℕ → Option (List ℕ)) (births : ℕ → ℕ → ℕ) (block : Block) (found : Option ℕ) → HasId stored node array births block found → block.property.level ≡ 0
+    → (id : ℕ) × (found ≡ Some id) × IsDataOf stored node array births block id
+data_id stored node array births block None has same = absurd (omega (arith, has, same))
+data_id stored node array births block (Some id) has same = (id, refl, has)
+
+above_id : (stored : Contents) (node : ObjectNode) (array : ℕ → Option (List ℕ)) (births : ℕ → ℕ → ℕ) (block : Block) (found : Option ℕ) → HasId stored node array births block found → block.property.level ≢ 0
+    → found ≡ None
+above_id stored node array births block None has apart = refl
+above_id stored node array births block (Some id) has apart = absurd (apart (ap (λ p. p.level) has.property))
+
+module _ (stored : Contents) (node : ObjectNode) (array : ℕ → Option (List ℕ)) (births : ℕ → ℕ → ℕ) (blocks : List Block) (ids : List (Option ℕ)) (k : ℕ) (block other : Block)
+    (have : HaveIds stored node array births blocks ids) (low : k < length blocks) (is : block ≡ get_or blocks k other) where
+  pub data_at : block.property.level ≡ 0 → (id : ℕ) × (get_or ids k None ≡ Some id) × IsDataOf stored node array births block id
+  data_at same =
+      data_id stored node array births block (get_or ids k None)
+      (subst (λ b. HasId stored node array births b (get_or ids k None)) (sym is) (id_at stored node array births blocks ids k other have low).0) same
+
+  above_at : block.property.level ≢ 0 → get_or ids k None ≡ None
+  above_at apart =
+      above_id stored node array births block (get_or ids k None)
+      (subst (λ b. HasId stored node array births b (get_or ids k None)) (sym is) (id_at stored node array births blocks ids k other have low).0) apart
+
+  module _ {X : Type 0} (f : ℕ → List X) where
+    next : flat_map (at_id f) (take (k + 1) ids) ≡ flat_map (at_id f) (take k ids) ++ at_id f (get_or ids k None)
+    next =
+        ap (flat_map (at_id f)) (take_more ids k None (id_at stored node array births blocks ids k other have low).1)
+        ∙ flat_map-append (at_id f) (take k ids) (get_or ids k None ∷ [])
+        ∙ ap (λ back. flat_map (at_id f) (take k ids) ++ back) (append-nil (at_id f (get_or ids k None)))
+
+    pub next_data : (same : block.property.level ≡ 0) (before later : List X) → before ≡ flat_map (at_id f) (take k ids) → later ≡ before ++ f (data_at same).0
+        → later ≡ flat_map (at_id f) (take (k + 1) ids)
+    next_data same before later before_is later_is =
+        later_is ∙ ap (λ front. front ++ f (data_at same).0) before_is
+        ∙ ap (λ id. flat_map (at_id f) (take k ids) ++ at_id f id) (sym (data_at same).1) ∙ sym next
+
+    pub next_above : block.property.level ≢ 0 → (before : List X) → before ≡ flat_map (at_id f) (take k ids) → before ≡ flat_map (at_id f) (take (k + 1) ids)
+    next_above apart before before_is =
+        before_is ∙ sym (append-nil (flat_map (at_id f) (take k ids)))
+        ∙ ap (λ id. flat_map (at_id f) (take k ids) ++ at_id f id) (sym (above_at apart)) ∙ sym next
+
+pub slots_there : (array : ℕ → Option (List ℕ)) (nodes : ℕ → Dnode) (id : ℕ) (bytes : List ℕ) → array id ≡ Some bytes → AreNodesOf array nodes → HasSlots bytes id nodes
+slots_there array nodes id bytes is are place low = subst (λ found. IsNodeIn found place (nodes (32 * id + place))) is (slots_of_block array nodes id place low are)
+
+-- ---- refusals
+
+pub one_refused : (old mid new : Store) (missing : List ℕ) (set : ObjectSet) (birth left : ℕ) (refusal : Refusal) (blocks items : List Block) (k : ℕ) (block other : Block)
+    → items ≡ blocks → AreWalked old.spaces set.dnodes birth blocks → k < length items → block ≡ get_or items k other → block.property.level ≡ 0
+    → OnlyReadsBlocks old mid missing → IsBlockRefused mid new missing block left refusal → AreNodesRefused old new missing set birth left refusal
+one_refused old mid new missing set birth left refusal blocks items k block other same walked low is data_level before why = inr (record {
+  blocks = blocks;
+  walked = walked;
+  block = block;
+  is_one = subst (λ bs. Contains bs block) same (subst (λ b. Contains items b) (sym is) (Contains-get_or items k other low));
+  data_level = data_level;
+  mid = mid;
+  before = before;
+  why = why;
+})
