@@ -34,7 +34,7 @@ only_one x y (zero, low, is) = is
 only_one x y (suc k, low, is) = absurd (omega (arith, low))
 
 -- a block that is in one of two lists at most, and there once, is once in both
-both_once : (block : Block) (xs ys : List Block) → count_by (same_as block) xs ≤ 1 → count_by (same_as block) ys ≤ 1 → (Contains xs block → ¬ Contains ys block) → count_by (same_as block) (xs ++ ys) ≤ 1
+pub both_once : (block : Block) (xs ys : List Block) → count_by (same_as block) xs ≤ 1 → count_by (same_as block) ys ≤ 1 → (Contains xs block → ¬ Contains ys block) → count_by (same_as block) (xs ++ ys) ≤ 1
 both_once block xs ys first second apart =
     elim (cases_lt 0 (count_by (same_as block) xs)) [
       | inl some ↦

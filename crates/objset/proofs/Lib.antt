@@ -13,3 +13,4 @@ pub mod Room
 pub mod Shapes
 pub mod Trees
 pub mod Underway
+pub mod WithinLemmas

@@ -6,3 +6,4 @@ pub mod Laws
 pub mod Objects
 pub mod Refused
 pub mod Shapes
+pub mod Within

@@ -7,6 +7,7 @@ mod finding;
 mod laws;
 mod reading;
 mod shape;
+mod within;
 
 pub use block_store::Refusal;
 pub use changes::{Change, ObjectChange, SetCopies};
@@ -17,3 +18,4 @@ pub use finding::find;
 pub use laws::{objects_stand_on_their_blocks, replaced_blocks_of_sets_are_freed};
 pub use reading::{get, walk};
 pub use shape::ObjectShape;
+pub use within::walk_within;

@@ -1,0 +1,20 @@
+use Rattle.std.proofs.Common.{◌≡◌, ◌+◌, ◌++◌, ◌≤◌, List, take}
+use Rattle.block_pointer.specs.declared.block.Block.{Block}
+use Rattle.block_store.specs.Blocks.{Contents}
+use Rattle.block_store.specs.Steps.{OnlyReadsBlocks, AnswersAreTrue}
+use Rattle.block_store.specs.Store.{Holds}
+use Rattle.dnode_tree.specs.Subtree.{joined}
+use Rattle.dnode_tree.specs.Within.{indirect_count}
+use Rattle.objset.proofs.WithinLemmas.{HaveTrees}
+use Rattle.objset.proofs.within.walk_within.Given as goal
+
+abbrev pub invariant-loop-it : goal.invariant-loop-it
+invariant-loop-it g l = record {
+  reads : OnlyReadsBlocks l.initial.store l.store l.missing;
+  fewer : l.left ≤ l.initial.left;
+  below : List Block;
+  are : l.found.items ≡ l.initial.found.items ++ below;
+  count : l.initial.left ≡ l.left + indirect_count below;
+  value : (stored : Contents) (parts : List (List Block)) → Holds l.initial.store stored → HaveTrees stored l.it-items parts → AnswersAreTrue l.initial.store l.store
+      → below ≡ joined (take l.it-index parts);
+}
