@@ -65,9 +65,7 @@ fn bytes_of(root: &Block, store: &mut Store, alloc: Global) -> Result<Vec<u8>, F
     if dataset.volume.size() != SIZE {
         return Ok(Vec::new(alloc));
     }
-    Ok(dataset
-        .volume
-        .read(store, alloc, root.birth, 0, SIZE, &[])?)
+    Ok(dataset.volume.read(store, alloc, root.birth, 0, SIZE, &[])?)
 }
 
 /// Whether the bytes are those after the write, or all zeros.
