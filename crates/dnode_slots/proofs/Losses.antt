@@ -6,11 +6,12 @@ use Rattle.block_store.specs.declared.refusal.Refusal.TheVariants.{NoMemory, Dis
 use Rattle.block_store.specs.Losses.{IsBlockLost}
 use Rattle.block_store.specs.Reading.{IsReadable}
 use Rattle.block_store.specs.Store.{Store}
-use Rattle.block_store.proofs.Losses.{read_lost, lost_later}
+use Rattle.block_store.proofs.Losses.{read_lost, lost_later, lost_behind_reads}
 use Rattle.dnode.specs.declared.object_set.ObjectSet.{ObjectSet}
-use Rattle.dnode_tree.proofs.Losses.{refused_lost}
+use Rattle.dnode_tree.proofs.Losses.{refused_lost, within_lost}
 use Rattle.dnode_slots.specs.Found.{IsNodeRefused}
 use Rattle.dnode_slots.specs.Refused.{IsNodeWriteRefused}
+use Rattle.dnode_slots.specs.Within.{asked_of_nodes, HasNoNode, AreNodesRefused}
 use Rattle.dnode_slots.specs.Sets.{asked_of_set, SpellsNoSet, IsSetRefused}
 
 pub set_lost : (old new : Store) (missing : List ℕ) (birth : ℕ) (block : Block) (refusal : Refusal)
@@ -37,3 +38,11 @@ pub nodes_put_lost : (old new : Store) (missing : List ℕ) (set : ObjectSet) (b
 nodes_put_lost old new missing set birth numbers Lack refusal (inl memory) is = absurd (cc)
 nodes_put_lost old new missing set birth numbers Lack refusal (inr (inl (space, lack))) is = absurd (cc)
 nodes_put_lost old new missing set birth numbers Lack refusal (inr (inr why)) is = node_write_lost old new missing set birth numbers refusal why is
+
+pub nodes_within_lost : (old new : Store) (missing : List ℕ) (set : ObjectSet) (birth left : ℕ) (refusal : Refusal)
+    → AreNodesRefused old new missing set birth left refusal → refusal ≡ DiskFault → IsBlockLost old new missing
+nodes_within_lost old new missing set birth left refusal (inl why) is = within_lost old new missing set.dnodes birth left refusal why is
+nodes_within_lost old new missing set birth left refusal (inr there) is =
+    lost_behind_reads old there.mid new missing there.before
+    (read_lost there.mid new missing there.block
+    ((left ≡ 0) ⊎ ((¬ IsReadable there.mid.spaces (asked_of_nodes there.block) there.block) ⊎ HasNoNode there.mid.spaces there.block)) refusal there.why is)

@@ -1,14 +1,15 @@
 -- The blocks of the dnodes, one after the other.
-use Rattle.std.proofs.Common.{◌≡◌, ◌≢◌, ℕ, ◌+◌, ◌*◌, ◌<◌, ◌≤◌, List, [], ◌∷◌, ◌++◌, length, take, drop, get_or, Option, Some, None, Contains, refl, sym, ap, ◌∙◌, subst, arith, append-nil, inr, true, false}
+use Rattle.std.proofs.Common.{All, ◌≡◌, ◌≢◌, ℕ, ◌+◌, ◌*◌, ◌<◌, ◌≤◌, List, [], ◌∷◌, ◌++◌, length, take, drop, get_or, Option, Some, None, Contains, refl, sym, ap, ◌∙◌, subst, arith, append-nil, inr, true, false}
 use Rattle.std.specs.Prelude.{not, ◌==◌}
 use Rattle.std.specs.List.{flat_map}
 use Rattle.std.proofs.lemmas.Bool.{ne_eqb, eq-eqb}
 use Rattle.std.proofs.lemmas.List.{take_more, length-drop}
 use Rattle.std.proofs.lemmas.List.Concat.{flat_map-append}
-use Rattle.std.proofs.lemmas.List.Elements.{Contains-get_or}
+use Rattle.std.proofs.lemmas.List.Elements.{Contains-get_or, All-append}
 use Rattle.std.proofs.lemmas.List.Sums.{count_by_more_no, count_by_more_yes, count_by-le-length, sum_by-take-drop}
 use Rattle.block_pointer.specs.declared.block.Block.{Block}
 use Rattle.block_store.specs.Blocks.{Contents}
+use Rattle.block_store.specs.declared.space.VdevSpace.{VdevSpace}
 use Rattle.block_store.specs.declared.refusal.Refusal.{Refusal}
 use Rattle.block_store.specs.Steps.{OnlyReadsBlocks}
 use Rattle.block_store.specs.Store.{Store}
@@ -19,9 +20,10 @@ use Rattle.dnode_tree.proofs.Ids.{HaveIds, HasId, IsDataOf, at_id, id_at}
 use Rattle.dnode_tree.specs.Ways.{AreWalked}
 use Rattle.dnode_tree.specs.Within.{indirect_count}
 use Rattle.dnode_slots.proofs.BlockLists.{slots_of_block}
+use Rattle.dnode_slots.specs.declared.within.FoundNode.{FoundNode}
 use Rattle.dnode_slots.specs.Nodes.{IsNodeIn, AreNodesOf}
 use Rattle.dnode_slots.specs.Slots.{HasSlots}
-use Rattle.dnode_slots.specs.Within.{IsBlockRefused, AreNodesRefused}
+use Rattle.dnode_slots.specs.Within.{IsNodeFrom, IsNodeOfOne, IsBlockRefused, AreNodesRefused}
 
 -- ---- counts
 
@@ -113,3 +115,15 @@ one_refused old mid new missing set birth left refusal blocks items k block othe
   before = before;
   why = why;
 })
+
+-- ---- where the objects are from
+
+pub from_more : (spaces later : List VdevSpace) (items : List Block) (k : ℕ) (block other : Block) (before after added : List FoundNode) → later ≡ spaces → k < length items → block ≡ get_or items k other
+    → All (IsNodeOfOne spaces items) before → after ≡ before ++ added → All (IsNodeFrom later block) added → All (IsNodeOfOne spaces items) after
+from_more spaces later items k block other before after added same low is were after_is from =
+    subst (All (IsNodeOfOne spaces items)) (sym after_is)
+    (All-append (IsNodeOfOne spaces items) before added were (λ j it under. record {
+      block = block;
+      is_one = subst (λ b. Contains items b) (sym is) (Contains-get_or items k other low);
+      from = subst (λ s. IsNodeFrom s block (get_or added j it)) same (from j it under);
+    }))

@@ -48,6 +48,25 @@ pub record HasNoNode (spaces : List VdevSpace) (block : Block) : Type 0 where
   pub low : place < 32
   pub none : (node : Dnode) → ¬ IsNodeIn (Some bytes) place node
 
+-- the object's dnode is at a place of the bytes, and the birth is that of their block
+pub record IsNodeAt (bytes : List ℕ) (birth : ℕ) (it : FoundNode) : Type 0 where
+  pub place : ℕ
+  pub low : place < 32
+  pub is_in : IsNodeIn (Some bytes) place (Object it.node)
+  pub born : it.birth ≡ birth
+
+-- it is in the block, as that was read
+pub record IsNodeFrom (spaces : List VdevSpace) (block : Block) (it : FoundNode) : Type 0 where
+  pub bytes : List ℕ
+  pub read : IsReadAs spaces (asked_of_nodes block) block bytes
+  pub at : IsNodeAt bytes block.birth it
+
+-- it is in one of the blocks
+pub record IsNodeOfOne (spaces : List VdevSpace) (blocks : List Block) (it : FoundNode) : Type 0 where
+  pub block : Block
+  pub is_one : Contains blocks block
+  pub from : IsNodeFrom spaces block it
+
 -- why a block of dnodes was not read: no more may be, or its pointer may not be, or it spells no
 -- dnode at a place, or its last copy was at fault
 abbrev pub IsBlockRefused : Store → Store → List ℕ → Block → ℕ → Refusal → Type 0

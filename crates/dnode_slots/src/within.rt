@@ -12,7 +12,7 @@ ghost use Rattle.dnode_tree.specs.Rewriting.{AreDistinct};
 ghost use Rattle.dnode_tree.specs.Ways.{AreWalked};
 ghost use Rattle.dnode_slots.specs.Nodes.{HasNodes, IsNodeIn};
 ghost use Rattle.dnode_slots.specs.Slots.{HasSlots};
-ghost use Rattle.dnode_slots.specs.Within.{asked_of_nodes, objects_of, objects_in, IsBlockRefused, AreNodesRefused};
+ghost use Rattle.dnode_slots.specs.Within.{asked_of_nodes, objects_of, objects_in, IsNodeAt, IsNodeFrom, IsNodeOfOne, IsBlockRefused, AreNodesRefused};
 
 use crate::slots::{NODES_A_BLOCK, node_at};
 use block_pointer::{Block, Property};
@@ -70,6 +70,8 @@ pub fn nodes_within<D: Disk + Drop>(
     ensures found { IfOk result (λ found.
         AreWalked store.old.spaces set.now.dnodes birth found.blocks.items) }
     ensures once { IfOk result (λ found. AreDistinct found.blocks.items) }
+    ensures from { IfOk result (λ found.
+        All (IsNodeOfOne store.old.spaces found.blocks.items) found.nodes.items) }
     ensures count { IfOk result (λ found. left.old ≡ left.new + length found.blocks.items) }
     ensures refused { IfErr result
         (AreNodesRefused store.old store.new missing.now set.now birth left.new) }
@@ -111,6 +113,9 @@ fn read_nodes<D: Disk + Drop>(
         → stored block.now ≡ Some bytes → HasSlots bytes id dnodes
         → births 0 id ≡ block.now.birth → AnswersAreTrue store.old store.new
         → nodes.new.items ≡ nodes.old.items ++ objects_in dnodes births id) }
+    ensures from { OnOk result ((added : List FoundNode)
+        × (nodes.new.items ≡ nodes.old.items ++ added)
+        × All (IsNodeFrom store.old.spaces block.now) added) }
     ensures refused { IfErr result
         (IsBlockRefused store.old store.new missing.now block.now left.new) }
     ensures cause { IfErr result (λ refusal. refusal ≢ Refusal.NoSpace) }
@@ -140,6 +145,9 @@ fn add_nodes(bytes: &[u8], birth: u64, nodes: &mut Vec<FoundNode>) -> Result<(),
     ensures value { OnOk result ((id : ℕ) (dnodes : ℕ → Dnode) (births : ℕ → ℕ → ℕ)
         → HasSlots bytes.now id dnodes → births 0 id ≡ birth
         → nodes.new.items ≡ nodes.old.items ++ objects_in dnodes births id) }
+    ensures from { OnOk result ((added : List FoundNode)
+        × (nodes.new.items ≡ nodes.old.items ++ added)
+        × All (IsNodeAt bytes.now birth) added) }
     ensures refused { IfErr result (λ refusal. (refusal ≡ Refusal.NoMemory)
         ⊎ ((refusal ≡ Refusal.BadPointer) × (place : ℕ) × (place < 32)
         × ((node : Dnode) → ¬ IsNodeIn (Some bytes.now) place node))) }

@@ -8,15 +8,16 @@ use Rattle.block_store.proofs.Losses.{lost_later, lost_behind_reads}
 use Rattle.dnode.specs.declared.dnode.Dnode.{Dnode}
 use Rattle.dnode.specs.declared.dnode.Dnode.TheVariants.{Free as NoObject, Object as Node}
 use Rattle.dnode.specs.declared.object_set.ObjectSet.{ObjectSet}
-use Rattle.dnode_slots.proofs.Losses.{node_lost, node_write_lost}
+use Rattle.dnode_slots.proofs.Losses.{node_lost, node_write_lost, nodes_within_lost}
 use Rattle.dnode_tree.specs.Tree.{property_of}
 use Rattle.dnode_tree.specs.Ways.{root_of}
-use Rattle.dnode_tree.proofs.Losses.{refused_lost, walk_lost, write_lost}
+use Rattle.dnode_tree.proofs.Losses.{refused_lost, walk_lost, within_lost, write_lost}
 use Rattle.objset.specs.declared.changes.Change.{Change}
 use Rattle.objset.specs.declared.changes.Change.TheVariants.{Create, Put, Free, Replace}
 use Rattle.objset.specs.declared.changes.ObjectChange.{ObjectChange}
 use Rattle.objset.specs.Found.{IsDataRefused, IsObjectWalkRefused}
 use Rattle.objset.specs.Refused.{IsTreeRefused, IsObjectRefused, IsChangeRefused}
+use Rattle.objset.specs.Within.{IsSetWalkRefused}
 
 pub data_lost : (old new : Store) (missing : List ℕ) (set : ObjectSet) (birth number id : ℕ) (refusal : Refusal) → IsDataRefused old new missing set birth number id refusal → refusal ≡ DiskFault
     → IsBlockLost old new missing
@@ -54,3 +55,11 @@ pub change_lost : (old new : Store) (missing : List ℕ) (set : ObjectSet) (birt
     → IsBlockLost old new missing
 change_lost old new missing set birth changes refusal (inl nodes) is = node_write_lost old new missing set birth (map (λ (change : ObjectChange). change.number) changes) refusal nodes is
 change_lost old new missing set birth changes refusal (inr (k, change, low, at, object)) is = object_lost old new missing set birth change refusal object is
+
+pub set_walk_lost : (old new : Store) (missing : List ℕ) (set : ObjectSet) (birth before after : ℕ) (refusal : Refusal) → IsSetWalkRefused old new missing set birth before after refusal → refusal ≡ DiskFault
+    → IsBlockLost old new missing
+set_walk_lost old new missing set birth before after refusal (inl memory) is = absurd (cc)
+set_walk_lost old new missing set birth before after refusal (inr (inl nodes)) is = nodes_within_lost old new missing set birth after refusal nodes is
+set_walk_lost old new missing set birth before after refusal (inr (inr (inl there))) is =
+    lost_behind_reads old there.mid new missing there.before (within_lost there.mid new missing there.node there.birth after refusal there.why is)
+set_walk_lost old new missing set birth before after refusal (inr (inr (inr (bad, twice)))) is = absurd (cc)

@@ -11,9 +11,9 @@ use Rattle.dnode_tree.proofs.Ids.{HaveIds, at_id, as_many, part_ids}
 use Rattle.dnode_tree.proofs.Refusing.{passed_on}
 use Rattle.dnode_tree.specs.Within.{indirect_count}
 use Rattle.dnode_slots.specs.declared.within.FoundNode.{FoundNode}
-use Rattle.dnode_slots.specs.Within.{objects_in}
+use Rattle.dnode_slots.specs.Within.{objects_in, IsNodeOfOne}
 use Rattle.dnode_slots.proofs.Objects.{none_there, as_many_objects}
-use Rattle.dnode_slots.proofs.WithinLemmas.{no_more, more, within_all, still_one, data_at, next_data, next_above, slots_there, one_refused}
+use Rattle.dnode_slots.proofs.WithinLemmas.{no_more, more, within_all, still_one, data_at, next_data, next_above, slots_there, one_refused, from_more}
 use Rattle.dnode_slots.proofs.within.nodes_within.Goals.{then-block-eq0+in_ok-read_nodes, else-block-eq0}
 use Rattle.dnode_slots.proofs.within.nodes_within.Goals as goal
 
@@ -68,6 +68,8 @@ loop-block-preserved g c = elim c.if-block-eq0.branch [
       w.in_ok-read_nodes.ensures.count,
     );
     fits = subst (λ (n : _). All (λ (it : FoundNode). FitsNode it.node) n.items) (sym w.nodes-is) (w.in_ok-read_nodes.ensures.fits c.loop-block.invariant.fits);
+    from = from_more c.walk_within.new.store.spaces c.loop-block.store.spaces c.deref-block-items.result.now c.loop-block.block-index _ _ c.loop-block.nodes.items c.if-block-eq0.nodes.items w.in_ok-read_nodes.ensures.from.0
+        (ap (λ s. s.spaces) c.loop-block.invariant.reads.rest) c.loop-block-test.true refl c.loop-block.invariant.from (ap (λ n. n.items) w.nodes-is ∙ w.in_ok-read_nodes.ensures.from.1) w.in_ok-read_nodes.ensures.from.2;
     value = λ stored array nodes births ids held are have honest.
         let all_true : AnswersAreTrue c.walk_within.new.store w.read_nodes.new.store = subst (λ s. AnswersAreTrue c.walk_within.new.store s) w.store-is honest in
         let (id, at, there) = data_at stored c.args.set.now.dnodes array births c.deref-block-items.result.now ids c.loop-block.block-index _ _ have c.loop-block-test.true refl w.if-block-eq0.true in
@@ -83,6 +85,7 @@ loop-block-preserved g c = elim c.if-block-eq0.branch [
     fewer = omega (arith, w.left-is, c.loop-block.invariant.fewer);
     count = omega (arith, more c.deref-block-items.result.now c.loop-block.block-index _ _ c.loop-block-test.true refl w.if-block-eq0.false, w.left-is, c.loop-block.invariant.count);
     fits = subst (λ (n : _). All (λ (it : FoundNode). FitsNode it.node) n.items) (sym w.nodes-is) c.loop-block.invariant.fits;
+    from = subst (λ (n : _). All (IsNodeOfOne c.walk_within.new.store.spaces c.deref-block-items.result.now) n.items) (sym w.nodes-is) c.loop-block.invariant.from;
     value = λ stored array nodes births ids held are have honest.
         let all_true : AnswersAreTrue c.walk_within.new.store c.loop-block.store = subst (λ s. AnswersAreTrue c.walk_within.new.store s) w.store-is honest in
         ap (λ n. n.items) w.nodes-is
@@ -111,3 +114,8 @@ returns-clause-value g c = λ stored nodes blocks held has honest.
           ∙ as_many_objects nodes has.births (128 ^ (levels_of c.args.set.now.dnodes.highest - 1)) c.args.set.now.objects
           (omega (arith, c.requires.1.within, height_has c.args.set.now.dnodes.highest c.requires.0.0.highest)) has.behind,
     )
+
+pub returns-clause-from : goal.returns-clause-from
+returns-clause-from g c =
+    subst (λ (bs : _). All (IsNodeOfOne c.args.store.now.spaces bs) c.loop-block.nodes.items) c.deref-block-items.ensures.value
+    (subst (λ (spaces : _). All (IsNodeOfOne spaces c.deref-block-items.result.now) c.loop-block.nodes.items) (ap (λ s. s.spaces) c.in_ok-blocks.ensures.reads.rest) c.loop-block.invariant.from)

@@ -8,7 +8,7 @@ use Rattle.dnode.specs.declared.dnode.Dnode.{Dnode}
 use Rattle.dnode_tree.proofs.Ids.{HaveIds, at_id}
 use Rattle.dnode_tree.specs.Within.{indirect_count}
 use Rattle.dnode_slots.specs.Nodes.{AreNodesOf}
-use Rattle.dnode_slots.specs.Within.{objects_in}
+use Rattle.dnode_slots.specs.Within.{objects_in, IsNodeOfOne}
 use Rattle.dnode_slots.proofs.within.nodes_within.Given as goal
 
 abbrev pub invariant-loop-block : goal.invariant-loop-block
@@ -17,6 +17,7 @@ invariant-loop-block g l = record {
   fewer : l.left ≤ l.initial.left;
   count : l.initial.left + indirect_count (take l.block-index l.block-items) ≡ l.left + l.block-index;
   fits : All (λ it. FitsNode it.node) l.nodes.items;
+  from : All (IsNodeOfOne l.initial.store.spaces l.block-items) l.nodes.items;
   value : (stored : Contents) (array : ℕ → Option (List ℕ)) (nodes : ℕ → Dnode) (births : ℕ → ℕ → ℕ) (ids : List (Option ℕ)) → Holds l.initial.store stored
       → AreNodesOf array nodes → HaveIds stored l.set.dnodes array births l.block-items ids → AnswersAreTrue l.initial.store l.store
       → l.nodes.items ≡ flat_map (at_id (objects_in nodes births)) (take l.block-index ids);

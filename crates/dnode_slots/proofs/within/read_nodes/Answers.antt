@@ -1,8 +1,9 @@
-use Rattle.std.proofs.Common.{◌*◌, ◌+◌, List, ℕ, inl, inr, sym, ◌∙◌, subst, arith}
+use Rattle.std.proofs.Common.{get_or, ◌*◌, ◌+◌, List, ℕ, inl, inr, sym, ◌∙◌, subst, arith}
 use Rattle.std.proofs.lemmas.Result.{on_ok_weaker, IfErr-weaker}
 use Rattle.dnode_tree.proofs.Refusing.{passed_on}
 use Rattle.dnode_slots.specs.Nodes.{IsNodeIn}
 use Rattle.dnode_slots.specs.Slots.{HasSlots}
+use Rattle.dnode_slots.specs.Within.{IsNodeAt}
 use Rattle.std.specs.Prelude.{Some}
 use Rattle.dnode_slots.proofs.within.read_nodes.Goals as goal
 
@@ -48,3 +49,20 @@ returns-clause-known g c =
           absurd (bad.3 (dnodes (32 * id + bad.1)) (subst (λ (bs : List ℕ). HasSlots bs id dnodes) (sym read) slots bad.1 bad.2))
     ])
     c.add_nodes.ensures.refused
+
+pub returns-clause-from : goal.returns-clause-from
+returns-clause-from g c =
+    on_ok_weaker c.add_nodes.result
+    (λ from. (
+      from.0,
+      from.1,
+      λ k other low.
+          let at : IsNodeAt c.in_ok-bytes.bytes.items c.args.block.now.birth (get_or from.0 k other) =
+          subst (λ (bs : List ℕ). IsNodeAt bs c.args.block.now.birth (get_or from.0 k other)) c.deref.ensures.value (from.2 k other low) in
+          record {
+            bytes = c.in_ok-bytes.bytes.items;
+            read = record { readable = c.in_ok-bytes.ensures.readable; size = c.in_ok-bytes.ensures.size; digest = c.in_ok-bytes.ensures.digest };
+            at = at;
+          },
+    ))
+    c.add_nodes.ensures.from
