@@ -61,5 +61,5 @@ pub set_walk_lost : (old new : Store) (missing : List ℕ) (set : ObjectSet) (bi
 set_walk_lost old new missing set birth before after refusal (inl memory) is = absurd (cc)
 set_walk_lost old new missing set birth before after refusal (inr (inl nodes)) is = nodes_within_lost old new missing set birth after refusal nodes is
 set_walk_lost old new missing set birth before after refusal (inr (inr (inl there))) is =
-    lost_behind_reads old there.mid new missing there.before (within_lost there.mid new missing there.node there.birth after refusal there.why is)
+    lost_behind_reads old there.mid new missing there.before (within_lost there.mid new missing there.it.node there.it.birth after refusal there.why is)
 set_walk_lost old new missing set birth before after refusal (inr (inr (inr (bad, twice)))) is = absurd (cc)

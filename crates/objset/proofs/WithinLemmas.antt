@@ -1,5 +1,5 @@
 -- The objects of a set, and the trees of their nodes.
-use Rattle.std.proofs.Common.{◌≡◌, ℕ, zero, suc, ◌+◌, ◌<◌, ◌≤◌, List, [], ◌∷◌, ◌++◌, length, take, get_or, Option, Some, None, Contains, refl, sym, ap, ◌∙◌, subst, arith, inl, inr}
+use Rattle.std.proofs.Common.{All, ◌≡◌, ℕ, zero, suc, ◌+◌, ◌<◌, ◌≤◌, List, [], ◌∷◌, ◌++◌, length, take, get_or, Option, Some, None, Contains, refl, sym, ap, ◌∙◌, subst, arith, inl, inr}
 use Rattle.std.specs.List.{flat_map, range_with_len}
 use Rattle.std.proofs.lemmas.List.{take_all}
 use Rattle.std.proofs.lemmas.List.Elements.{Contains-append_cases}
@@ -10,7 +10,10 @@ use Rattle.dnode.specs.declared.dnode.Dnode.TheVariants.{Free, Object as Node}
 use Rattle.dnode.specs.declared.object_set.ObjectSet.{ObjectSet}
 use Rattle.dnode_slots.specs.declared.within.FoundNode.{FoundNode}
 use Rattle.dnode_slots.specs.Nodes.{birth_of}
-use Rattle.dnode_slots.specs.Within.{used, objects_from, objects_of}
+use Rattle.block_store.specs.declared.refusal.Refusal.{Refusal}
+use Rattle.block_store.specs.Steps.{OnlyReadsBlocks}
+use Rattle.block_store.specs.Store.{Store}
+use Rattle.dnode_slots.specs.Within.{used, objects_from, objects_of, IsNodeOfOne}
 use Rattle.dnode_tree.proofs.Collecting.{joined-take_more}
 use Rattle.dnode_tree.proofs.Enough.{counted_within}
 use Rattle.dnode_tree.proofs.Exchanging.{both_once}
@@ -18,10 +21,11 @@ use Rattle.dnode_tree.proofs.SameBlocks.{once_counted, distinct_counted}
 use Rattle.dnode_tree.specs.Rewriting.{AreDistinct}
 use Rattle.dnode_tree.specs.Subtree.{joined}
 use Rattle.dnode_tree.specs.Tree.{IsTree}
-use Rattle.dnode_tree.specs.Within.{indirect_count}
+use Rattle.dnode_tree.specs.Ways.{AreWalked}
+use Rattle.dnode_tree.specs.Within.{indirect_count, IsWithinRefused}
 use Rattle.objset.specs.Laws.{HasEachOnce}
 use Rattle.objset.specs.Objects.{Object, IsObject, AreObjects}
-use Rattle.objset.specs.Within.{blocks_of_objects, blocks_of_set, reads_of}
+use Rattle.objset.specs.Within.{blocks_of_objects, blocks_of_set, reads_of, IsObjectWithinRefused}
 
 -- each node has a tree of these blocks
 abbrev pub HaveTrees : Contents → List FoundNode → List (List Block) → Type 0
@@ -147,3 +151,16 @@ next_refused stored set own first blocks items k it other below all mid now Loss
     let long : length first ≡ length own = ap length first_is in
     told there.0.0 (get_or parts.parts k []) there.0.1 (subst (λ bs. AreDistinct bs) (sym same) (once.each_once number))
     (omega (arith, part, whole, some, long, before, counted, enough))
+
+pub object_refused : (old mid new : Store) (missing : List ℕ) (set : ObjectSet) (birth left : ℕ) (refusal : Refusal) (own : List Block) (nodes items : List FoundNode) (k : ℕ) (it other : FoundNode)
+    → items ≡ nodes → AreWalked old.spaces set.dnodes birth own → All (IsNodeOfOne old.spaces own) nodes → k < length items → it ≡ get_or items k other
+    → OnlyReadsBlocks old mid missing → IsWithinRefused mid new missing it.node it.birth left refusal → IsObjectWithinRefused old new missing set birth left refusal
+object_refused old mid new missing set birth left refusal own nodes items k it other same walked from low is before why = record {
+  own = own;
+  walked = walked;
+  it = it;
+  from = subst (IsNodeOfOne old.spaces own) (sym is) (subst (All (IsNodeOfOne old.spaces own)) (sym same) from k other low);
+  mid = mid;
+  before = before;
+  why = why;
+}

@@ -7,9 +7,9 @@ use Rattle.block_store.specs.declared.refusal.Refusal.TheVariants.{NoMemory, Bad
 use Rattle.block_store.specs.declared.space.VdevSpace.{VdevSpace}
 use Rattle.block_store.specs.Steps.{OnlyReadsBlocks}
 use Rattle.block_store.specs.Store.{Store}
-use Rattle.dnode.specs.declared.node.ObjectNode.{ObjectNode}
 use Rattle.dnode.specs.declared.object_set.ObjectSet.{ObjectSet}
-use Rattle.dnode_slots.specs.Within.{AreNodesRefused}
+use Rattle.dnode_slots.specs.declared.within.FoundNode.{FoundNode}
+use Rattle.dnode_slots.specs.Within.{IsNodeOfOne, AreNodesRefused}
 use Rattle.dnode_tree.specs.Rewriting.{AreDistinct}
 use Rattle.dnode_tree.specs.Ways.{AreWalked}
 use Rattle.dnode_tree.specs.Within.{indirect_count, IsWithinRefused}
@@ -35,14 +35,17 @@ pub record IsSetWalked (spaces : List VdevSpace) (set : ObjectSet) (birth before
   pub walked : AreWalked spaces set.dnodes birth own
   pub count : before ≡ after + reads_of own below
 
--- the walk over an object was refused, behind other reads
-pub record IsObjectWithinRefused (old new : Store) (missing : List ℕ) (left : ℕ)
-    (refusal : Refusal) : Type 0 where
-  pub node : ObjectNode
-  pub birth : ℕ
+-- the blocks of the dnodes were walked, and an object was found in one of them; the walk over it was
+-- refused, behind other reads
+pub record IsObjectWithinRefused (old new : Store) (missing : List ℕ) (set : ObjectSet)
+    (birth left : ℕ) (refusal : Refusal) : Type 0 where
+  pub own : List Block
+  pub walked : AreWalked old.spaces set.dnodes birth own
+  pub it : FoundNode
+  pub from : IsNodeOfOne old.spaces own it
   pub mid : Store
   pub before : OnlyReadsBlocks old mid missing
-  pub why : IsWithinRefused mid new missing node birth left refusal
+  pub why : IsWithinRefused mid new missing it.node it.birth left refusal
 
 -- some blocks were walked, and one is there twice
 pub record IsSetTwice (spaces : List VdevSpace) (set : ObjectSet) (birth before after : ℕ) : Type 0 where
@@ -57,5 +60,5 @@ abbrev pub IsSetWalkRefused :
 IsSetWalkRefused old new missing set birth before after refusal =
     (refusal ≡ NoMemory)
     ⊎ (AreNodesRefused old new missing set birth after refusal
-    ⊎ (IsObjectWithinRefused old new missing after refusal
+    ⊎ (IsObjectWithinRefused old new missing set birth after refusal
     ⊎ ((refusal ≡ BadPointer) × IsSetTwice old.spaces set birth before after)))

@@ -5,7 +5,7 @@ use Rattle.dnode_tree.proofs.Exchanging.{count_by-append}
 use Rattle.dnode_tree.proofs.FurtherReads.{true_before, true_after}
 use Rattle.dnode_tree.proofs.Refusing.{passed_on}
 use Rattle.dnode_tree.specs.Rewriting.{AreDistinct}
-use Rattle.objset.proofs.WithinLemmas.{parts_there, found_all, next_part, next_refused, whole_once}
+use Rattle.objset.proofs.WithinLemmas.{parts_there, found_all, next_part, next_refused, whole_once, object_refused}
 use Rattle.objset.proofs.within.walk_within.Goals as goal
 
 pub returns-in_err-blocks-clause-refused : goal.returns-in_err-blocks-clause-refused
@@ -24,13 +24,9 @@ returns-in_err-more-clause-reads g c =
 pub returns-in_err-more-clause-refused : goal.returns-in_err-more-clause-refused
 returns-in_err-more-clause-refused g c =
     passed_on _ _ _ c.from_residual-in_err-more.ensures.1
-    (inr (inr (inl (record {
-      node = _;
-      birth = _;
-      mid = c.loop-it.store;
-      before = reads_on _ _ _ _ c.in_ok-blocks.ensures.reads c.loop-it.invariant.reads;
-      why = c.in_err-more.ensures.refused;
-    }))))
+    (inr (inr (inl (object_refused c.args.store.now c.loop-it.store c.walk_within.new.store c.args.missing.now c.args.set.now c.args.birth c.walk_within.new.left _ c.in_ok-blocks.field-0.blocks.items
+    c.in_ok-blocks.field-0.nodes.items c.deref-it-items.result.now c.loop-it.it-index _ _ c.deref-it-items.ensures.value c.in_ok-blocks.ensures.found c.in_ok-blocks.ensures.from c.loop-it-test.true refl
+    (reads_on _ _ _ _ c.in_ok-blocks.ensures.reads c.loop-it.invariant.reads) c.in_err-more.ensures.refused))))
 
 pub returns-in_err-more-clause-known : goal.returns-in_err-more-clause-known
 returns-in_err-more-clause-known g c =
