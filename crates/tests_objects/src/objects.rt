@@ -7,7 +7,10 @@ use crate::stores::{Store, new_store, store_plan};
 use block_pointer::BlockPtr;
 use block_store::CopyCount;
 use dnode::{ObjectNode, ObjectSet, ObjectSetKind};
-use objset::{BlockWrite, Change, ObjectChange, Refusal, SetCopies, SetRewrite, change, get, walk};
+use objset::{
+    BlockWrite, Change, ObjectChange, Refusal, SetCopies, SetRewrite, change, get, walk,
+    walk_within,
+};
 use std::alloc::{AllocError, Global};
 use std::test::Fail;
 
@@ -366,5 +369,66 @@ fn refusals_in_memory(alloc: Global) -> Result<[bool; 3], Fail> {
 fn changes_that_cannot_be_made_are_refused(rt: HostRuntime) -> Result<(), Fail> {
     let refused = refusals_in_memory(rt.alloc())?;
     assert_eq!(rt; refused, [true; 3]);
+    Ok(())
+}
+
+/// Three objects: 3 with two blocks 200 apart, 40 with one block, and 70 with its second block alone.
+fn three_objects(store: &mut Store, alloc: Global) -> Result<SetRewrite, Refusal>
+    ensures { IfOk result (λ done. FitsObjectSet done.set) }
+{
+    let two = two_objects(store, alloc)?;
+    let first = Case {
+        number: 3,
+        is_new: false,
+        id: 0,
+        byte: 7,
+        sectors: 1,
+    };
+    let second = Case {
+        number: 70,
+        is_new: true,
+        id: 1,
+        byte: 8,
+        sectors: 2,
+    };
+    let first = change_of(alloc, first)?;
+    let second = change_of(alloc, second)?;
+    change_both(&two.set, store, alloc, first, second, 2)
+}
+
+/// How many blocks of a set a walk finds that may read so many, and how many it may still read.
+fn within(set: &ObjectSet, store: &mut Store, alloc: Global, reads: u64) -> (usize, u64)
+    requires { FitsObjectSet set.now }
+{
+    let mut left = reads;
+    let found = match walk_within(set, store, alloc, 2, &mut left, &[]) {
+        Ok(blocks) => blocks.len(),
+        Err(Refusal::BadPointer) => BAD,
+        Err(_) => OTHER,
+    };
+    (found, left)
+}
+
+fn walks_within(store: &mut Store, alloc: Global) -> Result<[(usize, u64); 3], Refusal> {
+    let set = three_objects(store, alloc)?.set;
+    Ok([
+        within(&set, store, alloc, 10),
+        within(&set, store, alloc, 8),
+        within(&set, store, alloc, 7),
+    ])
+}
+
+fn walks_within_in_memory(alloc: Global) -> Result<[(usize, u64); 3], Fail> {
+    let mut store = new_store(alloc)?;
+    Ok(walks_within(&mut store, alloc)?)
+}
+
+#[test]
+fn a_walk_over_a_set_reads_as_many_blocks_as_it_may(rt: HostRuntime) -> Result<(), Fail> {
+    let [more, enough, fewer] = walks_within_in_memory(rt.alloc())?;
+    // Of the dnodes a root and three blocks, of the objects five blocks, one, and two; four of these stand above the data.
+    assert_eq!(rt; more, (12, 2));
+    assert_eq!(rt; enough, (12, 0));
+    assert_eq!(rt; fewer, (BAD, 0));
     Ok(())
 }
