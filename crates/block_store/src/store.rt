@@ -83,7 +83,8 @@ impl<D: Disk + Drop> BlockStore<D> {
 
     /// How many vdevs there are.
     pub fn vdev_count(&self) -> usize
-        ensures { result ≡ length self.now.spaces }
+        ensures count { result ≡ length self.now.spaces }
+        ensures few { result ≤ 8 }
     {
         self.spaces.len()
     }

@@ -1,9 +1,10 @@
--- How long the lists of an allowed configuration are.
-use Rattle.std.proofs.Common.{◌≡◌, ◌≤◌, ◌+◌, ◌*◌, ℕ, suc, List, [], ◌∷◌, ◌++◌, length, refl, arith}
+-- How long the lists of a configuration are.
+use Rattle.std.proofs.Common.{◌≡◌, ◌<◌, ◌≤◌, ◌+◌, ◌*◌, ◌^◌, ℕ, suc, List, [], ◌∷◌, ◌++◌, length, refl, arith}
 use Rattle.std.specs.Int.{w32, to_be_bytes}
 use Rattle.std.specs.Prelude.{codes}
 use Rattle.std.specs.Prelude.{All, replicate}
 use Rattle.std.proofs.lemmas.List.{length-append, length-replicate}
+use Rattle.std.proofs.lemmas.List.Elements.{All-tail}
 use Rattle.nvlist.specs.Grammar.{text_bytes, value_bytes, pairs_bytes, lists_bytes, spelling, padding_of}
 use Rattle.nvlist.specs.Plain.{PlainList, PlainLists, next, number, text, list, lists, pair, no_pairs, pair_count, list_count, depth, lists_depth}
 use Rattle.nvlist.specs.View.{lists_of}
@@ -11,6 +12,7 @@ use Rattle.vdev_label.proofs.Rooms.{number_length, pair_length, spelling_length}
 use Rattle.vdev_label.specs.Pairs.{numbered, child_pairs, vdev_pairs, tree_pairs, label_pairs, state_number}
 use Rattle.vdev_label.specs.Limits.{IsAllowedVdev}
 use Rattle.vdev_label.specs.Plain.{PlainVdev, PlainLabel}
+use Rattle.vdev_label.specs.Room.{IsSmallVdev}
 
 lists_length : (first : PlainList) (others : PlainLists) → length (lists_bytes (next first others)) ≡ length (spelling first) + length (lists_bytes others)
 lists_length first others = length-append (spelling first) (lists_bytes others)
@@ -74,6 +76,16 @@ vdevs_length id (v ∷ vdevs) all =
     let others : All IsAllowedVdev vdevs = λ k d below. all (suc k) d (omega (arith, below)) in
     omega (arith, lists_length (vdev_pairs id v) (lists_of (numbered vdev_pairs (suc id) vdevs)), vdev_length id v, (all 0 v (omega arith)).children_to, vdevs_length (suc id) vdevs others)
 
+small_length : (id : ℕ) (vdevs : List PlainVdev) → All IsSmallVdev vdevs → length (lists_bytes (lists_of (numbered vdev_pairs id vdevs))) ≤ 2883796 * length vdevs
+small_length id [] all = omega arith
+small_length id (v ∷ vdevs) all =
+    omega (arith, lists_length (vdev_pairs id v) (lists_of (numbered vdev_pairs (suc id) vdevs)), vdev_length id v, (all 0 v (omega arith)).few, small_length (suc id) vdevs (All-tail IsSmallVdev v vdevs all))
+
+pub tree_length : (vdevs : List PlainVdev) → length vdevs ≤ 8 → All IsSmallVdev vdevs → length (spelling (tree_pairs vdevs)) < 2 ^ 46
+tree_length vdevs few all =
+    let inner = lists_of (numbered vdev_pairs 0 vdevs) in
+    omega (arith, spelling_length (tree_pairs vdevs), pair_length (codes "children") (lists inner) no_pairs, lists_value inner, small_length 0 vdevs all, few)
+
 pub label_length : (l : PlainLabel) → length l.name ≤ 27 → length l.vdevs ≤ 8 → All IsAllowedVdev l.vdevs → length (spelling (label_pairs l)) ≤ 114648
 label_length l few to all =
     let l9 = pair (codes "version") (number 1) no_pairs in
@@ -115,6 +127,9 @@ children_depth id (guid ∷ children) = omega (arith, children_depth (suc id) ch
 vdevs_depth : (id : ℕ) (vdevs : List PlainVdev) → lists_depth (lists_of (numbered vdev_pairs id vdevs)) ≤ 2
 vdevs_depth id [] = omega arith
 vdevs_depth id (v ∷ vdevs) = omega (arith, children_depth 0 v.children, vdevs_depth (suc id) vdevs)
+
+pub tree_depth : (vdevs : List PlainVdev) → depth (tree_pairs vdevs) ≤ 6
+tree_depth vdevs = omega (arith, vdevs_depth 0 vdevs)
 
 pub label_depth : (l : PlainLabel) → depth (label_pairs l) ≤ 6
 label_depth l = omega (arith, vdevs_depth 0 l.vdevs)

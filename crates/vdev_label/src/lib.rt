@@ -18,7 +18,7 @@ pub use decoding::decode_area;
 pub use disks::{read_label, write_label};
 pub use encoding::encode_area;
 pub use label::{Config, Label, State, Vdev};
-pub use laws::{allowed_has_room, config_of_label_fits, relabeled_has_room};
+pub use laws::{allowed_has_room, config_of_label_fits, relabeled_has_room, small_configs_fit};
 pub use limits::{
     MAX_CHILD_SECTORS, MAX_SLAB_SHIFT, MAX_SLABS, MAX_VDEVS, MIN_CHILD_SECTORS, MIN_SLAB_SHIFT,
 };
