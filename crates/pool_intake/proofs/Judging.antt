@@ -187,7 +187,7 @@ change_free v a u e = held (hold_group a.writer v.holds) (sym (act_cause v a u) 
     held None e = absurd (cc)
     held (Some group) e = last _ _ (last _ _ e)
 
-tests_free : (named there block whole low high : Bool) → first_cause ((not named, causes.BadName) ∷ (there, causes.Exists) ∷ (not (block && whole), causes.Misaligned) ∷ (not (low && high), causes.OutOfRange) ∷ []) ≡ None → (there ≡ false) × ((block && (whole && (low && high))) ≡ true)
+tests_free : (named there block whole low high : Bool) → first_cause ((not named, causes.BadName) ∷ (there, causes.Exists) ∷ (not (block && whole), causes.Misaligned) ∷ (not (low && high), causes.OutOfRange) ∷ []) ≡ None → (there ≡ false) × ((named && (block && (whole && (low && high)))) ≡ true)
 tests_free false there block whole low high e = absurd (cc)
 tests_free true true block whole low high e = absurd (cc)
 tests_free true false false whole low high e = absurd (cc)

@@ -1,6 +1,7 @@
 -- A map from keys to shapes, looked up by names.
 use Rattle.std.proofs.Common.{◌≡◌, ℕ, Bool, true, false, true≢false, List, [], ◌∷◌, Option, Some, None, refl, sym, ap, ◌∙◌, subst}
 use Rattle.std.specs.Prelude.{cond, Result, Ok, Err, OnOk, IsOk}
+use Rattle.std.specs.List.{AllZip}
 use Rattle.std.specs.Map.{lookup}
 use Rattle.std.specs.Option.{option_map, option_or}
 use Rattle.pool_model.specs.declared.volume.PlainVolume.{PlainVolume}
@@ -41,6 +42,16 @@ agree_at {K} {X} items old new name f = cases (at new) (at old) refl refl
     cases (Some x) b e g = let k = found_key (λ k. same name (items k)) new x e in along k.0 k.1
     cases None (Some x) e g = let k = found_key (λ k. same name (items k)) old x g in along k.0 k.1
     cases None None e g = e ∙ sym g
+
+-- a clone of the entries has the same at each name
+pub same_in_clone : {K X : Type 0} (items : K → List ℕ) (IsKey : K → K → Type 0) (IsValue : X → X → Type 0) → ((k l : K) → IsKey k l → items l ≡ items k) → ((x y : X) → IsValue x y → y ≡ x)
+    → (old new : List (K × X)) → AllZip (λ p q. IsKey p.0 q.0 × IsValue p.1 q.1) old new
+    → (name : List ℕ) → lookup (λ k. same name (items k)) new ≡ lookup (λ k. same name (items k)) old
+same_in_clone items IsKey IsValue key value [] [] h name = refl
+same_in_clone items IsKey IsValue key value [] (q ∷ new) h name = absurd h
+same_in_clone items IsKey IsValue key value (p ∷ old) [] h name = absurd h
+same_in_clone items IsKey IsValue key value (p ∷ old) (q ∷ new) h name =
+    λ i. cond (same name (key p.0 q.0 h.0.0 i)) (Some (value p.1 q.1 h.0.1 i)) (same_in_clone items IsKey IsValue key value old new h.1 name i)
 
 -- ---- one volume more
 

@@ -3,15 +3,16 @@ use Rattle.std.specs.Prelude.{◌≡◌, ℕ, ◌%◌, ◌^◌, Bool, true, nat_
 use Rattle.std.specs.List.{AllByRecursion}
 use Rattle.pool_model.specs.declared.item.Change.{Change}
 use Rattle.pool_model.specs.declared.item.Change.TheVariants.{Create}
-use Rattle.pool_model.specs.Names.{is_block_size}
+use Rattle.pool_model.specs.Names.{is_name, is_block_size}
 use Rattle.pool_model.specs.Pools.{Entry}
 
 -- a volume may have this size and this block size
 abbrev pub is_good_size : ℕ → ℕ → Bool
 is_good_size size block_size = is_block_size block_size && ((size % block_size == 0) && (nat_le block_size size && nat_le size (2 ^ 40)))
 
+-- a volume may be made so: with such a name, and of such a size
 abbrev pub is_good_change : Change → Bool
-is_good_change (Create name size block_size) = is_good_size size block_size
+is_good_change (Create name size block_size) = is_name name && is_good_size size block_size
 
 -- each volume that the group makes may be made
 abbrev pub MakesGoodVolumes : Entry → Type 0

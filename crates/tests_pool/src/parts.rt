@@ -211,6 +211,57 @@ fn names_are_found(rt: HostRuntime) -> Result<(), Fail> {
     Ok(())
 }
 
+/// What a group makes: the number of each action, the volume, and its size.
+const MADE: [(u64, &str, u64); 3] = [(1, "v", 1024), (2, "w", 2048), (3, "v", 4096)];
+
+/// The items of group 5.
+fn made(alloc: Global) -> Result<Pipeline, Fail> {
+    let mut calls = Vec::new(alloc);
+    calls.push(Call::Hold(1))?;
+    for (number, volume, size) in MADE {
+        let action = action(alloc, number, volume, size, 512)?;
+        calls.push(Call::Accept(Item::Action(action)))?;
+    }
+    let mut pipeline = Pipeline::new(alloc, 4);
+    let mut answers = Vec::new(alloc);
+    txg_pipeline::run(&mut pipeline, calls, &mut answers)?;
+    Ok(pipeline)
+}
+
+/// What a name has in an index of the volume u, and what it has in the one after the group.
+fn found_around(alloc: Global, volume: &str) -> Result<[Option<VolumeShape>; 2], Fail> {
+    let volume = name(alloc, volume)?;
+    let pipeline = made(alloc)?;
+    let mut before = NameIndex::new(alloc);
+    add(alloc, &mut before, "u", SHAPE)?;
+    let after = before.after_group(alloc, 5, pipeline.open_items())?;
+    Ok([before.find(&volume), after.find(&volume)])
+}
+
+// The second action for v is passed over.
+#[test]
+fn names_follow_a_group(rt: HostRuntime) -> Result<(), Fail> {
+    let small = Some(VolumeShape {
+        size: 1024,
+        group: 5,
+        ..SHAPE
+    });
+    let large = Some(VolumeShape {
+        size: 2048,
+        group: 5,
+        ..SHAPE
+    });
+    for (volume, wanted) in [
+        ("u", [Some(SHAPE), Some(SHAPE)]),
+        ("v", [None, small]),
+        ("w", [None, large]),
+        ("x", [None, None]),
+    ] {
+        assert_eq!(rt; found_around(rt.alloc(), volume)?, wanted);
+    }
+    Ok(())
+}
+
 #[test]
 fn names_are_in_the_order_of_their_bytes(rt: HostRuntime) -> Result<(), Fail> {
     for (first, second, wanted) in [
