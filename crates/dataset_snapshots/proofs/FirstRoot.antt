@@ -1,156 +1,220 @@
--- The root of a pool with no volumes.
-use Rattle.std.proofs.Common.{◌≡◌, ◌⊎◌, ℕ, zero, suc, ◌/◌, List, [], ◌∷◌, Option, Some, None, inl, inr, ⊎_elim, refl, sym, ap, ◌∙◌, subst, arith}
-use Rattle.std.specs.Prelude.{Any}
+-- The first root of a pool, from the volumes that are made and the tables.
+use Rattle.std.proofs.Common.{◌≡◌, ◌≢◌, ◌⊎◌, inl, inr, ℕ, ◌<◌, ◌≤◌, List, [], ◌∷◌, Option, Some, None, All, ⊎_elim, refl, sym, ap, ◌∙◌, subst, arith}
+use Rattle.std.specs.Prelude.{fold}
+use Rattle.std.specs.List.{AllZip}
+use Rattle.std.proofs.lemmas.Bool.{cases_lt}
+use Rattle.std.proofs.lemmas.List.Elements.{All-append, All-cons, All-weaker}
 use Rattle.block_pointer.specs.declared.block.Block.{Block}
-use Rattle.block_pointer.specs.declared.pointer.BlockPtr.{BlockPtr}
-use Rattle.block_pointer.specs.declared.pointer.BlockPtr.TheVariants.{Hole, Block as At}
-use Rattle.block_pointer.specs.declared.property.Property.{Property}
+use Rattle.block_store.proofs.Demands.{have_both}
 use Rattle.block_store.specs.declared.refusal.Refusal.{Refusal}
-use Rattle.block_store.specs.declared.refusal.Refusal.TheVariants.{NoMemory, NoSpace, DiskFault, BadPointer}
-use Rattle.block_store.specs.declared.space.VdevSpace.{VdevSpace}
-use Rattle.block_store.specs.Blocks.{Contents, Adds}
+use Rattle.block_store.specs.declared.refusal.Refusal.TheVariants.{NoMemory}
+use Rattle.block_store.specs.Blocks.{Contents, Extends}
+use Rattle.block_store.specs.Steps.{OnlyReadsAndPlans}
 use Rattle.block_store.specs.Store.{Store}
-use Rattle.dnode.specs.declared.dnode.Dnode.{Dnode}
-use Rattle.dnode.specs.declared.node.ObjectNode.{ObjectNode}
-use Rattle.dnode.specs.declared.object_set.ObjectSet.{ObjectSet}
 use Rattle.dnode.specs.declared.object_set.ObjectSetKind.TheVariants as sets
-use Rattle.dnode_slots.specs.declared.writes.SetRewrite.{SetRewrite}
-use Rattle.dnode_slots.specs.Found.{IsNodeRefused}
-use Rattle.dnode_slots.specs.Sets.{IsSetBlock}
-use Rattle.dnode_tree.specs.Tree.{property_of}
-use Rattle.dnode_tree.specs.Ways.{ComesTo, IsCause, IsLost, IsRefused, Reached, root_of}
-use Rattle.dnode_tree.specs.Writes.{IsForRoom}
+use Rattle.meta_objset.specs.declared.directory.DirectoryRow.{DirectoryRow}
+use Rattle.meta_objset.specs.Datasets.{HasRecord}
 use Rattle.meta_objset.specs.Reading.{HasConfig, HasDirectory}
-use Rattle.object_table.specs.Tables.{HasTable}
-use Rattle.objset.specs.declared.changes.Change.{Change}
-use Rattle.objset.specs.declared.changes.Change.TheVariants.{Create, Put, Free, Replace}
-use Rattle.objset.specs.declared.changes.ObjectChange.{ObjectChange}
-use Rattle.objset.specs.declared.changes.SetCopies.{SetCopies}
-use Rattle.objset.specs.Changes.{AreChanged, MayChange, after_change, changed}
-use Rattle.objset.specs.Objects.{Object}
-use Rattle.objset.specs.Refused.{IsChangeRefused, IsObjectRefused, IsTreeRefused}
-use Rattle.objset.proofs.Kept.{objects_stand}
-use Rattle.pool_model.specs.Pools.{no_volumes}
-use Rattle.vdev_label.specs.Plain.{PlainVdev}
 use Rattle.meta_objset.specs.SpaceMaps.{maps_kind}
 use Rattle.meta_objset.specs.StaleSpans.{spans_kind}
-use Rattle.dataset_snapshots.specs.Creating.{AreFirstChanges, HasFirstTables}
-use Rattle.dataset_snapshots.specs.Pools.{SpellsPool}
+use Rattle.object_table.specs.Tables.{HasTable}
+use Rattle.objset.specs.declared.changes.Change.{Change}
+use Rattle.objset.specs.declared.changes.ObjectChange.{ObjectChange}
+use Rattle.objset.specs.Changes.{MayChange, changed}
+use Rattle.objset.specs.Objects.{Object}
+use Rattle.pool_model.specs.declared.item.Action.{Action}
+use Rattle.pool_model.specs.declared.item.Write.{Write}
+use Rattle.pool_model.specs.Pools.{Entry, PlainPool, applied, no_volumes, written}
+use Rattle.pool_model.specs.Pools.{changed as pool_changed}
+use Rattle.vdev_label.specs.Plain.{PlainVdev}
+use Rattle.dataset_snapshots.specs.declared.making.Making.{Making}
+use Rattle.dataset_snapshots.specs.Creating.{HasFirstTables, copies_of_meta}
+use Rattle.dataset_snapshots.specs.Demands.{HasRootPlaces, IsActionRefused, IsRootRefused}
+use Rattle.dataset_snapshots.specs.FirstGroup.{AreFirstGroupChanges, AreFirstVolumes, AreTableChanges, HasFirstPlaces, IsFirstRefused, IsWithTables, empty_meta}
+use Rattle.dataset_snapshots.specs.Groups.{IsSetOf}
+use Rattle.dataset_snapshots.specs.Making.{IsReady, SpellsMaking, after_all}
+use Rattle.dataset_snapshots.specs.Pools.{AreApart, SpellsDataset, SpellsPool, dead_list_kind}
+use Rattle.dataset_snapshots.proofs.Asking.{all_demands_in}
+use Rattle.dataset_snapshots.proofs.GroupRoot.{behind_tables, zip_each}
+use Rattle.dataset_snapshots.proofs.MakingChanges.{changed_behind, changed_front, may_make, unchanged}
+use Rattle.dataset_snapshots.proofs.Staying.{datasets_stay}
 
--- the first has it, or one behind it
-first_or_behind : {X : Type 0} (P : X → Type 0) (x : X) (xs : List X) → Any P (x ∷ xs) → P x ⊎ Any P xs
-first_or_behind P x xs (zero, y, within, at, here) = inl (subst P (sym at) here)
-first_or_behind P x xs (suc k, y, within, at, here) = inr (k, y, omega arith, at, here)
+abbrev pub nothing : ℕ → Option Object
+nothing number = None
 
--- what makes an object where there is none may be done there
-may_create : (change : Change) (there : Object) → after_change change None ≡ Some there → MayChange change None
-may_create (Create object_type sectors writes) there is = refl
-may_create (Put writes) there is = let clash : None ≡ Some there = is in absurd cc
-may_create Free there is = let clash : None ≡ Some there = is in absurd cc
-may_create (Replace writes) there is = let clash : None ≡ Some there = is in absurd cc
+none_in : {X : Type 0} (P : X → Type 0) → All P []
+none_in P k other within = absurd (omega (arith, within))
+
+-- ---- nothing is made yet
+
+-- where there are no volumes writes do nothing
+pub nothing_written : (writes : List Write) → fold written no_volumes writes ≡ no_volumes
+nothing_written [] = refl
+nothing_written (write ∷ writes) = nothing_written writes
+
+pub pool_first : (group : ℕ) (items : Entry) (actions : List Action) → actions ≡ items.actions
+    → fold (λ p a. pool_changed group p a.change) no_volumes actions ≡ applied group no_volumes items
+pool_first group items actions same =
+    ap (fold (λ p a. pool_changed group p a.change) no_volumes) same ∙ ap (λ p. fold (λ p a. pool_changed group p a.change) p items.actions) (sym (nothing_written items.writes))
+
+module _ (start : Making) (no_rows : start.directory ≡ []) (no_changes : start.changes.items ≡ []) where
+  pub begins_first : (stored : Contents) (group : ℕ) → SpellsMaking stored group nothing start no_volumes
+  begins_first stored group = record {
+    apart = subst AreApart (sym no_rows) (λ i j d before within. absurd (omega (arith, within)));
+    free = λ number high. refl;
+    below = subst (All (λ (row : DirectoryRow). row.object < start.next)) (sym no_rows) (none_in _);
+    may = subst (All (λ (change : ObjectChange). MayChange change.change (nothing change.number))) (sym no_changes) (none_in _);
+    others = λ number there known other. let clash : None ≡ Some there = known in absurd cc;
+    volumes = subst (λ (rows : List DirectoryRow). AllZip (SpellsDataset stored group (after_all start nothing)) rows []) (sym no_rows) tt;
+  }
+
+-- ---- the tables
 
 abbrev one : ℕ → Change → ObjectChange
 one number change = record { number = number; change = change }
 
--- none of the first changes is what none is that makes an object where there is none
-none_of_first : (P : ObjectChange → Type 0) → ((number : ℕ) (change : Change) (there : Object) → after_change change None ≡ Some there → ¬ P (one number change))
-    → (vdevs : List PlainVdev) (changes : List ObjectChange) → AreFirstChanges vdevs changes → Any P changes → ⊥
-none_of_first P none vdevs changes first any =
-    let a : ObjectChange = one 1 first.directory in
-    let b : ObjectChange = one 2 first.config in
-    let c : ObjectChange = one 3 first.spans in
-    let d : ObjectChange = one 4 first.maps in
-    ⊎_elim (none 1 first.directory first.has_directory.1.there first.has_directory.1.is)
-    (λ after_a. ⊎_elim (none 2 first.config first.has_config.1.there first.has_config.1.is)
-    (λ after_b. ⊎_elim (none 3 first.spans first.has_spans.there first.has_spans.is)
-    (λ after_c. ⊎_elim (none 4 first.maps first.has_maps.there first.has_maps.is)
-    (λ past. absurd (omega (arith, past.2)))
-    (first_or_behind P d [] after_c))
-    (first_or_behind P c (d ∷ []) after_b))
-    (first_or_behind P b (c ∷ d ∷ []) after_a))
-    (first_or_behind P a (b ∷ c ∷ d ∷ []) (subst (Any P) first.are any))
+module _ (vdevs : List PlainVdev) (rows : List DirectoryRow) (tables : List ObjectChange) (are : AreTableChanges vdevs rows tables) where
+  each_table : (P : ObjectChange → Type 0) → P (one 1 are.directory) → P (one 2 are.config) → P (one 3 are.spans) → P (one 4 are.maps) → All P tables
+  each_table P first second third fourth =
+      subst (All P) (sym are.are)
+      (All-cons P (one 1 are.directory) (one 2 are.config ∷ one 3 are.spans ∷ one 4 are.maps ∷ []) first
+      (All-cons P (one 2 are.config) (one 3 are.spans ∷ one 4 are.maps ∷ []) second
+      (All-cons P (one 3 are.spans) (one 4 are.maps ∷ []) third (All-cons P (one 4 are.maps) [] fourth (none_in P)))))
 
--- none of them is refused where there is nothing
-pub first_may : (vdevs : List PlainVdev) (changes : List ObjectChange) → AreFirstChanges vdevs changes → Any (λ change. ¬ MayChange change.change None) changes → ⊥
-first_may = none_of_first (λ change. ¬ MayChange change.change None) (λ number change there is no. no (may_create change there is))
+  -- they may be made where there is nothing
+  tables_may : All (λ change. MayChange change.change (nothing change.number)) tables
+  tables_may =
+      each_table (λ change. MayChange change.change (nothing change.number))
+      (may_make are.directory are.has_directory.1.there are.has_directory.1.is)
+      (may_make are.config are.has_config.1.there are.has_config.1.is)
+      (may_make are.spans are.has_spans.there are.has_spans.is)
+      (may_make are.maps are.has_maps.there are.has_maps.is)
 
--- nor for a fault of disks, since nothing is read below a hole
-no_tree : (old new : Store) (missing : List ℕ) (birth : ℕ) (change : Change) (dnode : Dnode) (refusal : Refusal) (there : Object) → after_change change None ≡ Some there
-    → ¬ IsTreeRefused old new missing birth change dnode refusal
-no_tree old new missing birth (Create object_type sectors writes) dnode refusal there is why = why
-no_tree old new missing birth (Put writes) dnode refusal there is why = let clash : None ≡ Some there = is in absurd cc
-no_tree old new missing birth Free dnode refusal there is why = let clash : None ≡ Some there = is in absurd cc
-no_tree old new missing birth (Replace writes) dnode refusal there is why = let clash : None ≡ Some there = is in absurd cc
+  tables_low : All (λ change. (0 < change.number) × (change.number ≤ 4)) tables
+  tables_low = each_table (λ change. (0 < change.number) × (change.number ≤ 4)) (omega arith, omega arith) (omega arith, omega arith) (omega arith, omega arith) (omega arith, omega arith)
 
-below_hole : (spaces : List VdevSpace) (property : ℕ → Property) (level birth place : ℕ) (there : Reached) → ComesTo spaces property level birth Hole place there → there.pointer ≡ Hole
-below_hole spaces property zero birth place there is = ap (λ (here : Reached). here.pointer) is
-below_hole spaces property (suc level) birth place there (inl is) = ap (λ (here : Reached). here.pointer) is
-below_hole spaces property (suc level) birth place there (inr (block, pointers, is, read, rest)) = absurd (cc)
+-- ---- the tables and the objects of the volumes
 
-no_fault : (old new : Store) (missing : List ℕ) (node : ObjectNode) (birth id : ℕ) (refusal : Refusal) → node.pointer ≡ Hole → refusal ≡ DiskFault → ¬ IsRefused old new missing node birth id refusal
-no_fault old new missing node birth id refusal hole is why =
-    let lost : IsLost old new missing why.there DiskFault = subst (IsCause old new missing (property_of node) why.there) is why.fault in
-    let level : ℕ = (root_of node birth).level in
-    let none : why.there.pointer ≡ Hole =
-    below_hole old.spaces (property_of node) level birth id why.there
-    (subst (λ (pointer : BlockPtr). ComesTo old.spaces (property_of node) level birth pointer id why.there) hole why.leads) in
-    let clash : Hole ≡ At lost.block = sym none ∙ lost.is in
-    absurd cc
+module _ (vdevs : List PlainVdev) (making : Making) (changes : List ObjectChange) (ready : IsReady making) (all : IsWithTables vdevs making changes) where
+  abbrev made : List ObjectChange
+  made = making.changes.items
 
-no_node : (old new : Store) (missing : List ℕ) (set : ObjectSet) (birth number : ℕ) (refusal : Refusal) → set.dnodes.pointer ≡ Hole → refusal ≡ DiskFault
-    → ¬ IsNodeRefused old new missing set birth number refusal
-no_node old new missing set birth number refusal hole is (inl way) = no_fault old new missing set.dnodes birth (number / 32) refusal hole is way
-no_node old new missing set birth number refusal hole is (inr (bad, block)) = absurd (cc)
+  -- the changes may be made of nothing
+  pub first_may : (stored : Contents) (group : ℕ) (pool : PlainPool) → SpellsMaking stored group nothing making pool → All (λ change. MayChange change.change (nothing change.number)) changes
+  first_may stored group pool spells =
+      subst (All (λ (change : ObjectChange). MayChange change.change (nothing change.number))) (sym all.2)
+      (All-append (λ (change : ObjectChange). MayChange change.change (nothing change.number)) all.0 made (tables_may vdevs making.directory all.0 all.1) spells.may)
 
-first_reads_nothing : (old new : Store) (missing : List ℕ) (set : ObjectSet) (birth : ℕ) (vdevs : List PlainVdev) (changes : List ObjectChange) (refusal : Refusal) → set.dnodes.pointer ≡ Hole
-    → refusal ≡ DiskFault → AreFirstChanges vdevs changes → ¬ IsChangeRefused old new missing set birth changes refusal
-first_reads_nothing old new missing set birth vdevs changes refusal hole is first (inl nodes) = elim nodes.why [
-  | inl node ↦ no_node nodes.mid new missing set birth nodes.number refusal hole is node
-  | inr (bad, over) ↦ absurd (cc)
-]
-first_reads_nothing old new missing set birth vdevs changes refusal hole is first (inr object) =
-    none_of_first (λ change. IsObjectRefused old new missing set birth change refusal)
-    (λ number change there made refused. elim refused.why [
-      | inl (bad, misfit) ↦ absurd (cc)
-      | inr tree ↦ no_tree refused.mid new missing birth change refused.dnode refusal there made tree
-    ]) vdevs changes first object
+  -- each object is that of a table or of a volume
+  table_is : (number : ℕ) → number ≤ 4 → changed changes nothing number ≡ changed all.0 nothing number
+  table_is number low =
+      ap (λ (cs : List ObjectChange). changed cs nothing number) all.2 ∙ changed_front all.0 made nothing number (behind_tables making number ready low)
 
-pub first_for_room : (old new : Store) (set : ObjectSet) (birth : ℕ) (vdevs : List PlainVdev) (changes : List ObjectChange) (Lacks : Type 0) (refusal : Refusal) → set.dnodes.pointer ≡ Hole
-    → AreFirstChanges vdevs changes → (refusal ≡ NoMemory) ⊎ (((refusal ≡ NoSpace) × Lacks) ⊎ IsChangeRefused old new [] set birth changes refusal)
-    → (IsForRoom refusal ⊎ (refusal ≡ DiskFault)) ⊎ ((refusal ≡ BadPointer) × Any (λ change. ¬ MayChange change.change None) changes) → IsForRoom refusal
-first_for_room old new set birth vdevs changes Lacks refusal hole first refused (inl (inl room)) = room
-first_for_room old new set birth vdevs changes Lacks refusal hole first (inl memory) (inl (inr fault)) = absurd (cc)
-first_for_room old new set birth vdevs changes Lacks refusal hole first (inr (inl (space, lacks))) (inl (inr fault)) = absurd (cc)
-first_for_room old new set birth vdevs changes Lacks refusal hole first (inr (inr change)) (inl (inr fault)) =
-    absurd (first_reads_nothing old new [] set birth vdevs changes refusal hole fault first change)
-first_for_room old new set birth vdevs changes Lacks refusal hole first refused (inr (bad, any)) = absurd (first_may vdevs changes first any)
+  volume_is : (number : ℕ) → 4 < number → changed changes nothing number ≡ changed made nothing number
+  volume_is number high =
+      ap (λ (cs : List ObjectChange). changed cs nothing number) all.2
+      ∙ changed_behind all.0 made nothing number
+      (All-weaker (λ (change : ObjectChange). (0 < change.number) × (change.number ≤ 4)) (λ change. change.number ≢ number) (λ change low is. omega (arith, low.1, is, high)) all.0
+      (tables_low vdevs making.directory all.0 all.1))
 
-abbrev nothing : ℕ → Option Object
-nothing number = None
+  -- what was made is behind the tables
+  high_number : (number : ℕ) (there : Object) → changed made nothing number ≡ Some there → 4 < number
+  high_number number there is =
+      ⊎_elim (λ high. high)
+      (λ low. let clash : None ≡ Some there = sym (unchanged made nothing number (behind_tables making number ready (omega (arith, low)))) ∙ is in absurd cc)
+      (cases_lt 4 number)
 
--- the set of the first tables, with its block
-pub first_root : (copies : SetCopies) (planned mid later : Contents) (birth : ℕ) (root : Block) (rewrite : SetRewrite) (bytes : List ℕ) (vdevs : List PlainVdev) (changes : List ObjectChange)
-    → AreFirstChanges vdevs changes → AreChanged copies planned mid birth rewrite changes (changed changes nothing) [] (λ number. []) → Adds mid later root bytes
-    → IsSetBlock later birth root rewrite.set → rewrite.set.kind ≡ sets.Meta → root.birth ≡ birth
-    → (is : SpellsPool later birth root no_volumes) × HasFirstTables is.objects vdevs
-first_root copies planned mid later birth root rewrite bytes vdevs changes first is adds is_set kind born = (
-  record {
-    set = rewrite.set;
-    is_set = is_set;
-    kind = kind;
-    objects = changed changes nothing;
-    own = is.own_after;
-    blocks = is.after;
-    are = objects_stand mid later birth root.birth rewrite.set (changed changes nothing) is.own_after is.after (omega (arith, born))
-        (λ block known_bytes held known. adds.kept block known_bytes known) is.are;
-    rows = [];
-    directory = subst (λ (cs : List ObjectChange). HasDirectory (changed cs nothing 1) []) (sym first.are) first.has_directory;
-    apart = λ i j d before within. absurd (omega (arith, within));
-    volumes = tt;
-  },
-  record {
-    config = subst (λ (cs : List ObjectChange). HasConfig (changed cs nothing 2) vdevs) (sym first.are) first.has_config;
-    spans = subst (λ (cs : List ObjectChange). HasTable spans_kind (changed cs nothing 3) []) (sym first.are) first.has_spans;
-    maps = subst (λ (cs : List ObjectChange). HasTable maps_kind (changed cs nothing 4) []) (sym first.are) first.has_maps;
-  },
-)
+  table_has : (Has : Option Object → Type 0) (number : ℕ) → number ≤ 4
+      → Has (changed (one 1 all.1.directory ∷ one 2 all.1.config ∷ one 3 all.1.spans ∷ one 4 all.1.maps ∷ []) nothing number) → Has (changed changes nothing number)
+  table_has Has number low has =
+      subst Has (sym (table_is number low ∙ ap (λ (cs : List ObjectChange). changed cs nothing number) all.1.are)) has
+
+  first_volumes : (stored : Contents) (group : ℕ) (pool : PlainPool) → SpellsMaking stored group nothing making pool
+      → AllZip (SpellsDataset stored group (changed changes nothing)) making.directory pool.volumes
+  first_volumes stored group pool spells =
+      zip_each (SpellsDataset stored group (after_all making nothing)) (SpellsDataset stored group (changed changes nothing)) making.directory pool.volumes (λ row volume is. record {
+        name = is.name;
+        behind = is.behind;
+        r = is.r;
+        has = subst (λ o. HasRecord o is.r) (sym (volume_is row.object is.behind)) is.has;
+        is = is.is;
+        bytes = is.bytes;
+        dead = subst (λ o. HasTable dead_list_kind o []) (sym (volume_is is.r.dead_list (high_number is.r.dead_list is.dead.there is.dead.is))) is.dead;
+      }) spells.volumes
+
+  -- the set of these objects is that of the pool, with the first tables
+  pub spells_first : (stored later : Contents) (group : ℕ) (root : Block) (pool : PlainPool) → SpellsMaking stored group nothing making pool → Extends stored later
+      → IsSetOf later group root sets.Meta (changed changes nothing) → root.birth ≡ group → (is : SpellsPool later group root pool) × HasFirstTables is.objects vdevs
+  spells_first stored later group root pool spells more set born = (
+    record {
+      set = set.set;
+      is_set = set.is_set;
+      kind = set.kind_is;
+      objects = changed changes nothing;
+      own = set.own;
+      blocks = set.blocks;
+      are = set.are;
+      rows = making.directory;
+      directory = table_has (λ o. HasDirectory o making.directory) 1 (omega arith) all.1.has_directory;
+      apart = spells.apart;
+      volumes = subst (λ n. AllZip (SpellsDataset later n (changed changes nothing)) making.directory pool.volumes) (sym born)
+          (datasets_stay stored later group (changed changes nothing) making.directory pool.volumes more (first_volumes stored group pool spells));
+    },
+    record {
+      config = table_has (λ o. HasConfig o vdevs) 2 (omega arith) all.1.has_config;
+      spans = table_has (λ o. HasTable spans_kind o []) 3 (omega arith) all.1.has_spans;
+      maps = table_has (λ o. HasTable maps_kind o []) 4 (omega arith) all.1.has_maps;
+    },
+  )
+
+-- ---- places and refusals
+
+group_changes : (old mid : Store) (group : ℕ) (vdevs : List PlainVdev) (making : Making) (actions : List Action) (changes : List ObjectChange)
+    → (volumes : AreFirstVolumes old mid group actions making) → IsWithTables vdevs making changes → AreFirstGroupChanges vdevs volumes.made changes
+group_changes old mid group vdevs making actions changes volumes all = record {
+  rows = making.directory;
+  count = volumes.count;
+  tables = all.0;
+  tables_are = all.1;
+  of_made = making.changes.items;
+  made_are = volumes.of_made;
+  are = all.2;
+}
+
+module _ (old mid new : Store) (group : ℕ) (vdevs : List PlainVdev) (items : Entry) (making : Making) (changes : List ObjectChange) (steps : OnlyReadsAndPlans old mid [])
+    (volumes : AreFirstVolumes old mid group items.actions making) (all : IsWithTables vdevs making changes) where
+  pub first_has : HasRootPlaces mid new empty_meta group changes → HasFirstPlaces old new group vdevs items
+  first_has (of_root, root_asks, root_has) = record {
+    made = volumes.made;
+    made_are = volumes.are;
+    of_made = volumes.places.0;
+    made_ask = volumes.places.1;
+    changes = changes;
+    changes_are = group_changes old mid group vdevs making items.actions changes volumes all;
+    of_root = of_root;
+    root_asks = record {
+      of_objects = root_asks.of_objects;
+      are = all_demands_in old.spaces mid.spaces steps.shapes empty_meta group copies_of_meta changes root_asks.of_objects root_asks.are;
+      is = root_asks.is;
+    };
+    places = have_both old.spaces mid.spaces new.spaces volumes.places.0 of_root volumes.places.2 root_has;
+  }
+
+  pub first_set_refused : (refusal : Refusal) → IsRootRefused mid new empty_meta group changes refusal → IsFirstRefused old new group vdevs items refusal
+  first_set_refused refusal why =
+      inr (inr (record {
+        made = volumes.made;
+        made_are = volumes.are;
+        mid = mid;
+        before = steps;
+        places = volumes.places;
+        changes = changes;
+        changes_are = group_changes old mid group vdevs making items.actions changes volumes all;
+        why = why;
+      }))
+
+pub first_volumes_refused : (old new : Store) (group : ℕ) (vdevs : List PlainVdev) (items : Entry) (actions : List Action) (refusal : Refusal) → actions ≡ items.actions
+    → (refusal ≡ NoMemory) ⊎ IsActionRefused old new group [] 5 actions refusal → IsFirstRefused old new group vdevs items refusal
+first_volumes_refused old new group vdevs items actions refusal same (inl memory) = inl memory
+first_volumes_refused old new group vdevs items actions refusal same (inr why) =
+    inr (inl (subst (λ (list : List Action). IsActionRefused old new group [] 5 list refusal) same why))

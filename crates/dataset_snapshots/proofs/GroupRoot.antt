@@ -122,12 +122,12 @@ making_begins stored later birth group root pool writes is opened making more le
 -- ---- the directory in front
 
 -- all changes of a making are behind the tables
-behind_tables : (making : Making) (number : ℕ) → IsReady making → number ≤ 4 → All (λ change. change.number ≢ number) making.changes.items
+pub behind_tables : (making : Making) (number : ℕ) → IsReady making → number ≤ 4 → All (λ change. change.number ≢ number) making.changes.items
 behind_tables making number ready_is low =
     All-weaker (λ (change : ObjectChange). (4 < change.number) × (change.number < making.next)) (λ change. change.number ≢ number) (λ change both is. omega (arith, both.0, is, low)) making.changes.items ready_is.numbers
 
 -- what has the volumes' objects has them where another object alone is changed, that is no record and no dead list
-zip_each : {A B : Type 0} (R S : A → B → Type 0) (xs : List A) (ys : List B) → ((x : A) (y : B) → R x y → S x y) → AllZip R xs ys → AllZip S xs ys
+pub zip_each : {A B : Type 0} (R S : A → B → Type 0) (xs : List A) (ys : List B) → ((x : A) (y : B) → R x y → S x y) → AllZip R xs ys → AllZip S xs ys
 zip_each R S [] [] weaker all = tt
 zip_each R S [] (y ∷ ys) weaker all = absurd all
 zip_each R S (x ∷ xs) [] weaker all = absurd all

@@ -2,6 +2,8 @@ pub mod Asking
 pub mod ChangedRows
 pub mod Datasets
 pub mod FirstRoot
+pub mod FoundRanges
+pub mod GoodNames
 pub mod GroupDemands
 pub mod GroupRoot
 pub mod Losses

@@ -20,9 +20,10 @@ use Rattle.pool_model.specs.declared.item.Write.{Write}
 use Rattle.volume.proofs.Losses.{placing_lost, plan_lost, read_lost}
 use Rattle.volume.specs.Demands.{empty_set}
 use Rattle.dataset_snapshots.specs.declared.groups.Opened.{Opened}
-use Rattle.dataset_snapshots.specs.Demands.{AreVolumesRefused, IsMakingRefused, IsRootRefused}
+use Rattle.dataset_snapshots.specs.Demands.{AreVolumesRefused, IsActionRefused, IsMakingRefused, IsRootRefused}
 use Rattle.dataset_snapshots.specs.Finding.{IsDirectoryRefused, IsMetaRefused}
-use Rattle.dataset_snapshots.specs.Laws.{LossesOfDatasets, LossesOfGroups}
+use Rattle.dataset_snapshots.specs.FirstGroup.{empty_meta}
+use Rattle.dataset_snapshots.specs.Laws.{LossesOfDatasets, LossesOfFirstGroups, LossesOfGroups, LossesOfRanges}
 use Rattle.dataset_snapshots.specs.Opening.{IsGroupUnread, IsWrittenRefused}
 
 pub meta_lost : (old new : Store) (missing : List ℕ) (birth : ℕ) (root : Block) (refusal : Refusal) → IsMetaRefused old new missing birth root refusal → refusal ≡ DiskFault → IsBlockLost old new missing
@@ -65,15 +66,18 @@ making_lost old new group rows earlier next change refusal (inr (inl (bad, none)
 making_lost old new group rows earlier next change refusal (inr (inr (lacks, inl (space, full)))) is = absurd (cc)
 making_lost old new group rows earlier next change refusal (inr (inr (lacks, inr (creation, made, why)))) is = plan_lost old new empty_set group creation refusal why is
 
+action_lost : (old new : Store) (group : ℕ) (rows : List DirectoryRow) (next : ℕ) (actions : List Action) (refusal : Refusal) → IsActionRefused old new group rows next actions refusal
+    → refusal ≡ DiskFault → IsBlockLost old new []
+action_lost old new group rows next actions refusal one is =
+    lost_later old one.mid new [] one.before (making_lost one.mid new group rows one.first _ one.action.change refusal one.why is)
+
 volumes_lost : (old new : Store) (group : ℕ) (opened : Opened) (actions : List Action) (refusal : Refusal) → AreVolumesRefused old new group opened actions refusal → refusal ≡ DiskFault
     → IsBlockLost old new []
 volumes_lost old new group opened actions refusal (inl memory) is = absurd (cc)
 volumes_lost old new group opened actions refusal (inr (inl unplaced)) is =
     lost_later old unplaced.mid new [] unplaced.before (placing_lost unplaced.mid new unplaced.next.dataset.volume group unplaced.next.blocks refusal unplaced.why is)
 volumes_lost old new group opened actions refusal (inr (inr refused)) is =
-    let one = refused.why in
-    lost_later old refused.mid new [] refused.before
-    (lost_later refused.mid one.mid new [] one.before (making_lost one.mid new group opened.directory one.first _ one.action.change refusal one.why is))
+    lost_later old refused.mid new [] refused.before (action_lost refused.mid new group opened.directory _ actions refusal refused.why is)
 
 root_lost : (old new : Store) (set : ObjectSet) (group : ℕ) (changes : List ObjectChange) (refusal : Refusal) → IsRootRefused old new set group changes refusal → refusal ≡ DiskFault
     → IsBlockLost old new []
@@ -89,3 +93,19 @@ losses_of_groups old new root group items refusal (inr (inr unplanned)) is =
       | inl volumes ↦ volumes_lost unplanned.mid new group unplanned.opened items.actions refusal volumes is
       | inr changes ↦ lost_later unplanned.mid changes.mid new [] changes.before (root_lost changes.mid new unplanned.opened.set group changes.changes refusal changes.why is)
     ])
+
+-- ---- the first root
+
+pub losses_of_first_groups : LossesOfFirstGroups
+losses_of_first_groups old new group vdevs items refusal (inl memory) is = absurd (cc)
+losses_of_first_groups old new group vdevs items refusal (inr (inl action)) is = action_lost old new group [] 5 items.actions refusal action is
+losses_of_first_groups old new group vdevs items refusal (inr (inr set)) is =
+    lost_later old set.mid new [] set.before (root_lost set.mid new empty_meta group set.changes refusal set.why is)
+
+-- ---- ranges
+
+pub losses_of_ranges : LossesOfRanges
+losses_of_ranges old new missing birth root name offset len refusal (inl unfound) is = losses_of_datasets old new missing birth root name refusal unfound is
+losses_of_ranges old new missing birth root name offset len refusal (inr (inl (bad, nowhere))) is = absurd (cc)
+losses_of_ranges old new missing birth root name offset len refusal (inr (inr unread)) is =
+    lost_behind_reads old unread.mid new missing unread.before (read_lost unread.mid new missing unread.dataset.volume root.birth _ refusal unread.why is)

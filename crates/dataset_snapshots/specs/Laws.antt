@@ -7,9 +7,14 @@ use Rattle.block_store.specs.Blocks.{Contents, Extends}
 use Rattle.block_store.specs.Losses.{IsBlockLost}
 use Rattle.block_store.specs.Store.{Store}
 use Rattle.pool_model.specs.Pools.{Entry, PlainPool}
+use Rattle.pool_now.specs.GoodChanges.{MakesGoodVolumes}
+use Rattle.vdev_label.specs.Plain.{PlainVdev}
 use Rattle.dataset_snapshots.specs.Demands.{IsGroupRefused}
 use Rattle.dataset_snapshots.specs.Finding.{IsRefused}
+use Rattle.dataset_snapshots.specs.FirstGroup.{IsFirstRefused}
+use Rattle.dataset_snapshots.specs.Making.{AreGoodCreations}
 use Rattle.dataset_snapshots.specs.Pools.{SpellsPool}
+use Rattle.dataset_snapshots.specs.Ranges.{IsRangeRefused}
 
 -- A root spells its pool still where more blocks are known, and for a later group.
 abbrev pub RootsStay : Type 0
@@ -30,3 +35,23 @@ LossesOfGroups =
     (old new : Store) (root : Block) (group : ℕ) (items : Entry) (refusal : Refusal)
     → IsGroupRefused old new root group items refusal → refusal ≡ DiskFault
     → IsBlockLost old new []
+
+-- And where the first root is.
+abbrev pub LossesOfFirstGroups : Type 0
+LossesOfFirstGroups =
+    (old new : Store) (group : ℕ) (vdevs : List PlainVdev) (items : Entry) (refusal : Refusal)
+    → IsFirstRefused old new group vdevs items refusal → refusal ≡ DiskFault
+    → IsBlockLost old new []
+
+-- And where a range of a volume is.
+abbrev pub LossesOfRanges : Type 0
+LossesOfRanges =
+    (old new : Store) (missing : List ℕ) (birth : ℕ) (root : Block) (name : List ℕ)
+    (offset len : ℕ) (refusal : Refusal)
+    → IsRangeRefused old new missing birth root name offset len refusal
+    → refusal ≡ DiskFault → IsBlockLost old new missing
+
+-- What a pool accepts to be made can have its row and its volume.
+abbrev pub GoodChangesMayBeMade : Type 0
+GoodChangesMayBeMade =
+    (entry : Entry) → MakesGoodVolumes entry → AreGoodCreations entry.actions

@@ -1,10 +1,12 @@
 pub mod Creating
 pub mod Demands
 pub mod Finding
+pub mod FirstGroup
 pub mod Groups
 pub mod Laws
 pub mod Making
 pub mod NewVolumes
 pub mod Opening
 pub mod Pools
+pub mod Ranges
 pub mod Writing

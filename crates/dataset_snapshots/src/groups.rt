@@ -27,7 +27,6 @@ ghost use Rattle.dataset_snapshots.specs.Making.{AreGoodCreations, IsReady, Spel
 ghost use Rattle.dataset_snapshots.specs.Opening.{IsGroupFound, IsGroupUnread};
 ghost use Rattle.dataset_snapshots.specs.Pools.{SpellsPool};
 
-use crate::creating::COPIES;
 use crate::finding::read_meta;
 use crate::making::Making;
 use crate::writing::{WrittenVolume, place_written, read_written, written_objects};
@@ -37,7 +36,7 @@ use dnode::ObjectSet;
 use dnode_slots::plan_set;
 use meta_objset::{Directory, read_directory};
 use model_disk::Disk;
-use objset::ObjectChange;
+use objset::{ObjectChange, SetCopies};
 use pool_model::{Action, Write};
 use std::alloc::{AllocError, Global};
 use txg_pipeline::Pending;
@@ -54,10 +53,16 @@ pub(crate) struct Opened {
 const DIRECTORY: u64 = 1;
 
 /// A directory of so many names has 2^46 bytes.
-const MOST_NAMES: usize = 1 << 40;
+pub(crate) const MOST_NAMES: usize = 1 << 40;
 
 /// The number of the first object behind the tables.
-const FIRST_OBJECT: u64 = 5;
+pub(crate) const FIRST_OBJECT: u64 = 5;
+
+/// All blocks of the meta object set have three copies.
+const COPIES: SetCopies = SetCopies {
+    data: CopyCount::Three,
+    other: CopyCount::Three,
+};
 
 /// Plans the root of a pool after the items of the transaction group `group`: its writes, and then the volumes that it makes. `root`
 /// is the root of the group before. Each block that a write reaches is read, and then each of them is planned anew: so where
@@ -254,7 +259,7 @@ fn directory_change(directory: &Directory, alloc: Global) -> Result<ObjectChange
 }
 
 /// Plans a meta object set with these changes, and its block. All blocks have three copies.
-fn plan_root<D: Disk + Drop>(
+pub(crate) fn plan_root<D: Disk + Drop>(
     set: &ObjectSet,
     store: &mut BlockStore<D>,
     alloc: Global,

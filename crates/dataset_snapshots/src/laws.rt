@@ -1,5 +1,5 @@
 //! What follows from the definitions, as functions with no body.
-ghost use Rattle.dataset_snapshots.specs.Laws.{LossesOfDatasets, LossesOfGroups, RootsStay};
+ghost use Rattle.dataset_snapshots.specs.Laws.{GoodChangesMayBeMade, LossesOfDatasets, LossesOfFirstGroups, LossesOfGroups, LossesOfRanges, RootsStay};
 
 /// A root spells its pool where more blocks are known, and for a later group.
 pub fn roots_stay()
@@ -14,4 +14,19 @@ pub fn losses_of_datasets()
 /// Where the root after a group is refused for a fault of disks, a block is lost.
 pub fn losses_of_groups()
     ensures { LossesOfGroups }
+{}
+
+/// Where the first root is refused for a fault of disks, a block is lost.
+pub fn losses_of_first_groups()
+    ensures { LossesOfFirstGroups }
+{}
+
+/// Where a range of a volume is refused for a fault of disks, a block is lost.
+pub fn losses_of_ranges()
+    ensures { LossesOfRanges }
+{}
+
+/// What a pool accepts to be made can have its row and its volume.
+pub fn good_changes_may_be_made()
+    ensures { GoodChangesMayBeMade }
 {}

@@ -1,16 +1,21 @@
 //! The datasets of a pool under a root: what a root spells, and what it has of a name.
 #![tactic(auto)]
 
-mod creating;
 mod finding;
+mod first_root;
 mod groups;
 mod laws;
 mod making;
 mod new_volume;
+mod ranges;
 mod writing;
 
 pub use block_store::Refusal;
-pub use creating::create;
 pub use finding::{Dataset, find};
+pub use first_root::first_group;
 pub use groups::after_group;
-pub use laws::{losses_of_datasets, losses_of_groups, roots_stay};
+pub use laws::{
+    good_changes_may_be_made, losses_of_datasets, losses_of_first_groups, losses_of_groups,
+    losses_of_ranges, roots_stay,
+};
+pub use ranges::{VolumeRange, read_range};

@@ -1,8 +1,8 @@
 //! Roots after groups.
-use crate::roots::{create_empty, find_letter};
+use crate::roots::{create_empty, find_letter, first_root};
 use crate::stores::{Store, new_store, store_plan};
 use block_pointer::Block;
-use dataset_snapshots::after_group;
+use dataset_snapshots::{Refusal, VolumeRange, after_group, read_range};
 use pool_model::{Action, Bytes, Change, Item, Name, Write};
 use std::alloc::Global;
 use std::test::Fail;
@@ -11,29 +11,34 @@ use txg_pipeline::Pipeline;
 /// Four blocks.
 const SIZE: u64 = 2048;
 
+/// A range that begins and ends amid blocks.
+const FROM: u64 = 256;
+
+const LEN: u64 = 1536;
+
 fn letter(alloc: Global, letter: u8) -> Result<Name, Fail> {
     Ok(Name::new(vec![in alloc; letter; 1]?))
 }
 
-/// Makes the volume `v`.
-fn creation(alloc: Global) -> Result<Item, Fail> {
+/// Makes the volume of this letter and size.
+fn creation(alloc: Global, number: u64, name: u8, size: u64) -> Result<Item, Fail> {
     Ok(Item::Action(Action {
         writer: 1,
-        number: 1,
+        number,
         change: Change::Create {
-            name: letter(alloc, b'v')?,
-            size: SIZE,
+            name: letter(alloc, name)?,
+            size,
             block_size: 512,
         },
     }))
 }
 
-/// Writes 600 bytes of 7 from byte 500 of `v` on: to the end of its first block, its second, and the front of its third.
-fn write(alloc: Global) -> Result<Item, Fail> {
+/// Writes 600 bytes of 7 from byte 500 of a volume on: to the end of its first block, its second, and the front of its third.
+fn write(alloc: Global, number: u64, name: u8) -> Result<Item, Fail> {
     Ok(Item::Write(Write {
         writer: 1,
-        number: 1,
-        volume: letter(alloc, b'v')?,
+        number,
+        volume: letter(alloc, name)?,
         offset: 500,
         bytes: Bytes::new(vec![in alloc; 7; 600]?),
     }))
@@ -57,46 +62,96 @@ fn next_root(root: &Block, store: &mut Store, alloc: Global, item: Item) -> Resu
     Ok(root)
 }
 
-/// The bytes of `v`, none where there is no such volume.
-fn bytes_of(root: &Block, store: &mut Store, alloc: Global) -> Result<Vec<u8>, Fail> {
-    let Some(dataset) = find_letter(root, store, alloc, b'v')? else {
-        return Ok(Vec::new(alloc));
+/// The bytes of `v` from one on.
+fn bytes_from(
+    root: &Block,
+    store: &mut Store,
+    alloc: Global,
+    offset: u64,
+) -> Result<Vec<u8>, Refusal> {
+    let name = Name::new(vec![in alloc; b'v'; 1]?);
+    let range = VolumeRange {
+        name: &name,
+        offset,
+        len: LEN,
     };
-    if dataset.volume.size() != SIZE {
-        return Ok(Vec::new(alloc));
-    }
-    Ok(dataset.volume.read(store, alloc, root.birth, 0, SIZE, &[])?)
+    read_range(root, store, alloc, root.birth, &range, &[])
 }
 
-/// Whether the bytes are those after the write, or all zeros.
+/// Whether these are the bytes from `FROM` on: those after the write, whose bytes stand at 244 among them, or all zeros.
 fn is_after(bytes: &[u8], written: bool) -> bool {
-    let mut right = bytes.len() as u64 == SIZE;
+    let mut right = bytes.len() as u64 == LEN;
     for (i, byte) in bytes.iter().enumerate() {
-        let seven = written && i >= 500 && i < 1100;
+        let seven = written && i >= 244 && i < 844;
         right = right && *byte == if seven { 7 } else { 0 };
     }
     right
 }
 
-/// What `v` reads as under the root that it is made in, under the one after a write, and again under the first.
-fn outcomes(alloc: Global) -> Result<[bool; 4], Fail> {
+fn is_bad(read: Result<Vec<u8>, Refusal>) -> bool {
+    matches!(read, Err(Refusal::BadPointer))
+}
+
+/// What `v` reads as under the root that it is made in, and under the one after a write, also past its end; and under the root
+/// before, which hasn't got it.
+fn outcomes(alloc: Global) -> Result<[bool; 5], Fail> {
     let mut store = new_store(alloc)?;
     let empty = create_empty(&mut store, alloc)?;
-    let made = next_root(&empty, &mut store, alloc, creation(alloc)?)?;
-    let written = next_root(&made, &mut store, alloc, write(alloc)?)?;
-    let before = bytes_of(&made, &mut store, alloc)?;
-    let after = bytes_of(&written, &mut store, alloc)?;
-    let none = find_letter(&empty, &mut store, alloc, b'v')?;
+    let made = next_root(&empty, &mut store, alloc, creation(alloc, 1, b'v', SIZE)?)?;
+    let written = next_root(&made, &mut store, alloc, write(alloc, 1, b'v')?)?;
+    let before = bytes_from(&made, &mut store, alloc, FROM)?;
+    let after = bytes_from(&written, &mut store, alloc, FROM)?;
+    let past = bytes_from(&written, &mut store, alloc, SIZE - LEN + 1);
+    let none = bytes_from(&empty, &mut store, alloc, FROM);
     Ok([
         is_after(&before, false),
         is_after(&after, true),
-        none.is_none(),
+        is_bad(past),
+        is_bad(none),
         written.birth == 3,
     ])
 }
 
 #[test]
 fn each_root_has_the_pool_of_its_group(rt: HostRuntime) -> Result<(), Fail> {
-    assert_eq!(rt; outcomes(rt.alloc())?, [true; 4]);
+    assert_eq!(rt; outcomes(rt.alloc())?, [true; 5]);
+    Ok(())
+}
+
+/// A group that makes `v` and `w`, of twice the size, and writes to `x`.
+fn group_of_three(alloc: Global) -> Result<Pipeline, Fail> {
+    let mut pipeline = Pipeline::new(alloc, 3);
+    pipeline.hold(1)?;
+    pipeline.accept(creation(alloc, 1, b'v', SIZE)?)?;
+    pipeline.accept(creation(alloc, 2, b'w', 2 * SIZE)?)?;
+    pipeline.accept(write(alloc, 3, b'x')?)?;
+    Ok(pipeline)
+}
+
+/// The size of the volume of this letter, 0 where there is none.
+fn size_of(root: &Block, store: &mut Store, alloc: Global, letter: u8) -> Result<u64, Fail> {
+    match find_letter(root, store, alloc, letter)? {
+        Some(dataset) => Ok(dataset.volume.size()),
+        None => Ok(0),
+    }
+}
+
+/// What the first root has of `v`, `w` and `x`, and whether `v` reads as zeros.
+fn first_outcomes(alloc: Global) -> Result<[bool; 5], Fail> {
+    let mut store = new_store(alloc)?;
+    let root = first_root(&mut store, alloc, &group_of_three(alloc)?)?;
+    let bytes = bytes_from(&root, &mut store, alloc, FROM)?;
+    Ok([
+        size_of(&root, &mut store, alloc, b'v')? == SIZE,
+        size_of(&root, &mut store, alloc, b'w')? == 2 * SIZE,
+        size_of(&root, &mut store, alloc, b'x')? == 0,
+        is_after(&bytes, false),
+        root.birth == 1,
+    ])
+}
+
+#[test]
+fn the_first_root_has_the_volumes_of_its_group(rt: HostRuntime) -> Result<(), Fail> {
+    assert_eq!(rt; first_outcomes(rt.alloc())?, [true; 5]);
     Ok(())
 }

@@ -7,13 +7,14 @@ use crate::meta::{block_of_set, name_of, record_of, with};
 use crate::stores::{Store, new_store, store_plan};
 use block_pointer::{Block, BlockPtr};
 use block_store::CopyCount;
-use dataset_snapshots::{Dataset, create, find};
+use dataset_snapshots::{Dataset, find, first_group};
 use dnode::{ObjectNode, ObjectSet, ObjectSetKind};
 use dnode_slots::plan_set;
 use meta_objset::{DatasetRecord, Directory, is_name, record_creation};
 use pool_model::Name;
 use std::alloc::Global;
 use std::test::Fail;
+use txg_pipeline::Pipeline;
 use vdev_label::Config;
 
 /// A meta object set with no object.
@@ -100,15 +101,24 @@ fn a_name_is_found_under_a_root(rt: HostRuntime) -> Result<(), Fail> {
     Ok(())
 }
 
-/// The root of a pool with no volumes, born in group 1, once it is stored.
-pub(crate) fn create_empty(store: &mut Store, alloc: Global) -> Result<Block, Fail> {
+/// The first root of a pool, born in group 1, after what a group has accepted, once it is stored.
+pub(crate) fn first_root(
+    store: &mut Store,
+    alloc: Global,
+    pipeline: &Pipeline,
+) -> Result<Block, Fail> {
     let config = Config {
         vdevs: Vec::new(alloc),
     };
     store.begin_plan(1);
-    let root = create(store, alloc, &config, 1)?;
+    let root = first_group(store, alloc, &config, 1, pipeline.open_items())?;
     store_plan(store);
     Ok(root)
+}
+
+/// That of a pool with no volumes.
+pub(crate) fn create_empty(store: &mut Store, alloc: Global) -> Result<Block, Fail> {
+    first_root(store, alloc, &Pipeline::new(alloc, 3))
 }
 
 /// Whether a root with no volumes is born in its group, and has nothing of the name `v`.

@@ -1,5 +1,15 @@
-//! Stale spans and space maps as the bytes of their tables.
-use meta_objset::{MetaslabMap, MetaslabPlace, Refusal, SpaceMaps, StaleSpan, StaleSpans};
+//! Stale spans and space maps, as the bytes of their tables and in objects of a set.
+ghost use Rattle.std.specs.Prelude.{◌<◌, IfOk};
+ghost use Rattle.dnode.specs.ObjectSet.{FitsObjectSet};
+
+use crate::meta::with;
+use crate::objects::EMPTY;
+use crate::stores::{Store, new_store};
+use dnode::ObjectSet;
+use meta_objset::{
+    MetaslabMap, MetaslabPlace, Refusal, SpaceMaps, StaleSpan, StaleSpans, read_space_maps,
+    read_stale_spans,
+};
 use std::alloc::Global;
 use std::test::Fail;
 
@@ -109,5 +119,98 @@ fn map_breaches(alloc: Global) -> Result<[bool; 2], Fail> {
 fn space_maps_are_read_as_they_were_written(rt: HostRuntime) -> Result<(), Fail> {
     assert!(rt; are_maps_read(rt.alloc())?);
     assert_eq!(rt; map_breaches(rt.alloc())?, [true; 2]);
+    Ok(())
+}
+
+/// The set with the spans as object 3, which birth 1 makes and a later one writes anew.
+fn with_spans(
+    set: &ObjectSet,
+    store: &mut Store,
+    alloc: Global,
+    spans: &StaleSpans,
+    birth: u64,
+) -> Result<ObjectSet, Fail>
+    requires set { FitsObjectSet set.now }
+    requires born { 0 < birth }
+    ensures { IfOk result FitsObjectSet }
+{
+    if spans.rows().len() > 2 {
+        return Ok(*set);
+    }
+    let made = if birth == 1 {
+        spans.creation(alloc)?
+    } else {
+        spans.replacement(alloc)?
+    };
+    Ok(with(set, store, alloc, 3, made, birth)?)
+}
+
+/// Two spans, and then the second of them, as an object: whether they are read as they were written, and whether the first
+/// disk's is found.
+fn stored_spans(alloc: Global) -> Result<[bool; 4], Fail> {
+    let mut store = new_store(alloc)?;
+    let mut spans = StaleSpans::new(alloc);
+    spans.set(AWAY)?;
+    spans.set(BACK)?;
+    let set = with_spans(&EMPTY, &mut store, alloc, &spans, 1)?;
+    let both = read_stale_spans(&set, &mut store, alloc, 1, &[])?;
+    spans.remove(BACK.disk);
+    let set = with_spans(&set, &mut store, alloc, &spans, 2)?;
+    let one = read_stale_spans(&set, &mut store, alloc, 2, &[])?;
+    Ok([
+        both.rows() == [BACK, AWAY].as_slice(),
+        both.get(BACK.disk) == Some(BACK),
+        one.rows() == [AWAY].as_slice(),
+        one.get(BACK.disk).is_none(),
+    ])
+}
+
+/// The set with the space maps as object 4, which birth 1 makes and a later one writes anew.
+fn with_maps(
+    set: &ObjectSet,
+    store: &mut Store,
+    alloc: Global,
+    maps: &SpaceMaps,
+    birth: u64,
+) -> Result<ObjectSet, Fail>
+    requires set { FitsObjectSet set.now }
+    requires born { 0 < birth }
+    ensures { IfOk result FitsObjectSet }
+{
+    if maps.rows().len() > 2 {
+        return Ok(*set);
+    }
+    let made = if birth == 1 {
+        maps.creation(alloc)?
+    } else {
+        maps.replacement(alloc)?
+    };
+    Ok(with(set, store, alloc, 4, made, birth)?)
+}
+
+/// Two space maps, and then the second of them, as an object: whether they are read as they were written, and whether the first
+/// metaslab's is found.
+fn stored_maps(alloc: Global) -> Result<[bool; 4], Fail> {
+    let mut store = new_store(alloc)?;
+    let mut maps = SpaceMaps::new(alloc);
+    maps.set(SECOND)?;
+    maps.set(FIRST)?;
+    let set = with_maps(&EMPTY, &mut store, alloc, &maps, 1)?;
+    let both = read_space_maps(&set, &mut store, alloc, 1, &[])?;
+    maps.remove(FIRST.metaslab);
+    let set = with_maps(&set, &mut store, alloc, &maps, 2)?;
+    let one = read_space_maps(&set, &mut store, alloc, 2, &[])?;
+    Ok([
+        both.rows() == [FIRST, SECOND].as_slice(),
+        both.get(FIRST.metaslab) == Some(FIRST),
+        one.rows() == [SECOND].as_slice(),
+        one.get(FIRST.metaslab).is_none(),
+    ])
+}
+
+#[test]
+fn tables_are_read_as_they_were_stored(rt: HostRuntime) -> Result<(), Fail> {
+    assert_eq!(rt; stored_spans(rt.alloc())?, [true; 4]);
+    assert_eq!(rt; stored_maps(rt.alloc())?, [true; 4]);
     Ok(())
 }

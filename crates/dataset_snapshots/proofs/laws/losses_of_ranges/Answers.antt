@@ -1,0 +1,5 @@
+use Rattle.dataset_snapshots.proofs.Losses.{losses_of_ranges}
+use Rattle.dataset_snapshots.proofs.laws.losses_of_ranges.Goals as goal
+
+pub returns : goal.returns
+returns c = losses_of_ranges

@@ -1,0 +1,105 @@
+-- What the first root of a pool asks places for, and why it is not planned.
+use Rattle.std.specs.Prelude.{ℕ, ◌≡◌, ◌⊎◌, List, [], ◌∷◌, ◌++◌, length, None}
+use Rattle.block_pointer.specs.declared.pointer.BlockPtr.TheVariants.{Hole}
+use Rattle.block_store.specs.declared.refusal.Refusal.{Refusal}
+use Rattle.block_store.specs.declared.refusal.Refusal.TheVariants.{NoMemory}
+use Rattle.block_store.specs.Demands.{Demand, HavePlaces}
+use Rattle.block_store.specs.Steps.{OnlyReadsAndPlans}
+use Rattle.block_store.specs.Store.{Store}
+use Rattle.dnode.specs.declared.object_set.ObjectSet.{ObjectSet}
+use Rattle.dnode.specs.declared.object_set.ObjectSetKind.TheVariants as sets
+use Rattle.meta_objset.specs.declared.directory.DirectoryRow.{DirectoryRow}
+use Rattle.meta_objset.specs.Reading.{HasConfig, HasDirectory}
+use Rattle.meta_objset.specs.SpaceMaps.{maps_kind}
+use Rattle.meta_objset.specs.StaleSpans.{spans_kind}
+use Rattle.object_table.specs.Tables.{HasTable}
+use Rattle.objset.specs.declared.changes.Change.{Change}
+use Rattle.objset.specs.declared.changes.ObjectChange.{ObjectChange}
+use Rattle.objset.specs.Changes.{after_change}
+use Rattle.pool_model.specs.declared.item.Action.{Action}
+use Rattle.pool_model.specs.Pools.{Entry}
+use Rattle.vdev_label.specs.Plain.{PlainVdev}
+use Rattle.dataset_snapshots.specs.declared.making.Making.{Making}
+use Rattle.dataset_snapshots.specs.Demands.{AreAsked, AreMade, AreNewObjects, HasActionDemands, HasRootDemands, HavePlacesFor, IsActionRefused, IsRootRefused}
+
+-- a meta object set with no objects
+abbrev pub empty_meta : ObjectSet
+empty_meta = record {
+  dnodes = record { object_type = 10; data_sectors = 32; highest = 0; pointer = Hole };
+  kind = sets.Meta;
+  objects = 1;
+}
+
+-- the changes of the objects 1 to 4 that make a directory of these rows, the configuration, and tables of stale spans and of
+-- space maps with no rows
+pub record AreTableChanges (vdevs : List PlainVdev) (rows : List DirectoryRow) (changes : List ObjectChange)
+    : Type 0 where
+  pub directory : Change
+  pub config : Change
+  pub spans : Change
+  pub maps : Change
+  pub are : changes
+      ≡ record { number = 1; change = directory } ∷ record { number = 2; change = config }
+      ∷ record { number = 3; change = spans } ∷ record { number = 4; change = maps } ∷ []
+  pub has_directory : HasDirectory (after_change directory None) rows
+  pub has_config : HasConfig (after_change config None) vdevs
+  pub has_spans : HasTable spans_kind (after_change spans None) []
+  pub has_maps : HasTable maps_kind (after_change maps None) []
+
+-- the changes that make the objects of a pool of these volumes: the tables, of which the directory names each, and behind them
+-- two for each volume
+pub record AreFirstGroupChanges (vdevs : List PlainVdev) (made : List Action) (changes : List ObjectChange)
+    : Type 0 where
+  pub rows : List DirectoryRow
+  pub count : length rows ≡ length made
+  pub tables : List ObjectChange
+  pub tables_are : AreTableChanges vdevs rows tables
+  pub of_made : List ObjectChange
+  pub made_are : AreNewObjects 5 made of_made
+  pub are : changes ≡ tables ++ of_made
+
+-- the volumes of the actions were made where there were none: each has a row, and its two objects
+pub record AreFirstVolumes (old new : Store) (group : ℕ) (actions : List Action) (making : Making) : Type 0 where
+  pub made : List Action
+  pub are : AreMade [] [] actions made
+  pub count : length making.directory ≡ length made
+  pub of_made : AreNewObjects 5 made making.changes.items
+  pub places : HavePlacesFor old new (HasActionDemands old.spaces group) made
+
+-- in front of the objects of the volumes the tables are made, of which the directory has the rows so far
+abbrev pub IsWithTables : List PlainVdev → Making → List ObjectChange → Type 0
+IsWithTables vdevs making changes =
+    (tables : List ObjectChange) × AreTableChanges vdevs making.directory tables
+    × (changes ≡ tables ++ making.changes.items)
+
+-- places were taken for the volumes that are made and then for the meta object set, and for nothing else
+pub record HasFirstPlaces (old new : Store) (group : ℕ) (vdevs : List PlainVdev) (items : Entry)
+    : Type 0 where
+  pub made : List Action
+  pub made_are : AreMade [] [] items.actions made
+  pub of_made : List Demand
+  pub made_ask : AreAsked (HasActionDemands old.spaces group) made of_made
+  pub changes : List ObjectChange
+  pub changes_are : AreFirstGroupChanges vdevs made changes
+  pub of_root : List Demand
+  pub root_asks : HasRootDemands old.spaces empty_meta group changes of_root
+  pub places : HavePlaces old.spaces (of_made ++ of_root) new.spaces
+
+-- the volumes were placed, and then the meta object set was refused
+pub record IsFirstSetRefused (old new : Store) (group : ℕ) (vdevs : List PlainVdev) (actions : List Action)
+    (refusal : Refusal) : Type 0 where
+  pub made : List Action
+  pub made_are : AreMade [] [] actions made
+  pub mid : Store
+  pub before : OnlyReadsAndPlans old mid []
+  pub places : HavePlacesFor old mid (HasActionDemands old.spaces group) made
+  pub changes : List ObjectChange
+  pub changes_are : AreFirstGroupChanges vdevs made changes
+  pub why : IsRootRefused mid new empty_meta group changes refusal
+
+-- why the first root was not planned: there was no memory, or one of its volumes was refused, or its object set
+abbrev pub IsFirstRefused : Store → Store → ℕ → List PlainVdev → Entry → Refusal → Type 0
+IsFirstRefused old new group vdevs items refusal =
+    (refusal ≡ NoMemory)
+    ⊎ (IsActionRefused old new group [] 5 items.actions refusal
+    ⊎ IsFirstSetRefused old new group vdevs items.actions refusal)

@@ -1,0 +1,192 @@
+//! The first root of a pool.
+ghost use Rattle.std.specs.Prelude.{◌≡◌, ◌⊎◌, ◌++◌, ◌*◌, ◌^◌, ◌<◌, [], None, All, AllPairs, length, fold, IfOk, IfErr, OnOk};
+ghost use Rattle.block_pointer.specs.Block.{FitsBlock};
+ghost use Rattle.block_pointer.specs.Copies.{dvas};
+ghost use Rattle.block_store.specs.Blocks.{Contents, Extends};
+ghost use Rattle.block_store.specs.Plans.{Plans};
+ghost use Rattle.block_store.specs.Steps.{OnlyReadsAndPlans, AnswersAreTrue};
+ghost use Rattle.dnode_tree.specs.Writes.{IsForRoom};
+ghost use Rattle.objset.specs.Changes.{IsGoodChange};
+ghost use Rattle.pool_model.specs.Pools.{applied, changed, no_volumes};
+ghost use Rattle.vdev_label.specs.Config.{FitsConfig, config_bytes};
+ghost use Rattle.vdev_label.specs.Plain.{config_view};
+ghost use Rattle.dataset_snapshots.specs.Creating.{HasFirstTables};
+ghost use Rattle.dataset_snapshots.specs.Demands.{IsActionRefused};
+ghost use Rattle.dataset_snapshots.specs.FirstGroup.{AreFirstVolumes, AreTableChanges, HasFirstPlaces, IsFirstRefused, IsWithTables};
+ghost use Rattle.dataset_snapshots.specs.Making.{AreGoodCreations, IsReady, SpellsMaking};
+ghost use Rattle.dataset_snapshots.specs.Pools.{SpellsPool};
+
+use crate::groups::{FIRST_OBJECT, MOST_NAMES, plan_root};
+use crate::making::Making;
+use block_pointer::{Block, BlockPtr};
+use block_store::{BlockStore, Refusal};
+use dnode::{ObjectNode, ObjectSet, ObjectSetKind};
+use meta_objset::{Directory, SPACE_MAPS_KIND, STALE_SPANS_KIND, config_creation};
+use model_disk::Disk;
+use objset::{Change, ObjectChange};
+use pool_model::Action;
+use std::alloc::{AllocError, Global};
+use txg_pipeline::Pending;
+use vdev_label::Config;
+
+/// A meta object set with no object.
+const EMPTY: ObjectSet = ObjectSet {
+    dnodes: ObjectNode {
+        object_type: 10,
+        data_sectors: 32,
+        highest: 0,
+        pointer: BlockPtr::Hole,
+    },
+    kind: ObjectSetKind::Meta,
+    objects: 1,
+};
+
+/// Plans the first root of a pool, which had no volumes so far, after the items of the transaction group `group`: the volumes that it
+/// makes, and then the tables of the meta object set: the directory, the configuration, and tables of stale spans and of space
+/// maps with no rows. Writes do nothing where there are no volumes. `BadConfig` where a volume can't have its name or its sizes;
+/// `NoSpace` also where no numbers are left for objects.
+///
+/// After an error blocks may be planned that no root has: begin another plan.
+pub fn first_group<D: Disk + Drop>(
+    store: &mut BlockStore<D>,
+    alloc: Global,
+    config: &Config,
+    group: u64,
+    items: &Pending,
+) -> Result<Block, Refusal>
+    requires fits { FitsConfig (config_view config.now) }
+    requires few { length (config_bytes (config_view config.now)) < 2 ^ 46 }
+    requires born { 0 < group }
+    ensures steps { OnlyReadsAndPlans store.old store.new [] }
+    ensures fits { IfOk result FitsBlock }
+    ensures born { IfOk result (λ root. root.birth ≡ group) }
+    ensures copies { IfOk result (λ root. length (dvas root.copies) ≡ 3) }
+
+    // It spells the pool after the group, once the plan is stored, and has the tables of a new pool.
+    ensures value { IfOk result (λ root. (stored planned : Contents)
+        → Plans store.old stored planned → AnswersAreTrue store.old store.new
+        → (later : Contents) × Plans store.new stored later × Extends planned later
+        × (is : SpellsPool later group root (applied group no_volumes items.now))
+        × HasFirstTables is.objects (config_view config.now)) }
+
+    // Over disks that answer truly, and where all may be made, only room is wanting.
+    ensures known { IfErr result (λ refusal. (stored planned : Contents)
+        → Plans store.old stored planned → AnswersAreTrue store.old store.new
+        → AreGoodCreations items.now.actions
+        → IsForRoom refusal ⊎ (refusal ≡ Refusal.DiskFault)) }
+
+    // What places are taken for, and on a refusal its cause.
+    ensures places { OnOk result
+        (HasFirstPlaces store.old store.new group (config_view config.now) items.now) }
+    ensures refused { IfErr result
+        (IsFirstRefused store.old store.new group (config_view config.now) items.now) }
+{
+    let making = first_volumes(store, alloc, group, items.actions())?;
+    let changes = with_tables(making, alloc, config)?;
+    plan_root(&EMPTY, store, alloc, &changes, group)
+}
+
+/// Makes the volumes of these actions where there are none, in order, and plans their sets.
+fn first_volumes<D: Disk + Drop>(
+    store: &mut BlockStore<D>,
+    alloc: Global,
+    group: u64,
+    actions: &[Action],
+) -> Result<Making, Refusal>
+    requires born { 0 < group }
+    ensures steps { OnlyReadsAndPlans store.old store.new [] }
+    ensures ready { IfOk result IsReady }
+    ensures value { IfOk result (λ making. (stored planned : Contents)
+        → Plans store.old stored planned → AnswersAreTrue store.old store.new
+        → (later : Contents) × Plans store.new stored later × Extends planned later
+        × SpellsMaking later group (λ number. None) making
+        (fold (λ p a. changed group p a.change) no_volumes actions.now)) }
+    ensures known { IfErr result (λ refusal. (stored planned : Contents)
+        → Plans store.old stored planned → AnswersAreTrue store.old store.new
+        → AreGoodCreations actions.now
+        → IsForRoom refusal ⊎ (refusal ≡ Refusal.DiskFault)) }
+    ensures places { IfOk result (AreFirstVolumes store.old store.new group actions.now) }
+    ensures refused { IfErr result (λ refusal. (refusal ≡ Refusal.NoMemory)
+        ⊎ IsActionRefused store.old store.new group [] 5 actions.now refusal) }
+{
+    let mut making = Making {
+        directory: Directory::new(alloc),
+        changes: Vec::new(alloc),
+        next: FIRST_OBJECT,
+    };
+    making.make_all(store, alloc, group, actions)?;
+    Ok(making)
+}
+
+/// The changes that make the tables, with a row for each volume, and then the objects of the volumes. `NoMemory` is the only error,
+/// also where the directory would have 2^40 names.
+fn with_tables(making: Making, alloc: Global, config: &Config) -> Result<Vec<ObjectChange>, Refusal>
+    requires fits { FitsConfig (config_view config.now) }
+    requires few { length (config_bytes (config_view config.now)) < 2 ^ 46 }
+    requires ready { IsReady making }
+    ensures numbers { IfOk result (λ changes. All (λ change. (0 < change.number)
+        × (change.number < 32 * 128 ^ 5)) changes.items) }
+    ensures order { IfOk result (λ changes.
+        AllPairs (λ change later. change.number < later.number) changes.items) }
+    ensures good { IfOk result (λ changes. All (λ change. IsGoodChange change.change)
+        changes.items) }
+    ensures tables { IfOk result (λ changes.
+        IsWithTables (config_view config.now) making changes.items) }
+    ensures refused { IfErr result (λ refusal. refusal ≡ Refusal.NoMemory) }
+{
+    let Making {
+        directory,
+        changes,
+        ..
+    } = making;
+    let Ok(tables) = table_changes(&directory, alloc, config) else {
+        return Err(Refusal::NoMemory);
+    };
+    let all = put_behind(alloc, tables, changes)?;
+    Ok(all)
+}
+
+/// The first changes and then the others.
+fn put_behind(
+    alloc: Global,
+    first: [ObjectChange; 4],
+    mut others: Vec<ObjectChange>,
+) -> Result<Vec<ObjectChange>, AllocError>
+    ensures { IfOk result (λ all. all.items ≡ first ++ others.items) }
+{
+    let mut all = Vec::from_array(alloc, first)?;
+    all.append(&mut others)?;
+    Ok(all)
+}
+
+/// The changes that make the tables of a pool with this directory. `NoMemory` is the only error, also where it has 2^40 names.
+fn table_changes(
+    directory: &Directory,
+    alloc: Global,
+    config: &Config,
+) -> Result<[ObjectChange; 4], object_table::Refusal>
+    requires fits { FitsConfig (config_view config.now) }
+    requires few { length (config_bytes (config_view config.now)) < 2 ^ 46 }
+    ensures are { IfOk result (AreTableChanges (config_view config.now) directory.now) }
+    ensures good { IfOk result (λ changes. All (λ change. IsGoodChange change.change) changes) }
+{
+    if directory.rows().len() >= MOST_NAMES {
+        return Err(object_table::Refusal::NoMemory);
+    }
+    let directory = directory.creation(alloc)?;
+    let config = config_creation(alloc, config)?;
+    let spans = object_table::creation(alloc, STALE_SPANS_KIND, &[])?;
+    let maps = object_table::creation(alloc, SPACE_MAPS_KIND, &[])?;
+    Ok([
+        change_of(1, directory),
+        change_of(2, config),
+        change_of(3, spans),
+        change_of(4, maps),
+    ])
+}
+
+fn change_of(number: u64, change: Change) -> ObjectChange
+    ensures { result ≡ record { number = number; change = change } }
+{
+    ObjectChange { number, change }
+}
