@@ -1,5 +1,4 @@
 pub mod Config
-pub mod Configs
 pub mod HasDisks
 pub mod State
 pub mod StateOf

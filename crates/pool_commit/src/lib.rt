@@ -3,7 +3,6 @@
 #![tactic(auto)]
 
 mod commit;
-mod config;
 mod device;
 mod honest;
 mod kept;
@@ -13,5 +12,5 @@ mod refusal;
 
 pub use commit::Commit;
 pub use device::Progress;
-pub use kept::{Kept, KeptGroup, Planned};
+pub use kept::{Kept, Planned};
 pub use refusal::Refusal;

@@ -5,6 +5,7 @@
 #[cfg(test)]
 mod groups;
 #[cfg(test)]
+mod memory;
 #[cfg(test)]
 mod meta;
 #[cfg(test)]

@@ -1,0 +1,7 @@
+mod Finding
+mod Inserting
+mod Placing
+mod Sharing
+pub mod Spelling
+mod Writing
+mod Zipping

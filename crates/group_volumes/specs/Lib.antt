@@ -1,0 +1,6 @@
+pub mod Changing
+pub mod Refusals
+pub mod Room
+pub mod Sharing
+pub mod Unread
+pub mod Volumes

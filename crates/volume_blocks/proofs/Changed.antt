@@ -1,0 +1,124 @@
+-- The blocks that writes change.
+use Rattle.std.proofs.Common.{◌≡◌, ◌⊎◌, ◌↔◌, ⊎_elim, inl, inr, ℕ, ◌+◌, ◌-◌, ◌*◌, ◌/◌, ◌<◌, ◌≤◌, true, false, true≢false, nat_eq, List, [], ◌∷◌, ◌++◌, length, take, get_or, refl, sym, ap, ◌∙◌, subst, arith}
+use Rattle.std.specs.Prelude.{Any, Contains, IsPermutation}
+use Rattle.std.specs.List.{dedup}
+use Rattle.std.proofs.lemmas.Bool.{cases_lt}
+use Rattle.std.proofs.lemmas.List.{take_more}
+use Rattle.std.proofs.lemmas.List.Elements.{Contains-append_left, Contains-push, Contains-push_cases}
+use Rattle.std.proofs.lemmas.List.Kept.{Contains-dedup_nat, Contains-from_dedup}
+use Rattle.std.proofs.lemmas.List.Quantifiers.{Any-push}
+use Rattle.std.proofs.lemmas.List.Sorted.{Contains-permutation, IsPermutation-sym}
+use Rattle.pool_model.specs.Names.{same}
+use Rattle.pool_model.proofs.Places.{same_is, is_same}
+use Rattle.pool_model.specs.declared.item.Write.{Write}
+use Rattle.volume_blocks.specs.declared.volume.VolumeBlocks.{VolumeBlocks}
+use Rattle.volume_blocks.specs.Writing.{Reaches, IsChanged}
+use Rattle.volume_blocks.proofs.Dividing.{le_div, div_le, from_le_div, from_div_le}
+
+-- from the block of the first byte to that of the last
+pub reached_range : (size block_size : ℕ) (write : Write) (first end id : ℕ) → 0 < block_size → 0 < length write.bytes
+    → write.offset + length write.bytes ≤ size → first ≡ write.offset / block_size → end ≡ (write.offset + length write.bytes - 1) / block_size + 1
+    → Reaches size block_size write id ↔ ((first ≤ id) × (id < end))
+reached_range size block_size write first end id wide some within is_first is_end = (
+  λ reaches. (
+    let low : write.offset / block_size ≤ id = div_le write.offset block_size id wide reaches.begins in omega arith,
+    let high : id ≤ (write.offset + length write.bytes - 1) / block_size = le_div (write.offset + length write.bytes - 1) block_size id wide (let e = reaches.ends in omega arith) in omega arith,
+  ),
+  λ (low, high). record {
+    within = within;
+    some = some;
+    begins = from_div_le write.offset block_size id wide (omega arith);
+    ends = let le : id * block_size ≤ write.offset + length write.bytes - 1 = from_le_div (write.offset + length write.bytes - 1) block_size id wide (omega arith) in omega arith;
+  },
+)
+
+-- one id more
+pub id_more : (ids before new : List ℕ) (first id : ℕ) → first ≤ id → new ≡ ids ++ id ∷ []
+    → ((x : ℕ) → Contains ids x ↔ (Contains before x ⊎ ((first ≤ x) × (x < id))))
+    → (x : ℕ) → Contains new x ↔ (Contains before x ⊎ ((first ≤ x) × (x < id + 1)))
+id_more ids before new first id le is so_far x = (
+  λ held.
+      ⊎_elim
+      (λ old. ⊎_elim (λ was. inl was) (λ (low, high). inr (low, omega arith)) ((so_far x).0 old))
+      (λ same. inr (omega arith, omega arith))
+      (Contains-push_cases ids id x (subst (λ (xs : List ℕ). Contains xs x) is held)),
+  λ either. subst (λ (xs : List ℕ). Contains xs x) (sym is) (there either),
+)
+  where
+    there : (Contains before x ⊎ ((first ≤ x) × (x < id + 1))) → Contains (ids ++ id ∷ []) x
+    there (inl was) = Contains-append_left ids (id ∷ []) x ((so_far x).1 (inl was))
+    there (inr range) =
+        ⊎_elim (λ lt. Contains-append_left ids (id ∷ []) x ((so_far x).1 (inr (range.0, lt))))
+        (λ ge. let same : id ≡ x = omega (arith, range.1) in subst (λ (y : ℕ). Contains (ids ++ id ∷ []) y) same (Contains-push ids id)) (cases_lt x id)
+
+Any-push_cases : {X : Type 0} (P : X → Type 0) (xs : List X) (y : X) → Any P (xs ++ y ∷ []) → Any P xs ⊎ P y
+Any-push_cases P xs y any =
+    ⊎_elim (λ old. inl (old.0, any.1, old.1, old.2, any.4)) (λ same. inr (subst P (sym same) any.4)) (Contains-push_cases xs y any.1 (any.0, any.2, any.3))
+
+Any-append_left : {X : Type 0} (P : X → Type 0) (xs : List X) (y : X) → Any P xs → Any P (xs ++ y ∷ [])
+Any-append_left P xs y any = let there = Contains-append_left xs (y ∷ []) any.1 (any.0, any.2, any.3) in (there.0, any.1, there.1, there.2, any.4)
+
+-- one write more
+pub changed_more : (volume : VolumeBlocks) (name : List ℕ) (writes : List Write) (i : ℕ) (write : Write) (id : ℕ) → i < length writes → write ≡ get_or writes i write
+    → IsChanged volume name (take (i + 1) writes) id
+    ↔ (IsChanged volume name (take i writes) id ⊎ ((write.volume ≡ name) × Reaches volume.size volume.block_size write id))
+changed_more volume name writes i write id lt is = (λ any. Any-push_cases P (take i writes) write (subst (Any P) more any), λ either. subst (Any P) (sym more) (there either))
+  where
+    P : Write → Type 0
+    P w = (w.volume ≡ name) × Reaches volume.size volume.block_size w id
+
+    more : take (i + 1) writes ≡ take i writes ++ write ∷ []
+    more = take_more writes i write lt ∙ ap (λ w. take i writes ++ w ∷ []) (sym is)
+
+    there : (Any P (take i writes) ⊎ P write) → Any P (take i writes ++ write ∷ [])
+    there (inl any) = Any-append_left P (take i writes) write any
+    there (inr here) = Any-push P (take i writes) write here
+
+-- a write to the volume adds the ids that it reaches, and another none
+pub reached_more : (volume : VolumeBlocks) (name : List ℕ) (writes : List Write) (i : ℕ) (write : Write) (ids new : List ℕ) → i < length writes → write ≡ get_or writes i write
+    → same write.volume name ≡ true
+    → ((id : ℕ) → Contains new id ↔ (Contains ids id ⊎ Reaches volume.size volume.block_size write id))
+    → ((id : ℕ) → Contains ids id ↔ IsChanged volume name (take i writes) id)
+    → (id : ℕ) → Contains new id ↔ IsChanged volume name (take (i + 1) writes) id
+reached_more volume name writes i write ids new lt is named adds so_far id =
+    let more = changed_more volume name writes i write id lt is in (
+      λ held. more.1 (⊎_elim (λ old. inl ((so_far id).0 old)) (λ reaches. inr (same_is write.volume name named, reaches)) ((adds id).0 held)),
+      λ changed. (adds id).1 (⊎_elim (λ old. inl ((so_far id).1 old)) (λ (called, reaches). inr reaches) (more.0 changed)),
+    )
+
+pub other_more : (volume : VolumeBlocks) (name : List ℕ) (writes : List Write) (i : ℕ) (write : Write) (ids : List ℕ) → i < length writes → write ≡ get_or writes i write
+    → same write.volume name ≡ false
+    → ((id : ℕ) → Contains ids id ↔ IsChanged volume name (take i writes) id)
+    → (id : ℕ) → Contains ids id ↔ IsChanged volume name (take (i + 1) writes) id
+other_more volume name writes i write ids lt is other so_far id =
+    let more = changed_more volume name writes i write id lt is in (
+      λ held. more.1 (inl ((so_far id).0 held)),
+      λ changed. (so_far id).1 (⊎_elim (λ old. old) (λ (called, reaches). absurd (true≢false (sym (is_same write.volume name called) ∙ other))) (more.0 changed)),
+    )
+
+-- the ids in order, each once
+pub sorted_once : (ids sorted once : List ℕ) (P : ℕ → Type 0) → IsPermutation ids sorted → once ≡ dedup nat_eq sorted → ((id : ℕ) → Contains ids id ↔ P id) → (id : ℕ) → Contains once id ↔ P id
+sorted_once ids sorted once P moved is so_far id = (
+  λ held. (so_far id).0 (Contains-permutation sorted ids id (IsPermutation-sym ids sorted moved) (Contains-from_dedup nat_eq sorted id (subst (λ (xs : List ℕ). Contains xs id) is held))),
+  λ there. subst (λ (xs : List ℕ). Contains xs id) (sym is) (Contains-dedup_nat sorted id (Contains-permutation ids sorted id moved ((so_far id).1 there))),
+)
+
+-- all ids of the range
+pub reached_all : (size block_size : ℕ) (write : Write) (ids before : List ℕ) (last : ℕ) → 0 < block_size → 0 < length write.bytes
+    → write.offset + length write.bytes ≤ size → (write.offset / block_size ≤ (write.offset + length write.bytes - 1) / block_size + 1 → last ≤ (write.offset + length write.bytes - 1) / block_size + 1)
+    → (write.offset + length write.bytes - 1) / block_size + 1 ≤ last
+    → ((x : ℕ) → Contains ids x ↔ (Contains before x ⊎ ((write.offset / block_size ≤ x) × (x < last))))
+    → (id : ℕ) → Contains ids id ↔ (Contains before id ⊎ Reaches size block_size write id)
+reached_all size block_size write ids before last wide some within high low so_far id = (
+  λ held. ⊎_elim (λ was. inl was) (λ range. inr (reach.1 (subst (λ (n : ℕ). (write.offset / block_size ≤ id) × (id < n)) is range))) ((so_far id).0 held),
+  λ either. (so_far id).1 (⊎_elim (λ was. inl was) (λ reaches. inr (subst (λ (n : ℕ). (write.offset / block_size ≤ id) × (id < n)) (sym is) (reach.0 reaches))) either),
+)
+  where
+    first_below : write.offset / block_size ≤ (write.offset + length write.bytes - 1) / block_size
+    first_below = le_div (write.offset + length write.bytes - 1) block_size (write.offset / block_size) wide (omega arith)
+
+    is : last ≡ (write.offset + length write.bytes - 1) / block_size + 1
+    is = let to = high (omega (arith, first_below)) in omega arith
+
+    reach : Reaches size block_size write id ↔ ((write.offset / block_size ≤ id) × (id < (write.offset + length write.bytes - 1) / block_size + 1))
+    reach = reached_range size block_size write (write.offset / block_size) ((write.offset + length write.bytes - 1) / block_size + 1) id wide some within refl refl
