@@ -7,60 +7,65 @@ use Rattle.raidz_io.specs.Reads.{IsRead, AreReads, OnlyReads}
 use Rattle.std.specs.Prelude.{cond}
 use Rattle.std.proofs.lemmas.Bool.{eq-eqb}
 use Rattle.raidz_io.specs.declared.writes.ColumnWrite.{ColumnWrite}
+use Rattle.block_pointer.specs.declared.block.Block.{Block}
 use Rattle.block_store.specs.Blocks.{Contents}
 use Rattle.block_store.specs.Steps.{OnlyReadsBlocks}
 use Rattle.block_store.specs.Store.{Store, is_out}
-use Rattle.group_volumes.specs.declared.volumes.GroupVolumes.{GroupVolumes}
-use Rattle.group_volumes.specs.Volumes.{SpellsPool}
+use Rattle.pool_commit.specs.declared.kept.KeptGroup.{KeptGroup}
+use Rattle.dataset_snapshots.specs.Pools.{SpellsPool}
 use Rattle.pool_model.specs.Pools.{PlainPool}
 use Rattle.pool_model.specs.View.{View, DueCall, Due, is_kept}
 use Rattle.pool_commit.specs.declared.kept.Kept.{Kept}
 use Rattle.pool_commit.specs.declared.kept.Planned.{Planned}
-use Rattle.pool_commit.specs.Backs.{Backs, SpellsKept, IsPlanOf, left_calls}
+use Rattle.pool_commit.specs.Backs.{Backs, SpellsKept, IsPlanOf, left_calls, SpellsGroup, SpellsRoot}
 use Rattle.pool_commit.specs.Calls.{IsWrite, IsFlushed}
 use Rattle.pool_commit.specs.Config.{vdevs_of}
 use Rattle.pool_commit.specs.Reading.{OnlyReadsPool}
-use Rattle.pool_commit.specs.State.{State, volumes_at}
+use Rattle.pool_commit.specs.State.{State, group_at}
 
 -- ---- kept groups
 
-kept_cases : (stored : Contents) (group : ℕ) (found : Option GroupVolumes) (volumes : GroupVolumes) (kept : Bool) (pool : PlainPool) → found ≡ Some volumes
-    → SpellsKept stored group found (if kept then Some pool else None) → (kept ≡ true) × SpellsPool stored group volumes pool
-kept_cases stored group found volumes kept pool is spells =
-    at kept (subst (λ (o : Option GroupVolumes). SpellsKept stored group o (if kept then Some pool else None)) is spells)
+kept_cases : (stored : Contents) (group : ℕ) (found : Option KeptGroup) (there : KeptGroup) (kept : Bool) (pool : PlainPool) → found ≡ Some there
+    → SpellsKept stored group found (if kept then Some pool else None) → (kept ≡ true) × SpellsGroup stored group there pool
+kept_cases stored group found there kept pool is spells =
+    at kept (subst (λ (o : Option KeptGroup). SpellsKept stored group o (if kept then Some pool else None)) is spells)
   where
-    at : (kept : Bool) → SpellsKept stored group (Some volumes) (if kept then Some pool else None) → (kept ≡ true) × SpellsPool stored group volumes pool
+    at : (kept : Bool) → SpellsKept stored group (Some there) (if kept then Some pool else None) → (kept ≡ true) × SpellsGroup stored group there pool
     at true spells = (refl, spells)
     at false spells = absurd spells
 
-gone_cases : (stored : Contents) (group : ℕ) (found : Option GroupVolumes) (kept : Bool) (pool : PlainPool) → found ≡ None
+gone_cases : (stored : Contents) (group : ℕ) (found : Option KeptGroup) (kept : Bool) (pool : PlainPool) → found ≡ None
     → SpellsKept stored group found (if kept then Some pool else None) → kept ≡ false
 gone_cases stored group found kept pool is spells =
-    at kept (subst (λ (o : Option GroupVolumes). SpellsKept stored group o (if kept then Some pool else None)) is spells)
+    at kept (subst (λ (o : Option KeptGroup). SpellsKept stored group o (if kept then Some pool else None)) is spells)
   where
     at : (kept : Bool) → SpellsKept stored group None (if kept then Some pool else None) → kept ≡ false
     at true spells = absurd spells
     at false spells = refl
 
--- a group that has volumes is kept, and they spell its pool
-pub kept_spelled : (s : State) (v : View) (group : ℕ) (volumes : GroupVolumes) (backs : Backs s v) → volumes_at s.kept group ≡ Some volumes
-    → (is_kept v group ≡ true) × SpellsPool backs.blocks.stored group volumes (v.pools group)
-kept_spelled s v group volumes backs is =
-    kept_cases backs.blocks.stored group (volumes_at s.kept group) volumes (is_kept v group) (v.pools group) is (backs.blocks.kept group)
+-- a group that is there is kept, and spells its pool
+pub kept_spelled : (s : State) (v : View) (group : ℕ) (there : KeptGroup) (backs : Backs s v) → group_at s.kept group ≡ Some there
+    → (is_kept v group ≡ true) × SpellsGroup backs.blocks.stored group there (v.pools group)
+kept_spelled s v group there backs is =
+    kept_cases backs.blocks.stored group (group_at s.kept group) there (is_kept v group) (v.pools group) is (backs.blocks.kept group)
 
-pub not_kept : (s : State) (v : View) (group : ℕ) → Backs s v → volumes_at s.kept group ≡ None → is_kept v group ≡ false
+pub not_kept : (s : State) (v : View) (group : ℕ) → Backs s v → group_at s.kept group ≡ None → is_kept v group ≡ false
 not_kept s v group backs is =
-    gone_cases backs.blocks.stored group (volumes_at s.kept group) (is_kept v group) (v.pools group) is (backs.blocks.kept group)
+    gone_cases backs.blocks.stored group (group_at s.kept group) (is_kept v group) (v.pools group) is (backs.blocks.kept group)
 
-pub last_at : (kept : Kept) → volumes_at kept kept.committed ≡ Some kept.last
+-- the root of a group spells its pool
+pub root_spelled : (stored : Contents) (group : ℕ) (kept : KeptGroup) (pool : PlainPool) (root : Block) → SpellsGroup stored group kept pool → kept.root ≡ Some root → SpellsPool stored group root pool
+root_spelled stored group kept pool root spells is = subst (λ (o : Option Block). SpellsRoot stored group o pool) is spells.root
+
+pub last_at : (kept : Kept) → group_at kept kept.committed ≡ Some kept.last
 last_at kept =
     ap (λ (b : Bool). cond b (Some kept.last) (if suc kept.committed == kept.committed then kept.before else (if suc (suc kept.committed) == kept.committed then kept.earliest else None)))
     (eq-eqb kept.committed kept.committed refl)
 
 -- the committed group has the last ones
-pub last_spelled : (s : State) (v : View) (backs : Backs s v) → SpellsPool backs.blocks.stored v.committed s.kept.last (v.pools v.committed)
+pub last_spelled : (s : State) (v : View) (backs : Backs s v) → SpellsGroup backs.blocks.stored v.committed s.kept.last (v.pools v.committed)
 last_spelled s v backs =
-    (kept_spelled s v v.committed s.kept.last backs (ap (volumes_at s.kept) (sym backs.committed) ∙ last_at s.kept)).1
+    (kept_spelled s v v.committed s.kept.last backs (ap (group_at s.kept) (sym backs.committed) ∙ last_at s.kept)).1
 
 -- ---- reads
 

@@ -12,22 +12,21 @@ use Rattle.raidz_io.proofs.Calls.{Contains-front, Contains-later, Contains-cases
 use Rattle.raidz_io.proofs.Placed.{placed_at}
 use Rattle.block_store.specs.declared.shape.VdevShape.{VdevShape}
 use Rattle.block_store.specs.declared.space.VdevSpace.{VdevSpace}
-use Rattle.block_store.specs.Blocks.{Contents}
+use Rattle.block_store.specs.Blocks.{Contents, Extends}
 use Rattle.block_store.specs.Places.{shapes_of, HaveMarks}
 use Rattle.block_store.specs.Places.{filled as filled_marks, planned as planned_marks}
 use Rattle.block_store.specs.Plans.{Plans}
 use Rattle.block_store.specs.Steps.{OnlyReadsAndPlans, AnswersAreTrue}
 use Rattle.block_store.specs.Store.{Store, Holds, outs, outs_from, is_out}
 use Rattle.block_store.proofs.Writing.{found_at}
-use Rattle.group_volumes.specs.declared.volumes.GroupVolumes.{GroupVolumes}
-use Rattle.group_volumes.specs.Volumes.{SpellsPool, IsPlannedAs}
+use Rattle.pool_commit.specs.declared.kept.KeptGroup.{KeptGroup}
 use Rattle.pool_model.specs.Flow.{counted_on}
 use Rattle.pool_model.specs.Machine.{due_write, due_flush, IsPlan}
 use Rattle.pool_model.proofs.Plans.{writes_on, is_plan as plan_of}
 use Rattle.pool_model.specs.Pools.{PlainPool, Entry, applied}
 use Rattle.pool_model.specs.View.{View, Vdev, DueCall, Sync, Due, is_planned, counted, disks_of, disks_in_use}
 use Rattle.pool_commit.specs.declared.kept.Planned.{Planned}
-use Rattle.pool_commit.specs.Backs.{Backs, IsPlanOf, left_calls}
+use Rattle.pool_commit.specs.Backs.{Backs, IsPlanOf, left_calls, SpellsGroup}
 use Rattle.pool_commit.specs.Making.{writes_left}
 use Rattle.pool_commit.specs.Config.{shown, vdevs_of}
 use Rattle.pool_commit.specs.Room.{IsBegun}
@@ -194,31 +193,31 @@ backs_still s new v no_plan kept backs =
 pub unplanned_still : (s : State) (planned : Option Planned) (v : View) → planned ≡ None → Backs (record s { planned = None }) v → Backs (record s { planned = planned }) v
 unplanned_still s planned v none backs = subst (λ (o : Option Planned). Backs (record s { planned = o }) v) (sym none) backs
 
--- a group's volumes, once its writes were planned
-abbrev pub IsAfter : Store → Store → ℕ → GroupVolumes → Entry → GroupVolumes → Type 0
+-- the next group, once it was planned
+abbrev pub IsAfter : Store → Store → ℕ → KeptGroup → Entry → KeptGroup → Type 0
 IsAfter old new group last items after =
-    (stored planned : Contents) (pool : PlainPool) → Plans old stored planned → SpellsPool stored (group - 1) last pool → AnswersAreTrue old new
-    → IsPlannedAs new stored planned group after (applied group pool items)
+    (stored planned : Contents) (pool : PlainPool) → Plans old stored planned → SpellsGroup stored (group - 1) last pool → AnswersAreTrue old new
+    → (later : Contents) × Plans new stored later × Extends planned later × SpellsGroup later group after (applied group pool items)
 
-pub plan_is_backed : (s : State) (new : Store) (group : ℕ) (last : GroupVolumes) (plan : Planned) (items : Entry) (v : View) → Backs s v → s.store.due ≡ []
+pub plan_is_backed : (s : State) (new : Store) (group : ℕ) (last : KeptGroup) (plan : Planned) (items : Entry) (v : View) → Backs s v → s.store.due ≡ []
     → group ≡ suc v.committed → last ≡ s.kept.last → items ≡ v.ledger (suc v.committed)
     → plan.flushes.items ≡ filter (λ disk. not (is_out s.store.out disk)) (disks_of (vdevs_of s.store.spaces))
-    → OnlyReadsAndPlans s.store new [] → AnswersAreTrue s.store new → IsAfter s.store new group last items plan.volumes
+    → OnlyReadsAndPlans s.store new [] → AnswersAreTrue s.store new → IsAfter s.store new group last items plan.after
     → (calls : List DueCall) × IsPlan v calls × Backs (record { store = new; kept = s.kept; planned = Some plan }) (record v { sync = Due calls })
 plan_is_backed s new group last plan items v backs none next is_last are flushes kept honest after =
     let before : group - 1 ≡ v.committed = omega arith in
     let pool : PlainPool = v.pools v.committed in
-    let spelled : SpellsPool backs.blocks.stored (group - 1) last pool =
-    subst (λ (n : ℕ). SpellsPool backs.blocks.stored n last pool) (sym before)
-    (subst (λ (volumes : GroupVolumes). SpellsPool backs.blocks.stored v.committed volumes pool) (sym is_last) (last_spelled s v backs)) in
+    let spelled : SpellsGroup backs.blocks.stored (group - 1) last pool =
+    subst (λ (n : ℕ). SpellsGroup backs.blocks.stored n last pool) (sym before)
+    (subst (λ (kept : KeptGroup). SpellsGroup backs.blocks.stored v.committed kept pool) (sym is_last) (last_spelled s v backs)) in
     let there = after backs.blocks.stored backs.blocks.planned pool backs.blocks.plans spelled honest in
     let all : plan.flushes.items ≡ disks_in_use v =
     flushes ∙ (λ i. filter (λ disk. not (sym (backs.out disk) i)) (disks_of (sym backs.vdevs i))) in
     let plan_is : IsPlan v (left_calls none_before new.due plan.flushes.items) =
-    is_plan s.store new v plan.flushes.items backs.blocks.stored there.later backs.vdevs backs.out none kept there.plans all in
-    let spells : SpellsPool there.later (suc v.committed) plan.volumes (applied (suc v.committed) pool (v.ledger (suc v.committed))) =
-    subst (λ (entry : Entry). SpellsPool there.later (suc v.committed) plan.volumes (applied (suc v.committed) pool entry)) are
-    (subst (λ (n : ℕ). SpellsPool there.later n plan.volumes (applied n pool items)) next there.spells) in (
+    is_plan s.store new v plan.flushes.items backs.blocks.stored there.0 backs.vdevs backs.out none kept there.1 all in
+    let spells : SpellsGroup there.0 (suc v.committed) plan.after (applied (suc v.committed) pool (v.ledger (suc v.committed))) =
+    subst (λ (entry : Entry). SpellsGroup there.0 (suc v.committed) plan.after (applied (suc v.committed) pool entry)) are
+    (subst (λ (n : ℕ). SpellsGroup there.0 n plan.after (applied n pool items)) next there.3) in (
       left_calls none_before new.due plan.flushes.items,
       plan_is,
       record {
@@ -227,8 +226,8 @@ plan_is_backed s new group last plan items v backs none next is_last are flushes
         committed = backs.committed;
         blocks = record {
           stored = backs.blocks.stored;
-          planned = there.later;
-          plans = there.plans;
+          planned = there.0;
+          plans = there.1;
           kept = backs.blocks.kept;
           plan = record {
             counts = none_before;

@@ -9,8 +9,7 @@ use Rattle.block_store.specs.Places.{shapes_of}
 use Rattle.block_store.specs.declared.shape.VdevShape.{VdevShape}
 use Rattle.block_store.specs.declared.space.VdevSpace.{VdevSpace}
 use Rattle.block_store.specs.Store.{Store, is_out}
-use Rattle.group_volumes.specs.declared.volumes.GroupVolumes.{GroupVolumes}
-use Rattle.group_volumes.specs.Volumes.{SpellsPool}
+use Rattle.pool_commit.specs.declared.kept.KeptGroup.{KeptGroup}
 use Rattle.pool_model.specs.declared.step.Phase.{Phase}
 use Rattle.pool_model.specs.declared.step.Phase.TheVariants.{Blocks, BlocksFlush}
 use Rattle.raidz_io.proofs.Calls.{Contains-none}
@@ -23,13 +22,13 @@ use Rattle.pool_commit.specs.declared.device.Progress.{Progress}
 use Rattle.pool_commit.specs.declared.device.Progress.TheVariants.{Moved, Done, Dropped}
 use Rattle.pool_commit.specs.declared.kept.Kept.{Kept}
 use Rattle.pool_commit.specs.declared.kept.Planned.{Planned}
-use Rattle.pool_commit.specs.Backs.{Backs, IsPlanOf, IsToFlush, SpellsKept, kept_pool, left_calls, pool_after}
+use Rattle.pool_commit.specs.Backs.{Backs, IsPlanOf, IsToFlush, SpellsKept, kept_pool, left_calls, pool_after, SpellsGroup}
 use Rattle.pool_commit.specs.Calls.{disk_call, made_between, faults_between, unread_between, called_between, IsFlushed}
 use Rattle.pool_commit.specs.Config.{shown, vdevs_of}
 use Rattle.pool_commit.specs.HasDisks.{AreBelow, HasDisks}
 use Rattle.pool_commit.specs.Making.{writes_left, flushes_left, MadeCalls, FailedCall, FlushesMove}
 use Rattle.pool_commit.specs.Progress.{AreMade, Progresses, GoesOn, DropsPlan, with_plan}
-use Rattle.pool_commit.specs.State.{State, volumes_at}
+use Rattle.pool_commit.specs.State.{State, group_at}
 use Rattle.pool_commit.proofs.Keeping.{kept_next}
 use Rattle.pool_commit.proofs.Made.{writes_count}
 
@@ -139,9 +138,9 @@ are_made old mid new v left made rest out same order in_use seen unread called =
 pub goes_on : (old : State) (mid : Store) (plan later : Planned) (v : View) (phase : Phase) (n : ℕ) (progress : Progress) (new : State) (after : ℕ → ℕ)
     → (backs : Backs (with_plan old plan) v) → v.committed < 2 ^ 62 → (0 < n) ⊎ (left_calls backs.blocks.plan.counts old.store.due plan.flushes.items ≡ []) → n ≤ 4
     → MadeCalls old.store mid (left_calls backs.blocks.plan.counts old.store.due plan.flushes.items) (left_calls after mid.due later.flushes.items) phase n
-    → MakesNext (left_calls backs.blocks.plan.counts old.store.due plan.flushes.items) phase → StaysToFlush old plan later mid → later.volumes ≡ plan.volumes
+    → MakesNext (left_calls backs.blocks.plan.counts old.store.due plan.flushes.items) phase → StaysToFlush old plan later mid → later.after ≡ plan.after
     → GoesOn (record { store = mid; kept = old.kept; planned = None }) later phase progress new → Progresses old progress new v
-goes_on old mid plan later v phase n (Moved moved) new after_made backs low some few so next stays volumes goes =
+goes_on old mid plan later v phase n (Moved moved) new after_made backs low some few so next stays same goes =
     let has = backs.blocks.plan in
     let left : List DueCall = left_calls has.counts old.store.due plan.flushes.items in
     let rest : List DueCall = left_calls after_made mid.due later.flushes.items in
@@ -170,7 +169,7 @@ goes_on old mid plan later v phase n (Moved moved) new after_made backs low some
           plan = record {
             counts = after_made;
             sync = refl;
-            spells = subst (λ (g : GroupVolumes). SpellsPool backs.blocks.planned (suc v.committed) g (pool_after v)) (sym volumes) has.spells;
+            spells = subst (λ (g : KeptGroup). SpellsGroup backs.blocks.planned (suc v.committed) g (pool_after v)) (sym same) has.spells;
             to_flush = λ disk in_use. stays disk (has.to_flush disk in_use);
             in_use = all_rest (λ (call : DueCall). is_out mid.out call.disk ≡ false) so.made rest
                 (subst (AllByRecursion (λ (call : DueCall). is_out mid.out call.disk ≡ false)) so.order
@@ -183,7 +182,7 @@ goes_on old mid plan later v phase n (Moved moved) new after_made backs low some
     made_some : (0 < n) ⊎ (left_calls backs.blocks.plan.counts old.store.due plan.flushes.items ≡ []) → 0 < length so.made
     made_some (inl above) = omega (arith, so.count, above)
     made_some (inr none) = absurd (omega (arith, goes.1, count_left after_made mid.due later.flushes.items, ap length so.order, ap length none, length-append so.made (left_calls after_made mid.due later.flushes.items)))
-goes_on old mid plan later v phase n Done new after_made backs low some few so next stays volumes goes =
+goes_on old mid plan later v phase n Done new after_made backs low some few so next stays same goes =
     let has = backs.blocks.plan in
     let left : List DueCall = left_calls has.counts old.store.due plan.flushes.items in
     let next_group = goes.3.committed (subst (λ c. c < 2 ^ 62) (sym backs.committed) low) ∙ ap suc backs.committed in (
@@ -207,7 +206,7 @@ goes_on old mid plan later v phase n Done new after_made backs low some few so n
           plans = goes.2.plans backs.blocks.stored backs.blocks.planned (so.same.plans backs.blocks.stored backs.blocks.planned backs.blocks.plans);
           kept = kept_next v old.kept new.kept backs.blocks.stored backs.blocks.planned backs.committed
               next_group goes.3.before goes.3.earliest backs.blocks.plans.kept
-              (subst (λ (g : GroupVolumes). SpellsPool backs.blocks.planned (suc v.committed) g (pool_after v)) (sym (goes.3.last ∙ volumes)) has.spells) backs.blocks.kept;
+              (subst (λ (g : KeptGroup). SpellsGroup backs.blocks.planned (suc v.committed) g (pool_after v)) (sym (goes.3.last ∙ same)) has.spells) backs.blocks.kept;
           plan = subst (λ (o : Option Planned). IsPlanOf new backs.blocks.planned o (committed_next v)) (sym goes.4) refl;
         };
       },
@@ -222,7 +221,7 @@ goes_on old mid plan later v phase n Done new after_made backs low some few so n
       next.makes so.made [] (rest_none ∙ sym (append-nil so.made)) (omega (arith, so.count, above)) (omega (arith, so.count, few)) so.in_phase,
     )
     makes_all (inr none) = inl (none, sym rest_none ∙ none)
-goes_on old mid plan later v phase n (Dropped disk) new after_made backs low some few so next stays volumes goes = absurd goes
+goes_on old mid plan later v phase n (Dropped disk) new after_made backs low some few so next stays same goes = absurd goes
 
 -- a call failed, and the plan is dropped
 pub drops : (old : State) (mid : Store) (plan : Planned) (v : View) (phase : Phase) (disk : ℕ) (new : State)
@@ -257,7 +256,7 @@ drops old mid plan v phase disk new backs failed next drop kept none =
           stored = backs.blocks.stored;
           planned = backs.blocks.stored;
           plans = drop.plans backs.blocks.stored backs.blocks.planned (failed.same.plans backs.blocks.stored backs.blocks.planned backs.blocks.plans);
-          kept = subst (λ (k : Kept). (group : ℕ) → SpellsKept backs.blocks.stored group (volumes_at k group) (kept_pool v group)) (sym kept) backs.blocks.kept;
+          kept = subst (λ (k : Kept). (group : ℕ) → SpellsKept backs.blocks.stored group (group_at k group) (kept_pool v group)) (sym kept) backs.blocks.kept;
           plan = subst (λ (o : Option Planned). IsPlanOf new backs.blocks.stored o (dropped v disk)) (sym none) (none_planned v.sync);
         };
       },

@@ -62,6 +62,23 @@ in_range offset len shape answer judged none =
     let within : offset + len ≤ length (plain shape).bytes = at_most (offset + len) (length (plain shape).bytes) fits.0 in
     (omega arith, at_most len (2 ^ 20) fits.1)
 
+-- with no shape there is no volume
+pub at_none : (found : Option PlainVolume) → option_map shape_of found ≡ None → found ≡ None
+at_none None is = refl
+at_none (Some volume) is = absurd (cc)
+
+-- a range within a shape is within a volume of it
+pub shape_within : (offset len : ℕ) (shape : VolumeShape) (volume : PlainVolume) → shape ≡ shape_of volume → offset + len ≤ shape.size → offset + len ≤ length volume.bytes
+shape_within offset len shape volume is within = let same : shape.size ≡ length volume.bytes = ap (λ (s : VolumeShape). s.size) is in omega arith
+
+-- a shape that is there is that of a volume
+pub at_shape : (found : Option PlainVolume) (shape : VolumeShape) → Some shape ≡ option_map shape_of found → (volume : PlainVolume) × (found ≡ Some volume) × (shape ≡ shape_of volume)
+at_shape (Some volume) shape is = (volume, refl, some_is shape (shape_of volume) is)
+  where
+    some_is : (x y : VolumeShape) → Some x ≡ Some y → x ≡ y
+    some_is x y is = cc
+at_shape None shape is = absurd (cc)
+
 -- the cause that it has against a volume of a pool
 cause_at : (offset len : ℕ) (name : List ℕ) (pool : PlainPool) (shape : VolumeShape) (answer : Option Cause) (volume : PlainVolume) → Judges offset len shape answer
     → volume_at name pool ≡ Some volume → shape ≡ shape_of volume → answer ≡ read_refusal offset len (volume_at name pool)

@@ -1,80 +1,93 @@
 -- Refusals of the layers below.
-use Rattle.std.proofs.Common.{ℕ, ◌≡◌, ◌⊎◌, ⊎_elim, List, refl, sym, ap, subst, inl, inr}
+use Rattle.std.proofs.Common.{◌≡◌, ◌⊎◌, ◌∙◌, ap, subst, inl, inr, refl}
 use Rattle.block_store.specs.declared.refusal.Refusal.{Refusal as StoreRefusal}
 use Rattle.block_store.specs.declared.refusal.Refusal.TheVariants as store
+use Rattle.block_store.specs.Losses.{IsForLoss}
+use Rattle.block_store.specs.Steps.{AnswersAreTrue}
 use Rattle.block_store.specs.Store.{Store}
-use Rattle.group_volumes.specs.declared.refusal.Refusal.{Refusal as VolumesRefusal}
-use Rattle.group_volumes.specs.declared.refusal.Refusal.TheVariants as volumes
-use Rattle.group_volumes.specs.declared.volumes.GroupVolumes.{GroupVolumes}
-use Rattle.group_volumes.specs.Refusals.{refusal_of}
-use Rattle.group_volumes.specs.Room.{LacksRoom as LacksRoomFor}
-use Rattle.group_volumes.specs.Unread.{IsUnreadFor}
-use Rattle.pool_model.specs.Pools.{Entry}
-use Rattle.pool_now.specs.GoodChanges.{MakesGoodVolumes}
-use Rattle.volume_blocks.specs.declared.volume.VolumeBlocks.{VolumeBlocks}
-use Rattle.volume_blocks.specs.Reading.{IsUnread}
+use Rattle.dnode_tree.specs.Writes.{IsForRoom}
 use Rattle.pool_commit.specs.declared.refusal.Refusal.{Refusal}
-use Rattle.pool_commit.specs.declared.refusal.Refusal.TheVariants.{NoMemory, DiskFault, NoSpace, BadPointer, BadDigest, BadConfig}
-use Rattle.pool_commit.specs.Causes.{of_store, of_volumes}
-use Rattle.pool_commit.specs.Reading.{IsReadFault}
+use Rattle.pool_commit.specs.declared.refusal.Refusal.TheVariants.{NoMemory, DiskFault, NoSpace, BadConfig}
+use Rattle.pool_commit.specs.Causes.{of_read, of_store}
+use Rattle.pool_commit.specs.Reading.{IsFaultIn, IsReadFault}
 
--- a block of a volume that could not be read
-abbrev pub IsUnreadCause : StoreRefusal → Type 0
-IsUnreadCause refusal = (refusal ≡ store.BadPointer) ⊎ ((refusal ≡ store.DiskFault) ⊎ (refusal ≡ store.BadDigest))
+-- a fault of disks is one of the store
+pub only_lost : (cause : StoreRefusal) → of_store cause ≡ DiskFault → cause ≡ store.DiskFault
+only_lost store.NoMemory is = absurd (cc)
+only_lost store.DiskFault is = refl
+only_lost store.NoSpace is = absurd (cc)
+only_lost store.BadPointer is = absurd (cc)
+only_lost store.BadDigest is = absurd (cc)
+only_lost store.BadConfig is = absurd (cc)
 
-pub unread_cause : {old new : Store} {volume : VolumeBlocks} {birth id : ℕ} {missing : List ℕ} {refusal : StoreRefusal} → IsUnread old new volume birth id missing refusal → IsUnreadCause refusal
-unread_cause unread = ⊎_elim (λ bad. inl bad.0) (λ last. ⊎_elim (λ lost. inr (inl lost.0)) (λ digest. inr (inr digest.0)) last.last.cause) unread.cause
+pub only_lost_read : (cause : StoreRefusal) → of_read cause ≡ DiskFault → cause ≡ store.DiskFault
+only_lost_read store.NoMemory is = absurd (cc)
+only_lost_read store.DiskFault is = refl
+only_lost_read store.NoSpace is = absurd (cc)
+only_lost_read store.BadPointer is = absurd (cc)
+only_lost_read store.BadDigest is = absurd (cc)
+only_lost_read store.BadConfig is = absurd (cc)
 
-pub read_fault : (refusal : StoreRefusal) → IsUnreadCause refusal → IsReadFault (of_store refusal)
-read_fault refusal cause =
-    ⊎_elim (λ e. inr (inl (subst (λ (r : StoreRefusal). of_store r ≡ BadPointer) (sym e) refl)))
-    (λ other. ⊎_elim (λ e. inl (subst (λ (r : StoreRefusal). of_store r ≡ DiskFault) (sym e) refl))
-    (λ e. inr (inr (subst (λ (r : StoreRefusal). of_store r ≡ BadDigest) (sym e) refl))) other) cause
+pub only_room : (cause : StoreRefusal) → of_store cause ≡ NoSpace → cause ≡ store.NoSpace
+only_room store.NoMemory is = absurd (cc)
+only_room store.DiskFault is = absurd (cc)
+only_room store.NoSpace is = refl
+only_room store.BadPointer is = absurd (cc)
+only_room store.BadDigest is = absurd (cc)
+only_room store.BadConfig is = absurd (cc)
 
-pub is_memory : (refusal : StoreRefusal) → refusal ≡ store.NoMemory → of_store refusal ≡ NoMemory
-is_memory refusal e = subst (λ (r : StoreRefusal). of_store r ≡ NoMemory) (sym e) refl
+not_for_loss : (cause : StoreRefusal) → ¬ (cause ≡ store.NoMemory) → ¬ (cause ≡ store.DiskFault) → ¬ IsForLoss cause
+not_for_loss cause memory lost (inl is) = memory is
+not_for_loss cause memory lost (inr is) = lost is
 
--- what is no fault of a read
-pub not_memory : (refusal : Refusal) → IsReadFault refusal → ¬ (refusal ≡ NoMemory)
-not_memory refusal fault is = ⊎_elim (λ e. cc) (λ other. ⊎_elim (λ e. cc) (λ e. cc) other) fault
+not_for_plan : (cause : StoreRefusal) → ¬ (cause ≡ store.NoMemory) → ¬ (cause ≡ store.NoSpace) → ¬ (cause ≡ store.DiskFault) → ¬ (IsForRoom cause ⊎ (cause ≡ store.DiskFault))
+not_for_plan cause memory space lost (inl (inl is)) = memory is
+not_for_plan cause memory space lost (inl (inr is)) = space is
+not_for_plan cause memory space lost (inr is) = lost is
 
-not_space : (refusal : Refusal) → IsReadFault refusal → ¬ (refusal ≡ NoSpace)
-not_space refusal fault is = ⊎_elim (λ e. cc) (λ other. ⊎_elim (λ e. cc) (λ e. cc) other) fault
+-- a read of a pool that is whole is refused for want of memory or for a fault
+pub read_faults : (old new : Store) (cause : StoreRefusal) → (AnswersAreTrue old new → IsForLoss cause) → (of_read cause ≡ NoMemory) ⊎ IsFaultIn old new (of_read cause)
+read_faults old new store.NoMemory known = inl refl
+read_faults old new store.DiskFault known = inr (inl refl)
+read_faults old new store.NoSpace known = inr (inr (inl refl, (λ true. not_for_loss store.NoSpace (λ e. cc) (λ e. cc) (known true))))
+read_faults old new store.BadPointer known = inr (inr (inl refl, (λ true. not_for_loss store.BadPointer (λ e. cc) (λ e. cc) (known true))))
+read_faults old new store.BadDigest known = inr (inr (inr refl, (λ true. not_for_loss store.BadDigest (λ e. cc) (λ e. cc) (known true))))
+read_faults old new store.BadConfig known = inr (inr (inl refl, (λ true. not_for_loss store.BadConfig (λ e. cc) (λ e. cc) (known true))))
 
-not_config : (refusal : Refusal) → IsReadFault refusal → ¬ (refusal ≡ BadConfig)
-not_config refusal fault is = ⊎_elim (λ e. cc) (λ other. ⊎_elim (λ e. cc) (λ e. cc) other) fault
+-- and a plan, or for want of room
+pub plan_faults : (old new : Store) (cause : StoreRefusal) → (AnswersAreTrue old new → IsForRoom cause ⊎ (cause ≡ store.DiskFault))
+    → (of_store cause ≡ NoMemory) ⊎ ((of_store cause ≡ NoSpace) ⊎ IsFaultIn old new (of_store cause))
+plan_faults old new store.NoMemory known = inl refl
+plan_faults old new store.NoSpace known = inr (inl refl)
+plan_faults old new store.DiskFault known = inr (inr (inl refl))
+plan_faults old new store.BadPointer known = inr (inr (inr (inl refl, (λ true. not_for_plan store.BadPointer (λ e. cc) (λ e. cc) (λ e. cc) (known true)))))
+plan_faults old new store.BadDigest known = inr (inr (inr (inr refl, (λ true. not_for_plan store.BadDigest (λ e. cc) (λ e. cc) (λ e. cc) (known true)))))
+plan_faults old new store.BadConfig known = inr (inr (inr (inl refl, (λ true. not_for_plan store.BadConfig (λ e. cc) (λ e. cc) (λ e. cc) (known true)))))
 
--- the volumes answer as the store does
-pub same_answer : (cause : StoreRefusal) → of_volumes (refusal_of cause) ≡ of_store cause
-same_answer store.NoMemory = refl
-same_answer store.DiskFault = refl
-same_answer store.NoSpace = refl
-same_answer store.BadPointer = refl
-same_answer store.BadDigest = refl
-same_answer store.BadConfig = refl
+-- want of memory is no fault
+memory_is_none : ¬ IsReadFault NoMemory
+memory_is_none (inl is) = cc
+memory_is_none (inr (inl is)) = cc
+memory_is_none (inr (inr is)) = cc
 
--- why the volumes after a group can't be planned
-abbrev pub IsPlanRefused : Store → Store → GroupVolumes → Entry → ℕ → VolumesRefusal → Type 0
-IsPlanRefused old new last items group refusal =
-    (refusal ≡ volumes.NoMemory)
-    ⊎ (((refusal ≡ volumes.NoSpace) × LacksRoomFor old.spaces last items.writes group)
-    ⊎ (((refusal ≡ volumes.BadConfig) × ¬ MakesGoodVolumes items) ⊎ IsUnreadFor old new last items.writes group refusal))
+pub no_fault_of_memory : (refusal : Refusal) (cause : StoreRefusal) → refusal ≡ of_read cause → IsReadFault refusal → ¬ (cause ≡ store.NoMemory)
+no_fault_of_memory refusal cause answered fault memory = memory_is_none (subst IsReadFault (answered ∙ ap of_read memory) fault)
 
-unread_fault : (old new : Store) (last : GroupVolumes) (items : Entry) (group : ℕ) (refusal : VolumesRefusal) → IsUnreadFor old new last items.writes group refusal → IsReadFault (of_volumes refusal)
-unread_fault old new last items group refusal is =
-    subst (λ (r : VolumesRefusal). IsReadFault (of_volumes r)) (sym is.unread.answered)
-    (subst IsReadFault (sym (same_answer is.unread.cause)) (read_fault is.unread.cause (unread_cause is.unread.unread.unread)))
+pub no_fault_of_memory_in_plan : (refusal : Refusal) (cause : StoreRefusal) → refusal ≡ of_store cause → IsReadFault refusal → ¬ (cause ≡ store.NoMemory)
+no_fault_of_memory_in_plan refusal cause answered fault memory = memory_is_none (subst IsReadFault (answered ∙ ap of_store memory) fault)
 
-pub only_space : (old new : Store) (last : GroupVolumes) (items : Entry) (group : ℕ) (refusal : VolumesRefusal) → of_volumes refusal ≡ NoSpace
-    → IsPlanRefused old new last items group refusal → LacksRoomFor old.spaces last items.writes group
-only_space old new last items group refusal is (inl memory) = absurd (let e : of_volumes refusal ≡ NoMemory = ap of_volumes memory in cc)
-only_space old new last items group refusal is (inr (inl space)) = space.1
-only_space old new last items group refusal is (inr (inr (inl config))) = absurd (let e : of_volumes refusal ≡ BadConfig = ap of_volumes config.0 in cc)
-only_space old new last items group refusal is (inr (inr (inr unread))) = absurd (not_space (of_volumes refusal) (unread_fault old new last items group refusal unread) is)
+fault_of : (old new : Store) (refusal : Refusal) → IsFaultIn old new refusal → IsReadFault refusal
+fault_of old new refusal (inl lost) = inl lost
+fault_of old new refusal (inr (bad, untrue)) = inr bad
 
-pub only_unread : (old new : Store) (last : GroupVolumes) (items : Entry) (group : ℕ) (refusal : VolumesRefusal) → IsReadFault (of_volumes refusal)
-    → IsPlanRefused old new last items group refusal → IsUnreadFor old new last items.writes group refusal
-only_unread old new last items group refusal fault (inl memory) = absurd (not_memory (of_volumes refusal) fault (ap of_volumes memory))
-only_unread old new last items group refusal fault (inr (inl space)) = absurd (not_space (of_volumes refusal) fault (ap of_volumes space.0))
-only_unread old new last items group refusal fault (inr (inr (inl config))) = absurd (not_config (of_volumes refusal) fault (ap of_volumes config.0))
-only_unread old new last items group refusal fault (inr (inr (inr unread))) = unread
+pub no_fault_in_memory : (old new : Store) (cause : StoreRefusal) → IsFaultIn old new (of_read cause) → ¬ (cause ≡ store.NoMemory)
+no_fault_in_memory old new cause fault memory = no_fault_of_memory (of_read cause) cause refl (fault_of old new (of_read cause) fault) memory
+
+-- no refusal of the store is one of a configuration
+pub no_config : (cause : StoreRefusal) → ¬ (of_store cause ≡ BadConfig)
+no_config store.NoMemory is = cc
+no_config store.DiskFault is = cc
+no_config store.NoSpace is = cc
+no_config store.BadPointer is = cc
+no_config store.BadDigest is = cc
+no_config store.BadConfig is = cc

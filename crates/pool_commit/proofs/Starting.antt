@@ -9,17 +9,17 @@ use Rattle.block_store.specs.declared.create.VdevConfig.{VdevConfig}
 use Rattle.block_store.specs.declared.shape.VdevShape.{VdevShape}
 use Rattle.block_store.specs.Config.{AreShapes}
 use Rattle.block_store.specs.Places.{shapes_of}
+use Rattle.block_pointer.specs.declared.block.Block.{Block}
 use Rattle.block_store.specs.Blocks.{Contents, nothing_stored}
 use Rattle.block_store.specs.Plans.{Plans}
 use Rattle.block_store.specs.Store.{Store, is_out}
-use Rattle.group_volumes.specs.declared.volumes.GroupVolumes.{GroupVolumes}
-use Rattle.group_volumes.specs.Volumes.{SpellsPool}
+use Rattle.pool_commit.specs.declared.kept.KeptGroup.{KeptGroup}
 use Rattle.pool_model.specs.Pools.{PlainPool, no_volumes}
 use Rattle.pool_model.specs.View.{Vdev, started}
 use Rattle.pool_commit.specs.declared.kept.Kept.{Kept}
-use Rattle.pool_commit.specs.Backs.{Backs, SpellsKept, kept_pool}
+use Rattle.pool_commit.specs.Backs.{Backs, SpellsKept, kept_pool, SpellsGroup, SpellsRoot}
 use Rattle.pool_commit.specs.Config.{shown, vdevs_from}
-use Rattle.pool_commit.specs.State.{volumes_at}
+use Rattle.pool_commit.specs.State.{IsFirst, group_at}
 
 vdev_is : (first : ℕ) (config : Geometry) (vdev : VdevOnDisks) → vdev.first ≡ first → vdev.geometry ≡ config
     → record { first = first; children = config.children; parity = config.parity } ≡ shown vdev
@@ -36,42 +36,48 @@ vdevs_made starts first (config ∷ configs) (shape ∷ shapes) are =
 
 -- group 3 is kept, and no other
 kept_first : (kept : Kept) (vdevs : List Vdev) → kept.committed ≡ 3 → kept.before ≡ None → kept.earliest ≡ None
-    → ((stored : Contents) (birth : ℕ) → SpellsPool stored birth kept.last no_volumes) → (group : ℕ)
-    → SpellsKept nothing_stored group (volumes_at kept group) (kept_pool (started vdevs) group)
+    → ((stored : Contents) (birth : ℕ) → SpellsGroup stored birth kept.last no_volumes) → (group : ℕ)
+    → SpellsKept nothing_stored group (group_at kept group) (kept_pool (started vdevs) group)
 kept_first kept vdevs c b e empty group = elim (cases_eq group 3) [
   | inl at ↦
-      subst (λ (o : Option GroupVolumes). SpellsKept nothing_stored group o (kept_pool (started vdevs) group)) (sym (there at))
+      subst (λ (o : Option KeptGroup). SpellsKept nothing_stored group o (kept_pool (started vdevs) group)) (sym (there at))
       (subst (λ (o : Option PlainPool). SpellsKept nothing_stored group (Some kept.last) o) (sym (pool_there at)) (empty nothing_stored group))
   | inr other ↦
-      subst (λ (o : Option GroupVolumes). SpellsKept nothing_stored group o (kept_pool (started vdevs) group)) (sym (gone other))
+      subst (λ (o : Option KeptGroup). SpellsKept nothing_stored group o (kept_pool (started vdevs) group)) (sym (gone other))
       (subst (λ (o : Option PlainPool). SpellsKept nothing_stored group None o) (sym (pool_gone other)) tt)
 ]
   where
-    there : group ≡ 3 → volumes_at kept group ≡ Some kept.last
+    there : group ≡ 3 → group_at kept group ≡ Some kept.last
     there at = grind (arith, nat_tests, c, at)
 
     pool_there : group ≡ 3 → kept_pool (started vdevs) group ≡ Some no_volumes
     pool_there at = grind (arith, nat_tests, at)
 
-    gone : group ≢ 3 → volumes_at kept group ≡ None
+    gone : group ≢ 3 → group_at kept group ≡ None
     gone other = grind (arith, nat_tests, c, b, e, other)
 
     pool_gone : group ≢ 3 → kept_pool (started vdevs) group ≡ None
     pool_gone other = grind (arith, nat_tests, other)
 
+-- with no root and no names there are no volumes
+no_volumes_first : (kept : Kept) → IsFirst kept → (stored : Contents) (birth : ℕ) → SpellsGroup stored birth kept.last no_volumes
+no_volumes_first kept is stored birth = record {
+  root = subst (λ (root : Option Block). SpellsRoot stored birth root no_volumes) (sym is.root) refl;
+  names = is.names;
+}
+
 pub starts : (store : Store) (kept : Kept) (configs : List VdevConfig) → AreShapes store.disks.starts 0 configs (shapes_of store.spaces)
-    → ((disk : ℕ) → is_out store.out disk ≡ false) → Plans store nothing_stored nothing_stored → kept.committed ≡ 3 → kept.before ≡ None → kept.earliest ≡ None
-    → ((stored : Contents) (birth : ℕ) → SpellsPool stored birth kept.last no_volumes)
+    → ((disk : ℕ) → is_out store.out disk ≡ false) → Plans store nothing_stored nothing_stored → IsFirst kept
     → Backs (record { store = store; kept = kept; planned = None }) (started (vdevs_from 0 configs))
-starts store kept configs shapes out plans c b e empty = record {
+starts store kept configs shapes out plans first = record {
   vdevs = vdevs_made store.disks.starts 0 configs (shapes_of store.spaces) shapes;
   out = λ disk. sym (out disk);
-  committed = c;
+  committed = first.committed;
   blocks = record {
     stored = nothing_stored;
     planned = nothing_stored;
     plans = plans;
-    kept = kept_first kept (vdevs_from 0 configs) c b e empty;
+    kept = kept_first kept (vdevs_from 0 configs) first.committed first.before first.earliest (no_volumes_first kept first);
     plan = refl;
   };
 }

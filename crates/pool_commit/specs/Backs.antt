@@ -5,21 +5,34 @@ use Rattle.raidz_io.specs.declared.writes.ColumnWrite.{ColumnWrite}
 use Rattle.block_store.specs.Blocks.{Contents}
 use Rattle.block_store.specs.Plans.{Plans}
 use Rattle.block_store.specs.Store.{Store, is_out}
-use Rattle.group_volumes.specs.declared.volumes.GroupVolumes.{GroupVolumes}
-use Rattle.group_volumes.specs.Volumes.{SpellsPool}
-use Rattle.pool_model.specs.Pools.{PlainPool, applied}
+use Rattle.block_pointer.specs.declared.block.Block.{Block}
+use Rattle.dataset_snapshots.specs.Pools.{SpellsPool}
+use Rattle.pool_model.specs.Pools.{PlainPool, applied, no_volumes}
 use Rattle.pool_model.specs.View.{View, DueCall, Due, is_planned, is_kept, disks_in_use}
+use Rattle.pool_now.specs.Index.{Knows}
+use Rattle.pool_commit.specs.declared.kept.KeptGroup.{KeptGroup}
 use Rattle.pool_commit.specs.declared.kept.Planned.{Planned}
 use Rattle.pool_commit.specs.Calls.{IsFlushed}
 use Rattle.pool_commit.specs.Config.{vdevs_of}
 use Rattle.pool_commit.specs.Making.{writes_left, flushes_left}
-use Rattle.pool_commit.specs.State.{State, volumes_at}
+use Rattle.pool_commit.specs.State.{State, group_at}
 
--- a kept group has volumes, which spell its pool; another has none
-abbrev pub SpellsKept : Contents → ℕ → Option GroupVolumes → Option PlainPool → Type 0
-SpellsKept stored group (Some volumes) (Some pool) = SpellsPool stored group volumes pool
+-- the root spells the pool; with no root there are no volumes
+abbrev pub SpellsRoot : Contents → ℕ → Option Block → PlainPool → Type 0
+SpellsRoot stored group (Some root) pool = SpellsPool stored group root pool
+SpellsRoot stored group None pool = pool ≡ no_volumes
+
+-- a group's root spells its pool, and its names are those of the pool
+pub record SpellsGroup (stored : Contents) (group : ℕ) (kept : KeptGroup) (pool : PlainPool)
+    : Type 0 where
+  pub root : SpellsRoot stored group kept.root pool
+  pub names : Knows kept.names pool
+
+-- a kept group spells its pool; another isn't there
+abbrev pub SpellsKept : Contents → ℕ → Option KeptGroup → Option PlainPool → Type 0
+SpellsKept stored group (Some kept) (Some pool) = SpellsGroup stored group kept pool
 SpellsKept stored group None None = Unit {0}
-SpellsKept stored group (Some volumes) None = ⊥
+SpellsKept stored group (Some kept) None = ⊥
 SpellsKept stored group None (Some pool) = ⊥
 
 abbrev pub kept_pool : View → ℕ → Option PlainPool
@@ -37,12 +50,12 @@ pool_after v = applied (suc v.committed) (v.pools v.committed) (v.ledger (suc v.
 abbrev pub IsToFlush : Store → List ℕ → ℕ → Type 0
 IsToFlush store flushes disk = Contains flushes disk ⊎ ((store.due ≡ []) × IsFlushed store.disks disk)
 
--- a plan has these device calls left, its volumes spell what the group makes, once its blocks are stored, each disk in use
+-- a plan has these device calls left, its root spells what the group makes, once its blocks are stored, each disk in use
 -- is flushed behind its last write or has its flush left, and no call that is left is on a disk that is out
 pub record HasPlan (s : State) (planned : Contents) (plan : Planned) (v : View) : Type 0 where
   pub counts : ℕ → ℕ
   pub sync : v.sync ≡ Due (left_calls counts s.store.due plan.flushes.items)
-  pub spells : SpellsPool planned (suc v.committed) plan.volumes (pool_after v)
+  pub spells : SpellsGroup planned (suc v.committed) plan.after (pool_after v)
   pub to_flush : (disk : ℕ) → Contains (disks_in_use v) disk → IsToFlush s.store plan.flushes.items disk
   pub in_use : AllByRecursion (λ (call : DueCall). is_out s.store.out call.disk ≡ false) (left_calls counts s.store.due plan.flushes.items)
 
@@ -55,7 +68,7 @@ pub record HasBlocks (s : State) (v : View) : Type 0 where
   pub stored : Contents
   pub planned : Contents
   pub plans : Plans s.store stored planned
-  pub kept : (group : ℕ) → SpellsKept stored group (volumes_at s.kept group) (kept_pool v group)
+  pub kept : (group : ℕ) → SpellsKept stored group (group_at s.kept group) (kept_pool v group)
   pub plan : IsPlanOf s planned s.planned v
 
 pub record Backs (s : State) (v : View) : Type 0 where

@@ -1,28 +1,24 @@
 -- What a refusal of a layer below is answered, and what the machine calls a refusal of this crate.
 use Rattle.block_store.specs.declared.refusal.Refusal.{Refusal as StoreRefusal}
 use Rattle.block_store.specs.declared.refusal.Refusal.TheVariants as store
-use Rattle.group_volumes.specs.declared.refusal.Refusal.{Refusal as VolumesRefusal}
-use Rattle.group_volumes.specs.declared.refusal.Refusal.TheVariants as volumes
 use Rattle.pool_model.specs.declared.refusal.Refusal.{Refusal as Cause}
 use Rattle.pool_model.specs.declared.refusal.Refusal.TheVariants as causes
 use Rattle.pool_commit.specs.declared.refusal.Refusal.{Refusal}
 use Rattle.pool_commit.specs.declared.refusal.Refusal.TheVariants.{NoMemory, DiskFault, NoSpace, BadPointer, BadDigest, NoSuchName, OutOfRange, GroupGone, BadConfig}
 
+-- No configuration is judged but where a pool is made: a block that asks for one is no block of the pool.
 abbrev pub of_store : StoreRefusal → Refusal
 of_store store.NoMemory = NoMemory
 of_store store.DiskFault = DiskFault
 of_store store.NoSpace = NoSpace
 of_store store.BadPointer = BadPointer
 of_store store.BadDigest = BadDigest
-of_store store.BadConfig = BadConfig
+of_store store.BadConfig = BadPointer
 
-abbrev pub of_volumes : VolumesRefusal → Refusal
-of_volumes volumes.NoMemory = NoMemory
-of_volumes volumes.DiskFault = DiskFault
-of_volumes volumes.NoSpace = NoSpace
-of_volumes volumes.BadPointer = BadPointer
-of_volumes volumes.BadDigest = BadDigest
-of_volumes volumes.BadConfig = BadConfig
+-- a read wants no room
+abbrev pub of_read : StoreRefusal → Refusal
+of_read store.NoSpace = BadPointer
+of_read refusal = of_store refusal
 
 abbrev pub cause_of : Refusal → Cause
 cause_of NoMemory = causes.NoMemory

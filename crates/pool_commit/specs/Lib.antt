@@ -1,4 +1,5 @@
 pub mod Config
+pub mod Configs
 pub mod HasDisks
 pub mod State
 pub mod StateOf

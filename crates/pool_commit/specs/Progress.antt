@@ -6,13 +6,13 @@ use Rattle.block_store.specs.Blocks.{Contents}
 use Rattle.block_store.specs.Places.{shapes_of}
 use Rattle.block_store.specs.Plans.{Plans}
 use Rattle.block_store.specs.Store.{Store}
-use Rattle.group_volumes.specs.declared.volumes.GroupVolumes.{GroupVolumes}
 use Rattle.pool_model.specs.declared.step.Phase.{Phase}
 use Rattle.pool_model.specs.View.{View, DueCall, Due, is_away, disks_in_use}
 use Rattle.pool_model.specs.Machine.{Makes, MakesAll, committed_next, dropped}
 use Rattle.pool_commit.specs.declared.device.Progress.{Progress}
 use Rattle.pool_commit.specs.declared.device.Progress.TheVariants.{Moved, Done, Dropped}
 use Rattle.pool_commit.specs.declared.kept.Kept.{Kept}
+use Rattle.pool_commit.specs.declared.kept.KeptGroup.{KeptGroup}
 use Rattle.pool_commit.specs.declared.kept.Planned.{Planned}
 use Rattle.pool_commit.specs.Backs.{Backs}
 use Rattle.pool_commit.specs.Calls.{disk_call, made_between, faults_between, unread_between, called_between, IsFlushed}
@@ -87,15 +87,15 @@ StoresPlan old new = EndsPlan old new (λ stored planned. planned)
 abbrev pub DropsPlan : Store → Store → Type 0
 DropsPlan old new = EndsPlan old new (λ stored planned. stored)
 
--- one more group is committed, with these volumes
-pub record IsShifted (old : Kept) (volumes : GroupVolumes) (new : Kept) : Type 0 where
+-- one more group is committed
+pub record IsShifted (old : Kept) (after : KeptGroup) (new : Kept) : Type 0 where
   pub committed : old.committed < 2 ^ 62 → new.committed ≡ suc old.committed
-  pub last : new.last ≡ volumes
+  pub last : new.last ≡ after
   pub before : new.before ≡ Some old.last
   pub earliest : new.earliest ≡ old.before
 
 -- calls of a phase were made of this plan: it goes on; or nothing was left, and its group is committed
 abbrev pub GoesOn : State → Planned → Phase → Progress → State → Type 0
 GoesOn old plan phase (Moved moved) new = (moved ≡ phase) × (0 < length old.store.due + length plan.flushes.items) × (new ≡ record old { planned = Some plan })
-GoesOn old plan phase Done new = (plan.flushes.items ≡ []) × (old.store.due ≡ []) × StoresPlan old.store new.store × IsShifted old.kept plan.volumes new.kept × (new.planned ≡ None)
+GoesOn old plan phase Done new = (plan.flushes.items ≡ []) × (old.store.due ≡ []) × StoresPlan old.store new.store × IsShifted old.kept plan.after new.kept × (new.planned ≡ None)
 GoesOn old plan phase (Dropped disk) new = ⊥

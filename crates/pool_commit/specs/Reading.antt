@@ -7,25 +7,23 @@ use Rattle.block_pointer.specs.declared.dva.Dva.{Dva}
 use Rattle.block_pointer.specs.Copies.{dvas}
 use Rattle.block_store.specs.declared.refusal.Refusal.{Refusal as StoreRefusal}
 use Rattle.block_store.specs.Store.{Store, outs}
-use Rattle.group_volumes.specs.declared.refusal.Refusal.{Refusal as VolumesRefusal}
-use Rattle.group_volumes.specs.declared.volumes.GroupVolumes.{GroupVolumes}
-use Rattle.group_volumes.specs.declared.volumes.NamedVolume.{NamedVolume}
-use Rattle.group_volumes.specs.Unread.{IsUnreadFor}
-use Rattle.group_volumes.specs.Volumes.{HasVolume}
-use Rattle.volume_blocks.specs.Reading.{IsUnreadIn}
+use Rattle.block_store.specs.Losses.{IsBlockLost}
+use Rattle.block_store.specs.Steps.{AnswersAreTrue}
+use Rattle.dataset_snapshots.specs.Ranges.{IsRangeRefused}
 use Rattle.pool_model.specs.Pools.{Entry}
 use Rattle.pool_model.specs.View.{View, Vdev, is_away, lost_in}
 use Rattle.pool_model.specs.declared.refusal.Refusal.TheVariants as causes
 use Rattle.pool_model.specs.declared.refusal.Refusal.{Refusal as Cause}
 use Rattle.pool_model.specs.declared.step.Step.TheVariants.{ReadUnder}
 use Rattle.pool_model.specs.Refusals.{refusal_of}
+use Rattle.pool_commit.specs.declared.kept.KeptGroup.{KeptGroup}
 use Rattle.pool_commit.specs.declared.refusal.Refusal.{Refusal}
 use Rattle.pool_commit.specs.declared.refusal.Refusal.TheVariants.{DiskFault, BadPointer, BadDigest, NoSuchName, OutOfRange, GroupGone}
 use Rattle.pool_commit.specs.Backs.{Backs}
 use Rattle.pool_commit.specs.Calls.{unread_between}
-use Rattle.pool_commit.specs.Causes.{of_store, of_volumes}
-use Rattle.pool_commit.specs.Room.{IsBegun}
-use Rattle.pool_commit.specs.State.{State, volumes_at}
+use Rattle.pool_commit.specs.Causes.{of_read, of_store}
+use Rattle.pool_commit.specs.Room.{IsPlanRefused}
+use Rattle.pool_commit.specs.State.{State, group_at}
 
 -- what the disks answered since is true
 abbrev pub PoolAnswersTruly : State → State → Type 0
@@ -45,6 +43,11 @@ is_lost v missing unread disk = is_away v disk || (list_any (λ d. d == disk) mi
 abbrev pub IsReadFault : Refusal → Type 0
 IsReadFault refusal = (refusal ≡ DiskFault) ⊎ ((refusal ≡ BadPointer) ⊎ (refusal ≡ BadDigest))
 
+-- a block could not be read: for lack of disks, or as not all that they answered is true
+abbrev pub IsFaultIn : Store → Store → Refusal → Type 0
+IsFaultIn old new refusal =
+    (refusal ≡ DiskFault) ⊎ (((refusal ≡ BadPointer) ⊎ (refusal ≡ BadDigest)) × ¬ AnswersAreTrue old new)
+
 -- the vdev misses more disks than it has parities
 abbrev pub IsLostOn : View → List ℕ → State → State → Vdev → Type 0
 IsLostOn v missing old new vdev =
@@ -56,45 +59,49 @@ pub record IsLastVdev (v : View) (block : Block) (vdev : Vdev) : Type 0 where
   pub is_last : slice_get (dvas block.copies) (length (dvas block.copies) - 1) ≡ Some place
   pub is_there : slice_get v.vdevs place.vdev ≡ Some vdev
 
--- Why a block that was written could not be read: the vdev of its last copy misses too many disks; or what was read of it has
--- another digest, and then not all that the disks answered is true.
-abbrev pub IsLost : View → List ℕ → State → State → Block → Refusal → Type 0
-IsLost v missing old new block DiskFault = (vdev : Vdev) × IsLastVdev v block vdev × IsLostOn v missing old new vdev
-IsLost v missing old new block BadDigest = ¬ PoolAnswersTruly old new
-IsLost v missing old new block refusal = ⊥
+-- a block was read last since then, and can't be: this is the vdev of its last copy
+pub record LosesOn (v : View) (missing : List ℕ) (since new : Store) (vdev : Vdev) : Type 0 where
+  pub lost : IsBlockLost since new missing
+  pub last : IsLastVdev v lost.block vdev
 
--- a block of the volume of that name that lies partly in the range was read last, and could not be read: that is the answer
-pub record IsUnreadOf (old new : Store) (volumes : GroupVolumes) (birth : ℕ) (name : List ℕ) (offset len : ℕ) (missing : List ℕ) (refusal : Refusal) : Type 0 where
-  pub named : NamedVolume
-  pub has : HasVolume volumes name named
+-- Why a pool that is whole could not be read since then: of a block that was read last, the vdev of its last copy misses too many
+-- disks; or what was read is no block of the pool, or has another digest, and then not all that the disks answered is true.
+abbrev pub IsLost : View → List ℕ → State → State → Store → Refusal → Type 0
+IsLost v missing old new since DiskFault =
+    (vdev : Vdev) × LosesOn v missing since new.store vdev × IsLostOn v missing old new vdev
+IsLost v missing old new since BadPointer = ¬ PoolAnswersTruly old new
+IsLost v missing old new since BadDigest = ¬ PoolAnswersTruly old new
+IsLost v missing old new since refusal = ⊥
+
+-- a range of the volume of that name was refused, as the group's root is read: that is the answer
+pub record IsUnreadOf (old new : Store) (kept : KeptGroup) (birth : ℕ) (name : List ℕ) (offset len : ℕ) (missing : List ℕ)
+    (refusal : Refusal) : Type 0 where
+  pub root : Block
+  pub is_root : kept.root ≡ Some root
   pub cause : StoreRefusal
-  pub unread : IsUnreadIn old new named.blocks birth offset (offset + len) missing cause
-  pub answered : refusal ≡ of_store cause
+  pub unread : IsRangeRefused old new missing birth root name offset len cause
+  pub answered : refusal ≡ of_read cause
 
 -- so it is under a kept group
 pub record IsUnreadUnder (old new : State) (group : ℕ) (name : List ℕ) (offset len : ℕ) (missing : List ℕ) (refusal : Refusal) : Type 0 where
-  pub volumes : GroupVolumes
-  pub kept : volumes_at old.kept group ≡ Some volumes
-  pub unread : IsUnreadOf old.store new.store volumes group name offset len missing refusal
+  pub under : KeptGroup
+  pub kept : group_at old.kept group ≡ Some under
+  pub unread : IsUnreadOf old.store new.store under group name offset len missing refusal
 
--- so it is of a block of the committed volumes that the items change, since a plan was begun
+-- since a plan was begun the root after the items was refused: that is the answer
 pub record IsUnreadForPlan (old new : State) (items : Entry) (refusal : Refusal) : Type 0 where
-  pub begun : Store
-  pub is_begun : IsBegun old.store begun
-  pub group : ℕ
-  pub is_next : old.kept.committed < 2 ^ 62 → group ≡ suc old.kept.committed
-  pub cause : VolumesRefusal
-  pub unread : IsUnreadFor begun new.store old.kept.last items.writes group cause
-  pub answered : refusal ≡ of_volumes cause
+  pub cause : StoreRefusal
+  pub refused : IsPlanRefused old new.store items cause
+  pub answered : refusal ≡ of_store cause
 
--- there is such a block, and this is why
+-- there is such a refusal, and this is why
 pub record IsLostUnder (v : View) (old new : State) (group : ℕ) (name : List ℕ) (offset len : ℕ) (missing : List ℕ) (refusal : Refusal) : Type 0 where
   pub unread : IsUnreadUnder old new group name offset len missing refusal
-  pub lost : IsLost v missing old new unread.unread.unread.unread.block refusal
+  pub lost : IsLost v missing old new old.store refusal
 
 pub record IsLostForPlan (v : View) (old new : State) (items : Entry) (refusal : Refusal) : Type 0 where
   pub unread : IsUnreadForPlan old new items refusal
-  pub lost : IsLost v [] old new unread.unread.unread.unread.unread.block refusal
+  pub lost : IsLost v [] old new unread.refused.begun refusal
 
 -- the view has no cause against the read
 abbrev pub HasNoCause : View → ℕ → List ℕ → ℕ → ℕ → Type 0

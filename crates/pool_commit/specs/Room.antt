@@ -1,9 +1,14 @@
 -- Room for the blocks of a group that is to be planned.
-use Rattle.std.specs.Prelude.{ℕ, suc, ◌≡◌, ◌<◌, ◌^◌}
+use Rattle.std.specs.Prelude.{ℕ, suc, ◌≡◌, ◌<◌, ◌^◌, Option, Some, None}
+use Rattle.block_pointer.specs.declared.block.Block.{Block}
+use Rattle.block_store.specs.declared.refusal.Refusal.{Refusal as StoreRefusal}
+use Rattle.block_store.specs.declared.refusal.Refusal.TheVariants as store
 use Rattle.block_store.specs.Places.{shapes_of, filled, planned, HaveMarks}
 use Rattle.block_store.specs.Store.{Store}
-use Rattle.group_volumes.specs.Room.{LacksRoom as LacksRoomFor}
+use Rattle.dataset_snapshots.specs.Demands.{IsGroupRefused}
+use Rattle.dataset_snapshots.specs.FirstGroup.{IsFirstRefused}
 use Rattle.pool_model.specs.Pools.{Entry}
+use Rattle.pool_commit.specs.Configs.{configs_from}
 use Rattle.pool_commit.specs.State.{State}
 
 -- the store as a plan begins: the same disks, of which nothing is in use but what is stored
@@ -14,11 +19,21 @@ pub record IsBegun (old begun : Store) : Type 0 where
   pub filled_stays : HaveMarks old.spaces filled begun.spaces filled
   pub free : HaveMarks old.spaces filled begun.spaces planned
 
--- There is no room for a block of the committed volumes that the items change, behind what is stored and others of these blocks; and
--- each block that the items change, and that is stored, was read.
-pub record LacksRoom (s : State) (items : Entry) : Type 0 where
+-- why the root after a group is not planned: behind the last one, or as the first of a pool of these vdevs
+abbrev pub IsNextRefused : Store → Store → Option Block → ℕ → Entry → StoreRefusal → Type 0
+IsNextRefused old new (Some root) group items refusal = IsGroupRefused old new root group items refusal
+IsNextRefused old new None group items refusal =
+    IsFirstRefused old new group (configs_from 1 (shapes_of old.spaces)) items refusal
+
+-- from where a plan was begun, the root after the items was refused
+pub record IsPlanRefused (old : State) (new : Store) (items : Entry) (refusal : StoreRefusal) : Type 0 where
   pub begun : Store
-  pub is_begun : IsBegun s.store begun
+  pub is_begun : IsBegun old.store begun
   pub group : ℕ
-  pub is_next : s.kept.committed < 2 ^ 62 → group ≡ suc s.kept.committed
-  pub lacks : LacksRoomFor begun.spaces s.kept.last items.writes group
+  pub is_next : old.kept.committed < 2 ^ 62 → group ≡ suc old.kept.committed
+  pub why : IsNextRefused begun new old.kept.last.root group items refusal
+
+-- There is no room for a block that the group makes of the committed root, behind what is stored and others of these blocks; or no
+-- two numbers are left for the objects of a volume that it makes.
+abbrev pub LacksRoom : State → Entry → Type 0
+LacksRoom s items = (after : Store) × IsPlanRefused s after items store.NoSpace

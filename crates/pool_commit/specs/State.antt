@@ -2,8 +2,10 @@
 use Rattle.std.specs.Prelude.{ℕ, suc, ◌≡◌, ◌==◌, Bool, List, Option, Some, None, is_some, if◌then◌else◌}
 use Rattle.model_disk.specs.Joint.{Disks}
 use Rattle.block_store.specs.Store.{Store, outs}
-use Rattle.group_volumes.specs.declared.volumes.GroupVolumes.{GroupVolumes}
+use Rattle.pool_model.specs.Pools.{no_volumes}
+use Rattle.pool_now.specs.Index.{Knows}
 use Rattle.pool_commit.specs.declared.kept.Kept.{Kept}
+use Rattle.pool_commit.specs.declared.kept.KeptGroup.{KeptGroup}
 use Rattle.pool_commit.specs.declared.kept.Planned.{Planned}
 
 pub record State : Type 0 where
@@ -25,8 +27,16 @@ has_plan s = is_some s.planned
 abbrev pub HasNoPlan : State → Type 0
 HasNoPlan s = s.planned ≡ None
 
--- the volumes of a group, of the last three up to the committed one
-abbrev pub volumes_at : Kept → ℕ → Option GroupVolumes
-volumes_at kept group =
+-- a group, of the last three up to the committed one
+abbrev pub group_at : Kept → ℕ → Option KeptGroup
+group_at kept group =
     if group == kept.committed then Some kept.last
     else (if suc group == kept.committed then kept.before else (if suc (suc group) == kept.committed then kept.earliest else None))
+
+-- group 3 is committed, with no volumes and no root, and none before it
+pub record IsFirst (kept : Kept) : Type 0 where
+  pub committed : kept.committed ≡ 3
+  pub root : kept.last.root ≡ None
+  pub names : Knows kept.last.names no_volumes
+  pub before : kept.before ≡ None
+  pub earliest : kept.earliest ≡ None

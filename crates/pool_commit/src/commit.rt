@@ -9,11 +9,11 @@ ghost use Rattle.pool_model.specs.View.{View, counted, disks_of, lost_in, is_tol
 ghost use Rattle.pool_commit.specs.HasDisks.{AreBelow, HasDisks};
 ghost use Rattle.pool_commit.specs.Config.{shown, vdevs_of, vdevs_from};
 
-use crate::kept::{Kept, Planned};
+use crate::kept::{Kept, KeptGroup, Planned};
 use crate::refusal::Refusal;
 use block_store::{BlockStore, VdevConfig};
-use group_volumes::GroupVolumes;
 use model_disk::Disk;
+use pool_now::NameIndex;
 use raidz_io::Vdev;
 use std::alloc::{AllocError, Global};
 use std::collections::VecDeque;
@@ -21,7 +21,7 @@ use std::collections::VecDeque;
 /// The group that `create` commits.
 const FIRST_GROUP: u64 = 3;
 
-/// The blocks of a pool over its disks, the volumes of the last three committed groups, and the plan of the next one.
+/// The blocks of a pool over its disks, the roots of the last three committed groups, and the plan of the next one.
 #[derive(Drop)]
 pub struct Commit<D: Disk + Drop> {
     pub(crate) store: BlockStore<D>,
@@ -53,9 +53,13 @@ impl<D: Disk + Drop> Commit<D> {
             Err(block_store::Refusal::BadConfig) => return Err(Refusal::BadConfig),
             Err(_) => return Err(Refusal::NoMemory),
         };
+        let first = KeptGroup {
+            root: None,
+            names: NameIndex::new(alloc),
+        };
         Ok(Commit {
             store,
-            kept: Kept::new(FIRST_GROUP, GroupVolumes::new(alloc)),
+            kept: Kept::new(FIRST_GROUP, first),
             planned: None,
         })
     }

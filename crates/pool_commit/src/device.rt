@@ -147,7 +147,7 @@ impl<D: Disk + Drop> Commit<D> {
             return Progress::Moved(phase);
         }
         self.store.finish_plan();
-        self.kept.shift(planned.volumes);
+        self.kept.shift(planned.after);
         self.store
             .begin_plan(self.kept.committed().saturating_add(1));
         Progress::Done

@@ -1,34 +1,42 @@
-//! The groups whose volumes are kept, and the plan of the next one.
+//! The groups that are kept, and the plan of the next one.
 ghost use Rattle.std.specs.Prelude.{◌≡◌, None};
 ghost use Rattle.std.specs.Option.{option_copied};
 
-use group_volumes::GroupVolumes;
-use std::alloc::Global;
+use block_pointer::Block;
+use pool_now::NameIndex;
 use std::collections::VecDeque;
 use std::mem;
 
-/// The volumes of the last three committed groups.
+/// A group: its root, through which all else of it is read, and the names of its pool. A pool has no root before its first group
+/// is planned, and no volumes then.
+#[derive(Debug, Drop)]
+pub struct KeptGroup {
+    pub(crate) root: Option<Block>,
+    pub(crate) names: NameIndex,
+}
+
+/// The last three committed groups.
 #[derive(Debug, Drop)]
 pub struct Kept {
     committed: u64,
-    last: GroupVolumes,
-    before: Option<GroupVolumes>,
-    earliest: Option<GroupVolumes>,
+    last: KeptGroup,
+    before: Option<KeptGroup>,
+    earliest: Option<KeptGroup>,
 }
 
 /// A plan: what the group that is synced makes, and the disks that are to be flushed once its blocks are written.
 #[derive(Debug, Drop)]
 pub struct Planned {
-    pub(crate) volumes: GroupVolumes,
+    pub(crate) after: KeptGroup,
     pub(crate) flushes: VecDeque<usize>,
 }
 
 impl Kept {
     ghost use Rattle.pool_commit.specs.Progress.{IsShifted};
-    ghost use Rattle.pool_commit.specs.State.{volumes_at};
+    ghost use Rattle.pool_commit.specs.State.{group_at};
 
     /// A committed group, and none before it.
-    pub(crate) fn new(committed: u64, last: GroupVolumes) -> Kept
+    pub(crate) fn new(committed: u64, last: KeptGroup) -> Kept
         ensures committed { result.committed ≡ committed }
         ensures last { result.last ≡ last }
         ensures before { result.before ≡ None }
@@ -48,15 +56,15 @@ impl Kept {
         self.committed
     }
 
-    pub(crate) fn last(&self) -> &GroupVolumes
+    pub(crate) fn last(&self) -> &KeptGroup
         ensures { result.now ≡ self.now.last }
     {
         &self.last
     }
 
-    /// The volumes of a group, where it is kept.
-    pub(crate) fn volumes(&self, group: u64) -> Option<&GroupVolumes>
-        ensures { option_copied result ≡ volumes_at self.now group }
+    /// A group, where it is kept.
+    pub(crate) fn group(&self, group: u64) -> Option<&KeptGroup>
+        ensures { option_copied result ≡ group_at self.now group }
     {
         if group == self.committed {
             return Some(&self.last);
@@ -68,12 +76,12 @@ impl Kept {
         }
     }
 
-    /// The next group is committed, and has these volumes.
-    pub(crate) fn shift(&mut self, volumes: GroupVolumes)
-        ensures { IsShifted self.old volumes self.new }
+    /// The next group is committed.
+    pub(crate) fn shift(&mut self, after: KeptGroup)
+        ensures { IsShifted self.old after self.new }
     {
         self.committed = self.committed.saturating_add(1);
-        let last = mem::replace(&mut self.last, volumes);
+        let last = mem::replace(&mut self.last, after);
         self.earliest = mem::replace(&mut self.before, Some(last));
     }
 }

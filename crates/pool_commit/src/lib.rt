@@ -3,6 +3,7 @@
 #![tactic(auto)]
 
 mod commit;
+mod config;
 mod device;
 mod honest;
 mod kept;
@@ -12,5 +13,5 @@ mod refusal;
 
 pub use commit::Commit;
 pub use device::Progress;
-pub use kept::{Kept, Planned};
+pub use kept::{Kept, KeptGroup, Planned};
 pub use refusal::Refusal;

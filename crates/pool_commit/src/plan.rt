@@ -1,26 +1,120 @@
 //! The plan of a group.
-ghost use Rattle.std.specs.Prelude.{◌≡◌, ◌⊎◌, ◌<◌, ◌^◌, ℕ, suc, List, false, OnOk, OnErr, IfErr};
+ghost use Rattle.std.specs.Prelude.{◌≡◌, ◌⊎◌, ◌<◌, ◌-◌, ◌^◌, ℕ, suc, List, [], Some, None, false, OnOk, OnErr, IfOk, IfErr};
+ghost use Rattle.block_pointer.specs.declared.block.Block.{Block};
+ghost use Rattle.block_store.specs.Blocks.{Contents, Extends};
+ghost use Rattle.block_store.specs.Plans.{Plans};
+ghost use Rattle.block_store.specs.Steps.{OnlyReadsAndPlans, AnswersAreTrue};
+ghost use Rattle.dnode_tree.specs.Writes.{IsForRoom};
 ghost use Rattle.raidz_io.specs.Reads.{OnlyReads, AreUntouched};
+ghost use Rattle.pool_model.specs.Pools.{PlainPool, applied, no_volumes};
 ghost use Rattle.pool_model.specs.View.{View, DueCall, Unplanned, Due, is_planned};
 ghost use Rattle.pool_model.specs.Machine.{IsPlan};
 ghost use Rattle.pool_now.specs.GoodChanges.{MakesGoodVolumes};
-ghost use Rattle.pool_commit.specs.Backs.{Backs};
+ghost use Rattle.block_store.specs.declared.refusal.Refusal.TheVariants as lost_blocks;
+ghost use Rattle.pool_commit.specs.Backs.{Backs, SpellsGroup, SpellsRoot};
 ghost use Rattle.pool_commit.specs.Reading.{PoolAnswersTruly, IsReadFault};
 ghost use Rattle.pool_commit.specs.Reading.{IsUnreadForPlan, IsLostForPlan};
-ghost use Rattle.pool_commit.specs.Room.{LacksRoom};
+ghost use Rattle.pool_commit.specs.Room.{LacksRoom, IsNextRefused};
 ghost use Rattle.pool_commit.specs.State.{HasNoPlan};
 ghost use Rattle.pool_commit.specs.StateOf.{state_of, disks_in, outs_in};
 
 use crate::commit::Commit;
-use crate::kept::Planned;
+use crate::config::config_of;
+use crate::kept::{KeptGroup, Planned};
 use crate::refusal::Refusal;
+use block_pointer::Block as RootBlock;
+use block_store::BlockStore;
+use dataset_snapshots::{after_group, first_group};
 use model_disk::Disk;
+use pool_now::makes_good_volumes;
 use std::alloc::Global;
 use txg_pipeline::Pending;
 
+/// Plans the first root of a pool.
+fn first_root<D: Disk + Drop>(
+    store: &mut BlockStore<D>,
+    alloc: Global,
+    group: u64,
+    items: &Pending,
+) -> Result<RootBlock, block_store::Refusal>
+    requires born { 0 < group }
+    ensures steps { OnlyReadsAndPlans store.old store.new [] }
+    ensures value { IfOk result (λ root. (stored planned : Contents)
+        → Plans store.old stored planned → AnswersAreTrue store.old store.new
+        → (later : Contents) × Plans store.new stored later × Extends planned later
+        × SpellsRoot later group (Some root) (applied group no_volumes items.now)) }
+    ensures known { IfErr result (λ refusal. (stored planned : Contents)
+        → Plans store.old stored planned → AnswersAreTrue store.old store.new
+        → MakesGoodVolumes items.now → IsForRoom refusal ⊎ (refusal ≡ lost_blocks.DiskFault)) }
+    ensures refused { IfErr result
+        (IsNextRefused store.old store.new None group items.now) }
+{
+    let config = config_of(alloc, store)?;
+    first_group(store, alloc, &config, group, items)
+}
+
+/// Plans the root of the transaction group `group` after its items, behind the last one; or the first root of a pool.
+fn root_after<D: Disk + Drop>(
+    last: &KeptGroup,
+    store: &mut BlockStore<D>,
+    alloc: Global,
+    group: u64,
+    items: &Pending,
+) -> Result<RootBlock, block_store::Refusal>
+    requires born { 0 < group }
+    ensures steps { OnlyReadsAndPlans store.old store.new [] }
+    ensures value { IfOk result (λ root. (stored planned : Contents) (pool : PlainPool)
+        → Plans store.old stored planned → SpellsRoot stored (group - 1) last.now.root pool
+        → AnswersAreTrue store.old store.new
+        → (later : Contents) × Plans store.new stored later × Extends planned later
+        × SpellsRoot later group (Some root) (applied group pool items.now)) }
+    ensures known { IfErr result (λ refusal. (stored planned : Contents) (pool : PlainPool)
+        → Plans store.old stored planned → SpellsRoot stored (group - 1) last.now.root pool
+        → AnswersAreTrue store.old store.new → MakesGoodVolumes items.now
+        → IsForRoom refusal ⊎ (refusal ≡ lost_blocks.DiskFault)) }
+    ensures refused { IfErr result
+        (IsNextRefused store.old store.new last.now.root group items.now) }
+{
+    match &last.root {
+        Some(root) => after_group(root, store, alloc, group, items),
+        None => first_root(store, alloc, group, items),
+    }
+}
+
+/// The group after the last one: its root, which is planned, and its names.
+fn group_after<D: Disk + Drop>(
+    last: &KeptGroup,
+    store: &mut BlockStore<D>,
+    alloc: Global,
+    group: u64,
+    items: &Pending,
+) -> Result<KeptGroup, block_store::Refusal>
+    requires born { 0 < group }
+    ensures steps { OnlyReadsAndPlans store.old store.new [] }
+    ensures value { IfOk result (λ after. (stored planned : Contents) (pool : PlainPool)
+        → Plans store.old stored planned → SpellsGroup stored (group - 1) last.now pool
+        → AnswersAreTrue store.old store.new
+        → (later : Contents) × Plans store.new stored later × Extends planned later
+        × SpellsGroup later group after (applied group pool items.now)) }
+    ensures known { IfErr result (λ refusal. (stored planned : Contents) (pool : PlainPool)
+        → Plans store.old stored planned → SpellsGroup stored (group - 1) last.now pool
+        → AnswersAreTrue store.old store.new → MakesGoodVolumes items.now
+        → IsForRoom refusal ⊎ (refusal ≡ lost_blocks.DiskFault)) }
+    ensures refused { IfErr result
+        (IsNextRefused store.old store.new last.now.root group items.now) }
+{
+    let names = last.names.after_group(alloc, group, items)?;
+    let root = root_after(last, store, alloc, group, items)?;
+    Ok(KeptGroup {
+        root: Some(root),
+        names,
+    })
+}
+
 impl<D: Disk + Drop> Commit<D> {
     /// Plans the group after the committed one, which accepted these items. It reads what it must of the committed
-    /// volumes, and then names the writes of the new blocks, none of them in place of a block that is kept.
+    /// volumes, and then names the writes of the new blocks, none of them in place of a block that is kept. `BadConfig` where a
+    /// volume can't be made as it is asked; a pool accepts no such change.
     pub fn plan(&mut self, alloc: Global, items: &Pending) -> Result<(), Refusal>
         requires unplanned { HasNoPlan (state_of self.old) }
         ensures reads { OnlyReads (disks_in self.old) (disks_in self.new) }
@@ -37,10 +131,13 @@ impl<D: Disk + Drop> Commit<D> {
             → (calls : List DueCall) × IsPlan v calls
             × Backs (state_of self.new) (record v { sync = Due calls })) }
 
-        // One of the group's own blocks finds no place, behind what is stored and others of them; and all that are to be
-        // read were read.
+        // One of the group's own blocks finds no place, behind what is stored and others of them, or no number is left for an
+        // object of a new volume.
         ensures full { IfErr result (λ refusal. refusal ≡ Refusal.NoSpace
             → LacksRoom (state_of self.old) items.now) }
+
+        ensures bad { IfErr result (λ refusal. refusal ≡ Refusal.BadConfig
+            → ¬ MakesGoodVolumes items.now) }
 
         // A block that the group changes was read last, and could not be read.
         ensures unread { IfErr result (λ refusal. IsReadFault refusal
@@ -55,13 +152,13 @@ impl<D: Disk + Drop> Commit<D> {
         let group = self.kept.committed().saturating_add(1);
         self.store.begin_plan(group);
         let flushes = self.disks_in_use(alloc)?;
-        match self
-            .kept
-            .last()
-            .after_group(&mut self.store, alloc, group, items)
-        {
-            Ok(volumes) => {
-                self.planned = Some(Planned { volumes, flushes });
+        if !makes_good_volumes(items) {
+            return Err(Refusal::BadConfig);
+        }
+        let last = self.kept.last();
+        match group_after(last, &mut self.store, alloc, group, items) {
+            Ok(after) => {
+                self.planned = Some(Planned { after, flushes });
                 Ok(())
             }
             Err(refusal) => Err(Refusal::from(refusal)),

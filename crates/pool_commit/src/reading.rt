@@ -10,70 +10,75 @@ ghost use Rattle.pool_now.specs.Shapes.{shape_of};
 ghost use Rattle.block_store.specs.Blocks.{Contents};
 ghost use Rattle.block_store.specs.Steps.{OnlyReadsBlocks, AnswersAreTrue};
 ghost use Rattle.block_store.specs.Store.{Holds};
-ghost use Rattle.group_volumes.specs.Volumes.{SpellsPool};
 ghost use Rattle.pool_model.specs.Pools.{PlainPool};
 ghost use Rattle.pool_model.specs.Refusals.{read_refusal};
-ghost use Rattle.pool_commit.specs.Backs.{Backs};
+ghost use Rattle.pool_commit.specs.Backs.{Backs, SpellsGroup};
+ghost use Rattle.pool_commit.specs.Causes.{of_read as of_read_cause};
 ghost use Rattle.pool_commit.specs.StateOf.{state_of};
 ghost use Rattle.pool_commit.specs.Reading.{PoolAnswersTruly, OnlyReadsPool, IsReadFault};
-ghost use Rattle.pool_commit.specs.Reading.{IsUnreadOf, IsUnreadUnder, IsLostUnder};
+ghost use Rattle.pool_commit.specs.Reading.{IsFaultIn, IsUnreadOf, IsUnreadUnder, IsLostUnder};
 ghost use Rattle.pool_commit.specs.Reading.{HasNoCause, IsUnderCause, IsReadCause};
 
 use crate::commit::Commit;
+use crate::kept::KeptGroup;
 use crate::refusal::Refusal;
 use block_store::BlockStore;
-use group_volumes::GroupVolumes;
+use dataset_snapshots::{VolumeRange, read_range};
 use model_disk::Disk;
 use pool_model::Name;
 use pool_now::{VolumeShape, against_read};
 use std::alloc::Global;
 
-/// So many bytes of a volume, from that one on.
-#[derive(Debug, Clone, Copy)]
-struct RangeAsked {
-    offset: u64,
-    len: u64,
-}
-
-/// A range of one of these volumes, whose blocks were born in the group `birth` or before.
+/// A range of a volume under a kept group. One that the pool of the group hasn't got is refused by the names that the group has in
+/// memory, before any disk is read.
 fn read_of<D: Disk + Drop>(
-    volumes: &GroupVolumes,
+    kept: &KeptGroup,
     store: &mut BlockStore<D>,
     alloc: Global,
     birth: u64,
-    name: &Name,
-    range: RangeAsked,
+    range: &VolumeRange<'_>,
     missing: &[usize],
 ) -> Result<Vec<u8>, Refusal>
     ensures reads { OnlyReadsBlocks store.old store.new missing.now }
     ensures bytes { IfOk result (λ bytes. (stored : Contents) (pool : PlainPool)
-        → Holds store.old stored → SpellsPool stored birth volumes.now pool
-        → (read_refusal range.offset range.len (volume_at name.now pool) ≡ None)
+        → Holds store.old stored → SpellsGroup stored birth kept.now pool
+        → (read_refusal range.now.offset range.now.len (volume_at range.now.name.now pool) ≡ None)
         × (AnswersAreTrue store.old store.new
-        → AreBytesOf pool name.now range.offset range.len bytes.items)) }
-    ensures len { IfOk result (λ bytes. length bytes.items ≡ range.len) }
+        → AreBytesOf pool range.now.name.now range.now.offset range.now.len bytes.items)) }
+    ensures len { IfOk result (λ bytes. length bytes.items ≡ range.now.len) }
     ensures refused { IfErr result (λ refusal. (stored : Contents) (pool : PlainPool)
-        → Holds store.old stored → SpellsPool stored birth volumes.now pool
+        → Holds store.old stored → SpellsGroup stored birth kept.now pool
         → (refusal ≡ Refusal.NoMemory)
-        ⊎ (IsReadCause (read_refusal range.offset range.len (volume_at name.now pool)) refusal
-        ⊎ ((read_refusal range.offset range.len (volume_at name.now pool) ≡ None)
-        × IsUnreadOf store.old store.new volumes.now birth name.now range.offset range.len
-        missing.now refusal))) }
+        ⊎ (IsReadCause (read_refusal range.now.offset range.now.len (volume_at range.now.name.now pool)) refusal
+        ⊎ ((read_refusal range.now.offset range.now.len (volume_at range.now.name.now pool) ≡ None)
+        × IsUnreadOf store.old store.new kept.now birth range.now.name.now range.now.offset range.now.len
+        missing.now refusal × IsFaultIn store.old store.new refusal))) }
     ensures unread { IfErr result (λ refusal. IsReadFault refusal
-        → IsUnreadOf store.old store.new volumes.now birth name.now range.offset range.len
+        → IsUnreadOf store.old store.new kept.now birth range.now.name.now range.now.offset range.now.len
         missing.now refusal) }
 {
-    let Some(volume) = volumes.find(name) else {
+    let Some(shape) = kept.names.find(range.name) else {
         return Err(Refusal::NoSuchName);
     };
-    let RangeAsked { offset, len } = range;
-    if against_read(offset, len, Some(volume.shape())).is_some() {
+    if against_read(range.offset, range.len, Some(shape)).is_some() {
         return Err(Refusal::OutOfRange);
     }
-    let blocks = volume.blocks();
-    match blocks.read(store, alloc, birth, offset, len, missing) {
+    let Some(root) = &kept.root else {
+        return Err(Refusal::NoSuchName);
+    };
+    match read_range(root, store, alloc, birth, range, missing) {
         Ok(bytes) => Ok(bytes),
-        Err(refusal) => Err(Refusal::from(refusal)),
+        Err(refusal) => Err(of_read(refusal)),
+    }
+}
+
+/// The answer for what the store refuses a read for: a read wants no room and judges no configuration.
+fn of_read(refusal: block_store::Refusal) -> Refusal
+    ensures { result ≡ of_read_cause refusal }
+{
+    match refusal {
+        block_store::Refusal::NoSpace => Refusal::BadPointer,
+        _ => Refusal::from(refusal),
     }
 }
 
@@ -104,11 +109,11 @@ impl<D: Disk + Drop> Commit<D> {
             → IsUnreadUnder (state_of self.old) (state_of self.new) group name.now offset len
             missing.now refusal) }
     {
-        let Some(volumes) = self.kept.volumes(group) else {
+        let Some(kept) = self.kept.group(group) else {
             return Err(Refusal::GroupGone);
         };
-        let range = RangeAsked { offset, len };
-        read_of(volumes, &mut self.store, alloc, group, name, range, missing)
+        let range = VolumeRange { name, offset, len };
+        read_of(kept, &mut self.store, alloc, group, &range, missing)
     }
 
     /// A range of the bytes that lie under the pending writes to a volume of NOW, which has this shape: those of the
@@ -144,8 +149,8 @@ impl<D: Disk + Drop> Commit<D> {
         if shape.group > committed {
             return Ok(vec![in alloc; 0; len as usize]?);
         }
-        let range = RangeAsked { offset, len };
+        let range = VolumeRange { name, offset, len };
         let last = self.kept.last();
-        read_of(last, &mut self.store, alloc, committed, name, range, &[])
+        read_of(last, &mut self.store, alloc, committed, &range, &[])
     }
 }

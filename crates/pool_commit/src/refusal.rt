@@ -54,24 +54,7 @@ impl From<block_store::Refusal> for Refusal {
             block_store::Refusal::NoSpace => Refusal::NoSpace,
             block_store::Refusal::BadPointer => Refusal::BadPointer,
             block_store::Refusal::BadDigest => Refusal::BadDigest,
-            block_store::Refusal::BadConfig => Refusal::BadConfig,
-        }
-    }
-}
-
-impl From<group_volumes::Refusal> for Refusal {
-    ghost use Rattle.pool_commit.specs.Causes.{of_volumes};
-
-    ghost from_gives = { λ cause refusal. refusal ≡ of_volumes cause };
-
-    fn from(cause: group_volumes::Refusal) -> Refusal {
-        match cause {
-            group_volumes::Refusal::NoMemory => Refusal::NoMemory,
-            group_volumes::Refusal::DiskFault => Refusal::DiskFault,
-            group_volumes::Refusal::NoSpace => Refusal::NoSpace,
-            group_volumes::Refusal::BadPointer => Refusal::BadPointer,
-            group_volumes::Refusal::BadDigest => Refusal::BadDigest,
-            group_volumes::Refusal::BadConfig => Refusal::BadConfig,
+            block_store::Refusal::BadConfig => Refusal::BadPointer,
         }
     }
 }

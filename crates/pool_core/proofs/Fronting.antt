@@ -2,7 +2,6 @@
 use Rattle.std.proofs.Common.{◌≡◌, ⊎_elim, ℕ, suc, Bool, true, false, true≢false, List, [], ◌∷◌, Option, Some, None, refl, sym, ap, ◌∙◌, subst, inl}
 use Rattle.std.specs.Prelude.{Contains, filter, is_some, not, nat_le, nat_lt, ◌&&◌, if◌then◌else◌}
 use Rattle.block_store.specs.Blocks.{Contents}
-use Rattle.group_volumes.specs.Volumes.{SpellsPool}
 use Rattle.pool_model.specs.declared.refusal.Refusal.TheVariants as causes
 use Rattle.pool_model.specs.declared.refusal.Refusal.{Refusal as Cause}
 use Rattle.pool_model.specs.declared.step.Step.{Step}
@@ -17,9 +16,9 @@ use Rattle.pool_model.proofs.Plans.{nothing_quiet, may_nothing}
 use Rattle.pool_intake.specs.declared.intake.Intake.{Intake}
 use Rattle.pool_intake.specs.Follows.{Follows, KeepsCommitted}
 use Rattle.pool_commit.specs.declared.kept.Planned.{Planned}
-use Rattle.pool_commit.specs.Backs.{Backs, IsPlanOf, SpellsKept, kept_pool, pool_after}
+use Rattle.pool_commit.specs.Backs.{Backs, IsPlanOf, SpellsGroup, SpellsKept, kept_pool, pool_after}
 use Rattle.pool_commit.specs.Calls.{fault_call, unread_call, which_call}
-use Rattle.pool_commit.specs.State.{State, volumes_at}
+use Rattle.pool_commit.specs.State.{State, group_at}
 use Rattle.pool_commit.proofs.Made.{made_by_none, told_by_none}
 use Rattle.pool_core.specs.Represents.{Represents}
 use Rattle.pool_core.specs.State.{CoreState, disks_of as core_disks}
@@ -43,8 +42,8 @@ plan_kept s planned None v w k is = ap is_planned k.sync ∙ is
 plan_kept s planned (Some plan) v w k is = record {
   counts = is.counts;
   sync = k.sync ∙ is.sync;
-  spells = subst (λ (p : PlainPool). SpellsPool planned (suc w.committed) plan.volumes p) (sym (made_kept v w k (ap is_syncing is.sync)))
-      (subst (λ c. SpellsPool planned (suc c) plan.volumes (pool_after v)) (sym k.committed) is.spells);
+  spells = subst (λ (p : PlainPool). SpellsGroup planned (suc w.committed) plan.after p) (sym (made_kept v w k (ap is_syncing is.sync)))
+      (subst (λ c. SpellsGroup planned (suc c) plan.after (pool_after v)) (sym k.committed) is.spells);
   to_flush = λ disk in_use. is.to_flush disk (subst (λ (disks : List ℕ). Contains disks disk) (in_use_kept v w k) in_use);
   in_use = is.in_use;
 }
@@ -58,7 +57,7 @@ backs_kept s v w k backs = record {
     stored = backs.blocks.stored;
     planned = backs.blocks.planned;
     plans = backs.blocks.plans;
-    kept = λ group. subst (λ (o : Option PlainPool). SpellsKept backs.blocks.stored group (volumes_at s.kept group) o) (sym (pool_kept v w k group)) (backs.blocks.kept group);
+    kept = λ group. subst (λ (o : Option PlainPool). SpellsKept backs.blocks.stored group (group_at s.kept group) o) (sym (pool_kept v w k group)) (backs.blocks.kept group);
     plan = plan_kept s backs.blocks.planned s.planned v w k backs.blocks.plan;
   };
 }

@@ -122,8 +122,9 @@ pub under_given : (v : View) (old new : CoreState) (trusted : Bool) (group : ℕ
 under_given v old new trusted group name offset len DiskFault is honest = record {
   lost = Some is.lost.0;
   unreadable = (is.lost.0, refl, record { there = is.lost.2.0; more = is.lost.2.1 });
-  loses = λ vdev e. this_lost (LosesUnder v old.commit new.commit group name offset len) is.lost.0 vdev (record { unread = is.unread; last = is.lost.1 }) e;
+  loses = λ vdev e. this_lost (LosesUnder v old.commit new.commit group name offset len) is.lost.0 vdev (record { unread = is.unread; on = is.lost.1 }) e;
 }
+under_given v old new trusted group name offset len BadPointer is honest = record { lost = None; unreadable = untrusted trusted honest is.lost; loses = none_lost _ }
 under_given v old new trusted group name offset len BadDigest is honest = record { lost = None; unreadable = untrusted trusted honest is.lost; loses = none_lost _ }
 under_given v old new trusted group name offset len refusal is honest = absurd is.lost
 
@@ -133,8 +134,9 @@ pub plan_given : (v : View) (old new : CoreState) (trusted : Bool) (items : Entr
 plan_given v old new trusted items DiskFault is honest = record {
   lost = Some is.lost.0;
   unreadable = (is.lost.0, refl, record { there = is.lost.2.0; more = is.lost.2.1 });
-  loses = λ vdev e. this_lost (LosesForPlan v old.commit new.commit items) is.lost.0 vdev (record { unread = is.unread; last = is.lost.1 }) e;
+  loses = λ vdev e. this_lost (LosesForPlan v old.commit new.commit items) is.lost.0 vdev (record { unread = is.unread; on = is.lost.1 }) e;
 }
+plan_given v old new trusted items BadPointer is honest = record { lost = None; unreadable = untrusted trusted honest is.lost; loses = none_lost _ }
 plan_given v old new trusted items BadDigest is honest = record { lost = None; unreadable = untrusted trusted honest is.lost; loses = none_lost _ }
 plan_given v old new trusted items refusal is honest = absurd is.lost
 
@@ -372,7 +374,7 @@ plan_refused s intake commit v trusted timestamp refusal named is none f backs r
     (inr (inl (record { may = none; answer = refl; leaves = refl; calls = reads_quiet s new None trusted false })))))
     (λ other. ⊎_elim
     (λ lost. let gives = plan_given (taken v Unplanned) s new trusted (v.ledger (suc v.committed)) refusal lost honest in
-    goes gives.lost false (λ vdev e. let there = gives.loses vdev e in record { unread = there.unread; last = record { place = there.last.place; is_last = there.last.is_last; is_there = there.last.is_there } })
+    goes gives.lost false (λ vdev e. let there = gives.loses vdev e in record { unread = there.unread; on = record { lost = there.on.lost; last = record { place = there.on.last.place; is_last = there.on.last.is_last; is_there = there.on.last.is_there } } })
     (λ e. absurd (true≢false (sym e))) (cause_of refusal)
     (inr (inr (record { none = none; answered = (inl (same_causes refusal gives.lost gives.unreadable), refl); calls = reads_quiet s new gives.lost trusted false }))))
     (λ space. subst (λ (x : Refusal). Goes s v trusted (Plan timestamp) (Refused (cause_of x)) new) (sym space)

@@ -5,22 +5,22 @@ use Rattle.pool_model.specs.Pools.{Entry}
 use Rattle.pool_model.specs.View.{View, Vdev}
 use Rattle.pool_commit.specs.declared.refusal.Refusal.{Refusal}
 use Rattle.pool_commit.specs.declared.refusal.Refusal.TheVariants.{DiskFault}
-use Rattle.pool_commit.specs.Reading.{IsUnreadUnder, IsUnreadForPlan, IsLastVdev, IsLostUnder}
+use Rattle.pool_commit.specs.Reading.{IsUnreadUnder, IsUnreadForPlan, IsLostUnder, LosesOn}
 use Rattle.pool_commit.specs.State.{State}
 use Rattle.pool_commit.specs.Causes.{cause_of}
 
--- a block in which the range lies could not be read, and that is the answer
+-- the range could not be read, and that is the answer
 pub record IsLostAnswer (v : View) (old new : State) (group : ℕ) (name : List ℕ) (offset len : ℕ) (missing : List ℕ) (cause : Cause) : Type 0 where
   pub refusal : Refusal
   pub answered : cause ≡ cause_of refusal
   pub lost : IsLostUnder v old new group name offset len missing refusal
 
--- a block in which the range lies could not be read, and this is the vdev of its last copy
+-- the range could not be read for lack of disks, and this is the vdev of the last copy of a block on the way to it
 pub record LosesUnder (v : View) (old new : State) (group : ℕ) (name : List ℕ) (offset len : ℕ) (vdev : Vdev) : Type 0 where
   pub unread : IsUnreadUnder old new group name offset len [] DiskFault
-  pub last : IsLastVdev v unread.unread.unread.unread.block vdev
+  pub on : LosesOn v [] old.store new.store vdev
 
--- so it is of a block that a group's items change
+-- so it is of a plan of a group's items
 pub record LosesForPlan (v : View) (old new : State) (items : Entry) (vdev : Vdev) : Type 0 where
   pub unread : IsUnreadForPlan old new items DiskFault
-  pub last : IsLastVdev v unread.unread.unread.unread.unread.block vdev
+  pub on : LosesOn v [] unread.refused.begun new.store vdev

@@ -1,18 +1,19 @@
 //! Why a step is refused, as far as the shapes of the volumes tell.
-ghost use Rattle.std.specs.Prelude.{◌≡◌, Option, length};
+ghost use Rattle.std.specs.Prelude.{◌≡◌, ◌↔◌, IsTrue, Option, length};
 ghost use Rattle.std.specs.List.{list_all};
 ghost use Rattle.std.specs.Option.{option_map};
 ghost use Rattle.pool_model.specs.declared.volume.PlainVolume.{PlainVolume};
 ghost use Rattle.pool_model.specs.Names.{is_name_letter, is_name, is_block_size};
 ghost use Rattle.pool_model.specs.Pools.{PlainPool};
 ghost use Rattle.pool_model.specs.Refusals.{is_aligned, is_in_range, place_refusal, change_refusal, read_refusal};
-ghost use Rattle.pool_now.specs.GoodChanges.{is_good_size};
+ghost use Rattle.pool_now.specs.GoodChanges.{is_good_size, is_good_change, MakesGoodVolumes};
 ghost use Rattle.pool_now.specs.Index.{Knows};
 ghost use Rattle.pool_now.specs.Shapes.{shape_of};
 
 use crate::index::NameIndex;
 use crate::shape::VolumeShape;
 use pool_model::{Change, Name, Refusal, Write};
+use txg_pipeline::Pending;
 
 /// The most bytes that one write or read may have: 1 MiB.
 const MOST_BYTES: u64 = 1 << 20;
@@ -60,6 +61,29 @@ pub fn is_good_shape(size: u64, block_size: u64) -> bool
         && size % block_size == 0
         && block_size <= size
         && size <= LARGEST_VOLUME
+}
+
+/// Whether a volume may be made so: with such a name, and of such a size.
+fn may_be_made(change: &Change) -> bool
+    ensures { result ≡ is_good_change change.now }
+{
+    match change {
+        Change::Create {
+            name,
+            size,
+            block_size,
+        } => may_be_named(name) && is_good_shape(*size, *block_size),
+    }
+}
+
+/// Whether each volume that a group makes may be made.
+pub fn makes_good_volumes(items: &Pending) -> bool
+    ensures { IsTrue result ↔ MakesGoodVolumes items.now }
+{
+    items
+        .actions()
+        .iter()
+        .all(|action| may_be_made(&action.change))
 }
 
 fn is_in_sectors(offset: u64, len: u64) -> bool

@@ -8,7 +8,7 @@ mod laws;
 mod overlay;
 mod shape;
 
-pub use causes::{against_change, against_read, against_write, is_good_shape};
+pub use causes::{against_change, against_read, against_write, is_good_shape, makes_good_volumes};
 pub use index::NameIndex;
 pub use laws::{
     changes_move_now, changes_that_are_not_refused_are_good,

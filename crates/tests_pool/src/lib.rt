@@ -7,6 +7,8 @@ mod changed_disks;
 #[cfg(test)]
 mod faulty_pool;
 #[cfg(test)]
+mod many_blocks;
+#[cfg(test)]
 mod parts;
 #[cfg(test)]
 mod playing;

@@ -1,9 +1,9 @@
 //! Schedules with faults, played against a pool over disks.
 //!
-//! A schedule's text has lines `LINE -> REPLY`, where LINE is one of a schedule as `poolrun` runs it. Lines without an
-//! arrow are for the player: `fault DISK KIND NUMBER` is a call that fails (of the kinds `at`, `from`, `read`, `write`
-//! and `flush`), `pool ..` makes the pool behind the faults, and `missing DISK ..` names the disks that are missing for
-//! reads under a group from then on.
+//! A schedule's text has lines `LINE -> REPLY`, where LINE is one of a schedule as `poolrun` runs it; `times NUMBER LINE` takes
+//! it so often, with the same reply each time. Lines without an arrow are for the player: `fault DISK KIND NUMBER` is a call
+//! that fails (of the kinds `at`, `from`, `read`, `write` and `flush`), `pool ..` makes the pool behind the faults, and
+//! `missing DISK ..` names the disks that are missing for reads under a group from then on.
 use crate::faulty_pool::{DiskFault, FaultyPool};
 use crate::telling::reply_to;
 use model_disk::Fault;
@@ -73,14 +73,48 @@ fn note(alloc: Global, pool: &mut FaultyPool, line: &str) -> Result<(), Fail> {
     Ok(())
 }
 
+// How often a line is taken, and the line.
+fn often(front: &str) -> (u64, &str) {
+    let Some((word, rest)) = front.split_once(" ") else {
+        return (1, front);
+    };
+    let Some((count, line)) = rest.split_once(" ") else {
+        return (1, front);
+    };
+    if word == "times" {
+        (number(count), line)
+    } else {
+        (1, front)
+    }
+}
+
+// The text of the pool's reply.
+fn said(alloc: Global, pool: &mut FaultyPool, line: &str) -> Result<String, Fail> {
+    let reply = reply_to(alloc, pool, line)?;
+    Ok(reply_text(alloc, &reply)?)
+}
+
+// The reply of the pool each time; where one is another than those before, both.
+fn replied(alloc: Global, pool: &mut FaultyPool, front: &str) -> Result<String, Fail> {
+    let (count, line) = often(front);
+    let first = said(alloc, pool, line)?;
+    for _ in 1..count {
+        let next = said(alloc, pool, line)?;
+        if next.as_str() != first.as_str() {
+            return Ok(format!(in alloc; "{first}, {next}")?);
+        }
+    }
+    Ok(first)
+}
+
 // The line again, with the reply of the pool.
 fn row(alloc: Global, pool: &mut FaultyPool, line: &str) -> Result<String, Fail> {
     let Some((front, _)) = line.split_once(" -> ") else {
         note(alloc, pool, line)?;
         return Ok(format!(in alloc; "{line}\n")?);
     };
-    let reply = reply_to(alloc, pool, front)?;
-    Ok(format!(in alloc; "{front} -> {}\n", reply_text(alloc, &reply)?)?)
+    let reply = replied(alloc, pool, front)?;
+    Ok(format!(in alloc; "{front} -> {reply}\n")?)
 }
 
 fn rows(alloc: Global, pool: &mut FaultyPool, text: &str) -> Result<String, Fail> {

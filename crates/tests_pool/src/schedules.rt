@@ -1,8 +1,13 @@
 //! Schedules over disks that fail, and what is read with disks missing.
 use crate::playing::played;
+use std::alloc::Global;
 use std::test::Fail;
 
-/// Blocks of two sectors, partly written by two groups, with each disk missing in turn, and with two.
+/// Blocks of two sectors, partly written by two groups, with each disk missing in turn, and with two. The way to a volume lies on
+/// the disks: where too many are missing, a hole can't be read either. Group 5 writes 75 columns: three of each of the three
+/// blocks of data; 18 of each volume, whose indirect block, dnodes and set have two copies of three columns; and of the meta
+/// object set, of which all has three copies, six of each record, which has one sector, and 18 of the dnodes and the set. So group
+/// 6 writes 48, and group 7 those nine of the set alone. A step makes four.
 const PARTS_OF_BLOCKS: &str = "pool 1 3 8388608 12 2
 hold 1 -> held 4
 create 1 1 v 4096 1024 -> receipt 4
@@ -10,8 +15,9 @@ create 1 2 w 4096 1024 -> receipt 4
 release 1 -> released
 sync -> committed 4
 missing 0 1 2
-under 4 v 1020 8 -> 00x8
+under 4 v 1020 8 -> refused 2 DiskFault
 missing
+under 4 v 1020 8 -> 00x8
 hold 1 -> held 5
 write 1 3 v 512 512 01 -> receipt 5
 write 1 4 v 1024 512 01 -> receipt 5
@@ -21,9 +27,7 @@ release 1 -> released
 close -> closed 5
 quiesced -> quiesced 5
 plan -> planned 5
-device -> moved Blocks
-device -> moved Blocks
-device -> moved Blocks
+times 19 device -> moved Blocks
 device -> committed 5
 under 5 v 510 4 -> 00x2 01x2
 under 5 v 1534 4 -> 01x2 00x2
@@ -41,8 +45,9 @@ under 5 v 1022 4 -> 01x4
 under 5 v 1534 4 -> 01x2 00x2
 missing 0 1
 under 5 v 512 4 -> refused 2 DiskFault
-under 5 v 2048 4 -> 00x4
+under 5 v 2048 4 -> refused 2 DiskFault
 missing
+under 5 v 2048 4 -> 00x4
 hold 1 -> held 6
 write 1 6 v 1024 512 04 -> receipt 6
 write 1 7 v 3072 1024 05 -> receipt 6
@@ -51,8 +56,7 @@ release 1 -> released
 close -> closed 6
 quiesced -> quiesced 6
 plan -> planned 6
-device -> moved Blocks
-device -> moved Blocks
+times 12 device -> moved Blocks
 device -> committed 6
 under 6 v 1022 4 -> 01x2 04x2
 under 6 v 1534 4 -> 04x2 00x2
@@ -61,6 +65,7 @@ under 5 v 1022 4 -> 01x4
 close -> closed 7
 quiesced -> quiesced 7
 plan -> planned 7
+times 3 device -> moved Blocks
 device -> committed 7
 under 7 v 3582 4 -> 06x2 05x2
 under 7 w 2048 4 -> 02x4
@@ -99,7 +104,9 @@ under 5 vw 0 4 -> 00x4
 under 4 w 0 4 -> 00x4
 ";
 
-/// Two blocks with a column on each of five disks: ten writes, and then five flushes.
+/// Two blocks with a column on each of five disks. Behind their ten columns group 5 writes 26 of the volume, two copies of five of
+/// the indirect block and the dnodes and of three of the set, and 30 of the meta object set, three copies of two of the record, of
+/// five of the dnodes and of three of the set: 66 writes, and then five flushes.
 const FIVE_DISKS: &str = "pool 1 5 8388608 12 2
 device -> refused 13 NotNow
 hold 1 -> held 4
@@ -115,9 +122,7 @@ close -> closed 5
 quiesced -> quiesced 5
 plan -> planned 5
 plan -> refused 13 NotNow
-device -> moved Blocks
-device -> moved Blocks
-device -> moved Blocks
+times 17 device -> moved Blocks
 device -> moved BlocksFlush
 device -> committed 5
 device -> refused 13 NotNow
@@ -134,9 +139,12 @@ missing 4
 under 5 v 511 1538 -> 00x1 07x1024 00x512 07x1
 missing 1 3
 under 5 v 511 2 -> refused 2 DiskFault
+under 5 v 4096 2 -> refused 2 DiskFault
+under 4 v 511 2 -> refused 2 DiskFault
+under 3 v 511 2 -> refused 8 NoSuchName
+missing
 under 5 v 4096 2 -> 00x2
 under 4 v 511 2 -> 00x2
-missing
 under 3 v 511 2 -> refused 8 NoSuchName
 under 5 v 8191 2 -> refused 11 OutOfRange
 under 6 v 511 2 -> refused 17 GroupGone
@@ -201,8 +209,9 @@ read w 510 4 -> 05x2 00x2
 under 5 v 510 4 -> 03x4
 ";
 
-/// Disk 1 fails its first write, and disk 2 its flush for group 6: that is one disk too many.
-const LEFT_OUT: &str = "fault 1 write 0
+/// Disk 1 fails its first write for group 5, behind 26 for group 4, and disk 2 its flush for group 6: that is one disk too many.
+/// Groups 5 and 6 have 39 columns each, of which the other two disks have 26 and 27: a record has no column on one of the three.
+const LEFT_OUT: &str = "fault 1 write 26
 fault 2 flush 2
 pool 1 3 8388608 12 2
 hold 1 -> held 4
@@ -219,7 +228,7 @@ device -> replan 1
 device -> refused 13 NotNow
 under 4 v 511 2 -> 00x2
 plan -> planned 5
-device -> moved Blocks
+times 7 device -> moved Blocks
 device -> committed 5
 under 5 v 511 2 -> 00x1 05x1
 hold 1 -> held 6
@@ -228,7 +237,7 @@ release 1 -> released
 close -> closed 6
 quiesced -> quiesced 6
 plan -> planned 6
-device -> moved Blocks
+times 7 device -> moved Blocks
 device -> refused 4 Suspended
 device -> refused 4 Suspended
 under 5 v 511 2 -> refused 2 DiskFault
@@ -251,7 +260,9 @@ release 1 -> refused 6 NoHold
 device -> refused 4 Suspended
 ";
 
-/// With their parity 24 blocks fill the three metaslabs, and one is stored.
+/// Each of the three metaslabs has room for eight blocks with their parity. Behind what groups 4 and 5 wrote it is room for six in
+/// the first, which has the block that is stored and the first copies of all else, and for seven in each of the others: 21 blocks
+/// are one too many.
 const FULL: &str = "pool 1 2 8388608 12 2
 hold 1 -> held 4
 create 1 1 v 4194304 131072 -> receipt 4
@@ -264,7 +275,7 @@ sync -> committed 5
 hold 1 -> held 6
 write 1 3 v 0 1048576 06 -> receipt 6
 write 1 4 v 1048576 1048576 06 -> receipt 6
-write 1 5 v 2097152 1048576 06 -> receipt 6
+write 1 5 v 2097152 655360 06 -> receipt 6
 release 1 -> released
 sync -> refused 3 NoSpace
 device -> refused 13 NotNow
@@ -273,8 +284,9 @@ under 5 v 511 2 -> 05x1 00x1
 read v 511 2 -> 06x2
 ";
 
-/// With 23 blocks it is full. A write of the plan fails, whose room the next plan uses.
-const JUST_ROOM: &str = "fault 1 write 9
+/// With 20 blocks it is full: what is above them lies in what is left behind them. The ninth write of the plan to disk 1 fails,
+/// behind 42 for the groups before, and the next plan uses its room.
+const JUST_ROOM: &str = "fault 1 write 50
 pool 1 2 8388608 12 2
 hold 1 -> held 4
 create 1 1 v 4194304 131072 -> receipt 4
@@ -287,21 +299,18 @@ sync -> committed 5
 hold 1 -> held 6
 write 1 3 v 131072 1048576 06 -> receipt 6
 write 1 4 v 1179648 1048576 06 -> receipt 6
-write 1 5 v 2228224 917504 06 -> receipt 6
+write 1 5 v 2228224 524288 06 -> receipt 6
 release 1 -> released
 close -> closed 6
 quiesced -> quiesced 6
 plan -> planned 6
 commit -> refused 13 NotNow
-device -> moved Blocks
-device -> moved Blocks
-device -> moved Blocks
-device -> moved Blocks
+times 4 device -> moved Blocks
 device -> replan 1
 commit -> committed 6
 under 6 v 511 2 -> 05x1 00x1
-under 6 v 3014656 2 -> 06x2
-under 5 v 3014656 2 -> 00x2
+under 6 v 2621440 2 -> 06x2
+under 5 v 2621440 2 -> 00x2
 ";
 
 /// A volume of 4 MiB is written whole. No room is left to write it once more, and the group before stays as it is.
@@ -333,41 +342,79 @@ under 5 v 4193792 512 -> aax512
 under 6 v 0 512 -> refused 17 GroupGone
 ";
 
-const SCHEDULES: [&str; 10] = [
-    PARTS_OF_BLOCKS,
-    VOLUMES_OF_GROUPS,
-    FIVE_DISKS,
-    KEPT_GROUPS,
-    PENDING_WRITES,
-    LEFT_OUT,
-    SUSPENDED,
-    FULL,
-    JUST_ROOM,
-    WRITTEN_TWICE,
-];
+/// The schedules that have other replies than these, or nothing.
+fn changed_in(alloc: Global, texts: &[&str]) -> Result<String, Fail> {
+    let mut changed = String::new(alloc);
+    for text in texts {
+        let row = played(alloc, text)?;
+        if row.as_str() != *text {
+            changed.push_str(row.as_str())?;
+        }
+    }
+    Ok(changed)
+}
 
 #[test]
-fn schedules_have_their_replies(rt: HostRuntime) -> Result<(), Fail> {
-    for text in SCHEDULES {
-        assert_eq!(rt; played(rt.alloc(), text)?.as_str(), text);
-    }
+fn groups_have_their_replies(rt: HostRuntime) -> Result<(), Fail> {
+    let texts = [
+        PARTS_OF_BLOCKS,
+        VOLUMES_OF_GROUPS,
+        KEPT_GROUPS,
+        PENDING_WRITES,
+    ];
+    assert_eq!(rt; changed_in(rt.alloc(), &texts)?.as_str(), "");
     Ok(())
 }
 
-/// One call of one disk fails.
-const FAULTS: [&str; 12] = [
+#[test]
+fn disks_that_are_missing_or_fail_have_their_replies(rt: HostRuntime) -> Result<(), Fail> {
+    let texts = [FIVE_DISKS, LEFT_OUT, SUSPENDED];
+    assert_eq!(rt; changed_in(rt.alloc(), &texts)?.as_str(), "");
+    Ok(())
+}
+
+#[test]
+fn a_full_pool_has_its_replies(rt: HostRuntime) -> Result<(), Fail> {
+    assert_eq!(rt; changed_in(rt.alloc(), &[FULL, JUST_ROOM])?.as_str(), "");
+    Ok(())
+}
+
+#[test]
+fn a_pool_that_is_written_twice_has_its_replies(rt: HostRuntime) -> Result<(), Fail> {
+    assert_eq!(rt; changed_in(rt.alloc(), &[WRITTEN_TWICE])?.as_str(), "");
+    Ok(())
+}
+
+/// One write of one disk fails. For group 4 the disks have 27, 26 and 28 writes, for group 5 16, 16 and 14: the first on disk 0,
+/// one in the middle on disk 1, and the last on disk 2, of each.
+const WRITE_FAULTS: [&str; 6] = [
     "fault 0 at 0\n",
-    "fault 0 at 1\n",
-    "fault 0 at 2\n",
-    "fault 0 at 3\n",
-    "fault 1 at 0\n",
-    "fault 1 at 1\n",
-    "fault 1 at 2\n",
-    "fault 1 at 3\n",
-    "fault 2 at 0\n",
-    "fault 2 at 1\n",
-    "fault 2 at 2\n",
-    "fault 2 at 3\n",
+    "fault 1 write 13\n",
+    "fault 2 write 27\n",
+    "fault 0 write 27\n",
+    "fault 1 write 34\n",
+    "fault 2 write 41\n",
+];
+
+/// One flush of one disk fails: that for group 4, which is the call behind the writes, or that for group 5.
+const FLUSH_FAULTS: [&str; 6] = [
+    "fault 0 at 27\n",
+    "fault 1 at 26\n",
+    "fault 2 at 28\n",
+    "fault 0 flush 1\n",
+    "fault 1 flush 1\n",
+    "fault 2 flush 1\n",
+];
+
+/// One read of one disk fails. The disks have 1, 9 and 11 reads for what is pending, then 1, 15 and 17 for the plan of group 5,
+/// then 12, 13 and 2 under it, and 1, 9 and 11 under group 4: the first, the plan's first and last, and others up to the last.
+const READ_FAULTS: [&str; 6] = [
+    "fault 0 read 0\n",
+    "fault 1 read 9\n",
+    "fault 2 read 27\n",
+    "fault 0 read 2\n",
+    "fault 1 read 36\n",
+    "fault 2 read 40\n",
 ];
 
 /// Behind it, two groups are committed all the same.
@@ -387,11 +434,33 @@ under 5 v 510 4 -> 07x2 08x2
 under 4 v 510 4 -> 00x4
 ";
 
-#[test]
-fn each_call_of_a_disk_may_fail(rt: HostRuntime) -> Result<(), Fail> {
-    for fault in FAULTS {
-        let text = format!(in rt.alloc(); "{fault}{COMMITTED_IN_SPITE}")?;
-        assert_eq!(rt; played(rt.alloc(), text.as_str())?.as_str(), text.as_str());
+/// The schedules that end otherwise behind a fault, or nothing.
+fn changed_by(alloc: Global, faults: &[&str]) -> Result<String, Fail> {
+    let mut changed = String::new(alloc);
+    for fault in faults {
+        let text = format!(in alloc; "{fault}{COMMITTED_IN_SPITE}")?;
+        let row = played(alloc, text.as_str())?;
+        if row.as_str() != text.as_str() {
+            changed.push_str(row.as_str())?;
+        }
     }
+    Ok(changed)
+}
+
+#[test]
+fn a_write_of_a_disk_may_fail(rt: HostRuntime) -> Result<(), Fail> {
+    assert_eq!(rt; changed_by(rt.alloc(), &WRITE_FAULTS)?.as_str(), "");
+    Ok(())
+}
+
+#[test]
+fn a_flush_of_a_disk_may_fail(rt: HostRuntime) -> Result<(), Fail> {
+    assert_eq!(rt; changed_by(rt.alloc(), &FLUSH_FAULTS)?.as_str(), "");
+    Ok(())
+}
+
+#[test]
+fn a_read_of_a_disk_may_fail(rt: HostRuntime) -> Result<(), Fail> {
+    assert_eq!(rt; changed_by(rt.alloc(), &READ_FAULTS)?.as_str(), "");
     Ok(())
 }

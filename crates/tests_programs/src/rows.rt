@@ -54,15 +54,27 @@ release 1 -> released
 quiesced -> quiesced 5
 ";
 
-/// Behind those, a commit without disks.
-const AT_ONCE: &str = "plan -> planned 5
-device -> committed 5
+/// Behind those, a plan, and a commit: without disks, or the last step over them, which flushes each.
+const PLANNED: &str = "plan -> planned 5
 ";
 
-/// And one over three disks: a step writes a block's two columns, and a step flushes each disk.
-const IN_PHASES: &str = "plan -> planned 5
+const COMMITTED: &str = "device -> committed 5
+";
+
+/// Steps between the two, which write four columns each.
+const WRITES: &str = "device -> moved Blocks
+";
+
+const TEN_WRITES: &str = "device -> moved Blocks
 device -> moved Blocks
-device -> committed 5
+device -> moved Blocks
+device -> moved Blocks
+device -> moved Blocks
+device -> moved Blocks
+device -> moved Blocks
+device -> moved Blocks
+device -> moved Blocks
+device -> moved Blocks
 ";
 
 /// Behind it, groups 5 to 8 each write their number over the first sector.
@@ -125,32 +137,41 @@ release 1 -> refused 6 NoHold
 quiesced -> quiesced 4
 plan -> planned 4
 plan -> refused 13 NotNow
-device -> committed 4
+";
+
+/// The end of them.
+const NO_CAUSES: &str = "device -> committed 4
 device -> refused 13 NotNow
 ";
 
 /// What the machine in memory replies.
-const IN_MEMORY: [[&str; 3]; 5] = [
-    [FIRST, "", ""],
-    [FIRST, TWO_GROUPS, ""],
-    [FIRST, REFUSALS, AT_ONCE],
-    [FIRST, KEPT, ""],
-    [CAUSES, "", ""],
+const IN_MEMORY: [[&str; 4]; 5] = [
+    [FIRST, "", "", ""],
+    [FIRST, TWO_GROUPS, "", ""],
+    [FIRST, REFUSALS, PLANNED, COMMITTED],
+    [FIRST, KEPT, "", ""],
+    [CAUSES, NO_CAUSES, "", ""],
 ];
 
-/// What the core replies.
-const OVER_DISKS: [[&str; 3]; 11] = [
-    [FIRST, "", ""],
-    [FIRST, TWO_GROUPS, ""],
-    [FIRST, REFUSALS, IN_PHASES],
-    [FIRST, KEPT, ""],
-    [CAUSES, "", ""],
-    ["pool 1 2 8388608 12 2 -> pool 3 claim 1\n", "", ""],
-    ["pool 1 1 8388608 12 2 -> refused 24 BadConfig\n", "", ""],
-    ["pool 3 5 8388608 12 2 -> refused 24 BadConfig\n", "", ""],
-    ["pool 1 3 8388607 12 2 -> refused 24 BadConfig\n", "", ""],
-    ["pool 1 3 8388608 12 0 -> refused 24 BadConfig\n", "", ""],
-    ["pool 1 3 8388608 12 5 -> refused 24 BadConfig\n", "", ""],
+/// What the core replies. The block that is written in group 5 has two columns; the indirect block above it, the volume's dnodes and
+/// its set two copies of three, which are 18; the record three copies of two; the dnodes of the meta object set and that set three
+/// of three, which are 18: 44 columns. Group 4 makes a volume and the first root: 81 columns.
+const OVER_DISKS: [[&str; 6]; 5] = [
+    [FIRST, "", "", "", "", ""],
+    [FIRST, TWO_GROUPS, "", "", "", ""],
+    [FIRST, REFUSALS, PLANNED, TEN_WRITES, WRITES, COMMITTED],
+    [FIRST, KEPT, "", "", "", ""],
+    [CAUSES, TEN_WRITES, TEN_WRITES, WRITES, NO_CAUSES, ""],
+];
+
+/// Pools that are made over disks, and those that are not.
+const POOLS: [&str; 6] = [
+    "pool 1 2 8388608 12 2 -> pool 3 claim 1\n",
+    "pool 1 1 8388608 12 2 -> refused 24 BadConfig\n",
+    "pool 3 5 8388608 12 2 -> refused 24 BadConfig\n",
+    "pool 1 3 8388607 12 2 -> refused 24 BadConfig\n",
+    "pool 1 3 8388608 12 0 -> refused 24 BadConfig\n",
+    "pool 1 3 8388608 12 5 -> refused 24 BadConfig\n",
 ];
 
 #[test]
@@ -166,6 +187,15 @@ fn the_machine_in_memory_replies(rt: HostRuntime) -> Result<(), Fail> {
 fn the_core_over_disks_replies(rt: HostRuntime) -> Result<(), Fail> {
     for rows in OVER_DISKS {
         let (told, wanted) = ran::<OverDisks>(rt.alloc(), &rows)?;
+        assert_eq!(rt; told.as_str(), wanted.as_str());
+    }
+    Ok(())
+}
+
+#[test]
+fn pools_are_made_or_refused(rt: HostRuntime) -> Result<(), Fail> {
+    for pool in POOLS {
+        let (told, wanted) = ran::<OverDisks>(rt.alloc(), &[pool])?;
         assert_eq!(rt; told.as_str(), wanted.as_str());
     }
     Ok(())

@@ -1,66 +1,61 @@
-use Rattle.std.proofs.Common.{◌+◌, ⊎_elim, inl, inr, sym, subst, rules, ◌∙◌}
-use Rattle.pool_commit.proofs.Refusing.{not_memory, is_memory}
-use Rattle.volume_blocks.specs.declared.volume.VolumeBlocks.{VolumeBlocks}
-use Rattle.volume_blocks.specs.Reading.{IsUnreadIn}
-use Rattle.volume_blocks.specs.Volume.{Spells}
-use Rattle.pool_commit.proofs.ReadCauses.{in_range, is_out_of_range, has_no_cause}
+use Rattle.std.proofs.Common.{◌+◌, ◌≤◌, ◌≡◌, ⊎_elim, inl, inr, sym, ap, subst, rules, ◌∙◌, Option, Some, None, List, ℕ, length, arith}
+use Rattle.pool_model.specs.declared.volume.PlainVolume.{PlainVolume}
+use Rattle.pool_model.specs.Refusals.{read_refusal}
+use Rattle.pool_now.specs.Shapes.{shape_of}
+use Rattle.pool_commit.specs.Reading.{IsFaultIn}
+use Rattle.pool_commit.proofs.Backing.{root_spelled}
+use Rattle.pool_commit.proofs.Refusing.{no_fault_in_memory, no_fault_of_memory, read_faults}
+use Rattle.pool_commit.proofs.ReadCauses.{at_none, at_shape, has_no_cause, in_range, is_out_of_range, shape_within}
 use Rattle.pool_commit.proofs.reading.read_of.Goals as goal
+
+pub returns-in_default-clause-refused : goal.returns-in_default-clause-refused
+returns-in_default-clause-refused g c = λ stored pool held spells.
+    inr (inl (ap (read_refusal c.args.range.now.offset c.args.range.now.len) (at_none _ (sym (c.find.ensures pool spells.names) ∙ c.in_default.is))))
 
 pub returns-then-is_some-clause-refused : goal.returns-then-is_some-clause-refused
 returns-then-is_some-clause-refused g c = λ stored pool held spells.
-    let there = c.in-Some.ensures.some stored c.args.birth pool spells in
-    inr (inl (is_out_of_range c.args.range.offset c.args.range.len c.args.name.now pool c.shape.result c.against_read.result there.0 c.against_read.ensures there.1
-    (c.shape.ensures.shape stored c.args.birth there.0 there.2) (search rules)))
+    let there = at_shape _ c.in-Some.shape (sym c.in-Some.is ∙ c.find.ensures pool spells.names) in
+    inr (inl (is_out_of_range c.args.range.now.offset c.args.range.now.len c.args.range.now.name.now pool c.in-Some.shape c.against_read.result there.0 c.against_read.ensures there.1
+    there.2 (sym c.is_some.ensures ∙ c.if-is_some.true)))
 
-pub read-requires-clause-within : goal.read-requires-clause-within
-read-requires-clause-within g c =
-    let there = in_range c.args.range.offset c.args.range.len c.shape.result c.against_read.result c.against_read.ensures (search rules) in
-    search rules
-
-pub read-requires-clause-few : goal.read-requires-clause-few
-read-requires-clause-few g c = (in_range c.args.range.offset c.args.range.len c.shape.result c.against_read.result c.against_read.ensures (search rules)).1
+pub read_range-requires : goal.read_range-requires
+read_range-requires g c = record {
+  few = (in_range c.args.range.now.offset c.args.range.now.len c.in-Some.shape c.against_read.result c.against_read.ensures (sym c.is_some.ensures ∙ c.if-is_some.false)).1;
+}
 
 pub returns-in-Ok-clause-bytes : goal.returns-in-Ok-clause-bytes
 returns-in-Ok-clause-bytes g c = λ stored pool held spells.
-    let there = c.in-Some.ensures.some stored c.args.birth pool spells in (
-      has_no_cause c.args.range.offset c.args.range.len c.args.name.now pool c.shape.result c.against_read.result there.0 c.against_read.ensures there.1
-          (c.shape.ensures.shape stored c.args.birth there.0 there.2) (search rules),
+    let there = at_shape _ c.in-Some.shape (sym c.in-Some.is ∙ c.find.ensures pool spells.names) in (
+      has_no_cause c.args.range.now.offset c.args.range.now.len c.args.range.now.name.now pool c.in-Some.shape c.against_read.result there.0 c.against_read.ensures there.1
+          there.2 (sym c.is_some.ensures ∙ c.if-is_some.false),
       λ honest. (
         there.0,
         there.1,
-        c.in-Ok.ensures.value stored there.0.bytes held
-            (subst (λ (b : VolumeBlocks). Spells stored c.args.birth b there.0.bytes) (sym c.blocks-blocks.ensures) there.2.bytes) honest,
+        c.in-Ok.ensures.value stored pool there.0 held (root_spelled stored c.args.birth c.args.kept.now pool c.in-Some-root.root spells c.in-Some-root.is) honest there.1,
       ),
     )
 
 pub returns-in-Err-clause-refused : goal.returns-in-Err-clause-refused
 returns-in-Err-clause-refused g c = λ stored pool held spells.
-    let there = c.in-Some.ensures.some stored c.args.birth pool spells in
-    let none = has_no_cause c.args.range.offset c.args.range.len c.args.name.now pool c.shape.result c.against_read.result there.0 c.against_read.ensures there.1
-    (c.shape.ensures.shape stored c.args.birth there.0 there.2) (search rules) in
-    ⊎_elim (λ memory. inl (c.from.ensures ∙ is_memory c.in-Err.refusal memory))
-    (λ unread. inr (inr (
+    let there = at_shape _ c.in-Some.shape (sym c.in-Some.is ∙ c.find.ensures pool spells.names) in
+    let none = has_no_cause c.args.range.now.offset c.args.range.now.len c.args.range.now.name.now pool c.in-Some.shape c.against_read.result there.0 c.against_read.ensures there.1
+    there.2 (sym c.is_some.ensures ∙ c.if-is_some.false) in
+    let within = (in_range c.args.range.now.offset c.args.range.now.len c.in-Some.shape c.against_read.result c.against_read.ensures (sym c.is_some.ensures ∙ c.if-is_some.false)).0 in
+    ⊎_elim (λ memory. inl (c.of_read.ensures ∙ memory))
+    (λ fault. inr (inr (
       none,
-      record {
-        named = c.in-Some.volume.now;
-        has = c.in-Some.ensures.held;
-        cause = c.in-Err.refusal;
-        unread =
-            subst (λ (b : VolumeBlocks). IsUnreadIn c.args.store.now c.read.new.store b c.args.birth c.args.range.offset (c.args.range.offset + c.args.range.len) c.args.missing.now c.in-Err.refusal)
-            c.blocks-blocks.ensures unread;
-        answered = c.from.ensures;
-      },
-    ))) c.in-Err.ensures.refused
+      record { root = c.in-Some-root.root; is_root = c.in-Some-root.is; cause = c.in-Err.refusal; unread = ⊎_elim (λ memory. absurd (no_fault_in_memory c.args.store.now c.read_range.new.store c.in-Err.refusal fault memory)) (λ why. why) c.in-Err.ensures.refused; answered = c.of_read.ensures },
+      subst (IsFaultIn c.args.store.now c.read_range.new.store) (sym c.of_read.ensures) fault,
+    )))
+    (read_faults c.args.store.now c.read_range.new.store c.in-Err.refusal (λ honest.
+    c.in-Err.ensures.known stored pool there.0 held (root_spelled stored c.args.birth c.args.kept.now pool c.in-Some-root.root spells c.in-Some-root.is) honest there.1
+    (shape_within _ _ c.in-Some.shape there.0 there.2 within)))
 
 pub returns-in-Err-clause-unread : goal.returns-in-Err-clause-unread
-returns-in-Err-clause-unread g c = λ fault.
-    ⊎_elim (λ memory. absurd (not_memory c.from.result fault (c.from.ensures ∙ is_memory c.in-Err.refusal memory)))
-    (λ unread. record {
-      named = c.in-Some.volume.now;
-      has = c.in-Some.ensures.held;
-      cause = c.in-Err.refusal;
-      unread =
-          subst (λ (b : VolumeBlocks). IsUnreadIn c.args.store.now c.read.new.store b c.args.birth c.args.range.offset (c.args.range.offset + c.args.range.len) c.args.missing.now c.in-Err.refusal)
-          c.blocks-blocks.ensures unread;
-      answered = c.from.ensures;
-    }) c.in-Err.ensures.refused
+returns-in-Err-clause-unread g c = λ fault. record {
+  root = c.in-Some-root.root;
+  is_root = c.in-Some-root.is;
+  cause = c.in-Err.refusal;
+  unread = ⊎_elim (λ memory. absurd (no_fault_of_memory c.of_read.result c.in-Err.refusal c.of_read.ensures fault memory)) (λ why. why) c.in-Err.ensures.refused;
+  answered = c.of_read.ensures;
+}

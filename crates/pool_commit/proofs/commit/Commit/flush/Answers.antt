@@ -18,7 +18,7 @@ make_flushes-requires g c = c.requires.there c.args.planned refl
 
 pub go_on-requires-clause-there : goal.go_on-requires-clause-there
 go_on-requires-clause-there g c =
-    there_still (length c.make_flushes.new.store.disks.starts) (record { volumes = c.args.planned.volumes; flushes = c.make_flushes.new.flushes })
+    there_still (length c.make_flushes.new.store.disks.starts) (record { after = c.args.planned.after; flushes = c.make_flushes.new.flushes })
     (subst (λ (starts : List (List ℕ)). AreBelow (length starts) c.make_flushes.new.flushes.items) (sym c.in-Ok.ensures.made.same.grew.starts) c.in-Ok.ensures.there)
 
 pub returns-in-Ok-clause-goes : goal.returns-in-Ok-clause-goes
@@ -28,7 +28,7 @@ returns-in-Ok-clause-goes g c v backs low =
     let mid : Store = c.make_flushes.new.store in
     let flushes : List ℕ = c.args.planned.flushes.items in
     let counts : ℕ → ℕ = backs.blocks.plan.counts in
-    let later : Planned = record { volumes = c.args.planned.volumes; flushes = c.make_flushes.new.flushes } in
+    let later : Planned = record { after = c.args.planned.after; flushes = c.make_flushes.new.flushes } in
     let none : mid.due ≡ [] = c.in-Ok.ensures.due ∙ c.requires.written in
     let made : MadeCalls store mid (left_calls counts store.due flushes) (left_calls counts mid.due later.flushes.items) phases.BlocksFlush (min (length flushes) 4) =
     subst (λ (due : List ColumnWrite). MadeCalls store mid (left_calls counts due flushes) (left_calls counts mid.due later.flushes.items) phases.BlocksFlush (min (length flushes) 4))

@@ -1,12 +1,16 @@
-use Rattle.std.proofs.Common.{ℕ, sym, subst}
-use Rattle.block_store.specs.Blocks.{Contents}
-use Rattle.group_volumes.specs.declared.volumes.GroupVolumes.{GroupVolumes}
-use Rattle.group_volumes.specs.Volumes.{SpellsPool}
+use Rattle.std.proofs.Common.{ap, subst, sym}
 use Rattle.pool_model.specs.Pools.{no_volumes}
+use Rattle.pool_now.specs.Index.{Knows}
+use Rattle.pool_commit.specs.declared.kept.KeptGroup.{KeptGroup}
 use Rattle.pool_commit.proofs.Starting.{starts}
 use Rattle.pool_commit.proofs.commit.Commit.new.Goals as goal
 
 pub returns-clause-backs : goal.returns-clause-backs
 returns-clause-backs g c =
-    starts c.in-Ok.store c.new-3.result c.args.vdevs.now c.in-Ok.ensures.shapes c.in-Ok.ensures.out c.in-Ok.ensures.plans c.new-3.ensures.committed c.new-3.ensures.before c.new-3.ensures.earliest
-    (subst (λ (g : GroupVolumes). (stored : Contents) (birth : ℕ) → SpellsPool stored birth g no_volumes) (sym c.new-3.ensures.last) c.new-2.ensures)
+    starts c.in-Ok.store c.new-3.result c.args.vdevs.now c.in-Ok.ensures.shapes c.in-Ok.ensures.out c.in-Ok.ensures.plans (record {
+      committed = c.new-3.ensures.committed;
+      root = ap (λ (kept : KeptGroup). kept.root) c.new-3.ensures.last;
+      names = subst (λ (kept : KeptGroup). Knows kept.names no_volumes) (sym c.new-3.ensures.last) c.new-2.ensures;
+      before = c.new-3.ensures.before;
+      earliest = c.new-3.ensures.earliest;
+    })

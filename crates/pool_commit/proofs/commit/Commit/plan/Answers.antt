@@ -1,29 +1,29 @@
 use Rattle.std.proofs.Common.{ℕ, suc, ◌≡◌, ⊎_elim, inl, inr, ◌-◌, List, length, None, Contains, refl, sym, ap, ◌∙◌, subst, arith}
 use Rattle.model_disk.specs.Joint.{Disks}
 use Rattle.raidz_io.specs.Reads.{IsHonestSince}
-use Rattle.group_volumes.specs.declared.volumes.GroupVolumes.{GroupVolumes}
-use Rattle.group_volumes.specs.Volumes.{SpellsPool}
+use Rattle.block_store.specs.declared.refusal.Refusal.{Refusal as StoreRefusal}
 use Rattle.pool_model.specs.View.{Unplanned}
+use Rattle.pool_commit.specs.declared.kept.KeptGroup.{KeptGroup}
 use Rattle.pool_commit.specs.declared.kept.Planned.{Planned}
-use Rattle.group_volumes.specs.Room.{LacksRoom as LacksRoomFor}
-use Rattle.group_volumes.specs.Unread.{IsUnreadFor}
-use Rattle.pool_commit.specs.Causes.{of_volumes}
-use Rattle.pool_commit.specs.Reading.{IsReadFault}
+use Rattle.pool_commit.specs.Backs.{SpellsGroup}
+use Rattle.pool_commit.specs.Reading.{IsFaultIn}
+use Rattle.pool_commit.specs.Room.{IsNextRefused, IsPlanRefused}
 use Rattle.pool_commit.specs.State.{State}
 use Rattle.pool_commit.specs.StateOf.{state_of}
 use Rattle.pool_commit.proofs.Backing.{last_spelled}
 use Rattle.pool_commit.proofs.Planning.{is_begun, untouched_since, at_error, backs_begun, backs_still, unplanned_still, plan_is_backed}
-use Rattle.pool_commit.proofs.Refusing.{only_space, only_unread}
+use Rattle.pool_commit.proofs.Refusing.{no_config, only_room, plan_faults}
 use Rattle.pool_commit.proofs.Unread.{lost_for_plan}
+use Rattle.pool_commit.proofs.commit.Commit.plan.Given as given
 use Rattle.pool_commit.proofs.commit.Commit.plan.Goals as goal
 
 pub invariant_of-self-in-Ok : goal.invariant_of-self-in-Ok
 invariant_of-self-in-Ok g c = record {
   disks = λ plan is disk held.
-      let planned : Planned = record { volumes = c.in-Ok.volumes; flushes = c.in_ok-flushes.flushes } in
+      let planned : Planned = record { after = c.in-Ok.after; flushes = c.in_ok-flushes.flushes } in
       let same : planned ≡ plan = cc in
       let below = c.in_ok-flushes.ensures.there disk (subst (λ (p : Planned). Contains p.flushes.items disk) (sym same) held) in
-      let starts = ap (λ (starts : List (List ℕ)). length starts) c.in-Ok.ensures.kept.reads.starts in
+      let starts = ap (λ (starts : List (List ℕ)). length starts) c.in-Ok.ensures.steps.reads.starts in
       omega arith;
 }
 
@@ -32,9 +32,9 @@ returns-in-Ok-clause-planned g c = λ v backs none few items honest.
     let begun = backs_begun (state_of c.args.self.now) c.begin_plan.new.self v c.begin_plan.ensures.out c.begin_plan.ensures.shapes c.begin_plan.ensures.plans v.sync none backs in
     let s : State = record { store = c.begin_plan.new.self; kept = c.args.self.now.kept; planned = None } in
     let next : c.saturating_add-group.result ≡ suc v.committed = let same = c.committed.ensures ∙ backs.committed in omega arith in
-    plan_is_backed s c.after_group.new.store c.saturating_add-group.result c.last.result.now (record { volumes = c.in-Ok.volumes; flushes = c.in_ok-flushes.flushes })
-    c.args.items.now v begun c.begin_plan.ensures.due next c.last.ensures items c.in_ok-flushes.ensures.disks c.in-Ok.ensures.kept
-    (subst (λ (disks : Disks). IsHonestSince disks c.after_group.new.store.disks) (sym c.begin_plan.ensures.disks) honest) c.in-Ok.ensures.value
+    plan_is_backed s c.group_after.new.store c.saturating_add-group.result c.last-last.result.now (record { after = c.in-Ok.after; flushes = c.in_ok-flushes.flushes })
+    c.args.items.now v begun c.begin_plan.ensures.due next c.last-last.ensures items c.in_ok-flushes.ensures.disks c.in-Ok.ensures.steps
+    (subst (λ (disks : Disks). IsHonestSince disks c.group_after.new.store.disks) (sym c.begin_plan.ensures.disks) honest) c.in-Ok.ensures.value
 
 pub returns-in_err-flushes-clause-unplanned : goal.returns-in_err-flushes-clause-unplanned
 returns-in_err-flushes-clause-unplanned g c = at_error c.from_residual.result _ (λ v backs none.
@@ -45,7 +45,7 @@ pub returns-in-Err-clause-unplanned : goal.returns-in-Err-clause-unplanned
 returns-in-Err-clause-unplanned g c = λ v backs none.
     let begun = backs_begun (state_of c.args.self.now) c.begin_plan.new.self v c.begin_plan.ensures.out c.begin_plan.ensures.shapes c.begin_plan.ensures.plans v.sync none backs in
     let s : State = record { store = c.begin_plan.new.self; kept = c.args.self.now.kept; planned = None } in
-    unplanned_still (record s { store = c.after_group.new.store }) c.args.self.now.planned v c.requires.unplanned (backs_still s c.after_group.new.store v refl c.in-Err.ensures.kept begun)
+    unplanned_still (record s { store = c.group_after.new.store }) c.args.self.now.planned v c.requires.unplanned (backs_still s c.group_after.new.store v refl c.in-Err.ensures.steps begun)
 
 pub returns-in_err-flushes-clause-dropped : goal.returns-in_err-flushes-clause-dropped
 returns-in_err-flushes-clause-dropped g c = at_error c.from_residual.result _ (λ v backs.
@@ -56,59 +56,55 @@ pub returns-in-Err-clause-dropped : goal.returns-in-Err-clause-dropped
 returns-in-Err-clause-dropped g c = λ v backs.
     let begun = backs_begun (state_of c.args.self.now) c.begin_plan.new.self v c.begin_plan.ensures.out c.begin_plan.ensures.shapes c.begin_plan.ensures.plans Unplanned refl backs in
     let s : State = record { store = c.begin_plan.new.self; kept = c.args.self.now.kept; planned = None } in
-    unplanned_still (record s { store = c.after_group.new.store }) c.args.self.now.planned (record v { sync = Unplanned }) c.requires.unplanned
-    (backs_still s c.after_group.new.store (record v { sync = Unplanned }) refl c.in-Err.ensures.kept begun)
+    unplanned_still (record s { store = c.group_after.new.store }) c.args.self.now.planned (record v { sync = Unplanned }) c.requires.unplanned
+    (backs_still s c.group_after.new.store (record v { sync = Unplanned }) refl c.in-Err.ensures.steps begun)
 
 pub returns-in-Ok-clause-untouched : goal.returns-in-Ok-clause-untouched
 returns-in-Ok-clause-untouched g c =
-    untouched_since c.args.self.now.store c.begin_plan.new.self c.after_group.new.store c.begin_plan.ensures.disks c.begin_plan.ensures.out c.in-Ok.ensures.kept.untouched
+    untouched_since c.args.self.now.store c.begin_plan.new.self c.group_after.new.store c.begin_plan.ensures.disks c.begin_plan.ensures.out c.in-Ok.ensures.steps.untouched
 
 pub returns-in-Err-clause-untouched : goal.returns-in-Err-clause-untouched
 returns-in-Err-clause-untouched g c =
-    untouched_since c.args.self.now.store c.begin_plan.new.self c.after_group.new.store c.begin_plan.ensures.disks c.begin_plan.ensures.out c.in-Err.ensures.kept.untouched
+    untouched_since c.args.self.now.store c.begin_plan.new.self c.group_after.new.store c.begin_plan.ensures.disks c.begin_plan.ensures.out c.in-Err.ensures.steps.untouched
+
+-- what the plan was refused for
+refused : (g : given.Over) (c : goal.After-drop-flushes-in-Err-1 g) → IsPlanRefused (state_of c.args.self.now) c.group_after.new.store c.args.items.now c.in-Err.refusal
+refused g c = record {
+  begun = c.begin_plan.new.self;
+  is_begun = is_begun c.args.self.now.store c.begin_plan.new.self c.begin_plan.ensures.disks c.begin_plan.ensures.out c.begin_plan.ensures.shapes c.begin_plan.ensures.filled c.begin_plan.ensures.free;
+  group = c.saturating_add-group.result;
+  is_next = λ few. let same = c.committed.ensures in omega arith;
+  why = subst (λ (kept : KeptGroup). IsNextRefused c.begin_plan.new.self c.group_after.new.store kept.root c.saturating_add-group.result c.args.items.now c.in-Err.refusal)
+      c.last-last.ensures c.in-Err.ensures.refused;
+}
 
 pub returns-in-Err-clause-full : goal.returns-in-Err-clause-full
-returns-in-Err-clause-full g c = λ no_space. record {
-  begun = c.begin_plan.new.self;
-  is_begun = is_begun c.args.self.now.store c.begin_plan.new.self c.begin_plan.ensures.disks c.begin_plan.ensures.out c.begin_plan.ensures.shapes c.begin_plan.ensures.filled c.begin_plan.ensures.free;
-  group = c.saturating_add-group.result;
-  is_next = λ few. let same = c.committed.ensures in omega arith;
-  lacks = subst (λ (volumes : GroupVolumes). LacksRoomFor c.begin_plan.new.self.spaces volumes c.args.items.now.writes c.saturating_add-group.result) c.last.ensures
-      (only_space c.begin_plan.new.self c.after_group.new.store c.last.result.now c.args.items.now c.saturating_add-group.result c.in-Err.refusal (sym c.from.ensures ∙ no_space) c.in-Err.ensures.refused);
-}
+returns-in-Err-clause-full g c = λ no_space. (
+  c.group_after.new.store,
+  subst (λ (cause : StoreRefusal). IsPlanRefused (state_of c.args.self.now) c.group_after.new.store c.args.items.now cause) (only_room c.in-Err.refusal (sym c.from.ensures ∙ no_space)) (refused g c),
+)
 
 pub returns-in-Err-clause-unread : goal.returns-in-Err-clause-unread
-returns-in-Err-clause-unread g c = λ fault. record {
-  begun = c.begin_plan.new.self;
-  is_begun = is_begun c.args.self.now.store c.begin_plan.new.self c.begin_plan.ensures.disks c.begin_plan.ensures.out c.begin_plan.ensures.shapes c.begin_plan.ensures.filled c.begin_plan.ensures.free;
-  group = c.saturating_add-group.result;
-  is_next = λ few. let same = c.committed.ensures in omega arith;
-  cause = c.in-Err.refusal;
-  unread = subst (λ (volumes : GroupVolumes). IsUnreadFor c.begin_plan.new.self c.after_group.new.store volumes c.args.items.now.writes c.saturating_add-group.result c.in-Err.refusal) c.last.ensures
-      (only_unread c.begin_plan.new.self c.after_group.new.store c.last.result.now c.args.items.now c.saturating_add-group.result c.in-Err.refusal
-      (subst IsReadFault c.from.ensures fault) c.in-Err.ensures.refused);
-  answered = c.from.ensures;
-}
+returns-in-Err-clause-unread g c = λ fault. record { cause = c.in-Err.refusal; refused = refused g c; answered = c.from.ensures }
 
 pub returns-in-Err-clause-refused : goal.returns-in-Err-clause-refused
+unfolding refused
 returns-in-Err-clause-refused g c = λ v backs none few items good.
     let begun = backs_begun (state_of c.args.self.now) c.begin_plan.new.self v c.begin_plan.ensures.out c.begin_plan.ensures.shapes c.begin_plan.ensures.plans v.sync none backs in
     let s : State = record { store = c.begin_plan.new.self; kept = c.args.self.now.kept; planned = None } in
-    let new : State = record { store = c.after_group.new.store; kept = c.args.self.now.kept; planned = c.args.self.now.planned } in
+    let new : State = record { store = c.group_after.new.store; kept = c.args.self.now.kept; planned = c.args.self.now.planned } in
     let before : c.saturating_add-group.result - 1 ≡ v.committed = let same = c.committed.ensures ∙ backs.committed in omega arith in
-    let spelled : SpellsPool begun.blocks.stored (c.saturating_add-group.result - 1) c.args.self.now.kept.last (v.pools v.committed) =
-    subst (λ (n : ℕ). SpellsPool begun.blocks.stored n c.args.self.now.kept.last (v.pools v.committed)) (sym before) (last_spelled s v begun) in
-    ⊎_elim (λ memory. inl (c.from.ensures ∙ ap of_volumes memory))
+    let spelled : SpellsGroup begun.blocks.stored (c.saturating_add-group.result - 1) c.last-last.result.now (v.pools v.committed) =
+    subst (λ (n : ℕ). SpellsGroup begun.blocks.stored n c.last-last.result.now (v.pools v.committed)) (sym before)
+    (subst (λ (kept : KeptGroup). SpellsGroup begun.blocks.stored v.committed kept (v.pools v.committed)) (sym c.last-last.ensures) (last_spelled s v begun)) in
+    ⊎_elim (λ memory. inl (c.from.ensures ∙ memory))
     (λ other. inr (⊎_elim
-    (λ space. inr (c.from.ensures ∙ ap of_volumes space.0))
-    (λ another. inl (⊎_elim
-    (λ config. absurd (config.1 good))
-    (λ unread. lost_for_plan v (state_of c.args.self.now) new c.args.items.now c.from.result (record {
-      begun = c.begin_plan.new.self;
-      is_begun = is_begun c.args.self.now.store c.begin_plan.new.self c.begin_plan.ensures.disks c.begin_plan.ensures.out c.begin_plan.ensures.shapes c.begin_plan.ensures.filled c.begin_plan.ensures.free;
-      group = c.saturating_add-group.result;
-      is_next = λ small. let same = c.committed.ensures in omega arith;
-      cause = c.in-Err.refusal;
-      unread = subst (λ (volumes : GroupVolumes). IsUnreadFor c.begin_plan.new.self c.after_group.new.store volumes c.args.items.now.writes c.saturating_add-group.result c.in-Err.refusal) c.last.ensures unread;
-      answered = c.from.ensures;
-    }) begun c.in-Err.ensures.kept.reads (v.pools v.committed) spelled) another)) other)) c.in-Err.ensures.refused
+    (λ space. inr (c.from.ensures ∙ space))
+    (λ fault. inl (lost_for_plan v (state_of c.args.self.now) new c.args.items.now c.from.result
+    (record { cause = c.in-Err.refusal; refused = refused g c; answered = c.from.ensures }) begun c.in-Err.ensures.steps.reads
+    (subst (IsFaultIn c.begin_plan.new.self c.group_after.new.store) (sym c.from.ensures) fault))) other))
+    (plan_faults c.begin_plan.new.self c.group_after.new.store c.in-Err.refusal
+    (λ honest. c.in-Err.ensures.known begun.blocks.stored begun.blocks.planned (v.pools v.committed) begun.blocks.plans spelled honest good))
+
+pub returns-in-Err-clause-bad : goal.returns-in-Err-clause-bad
+returns-in-Err-clause-bad g c = λ is. absurd (no_config c.in-Err.refusal (sym c.from.ensures ∙ is))

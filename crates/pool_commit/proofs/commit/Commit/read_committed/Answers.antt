@@ -3,11 +3,11 @@ use Rattle.std.specs.Prelude.{replicate}
 use Rattle.std.proofs.lemmas.Result.{IfErr-weaker}
 use Rattle.pool_now.specs.Overlay.{base_of, HasRange}
 use Rattle.raidz_io.proofs.Written.{IfOk-both}
-use Rattle.group_volumes.specs.declared.volumes.GroupVolumes.{GroupVolumes}
-use Rattle.group_volumes.specs.Volumes.{SpellsPool}
+use Rattle.pool_commit.specs.declared.kept.KeptGroup.{KeptGroup}
+use Rattle.pool_commit.specs.Backs.{SpellsGroup}
 use Rattle.pool_commit.specs.HasDisks.{HasDisks}
 use Rattle.pool_commit.specs.Reading.{IsUnreadOf}
-use Rattle.pool_commit.specs.State.{volumes_at}
+use Rattle.pool_commit.specs.State.{group_at}
 use Rattle.pool_commit.specs.StateOf.{state_of}
 use Rattle.pool_commit.proofs.Backing.{last_at, last_spelled, only_reads}
 use Rattle.pool_commit.proofs.ReadCauses.{no_read_cause}
@@ -33,8 +33,8 @@ returns-clause-reads g c = only_reads (state_of c.args.self.now) c.read_of.new.s
 pub returns-clause-bytes : goal.returns-clause-bytes
 returns-clause-bytes g c = IfOk-both c.read_of.result _ _ _ (λ bytes count known v volume backs below honest at shape.
     let there = known backs.blocks.stored (v.pools v.committed) backs.blocks.plans.held
-    (subst (λ (volumes : GroupVolumes). SpellsPool backs.blocks.stored c.committed-committed.result volumes (v.pools v.committed)) (sym c.last-last.ensures)
-    (subst (λ (group : ℕ). SpellsPool backs.blocks.stored group c.args.self.now.kept.last (v.pools v.committed)) (sym (c.committed-committed.ensures ∙ backs.committed))
+    (subst (λ (kept : KeptGroup). SpellsGroup backs.blocks.stored c.committed-committed.result kept (v.pools v.committed)) (sym c.last-last.ensures)
+    (subst (λ (group : ℕ). SpellsGroup backs.blocks.stored group c.args.self.now.kept.last (v.pools v.committed)) (sym (c.committed-committed.ensures ∙ backs.committed))
     (last_spelled (state_of c.args.self.now) v backs))) in
     base_lies_under v c.args.name.now volume c.args.offset c.args.len bytes.items count (there.1 honest)) c.read_of.ensures.len c.read_of.ensures.bytes
 
@@ -45,21 +45,21 @@ returns-clause-refused g c = IfErr-weaker c.read_of.result _ _ (λ refusal known
     ⊎_elim inl (λ other. inr (⊎_elim
     (λ cause. absurd (no_read_cause _ refusal none cause))
     (λ fault. lost_under v (state_of c.args.self.now) c.read_of.new.store v.committed c.args.self.now.kept.last c.args.name.now c.args.offset c.args.len [] refusal backs
-    (ap (volumes_at c.args.self.now.kept) (sym backs.committed) ∙ last_at c.args.self.now.kept) c.read_of.ensures.reads.reads (last_spelled (state_of c.args.self.now) v backs)
+    (ap (group_at c.args.self.now.kept) (sym backs.committed) ∙ last_at c.args.self.now.kept) c.read_of.ensures.reads.reads
     (subst (λ (group : ℕ). IsUnreadOf c.args.self.now.store c.read_of.new.store c.args.self.now.kept.last group c.args.name.now c.args.offset c.args.len [] refusal) group
-    (subst (λ (volumes : GroupVolumes). IsUnreadOf c.args.self.now.store c.read_of.new.store volumes c.committed-committed.result c.args.name.now c.args.offset c.args.len [] refusal)
-    c.last-last.ensures fault.1))) other))
+    (subst (λ (kept : KeptGroup). IsUnreadOf c.args.self.now.store c.read_of.new.store kept c.committed-committed.result c.args.name.now c.args.offset c.args.len [] refusal)
+    c.last-last.ensures fault.1)) fault.2) other))
     (known backs.blocks.stored (v.pools v.committed) backs.blocks.plans.held
-    (subst (λ (volumes : GroupVolumes). SpellsPool backs.blocks.stored c.committed-committed.result volumes (v.pools v.committed)) (sym c.last-last.ensures)
-    (subst (λ (group : ℕ). SpellsPool backs.blocks.stored group c.args.self.now.kept.last (v.pools v.committed)) (sym group)
+    (subst (λ (kept : KeptGroup). SpellsGroup backs.blocks.stored c.committed-committed.result kept (v.pools v.committed)) (sym c.last-last.ensures)
+    (subst (λ (group : ℕ). SpellsGroup backs.blocks.stored group c.args.self.now.kept.last (v.pools v.committed)) (sym group)
     (last_spelled (state_of c.args.self.now) v backs))))) c.read_of.ensures.refused
 
 pub returns-clause-unread : goal.returns-clause-unread
 returns-clause-unread g c = IfErr-weaker c.read_of.result _ _ (λ refusal known fault. record {
-  volumes = c.args.self.now.kept.last;
+  under = c.args.self.now.kept.last;
   kept = last_at c.args.self.now.kept;
   unread = subst (λ (group : ℕ). IsUnreadOf c.args.self.now.store c.read_of.new.store c.args.self.now.kept.last group c.args.name.now c.args.offset c.args.len [] refusal)
       c.committed-committed.ensures
-      (subst (λ (volumes : GroupVolumes). IsUnreadOf c.args.self.now.store c.read_of.new.store volumes c.committed-committed.result c.args.name.now c.args.offset c.args.len [] refusal)
+      (subst (λ (kept : KeptGroup). IsUnreadOf c.args.self.now.store c.read_of.new.store kept c.committed-committed.result c.args.name.now c.args.offset c.args.len [] refusal)
       c.last-last.ensures (known fault));
 }) c.read_of.ensures.unread

@@ -17,22 +17,22 @@ returns-clause-reads g c = only_reads (state_of c.args.self.now) c.read_of.new.s
 
 pub returns-clause-bytes : goal.returns-clause-bytes
 returns-clause-bytes g c = IfOk-weaker c.read_of.result _ _ (λ bytes known v backs.
-    let kept = kept_spelled (state_of c.args.self.now) v c.args.group c.in-Some.volumes.now backs (search rules) in
+    let kept = kept_spelled (state_of c.args.self.now) v c.args.group c.in-Some.kept.now backs (search rules) in
     let there = known backs.blocks.stored (v.pools c.args.group) backs.blocks.plans.held kept.1 in
     (under_kept v c.args.group c.args.name.now c.args.offset c.args.len kept.0 ∙ there.0, there.1)) c.read_of.ensures.bytes
 
 pub returns-clause-refused : goal.returns-clause-refused
 returns-clause-refused g c = IfErr-weaker c.read_of.result _ _ (λ refusal known v backs.
-    let kept = kept_spelled (state_of c.args.self.now) v c.args.group c.in-Some.volumes.now backs (search rules) in
+    let kept = kept_spelled (state_of c.args.self.now) v c.args.group c.in-Some.kept.now backs (search rules) in
     ⊎_elim inl (λ other. inr (⊎_elim
     (λ cause. inl (under_cause v c.args.group c.args.name.now c.args.offset c.args.len refusal kept.0 cause))
     (λ fault. inr (
       under_kept v c.args.group c.args.name.now c.args.offset c.args.len kept.0 ∙ fault.0,
-      lost_under v (state_of c.args.self.now) c.read_of.new.store c.args.group c.in-Some.volumes.now c.args.name.now c.args.offset c.args.len c.args.missing.now refusal backs
-          (search rules) c.read_of.ensures.reads.reads kept.1 fault.1,
+      lost_under v (state_of c.args.self.now) c.read_of.new.store c.args.group c.in-Some.kept.now c.args.name.now c.args.offset c.args.len c.args.missing.now refusal backs
+          (search rules) c.read_of.ensures.reads.reads fault.1 fault.2,
     )) other))
     (known backs.blocks.stored (v.pools c.args.group) backs.blocks.plans.held kept.1)) c.read_of.ensures.refused
 
 pub returns-clause-unread : goal.returns-clause-unread
 returns-clause-unread g c =
-    IfErr-weaker c.read_of.result _ _ (λ refusal known fault. record { volumes = c.in-Some.volumes.now; kept = search rules; unread = known fault }) c.read_of.ensures.unread
+    IfErr-weaker c.read_of.result _ _ (λ refusal known fault. record { under = c.in-Some.kept.now; kept = search rules; unread = known fault }) c.read_of.ensures.unread

@@ -1,0 +1,16 @@
+use Rattle.std.proofs.Common.{[]}
+use Rattle.dnode_tree.proofs.Refusing.{passed_on}
+use Rattle.block_store.proofs.Steps.{steps_none}
+use Rattle.pool_commit.proofs.plan.group_after.Goals as goal
+
+pub returns-in_err-names-clause-steps : goal.returns-in_err-names-clause-steps
+returns-in_err-names-clause-steps g c = steps_none c.args.store.now []
+
+pub returns-in_err-root-clause-known : goal.returns-in_err-root-clause-known
+returns-in_err-root-clause-known g c =
+    passed_on _ _ _ c.from_residual-in_err-root.ensures.1 (λ stored planned pool plans spells honest good. c.in_err-root.ensures.known stored planned pool plans spells.root honest good)
+
+pub returns-clause-value : goal.returns-clause-value
+returns-clause-value g c = λ stored planned pool plans spells honest.
+    let there = c.in_ok-root.ensures.value stored planned pool plans spells.root honest in
+    (there.0, there.1, there.2, record { root = there.3; names = c.in_ok-names.ensures pool spells.names })

@@ -1,0 +1,26 @@
+-- The configuration of vdevs.
+use Rattle.std.specs.Prelude.{ℕ, suc, ◌≡◌, ◌+◌, List, [], ◌∷◌}
+use Rattle.block_store.specs.declared.shape.VdevShape.{VdevShape}
+use Rattle.pool_model.specs.View.{counted}
+use Rattle.vdev_label.specs.Plain.{PlainVdev}
+
+-- a vdev of that shape with this guid: its disks have the guids behind it, and the last of its metaslabs is the meta region
+abbrev pub vdev_with : ℕ → VdevShape → PlainVdev
+vdev_with guid shape =
+    record {
+      guid = guid;
+      parity = shape.vdev.geometry.parity;
+      child_sectors = shape.child_sectors;
+      slab_shift = shape.metaslab_shift;
+      meta_slabs = 1;
+      children = counted (suc guid) shape.vdev.geometry.children;
+    }
+
+-- vdevs of these shapes, whose guids are numbers in order from this one on
+abbrev pub configs_from : ℕ → List VdevShape → List PlainVdev
+configs_from guid [] = []
+configs_from guid (shape ∷ shapes) = vdev_with guid shape ∷ configs_from (suc guid + shape.vdev.geometry.children) shapes
+
+-- each vdev of these shapes, with guids from 1 on
+abbrev pub IsConfigOf : List VdevShape → List PlainVdev → Type 0
+IsConfigOf shapes vdevs = vdevs ≡ configs_from 1 shapes
