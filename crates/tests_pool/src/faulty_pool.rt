@@ -33,6 +33,18 @@ fn fault_of(faults: &[DiskFault], disk: usize) -> Fault {
     found
 }
 
+/// So many zeros, put together from pieces: to make the bytes of all disks one by one takes most
+/// of the time of a schedule.
+pub fn zeros(alloc: Global, count: usize) -> Result<Vec<u8>, AllocError> {
+    let piece = [0; 4096];
+    let mut zeros = Vec::with_capacity(alloc, count)?;
+    for _ in 0..count / 4096 {
+        zeros.extend_from_slice(&piece)?;
+    }
+    zeros.resize(count, 0)?;
+    Ok(zeros)
+}
+
 fn disks_of(
     alloc: Global,
     line: &PoolLine,
@@ -40,7 +52,7 @@ fn disks_of(
 ) -> Result<Vec<FaultDisk<MemDisk>>, AllocError> {
     let mut disks = Vec::new(alloc);
     for disk in 0..line.disks as usize {
-        let inner = MemDisk::new(alloc, line.bytes as usize)?;
+        let inner = MemDisk::holding(zeros(alloc, line.bytes as usize)?);
         disks.push(FaultDisk::new(inner, fault_of(faults, disk)))?;
     }
     Ok(disks)

@@ -1,5 +1,6 @@
-//! A volume of thousands of blocks, with indirect blocks below another: written by three groups, and read under each of them with
-//! disks missing.
+//! A volume of thousands of blocks, with indirect blocks below another: written by three groups,
+//! and read under each of them with disks missing.
+use crate::faulty_pool::zeros;
 use crate::telling::reply_to;
 use block_store::VdevConfig;
 use model_disk::MemDisk;
@@ -11,22 +12,25 @@ use std::test::Fail;
 
 const BLOCK_BYTES: u64 = 512;
 
-/// An indirect block has so many pointers: 19 of them point to the 2,432 blocks of the volume, and one to these 19.
+/// An indirect block has so many pointers: 19 of them point to the 2,432 blocks of the volume,
+/// and one to these 19.
 const POINTERS: u64 = 128;
 
-/// Which blocks a group writes: the group, the first block, how many there are from it on, and below how many indirect blocks. Group
-/// 5 writes on both sides of each border between indirect blocks; the others over such a border, into a hole, and up to the end.
+/// Which blocks a group writes: the group, the first block, how many there are from it on, and
+/// below how many indirect blocks. Group 5 writes the first and the last two below each indirect
+/// block; group 6 over such a border, and group 7 there too, into a hole, and up to the end. Not
+/// each block is written, since a plan reads the whole way to each block that it changes.
 const WRITTEN: [(u64, u64, u64, u64); 6] = [
-    (5, 0, 4, 19),
-    (5, 124, 4, 19),
+    (5, 0, 2, 19),
+    (5, 126, 2, 19),
     (6, 1021, 5, 1),
     (7, 1023, 2, 1),
     (7, 60, 3, 1),
     (7, 2430, 2, 1),
 ];
 
-/// The bytes that are read, by the first and how many there are: over the borders at blocks 1024, 128 and 2048, in the hole and
-/// behind it, and up to the end.
+/// The bytes that are read, by the first and how many there are: over the borders at blocks 1024,
+/// 128 and 2048, in the hole and behind it, and up to the end.
 const RANGES: [(u64, u64); 5] = [
     (1022 * BLOCK_BYTES + 100, 1000),
     (127 * BLOCK_BYTES + 300, 600),
@@ -44,7 +48,8 @@ fn value(group: u64, block: u64) -> u8 {
     (block % 241) as u8 + (group % 15) as u8
 }
 
-/// The byte that the volume has at a place under a group: that of the last group up to it that writes there.
+/// The byte that the volume has at a place under a group: that of the last group up to it that
+/// writes there.
 fn byte_at(group: u64, at: u64) -> u8 {
     let block = at / BLOCK_BYTES;
     let mut byte = 0;
@@ -70,13 +75,15 @@ fn write_line(alloc: Global, number: u64, group: u64, block: u64) -> Result<Stri
 fn add_writes(alloc: Global, group: u64, lines: &mut String) -> Result<(), AllocError> {
     let mut number = 2u64;
     for (writing, first, blocks, count) in WRITTEN {
-        for place in 0..blocks.saturating_mul(count) {
-            if writing == group {
-                let below = place / blocks.max(1);
-                let block = first + place % blocks.max(1) + below.saturating_mul(POINTERS);
-                lines.push_str(write_line(alloc, number, group, block)?.as_str())?;
+        for below in 0..count {
+            let start = first.saturating_add(below.saturating_mul(POINTERS));
+            for place in 0..blocks {
+                if writing == group {
+                    let block = start.saturating_add(place);
+                    lines.push_str(write_line(alloc, number, group, block)?.as_str())?;
+                }
+                number = number.saturating_add(1);
             }
-            number = number.saturating_add(1);
         }
     }
     Ok(())
@@ -120,7 +127,8 @@ fn is_right(read: &Result<Bytes, Refusal>, group: u64, (offset, len): (u64, u64)
     at == offset.saturating_add(len)
 }
 
-/// Under which groups, and with which disks missing, something else is read than was written. Each has another of the ranges.
+/// Under which groups, and with which disks missing, something else is read than was written.
+/// Each has another of the ranges.
 fn misread(alloc: Global, core: &mut Core<MemDisk>, sets: &[&[usize]]) -> Result<String, Fail> {
     let volume = Name::new(Vec::from_slice(alloc, b"v")?);
     let mut text = String::new(alloc);
@@ -158,13 +166,21 @@ fn told(alloc: Global, core: &mut Core<MemDisk>, sets: &[&[usize]]) -> Result<St
     Ok(format!(in alloc; "{misread}{cause:?}")?)
 }
 
+fn four_disks(alloc: Global) -> Result<Vec<MemDisk>, AllocError> {
+    let mut disks = Vec::new(alloc);
+    for _ in 0..4 {
+        disks.push(MemDisk::holding(zeros(alloc, 0x800000)?))?;
+    }
+    Ok(disks)
+}
+
 /// The same of a pool of one vdev over four disks, of which each block can lose two.
 fn told_of_pool(alloc: Global, sets: &[&[usize]]) -> Result<String, Fail> {
     let vdev = VdevConfig {
         geometry: Geometry::new(4, 2, 9)?,
         metaslab_shift: 12,
     };
-    let disks = MemDisk::several(alloc, 4, 0x800000)?;
+    let disks = four_disks(alloc)?;
     let mut core = Core::create(alloc, disks, &[vdev])?;
     told(alloc, &mut core, sets)
 }

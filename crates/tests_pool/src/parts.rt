@@ -369,7 +369,8 @@ fn writes_are_laid_over_a_range(rt: HostRuntime) -> Result<(), Fail> {
     Ok(())
 }
 
-/// Writer 1 takes a hold, makes the volume v, and the group is closed, quiesced, planned and brought on.
+/// Writer 1 takes a hold, makes the volume v, and the group is closed, quiesced, planned and
+/// brought on.
 fn step(alloc: Global, number: u32) -> Result<Step, AllocError> {
     Ok(match number {
         0 => Step::Hold(1),
@@ -402,10 +403,11 @@ fn replies_to(alloc: Global, writing: u32) -> Result<String, Fail> {
     Ok(text)
 }
 
-/// The steps that write the first root and an empty volume over three disks with one parity. Of the volume the dnodes and the set
-/// have two copies of three columns: 12 columns. Of the meta object set all has three copies: the directory, the configuration,
-/// stale spans, space maps, a dead list, the dnodes and the set of three columns, and a record, which is one sector, of two: 69. A
-/// step writes four.
+/// The steps that write the first root and an empty volume over three disks with one parity. Of
+/// the volume the dnodes and the set have two copies of three columns: 12 columns. Of the meta
+/// object set all has three copies: the directory, the configuration, stale spans, space maps, a
+/// dead list, the dnodes and the set of three columns, and a record, which is one sector, of two:
+/// 69. A step writes four.
 const WRITING: u32 = 21;
 
 fn run_in_memory(alloc: Global) -> Result<String, Fail> {
@@ -493,7 +495,8 @@ fn an_intake_takes_a_group_in(rt: HostRuntime) -> Result<(), Fail> {
 /// 128 KiB.
 const LARGE: u64 = 0x20000;
 
-/// A pool of one vdev over two small disks, of which each block can lose one: three metaslabs, each for eight large blocks.
+/// A pool of one vdev over two small disks, of which each block can lose one: three metaslabs,
+/// each for eight large blocks.
 fn small_commit(alloc: Global) -> Result<Commit<MemDisk>, Fail> {
     let vdev = VdevConfig {
         geometry: Geometry::new(2, 1, 9)?,
@@ -503,8 +506,8 @@ fn small_commit(alloc: Global) -> Result<Commit<MemDisk>, Fail> {
     Ok(Commit::new(alloc, disks, &[vdev])?)
 }
 
-/// The items of groups: one makes a volume of no whole number of blocks, one makes v; and then writes into 22 and into 21
-/// large blocks.
+/// The items of groups: one makes a volume of no whole number of blocks, one makes v; and then
+/// writes into 22 and into 21 large blocks.
 fn item_of(alloc: Global, group: u64, number: u64) -> Result<Item, AllocError> {
     Ok(match group {
         0 => Item::Action(action(alloc, number, "v", 1000, 512)?),
@@ -568,8 +571,9 @@ fn planned_again(alloc: Global) -> Result<String, Fail> {
     causes(alloc, &mut commit)
 }
 
-// A volume of 1000 bytes has no whole number of blocks. Behind the root that has v, each metaslab has room for seven large blocks
-// more: 22 are one too many, and then 21 find room, and all above them what is left behind.
+// A volume of 1000 bytes has no whole number of blocks. Behind the root that has v, each metaslab
+// has room for seven large blocks more: 22 are one too many, and then 21 find room, and all above
+// them what is left behind.
 #[test]
 fn a_refused_plan_leaves_its_room(rt: HostRuntime) -> Result<(), Fail> {
     assert_eq!(rt;

@@ -1,9 +1,10 @@
 //! Schedules with faults, played against a pool over disks.
 //!
-//! A schedule's text has lines `LINE -> REPLY`, where LINE is one of a schedule as `poolrun` runs it; `times NUMBER LINE` takes
-//! it so often, with the same reply each time. Lines without an arrow are for the player: `fault DISK KIND NUMBER` is a call
-//! that fails (of the kinds `at`, `from`, `read`, `write` and `flush`), `pool ..` makes the pool behind the faults, and
-//! `missing DISK ..` names the disks that are missing for reads under a group from then on.
+//! A schedule's text has lines `LINE -> REPLY`, where LINE is one of a schedule as `poolrun` runs
+//! it; `times NUMBER LINE` takes it so often, with the same reply each time. Lines without an
+//! arrow are for the player: `fault DISK KIND NUMBER` is a call that fails (of the kinds `at`,
+//! `from`, `read`, `write` and `flush`), `pool ..` makes the pool behind the faults, and `missing
+//! DISK ..` names the disks that are missing for reads under a group from then on.
 use crate::faulty_pool::{DiskFault, FaultyPool};
 use crate::telling::reply_to;
 use model_disk::Fault;

@@ -3,11 +3,13 @@ use crate::playing::played;
 use std::alloc::Global;
 use std::test::Fail;
 
-/// Blocks of two sectors, partly written by two groups, with each disk missing in turn, and with two. The way to a volume lies on
-/// the disks: where too many are missing, a hole can't be read either. Group 5 writes 75 columns: three of each of the three
-/// blocks of data; 18 of each volume, whose indirect block, dnodes and set have two copies of three columns; and of the meta
-/// object set, of which all has three copies, six of each record, which has one sector, and 18 of the dnodes and the set. So group
-/// 6 writes 48, and group 7 those nine of the set alone. A step makes four.
+/// Blocks of two sectors, partly written by two groups, with each disk missing in turn, and with
+/// two. The way to a volume lies on the disks: where too many are missing, a hole can't be read
+/// either. Group 5 writes 75 columns: three of each of the three blocks of data; 18 of each
+/// volume, whose indirect block, dnodes and set have two copies of three columns; and of the meta
+/// object set, of which all has three copies, six of each record, which has one sector, and 18 of
+/// the dnodes and the set. So group 6 writes 48, and group 7 those nine of the set alone. A step
+/// makes four.
 const PARTS_OF_BLOCKS: &str = "pool 1 3 8388608 12 2
 hold 1 -> held 4
 create 1 1 v 4096 1024 -> receipt 4
@@ -104,9 +106,10 @@ under 5 vw 0 4 -> 00x4
 under 4 w 0 4 -> 00x4
 ";
 
-/// Two blocks with a column on each of five disks. Behind their ten columns group 5 writes 26 of the volume, two copies of five of
-/// the indirect block and the dnodes and of three of the set, and 30 of the meta object set, three copies of two of the record, of
-/// five of the dnodes and of three of the set: 66 writes, and then five flushes.
+/// Two blocks with a column on each of five disks. Behind their ten columns group 5 writes 26 of
+/// the volume, two copies of five of the indirect block and the dnodes and of three of the set,
+/// and 30 of the meta object set, three copies of two of the record, of five of the dnodes and of
+/// three of the set: 66 writes, and then five flushes.
 const FIVE_DISKS: &str = "pool 1 5 8388608 12 2
 device -> refused 13 NotNow
 hold 1 -> held 4
@@ -209,8 +212,9 @@ read w 510 4 -> 05x2 00x2
 under 5 v 510 4 -> 03x4
 ";
 
-/// Disk 1 fails its first write for group 5, behind 26 for group 4, and disk 2 its flush for group 6: that is one disk too many.
-/// Groups 5 and 6 have 39 columns each, of which the other two disks have 26 and 27: a record has no column on one of the three.
+/// Disk 1 fails its first write for group 5, behind 26 for group 4, and disk 2 its flush for
+/// group 6: that is one disk too many. Groups 5 and 6 have 39 columns each, of which the other
+/// two disks have 26 and 27: a record has no column on one of the three.
 const LEFT_OUT: &str = "fault 1 write 26
 fault 2 flush 2
 pool 1 3 8388608 12 2
@@ -260,9 +264,9 @@ release 1 -> refused 6 NoHold
 device -> refused 4 Suspended
 ";
 
-/// Each of the three metaslabs has room for eight blocks with their parity. Behind what groups 4 and 5 wrote it is room for six in
-/// the first, which has the block that is stored and the first copies of all else, and for seven in each of the others: 21 blocks
-/// are one too many.
+/// Each of the three metaslabs has room for eight blocks with their parity. Behind what groups 4
+/// and 5 wrote there is room for six in the first, which has the block that is stored and the first
+/// copies of all else, and for seven in each of the others: 21 blocks are one too many.
 const FULL: &str = "pool 1 2 8388608 12 2
 hold 1 -> held 4
 create 1 1 v 4194304 131072 -> receipt 4
@@ -284,8 +288,9 @@ under 5 v 511 2 -> 05x1 00x1
 read v 511 2 -> 06x2
 ";
 
-/// With 20 blocks it is full: what is above them lies in what is left behind them. The ninth write of the plan to disk 1 fails,
-/// behind 42 for the groups before, and the next plan uses its room.
+/// With 20 blocks it is full: what is above them lies in what is left behind them. The ninth
+/// write of the plan to disk 1 fails, behind 42 for the groups before, and the next plan uses its
+/// room.
 const JUST_ROOM: &str = "fault 1 write 50
 pool 1 2 8388608 12 2
 hold 1 -> held 4
@@ -313,32 +318,29 @@ under 6 v 2621440 2 -> 06x2
 under 5 v 2621440 2 -> 00x2
 ";
 
-/// A volume of 4 MiB is written whole. No room is left to write it once more, and the group before stays as it is.
-const WRITTEN_TWICE: &str = "pool 1 3 8388608 12 2
+/// A volume of 12 blocks is written whole. Of the 21 for which its metaslabs had room, fewer than
+/// 12 are left: none to write it once more, and the group before stays as it is.
+const WRITTEN_TWICE: &str = "pool 1 2 8388608 12 2
 hold 1 -> held 4
-create 1 1 v 4194304 131072 -> receipt 4
+create 1 1 v 1572864 131072 -> receipt 4
 release 1 -> released
 sync -> committed 4
 hold 1 -> held 5
 write 1 2 v 0 1048576 aa -> receipt 5
-write 1 3 v 1048576 1048576 aa -> receipt 5
-write 1 4 v 2097152 1048576 aa -> receipt 5
-write 1 5 v 3145728 1048576 aa -> receipt 5
+write 1 3 v 1048576 524288 aa -> receipt 5
 release 1 -> released
 sync -> committed 5
 read v 0 512 -> aax512
 hold 1 -> held 6
-write 1 6 v 0 1048576 bb -> receipt 6
-write 1 7 v 1048576 1048576 bb -> receipt 6
-write 1 8 v 2097152 1048576 bb -> receipt 6
-write 1 9 v 3145728 1048576 bb -> receipt 6
+write 1 4 v 0 1048576 bb -> receipt 6
+write 1 5 v 1048576 524288 bb -> receipt 6
 release 1 -> released
 sync -> refused 3 NoSpace
 device -> refused 13 NotNow
 commit -> refused 3 NoSpace
 read v 0 512 -> bbx512
 under 5 v 0 512 -> aax512
-under 5 v 4193792 512 -> aax512
+under 5 v 1572352 512 -> aax512
 under 6 v 0 512 -> refused 17 GroupGone
 ";
 
@@ -356,65 +358,83 @@ fn changed_in(alloc: Global, texts: &[&str]) -> Result<String, Fail> {
 
 #[test]
 fn groups_have_their_replies(rt: HostRuntime) -> Result<(), Fail> {
-    let texts = [
-        PARTS_OF_BLOCKS,
-        VOLUMES_OF_GROUPS,
-        KEPT_GROUPS,
-        PENDING_WRITES,
-    ];
+    let texts = [VOLUMES_OF_GROUPS, KEPT_GROUPS, PENDING_WRITES];
     assert_eq!(rt; changed_in(rt.alloc(), &texts)?.as_str(), "");
     Ok(())
 }
 
 #[test]
-fn disks_that_are_missing_or_fail_have_their_replies(rt: HostRuntime) -> Result<(), Fail> {
-    let texts = [FIVE_DISKS, LEFT_OUT, SUSPENDED];
+fn missing_disks_have_their_replies(rt: HostRuntime) -> Result<(), Fail> {
+    let texts = [PARTS_OF_BLOCKS, FIVE_DISKS];
+    assert_eq!(rt; changed_in(rt.alloc(), &texts)?.as_str(), "");
+    Ok(())
+}
+
+#[test]
+fn failing_disks_have_their_replies(rt: HostRuntime) -> Result<(), Fail> {
+    let texts = [LEFT_OUT, SUSPENDED];
     assert_eq!(rt; changed_in(rt.alloc(), &texts)?.as_str(), "");
     Ok(())
 }
 
 #[test]
 fn a_full_pool_has_its_replies(rt: HostRuntime) -> Result<(), Fail> {
-    assert_eq!(rt; changed_in(rt.alloc(), &[FULL, JUST_ROOM])?.as_str(), "");
+    assert_eq!(rt; changed_in(rt.alloc(), &[FULL])?.as_str(), "");
     Ok(())
 }
 
 #[test]
-fn a_pool_that_is_written_twice_has_its_replies(rt: HostRuntime) -> Result<(), Fail> {
+fn a_pool_with_just_room_has_its_replies(rt: HostRuntime) -> Result<(), Fail> {
+    assert_eq!(rt; changed_in(rt.alloc(), &[JUST_ROOM])?.as_str(), "");
+    Ok(())
+}
+
+#[test]
+fn a_volume_that_is_written_twice_has_its_replies(rt: HostRuntime) -> Result<(), Fail> {
     assert_eq!(rt; changed_in(rt.alloc(), &[WRITTEN_TWICE])?.as_str(), "");
     Ok(())
 }
 
-/// One write of one disk fails. For group 4 the disks have 27, 26 and 28 writes, for group 5 16, 16 and 14: the first on disk 0,
-/// one in the middle on disk 1, and the last on disk 2, of each.
-const WRITE_FAULTS: [&str; 6] = [
-    "fault 0 at 0\n",
-    "fault 1 write 13\n",
-    "fault 2 write 27\n",
-    "fault 0 write 27\n",
-    "fault 1 write 34\n",
-    "fault 2 write 41\n",
+/// Behind a schedule, that disk 0, 1 or 2 is out: with another one missing nothing is read.
+const OUT: [&str; 3] = [
+    "missing 1\nunder 5 v 510 4 -> refused 2 DiskFault\n",
+    "missing 2\nunder 5 v 510 4 -> refused 2 DiskFault\n",
+    "missing 0\nunder 5 v 510 4 -> refused 2 DiskFault\n",
 ];
 
-/// One flush of one disk fails: that for group 4, which is the call behind the writes, or that for group 5.
-const FLUSH_FAULTS: [&str; 6] = [
-    "fault 0 at 27\n",
-    "fault 1 at 26\n",
-    "fault 2 at 28\n",
-    "fault 0 flush 1\n",
-    "fault 1 flush 1\n",
-    "fault 2 flush 1\n",
+/// One write of one disk fails. For group 4 the disks have 27, 26 and 28 writes, for group 5 16,
+/// 16 and 14: the first on disk 0, one in the middle on disk 1, and the last on disk 2, of each.
+const WRITE_FAULTS: [(&str, &str); 6] = [
+    ("fault 0 at 0\n", OUT[0]),
+    ("fault 1 write 13\n", OUT[1]),
+    ("fault 2 write 27\n", OUT[2]),
+    ("fault 0 write 27\n", OUT[0]),
+    ("fault 1 write 34\n", OUT[1]),
+    ("fault 2 write 41\n", OUT[2]),
 ];
 
-/// One read of one disk fails. The disks have 1, 9 and 11 reads for what is pending, then 1, 15 and 17 for the plan of group 5,
-/// then 12, 13 and 2 under it, and 1, 9 and 11 under group 4: the first, the plan's first and last, and others up to the last.
-const READ_FAULTS: [&str; 6] = [
-    "fault 0 read 0\n",
-    "fault 1 read 9\n",
-    "fault 2 read 27\n",
-    "fault 0 read 2\n",
-    "fault 1 read 36\n",
-    "fault 2 read 40\n",
+/// One flush of one disk fails: that for group 4, which is the call behind the writes, or that
+/// for group 5.
+const FLUSH_FAULTS: [(&str, &str); 6] = [
+    ("fault 0 at 27\n", OUT[0]),
+    ("fault 1 at 26\n", OUT[1]),
+    ("fault 2 at 28\n", OUT[2]),
+    ("fault 0 flush 1\n", OUT[0]),
+    ("fault 1 flush 1\n", OUT[1]),
+    ("fault 2 flush 1\n", OUT[2]),
+];
+
+/// One read of one disk fails. The disks have 1, 9 and 11 reads for what is pending, then 1, 15
+/// and 17 for the plan of group 5, then 12, 13 and 2 under it, and 1, 9 and 11 under group 4: the
+/// first of all, the plan's first and last, the first and the last under group 5, and the last of
+/// all.
+const READ_FAULTS: [(&str, &str); 6] = [
+    ("fault 0 read 0\n", ""),
+    ("fault 1 read 9\n", ""),
+    ("fault 2 read 27\n", ""),
+    ("fault 0 read 2\n", ""),
+    ("fault 1 read 36\n", ""),
+    ("fault 2 read 40\n", ""),
 ];
 
 /// Behind it, two groups are committed all the same.
@@ -435,10 +455,10 @@ under 4 v 510 4 -> 00x4
 ";
 
 /// The schedules that end otherwise behind a fault, or nothing.
-fn changed_by(alloc: Global, faults: &[&str]) -> Result<String, Fail> {
+fn changed_by(alloc: Global, faults: &[(&str, &str)]) -> Result<String, Fail> {
     let mut changed = String::new(alloc);
-    for fault in faults {
-        let text = format!(in alloc; "{fault}{COMMITTED_IN_SPITE}")?;
+    for (fault, end) in faults {
+        let text = format!(in alloc; "{fault}{COMMITTED_IN_SPITE}{end}")?;
         let row = played(alloc, text.as_str())?;
         if row.as_str() != text.as_str() {
             changed.push_str(row.as_str())?;

@@ -10,8 +10,6 @@ use schedule_lines::reply_text;
 use std::alloc::Global;
 use std::test::Fail;
 
-const SEEDS: [u64; 6] = [1, 2, 3, 20, 77, 4096];
-
 const LINES: usize = 300;
 
 const POOL: &str = "pool 1 3 8388608 12 2 -> pool 3 claim 1\n";
@@ -188,9 +186,37 @@ fn agrees(alloc: Global, seed: u64) -> Result<bool, Fail> {
 }
 
 #[test]
-fn disks_reply_as_memory_does(rt: HostRuntime) -> Result<(), Fail> {
-    for seed in SEEDS {
-        assert!(rt; agrees(rt.alloc(), seed)?, "seed {seed}");
-    }
+fn disks_reply_as_memory_does_from_1(rt: HostRuntime) -> Result<(), Fail> {
+    assert!(rt; agrees(rt.alloc(), 1)?);
+    Ok(())
+}
+
+#[test]
+fn disks_reply_as_memory_does_from_2(rt: HostRuntime) -> Result<(), Fail> {
+    assert!(rt; agrees(rt.alloc(), 2)?);
+    Ok(())
+}
+
+#[test]
+fn disks_reply_as_memory_does_from_3(rt: HostRuntime) -> Result<(), Fail> {
+    assert!(rt; agrees(rt.alloc(), 3)?);
+    Ok(())
+}
+
+#[test]
+fn disks_reply_as_memory_does_from_20(rt: HostRuntime) -> Result<(), Fail> {
+    assert!(rt; agrees(rt.alloc(), 20)?);
+    Ok(())
+}
+
+#[test]
+fn disks_reply_as_memory_does_from_77(rt: HostRuntime) -> Result<(), Fail> {
+    assert!(rt; agrees(rt.alloc(), 77)?);
+    Ok(())
+}
+
+#[test]
+fn disks_reply_as_memory_does_from_4096(rt: HostRuntime) -> Result<(), Fail> {
+    assert!(rt; agrees(rt.alloc(), 4096)?);
     Ok(())
 }

@@ -54,7 +54,8 @@ release 1 -> released
 quiesced -> quiesced 5
 ";
 
-/// Behind those, a plan, and a commit: without disks, or the last step over them, which flushes each.
+/// Behind those, a plan, and a commit: without disks, or the last step over them, which flushes
+/// each.
 const PLANNED: &str = "plan -> planned 5
 ";
 
@@ -153,9 +154,10 @@ const IN_MEMORY: [[&str; 4]; 5] = [
     [CAUSES, NO_CAUSES, "", ""],
 ];
 
-/// What the core replies. The block that is written in group 5 has two columns; the indirect block above it, the volume's dnodes and
-/// its set two copies of three, which are 18; the record three copies of two; the dnodes of the meta object set and that set three
-/// of three, which are 18: 44 columns. Group 4 makes a volume and the first root: 81 columns.
+/// What the core replies. The block that is written in group 5 has two columns; the indirect
+/// block above it, the volume's dnodes and its set two copies of three, which are 18; the record
+/// three copies of two; the dnodes of the meta object set and that set three of three, which are
+/// 18: 44 columns. Group 4 makes a volume and the first root: 81 columns.
 const OVER_DISKS: [[&str; 6]; 5] = [
     [FIRST, "", "", "", "", ""],
     [FIRST, TWO_GROUPS, "", "", "", ""],
