@@ -395,33 +395,39 @@ fn a_volume_that_is_written_twice_has_its_replies(rt: HostRuntime) -> Result<(),
     Ok(())
 }
 
-/// Behind a schedule, that disk 0, 1 or 2 is out: with another one missing nothing is read.
-const OUT: [&str; 3] = [
-    "missing 1\nunder 5 v 510 4 -> refused 2 DiskFault\n",
-    "missing 2\nunder 5 v 510 4 -> refused 2 DiskFault\n",
-    "missing 0\nunder 5 v 510 4 -> refused 2 DiskFault\n",
-];
+/// Behind a schedule, that disk 0 is out: with another one missing nothing is read.
+const NO_DISK_0: &str = "missing 1
+under 5 v 510 4 -> refused 2 DiskFault
+";
+
+const NO_DISK_1: &str = "missing 2
+under 5 v 510 4 -> refused 2 DiskFault
+";
+
+const NO_DISK_2: &str = "missing 0
+under 5 v 510 4 -> refused 2 DiskFault
+";
 
 /// One write of one disk fails. For group 4 the disks have 27, 26 and 28 writes, for group 5 16,
 /// 16 and 14: the first on disk 0, one in the middle on disk 1, and the last on disk 2, of each.
 const WRITE_FAULTS: [(&str, &str); 6] = [
-    ("fault 0 at 0\n", OUT[0]),
-    ("fault 1 write 13\n", OUT[1]),
-    ("fault 2 write 27\n", OUT[2]),
-    ("fault 0 write 27\n", OUT[0]),
-    ("fault 1 write 34\n", OUT[1]),
-    ("fault 2 write 41\n", OUT[2]),
+    ("fault 0 at 0\n", NO_DISK_0),
+    ("fault 1 write 13\n", NO_DISK_1),
+    ("fault 2 write 27\n", NO_DISK_2),
+    ("fault 0 write 27\n", NO_DISK_0),
+    ("fault 1 write 34\n", NO_DISK_1),
+    ("fault 2 write 41\n", NO_DISK_2),
 ];
 
 /// One flush of one disk fails: that for group 4, which is the call behind the writes, or that
 /// for group 5.
 const FLUSH_FAULTS: [(&str, &str); 6] = [
-    ("fault 0 at 27\n", OUT[0]),
-    ("fault 1 at 26\n", OUT[1]),
-    ("fault 2 at 28\n", OUT[2]),
-    ("fault 0 flush 1\n", OUT[0]),
-    ("fault 1 flush 1\n", OUT[1]),
-    ("fault 2 flush 1\n", OUT[2]),
+    ("fault 0 at 27\n", NO_DISK_0),
+    ("fault 1 at 26\n", NO_DISK_1),
+    ("fault 2 at 28\n", NO_DISK_2),
+    ("fault 0 flush 1\n", NO_DISK_0),
+    ("fault 1 flush 1\n", NO_DISK_1),
+    ("fault 2 flush 1\n", NO_DISK_2),
 ];
 
 /// One read of one disk fails. The disks have 1, 9 and 11 reads for what is pending, then 1, 15
