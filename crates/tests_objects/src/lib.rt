@@ -5,8 +5,6 @@
 #[cfg(test)]
 mod groups;
 #[cfg(test)]
-mod losses;
-#[cfg(test)]
 mod meta;
 #[cfg(test)]
 mod nodes;

@@ -16,17 +16,12 @@ const BLOCK_SIZE: u64 = 512;
 /// Where block 200 begins.
 const FAR: u64 = 102_400;
 
-pub(crate) fn name(alloc: Global) -> Result<Name, AllocError> {
+fn name(alloc: Global) -> Result<Name, AllocError> {
     Ok(Name::new(vec![in alloc; b'v'; 1]?))
 }
 
 /// A write of bytes of one value.
-pub(crate) fn write_of(
-    alloc: Global,
-    offset: u64,
-    byte: u8,
-    len: usize,
-) -> Result<Write, AllocError> {
+fn write_of(alloc: Global, offset: u64, byte: u8, len: usize) -> Result<Write, AllocError> {
     Ok(Write {
         writer: 1,
         number: 1,

@@ -1,6 +1,5 @@
 pub mod BlockData
 mod Changed
-mod Covering
 pub mod Demanding
 mod Dividing
 pub mod Ids

@@ -2,7 +2,6 @@
 //! after them.
 #![tactic(auto)]
 
-mod covered;
 mod creating;
 mod laws;
 mod opening;
