@@ -27,8 +27,8 @@ use Rattle.pool_model.specs.Names.{same}
 use Rattle.pool_model.specs.Names.{stored as with_bytes}
 use Rattle.pool_model.specs.Pools.{volume_after}
 use Rattle.pool_model.proofs.Places.{is_same, same_is}
-use Rattle.pool_now.specs.Overlay.{after_writes}
-use Rattle.pool_now.proofs.Overlays.{name_after_writes}
+use Rattle.volume_rules.specs.Overlay.{after_writes}
+use Rattle.volume_rules.proofs.Overlays.{name_after_writes}
 use Rattle.volume.proofs.Standing.{volumes_stay}
 use Rattle.dataset_snapshots.specs.Finding.{IsRowOf}
 use Rattle.dataset_snapshots.specs.Pools.{AreApart, IsRecordOf, SpellsDataset, dead_list_kind}

@@ -9,7 +9,7 @@ use Rattle.pool_model.specs.declared.item.Action.{Action}
 use Rattle.pool_model.specs.declared.item.Change.{Change}
 use Rattle.pool_model.specs.declared.item.Change.TheVariants.{Create}
 use Rattle.pool_model.specs.Names.{is_letter, is_name_letter, is_name}
-use Rattle.pool_now.specs.GoodChanges.{is_good_size, is_good_change}
+use Rattle.volume_rules.specs.GoodChanges.{is_good_size, is_good_change}
 use Rattle.dataset_snapshots.specs.Laws.{GoodChangesMayBeMade}
 use Rattle.dataset_snapshots.specs.Making.{IsGoodCreation}
 

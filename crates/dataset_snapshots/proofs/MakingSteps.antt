@@ -22,7 +22,7 @@ use Rattle.pool_model.specs.declared.item.Change.{Change}
 use Rattle.pool_model.specs.declared.item.Change.TheVariants.{Create}
 use Rattle.pool_model.specs.declared.volume.PlainVolume.{PlainVolume}
 use Rattle.pool_model.specs.Pools.{PlainPool, changed, created, with_volume}
-use Rattle.pool_now.proofs.NowMoves.{fold_push}
+use Rattle.volume_rules.proofs.NowMoves.{fold_push}
 use Rattle.volume.specs.Volume.{IsVolume}
 use Rattle.dataset_snapshots.specs.declared.making.Making.{Making}
 use Rattle.dataset_snapshots.specs.declared.new_volume.NewVolume.{NewVolume}

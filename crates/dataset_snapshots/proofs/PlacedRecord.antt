@@ -13,9 +13,9 @@ use Rattle.objset.specs.Changes.{MayChange, after_change}
 use Rattle.objset.specs.Objects.{Object}
 use Rattle.pool_model.specs.declared.item.Write.{Write}
 use Rattle.pool_model.specs.declared.volume.PlainVolume.{PlainVolume}
-use Rattle.pool_now.specs.declared.shape.VolumeShape.{VolumeShape}
-use Rattle.pool_now.specs.Overlay.{after_writes}
-use Rattle.pool_now.proofs.Overlays.{length_after_writes, shape_after_writes}
+use Rattle.volume_rules.specs.declared.shape.VolumeShape.{VolumeShape}
+use Rattle.volume_rules.specs.Overlay.{after_writes}
+use Rattle.volume_rules.proofs.Overlays.{length_after_writes, shape_after_writes}
 use Rattle.volume.proofs.Standing.{volumes_stay}
 use Rattle.volume.specs.declared.volume.VolumeSet.{VolumeSet}
 use Rattle.volume.specs.Volume.{HasShape, IsVolume, Spells, block_of, block_size_of, size_of}

@@ -7,7 +7,7 @@ use Rattle.block_store.specs.Blocks.{Contents, Extends}
 use Rattle.block_store.specs.Losses.{IsBlockLost}
 use Rattle.block_store.specs.Store.{Store}
 use Rattle.pool_model.specs.Pools.{Entry, PlainPool}
-use Rattle.pool_now.specs.GoodChanges.{MakesGoodVolumes}
+use Rattle.volume_rules.specs.GoodChanges.{MakesGoodVolumes}
 use Rattle.vdev_label.specs.Plain.{PlainVdev}
 use Rattle.dataset_snapshots.specs.Demands.{IsGroupRefused}
 use Rattle.dataset_snapshots.specs.Finding.{IsRefused}

@@ -11,7 +11,7 @@ use Rattle.pool_model.specs.declared.item.Action.{Action}
 use Rattle.pool_model.specs.declared.item.Change.{Change}
 use Rattle.pool_model.specs.declared.item.Change.TheVariants.{Create}
 use Rattle.pool_model.specs.Pools.{PlainPool}
-use Rattle.pool_now.specs.GoodChanges.{is_good_size}
+use Rattle.volume_rules.specs.GoodChanges.{is_good_size}
 use Rattle.std.specs.Prelude.{true}
 use Rattle.dataset_snapshots.specs.declared.making.Making.{Making}
 use Rattle.dataset_snapshots.specs.Pools.{AreApart, SpellsDataset}

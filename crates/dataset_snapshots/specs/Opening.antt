@@ -1,5 +1,5 @@
 -- What was read of the volumes that a group writes to, whether or not the root is whole.
-use Rattle.std.specs.Prelude.{ℕ, ◌≡◌, ◌⊎◌, ◌↔◌, ◌≤◌, List, [], Contains, All}
+use Rattle.std.specs.Prelude.{ℕ, ◌≡◌, ◌≢◌, ◌⊎◌, ◌↔◌, ◌≤◌, List, [], Contains, All}
 use Rattle.block_pointer.specs.declared.block.Block.{Block}
 use Rattle.block_store.specs.declared.refusal.Refusal.{Refusal}
 use Rattle.block_store.specs.declared.refusal.Refusal.TheVariants.{NoMemory, BadPointer}
@@ -13,8 +13,8 @@ use Rattle.meta_objset.specs.Found.{IsRecordFound, IsRecordRefused}
 use Rattle.meta_objset.specs.Names.{IsNamed}
 use Rattle.pool_model.specs.declared.item.Write.{Write}
 use Rattle.volume.specs.declared.volume.VolumeSet.{VolumeSet}
-use Rattle.volume.specs.Reading.{IsReadRefused, IsWayRead}
-use Rattle.volume.specs.Writing.{AreBlocksOf, HasId, IsChanged}
+use Rattle.volume.specs.Reading.{IsReadRefused, IsVolumeFound, IsWayRead}
+use Rattle.volume.specs.Writing.{AreBlocksOf, HasId, IsChanged, IsCovered, NeedsOldBytes}
 use Rattle.dataset_snapshots.specs.declared.finding.Dataset.{Dataset}
 use Rattle.dataset_snapshots.specs.declared.groups.Opened.{Opened}
 use Rattle.dataset_snapshots.specs.declared.writing.WrittenVolume.{WrittenVolume}
@@ -22,21 +22,24 @@ use Rattle.dataset_snapshots.specs.Finding.{AreRowsFound, IsDirectoryRefused, Is
 use Rattle.dataset_snapshots.specs.Groups.{IsOpened, objects_of}
 use Rattle.dataset_snapshots.specs.Writing.{HasRow, IsWritten}
 
--- these are the blocks that the writes to the row's volume change, and the way to each was read
+-- these are the blocks that the writes to the row's volume change; where there are any its set was
+-- found, and the way was read to each that no single write covers
 pub record AreBlocksFound (spaces : List VdevSpace) (volume : VolumeSet) (birth : ℕ)
     (writes : List Write) (row : DirectoryRow) (blocks : List BlockWrite) : Type 0 where
   pub are : AreBlocksOf volume blocks
   pub name : List ℕ
   pub named : IsNamed row.name name
   pub which : (id : ℕ) → HasId blocks id ↔ IsChanged volume name writes id
-  pub read : All (λ block. IsWayRead spaces volume birth block.id) blocks
+  pub judged : blocks ≢ [] → (set : ObjectSet) × IsVolumeFound spaces volume birth set
+  pub read : All (λ block. ¬ IsCovered volume name writes block.id
+      → IsWayRead spaces volume birth block.id) blocks
 
--- one of the blocks that the writes to the row's volume change was not read, or the volume's set
+-- the volume's set was not read, or one of its blocks whose old bytes the writes need
 abbrev pub AreBlocksRefused :
     Store → Store → VolumeSet → ℕ → List Write → DirectoryRow → Refusal → Type 0
 AreBlocksRefused old new volume birth writes row refusal =
     (name : List ℕ) × IsNamed row.name name
-    × IsReadRefused old new [] volume birth (IsChanged volume name writes) refusal
+    × IsReadRefused old new [] volume birth (NeedsOldBytes volume name writes) refusal
 
 -- the row's volume is the dataset: its object has the record, which was read
 pub record IsDatasetFound (spaces : List VdevSpace) (set : ObjectSet) (birth : ℕ)

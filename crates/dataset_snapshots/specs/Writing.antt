@@ -12,7 +12,7 @@ use Rattle.objset.specs.Changes.{MayChange, after_change}
 use Rattle.objset.specs.Objects.{Object}
 use Rattle.pool_model.specs.declared.item.Write.{Write}
 use Rattle.pool_model.specs.declared.volume.PlainVolume.{PlainVolume}
-use Rattle.pool_now.specs.Overlay.{after_writes}
+use Rattle.volume_rules.specs.Overlay.{after_writes}
 use Rattle.volume.specs.Volume.{IsVolume}
 use Rattle.volume.specs.Writing.{AreBlocksOf, IsArrayWith}
 use Rattle.dataset_snapshots.specs.declared.writing.WrittenVolume.{WrittenVolume}

@@ -7,7 +7,7 @@ ghost use Rattle.block_store.specs.Steps.{OnlyReadsAndPlans, AnswersAreTrue};
 ghost use Rattle.dnode_tree.specs.Writes.{IsForRoom};
 ghost use Rattle.meta_objset.specs.Names.{IsName};
 ghost use Rattle.meta_objset.specs.Record.{FitsRecord};
-ghost use Rattle.pool_now.specs.GoodChanges.{is_good_size};
+ghost use Rattle.volume_rules.specs.GoodChanges.{is_good_size};
 ghost use Rattle.volume.specs.Placing.{LacksRoom};
 ghost use Rattle.volume.specs.Volume.{IsVolume};
 
@@ -16,7 +16,7 @@ use block_store::{BlockStore, Refusal};
 use meta_objset::{DatasetKind, DatasetRecord, padded};
 use model_disk::Disk;
 use pool_model::Change;
-use pool_now::is_good_shape;
+use volume_rules::is_good_shape;
 use std::alloc::Global;
 use volume::VolumeSet;
 

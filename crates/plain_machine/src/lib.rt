@@ -2,7 +2,6 @@
 //! machine itself, so that what a real pool replies can be compared with what this one does.
 #![tactic(auto)]
 
-mod causes;
 mod machine;
 mod pool;
 mod runs;

@@ -3,12 +3,12 @@ ghost use Rattle.std.specs.Prelude.{◌≡◌};
 ghost use Rattle.std.specs.Option.{option_copied};
 ghost use Rattle.plain_machine.specs.Reading.{IsReadOf};
 
-use crate::causes::{against_change, against_read, against_write};
 use crate::pool::Pool;
 use pool_model::{Action, Item, Name, PlainVolume, Refusal, Reply, Step, Write};
 use std::alloc::{AllocError, Global};
 use std::mem;
 use txg_pipeline::Pipeline;
+use volume_rules::{against_change, against_read, against_write};
 
 /// A pool over no vdevs: groups, holds and items in flow, and the plain volumes of each kept group.
 ///
@@ -94,7 +94,7 @@ impl Machine {
         let Ok(now) = self.now() else {
             return Reply::Refused(Refusal::NoMemory);
         };
-        match against_write(&write, group, now.find(&write.volume)) {
+        match against_write(&write, group, now.shape(&write.volume)) {
             Some(cause) => return Reply::Refused(cause),
             None => {}
         }
@@ -117,7 +117,7 @@ impl Machine {
         let Ok(now) = self.now() else {
             return Reply::Refused(Refusal::NoMemory);
         };
-        match against_change(&action.change, &now) {
+        match against_change(&action.change, now.shape(action.change.name())) {
             Some(cause) => return Reply::Refused(cause),
             None => {}
         }
@@ -291,12 +291,11 @@ impl Machine {
 fn read_of(alloc: Global, pool: &Pool, name: &Name, offset: u64, len: u64) -> Reply
     ensures { IsReadOf pool.now name.now offset len result }
 {
-    let found = pool.find(name);
-    match against_read(offset, len, found) {
+    match against_read(offset, len, pool.shape(name)) {
         Some(cause) => return Reply::Refused(cause),
         None => {}
     }
-    let Some(volume) = found else {
+    let Some(volume) = pool.find(name) else {
         return Reply::Refused(Refusal::NoSuchName);
     };
     match volume.bytes.range(alloc, offset as usize, len as usize) {

@@ -4,11 +4,13 @@ ghost use Rattle.std.specs.List.{position_or_len};
 ghost use Rattle.std.specs.Option.{option_copied};
 ghost use Rattle.pool_model.specs.Names.{is_before};
 ghost use Rattle.pool_model.specs.Pools.{no_volumes, with_volume, applied, changed, volume_after, volume_at, written};
+ghost use Rattle.volume_rules.specs.Shapes.{shape_at};
 
 use pool_model::{Action, Bytes, Change, Name, PlainVolume, VolumeKind, Write};
 use std::alloc::{AllocError, Global};
 use std::marker::Model;
 use txg_pipeline::Pending;
+use volume_rules::VolumeShape;
 
 /// The volumes of one group, in the order of their names.
 #[derive(Debug, Drop)]
@@ -48,6 +50,14 @@ impl Pool {
         ensures { option_copied result ≡ volume_at name.now self.now }
     {
         self.volumes.iter().find(|volume| volume.name.is(name))
+    }
+
+    /// The shape of the volume of that name.
+    pub fn shape(&self, name: &Name) -> Option<VolumeShape>
+        ensures { result ≡ shape_at name.now self.now }
+    {
+        let volume = self.find(name)?;
+        Some(VolumeShape::of(volume))
     }
 
     /// Lets a group take effect: all its writes, and then all its actions. At an `Err` some of it has.

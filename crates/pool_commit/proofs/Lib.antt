@@ -10,3 +10,4 @@ pub mod Starting
 pub mod Tolerating
 pub mod Unread
 pub mod Refusing
+pub mod Suspending

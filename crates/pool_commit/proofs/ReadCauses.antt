@@ -11,8 +11,8 @@ use Rattle.pool_model.specs.Pools.{PlainPool, volume_at}
 use Rattle.pool_model.specs.declared.step.Step.TheVariants.{ReadUnder}
 use Rattle.pool_model.specs.Refusals.{first_cause, or_else, is_in_range, read_refusal, refusal_of}
 use Rattle.pool_model.specs.View.{View, is_kept}
-use Rattle.pool_now.specs.declared.shape.VolumeShape.{VolumeShape}
-use Rattle.pool_now.specs.Shapes.{shape_of}
+use Rattle.volume_rules.specs.declared.shape.VolumeShape.{VolumeShape}
+use Rattle.volume_rules.specs.Shapes.{shape_of}
 use Rattle.pool_commit.specs.declared.refusal.Refusal.{Refusal}
 use Rattle.pool_commit.specs.declared.refusal.Refusal.TheVariants.{NoSuchName, OutOfRange}
 use Rattle.pool_commit.specs.Reading.{IsReadCause, IsUnderCause}

@@ -6,11 +6,11 @@ use Rattle.pool_model.specs.Machine.{AreBytesOf}
 use Rattle.pool_model.specs.Pools.{volume_at}
 use Rattle.pool_model.specs.Refusals.{read_refusal}
 use Rattle.pool_model.specs.View.{View, now_of}
-use Rattle.pool_now.specs.declared.shape.VolumeShape.{VolumeShape}
-use Rattle.pool_now.specs.NowMoves.{GroupsAreBelow}
-use Rattle.pool_now.specs.Overlay.{base_of, bytes_or_zeros, HasRange, IsCommitted}
-use Rattle.pool_now.specs.Shapes.{shape_of}
-use Rattle.pool_now.proofs.Pending.{committed_iff, no_base}
+use Rattle.volume_rules.specs.declared.shape.VolumeShape.{VolumeShape}
+use Rattle.volume_rules.specs.NowMoves.{GroupsAreBelow}
+use Rattle.volume_rules.specs.Overlay.{base_of, bytes_or_zeros, HasRange, IsCommitted}
+use Rattle.volume_rules.specs.Shapes.{shape_of}
+use Rattle.volume_rules.proofs.Pending.{committed_iff, no_base}
 use Rattle.pool_commit.proofs.ReadCauses.{no_cause_within, zeros_within}
 
 -- of a volume that a later group makes: zeros

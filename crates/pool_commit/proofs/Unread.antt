@@ -1,5 +1,5 @@
 -- Blocks that could not be read, and why.
-use Rattle.std.proofs.Common.{ℕ, zero, suc, ◌≡◌, ◌⊎◌, ⊎_elim, ◌-◌, ◌<◌, ◌≤◌, Bool, true, List, [], ◌++◌, length, Option, Some, None, Contains, inl, inr, refl, sym, ap, ◌∙◌, subst, arith}
+use Rattle.std.proofs.Common.{ℕ, zero, suc, ◌≡◌, ⊎_elim, ◌-◌, ◌<◌, ◌≤◌, Bool, true, List, [], ◌++◌, length, Option, Some, None, Contains, inl, inr, refl, sym, ap, ◌∙◌, subst, arith}
 use Rattle.std.specs.Prelude.{slice_get}
 use Rattle.std.proofs.lemmas.Option.{slice_get_within, get_or_from_slice_get}
 use Rattle.model_disk.specs.Joint.{Disks}
@@ -17,7 +17,6 @@ use Rattle.block_store.specs.declared.space.VdevSpace.{VdevSpace}
 use Rattle.block_store.specs.Losses.{IsBlockLost}
 use Rattle.block_store.specs.Places.{shapes_of}
 use Rattle.block_store.specs.Reading.{HaveFailed}
-use Rattle.block_store.specs.Steps.{AnswersAreTrue}
 use Rattle.block_store.specs.Store.{Store, outs, outs_from, is_out}
 use Rattle.block_store.proofs.ReadingLost.{absent_earlier}
 use Rattle.block_store.proofs.ReadingSteps.{reads_on}
@@ -26,12 +25,12 @@ use Rattle.pool_model.specs.View.{View, Vdev, lost_in}
 use Rattle.dataset_snapshots.proofs.Losses.{losses_of_first_groups, losses_of_groups, losses_of_ranges}
 use Rattle.pool_commit.specs.declared.kept.KeptGroup.{KeptGroup}
 use Rattle.pool_commit.specs.declared.refusal.Refusal.{Refusal}
-use Rattle.pool_commit.specs.declared.refusal.Refusal.TheVariants.{DiskFault, BadPointer, BadDigest}
+use Rattle.pool_commit.specs.declared.refusal.Refusal.TheVariants.{DiskFault}
 use Rattle.pool_commit.specs.Backs.{Backs}
 use Rattle.pool_commit.specs.Calls.{unread_between}
 use Rattle.pool_commit.specs.Config.{shown, vdevs_of}
 use Rattle.pool_commit.specs.Configs.{configs_from}
-use Rattle.pool_commit.specs.Reading.{IsFaultIn, IsLastVdev, IsLost, IsLostForPlan, IsLostUnder, IsUnreadForPlan, IsUnreadOf, LosesOn, is_lost}
+use Rattle.pool_commit.specs.Reading.{IsFaultIn, IsLost, IsLostForPlan, IsLostUnder, IsUnreadForPlan, IsUnreadOf, LosesOn, is_lost}
 use Rattle.pool_commit.specs.Room.{IsNextRefused}
 use Rattle.pool_commit.specs.State.{State, group_at}
 use Rattle.pool_commit.proofs.Planning.{same_vdevs}

@@ -9,7 +9,7 @@ use Rattle.block_pointer.specs.declared.block.Block.{Block}
 use Rattle.dataset_snapshots.specs.Pools.{SpellsPool}
 use Rattle.pool_model.specs.Pools.{PlainPool, applied, no_volumes}
 use Rattle.pool_model.specs.View.{View, DueCall, Due, is_planned, is_kept, disks_in_use}
-use Rattle.pool_now.specs.Index.{Knows}
+use Rattle.volume_rules.specs.Index.{Knows}
 use Rattle.pool_commit.specs.declared.kept.KeptGroup.{KeptGroup}
 use Rattle.pool_commit.specs.declared.kept.Planned.{Planned}
 use Rattle.pool_commit.specs.Calls.{IsFlushed}

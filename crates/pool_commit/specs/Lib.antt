@@ -10,3 +10,4 @@ pub mod Progress
 pub mod Reading
 pub mod Causes
 pub mod Room
+pub mod Suspension

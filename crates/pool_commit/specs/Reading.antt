@@ -1,5 +1,5 @@
 -- Reads of a pool, and what they leave.
-use Rattle.std.specs.Prelude.{ℕ, suc, ◌≡◌, ◌++◌, ◌+◌, ◌-◌, ◌^◌, ◌<◌, ◌⊎◌, List, [], length, slice_get, Contains, Bool, Option, Some, None, ◌||◌, ◌==◌}
+use Rattle.std.specs.Prelude.{ℕ, ◌≡◌, ◌++◌, ◌-◌, ◌<◌, ◌⊎◌, List, [], length, slice_get, Contains, Bool, Option, Some, None, ◌||◌, ◌==◌}
 use Rattle.std.specs.List.{list_any}
 use Rattle.raidz_io.specs.Reads.{OnlyReads, AreUntouched, IsHonestSince}
 use Rattle.block_pointer.specs.declared.block.Block.{Block}

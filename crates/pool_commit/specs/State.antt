@@ -3,7 +3,7 @@ use Rattle.std.specs.Prelude.{ℕ, suc, ◌≡◌, ◌==◌, Bool, List, Option,
 use Rattle.model_disk.specs.Joint.{Disks}
 use Rattle.block_store.specs.Store.{Store, outs}
 use Rattle.pool_model.specs.Pools.{no_volumes}
-use Rattle.pool_now.specs.Index.{Knows}
+use Rattle.volume_rules.specs.Index.{Knows}
 use Rattle.pool_commit.specs.declared.kept.Kept.{Kept}
 use Rattle.pool_commit.specs.declared.kept.KeptGroup.{KeptGroup}
 use Rattle.pool_commit.specs.declared.kept.Planned.{Planned}

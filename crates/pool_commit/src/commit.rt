@@ -5,18 +5,20 @@ ghost use Rattle.model_disk.specs.Joint.{calls_on, log_of};
 ghost use Rattle.block_store.specs.declared.shape.VdevShape.{VdevShape as ShapeOf};
 ghost use Rattle.block_store.specs.Config.{AreShapes, IsFewVdevs};
 ghost use Rattle.block_store.specs.Store.{is_out};
-ghost use Rattle.pool_model.specs.View.{View, counted, disks_of, lost_in, is_tolerable, started};
+ghost use Rattle.pool_model.specs.View.{View, counted, disks_of, started};
 ghost use Rattle.pool_commit.specs.HasDisks.{AreBelow, HasDisks};
-ghost use Rattle.pool_commit.specs.Config.{shown, vdevs_of, vdevs_from};
+ghost use Rattle.pool_commit.specs.Config.{vdevs_of, vdevs_from};
+ghost use Rattle.pool_commit.specs.Suspension.{lacks_disks};
 
 use crate::kept::{Kept, KeptGroup, Planned};
 use crate::refusal::Refusal;
+use crate::suspension::{lacks_disks, vdev_at};
 use block_store::{BlockStore, VdevConfig};
 use model_disk::Disk;
-use pool_now::NameIndex;
 use raidz_io::Vdev;
 use std::alloc::{AllocError, Global};
 use std::collections::VecDeque;
+use volume_rules::NameIndex;
 
 /// The group that `create` commits.
 const FIRST_GROUP: u64 = 3;
@@ -27,7 +29,10 @@ pub struct Commit<D: Disk + Drop> {
     pub(crate) store: BlockStore<D>,
     pub(crate) kept: Kept,
     pub(crate) planned: Option<Planned>,
+    // Whether more disks of a vdev are out than it has parities: counted anew where a disk goes out.
+    pub(crate) suspended: bool,
     ghost disks: { HasDisks (length store.disks.starts) planned },
+    ghost suspension: { suspended ≡ lacks_disks store },
 }
 
 impl<D: Disk + Drop> Commit<D> {
@@ -57,10 +62,12 @@ impl<D: Disk + Drop> Commit<D> {
             root: None,
             names: NameIndex::new(alloc),
         };
+        let suspended = lacks_disks(&store);
         Ok(Commit {
             store,
             kept: Kept::new(FIRST_GROUP, first),
             planned: None,
+            suspended,
         })
     }
 
@@ -68,7 +75,7 @@ impl<D: Disk + Drop> Commit<D> {
     pub fn is_suspended(&self) -> bool
         ensures { (v : View) → Backs (state_of self.now) v → result ≡ is_suspended v }
     {
-        !self.is_tolerable()
+        self.suspended
     }
 
     /// Whether the group that is synced has a plan.
@@ -78,48 +85,6 @@ impl<D: Disk + Drop> Commit<D> {
         ensures view { (v : View) → Backs (state_of self.now) v → result ≡ is_planned v.sync }
     {
         self.planned.is_some()
-    }
-
-    fn is_tolerable(&self) -> bool
-        ensures { result
-            ≡ is_tolerable (vdevs_of self.now.store.spaces) (is_out self.now.store.out) }
-    {
-        for index in 0..self.store.vdev_count() {
-            let vdev = self.vdev(index);
-            if self.count_out(vdev) > vdev.geometry.parity {
-                return false;
-            }
-        }
-        true
-    }
-
-    /// A vdev of the pool. Its disks are in the array.
-    fn vdev(&self, index: usize) -> Vdev
-        requires { index < length self.now.store.spaces }
-        ensures there { slice_get (vdevs_of self.now.store.spaces) index
-            ≡ Some (shown result) }
-        ensures few { result.first + result.geometry.children ≤ 2 ^ 64 - 1 }
-        ensures disks { result.first + result.geometry.children
-            ≤ length self.now.store.disks.starts }
-    {
-        // Numbers of disks are below their count, which a usize holds.
-        let _count = self.store.disk_count();
-        self.store.shape(index).vdev
-    }
-
-    /// How many disks of a vdev are out.
-    fn count_out(&self, vdev: Vdev) -> u32
-        requires { vdev.first + vdev.geometry.children ≤ 2 ^ 64 - 1 }
-        ensures { result
-            ≡ lost_in (is_out self.now.store.out) vdev.first vdev.geometry.children }
-    {
-        let mut count = 0;
-        for child in 0..vdev.geometry.children {
-            if self.store.is_out(vdev.first + child as usize) {
-                count += 1;
-            }
-        }
-        count
     }
 
     /// The disks that are not out, in order.
@@ -132,7 +97,7 @@ impl<D: Disk + Drop> Commit<D> {
     {
         let mut disks = VecDeque::new(alloc);
         for index in 0..self.store.vdev_count() {
-            self.add_in_use(self.vdev(index), &mut disks)?;
+            self.add_in_use(vdev_at(&self.store, index), &mut disks)?;
         }
         Ok(disks)
     }

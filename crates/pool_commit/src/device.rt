@@ -13,6 +13,7 @@ ghost use Rattle.pool_commit.specs.HasDisks.{AreBelow, HasDisks};
 
 use crate::commit::Commit;
 use crate::kept::Planned;
+use crate::suspension::lacks_disks;
 use block_store::{BlockStore, FailedDisk};
 use model_disk::Disk;
 use pool_model::Phase;
@@ -104,7 +105,10 @@ impl<D: Disk + Drop> Commit<D> {
     {
         match make_writes(&mut self.store) {
             Ok(()) => self.go_on(planned, Phase::Blocks),
-            Err(failed) => self.drop_plan(failed),
+            Err(failed) => {
+                self.suspended = lacks_disks(&self.store);
+                self.drop_plan(failed)
+            }
         }
     }
 
@@ -120,7 +124,10 @@ impl<D: Disk + Drop> Commit<D> {
     {
         match make_flushes(&mut self.store, &mut planned.flushes) {
             Ok(()) => self.go_on(planned, Phase::BlocksFlush),
-            Err(failed) => self.drop_plan(failed),
+            Err(failed) => {
+                self.suspended = lacks_disks(&self.store);
+                self.drop_plan(failed)
+            }
         }
     }
 

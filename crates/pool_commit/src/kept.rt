@@ -3,9 +3,9 @@ ghost use Rattle.std.specs.Prelude.{◌≡◌, None};
 ghost use Rattle.std.specs.Option.{option_copied};
 
 use block_pointer::Block;
-use pool_now::NameIndex;
 use std::collections::VecDeque;
 use std::mem;
+use volume_rules::NameIndex;
 
 /// A group: its root, through which all else of it is read, and the names of its pool. A pool has no root before its first group
 /// is planned, and no volumes then.

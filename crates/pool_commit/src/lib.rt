@@ -10,6 +10,7 @@ mod kept;
 mod plan;
 mod reading;
 mod refusal;
+mod suspension;
 
 pub use commit::Commit;
 pub use device::Progress;

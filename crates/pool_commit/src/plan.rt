@@ -9,7 +9,7 @@ ghost use Rattle.raidz_io.specs.Reads.{OnlyReads, AreUntouched};
 ghost use Rattle.pool_model.specs.Pools.{PlainPool, applied, no_volumes};
 ghost use Rattle.pool_model.specs.View.{View, DueCall, Unplanned, Due, is_planned};
 ghost use Rattle.pool_model.specs.Machine.{IsPlan};
-ghost use Rattle.pool_now.specs.GoodChanges.{MakesGoodVolumes};
+ghost use Rattle.volume_rules.specs.GoodChanges.{MakesGoodVolumes};
 ghost use Rattle.block_store.specs.declared.refusal.Refusal.TheVariants as lost_blocks;
 ghost use Rattle.pool_commit.specs.Backs.{Backs, SpellsGroup, SpellsRoot};
 ghost use Rattle.pool_commit.specs.Reading.{PoolAnswersTruly, IsReadFault};
@@ -26,9 +26,9 @@ use block_pointer::Block as RootBlock;
 use block_store::BlockStore;
 use dataset_snapshots::{after_group, first_group};
 use model_disk::Disk;
-use pool_now::makes_good_volumes;
 use std::alloc::Global;
 use txg_pipeline::Pending;
+use volume_rules::makes_good_volumes;
 
 /// Plans the first root of a pool.
 fn first_root<D: Disk + Drop>(

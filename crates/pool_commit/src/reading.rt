@@ -4,9 +4,9 @@ ghost use Rattle.pool_model.specs.declared.volume.PlainVolume.{PlainVolume};
 ghost use Rattle.pool_model.specs.Machine.{AreBytesOf};
 ghost use Rattle.pool_model.specs.Pools.{volume_at};
 ghost use Rattle.pool_model.specs.View.{View, now_of};
-ghost use Rattle.pool_now.specs.NowMoves.{GroupsAreBelow};
-ghost use Rattle.pool_now.specs.Overlay.{base_of, HasRange};
-ghost use Rattle.pool_now.specs.Shapes.{shape_of};
+ghost use Rattle.volume_rules.specs.NowMoves.{GroupsAreBelow};
+ghost use Rattle.volume_rules.specs.Overlay.{base_of, HasRange};
+ghost use Rattle.volume_rules.specs.Shapes.{shape_of};
 ghost use Rattle.block_store.specs.Blocks.{Contents};
 ghost use Rattle.block_store.specs.Steps.{OnlyReadsBlocks, AnswersAreTrue};
 ghost use Rattle.block_store.specs.Store.{Holds};
@@ -26,8 +26,8 @@ use block_store::BlockStore;
 use dataset_snapshots::{VolumeRange, read_range};
 use model_disk::Disk;
 use pool_model::Name;
-use pool_now::{VolumeShape, against_read};
 use std::alloc::Global;
+use volume_rules::{VolumeShape, against_read};
 
 /// A range of a volume under a kept group. One that the pool of the group hasn't got is refused by the names that the group has in
 /// memory, before any disk is read.

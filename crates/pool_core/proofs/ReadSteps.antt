@@ -1,5 +1,5 @@
 -- Reads as steps of the machine.
-use Rattle.std.proofs.Common.{◌≡◌, ◌⊎◌, ⊎_elim, ℕ, ◌+◌, Bool, true, false, true≢false, List, [], length, Option, Some, None, refl, sym, ap, ◌∙◌, subst, inl, inr}
+use Rattle.std.proofs.Common.{rules, ◌≡◌, ◌⊎◌, ℕ, ◌+◌, Bool, true, false, true≢false, List, [], length, Option, Some, None, refl, sym, ap, ◌∙◌, subst, inl, inr}
 use Rattle.std.specs.Option.{option_map}
 use Rattle.std.specs.Prelude.{slice_range}
 use Rattle.pool_model.specs.declared.refusal.Refusal.TheVariants as causes
@@ -13,9 +13,9 @@ use Rattle.pool_model.specs.Pools.{PlainPool, volume_at}
 use Rattle.pool_model.specs.View.{View, Vdev, now_of}
 use Rattle.pool_model.specs.Refusals.{refusal_of}
 use Rattle.pool_model.specs.Machine.{AreBytesOf, StepOf}
-use Rattle.pool_now.specs.declared.shape.VolumeShape.{VolumeShape}
-use Rattle.pool_now.specs.Overlay.{HasRange}
-use Rattle.pool_now.specs.Shapes.{shape_of, shape_at}
+use Rattle.volume_rules.specs.declared.shape.VolumeShape.{VolumeShape}
+use Rattle.volume_rules.specs.Overlay.{HasRange}
+use Rattle.volume_rules.specs.Shapes.{shape_of, shape_at}
 use Rattle.pool_commit.specs.declared.refusal.Refusal.{Refusal}
 use Rattle.pool_commit.specs.declared.refusal.Refusal.TheVariants.{NoMemory, NoSuchName, OutOfRange, GroupGone}
 use Rattle.pool_commit.specs.Reading.{PoolAnswersTruly as AnswersAreTrue, HasNoCause, IsUnderCause, IsLostUnder, OnlyReadsPool}
@@ -131,3 +131,12 @@ refuses_now s commit v trusted name offset len refusal named is r reads none hon
           (read_goes s commit v gives.lost trusted step (Refused (cause_of refusal)) r reads tt gives.loses
           (inr (inr (record { none = none; answered = (gives.unreadable, refl); calls = reads_quiet s new gives.lost trusted false }))))
     ]
+
+-- no call was made
+pub reads_nothing : (s : State) → OnlyReadsPool s s []
+reads_nothing s = record { reads = search rules; untouched = search rules; backs = λ v backs. backs }
+
+pub lacks_memory : (s : CoreState) (v : View) (trusted : Bool) (name : List ℕ) (offset len : ℕ) → Represents s v → Goes s v trusted (Read name offset len) (Refused causes.NoMemory) s
+lacks_memory s v trusted name offset len r =
+    read_goes s s.commit v None trusted (Read name offset len) (Refused causes.NoMemory) r (reads_nothing s.commit) tt (none_lost _)
+    (inr (inl (record { may = refl; answer = refl; leaves = refl; calls = reads_quiet s s None trusted false })))

@@ -1,7 +1,12 @@
 //! The core and its steps.
-ghost use Rattle.std.specs.Prelude.{◌≡◌, ◌⊎◌, ◌<◌, ◌&&◌, ℕ, List, map, IfOk, IfErr};
+ghost use Rattle.std.specs.Prelude.{◌≡◌, ◌⊎◌, ◌<◌, ◌&&◌, ℕ, List, Some, map, IfOk, IfErr};
 ghost use Rattle.model_disk.specs.Joint.{calls_on, log_of};
-ghost use Rattle.pool_model.specs.View.{View, is_suspended, started};
+ghost use Rattle.pool_model.specs.declared.step.Step.TheVariants as steps;
+ghost use Rattle.pool_model.specs.declared.volume.PlainVolume.{PlainVolume};
+ghost use Rattle.pool_model.specs.Pools.{volume_at};
+ghost use Rattle.pool_model.specs.View.{View, is_suspended, now_of, started};
+ghost use Rattle.volume_rules.specs.Covering.{IsCovered};
+ghost use Rattle.volume_rules.specs.Shapes.{shape_of};
 ghost use Rattle.pool_commit.specs.Backs.{Backs};
 ghost use Rattle.block_store.specs.declared.shape.VdevShape.{VdevShape as ShapeOf};
 ghost use Rattle.block_store.specs.Config.{AreShapes, IsFewVdevs};
@@ -72,6 +77,13 @@ impl<D: Disk + Drop> Core<D> {
     pub fn step(&mut self, step: Step) -> Reply
         ensures grew { GrewTo (disks_in self.old) (disks_in self.new) }
         ensures goes { TakesStep (state_of self.old) step result (state_of self.new) }
+
+        // A read that one pending write has whole reads no disk.
+        ensures covered { (v : View) (volume : PlainVolume) (name : List ℕ) (offset len : ℕ)
+            → Represents (state_of self.old) v → step ≡ steps.Read name offset len
+            → volume_at name (now_of v) ≡ Some volume
+            → IsCovered v name (shape_of volume) offset len
+            → state_of self.new ≡ state_of self.old }
     {
         if self.is_refused(&step) {
             return Reply::Refused(Refusal::Suspended);

@@ -21,7 +21,7 @@ use Rattle.txg_pipeline.specs.declared.refusal.Refusal.{Refusal}
 use Rattle.txg_pipeline.specs.declared.refusal.Refusal.TheVariants.{NoMemory, AlreadyHeld, NoHold, OutOfOrder, NotNow}
 use Rattle.txg_pipeline.specs.Carries.{IsAdmitted, IsNotAdmitted}
 use Rattle.txg_pipeline.specs.Calls.{cause_of}
-use Rattle.pool_now.specs.GoodChanges.{is_good_change}
+use Rattle.volume_rules.specs.GoodChanges.{is_good_change}
 
 -- a test that fails is passed over
 passed : (b : Bool) (cause : Cause) (rest : List (Bool × Cause)) → b ≡ false → first_cause ((b, cause) ∷ rest) ≡ first_cause rest

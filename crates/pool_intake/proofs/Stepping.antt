@@ -32,14 +32,14 @@ use Rattle.txg_pipeline.specs.declared.refusal.Refusal.TheVariants.{NoMemory, Al
 use Rattle.txg_pipeline.specs.Carries.{Carries, Does, IsUnchanged, IsNotAccepted}
 use Rattle.txg_pipeline.specs.Calls.{cause_of}
 use Rattle.txg_pipeline.proofs.Carrying.{kept_synced}
-use Rattle.pool_now.specs.declared.index.NameIndex.{NameIndex}
-use Rattle.pool_now.specs.declared.shape.VolumeShape.{VolumeShape}
-use Rattle.pool_now.specs.GoodChanges.{is_good_change, MakesGoodVolumes}
-use Rattle.pool_now.specs.Index.{Knows}
-use Rattle.pool_now.specs.NowMoves.{IsMadeBy, is_action_taken}
-use Rattle.pool_now.proofs.NowMoves.{knows_step, moves_now, now_taken, now_committed}
-use Rattle.pool_now.proofs.Overlays.{made_by_applied}
-use Rattle.pool_now.proofs.Pending.{below_step}
+use Rattle.volume_rules.specs.declared.index.NameIndex.{NameIndex}
+use Rattle.volume_rules.specs.declared.shape.VolumeShape.{VolumeShape}
+use Rattle.volume_rules.specs.GoodChanges.{is_good_change, MakesGoodVolumes}
+use Rattle.volume_rules.specs.Index.{Knows}
+use Rattle.volume_rules.specs.NowMoves.{IsMadeBy, is_action_taken}
+use Rattle.volume_rules.proofs.NowMoves.{knows_step, moves_now, now_taken, now_committed}
+use Rattle.volume_rules.proofs.Overlays.{made_by_applied}
+use Rattle.volume_rules.proofs.Pending.{below_step}
 use Rattle.pool_intake.specs.declared.intake.Intake.{Intake}
 use Rattle.pool_intake.specs.Follows.{Follows, KeepsCommitted}
 use Rattle.pool_intake.proofs.Judging.{hold_free, hold_held, release_free, close_free, close_early, quiesce_free, quiesce_early, plan_free, plan_early, write_barred, act_barred, act_late, change_free, name_free, is_good}

@@ -7,9 +7,9 @@ use Rattle.pool_model.specs.Flow.{flow_of}
 use Rattle.pool_model.specs.Machine.{StepOf}
 use Rattle.pool_model.specs.Sound.{IsSound}
 use Rattle.txg_pipeline.specs.Carries.{Carries}
-use Rattle.pool_now.specs.GoodChanges.{MakesGoodVolumes}
-use Rattle.pool_now.specs.Index.{Knows}
-use Rattle.pool_now.specs.NowMoves.{GroupsAreBelow}
+use Rattle.volume_rules.specs.GoodChanges.{MakesGoodVolumes}
+use Rattle.volume_rules.specs.Index.{Knows}
+use Rattle.volume_rules.specs.NowMoves.{GroupsAreBelow}
 use Rattle.pool_intake.specs.declared.intake.Intake.{Intake}
 
 -- the intake is in a state that the view describes

@@ -4,9 +4,11 @@ ghost use Rattle.pool_model.specs.declared.item.Change.TheVariants.{Create};
 ghost use Rattle.pool_model.specs.declared.volume.VolumeKind.TheVariants.{Volume};
 
 use pool_model::{Action, Change, Item, Name, Refusal, Reply, VolumeKind, Write};
-use pool_now::{NameIndex, VolumeShape, against_change, against_write, read_pending};
 use std::alloc::{AllocError, Global};
 use txg_pipeline::{Pending, Pipeline};
+use volume_rules::{
+    NameIndex, VolumeShape, against_change, against_write, is_covered, read_pending,
+};
 
 /// What a pool accepts: its groups, the holds of writers, the pending items, and the names of NOW.
 ///
@@ -18,15 +20,16 @@ pub struct Intake {
 }
 
 impl Intake {
-    ghost use Rattle.std.specs.Prelude.{ℕ, suc, List, length, ◌+◌, ◌≤◌, None, Some, false, is_some, IfSome, IfErr, OnOk};
+    ghost use Rattle.std.specs.Prelude.{◌↔◌, IsTrue, ℕ, suc, List, length, replicate, ◌+◌, ◌≤◌, None, Some, false, is_some, IfSome, IfErr, OnOk};
     ghost use Rattle.pool_model.specs.declared.step.Step.TheVariants as steps;
     ghost use Rattle.pool_model.specs.declared.volume.PlainVolume.{PlainVolume};
     ghost use Rattle.pool_model.specs.Pools.{volume_at};
     ghost use Rattle.pool_model.specs.View.{View, Vdev, Unplanned, started, is_syncing, is_planned, is_suspended, now_of};
     ghost use Rattle.pool_model.specs.Refusals.{refusal_of};
     ghost use Rattle.pool_model.specs.Machine.{taken, committed_next};
-    ghost use Rattle.pool_now.specs.Shapes.{shape_of, shape_at};
-    ghost use Rattle.pool_now.specs.Overlay.{base_of, HasRange};
+    ghost use Rattle.volume_rules.specs.Shapes.{shape_of, shape_at};
+    ghost use Rattle.volume_rules.specs.Covering.{IsCovered};
+    ghost use Rattle.volume_rules.specs.Overlay.{base_of, HasRange};
     ghost use Rattle.pool_intake.specs.Follows.{Follows, TakesStep, TakesStepUnlessSuspended};
 
     /// An intake over an empty pool that is committed as group 3.
@@ -174,12 +177,27 @@ impl Intake {
     /// volume), and then has the range of the volume's bytes.
     pub fn read_pending(&self, shape: VolumeShape, name: &Name, offset: u64, buffer: &mut [u8])
         requires { offset + length buffer.old ≤ shape.size }
-        ensures { (v : View) (volume : PlainVolume) → Follows self.now v
+        ensures laid { (v : View) (volume : PlainVolume) → Follows self.now v
             → volume_at name.now (now_of v) ≡ Some volume → shape_of volume ≡ shape →
             HasRange buffer.old (base_of v name.now volume) offset
             → HasRange buffer.new volume.bytes offset }
+
+        // Where a pending write has the whole range, zeros may lie under it.
+        ensures covered { (v : View) (volume : PlainVolume) → Follows self.now v
+            → volume_at name.now (now_of v) ≡ Some volume → shape_of volume ≡ shape →
+            IsCovered v name.now shape offset (length buffer.old) →
+            buffer.old ≡ replicate (length buffer.old) 0
+            → HasRange buffer.new volume.bytes offset }
     {
         read_pending(&self.pipeline, shape, name, offset, buffer);
+    }
+
+    /// Whether one pending write to the volume of this name, which has this shape in NOW, has every byte of the range.
+    pub fn is_covered(&self, shape: VolumeShape, name: &Name, offset: u64, len: u64) -> bool
+        ensures { (v : View) → Follows self.now v →
+            IsTrue result ↔ IsCovered v name.now shape offset len }
+    {
+        is_covered(&self.pipeline, shape, name, offset, len)
     }
 
     // Why a write is refused, by its writer's hold and number and by its volume in NOW.
@@ -200,7 +218,7 @@ impl Intake {
     {
         match self.pipeline.admitted(action.writer, action.number) {
             Ok(group) if group != self.pipeline.open_group() => Some(Refusal::NotNow),
-            Ok(_) => against_change(&action.change, &self.index),
+            Ok(_) => against_change(&action.change, self.index.find(action.change.name())),
             Err(cause) => Some(Refusal::from(cause)),
         }
     }

@@ -3,6 +3,8 @@ use Rattle.std.specs.Prelude.{ℕ, ◌+◌, List, [], ◌∷◌, ◌++◌, lengt
 use Rattle.std.specs.List.{list_all, list_any}
 use Rattle.std.specs.Cmp.Lexicographic.{pointwise, slice_cmp}
 use Rattle.std.specs.Ordering.{nat_cmp, is_lt}
+use Rattle.pool_model.specs.declared.item.Change.{Change}
+use Rattle.pool_model.specs.declared.item.Change.TheVariants.{Create}
 
 -- whether two names are the same
 abbrev pub same : List ℕ → List ℕ → Bool
@@ -31,3 +33,7 @@ is_name (c ∷ cs) = is_letter c && (nat_le (length cs) 26 && list_all is_name_l
 -- a power of two from 512 to 131,072
 abbrev pub is_block_size : ℕ → Bool
 is_block_size n = list_any (λ size. n == size) (512 ∷ 1024 ∷ 2048 ∷ 4096 ∷ 8192 ∷ 16384 ∷ 32768 ∷ 65536 ∷ 131072 ∷ [])
+
+-- the name of the volume that a change is of
+abbrev pub name_of : Change → List ℕ
+name_of (Create name size block_size) = name

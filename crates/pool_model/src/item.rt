@@ -1,4 +1,7 @@
 //! What writers ask for: writes and actions.
+ghost use Rattle.std.specs.Prelude.{◌≡◌};
+ghost use Rattle.pool_model.specs.Names.{name_of};
+
 use crate::text::{Bytes, Name};
 
 /// Bytes to be written to a volume, under the writer's hold.
@@ -24,6 +27,17 @@ pub enum Change {
         /// In bytes, a power of two from 512 to 131,072.
         block_size: u64,
     },
+}
+
+impl Change {
+    /// The name of the volume that the change is of.
+    pub fn name(&self) -> &Name
+        ensures { result.now ≡ name_of self.now }
+    {
+        match self {
+            Change::Create { name, .. } => name,
+        }
+    }
 }
 
 /// A change that a writer asks for, under its hold.

@@ -5,7 +5,7 @@ use Rattle.std.proofs.lemmas.List.{drop-append-le, take-append-drop, length-take
 use Rattle.std.proofs.lemmas.List.Sums.{sum_by-cons, sum_by-append}
 use Rattle.std.proofs.lemmas.Option.{slice_get-get_or}
 use Rattle.raidz_map.specs.declared.column.Column.{Column}
-use Rattle.raidz_parity.specs.Layout.{Block, columns_of, joined}
+use Rattle.raidz_parity.specs.Layout.{Block, columns_of}
 use Rattle.raidz_parity.specs.Parity.{IsParity}
 use Rattle.raidz_io.specs.declared.vdev.Extent.{Extent}
 use Rattle.raidz_io.specs.Stripe.{IsShaped}
@@ -13,7 +13,7 @@ use Rattle.raidz_io.specs.declared.vdev.Vdev.{Vdev}
 use Rattle.raidz_io.specs.declared.writes.ColumnWrite.{ColumnWrite}
 use Rattle.raidz_io.specs.Places.{sizes_of}
 use Rattle.raidz_io.specs.Stands.{parity_of, all_columns, AreBytesOf, IsWriteOf, AreWritesOf}
-use Rattle.raidz_io.proofs.Parts.{drop_drop, lengths-columns_of, joined_buffer}
+use Rattle.raidz_io.proofs.Parts.{drop_drop, lengths-columns_of}
 use Rattle.raidz_io.proofs.Sizes.{sizes_of_more}
 use Rattle.raidz_io.proofs.Written.{AreWritesOf-push, AreWritesOf-append}
 
@@ -82,17 +82,6 @@ data_written vdev layout block writes write n i d rest part within count is part
     (AreWritesOf-push vdev layout columns (drop n writes) write (get_or layout i d) part before
     (subst P (sym number) (slice_get-get_or layout i d within)) (subst Q (sym number) here) made)
 
--- one parity's write more
-pub parity_written : (vdev : Vdev) (layout : List Column) (columns : List (List ℕ)) (writes : List ColumnWrite) (write : ColumnWrite) (i : ℕ) (d : Column)
-    (part : List ℕ) → i < length layout → length layout ≡ length columns → length writes ≡ i → part ≡ get_or columns i []
-    → IsWriteOf vdev (get_or layout i d) part write → AreWritesOf vdev layout columns writes → AreWritesOf vdev layout columns (writes ++ write ∷ [])
-parity_written vdev layout columns writes write i d part within count number part_is made before =
-    let P : ℕ → Type 0 = λ k. slice_get layout k ≡ Some (get_or layout i d) in
-    let Q : ℕ → Type 0 = λ k. slice_get columns k ≡ Some part in
-    let here : slice_get columns i ≡ Some part = slice_get-get_or columns i [] (omega arith) ∙ ap (λ p. Some p) (sym part_is) in
-    AreWritesOf-push vdev layout columns writes write (get_or layout i d) part before
-    (subst P (sym number) (slice_get-get_or layout i d within)) (subst Q (sym number) here) made
-
 -- all writes, those of the parity and those of the data
 pub writes_together : (vdev : Vdev) (layout : List Column) (p : ℕ) (columns : Block) (first all : List ColumnWrite) → p ≤ length layout
     → length first ≡ p → length columns.parity ≡ p → length all ≡ length first + (length layout - p) → take (length first) all ≡ first
@@ -106,14 +95,6 @@ writes_together vdev layout p columns first all within count count' more kept pa
     subst P (take-append-drop p layout) (subst Q whole
     (AreWritesOf-append vdev (take p layout) (drop p layout) columns.parity columns.data_columns first (drop (length first) all)
     (count ∙ sym front) (count' ∙ sym front) parities others))
-
--- the block of the columns that were made of it
-pub block_again : (layout : List Column) (block block' lengths read : List ℕ) (columns : Block) → read ≡ joined columns.data_columns
-    → columns.data_columns ≡ columns_of lengths block' → lengths ≡ sizes_of layout → block' ≡ block → length block ≡ sum (sizes_of layout)
-    → read ≡ block
-block_again layout block block' lengths read columns read_is is lengths_are same fits =
-    read_is ∙ ap joined is ∙ ap (λ ns. joined (columns_of ns block')) lengths_are ∙ ap (λ b. joined (columns_of (sizes_of layout) b)) same
-    ∙ joined_buffer (sizes_of layout) block fits
 
 -- bytes are below 256
 pub are_bytes : (bytes : List ℕ) → ((i : ℕ) → get_or bytes i 0 < 256) → All (λ byte. byte < 256) bytes

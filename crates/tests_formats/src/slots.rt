@@ -33,7 +33,7 @@ const ROOT: Block = Block {
     checksum: [0xee; 32],
 };
 
-const UBERBLOCK: Uberblock = Uberblock {
+pub(crate) const UBERBLOCK: Uberblock = Uberblock {
     group: 4,
     guid_sum: 0x0102_0304_0506_0708,
     timestamp: 9,

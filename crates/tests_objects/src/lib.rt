@@ -5,6 +5,8 @@
 #[cfg(test)]
 mod groups;
 #[cfg(test)]
+mod losses;
+#[cfg(test)]
 mod meta;
 #[cfg(test)]
 mod nodes;

@@ -1,6 +1,6 @@
 //! A store in memory: one vdev of three disks.
 use block_store::{BlockStore, VdevConfig};
-use model_disk::MemDisk;
+use model_disk::{Disk, MemDisk};
 use raidz_map::Geometry;
 use std::alloc::Global;
 use std::test::Fail;
@@ -23,7 +23,7 @@ pub(crate) fn new_store(alloc: Global) -> Result<Store, Fail> {
 }
 
 /// Makes the writes that are due, and takes the blocks of the plan as stored.
-pub(crate) fn store_plan(store: &mut Store) {
+pub(crate) fn store_plan<D: Disk + Drop>(store: &mut BlockStore<D>) {
     for _ in 0..store.due_count() {
         if store.due_count() == 0 || store.write_next().is_err() {
             break;

@@ -16,12 +16,17 @@ const BLOCK_SIZE: u64 = 512;
 /// Where block 200 begins.
 const FAR: u64 = 102_400;
 
-fn name(alloc: Global) -> Result<Name, AllocError> {
+pub(crate) fn name(alloc: Global) -> Result<Name, AllocError> {
     Ok(Name::new(vec![in alloc; b'v'; 1]?))
 }
 
 /// A write of bytes of one value.
-fn write_of(alloc: Global, offset: u64, byte: u8, len: usize) -> Result<Write, AllocError> {
+pub(crate) fn write_of(
+    alloc: Global,
+    offset: u64,
+    byte: u8,
+    len: usize,
+) -> Result<Write, AllocError> {
     Ok(Write {
         writer: 1,
         number: 1,

@@ -6,13 +6,14 @@ use pool_commit::{Commit, Progress};
 use pool_core::Core;
 use pool_intake::Intake;
 use pool_model::{Action, Bytes, Change, Item, Name, Refusal, Reply, Step, VolumeKind, Write};
-use pool_now::{
-    NameIndex, VolumeShape, against_change, against_read, against_write, is_good_shape, lay_over,
-};
 use raidz_map::Geometry;
 use std::alloc::{AllocError, Global};
 use std::test::Fail;
 use txg_pipeline::{Call, Pipeline};
+use volume_rules::{
+    NameIndex, VolumeShape, against_change, against_read, against_write, is_good_shape, lay_over,
+    makes_good_volumes,
+};
 
 const SHAPE: VolumeShape = VolumeShape {
     size: 8192,
@@ -214,11 +215,11 @@ fn names_are_found(rt: HostRuntime) -> Result<(), Fail> {
 /// What a group makes: the number of each action, the volume, and its size.
 const MADE: [(u64, &str, u64); 3] = [(1, "v", 1024), (2, "w", 2048), (3, "v", 4096)];
 
-/// The items of group 5.
-fn made(alloc: Global) -> Result<Pipeline, Fail> {
+/// The items of group 5, where it makes these.
+fn making(alloc: Global, makes: &[(u64, &str, u64)]) -> Result<Pipeline, Fail> {
     let mut calls = Vec::new(alloc);
     calls.push(Call::Hold(1))?;
-    for (number, volume, size) in MADE {
+    for &(number, volume, size) in makes {
         let action = action(alloc, number, volume, size, 512)?;
         calls.push(Call::Accept(Item::Action(action)))?;
     }
@@ -231,7 +232,7 @@ fn made(alloc: Global) -> Result<Pipeline, Fail> {
 /// What a name has in an index of the volume u, and what it has in the one after the group.
 fn found_around(alloc: Global, volume: &str) -> Result<[Option<VolumeShape>; 2], Fail> {
     let volume = name(alloc, volume)?;
-    let pipeline = made(alloc)?;
+    let pipeline = making(alloc, &MADE)?;
     let mut before = NameIndex::new(alloc);
     add(alloc, &mut before, "u", SHAPE)?;
     let after = before.after_group(alloc, 5, pipeline.open_items())?;
@@ -259,6 +260,21 @@ fn names_follow_a_group(rt: HostRuntime) -> Result<(), Fail> {
     ] {
         assert_eq!(rt; found_around(rt.alloc(), volume)?, wanted);
     }
+    Ok(())
+}
+
+/// Whether a group may make all of these.
+fn may_make(alloc: Global, makes: &[(u64, &str, u64)]) -> Result<bool, Fail> {
+    let pipeline = making(alloc, makes)?;
+    Ok(makes_good_volumes(pipeline.open_items()))
+}
+
+// The second volume is no whole number of blocks; a name begins with a letter.
+#[test]
+fn groups_of_good_volumes_are_told(rt: HostRuntime) -> Result<(), Fail> {
+    assert!(rt; may_make(rt.alloc(), &MADE)?);
+    assert!(rt; !may_make(rt.alloc(), &[(1, "v", 1024), (2, "w", 1025)])?);
+    assert!(rt; !may_make(rt.alloc(), &[(1, "1", 1024)])?);
     Ok(())
 }
 
@@ -320,7 +336,7 @@ fn change_cause(
     let change = create(alloc, volume, size, block_size)?;
     let mut index = NameIndex::new(alloc);
     add(alloc, &mut index, "v", SHAPE)?;
-    Ok(against_change(&change, &index))
+    Ok(against_change(&change, index.find(change.name())))
 }
 
 #[test]

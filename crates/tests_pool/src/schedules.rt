@@ -264,6 +264,26 @@ release 1 -> refused 6 NoHold
 device -> refused 4 Suspended
 ";
 
+/// Each disk fails each call behind group 4, for which the disks have 27, 26 and 28 writes and a flush: what one pending write has whole
+/// is read all the same, and a byte beside it isn't.
+const COVERED: &str = "fault 0 from 28
+fault 1 from 27
+fault 2 from 29
+pool 1 3 8388608 12 2
+hold 1 -> held 4
+create 1 1 v 2048 512 -> receipt 4
+release 1 -> released
+sync -> committed 4
+hold 1 -> held 5
+write 1 2 v 0 1024 07 -> receipt 5
+write 1 3 v 512 512 08 -> receipt 5
+release 1 -> released
+read v 510 4 -> 07x2 08x2
+read v 0 1024 -> 07x512 08x512
+read v 1022 4 -> refused 2 DiskFault
+read v 1020 4 -> 08x4
+";
+
 /// Each of the three metaslabs has room for eight blocks with their parity. Behind what groups 4
 /// and 5 wrote there is room for six in the first, which has the block that is stored and the first
 /// copies of all else, and for seven in each of the others: 21 blocks are one too many.
@@ -372,7 +392,7 @@ fn missing_disks_have_their_replies(rt: HostRuntime) -> Result<(), Fail> {
 
 #[test]
 fn failing_disks_have_their_replies(rt: HostRuntime) -> Result<(), Fail> {
-    let texts = [LEFT_OUT, SUSPENDED];
+    let texts = [LEFT_OUT, SUSPENDED, COVERED];
     assert_eq!(rt; changed_in(rt.alloc(), &texts)?.as_str(), "");
     Ok(())
 }

@@ -14,14 +14,18 @@ use Rattle.uberblock_ring.specs.declared.uberblock.Uberblock.{Uberblock}
 abbrev pub size_of : Disks → ℕ → ℕ
 size_of disks which = length (bytes_of disks.starts which)
 
--- what the bytes of a slot say
+-- what the bytes of a slot say: nothing, or one uberblock and no other
 abbrev pub IsReading : ℕ → List ℕ → Option Uberblock → Type 0
-IsReading slot bytes (Some u) = SpellsSlot slot bytes u
+IsReading slot bytes (Some u) = SpellsSlot slot bytes u × ((v : Uberblock) → SpellsSlot slot bytes v → v ≡ u)
 IsReading slot bytes None = (u : Uberblock) → ¬ SpellsSlot slot bytes u
+
+-- the bytes of a whole slot, and what they say
+abbrev pub IsSlotRead : ℕ → List ℕ → Option Uberblock → Type 0
+IsSlotRead slot bytes found = (length bytes ≡ 1024) × IsReading slot bytes found
 
 -- one read of a disk's slot i, and what it says; or it failed
 abbrev pub ReadsSlot : Disks → Disks → ℕ → ℕ → Result (Option Uberblock) DiskError → Type 0
-ReadsSlot old new which i (Ok found) = (bytes : List ℕ) × (new.calls ≡ on which (Read (nth_slot_at (size_of old which) i) bytes) ∷ old.calls) × IsReading (i % 128) bytes found
+ReadsSlot old new which i (Ok found) = (bytes : List ℕ) × (new.calls ≡ on which (Read (nth_slot_at (size_of old which) i) bytes) ∷ old.calls) × IsSlotRead (i % 128) bytes found
 ReadsSlot old new which i (Err fault) = new.calls ≡ on which (FailedRead (nth_slot_at (size_of old which) i) 1024) ∷ old.calls
 
 -- the reads of the first n slots of a disk of this size, the last one first, by the bytes that each gave
@@ -33,7 +37,7 @@ slot_reads which size bytes (suc n) = on which (Read (nth_slot_at size n) (bytes
 pub record HasRead (old new : Disks) (which n : ℕ) (found : List (Option Uberblock)) : Type 0 where
   pub bytes : ℕ → List ℕ
   pub calls : new.calls ≡ slot_reads which (size_of old which) bytes n ++ old.calls
-  pub each : (i : ℕ) → i < n → IsReading (i % 128) (bytes i) (get_or found i None)
+  pub each : (i : ℕ) → i < n → IsSlotRead (i % 128) (bytes i) (get_or found i None)
 
 -- since the old state the first n slots of that disk were read, in order, and the read of the next one failed
 pub record HasFailedAt (old new : Disks) (which n : ℕ) : Type 0 where

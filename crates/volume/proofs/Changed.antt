@@ -51,7 +51,7 @@ id_more ids before new first id le is so_far x = (
         ⊎_elim (λ lt. Contains-append_left ids (id ∷ []) x ((so_far x).1 (inr (range.0, lt))))
         (λ ge. let same : id ≡ x = omega (arith, range.1) in subst (λ (y : ℕ). Contains (ids ++ id ∷ []) y) same (Contains-push ids id)) (cases_lt x id)
 
-Any-push_cases : {X : Type 0} (P : X → Type 0) (xs : List X) (y : X) → Any P (xs ++ y ∷ []) → Any P xs ⊎ P y
+pub Any-push_cases : {X : Type 0} (P : X → Type 0) (xs : List X) (y : X) → Any P (xs ++ y ∷ []) → Any P xs ⊎ P y
 Any-push_cases P xs y any =
     ⊎_elim (λ old. inl (old.0, any.1, old.1, old.2, any.4)) (λ same. inr (subst P (sym same) any.4)) (Contains-push_cases xs y any.1 (any.0, any.2, any.3))
 

@@ -8,8 +8,8 @@ use Rattle.std.proofs.lemmas.List.Elements.{All-push, Contains-get_or}
 use Rattle.std.proofs.lemmas.List.Kept.{AllPairs-from_increasing}
 use Rattle.pool_model.specs.declared.item.Write.{Write}
 use Rattle.pool_model.specs.declared.volume.PlainVolume.{PlainVolume}
-use Rattle.pool_now.specs.Overlay.{after_writes}
-use Rattle.pool_now.proofs.Overlays.{length_after_writes}
+use Rattle.volume_rules.specs.Overlay.{after_writes}
+use Rattle.volume_rules.proofs.Overlays.{length_after_writes}
 use Rattle.raidz_io.proofs.Calls.{Contains-cases}
 use Rattle.dnode_tree.specs.declared.writes.BlockWrite.{BlockWrite}
 use Rattle.dnode_tree.specs.Writes.{AreInOrder}

@@ -1,7 +1,7 @@
 -- Writes laid over a block.
 use Rattle.std.proofs.Common.{◌≡◌, ℕ, ◌+◌, ◌*◌, List, length, sym, ap, ◌∙◌, arith}
 use Rattle.std.specs.Prelude.{slice_range}
-use Rattle.pool_now.specs.Overlay.{HasRange}
+use Rattle.volume_rules.specs.Overlay.{HasRange}
 use Rattle.volume.specs.Volume.{part}
 
 -- a buffer that had a block of the old bytes has that block of the new ones

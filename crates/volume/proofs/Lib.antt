@@ -1,5 +1,6 @@
 pub mod BlockData
 mod Changed
+mod Covering
 pub mod Demanding
 mod Dividing
 pub mod Ids

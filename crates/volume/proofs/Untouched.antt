@@ -9,11 +9,11 @@ use Rattle.pool_model.specs.declared.item.Write.{Write}
 use Rattle.pool_model.specs.declared.volume.PlainVolume.{PlainVolume}
 use Rattle.pool_model.specs.Names.{same, stored}
 use Rattle.pool_model.specs.Pools.{volume_after}
-use Rattle.pool_now.specs.declared.shape.VolumeShape.{VolumeShape}
-use Rattle.pool_now.specs.Overlay.{after_writes}
+use Rattle.volume_rules.specs.declared.shape.VolumeShape.{VolumeShape}
+use Rattle.volume_rules.specs.Overlay.{after_writes}
 use Rattle.pool_model.proofs.Places.{same_is, name_after}
-use Rattle.pool_now.proofs.Ranges.{untouched}
-use Rattle.pool_now.proofs.Volumes.{shape_after}
+use Rattle.volume_rules.proofs.Ranges.{untouched}
+use Rattle.volume_rules.proofs.Volumes.{shape_after}
 use Rattle.raidz_io.proofs.Calls.{Contains-front, Contains-later, Contains-cases}
 use Rattle.volume.specs.declared.volume.VolumeSet.{VolumeSet}
 use Rattle.volume.specs.Volume.{part}

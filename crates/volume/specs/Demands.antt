@@ -19,7 +19,7 @@ use Rattle.volume.specs.declared.volume.VolumeSet.{VolumeSet}
 use Rattle.volume.specs.declared.writing.GroupWrites.{GroupWrites}
 use Rattle.volume.specs.Placing.{copies_of_datasets, data_change}
 use Rattle.volume.specs.Reading.{IsReadRefused, IsVolumeFound, IsVolumeRefused}
-use Rattle.volume.specs.Writing.{AreBlocksOf, HasId, IsChanged}
+use Rattle.volume.specs.Writing.{AreBlocksOf, HasId, IsChanged, NeedsOldBytes}
 
 -- the block of an object set: 2 sectors, two copies
 abbrev pub demand_of_set : Demand
@@ -104,12 +104,12 @@ pub record IsChangeUnplaced (old new : Store) (volume : VolumeSet) (birth : ℕ)
   pub before : OnlyReadsBlocks old mid []
   pub why : IsPlacingRefused mid new volume birth blocks refusal
 
--- why a group's writes were not put: a block that they change was not read, or they were not
--- placed
+-- why a group's writes were not put: a block whose old bytes they need was not read, or they were
+-- not placed
 abbrev pub IsWritingRefused :
     Store → Store → VolumeSet → ℕ → ℕ → GroupWrites → Refusal → Type 0
 IsWritingRefused old new volume birth_before birth changes refusal =
     (refusal ≡ NoMemory)
     ⊎ (IsReadRefused old new [] volume birth_before
-    (IsChanged volume changes.name.now changes.writes.now) refusal
+    (NeedsOldBytes volume changes.name.now changes.writes.now) refusal
     ⊎ IsChangeUnplaced old new volume birth changes refusal)

@@ -17,7 +17,7 @@ use Rattle.volume.specs.declared.writing.GroupWrites.{GroupWrites}
 use Rattle.volume.specs.Demands.{IsPlacingRefused, IsPlanRefused, IsWritingRefused}
 use Rattle.volume.specs.Reading.{IsReadRefused, LiesIn}
 use Rattle.volume.specs.Volume.{IsVolume}
-use Rattle.volume.specs.Writing.{IsChanged}
+use Rattle.volume.specs.Writing.{NeedsOldBytes}
 
 -- a block of the volume: that of the object set, or one of the dnodes or of the data
 abbrev pub IsOfVolume : Block → List Block → (ℕ → List Block) → Block → Type 0
@@ -38,8 +38,8 @@ VolumesStay =
     (old new : Contents) (bound birth : ℕ) (set_block : Block) (size block_size : ℕ) (array : List ℕ) → bound ≤ birth → Extends old new
     → IsVolume old bound set_block size block_size array → IsVolume new birth set_block size block_size array
 
--- A block is lost where a fault of disks refuses a read of a range, or of the blocks that writes
--- change; a plan that changes a set's object 1; the placing of blocks; or the writes of a group.
+-- A block is lost where a fault of disks refuses a read of a range, or of the blocks whose old bytes
+-- writes need; a plan that changes a set's object 1; the placing of blocks; or the writes of a group.
 pub record LossesOfVolumes : Type 0 where
   pub ranges : (old new : Store) (missing : List ℕ) (volume : VolumeSet) (birth offset end : ℕ)
       (refusal : Refusal)
@@ -47,7 +47,7 @@ pub record LossesOfVolumes : Type 0 where
       → refusal ≡ DiskFault → IsBlockLost old new missing
   pub changed : (old new : Store) (missing : List ℕ) (volume : VolumeSet) (birth : ℕ)
       (name : List ℕ) (writes : List Write) (refusal : Refusal)
-      → IsReadRefused old new missing volume birth (IsChanged volume name writes) refusal
+      → IsReadRefused old new missing volume birth (NeedsOldBytes volume name writes) refusal
       → refusal ≡ DiskFault → IsBlockLost old new missing
   pub plans : (old new : Store) (set : ObjectSet) (birth : ℕ) (change : Change) (refusal : Refusal)
       → IsPlanRefused old new set birth change refusal

@@ -17,6 +17,23 @@ pub record Reaches (size block_size : ℕ) (write : Write) (id : ℕ) : Type 0 w
 abbrev pub IsChanged : VolumeSet → List ℕ → List Write → ℕ → Type 0
 IsChanged volume name writes id = Any (λ write. (write.volume ≡ name) × Reaches volume.size volume.block_size write id) writes
 
+-- the write lies within a volume of that size, and has every byte of the block of that id
+pub record Covers (size block_size : ℕ) (write : Write) (id : ℕ) : Type 0 where
+  pub within : write.offset + length write.bytes ≤ size
+  pub some : 0 < length write.bytes
+  pub begins : write.offset ≤ id * block_size
+  pub ends : id * block_size + block_size ≤ write.offset + length write.bytes
+
+-- one of the writes to the volume of that name has every byte of the block
+abbrev pub IsCovered : VolumeSet → List ℕ → List Write → ℕ → Type 0
+IsCovered volume name writes id =
+    Any (λ write. (write.volume ≡ name) × Covers volume.size volume.block_size write id) writes
+
+-- the writes change the block, and none of them has every byte of it
+abbrev pub NeedsOldBytes : VolumeSet → List ℕ → List Write → ℕ → Type 0
+NeedsOldBytes volume name writes id =
+    IsChanged volume name writes id × ¬ IsCovered volume name writes id
+
 -- one of the blocks has that id
 abbrev pub HasId : List BlockWrite → ℕ → Type 0
 HasId blocks id = Any (λ block. block.id ≡ id) blocks

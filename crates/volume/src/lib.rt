@@ -2,6 +2,7 @@
 //! after them.
 #![tactic(auto)]
 
+mod covered;
 mod creating;
 mod laws;
 mod opening;

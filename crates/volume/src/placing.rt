@@ -17,7 +17,7 @@ ghost use Rattle.volume.specs.Placing.{copies_of_datasets, IsPlaced, IsSetPlanne
 ghost use Rattle.volume.specs.Volume.{size_of, block_size_of, block_of, HasData, HasShape, Spells};
 ghost use Rattle.volume.specs.Writing.{AreBlocksOf, IsArrayWith, IsChanged};
 ghost use Rattle.pool_model.specs.declared.volume.PlainVolume.{PlainVolume};
-ghost use Rattle.pool_now.specs.Overlay.{after_writes};
+ghost use Rattle.volume_rules.specs.Overlay.{after_writes};
 
 use crate::volume::{DATA, VolumeSet};
 use crate::writing::GroupWrites;

@@ -2,16 +2,17 @@
 ghost use Rattle.std.specs.Prelude.{◌≡◌, ◌≢◌, ◌⊎◌, ◌↔◌, ◌/◌, ◌<◌, ◌++◌, ◌∷◌, [], ℕ, List, IfOk, IfErr, OnOk, length, map, Option, Contains, All};
 ghost use Rattle.std.specs.List.Sorted.{IsStrictlyIncreasing};
 ghost use Rattle.pool_model.specs.declared.volume.PlainVolume.{PlainVolume};
-ghost use Rattle.pool_now.specs.Overlay.{after_writes};
+ghost use Rattle.volume_rules.specs.Overlay.{after_writes};
 ghost use Rattle.block_store.specs.Blocks.{Contents};
 ghost use Rattle.block_store.specs.Losses.{IsForLoss};
 ghost use Rattle.block_store.specs.Steps.{OnlyReadsBlocks, AnswersAreTrue};
 ghost use Rattle.block_store.specs.Store.{Holds};
+ghost use Rattle.dnode.specs.declared.object_set.ObjectSet.{ObjectSet};
 ghost use Rattle.dnode.specs.ObjectSet.{FitsObjectSet};
 ghost use Rattle.dnode_tree.specs.declared.writes.BlockWrite.{BlockWrite};
-ghost use Rattle.volume.specs.Reading.{IsBlockRefused, IsFound, IsReadRefused, IsUnread, IsWayRead};
+ghost use Rattle.volume.specs.Reading.{IsBlockRefused, IsFound, IsReadRefused, IsUnread, IsVolumeFound, IsWayRead};
 ghost use Rattle.volume.specs.Volume.{size_of, block_size_of, block_of, part, HasData, Spells};
-ghost use Rattle.volume.specs.Writing.{Reaches, IsChanged, HasId, AreBlocksOf, IsArrayWith};
+ghost use Rattle.volume.specs.Writing.{Reaches, IsChanged, IsCovered, NeedsOldBytes, HasId, AreBlocksOf, IsArrayWith};
 
 use crate::volume::VolumeSet;
 use block_store::{BlockStore, Refusal};
@@ -19,8 +20,8 @@ use dnode::ObjectSet;
 use dnode_tree::BlockWrite;
 use model_disk::Disk;
 use pool_model::{Name, Write};
-use pool_now::lay_over;
 use std::alloc::{AllocError, Global};
+use volume_rules::lay_over;
 
 /// What a group writes, and the name of a volume. Writes to other volumes don't count.
 #[derive(Clone, Copy, Debug)]
@@ -31,8 +32,8 @@ pub struct GroupWrites<'a> {
 
 impl VolumeSet {
     /// The blocks that writes change, whole, in the order of their ids. It only reads: the object set, as `read` does, and the
-    /// way to each of these blocks; nothing where no block is changed. The set's block was born in the transaction group
-    /// `birth` or before. `BadPointer` where the set spells no volume there, as in `read`.
+    /// way to each of these blocks of which no write has every byte; nothing where no block is changed. The set's block was born
+    /// in the transaction group `birth` or before. `BadPointer` where the set spells no volume there, as in `read`.
     pub fn changed_blocks<D: Disk + Drop>(
         &self,
         store: &mut BlockStore<D>,
@@ -55,12 +56,16 @@ impl VolumeSet {
             → IsArrayWith volume.bytes (block_size_of self.now) blocks.items
             (after_writes volume changes.now.writes.now).bytes) }
 
-        // Whatever the volume is: what was read, and on a refusal its cause.
-        ensures found { IfOk result (λ blocks.
-            All (λ block. IsWayRead store.old.spaces self.now birth block.id) blocks.items) }
+        // Whatever the volume is: what was read, and on a refusal its cause. The set is judged
+        // where any block is changed, and a block that one of the writes covers refuses nothing.
+        ensures judged { IfOk result (λ blocks. blocks.items ≢ []
+            → (set : ObjectSet) × IsVolumeFound store.old.spaces self.now birth set) }
+        ensures found { IfOk result (λ blocks. All (λ block.
+            ¬ IsCovered self.now changes.now.name.now changes.now.writes.now block.id
+            → IsWayRead store.old.spaces self.now birth block.id) blocks.items) }
         ensures refused { IfErr result (λ refusal. (refusal ≡ Refusal.NoMemory)
             ⊎ IsReadRefused store.old store.new [] self.now birth
-            (IsChanged self.now changes.now.name.now changes.now.writes.now) refusal) }
+            (NeedsOldBytes self.now changes.now.name.now changes.now.writes.now) refusal) }
         ensures cause { IfErr result (λ refusal. refusal ≢ Refusal.NoSpace) }
 
         // And they are read, over disks that answer truly, unless too many disks miss of a block.
@@ -99,10 +104,15 @@ impl VolumeSet {
             → All (λ block. block.bytes.items ≡ part
             (after_writes volume changes.now.writes.now).bytes
             (block_size_of self.now) block.id) blocks.items) }
-        ensures found { IfOk result (λ blocks. All (λ block. (found : Option (List ℕ))
+        ensures found { IfOk result (λ blocks. All (λ block.
+            ¬ IsCovered self.now changes.now.name.now changes.now.writes.now block.id
+            → (found : Option (List ℕ))
             × IsFound store.old.spaces self.now set.now block.id found) blocks.items) }
+        ensures unread { All (IsCovered self.now changes.now.name.now changes.now.writes.now) ids.now
+            → store.new ≡ store.old }
         ensures refused { IfErr result (λ refusal. (refusal ≡ Refusal.NoMemory)
-            ⊎ IsUnread store.old store.new [] self.now set.now (Contains ids.now) refusal) }
+            ⊎ IsUnread store.old store.new [] self.now set.now (λ id. Contains ids.now id
+            × ¬ IsCovered self.now changes.now.name.now changes.now.writes.now id) refusal) }
         ensures cause { IfErr result (λ refusal. refusal ≢ Refusal.NoSpace) }
         ensures known { IfErr result (λ refusal. (stored : Contents) (array : List ℕ)
             → Holds store.old stored → HasData stored (block_of self.now).birth set.now
@@ -117,7 +127,7 @@ impl VolumeSet {
         Ok(blocks)
     }
 
-    /// A block after the writes.
+    /// A block after the writes. Where one of them covers it, its bytes before are not read.
     fn changed_block<D: Disk + Drop>(
         &self,
         set: &ObjectSet,
@@ -137,17 +147,42 @@ impl VolumeSet {
             (block_size_of self.now) volume.bytes → AnswersAreTrue store.old store.new
             → block.bytes.items ≡ part (after_writes volume changes.now.writes.now).bytes
             (block_size_of self.now) block.id) }
-        ensures found { IfOk result (λ block. (found : Option (List ℕ))
+        ensures found { IfOk result (λ block.
+            ¬ IsCovered self.now changes.now.name.now changes.now.writes.now block.id
+            → (found : Option (List ℕ))
             × IsFound store.old.spaces self.now set.now block.id found) }
+        ensures unread { IsCovered self.now changes.now.name.now changes.now.writes.now id
+            → store.new ≡ store.old }
         ensures refused { IfErr result (λ refusal. (refusal ≡ Refusal.NoMemory)
-            ⊎ IsBlockRefused store.old store.new [] self.now set.now id refusal) }
+            ⊎ ((¬ IsCovered self.now changes.now.name.now changes.now.writes.now id)
+            × IsBlockRefused store.old store.new [] self.now set.now id refusal)) }
         ensures cause { IfErr result (λ refusal. refusal ≢ Refusal.NoSpace) }
         ensures known { IfErr result (λ refusal. (stored : Contents) (array : List ℕ)
             → Holds store.old stored → HasData stored (block_of self.now).birth set.now
             (size_of self.now) (block_size_of self.now) array → AnswersAreTrue store.old store.new
             → IsForLoss refusal) }
     {
-        let mut bytes = self.block_bytes(set, store, alloc, id, &[])?;
+        if self.is_covered(changes, id) {
+            let zeros = vec![in alloc; 0; self.block_size() as usize]?;
+            return Ok(self.laid(changes, id, zeros));
+        }
+        let old = self.block_bytes(set, store, alloc, id, &[])?;
+        Ok(self.laid(changes, id, old))
+    }
+
+    /// A block of these bytes with the writes laid over it.
+    fn laid(&self, changes: &GroupWrites, id: u64, under: Vec<u8>) -> BlockWrite
+        requires id { id < size_of self.now / block_size_of self.now }
+        requires len { length under.items ≡ block_size_of self.now }
+        ensures id { result.id ≡ id }
+        ensures len { length result.bytes.items ≡ block_size_of self.now }
+        ensures value { (volume : PlainVolume) → volume.name ≡ changes.now.name.now
+            → length volume.bytes ≡ size_of self.now
+            → under.items ≡ part volume.bytes (block_size_of self.now) id
+            → result.bytes.items ≡ part (after_writes volume changes.now.writes.now).bytes
+            (block_size_of self.now) id }
+    {
+        let mut bytes = under;
         let offset = id * self.block_size();
         lay_over(
             changes.writes,
@@ -156,7 +191,7 @@ impl VolumeSet {
             offset,
             bytes.as_mut_slice(),
         );
-        Ok(BlockWrite { id, bytes })
+        BlockWrite { id, bytes }
     }
 
     /// The ids of the blocks that writes to the volume reach, in order.

@@ -19,6 +19,8 @@ returns-clause-found g c =
       name = c.new-name.result;
       named = subst (IsNamed c.args.row.now.name) (sym c.in_ok-from_slice.ensures.items ∙ sym c.new-name.ensures) c.unpadded.ensures;
       which = both.1.0;
-      read = both.1.1;
+      judged = both.1.1.0;
+      read = both.1.1.1;
     })
-    (ok_both c.changed_blocks.result _ _ c.changed_blocks.ensures.blocks (ok_both c.changed_blocks.result _ _ c.changed_blocks.ensures.changed c.changed_blocks.ensures.found))
+    (ok_both c.changed_blocks.result _ _ c.changed_blocks.ensures.blocks
+    (ok_both c.changed_blocks.result _ _ c.changed_blocks.ensures.changed (ok_both c.changed_blocks.result _ _ c.changed_blocks.ensures.judged c.changed_blocks.ensures.found)))

@@ -4,7 +4,7 @@ use Rattle.volume.specs.declared.volume.VolumeSet.{VolumeSet}
 use Rattle.meta_objset.specs.declared.record.DatasetRecord.{DatasetRecord}
 use Rattle.block_pointer.specs.declared.block.Block.{Block}
 use Rattle.block_pointer.specs.Block.{FitsBlock}
-use Rattle.pool_now.specs.Overlay.{after_writes}
+use Rattle.volume_rules.specs.Overlay.{after_writes}
 use Rattle.volume.specs.Writing.{IsArrayWith}
 use Rattle.dataset_snapshots.proofs.Asking.{volume_places}
 use Rattle.dataset_snapshots.proofs.Datasets.{has_dataset}

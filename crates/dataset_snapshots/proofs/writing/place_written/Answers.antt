@@ -5,7 +5,7 @@ use Rattle.block_store.proofs.Steps.{steps_none, steps_on, true_before, true_aft
 use Rattle.dnode_tree.proofs.Refusing.{passed_on}
 use Rattle.objset.specs.declared.changes.ObjectChange.{ObjectChange}
 use Rattle.objset.specs.Changes.{IsGoodChange}
-use Rattle.pool_now.specs.Overlay.{after_writes}
+use Rattle.volume_rules.specs.Overlay.{after_writes}
 use Rattle.txg_pipeline.proofs.Running.{drops_nothing}
 use Rattle.dataset_snapshots.specs.declared.writing.WrittenVolume.{WrittenVolume}
 use Rattle.dataset_snapshots.specs.Demands.{HavePlacesFor, HasVolumeDemands, WritesRecord}

@@ -3,7 +3,7 @@ use Rattle.block_store.proofs.Steps.{reads_on}
 use Rattle.dnode_tree.proofs.FurtherReads.{true_before, true_after}
 use Rattle.dnode_tree.proofs.Refusing.{passed_on}
 use Rattle.meta_objset.specs.declared.record.DatasetRecord.{DatasetRecord}
-use Rattle.pool_now.specs.Overlay.{after_writes}
+use Rattle.volume_rules.specs.Overlay.{after_writes}
 use Rattle.volume.specs.Writing.{IsArrayWith}
 use Rattle.dataset_snapshots.proofs.Datasets.{has_dataset}
 use Rattle.dataset_snapshots.proofs.Opening.{blocks_refused, record_refused}

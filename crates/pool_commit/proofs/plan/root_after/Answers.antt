@@ -1,7 +1,6 @@
-use Rattle.std.proofs.Common.{ℕ, ◌≡◌, ◌-◌, Option, Some, None, sym, subst}
+use Rattle.std.proofs.Common.{◌≡◌, ◌-◌, Option, sym, subst}
 use Rattle.std.proofs.lemmas.Result.{IfOk-weaker, IfErr-weaker}
 use Rattle.block_pointer.specs.declared.block.Block.{Block}
-use Rattle.block_store.specs.Blocks.{Contents}
 use Rattle.dataset_snapshots.proofs.GoodNames.{good_changes_may_be_made}
 use Rattle.dataset_snapshots.specs.Pools.{SpellsPool}
 use Rattle.pool_model.specs.Pools.{PlainPool, applied, no_volumes}

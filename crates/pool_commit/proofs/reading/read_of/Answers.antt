@@ -1,7 +1,5 @@
-use Rattle.std.proofs.Common.{◌+◌, ◌≤◌, ◌≡◌, ⊎_elim, inl, inr, sym, ap, subst, rules, ◌∙◌, Option, Some, None, List, ℕ, length, arith}
-use Rattle.pool_model.specs.declared.volume.PlainVolume.{PlainVolume}
+use Rattle.std.proofs.Common.{⊎_elim, inl, inr, sym, ap, subst, ◌∙◌}
 use Rattle.pool_model.specs.Refusals.{read_refusal}
-use Rattle.pool_now.specs.Shapes.{shape_of}
 use Rattle.pool_commit.specs.Reading.{IsFaultIn}
 use Rattle.pool_commit.proofs.Backing.{root_spelled}
 use Rattle.pool_commit.proofs.Refusing.{no_fault_in_memory, no_fault_of_memory, read_faults}

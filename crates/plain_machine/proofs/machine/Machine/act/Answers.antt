@@ -1,9 +1,10 @@
-use Rattle.std.proofs.Common.{refl, sym, ◌∙◌, subst}
+use Rattle.std.proofs.Common.{refl, sym, ap, ◌∙◌, subst}
 use Rattle.pool_model.specs.declared.refusal.Refusal.{Refusal as Cause}
 use Rattle.pool_model.specs.declared.step.Step.TheVariants.{Act}
 use Rattle.pool_model.specs.declared.step.Reply.TheVariants.{Refused}
 use Rattle.pool_model.specs.Flow.{flow_of}
 use Rattle.pool_model.specs.Machine.{StepOf}
+use Rattle.volume_rules.specs.Shapes.{shape_at}
 use Rattle.plain_machine.proofs.Judging.{act_barred, act_late, act_placed}
 use Rattle.plain_machine.proofs.Stepping.{refuses, lacks, acted, refused, act_refused}
 use Rattle.pool_model.specs.View.{nothing_given}
@@ -20,12 +21,12 @@ returns-in_default c = λ v r. (v, lacks v (Act c.args.action) refl, r)
 
 pub returns-in-Some : goal.returns-in-Some
 returns-in-Some c = λ v r.
-    let cause = act_placed v c.args.action c.in-Ok.group c.in-Ok-now.now r.vdevs (c.in-Ok.ensures.ok (flow_of v) r.flow) (c.if-group-open_group.false ∙ c.open_group.ensures (flow_of v) r.flow) (c.in-Ok-now.ensures v r) ∙ sym c.against_change.ensures in
+    let cause = act_placed v c.args.action c.in-Ok.group c.in-Ok-now.now r.vdevs (c.in-Ok.ensures.ok (flow_of v) r.flow) (c.if-group-open_group.false ∙ c.open_group.ensures (flow_of v) r.flow) (c.in-Ok-now.ensures v r) ∙ sym (c.against_change.ensures c.in-Ok-now.now (c.shape.ensures ∙ ap (λ name. shape_at name c.in-Ok-now.now) c.name.ensures)) in
     (v, refuses v (Act c.args.action) _ (cause ∙ c.in-Some.is), r)
 
 pub returns-in-Ok-accept : goal.returns-in-Ok-accept
 returns-in-Ok-accept c = λ v r.
-    let cause = act_placed v c.args.action c.in-Ok.group c.in-Ok-now.now r.vdevs (c.in-Ok.ensures.ok (flow_of v) r.flow) (c.if-group-open_group.false ∙ c.open_group.ensures (flow_of v) r.flow) (c.in-Ok-now.ensures v r) ∙ sym c.against_change.ensures in
+    let cause = act_placed v c.args.action c.in-Ok.group c.in-Ok-now.now r.vdevs (c.in-Ok.ensures.ok (flow_of v) r.flow) (c.if-group-open_group.false ∙ c.open_group.ensures (flow_of v) r.flow) (c.in-Ok-now.ensures v r) ∙ sym (c.against_change.ensures c.in-Ok-now.now (c.shape.ensures ∙ ap (λ name. shape_at name c.in-Ok-now.now) c.name.ensures)) in
     acted c.args.self.now _ v c.args.action _ r (cause ∙ c.in-None.is) c.in-Ok-accept.ensures.accepted
 
 pub returns : goal.returns

@@ -11,12 +11,12 @@ pub loop-index-preserved : goal.loop-index-preserved
 loop-index-preserved g c =
     let vdevs : List Vdev = vdevs_of c.args.self.now.store.spaces in
     let items = c.in_ok-add_in_use.ensures in (
-      items ∙ ap (λ ds. ds ++ filter (λ disk. not (is_out c.args.self.now.store.out disk)) (counted c.vdev.result.first c.vdev.result.geometry.children)) c.loop-index.invariant.0
-          ∙ sym (in_use_more vdevs c.loop-index.index (shown c.vdev.result) (λ disk. not (is_out c.args.self.now.store.out disk)) c.vdev.ensures.there)
+      items ∙ ap (λ ds. ds ++ filter (λ disk. not (is_out c.args.self.now.store.out disk)) (counted c.vdev_at.result.first c.vdev_at.result.geometry.children)) c.loop-index.invariant.0
+          ∙ sym (in_use_more vdevs c.loop-index.index (shown c.vdev_at.result) (λ disk. not (is_out c.args.self.now.store.out disk)) c.vdev_at.ensures.there)
           ∙ ap (λ n. filter (λ disk. not (is_out c.args.self.now.store.out disk)) (disks_of (take n vdevs))) (suc_is c.loop-index.index),
-      λ disk held. elim (Contains-append_cases c.loop-index.disks.items (filter (λ disk. not (is_out c.args.self.now.store.out disk)) (counted c.vdev.result.first c.vdev.result.geometry.children)) disk
+      λ disk held. elim (Contains-append_cases c.loop-index.disks.items (filter (λ disk. not (is_out c.args.self.now.store.out disk)) (counted c.vdev_at.result.first c.vdev_at.result.geometry.children)) disk
           (subst (λ (ds : List ℕ). Contains ds disk) items held)) [
             | inl before ↦ c.loop-index.invariant.1 disk before
-            | inr here ↦ kept_below (λ disk. not (is_out c.args.self.now.store.out disk)) c.vdev.result.first c.vdev.result.geometry.children (length c.args.self.now.store.disks.starts) disk c.vdev.ensures.disks here
+            | inr here ↦ kept_below (λ disk. not (is_out c.args.self.now.store.out disk)) c.vdev_at.result.first c.vdev_at.result.geometry.children (length c.args.self.now.store.disks.starts) disk c.vdev_at.ensures.disks here
           ],
     )

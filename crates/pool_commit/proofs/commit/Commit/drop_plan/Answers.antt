@@ -1,9 +1,11 @@
-use Rattle.std.proofs.Common.{sym, subst, length}
+use Rattle.std.proofs.Common.{sym, ◌∙◌, subst, length}
 use Rattle.model_disk.specs.Joint.{Disks}
 use Rattle.pool_commit.specs.HasDisks.{HasDisks}
+use Rattle.pool_commit.proofs.Suspending.{still}
 use Rattle.pool_commit.proofs.commit.Commit.drop_plan.Goals as goal
 
 pub invariant_of-self : goal.invariant_of-self
 invariant_of-self g c = record {
   disks = subst (λ (d : Disks). HasDisks (length d.starts) c.args.self.now.planned) (sym c.begin_plan.ensures.disks) c.args.self.now.disks;
+  suspension = c.args.self.now.suspension ∙ still c.args.self.now.store c.begin_plan.new.self c.begin_plan.ensures.out c.begin_plan.ensures.shapes;
 }

@@ -1,6 +1,6 @@
 use Rattle.std.proofs.Common.{ap, subst, sym}
 use Rattle.pool_model.specs.Pools.{no_volumes}
-use Rattle.pool_now.specs.Index.{Knows}
+use Rattle.volume_rules.specs.Index.{Knows}
 use Rattle.pool_commit.specs.declared.kept.KeptGroup.{KeptGroup}
 use Rattle.pool_commit.proofs.Starting.{starts}
 use Rattle.pool_commit.proofs.commit.Commit.new.Goals as goal

@@ -13,6 +13,7 @@ use Rattle.pool_commit.specs.StateOf.{state_of}
 use Rattle.pool_commit.proofs.Backing.{last_spelled}
 use Rattle.pool_commit.proofs.Planning.{is_begun, untouched_since, at_error, backs_begun, backs_still, unplanned_still, plan_is_backed}
 use Rattle.pool_commit.proofs.Refusing.{no_config, only_room, plan_faults}
+use Rattle.pool_commit.proofs.Suspending.{still}
 use Rattle.pool_commit.proofs.Unread.{lost_for_plan}
 use Rattle.pool_commit.proofs.commit.Commit.plan.Given as given
 use Rattle.pool_commit.proofs.commit.Commit.plan.Goals as goal
@@ -25,6 +26,10 @@ invariant_of-self-in-Ok g c = record {
       let below = c.in_ok-flushes.ensures.there disk (subst (λ (p : Planned). Contains p.flushes.items disk) (sym same) held) in
       let starts = ap (λ (starts : List (List ℕ)). length starts) c.in-Ok.ensures.steps.reads.starts in
       omega arith;
+  suspension =
+      c.args.self.now.suspension
+      ∙ still c.args.self.now.store c.begin_plan.new.self c.begin_plan.ensures.out c.begin_plan.ensures.shapes
+      ∙ still c.begin_plan.new.self c.group_after.new.store c.in-Ok.ensures.steps.out c.in-Ok.ensures.steps.shapes;
 }
 
 pub returns-in-Ok-clause-planned : goal.returns-in-Ok-clause-planned

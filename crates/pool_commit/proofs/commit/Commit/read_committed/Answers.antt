@@ -1,10 +1,12 @@
 use Rattle.std.proofs.Common.{◌≡◌, ⊎_elim, inl, inr, sym, ap, ◌∙◌, subst, rules, arith, ℕ, List, [], length}
 use Rattle.std.specs.Prelude.{replicate}
 use Rattle.std.proofs.lemmas.Result.{IfErr-weaker}
-use Rattle.pool_now.specs.Overlay.{base_of, HasRange}
+use Rattle.volume_rules.specs.Overlay.{base_of, HasRange}
 use Rattle.raidz_io.proofs.Written.{IfOk-both}
 use Rattle.pool_commit.specs.declared.kept.KeptGroup.{KeptGroup}
 use Rattle.pool_commit.specs.Backs.{SpellsGroup}
+use Rattle.block_store.specs.Places.{shapes_of}
+use Rattle.block_store.specs.Store.{Store}
 use Rattle.pool_commit.specs.HasDisks.{HasDisks}
 use Rattle.pool_commit.specs.Reading.{IsUnreadOf}
 use Rattle.pool_commit.specs.State.{group_at}
@@ -12,12 +14,16 @@ use Rattle.pool_commit.specs.StateOf.{state_of}
 use Rattle.pool_commit.proofs.Backing.{last_at, last_spelled, only_reads}
 use Rattle.pool_commit.proofs.ReadCauses.{no_read_cause}
 use Rattle.pool_commit.proofs.ReadingBase.{zeros_lie_under, base_lies_under, no_base_cause}
+use Rattle.pool_commit.proofs.Suspending.{still}
 use Rattle.pool_commit.proofs.Unread.{lost_under}
 use Rattle.pool_commit.proofs.commit.Commit.read_committed.Goals as goal
 
 pub invariant_of-self-2 : goal.invariant_of-self-2
 invariant_of-self-2 g c = record {
   disks = subst (λ (count : ℕ). HasDisks count c.args.self.now.planned) (sym (ap (λ (starts : List (List ℕ)). length starts) c.read_of.ensures.reads.reads.starts)) c.args.self.now.disks;
+  suspension =
+      c.args.self.now.suspension
+      ∙ still c.args.self.now.store c.read_of.new.store (ap (λ (s : Store). s.out) c.read_of.ensures.reads.rest) (ap (λ (s : Store). shapes_of s.spaces) c.read_of.ensures.reads.rest);
 }
 
 pub returns-then-shape-committed-clause-bytes : goal.returns-then-shape-committed-clause-bytes

@@ -1,15 +1,21 @@
 use Rattle.std.proofs.Common.{⊎_elim, inl, inr, sym, ap, ◌∙◌, subst, rules, ℕ, List, length}
 use Rattle.std.proofs.lemmas.Result.{IfOk-weaker, IfErr-weaker}
+use Rattle.block_store.specs.Places.{shapes_of}
+use Rattle.block_store.specs.Store.{Store}
 use Rattle.pool_commit.specs.HasDisks.{HasDisks}
 use Rattle.pool_commit.specs.StateOf.{state_of}
 use Rattle.pool_commit.proofs.Backing.{kept_spelled, only_reads}
 use Rattle.pool_commit.proofs.ReadCauses.{under_kept, under_cause}
+use Rattle.pool_commit.proofs.Suspending.{still}
 use Rattle.pool_commit.proofs.Unread.{lost_under}
 use Rattle.pool_commit.proofs.commit.Commit.read_under.Goals as goal
 
 pub invariant_of-self-2 : goal.invariant_of-self-2
 invariant_of-self-2 g c = record {
   disks = subst (λ (count : ℕ). HasDisks count c.args.self.now.planned) (sym (ap (λ (starts : List (List ℕ)). length starts) c.read_of.ensures.reads.reads.starts)) c.args.self.now.disks;
+  suspension =
+      c.args.self.now.suspension
+      ∙ still c.args.self.now.store c.read_of.new.store (ap (λ (s : Store). s.out) c.read_of.ensures.reads.rest) (ap (λ (s : Store). shapes_of s.spaces) c.read_of.ensures.reads.rest);
 }
 
 pub returns-clause-reads : goal.returns-clause-reads

@@ -1,4 +1,4 @@
-use Rattle.std.proofs.Common.{inl, List, ℕ, Option, Some, min, refl, sym, ◌∙◌, subst, length}
+use Rattle.std.proofs.Common.{◌≡◌, inl, List, ℕ, Option, Some, None, min, refl, sym, ap, ◌∙◌, subst, length}
 use Rattle.pool_commit.specs.declared.device.Progress.{Progress}
 use Rattle.pool_commit.specs.declared.kept.Planned.{Planned}
 use Rattle.pool_commit.specs.HasDisks.{HasDisks}
@@ -8,8 +8,18 @@ use Rattle.pool_commit.specs.Backs.{left_calls}
 use Rattle.pool_commit.specs.State.{State}
 use Rattle.pool_commit.specs.StateOf.{state_of}
 use Rattle.pool_model.specs.declared.step.Phase.TheVariants as phases
+use Rattle.block_store.specs.Places.{shapes_of}
+use Rattle.pool_commit.proofs.Suspending.{still}
 use Rattle.pool_commit.proofs.Progressing.{goes_on, drops, next_writes, writes_stay, with_tail, failed_tail, some_few}
 use Rattle.pool_commit.proofs.commit.Commit.write.Goals as goal
+
+pub invariant_of-self : goal.invariant_of-self
+invariant_of-self g c = record {
+  disks = λ plan is. absurd (let no : None ≡ Some plan = sym c.requires.none ∙ is in cc);
+  suspension =
+      c.args.self.now.suspension
+      ∙ still c.args.self.now.store c.make_writes.new.store (c.in-Ok.ensures.made (λ disk. 0)).1.out (ap shapes_of (c.in-Ok.ensures.made (λ disk. 0)).1.same.spaces);
+}
 
 pub go_on-requires-clause-there : goal.go_on-requires-clause-there
 go_on-requires-clause-there g c = subst (λ (starts : List (List ℕ)). HasDisks (length starts) (Some c.args.planned)) (sym (c.in-Ok.ensures.made (λ disk. 0)).1.same.grew.starts) c.requires.there

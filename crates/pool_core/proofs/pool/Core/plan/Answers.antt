@@ -4,7 +4,7 @@ use Rattle.pool_model.specs.declared.step.Step.TheVariants as steps
 use Rattle.std.specs.Prelude.{is_some}
 use Rattle.pool_model.specs.View.{Unplanned}
 use Rattle.pool_model.specs.Machine.{taken}
-use Rattle.pool_now.specs.GoodChanges.{MakesGoodVolumes}
+use Rattle.volume_rules.specs.GoodChanges.{MakesGoodVolumes}
 use Rattle.pool_model.specs.Pools.{Entry}
 use Rattle.pool_commit.specs.declared.refusal.Refusal.TheVariants as refusals
 use Rattle.pool_commit.specs.Reading.{IsLostForPlan}

@@ -1,9 +1,9 @@
-use Rattle.std.proofs.Common.{◌≡◌, List, ℕ, Some, None, true, ap, sym, ◌∙◌, subst, arith, length}
+use Rattle.std.proofs.Common.{rules, ◌≡◌, List, ℕ, Some, None, true, ap, sym, ◌∙◌, subst, arith, length}
 use Rattle.std.specs.Prelude.{is_some}
 use Rattle.pool_model.specs.declared.step.Step.TheVariants as steps
 use Rattle.pool_model.specs.Pools.{volume_at}
 use Rattle.pool_model.specs.View.{now_of}
-use Rattle.pool_now.specs.Overlay.{base_of, HasRange}
+use Rattle.volume_rules.specs.Overlay.{base_of, HasRange}
 use Rattle.pool_commit.proofs.ReadCauses.{in_range}
 use Rattle.pool_commit.specs.StateOf.{state_of as commit_state}
 use Rattle.pool_core.specs.StateOf.{state_of}
@@ -43,7 +43,7 @@ returns-in-Ok-clause-goes g c v trusted r honest plans =
     let whole : length buffer ≡ length c.as_mut_slice.result.now = c.read_pending.auto.buffer in
     let range : trusted ≡ true → HasRange buffer found.0.bytes c.args.offset = λ e.
     let base : HasRange c.in-Ok.bytes.items (base_of v c.args.name.now found.0) c.args.offset = c.in-Ok.ensures.bytes v found.0 r.backs r.follows.made (honest e) found.1 found.2 in
-    c.read_pending.ensures v found.0 r.follows found.1 found.2 (subst (λ (xs : List ℕ). HasRange xs (base_of v c.args.name.now found.0) c.args.offset) (sym c.as_mut_slice.ensures.value) base) in
+    c.read_pending.ensures.laid v found.0 r.follows found.1 found.2 (subst (λ (xs : List ℕ). HasRange xs (base_of v c.args.name.now found.0) c.args.offset) (sym c.as_mut_slice.ensures.value) base) in
     let count : length buffer ≡ c.args.len = whole ∙ ap length c.as_mut_slice.ensures.value ∙ c.in-Ok.ensures.len in
     subst (λ (xs : List ℕ). Goes (state_of c.args.self.now) v trusted (steps.Read c.args.name.now c.args.offset c.args.len) (replies.Bytes xs) (record (state_of c.args.self.now) { commit = commit_state c.read_committed.new.self }))
     (sym (c.new.ensures ∙ with_items_is c.in-Ok.bytes buffer (whole ∙ c.as_mut_slice.ensures.len)))
@@ -56,3 +56,15 @@ returns-in-Err-clause-goes g c v trusted r honest plans =
     refuses_now (state_of c.args.self.now) (commit_state c.read_committed.new.self) v trusted c.args.name.now c.args.offset c.args.len c.in-Err.refusal c.from.result c.from.ensures r c.in-Err.ensures.reads
     (sym (c.against_read.ensures (volume_at c.args.name.now (now_of v)) (c.find-found.ensures v r.follows)) ∙ c.in-None.is)
     honest (c.in-Err.ensures.refused v found.0 r.backs r.follows.made found.1 found.2)
+
+pub returns-then-is_covered-clause-goes : goal.returns-then-is_covered-clause-goes
+returns-then-is_covered-clause-goes g c v trusted r honest plans =
+    let found = shape_there c.args.name.now (now_of v) c.in-Some-found.shape (sym c.in-Some-found.is ∙ c.find-found.ensures v r.follows) in
+    c.read_covered.ensures v trusted found.0 r found.1 found.2
+    (sym (c.against_read.ensures (volume_at c.args.name.now (now_of v)) (c.find-found.ensures v r.follows)) ∙ c.in-None.is)
+    ((c.is_covered.ensures v r.follows).0 (search rules))
+
+pub read_covered-requires : goal.read_covered-requires
+read_covered-requires g c = record {
+  within = (in_range c.args.offset c.args.len c.in-Some-found.shape c.against_read.result (λ volume is. c.against_read.ensures volume (c.in-Some-found.is ∙ is)) (ap is_some c.in-None.is)).0;
+}

@@ -1,8 +1,11 @@
-use Rattle.std.proofs.Common.{sym, subst, ap, ◌∙◌}
+use Rattle.std.proofs.Common.{◌≡◌, ℕ, List, Some, sym, subst, ap, ◌∙◌}
+use Rattle.pool_model.specs.Pools.{volume_at}
 use Rattle.pool_model.specs.declared.refusal.Refusal.TheVariants as causes
 use Rattle.pool_model.specs.declared.step.Step.{Step}
 use Rattle.pool_model.specs.declared.step.Step.TheVariants as steps
-use Rattle.pool_model.specs.View.{is_suspended}
+use Rattle.pool_model.specs.View.{is_suspended, now_of}
+use Rattle.volume_rules.specs.Covering.{IsCovered}
+use Rattle.volume_rules.specs.Shapes.{shape_of}
 use Rattle.pool_core.specs.StateOf.{state_of}
 use Rattle.pool_core.specs.Steps.{Goes, is_barred}
 use Rattle.pool_core.proofs.Fronting.{front, refused, barred, not_barred, is_barred_then}
@@ -60,3 +63,14 @@ returns-in-Read-clause-goes g c v trusted r honest plans =
 pub returns-in-ReadUnder-clause-goes : goal.returns-in-ReadUnder-clause-goes
 returns-in-ReadUnder-clause-goes g c v trusted r honest plans =
     subst (λ (s : Step). Goes (state_of c.args.self.now) v trusted s c.reply_under.result (state_of c.reply_under.new.self)) (sym c.in-ReadUnder.is) (c.reply_under.ensures.goes v trusted r honest plans)
+
+pub returns-in-Read-clause-covered : goal.returns-in-Read-clause-covered
+returns-in-Read-clause-covered g c v volume name offset len r is found covered =
+    let both : steps.Read c.in-Read.name c.in-Read.offset c.in-Read.len ≡ steps.Read name offset len = sym c.in-Read.is ∙ is in
+    let called : name ≡ c.in-Read.name = cc in
+    let from : offset ≡ c.in-Read.offset = cc in
+    let count : len ≡ c.in-Read.len = cc in
+    c.read.ensures.covered v volume r (subst (λ n. volume_at n (now_of v) ≡ Some volume) called found)
+    (subst (λ n. IsCovered v c.in-Read.name (shape_of volume) c.in-Read.offset n) count
+    (subst (λ o. IsCovered v c.in-Read.name (shape_of volume) o len) from
+    (subst (λ (n : List ℕ). IsCovered v n (shape_of volume) offset len) called covered)))

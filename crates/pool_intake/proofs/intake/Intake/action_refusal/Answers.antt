@@ -2,6 +2,7 @@ use Rattle.std.proofs.Common.{sym, ap, ◌∙◌}
 use Rattle.std.specs.Prelude.{Some}
 use Rattle.pool_model.specs.View.{now_of}
 use Rattle.pool_model.specs.Flow.{flow_of}
+use Rattle.volume_rules.specs.Shapes.{shape_at}
 use Rattle.pool_intake.proofs.Judging.{act_barred, act_late, act_placed}
 use Rattle.pool_intake.proofs.intake.Intake.action_refusal.Goals as goal
 
@@ -10,7 +11,7 @@ returns-in-Ok c = λ v r u. sym (act_late v c.args.action.now c.in-Ok.group u (c
 
 pub returns-in-Ok-2 : goal.returns-in-Ok-2
 returns-in-Ok-2 c = λ v r u.
-    c.against_change.ensures (now_of v) r.names
+    c.against_change.ensures (now_of v) (c.find.ensures (now_of v) r.names ∙ ap (λ name. shape_at name (now_of v)) c.name.ensures)
     ∙ sym (act_placed v c.args.action.now c.in-Ok.group u (c.in-Ok.ensures.ok (flow_of v) r.flow) (c.if-group-open_group.false ∙ c.open_group.ensures (flow_of v) r.flow))
 
 pub returns-in-Err : goal.returns-in-Err

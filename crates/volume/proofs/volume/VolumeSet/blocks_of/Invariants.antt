@@ -1,12 +1,13 @@
 use Rattle.std.proofs.Common.{◌≡◌, [], List, ℕ, Option, length, map, take}
 use Rattle.std.specs.Prelude.{All}
 use Rattle.pool_model.specs.declared.volume.PlainVolume.{PlainVolume}
-use Rattle.pool_now.specs.Overlay.{after_writes}
+use Rattle.volume_rules.specs.Overlay.{after_writes}
 use Rattle.block_store.specs.Blocks.{Contents}
 use Rattle.block_store.specs.Steps.{OnlyReadsBlocks, AnswersAreTrue}
 use Rattle.block_store.specs.Store.{Holds}
 use Rattle.volume.specs.Reading.{IsFound}
 use Rattle.volume.specs.Volume.{HasData, part}
+use Rattle.volume.specs.Writing.{IsCovered}
 use Rattle.volume.proofs.volume.VolumeSet.blocks_of.Given as goal
 
 -- the blocks of the ids so far
@@ -18,5 +19,6 @@ invariant-loop-id g l = record {
   value : (stored : Contents) (volume : PlainVolume) → Holds l.fn.store stored → volume.name ≡ l.changes.name.now
       → HasData stored l.self.block.birth l.set l.self.size l.self.block_size volume.bytes → AnswersAreTrue l.fn.store l.store
       → All (λ block. block.bytes.items ≡ part (after_writes volume l.changes.writes.now).bytes l.self.block_size block.id) l.blocks.items;
-  found : All (λ block. (found : Option (List ℕ)) × IsFound l.fn.store.spaces l.self l.set block.id found) l.blocks.items;
+  found : All (λ block. ¬ IsCovered l.self l.changes.name.now l.changes.writes.now block.id → (found : Option (List ℕ)) × IsFound l.fn.store.spaces l.self l.set block.id found) l.blocks.items;
+  unread : All (IsCovered l.self l.changes.name.now l.changes.writes.now) l.ids → l.store ≡ l.fn.store;
 }

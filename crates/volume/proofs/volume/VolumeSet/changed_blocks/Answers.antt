@@ -11,7 +11,7 @@ use Rattle.dnode_tree.proofs.Refusing.{ok_both}
 use Rattle.dnode_tree.specs.declared.writes.BlockWrite.{BlockWrite}
 use Rattle.volume.specs.Reading.{IsFound, IsWayRead}
 use Rattle.volume.specs.Volume.{HasData}
-use Rattle.volume.specs.Writing.{IsChanged}
+use Rattle.volume.specs.Writing.{IsChanged, IsCovered}
 use Rattle.volume.proofs.Ids.{are_blocks, same_ids, empty_ids, none_changed, items_below, after_is_with}
 use Rattle.volume.proofs.Refusing.{passed_on}
 use Rattle.volume.proofs.volume.VolumeSet.changed_blocks.Goals as goal
@@ -84,15 +84,21 @@ pub returns-clause-found : goal.returns-clause-found
 returns-clause-found g c =
     IfOk-weaker c.blocks_of.result _ _
     (λ blocks found.
-    All-weaker (λ (block : BlockWrite). (found : Option (List ℕ)) × IsFound c.open.new.store.spaces c.args.self.now c.in_ok-set.set block.id found)
-    (λ (block : BlockWrite). IsWayRead c.args.store.now.spaces c.args.self.now c.args.birth block.id)
-    (λ block is. (
+    All-weaker
+    (λ (block : BlockWrite). ¬ IsCovered c.args.self.now c.args.changes.now.name.now c.args.changes.now.writes.now block.id
+    → (found : Option (List ℕ)) × IsFound c.open.new.store.spaces c.args.self.now c.in_ok-set.set block.id found)
+    (λ (block : BlockWrite). ¬ IsCovered c.args.self.now c.args.changes.now.name.now c.args.changes.now.writes.now block.id
+    → IsWayRead c.args.store.now.spaces c.args.self.now c.args.birth block.id)
+    (λ block is none. let way = is none in (
       c.in_ok-set.set,
       c.in_ok-set.ensures.found,
-      is.0,
-      subst (λ (spaces : List VdevSpace). IsFound spaces c.args.self.now c.in_ok-set.set block.id is.0) (ap (λ store. store.spaces) c.in_ok-set.ensures.reads.rest) is.1,
+      way.0,
+      subst (λ (spaces : List VdevSpace). IsFound spaces c.args.self.now c.in_ok-set.set block.id way.0) (ap (λ store. store.spaces) c.in_ok-set.ensures.reads.rest) way.1,
     )) blocks.items found)
     c.blocks_of.ensures.found
+
+pub returns-clause-judged : goal.returns-clause-judged
+returns-clause-judged g c = IfOk-weaker c.blocks_of.result _ _ (λ blocks ids some. (c.in_ok-set.set, c.in_ok-set.ensures.found)) c.blocks_of.ensures.ids
 
 pub returns-clause-refused : goal.returns-clause-refused
 returns-clause-refused g c =
@@ -105,7 +111,7 @@ returns-clause-refused g c =
       before = c.in_ok-set.ensures.reads;
       unread = record {
         id = unread.id;
-        is_wanted = (c.in_ok-ids.ensures.ids unread.id).0 (subst (λ (xs : List ℕ). Contains xs unread.id) c.deref.ensures.value unread.is_wanted);
+        is_wanted = ((c.in_ok-ids.ensures.ids unread.id).0 (subst (λ (xs : List ℕ). Contains xs unread.id) c.deref.ensures.value unread.is_wanted.0), unread.is_wanted.1);
         mid = unread.mid;
         before = unread.before;
         why = unread.why;

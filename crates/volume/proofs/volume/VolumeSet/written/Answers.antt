@@ -2,7 +2,7 @@ use Rattle.std.proofs.Common.{◌∙◌, [], inl, inr, ⊎_elim}
 use Rattle.std.proofs.lemmas.Result.{IfOk-weaker, IfErr-weaker, on_ok_weaker}
 use Rattle.block_store.proofs.Steps.{steps_read, steps_on, true_before, true_after}
 use Rattle.dnode_tree.proofs.Losses.{loss_in_plan}
-use Rattle.pool_now.specs.Overlay.{after_writes}
+use Rattle.volume_rules.specs.Overlay.{after_writes}
 use Rattle.volume.proofs.Demanding.{all_behind}
 use Rattle.volume.proofs.Ids.{no_blocks}
 use Rattle.volume.proofs.Putting.{lacks_on}

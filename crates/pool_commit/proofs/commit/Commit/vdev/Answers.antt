@@ -1,5 +1,0 @@
-use Rattle.pool_commit.proofs.Disks.{vdev_there}
-use Rattle.pool_commit.proofs.commit.Commit.vdev.Goals as goal
-
-pub returns-clause-there : goal.returns-clause-there
-returns-clause-there g c = vdev_there c.args.self.now.store.spaces c.args.index c.shape.result c.shape.ensures.shape

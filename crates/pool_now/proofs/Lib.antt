@@ -1,6 +1,0 @@
-pub mod Indexes
-pub mod Volumes
-pub mod NowMoves
-pub mod Ranges
-pub mod Overlays
-pub mod Pending

@@ -1,5 +1,0 @@
-pub mod Shapes
-pub mod GoodChanges
-pub mod Index
-pub mod NowMoves
-pub mod Overlay

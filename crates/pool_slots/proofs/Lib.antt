@@ -1,0 +1,16 @@
+pub mod Among
+pub mod Places
+pub mod Same
+pub mod OneDisk
+pub mod Phases
+pub mod Used
+pub mod Results
+pub mod Writing
+pub mod SlotPhases
+pub mod CommitPhases
+pub mod ClaimPhases
+pub mod Reading
+pub mod Finding
+pub mod OpenSteps
+pub mod Opened
+pub mod LifeSteps

@@ -1,0 +1,31 @@
+use Rattle.std.proofs.Common.{length, ap, arith}
+use Rattle.model_disk.specs.Runs.{HasFailed}
+use Rattle.model_disk.proofs.FailureLemmas.{failed_in_second}
+use Rattle.pool_slots.specs.Slots.{InUse}
+use Rattle.pool_slots.specs.Writes.{IsSlotWrite, in_use}
+use Rattle.pool_slots.proofs.Phases.{MakesOn-none}
+use Rattle.pool_slots.proofs.Results.{on_err_is}
+use Rattle.pool_slots.proofs.Writing.{made_more, made_next}
+use Rattle.pool_slots.proofs.writes.write_all.Goals as goal
+
+pub loop-which-init : goal.loop-which-init
+loop-which-init g c = record {
+  makes = MakesOn-none (InUse c.args.out.now) (IsSlotWrite c.args.disks.now.starts c.args.uberblock.now (in_use c.args.out.now)) c.args.disks.now;
+  stand = λ d label below. absurd (omega (arith, below));
+}
+
+pub returns-in_err-write_if_used-clause-makes : goal.returns-in_err-write_if_used-clause-makes
+returns-in_err-write_if_used-clause-makes g c =
+    made_more c.args.disks.now c.loop-which.disks c.write_if_used.new.disks (InUse c.args.out.now) c.args.uberblock.now (in_use c.args.out.now) c.loop-which.which c.loop-which.invariant.makes c.write_if_used.ensures.makes
+
+pub returns-in_err-write_if_used-clause-fault : goal.returns-in_err-write_if_used-clause-fault
+returns-in_err-write_if_used-clause-fault g c =
+    on_err_is c.from_residual.result (HasFailed c.args.disks.now c.write_if_used.new.disks)
+    (failed_in_second (IsSlotWrite c.args.disks.now.starts c.args.uberblock.now (in_use c.args.out.now)) c.args.disks.now c.loop-which.disks c.write_if_used.new.disks c.loop-which.invariant.makes.makes c.in_err-write_if_used.ensures.fault)
+
+pub loop-which-preserved : goal.loop-which-preserved
+loop-which-preserved g c =
+    let made = made_next c.args.disks.now c.loop-which.disks c.write_if_used.new.disks (InUse c.args.out.now) c.args.uberblock.now (in_use c.args.out.now) c.loop-which.which c.requires.labels c.requires.fits
+    (omega (arith, c.loop-which-test.true, ap length c.loop-which.invariant.makes.makes.starts))
+    (record { makes = c.loop-which.invariant.makes; stand = c.loop-which.invariant.stand }) c.write_if_used.ensures.makes c.in_ok-write_if_used.ensures.stand in
+    record { makes = made.makes; stand = made.stand }

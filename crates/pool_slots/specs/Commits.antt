@@ -1,0 +1,57 @@
+-- Commits: what they start from, and what they leave.
+use Rattle.std.specs.Prelude.{◌≡◌, ℕ, suc, Bool, List, [], ◌∷◌, length, Option, Some}
+use Rattle.model_disk.specs.Joint.{Disks, bytes_of, content}
+use Rattle.model_disk.specs.Runs.{EachSince}
+use Rattle.block_pointer.specs.declared.block.Block.{Block}
+use Rattle.uberblock_ring.specs.declared.uberblock.Uberblock.{Uberblock}
+use Rattle.uberblock_ring.specs.Uberblock.{Fits}
+use Rattle.pool_slots.specs.Slots.{InUse, AreThere, AreSettled, IsOffLabels}
+use Rattle.pool_slots.specs.Possible.{Possible, Trees, TreeStands, Leads, LeavesLeading}
+use Rattle.pool_slots.specs.Writes.{IsOffBlocks, BlocksStand}
+use Rattle.pool_slots.specs.declared.blocks.BlockWrite.{BlockWrite}
+
+-- no tree has a byte of a label
+abbrev pub AreOffLabels : Trees → List Bool → List (List ℕ) → Type 0
+AreOffLabels trees out starts =
+    (root : Block) (which i value : ℕ) → InUse out which → trees root which i ≡ Some value → IsOffLabels (length (bytes_of starts which)) i
+
+abbrev pub only_last : Uberblock → Possible
+only_last u = record { last = u; begun = [] }
+
+-- the last uberblock, or this one, which was begun since
+abbrev pub last_or : Uberblock → Uberblock → Possible
+last_or last u = record { last = last; begun = u ∷ [] }
+
+-- the uberblock is committed: nothing is unflushed, and all disks in use lead to it alone
+pub record AreAt (trees : Trees) (out : List Bool) (disks : Disks) (u : Uberblock) : Type 0 where
+  pub there : AreThere out disks.starts
+  pub fits : Fits u
+  pub settled : AreSettled out disks.calls
+  pub leads : Leads trees out disks.starts (content disks) (only_last u)
+
+-- The next uberblock after the last one, with the blocks that its group writes: they are off the last tree, and once they stand and all
+-- else is as it was, the new tree stands.
+pub record IsPlan (trees : Trees) (out : List Bool) (disks : Disks) (last u : Uberblock) (blocks : List BlockWrite) : Type 0 where
+  pub off_labels : AreOffLabels trees out disks.starts
+  pub claim : u.claim ≡ last.claim
+  pub group : u.group ≡ suc last.group
+  pub free : (which i value : ℕ) → InUse out which → trees last.root which i ≡ Some value → IsOffBlocks blocks which i
+  pub whole : (held : ℕ → ℕ → Option ℕ) → BlocksStand held blocks (length blocks) → ((which i : ℕ) → IsOffBlocks blocks which i → held which i ≡ content disks which i)
+      → TreeStands trees out held u.root
+
+-- the same, where the last one is committed
+pub record IsNext (trees : Trees) (out : List Bool) (disks : Disks) (last u : Uberblock) (blocks : List BlockWrite) : Type 0 where
+  pub at : AreAt trees out disks last
+  pub plan : IsPlan trees out disks last u blocks
+
+-- a stop at any moment since the old one leaves disks that lead to one of the possible uberblocks
+abbrev pub LeadAlways : Trees → List Bool → Disks → Disks → Possible → Type 0
+LeadAlways trees out old new p = EachSince (length old.calls) (LeavesLeading trees out old.starts p) new.calls
+
+-- what `commit` ensures of any trees, at each moment
+abbrev pub CommitKeeps : List Bool → Disks → List BlockWrite → Uberblock → Disks → Type 0
+CommitKeeps out old blocks u new = (trees : Trees) (last : Uberblock) → IsNext trees out old last u blocks → LeadAlways trees out old new (last_or last u)
+
+-- and once it is done
+abbrev pub CommitGives : List Bool → Disks → List BlockWrite → Uberblock → Disks → Type 0
+CommitGives out old blocks u new = (trees : Trees) (last : Uberblock) → IsNext trees out old last u blocks → AreAt trees out new u

@@ -1,0 +1,174 @@
+-- What an open reads, and what it claims.
+use Rattle.std.specs.Prelude.{◌≡◌, ◌↔◌, ◌⊎◌, ◌<◌, ℕ, ◌-◌, ◌/◌, ◌%◌, Bool, List, ◌∷◌, length, slice_get, Option, Some, None, Contains, Result, Ok, Err, Vec}
+use Rattle.std.specs.declared.alloc.Global.{Global}
+use Rattle.model_disk.specs.Joint.{Disks, bytes_of, content, AreHonestSince}
+use Rattle.model_disk.specs.Runs.{HasFailed, no_write}
+use Rattle.uberblock_ring.specs.declared.uberblock.Uberblock.{Uberblock}
+use Rattle.uberblock_ring.specs.Ranking.{RanksUpTo, Has}
+use Rattle.uberblock_ring.specs.Uberblock.{Fits}
+use Rattle.pool_slots.specs.Slots.{InUse, MakesOn, AreSettled, slot_at, IsSlot, Shows}
+use Rattle.pool_slots.specs.Possible.{Possible, all_of, IsTopped, Trees, TreeStands, Leads, AllAreBelow}
+use Rattle.pool_slots.specs.Writes.{HasFound, InTurn, IsSlotWrite, in_use}
+use Rattle.pool_slots.specs.Commits.{AreOffLabels, AreAt, LeadAlways}
+use Rattle.pool_slots.specs.declared.found.Found.{Found}
+use Rattle.pool_slots.specs.declared.refusal.Refusal.{Refusal}
+use Rattle.pool_slots.specs.declared.refusal.Refusal.TheVariants.{NoMemory, DiskFault, NoUberblock, UsedUp}
+
+-- ---- what is read
+
+-- each byte of the disk is known, as after an honest start
+abbrev pub IsKnown : Disks → ℕ → Type 0
+IsKnown disks which = (i : ℕ) → i < length (bytes_of disks.starts which) → (value : ℕ) × (content disks which i ≡ Some value)
+
+abbrev pub AreKnown : List Bool → Disks → Type 0
+AreKnown out disks = (which : ℕ) → InUse out which → IsKnown disks which
+
+-- of a disk's slots, counted one label after the other: the highest, and the half of the labels in which it doesn't stand
+pub record HasHighest (slots : List (Option Uberblock)) (found : Found) : Type 0 where
+  pub number : ℕ
+  pub has : Has slots number found.uberblock
+  pub half : found.other_half ≡ 1 - number / 128 % 2
+  pub greatest : (other : ℕ) (u : Uberblock) → Has slots other u → RanksUpTo u found.uberblock
+
+-- the highest uberblock that the slots of a disk show, and the half of the labels in which it was not read
+pub record IsHighest (size : ℕ) (held : ℕ → Option ℕ) (found : Found) : Type 0 where
+  pub label : ℕ
+  pub slot : ℕ
+  pub is_slot : IsSlot label slot
+  pub shows : Shows held (slot_at size label slot) slot found.uberblock
+  pub alone : (v : Uberblock) → Shows held (slot_at size label slot) slot v → v ≡ found.uberblock
+  pub half : found.other_half ≡ 1 - label % 2
+  pub greatest : (other number : ℕ) → IsSlot other number → (v : Uberblock) → Shows held (slot_at size other number) number v → RanksUpTo v found.uberblock
+
+-- on each disk in use the highest was found, and nothing on the others
+abbrev pub IsFoundOn : List Bool → Disks → ℕ → Option Found → Type 0
+IsFoundOn out disks which None = ¬ InUse out which
+IsFoundOn out disks which (Some found) = InUse out which × IsHighest (length (bytes_of disks.starts which)) (content disks which) found
+
+abbrev pub AreFound : List Bool → Disks → List (Option Found) → Type 0
+AreFound out disks all = (which : ℕ) (found : Option Found) → slice_get all which ≡ Some found → IsFoundOn out disks which found
+
+-- a disk in use, and no other, has something found on it
+abbrev pub AreOn : List Bool → List (Option Found) → Type 0
+AreOn out all = (which : ℕ) → InUse out which ↔ HasFound all which
+
+-- the slots of a disk show no uberblock
+abbrev pub IsBareOn : ℕ → (ℕ → Option ℕ) → Type 0
+IsBareOn size held = (label slot : ℕ) → IsSlot label slot → (u : Uberblock) → ¬ Shows held (slot_at size label slot) slot u
+
+-- some disk in use is so
+pub record IsBare (out : List Bool) (disks : Disks) : Type 0 where
+  pub which : ℕ
+  pub used : InUse out which
+  pub none : IsBareOn (length (bytes_of disks.starts which)) (content disks which)
+
+abbrev pub uberblock_of : Option Found → Option Uberblock
+uberblock_of None = None
+uberblock_of (Some found) = Some found.uberblock
+
+-- one of those that were found, and none ranks above it
+pub record IsHighestOf (all : List (Option Found)) (u : Uberblock) : Type 0 where
+  pub which : ℕ
+  pub found : Found
+  pub at : slice_get all which ≡ Some (Some found)
+  pub is : u ≡ found.uberblock
+  pub greatest : (other : ℕ) (it : Found) → slice_get all other ≡ Some (Some it) → RanksUpTo it.uberblock u
+
+abbrev pub AreFitting : List (Option Found) → Type 0
+AreFitting all = (which : ℕ) (found : Found) → slice_get all which ≡ Some (Some found) → Fits found.uberblock
+
+-- ---- what the reads answer
+
+-- the highest of one disk; else want of memory, a call that failed, or a disk whose slots show none
+abbrev pub FindsOn : Disks → Disks → ℕ → Result Found Refusal → Type 0
+FindsOn old new which (Ok found) =
+    Fits found.uberblock
+    × (IsKnown old which → AreHonestSince (length old.calls) new.starts new.calls → IsHighest (length (bytes_of old.starts which)) (content old which) found)
+FindsOn old new which (Err NoMemory) = Unit {0}
+FindsOn old new which (Err DiskFault) = HasFailed old new
+FindsOn old new which (Err NoUberblock) =
+    IsKnown old which → AreHonestSince (length old.calls) new.starts new.calls → IsBareOn (length (bytes_of old.starts which)) (content old which)
+FindsOn old new which (Err UsedUp) = ⊥
+
+-- the same where the disk may be out: then nothing is found
+abbrev pub FindsIfUsed : List Bool → Disks → Disks → ℕ → Result (Option Found) Refusal → Type 0
+FindsIfUsed out old new which (Ok None) = ¬ InUse out which
+FindsIfUsed out old new which (Ok (Some found)) = InUse out which × FindsOn old new which (Ok found)
+FindsIfUsed out old new which (Err refusal) = InUse out which × FindsOn old new which (Err refusal)
+
+-- of all disks
+abbrev pub FindsAll : List Bool → Disks → Disks → Result (Vec (Option Found) Global) Refusal → Type 0
+FindsAll out old new (Ok all) =
+    (length all.items ≡ length old.starts) × AreOn out all.items × AreFitting all.items
+    × (AreKnown out old → AreHonestSince (length old.calls) new.starts new.calls → AreFound out old all.items)
+FindsAll out old new (Err NoMemory) = Unit {0}
+FindsAll out old new (Err DiskFault) = HasFailed old new
+FindsAll out old new (Err NoUberblock) = AreKnown out old → AreHonestSince (length old.calls) new.starts new.calls → IsBare out old
+FindsAll out old new (Err UsedUp) = ⊥
+
+-- the highest of all that were found; else want of memory, or there is none
+abbrev pub FindsHighest : List (Option Found) → Result Uberblock Refusal → Type 0
+FindsHighest all (Ok u) = IsHighestOf all u × Fits u
+FindsHighest all (Err NoMemory) = Unit {0}
+FindsHighest all (Err DiskFault) = ⊥
+FindsHighest all (Err NoUberblock) = (which : ℕ) (found : Found) → ¬ (slice_get all which ≡ Some (Some found))
+FindsHighest all (Err UsedUp) = ⊥
+
+-- ---- what is claimed
+
+-- disks that may be opened: nothing is unflushed, and all in use lead to one of the possible uberblocks
+pub record CanOpen (trees : Trees) (out : List Bool) (disks : Disks) (p : Possible) : Type 0 where
+  pub some : (which : ℕ) × InUse out which
+  pub off_labels : AreOffLabels trees out disks.starts
+  pub known : AreKnown out disks
+  pub settled : AreSettled out disks.calls
+  pub leads : Leads trees out disks.starts (content disks) p
+
+-- the uberblock is one of the possible ones under a claim above that of the last one
+pub record IsClaimOf (p : Possible) (u : Uberblock) : Type 0 where
+  pub taken : Uberblock
+  pub possible : Contains (all_of p) taken
+  pub is : u ≡ record taken { claim = u.claim }
+  pub above : p.last.claim < u.claim
+
+abbrev pub also_begun : Uberblock → Possible → Possible
+also_begun u p = record { last = p.last; begun = u ∷ p.begun }
+
+-- A stop at any moment leaves what led there before, or also to a claim of it.
+abbrev pub LeadsOrClaims : Trees → List Bool → Disks → Disks → Possible → Type 0
+LeadsOrClaims trees out old new p = LeadAlways trees out old new p ⊎ ((u : Uberblock) × IsClaimOf p u × LeadAlways trees out old new (also_begun u p))
+
+-- The uberblock may be claimed: it ranks above all that the disks show, its tree stands, and on each disk a slot outside the half that is
+-- written first shows what is no lower than the last one.
+pub record MayClaim (trees : Trees) (out : List Bool) (disks : Disks) (p : Possible) (u : Uberblock) (all : List (Option Found)) : Type 0 where
+  pub off_labels : AreOffLabels trees out disks.starts
+  pub settled : AreSettled out disks.calls
+  pub leads : Leads trees out disks.starts (content disks) p
+  pub below : AllAreBelow out disks u
+  pub above : RanksUpTo p.last u
+  pub tree : TreeStands trees out (content disks) u.root
+  pub top : (which : ℕ) → InUse out which → IsTopped (length (bytes_of disks.starts which)) (content disks which) p.last
+  pub spared : (which : ℕ) → (used : InUse out which) → ¬ InTurn all 0 which (top which used).label
+
+-- what `open` ensures of any disks, at each moment
+abbrev pub OpenKeeps : List Bool → Disks → Disks → Type 0
+OpenKeeps out old new =
+    (trees : Trees) (p : Possible) → CanOpen trees out old p → AreHonestSince (length old.calls) new.starts new.calls → LeadsOrClaims trees out old new p
+
+-- and once it is done
+abbrev pub OpenGives : List Bool → Disks → Uberblock → Disks → Type 0
+OpenGives out old u new =
+    (trees : Trees) (p : Possible) → CanOpen trees out old p → AreHonestSince (length old.calls) new.starts new.calls → IsClaimOf p u × AreAt trees out new u
+
+-- what it writes: nothing, or the slots of one uberblock, on disks in use; and no call is made on another disk
+abbrev pub OpenMakes : List Bool → Disks → Disks → Type 0
+OpenMakes out old new =
+    MakesOn (InUse out) no_write old new ⊎ ((u : Uberblock) × MakesOn (InUse out) (IsSlotWrite old.starts u (in_use out)) old new)
+
+-- ---- what `claim` ensures
+
+abbrev pub ClaimKeeps : List Bool → Disks → Uberblock → List (Option Found) → Disks → Type 0
+ClaimKeeps out old u all new = (trees : Trees) (p : Possible) → MayClaim trees out old p u all → LeadAlways trees out old new (also_begun u p)
+
+abbrev pub ClaimGives : List Bool → Disks → Uberblock → List (Option Found) → Disks → Type 0
+ClaimGives out old u all new = (trees : Trees) (p : Possible) → MayClaim trees out old p u all → AreAt trees out new u

@@ -1,0 +1,13 @@
+//! Laws of lives of a pool, as functions with no body.
+ghost use Rattle.pool_slots.specs.Lives.{EventsRise, LivesLoseNothing};
+
+/// Whatever calls are made, and wherever they are stopped: the disks lead to what was last opened or committed, or to what was begun
+/// to be written since.
+pub fn lives_lose_nothing()
+    ensures { LivesLoseNothing }
+{}
+
+/// No claim of a finished open, and no group of a finished open or commit, is gone below.
+pub fn events_rise()
+    ensures { EventsRise }
+{}

@@ -1,0 +1,201 @@
+//! The writes of a phase over the disks in use, and its flush.
+ghost use Rattle.std.specs.Prelude.{◌≡◌, ◌<◌, ◌∷◌, length, OnErr, OnOk};
+ghost use Rattle.model_disk.specs.Call.{write_call};
+ghost use Rattle.model_disk.specs.Joint.{calls_on, content, on};
+ghost use Rattle.model_disk.specs.Runs.{HasFailed, IsSettled, no_write};
+ghost use Rattle.uberblock_ring.specs.Uberblock.{Fits};
+ghost use Rattle.pool_slots.specs.Slots.{AreSettled, HaveLabels, InUse, MakesOn, is_disk};
+ghost use Rattle.pool_slots.specs.Writes.{AreApart, AreWithin, BlocksStand, HasBlock, HasFound, InTurn, IsBlockWrite, IsSlotWrite, IsWithin, SlotsStand, in_half_of, in_use, on_disk};
+
+use crate::blocks::BlockWrite;
+use crate::found::Found;
+use model_disk::{Disk, DiskArray, DiskError};
+use uberblock_ring::{Uberblock, write_slot};
+
+// ---- flushes
+
+/// Flushes a disk that is in use.
+fn flush_if_used<D: Disk + Drop>(
+    disks: &mut DiskArray<D>,
+    out: &[bool],
+    which: usize,
+) -> Result<(), DiskError>
+    requires which { which < length disks.old.starts }
+    requires out { length out.now ≡ length disks.old.starts }
+    ensures makes { MakesOn (InUse out.now) no_write disks.old disks.new }
+    ensures settles { OnOk result (InUse out.now which
+        → IsSettled (calls_on which disks.new.calls)) }
+    ensures fault { OnErr result (HasFailed disks.old disks.new) }
+{
+    if out[which] {
+        return Ok(());
+    }
+    disks.flush(which)
+}
+
+/// Flushes each disk in use. The first fault ends it.
+pub(crate) fn flush_all<D: Disk + Drop>(
+    disks: &mut DiskArray<D>,
+    out: &[bool],
+) -> Result<(), DiskError>
+    requires out { length out.now ≡ length disks.old.starts }
+    ensures makes { MakesOn (InUse out.now) no_write disks.old disks.new }
+    ensures settled { OnOk result (AreSettled out.now disks.new.calls) }
+    ensures fault { OnErr result (HasFailed disks.old disks.new) }
+{
+    for which in 0..disks.len() {
+        flush_if_used(disks, out, which)?;
+    }
+    Ok(())
+}
+
+// ---- blocks
+
+/// Writes a block.
+fn write_block<D: Disk + Drop>(
+    disks: &mut DiskArray<D>,
+    block: &BlockWrite,
+) -> Result<(), DiskError>
+    requires within { IsWithin disks.old.starts block.now }
+    ensures starts { disks.new.starts ≡ disks.old.starts }
+    ensures call { disks.new.calls
+        ≡ on block.now.disk (write_call result block.now.at block.now.bytes.items) ∷ disks.old.calls }
+    ensures fault { OnErr result (HasFailed disks.old disks.new) }
+{
+    disks.write_at(block.disk, block.at, &block.bytes)
+}
+
+/// Writes the blocks. The first fault ends it.
+pub(crate) fn write_blocks<D: Disk + Drop>(
+    disks: &mut DiskArray<D>,
+    blocks: &[BlockWrite],
+) -> Result<(), DiskError>
+    requires within { AreWithin disks.old.starts blocks.now }
+    requires apart { AreApart blocks.now }
+    ensures makes { MakesOn (HasBlock blocks.now) (IsBlockWrite blocks.now) disks.old disks.new }
+    ensures stand { OnOk result (BlocksStand (content disks.new) blocks.now (length blocks.now)) }
+    ensures fault { OnErr result (HasFailed disks.old disks.new) }
+{
+    for block in blocks {
+        write_block(disks, block)?;
+    }
+    Ok(())
+}
+
+// ---- slots
+
+/// Writes the slot of an uberblock in two labels of a disk: in 0 and 2, or in 1 and 3.
+fn write_half<D: Disk + Drop>(
+    disks: &mut DiskArray<D>,
+    which: usize,
+    half: u64,
+    uberblock: &Uberblock,
+) -> Result<(), DiskError>
+    requires which { which < length disks.old.starts }
+    requires half { half < 2 }
+    requires labels { HaveLabels disks.old.starts }
+    requires fits { Fits uberblock.now }
+    ensures makes { MakesOn (is_disk which)
+        (IsSlotWrite disks.old.starts uberblock.now (in_half_of which half)) disks.old disks.new }
+    ensures stand { OnOk result (SlotsStand (content disks.new) disks.old.starts uberblock.now
+        (in_half_of which half) (length disks.old.starts)) }
+    ensures fault { OnErr result (HasFailed disks.old disks.new) }
+{
+    write_slot(disks, which, half, uberblock)?;
+    write_slot(disks, which, half + 2, uberblock)
+}
+
+/// Writes the slot in all labels of a disk that is in use.
+fn write_if_used<D: Disk + Drop>(
+    disks: &mut DiskArray<D>,
+    out: &[bool],
+    which: usize,
+    uberblock: &Uberblock,
+) -> Result<(), DiskError>
+    requires which { which < length disks.old.starts }
+    requires out { length out.now ≡ length disks.old.starts }
+    requires labels { HaveLabels disks.old.starts }
+    requires fits { Fits uberblock.now }
+    ensures makes { MakesOn (InUse out.now)
+        (IsSlotWrite disks.old.starts uberblock.now (on_disk which (in_use out.now)))
+        disks.old disks.new }
+    ensures stand { OnOk result (SlotsStand (content disks.new) disks.old.starts uberblock.now
+        (on_disk which (in_use out.now)) (length disks.old.starts)) }
+    ensures fault { OnErr result (HasFailed disks.old disks.new) }
+{
+    if out[which] {
+        return Ok(());
+    }
+    write_half(disks, which, 0, uberblock)?;
+    write_half(disks, which, 1, uberblock)
+}
+
+/// Writes the slot in all labels of each disk in use.
+pub(crate) fn write_all<D: Disk + Drop>(
+    disks: &mut DiskArray<D>,
+    out: &[bool],
+    uberblock: &Uberblock,
+) -> Result<(), DiskError>
+    requires out { length out.now ≡ length disks.old.starts }
+    requires labels { HaveLabels disks.old.starts }
+    requires fits { Fits uberblock.now }
+    ensures makes { MakesOn (InUse out.now)
+        (IsSlotWrite disks.old.starts uberblock.now (in_use out.now)) disks.old disks.new }
+    ensures stand { OnOk result (SlotsStand (content disks.new) disks.old.starts uberblock.now
+        (in_use out.now) (length disks.old.starts)) }
+    ensures fault { OnErr result (HasFailed disks.old disks.new) }
+{
+    for which in 0..disks.len() {
+        write_if_used(disks, out, which, uberblock)?;
+    }
+    Ok(())
+}
+
+/// Writes the slot in the half of a disk's labels whose turn it is, if anything was found on it.
+fn write_turn_on<D: Disk + Drop>(
+    disks: &mut DiskArray<D>,
+    all: &[Option<Found>],
+    turn: u64,
+    which: usize,
+    uberblock: &Uberblock,
+) -> Result<(), DiskError>
+    requires which { which < length disks.old.starts }
+    requires all { length all.now ≡ length disks.old.starts }
+    requires turn { turn < 2 }
+    requires labels { HaveLabels disks.old.starts }
+    requires fits { Fits uberblock.now }
+    ensures makes { MakesOn (HasFound all.now)
+        (IsSlotWrite disks.old.starts uberblock.now (on_disk which (InTurn all.now turn)))
+        disks.old disks.new }
+    ensures stand { OnOk result (SlotsStand (content disks.new) disks.old.starts uberblock.now
+        (on_disk which (InTurn all.now turn)) (length disks.old.starts)) }
+    ensures fault { OnErr result (HasFailed disks.old disks.new) }
+{
+    let Some(found) = all[which] else {
+        return Ok(());
+    };
+    write_half(disks, which, (found.other_half % 2 + turn) % 2, uberblock)
+}
+
+/// Writes the slot in the half of the labels whose turn it is, on each disk its own.
+pub(crate) fn write_turn<D: Disk + Drop>(
+    disks: &mut DiskArray<D>,
+    all: &[Option<Found>],
+    turn: u64,
+    uberblock: &Uberblock,
+) -> Result<(), DiskError>
+    requires all { length all.now ≡ length disks.old.starts }
+    requires turn { turn < 2 }
+    requires labels { HaveLabels disks.old.starts }
+    requires fits { Fits uberblock.now }
+    ensures makes { MakesOn (HasFound all.now)
+        (IsSlotWrite disks.old.starts uberblock.now (InTurn all.now turn)) disks.old disks.new }
+    ensures stand { OnOk result (SlotsStand (content disks.new) disks.old.starts uberblock.now
+        (InTurn all.now turn) (length disks.old.starts)) }
+    ensures fault { OnErr result (HasFailed disks.old disks.new) }
+{
+    for which in 0..disks.len() {
+        write_turn_on(disks, all, turn, which, uberblock)?;
+    }
+    Ok(())
+}

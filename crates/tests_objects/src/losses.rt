@@ -1,0 +1,131 @@
+//! A volume with a block that is lost for lack of disks.
+ghost use Rattle.std.specs.Prelude.{IfOk, ◌<◌, ◌≤◌};
+ghost use Rattle.volume.specs.Volume.{size_of, block_size_of, HasShape};
+
+use crate::stores::store_plan;
+use crate::volumes::{name, write_of};
+use block_store::{BlockStore, VdevConfig};
+use model_disk::{Fault, FaultDisk, MemDisk};
+use raidz_map::Geometry;
+use std::alloc::Global;
+use std::test::Fail;
+use volume::{GroupWrites, Refusal, VolumeSet};
+
+type LossyStore = BlockStore<FaultDisk<MemDisk>>;
+
+/// The smallest disk.
+const DISK_BYTES: usize = 0x800000;
+
+/// In bytes: four blocks.
+const SIZE: u64 = 2048;
+
+const BLOCK_SIZE: u64 = 512;
+
+/// Fails at no call.
+const NEVER: Fault = Fault::At(u64::MAX);
+
+/// Six disks, of which the second and the third fail at their first flush.
+fn six_disks(alloc: Global) -> Result<Vec<FaultDisk<MemDisk>>, Fail> {
+    let mut disks = Vec::new(alloc);
+    for which in 0..6u64 {
+        let fault = if matches!(which, 1 | 2) {
+            Fault::Flush(0)
+        } else {
+            NEVER
+        };
+        disks.push(FaultDisk::new(MemDisk::new(alloc, DISK_BYTES)?, fault))?;
+    }
+    Ok(disks)
+}
+
+/// Two vdevs of three disks. Data lies in the first, and all else in both.
+fn new_store(alloc: Global) -> Result<LossyStore, Fail> {
+    let vdev = VdevConfig {
+        geometry: Geometry::new(3, 1, 9)?,
+        metaslab_shift: 12,
+    };
+    let disks = six_disks(alloc)?;
+    Ok(BlockStore::new(alloc, disks, &[vdev, vdev])?)
+}
+
+/// Flushes each disk: those that fail are out.
+fn lose_disks(store: &mut LossyStore) {
+    for disk in 0..store.disk_count() {
+        if disk < store.disk_count() {
+            let _ = store.flush(disk);
+        }
+    }
+}
+
+/// A volume of zeros, once it is stored.
+fn made(store: &mut LossyStore, alloc: Global) -> Result<VolumeSet, Refusal>
+    ensures { IfOk result (λ volume. HasShape volume 2048 512) }
+{
+    store.begin_plan(1);
+    let volume = VolumeSet::create(store, alloc, SIZE, BLOCK_SIZE, 1)?;
+    store_plan(store);
+    Ok(volume)
+}
+
+/// The volume after a write of so many bytes of one value at its front, once it is stored. The volume before was stored in
+/// the second group, or earlier.
+fn with_front(
+    volume: &VolumeSet,
+    store: &mut LossyStore,
+    alloc: Global,
+    group: u64,
+    byte: u8,
+    len: usize,
+) -> Result<VolumeSet, Refusal>
+    requires { 0 < group }
+    ensures { IfOk result (λ done. HasShape done (size_of volume.now)
+        (block_size_of volume.now)) }
+{
+    let name = name(alloc)?;
+    let write = write_of(alloc, 0, byte, len)?;
+    let changes = GroupWrites {
+        name: &name,
+        writes: &[write],
+    };
+    store.begin_plan(group);
+    let done = volume.written(store, alloc, &changes, 2, group)?;
+    store_plan(store);
+    Ok(done.volume)
+}
+
+/// Whether its first block has bytes of one value, or why it was not read.
+fn is_front(
+    volume: &VolumeSet,
+    store: &mut LossyStore,
+    alloc: Global,
+    byte: u8,
+) -> Result<bool, Refusal>
+    requires { 512 ≤ size_of volume.now }
+{
+    let read = volume.read(store, alloc, 4, 0, BLOCK_SIZE, &[])?;
+    Ok(read.iter().all(|found| *found == byte))
+}
+
+/// Whether the first block can't be read, a write of a part of it is refused, and one of all its bytes makes it readable.
+fn outcomes(store: &mut LossyStore, alloc: Global) -> Result<[bool; 3], Refusal> {
+    let zeros = made(store, alloc)?;
+    let before = with_front(&zeros, store, alloc, 2, 5, 1024)?;
+    lose_disks(store);
+    let lost = is_front(&before, store, alloc, 5);
+    let part = with_front(&before, store, alloc, 3, 6, 256);
+    let after = with_front(&before, store, alloc, 4, 7, 512)?;
+    let is_lost = matches!(lost, Err(Refusal::DiskFault));
+    let is_refused = matches!(part, Err(Refusal::DiskFault));
+    Ok([is_lost, is_refused, is_front(&after, store, alloc, 7)?])
+}
+
+fn outcomes_in_memory(alloc: Global) -> Result<[bool; 3], Fail> {
+    let mut store = new_store(alloc)?;
+    Ok(outcomes(&mut store, alloc)?)
+}
+
+#[test]
+fn a_lost_block_is_written_whole(rt: HostRuntime) -> Result<(), Fail> {
+    assert_eq!(rt; outcomes_in_memory(rt.alloc())?, [true; 3]);
+    Ok(())
+}

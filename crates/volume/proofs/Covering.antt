@@ -1,0 +1,70 @@
+-- Blocks that a write covers: the bytes before make no difference.
+use Rattle.std.proofs.Common.{◌≡◌, ◌⊎◌, ⊎_elim, inl, inr, ℕ, zero, suc, ◌+◌, ◌-◌, ◌*◌, ◌/◌, ◌<◌, ◌≤◌, Bool, true, false, true≢false, nat_le, List, [], ◌∷◌, ◌++◌, take, drop, length, get_or, replicate, refl, sym, ap, ◌∙◌, subst, arith}
+use Rattle.std.specs.Prelude.{Any, cond}
+use Rattle.std.proofs.lemmas.Bool.{cases_lt}
+use Rattle.std.proofs.lemmas.Bool.Decides.{nat_tests}
+use Rattle.std.proofs.lemmas.List.{get_or-take, get_or-drop, get_or_append_left, get_or-append_right, length-take-le, length-replicate, same_lists, take_more}
+use Rattle.std.proofs.lemmas.List.Edits.{get_or-between}
+use Rattle.pool_model.specs.declared.item.Write.{Write}
+use Rattle.pool_model.specs.declared.volume.PlainVolume.{PlainVolume}
+use Rattle.pool_model.specs.Names.{same, stored}
+use Rattle.pool_model.specs.Pools.{volume_after}
+use Rattle.pool_model.proofs.Places.{is_same, name_after}
+use Rattle.volume_rules.specs.declared.shape.VolumeShape.{VolumeShape}
+use Rattle.volume_rules.specs.Overlay.{after_writes}
+use Rattle.volume_rules.proofs.Covering.{Sets, after_all}
+use Rattle.volume_rules.proofs.Overlays.{length_after_writes}
+use Rattle.volume.specs.declared.volume.VolumeSet.{VolumeSet}
+use Rattle.volume.specs.Volume.{part}
+use Rattle.volume.specs.Writing.{Covers, IsCovered}
+use Rattle.volume.proofs.BlockData.{length-part}
+use Rattle.volume.proofs.Changed.{Any-push_cases}
+use Rattle.volume.proofs.Ranges.{block_fits, slice_zeros}
+
+-- In a block that one of the writes covers, two volumes of one name and size have the same bytes after the writes, whatever they had before.
+pub covered_alike : (name : List ℕ) (size block_size id : ℕ) (volume other : PlainVolume) (writes : List Write) → volume.name ≡ name → other.name ≡ name
+    → length volume.bytes ≡ size → length other.bytes ≡ size → Any (λ write. (write.volume ≡ name) × Covers size block_size write id) writes
+    → part (after_writes volume writes).bytes block_size id ≡ part (after_writes other writes).bytes block_size id
+covered_alike name size block_size id volume other writes named also is too any =
+    same_lists (part (after_writes volume writes).bytes block_size id) (part (after_writes other writes).bytes block_size id) (long volume is ∙ sym (long other too))
+    (λ k d lt. let inside : k < block_size = omega (arith, long volume is) in
+    get_or-between (after_writes volume writes).bytes (id * block_size) (id * block_size + block_size) k d (omega arith)
+    ∙ after_all name size volume other writes (id * block_size + k) d named also is too (inr (any.0, any.1, any.2, any.3, sets k inside))
+    ∙ sym (get_or-between (after_writes other writes).bytes (id * block_size) (id * block_size + block_size) k d (omega arith)))
+  where
+    within : id * block_size + block_size ≤ size
+    within = let covers = any.4.1 in let to = covers.ends in let fits = covers.within in omega arith
+
+    long : (v : PlainVolume) → length v.bytes ≡ size → length (part (after_writes v writes).bytes block_size id) ≡ block_size
+    long v sized = length-part (after_writes v writes).bytes block_size id (let e = length_after_writes v writes in let fits = within in omega arith)
+
+    sets : (k : ℕ) → k < block_size → Sets name size any.1 (id * block_size + k)
+    sets k inside = let covers = any.4.1 in record {
+      named = any.4.0;
+      within = covers.within;
+      begins = let from = covers.begins in omega arith;
+      ends = let to = covers.ends in omega arith;
+    }
+
+-- So what is laid over zeros is what is laid over the volume's own bytes.
+pub laid_over_zeros : (volume : VolumeSet) (plain : PlainVolume) (name : List ℕ) (writes : List Write) (id : ℕ) (zeros new : List ℕ) → id < volume.size / volume.block_size → plain.name ≡ name
+    → length plain.bytes ≡ volume.size → IsCovered volume name writes id → zeros ≡ replicate volume.block_size 0
+    → ((v : PlainVolume) → v.name ≡ name → length v.bytes ≡ volume.size → zeros ≡ part v.bytes volume.block_size id → new ≡ part (after_writes v writes).bytes volume.block_size id)
+    → new ≡ part (after_writes plain writes).bytes volume.block_size id
+laid_over_zeros volume plain name writes id zeros new below named size covered are lays =
+    lays blank named (length-replicate volume.size 0) (are ∙ slice_zeros volume.size (id * volume.block_size) volume.block_size (block_fits id volume.size volume.block_size below))
+    ∙ covered_alike name volume.size volume.block_size id blank plain writes named named (length-replicate volume.size 0) size covered
+  where
+    blank : PlainVolume
+    blank = record plain { bytes = replicate volume.size 0 }
+
+-- ---- the search for a write that covers
+
+-- none of the writes so far, and not this one
+pub none_more : {X : Type 0} (P : X → Type 0) (xs : List X) (i : ℕ) (x : X) → i < length xs → x ≡ get_or xs i x → ¬ Any P (take i xs) → ¬ P x → ¬ Any P (take (i + 1) xs)
+none_more P xs i x lt is none apart any =
+    ⊎_elim none apart (Any-push_cases P (take i xs) x (subst (Any P) (take_more xs i x lt ∙ ap (λ y. take i xs ++ y ∷ []) (sym is)) any))
+
+-- the write at an index
+pub found_at : {X : Type 0} (P : X → Type 0) (xs : List X) (i : ℕ) (x : X) → i < length xs → x ≡ get_or xs i x → P x → Any P xs
+found_at P xs i x lt is here = (i, x, lt, sym is, here)

@@ -1,0 +1,6 @@
+pub mod Shapes
+pub mod GoodChanges
+pub mod Index
+pub mod NowMoves
+pub mod Overlay
+pub mod Covering

@@ -1,0 +1,161 @@
+//! Why a step is refused, as far as the shapes of the volumes tell.
+ghost use Rattle.std.specs.Prelude.{◌≡◌, ◌↔◌, IsTrue, Option, length};
+ghost use Rattle.std.specs.List.{list_all};
+ghost use Rattle.std.specs.Option.{option_map};
+ghost use Rattle.pool_model.specs.declared.volume.PlainVolume.{PlainVolume};
+ghost use Rattle.pool_model.specs.Names.{is_name_letter, is_name, is_block_size, name_of};
+ghost use Rattle.pool_model.specs.Pools.{PlainPool};
+ghost use Rattle.pool_model.specs.Refusals.{is_aligned, is_in_range, place_refusal, change_refusal, read_refusal};
+ghost use Rattle.volume_rules.specs.GoodChanges.{is_good_size, is_good_change, MakesGoodVolumes};
+ghost use Rattle.volume_rules.specs.Shapes.{shape_of, shape_at};
+
+use crate::shape::VolumeShape;
+use pool_model::{Change, Name, Refusal, Write};
+use txg_pipeline::Pending;
+
+/// The most bytes that one write or read may have: 1 MiB.
+const MOST_BYTES: u64 = 1 << 20;
+
+/// The most bytes that a volume may have: 1 TiB.
+const LARGEST_VOLUME: u64 = 1 << 40;
+
+fn is_letter_of_name(c: u8) -> bool
+    ensures { result ≡ is_name_letter c }
+{
+    c.is_ascii_lowercase() || c.is_ascii_digit() || c == b'.' || c == b'_' || c == b'-'
+}
+
+fn are_letters_of_name(letters: &[u8]) -> bool
+    ensures { result ≡ list_all is_name_letter letters.now }
+{
+    letters.iter().all(|c| is_letter_of_name(*c))
+}
+
+fn may_be_named(name: &Name) -> bool
+    ensures { result ≡ is_name name.now }
+{
+    match name.as_slice() {
+        [] => false,
+        [first, rest @ ..] => {
+            first.is_ascii_lowercase() && rest.len() <= 26 && are_letters_of_name(rest)
+        }
+    }
+}
+
+fn is_size_of_block(size: u64) -> bool
+    ensures { result ≡ is_block_size size }
+{
+    matches!(
+        size,
+        512 | 1024 | 2048 | 4096 | 8192 | 16384 | 32768 | 65536 | 131072
+    )
+}
+
+/// Whether a volume may have this size and this block size, in bytes.
+pub fn is_good_shape(size: u64, block_size: u64) -> bool
+    ensures { result ≡ is_good_size size block_size }
+{
+    is_size_of_block(block_size)
+        && size % block_size == 0
+        && block_size <= size
+        && size <= LARGEST_VOLUME
+}
+
+/// Whether a volume may be made so: with such a name, and of such a size.
+fn may_be_made(change: &Change) -> bool
+    ensures { result ≡ is_good_change change.now }
+{
+    match change {
+        Change::Create {
+            name,
+            size,
+            block_size,
+        } => may_be_named(name) && is_good_shape(*size, *block_size),
+    }
+}
+
+/// Whether each volume that a group makes may be made.
+pub fn makes_good_volumes(items: &Pending) -> bool
+    ensures { IsTrue result ↔ MakesGoodVolumes items.now }
+{
+    items
+        .actions()
+        .iter()
+        .all(|action| may_be_made(&action.change))
+}
+
+fn is_in_sectors(offset: u64, len: u64) -> bool
+    ensures { result ≡ is_aligned offset len }
+{
+    offset % 512 == 0 && len % 512 == 0 && len != 0
+}
+
+fn is_within(offset: u64, len: u64, size: u64) -> bool
+    ensures { (volume : PlainVolume) → size ≡ length volume.bytes →
+        result ≡ is_in_range offset len volume }
+{
+    len <= size && offset <= size - len && len <= MOST_BYTES
+}
+
+/// Why a write under a hold of this group is refused, by the shape of the volume that has its name.
+pub fn against_write(write: &Write, group: u64, found: Option<VolumeShape>) -> Option<Refusal>
+    ensures { (volume : Option PlainVolume) → found ≡ option_map shape_of volume →
+        result ≡ place_refusal write.now group volume }
+{
+    let Some(volume) = found else {
+        return Some(Refusal::NoSuchName);
+    };
+    if group <= volume.group {
+        return Some(Refusal::NotYet);
+    }
+    let len = write.bytes.len() as u64;
+    if !is_in_sectors(write.offset, len) {
+        return Some(Refusal::Misaligned);
+    }
+    if !is_within(write.offset, len, volume.size) {
+        return Some(Refusal::OutOfRange);
+    }
+    None
+}
+
+/// Why a change is refused, by the shape of the volume that has its name.
+pub fn against_change(change: &Change, found: Option<VolumeShape>) -> Option<Refusal>
+    ensures { (pool : PlainPool) → found ≡ shape_at (name_of change.now) pool →
+        result ≡ change_refusal change.now pool }
+{
+    match change {
+        Change::Create {
+            name,
+            size,
+            block_size,
+        } => {
+            if !may_be_named(name) {
+                return Some(Refusal::BadName);
+            }
+            if found.is_some() {
+                return Some(Refusal::Exists);
+            }
+            if !is_size_of_block(*block_size) || *size % *block_size != 0 {
+                return Some(Refusal::Misaligned);
+            }
+            if *size < *block_size || LARGEST_VOLUME < *size {
+                return Some(Refusal::OutOfRange);
+            }
+            None
+        }
+    }
+}
+
+/// Why a read is refused, by the shape of the volume that has its name.
+pub fn against_read(offset: u64, len: u64, found: Option<VolumeShape>) -> Option<Refusal>
+    ensures { (volume : Option PlainVolume) → found ≡ option_map shape_of volume →
+        result ≡ read_refusal offset len volume }
+{
+    let Some(volume) = found else {
+        return Some(Refusal::NoSuchName);
+    };
+    if !is_within(offset, len, volume.size) {
+        return Some(Refusal::OutOfRange);
+    }
+    None
+}

@@ -1,0 +1,20 @@
+//! The pool after all accepted groups: an index of its names, why a step is refused by it, how the machine's steps move
+//! it, and its bytes as pending writes over committed ones. Nothing here knows of disks.
+#![tactic(auto)]
+
+mod causes;
+mod covered;
+mod index;
+mod laws;
+mod overlay;
+mod shape;
+
+pub use causes::{against_change, against_read, against_write, is_good_shape, makes_good_volumes};
+pub use covered::is_covered;
+pub use index::NameIndex;
+pub use laws::{
+    changes_move_now, changes_that_are_not_refused_are_good,
+    creation_groups_tell_what_is_committed, groups_stay_below, indexes_follow_now, steps_move_now,
+};
+pub use overlay::{lay_over, read_pending};
+pub use shape::VolumeShape;
