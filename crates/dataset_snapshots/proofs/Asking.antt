@@ -19,11 +19,13 @@ use Rattle.objset.specs.declared.changes.SetCopies.{SetCopies}
 use Rattle.objset.specs.Demands.{AreDemandsOf, HasDemands}
 use Rattle.volume.specs.declared.volume.VolumeSet.{VolumeSet}
 use Rattle.volume.specs.Demands.{HasPlaces, HasSetDemands}
-use Rattle.volume.specs.Placing.{copies_of_datasets, data_change}
+use Rattle.volume.specs.Placing.{data_change}
 use Rattle.volume.specs.Reading.{IsVolumeFound}
 use Rattle.volume.specs.Volume.{block_of}
 use Rattle.dataset_snapshots.specs.declared.writing.WrittenVolume.{WrittenVolume}
 use Rattle.dataset_snapshots.specs.Demands.{AreAsked, HavePlacesFor, HasVolumeDemands}
+use Rattle.dnode.specs.declared.object_set.ObjectSetKind.TheVariants as kinds
+use Rattle.objset.specs.Changes.{copies_of}
 
 -- ---- one after the other
 
@@ -87,7 +89,7 @@ module _ (spaces others : List VdevSpace) (same : shapes_of others ≡ shapes_of
 
   pub set_demands_in : (set : ObjectSet) (birth : ℕ) (change : Change) (demands : List Demand) → HasSetDemands others set birth change demands → HasSetDemands spaces set birth change demands
   set_demands_in set birth change demands has =
-      record { of_objects = has.of_objects; are = all_demands_in set birth copies_of_datasets (data_change change) has.of_objects has.are; is = has.is }
+      record { of_objects = has.of_objects; are = all_demands_in set birth (copies_of kinds.Volume) (data_change change) has.of_objects has.are; is = has.is }
 
   pub volume_demands_in : (group : ℕ) (written : WrittenVolume) (demands : List Demand) → HasVolumeDemands others group written demands → HasVolumeDemands spaces group written demands
   volume_demands_in group written demands (inl none) = inl none

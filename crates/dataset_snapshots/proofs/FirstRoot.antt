@@ -28,7 +28,7 @@ use Rattle.pool_model.specs.Pools.{Entry, PlainPool, applied, no_volumes, writte
 use Rattle.pool_model.specs.Pools.{changed as pool_changed}
 use Rattle.vdev_label.specs.Plain.{PlainVdev}
 use Rattle.dataset_snapshots.specs.declared.making.Making.{Making}
-use Rattle.dataset_snapshots.specs.Creating.{HasFirstTables, copies_of_meta}
+use Rattle.dataset_snapshots.specs.Creating.{HasFirstTables}
 use Rattle.dataset_snapshots.specs.Demands.{HasRootPlaces, IsActionRefused, IsRootRefused}
 use Rattle.dataset_snapshots.specs.FirstGroup.{AreFirstGroupChanges, AreFirstVolumes, AreTableChanges, HasFirstPlaces, IsFirstRefused, IsWithTables, empty_meta}
 use Rattle.dataset_snapshots.specs.Groups.{IsSetOf}
@@ -38,6 +38,7 @@ use Rattle.dataset_snapshots.proofs.Asking.{all_demands_in}
 use Rattle.dataset_snapshots.proofs.GroupRoot.{behind_tables, zip_each}
 use Rattle.dataset_snapshots.proofs.MakingChanges.{changed_behind, changed_front, may_make, unchanged}
 use Rattle.dataset_snapshots.proofs.Staying.{datasets_stay}
+use Rattle.objset.specs.Changes.{copies_of}
 
 abbrev pub nothing : ℕ → Option Object
 nothing number = None
@@ -194,7 +195,7 @@ module _ (old mid new : Store) (group : ℕ) (vdevs : List PlainVdev) (items : E
     of_root = of_root;
     root_asks = record {
       of_objects = root_asks.of_objects;
-      are = all_demands_in old.spaces mid.spaces steps.shapes empty_meta group copies_of_meta changes root_asks.of_objects root_asks.are;
+      are = all_demands_in old.spaces mid.spaces steps.shapes empty_meta group (copies_of sets.Meta) changes root_asks.of_objects root_asks.are;
       is = root_asks.is;
     };
     places = have_both old.spaces mid.spaces new.spaces volumes.places.0 of_root volumes.places.2 root_has;

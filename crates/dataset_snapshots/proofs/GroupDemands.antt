@@ -27,13 +27,14 @@ use Rattle.pool_model.specs.Pools.{Entry}
 use Rattle.volume.specs.Demands.{empty_set}
 use Rattle.dataset_snapshots.specs.declared.groups.Opened.{Opened}
 use Rattle.dataset_snapshots.specs.declared.making.Making.{Making}
-use Rattle.dataset_snapshots.specs.Creating.{copies_of_meta}
 use Rattle.dataset_snapshots.specs.Demands.{AreAsked, AreGroupChanges, AreMade, AreNewObjects, AreVolumesRefused, HasActionDemands, HasGroupDemands, HasGroupPlaces, HasRootDemands, HasRootPlaces, HasVolumeDemands, HasVolumePlaces, HavePlacesFor, IsActionRefused, IsGroupRefused, IsRootRefused, IsVolumeUnplaced, IsWithDirectory, MakesAll, MakesObjectsOf, WritesDirectory, WritesRecord, demand_of_root, first_number}
 use Rattle.dataset_snapshots.specs.Finding.{AreRowsFound, IsMetaFound}
 use Rattle.dataset_snapshots.specs.Groups.{objects_of}
 use Rattle.dataset_snapshots.specs.Opening.{IsGroupFound, IsGroupUnread, IsOneUnread}
 use Rattle.dataset_snapshots.specs.Writing.{IsWritten}
 use Rattle.dataset_snapshots.proofs.Asking.{all_demands_in, set_demands_in}
+use Rattle.dnode.specs.declared.object_set.ObjectSetKind.TheVariants as kinds
+use Rattle.objset.specs.Changes.{copies_of}
 
 pub ok_so : {T E : Type 0} (result : Result T E) (P : T → Type 0) (Q : Type 0) → ((x : T) → P x → Q) → IfOk result P → OnOk result Q
 ok_so (Ok x) P Q so is = so x is
@@ -54,12 +55,12 @@ abbrev pub ObjectsHave : Store → Store → ObjectSet → ℕ → SetCopies →
 ObjectsHave old mid set group copies changes =
     (demands : List Demand) × HasDemands old.spaces set group copies changes demands × HavePlaces old.spaces demands mid.spaces
 
-root_demands : (spaces : List VdevSpace) (set : ObjectSet) (group : ℕ) (copies : SetCopies) (changes : List ObjectChange) (demands : List Demand) → copies ≡ copies_of_meta
+root_demands : (spaces : List VdevSpace) (set : ObjectSet) (group : ℕ) (copies : SetCopies) (changes : List ObjectChange) (demands : List Demand) → copies ≡ copies_of kinds.Meta
     → HasDemands spaces set group copies changes demands → HasRootDemands spaces set group changes (demands ++ demand_of_root ∷ [])
 root_demands spaces set group copies changes demands same has =
     record { of_objects = demands; are = subst (λ (c : SetCopies). HasDemands spaces set group c changes demands) same has; is = refl }
 
-pub root_places : (old mid new : Store) (set : ObjectSet) (group : ℕ) (copies : SetCopies) (changes : List ObjectChange) (block : Block) → copies ≡ copies_of_meta
+pub root_places : (old mid new : Store) (set : ObjectSet) (group : ℕ) (copies : SetCopies) (changes : List ObjectChange) (block : Block) → copies ≡ copies_of kinds.Meta
     → ObjectsHave old mid set group copies changes → length (dvas block.copies) ≡ 3 → AreChosen mid.spaces [] 2 (dvas block.copies) new.spaces → HasRootPlaces old new set group changes
 root_places old mid new set group copies changes block same objects three chosen = (
   objects.0 ++ demand_of_root ∷ [],
@@ -67,7 +68,7 @@ root_places old mid new set group copies changes block same objects three chosen
   have_both old.spaces mid.spaces new.spaces objects.0 (demand_of_root ∷ []) objects.2 (have_one mid.spaces new.spaces 2 3 (dvas block.copies) three chosen),
 )
 
-pub root_refused : (old mid new : Store) (set : ObjectSet) (group : ℕ) (copies : SetCopies) (changes : List ObjectChange) (refusal : Refusal) → copies ≡ copies_of_meta
+pub root_refused : (old mid new : Store) (set : ObjectSet) (group : ℕ) (copies : SetCopies) (changes : List ObjectChange) (refusal : Refusal) → copies ≡ copies_of kinds.Meta
     → ObjectsHave old mid set group copies changes → IsForRoom refusal → (refusal ≡ NoSpace → RanOut mid.spaces 2 3 new.spaces) → IsRootRefused old new set group changes refusal
 root_refused old mid new set group copies changes refusal same objects (inl memory) ran_out = inl memory
 root_refused old mid new set group copies changes refusal same objects (inr is) ran_out =
@@ -80,7 +81,7 @@ root_refused old mid new set group copies changes refusal same objects (inr is) 
       ),
     ))
 
-pub objects_refused : (old new : Store) (set : ObjectSet) (group : ℕ) (copies : SetCopies) (changes : List ObjectChange) (refusal : Refusal) → copies ≡ copies_of_meta
+pub objects_refused : (old new : Store) (set : ObjectSet) (group : ℕ) (copies : SetCopies) (changes : List ObjectChange) (refusal : Refusal) → copies ≡ copies_of kinds.Meta
     → ((refusal ≡ NoMemory) ⊎ (((refusal ≡ NoSpace) × LacksRoom old new set group copies changes) ⊎ IsChangeRefused old new [] set group changes refusal))
     → IsRootRefused old new set group changes refusal
 objects_refused old new set group copies changes refusal same (inl memory) = inl memory
@@ -221,7 +222,7 @@ module _ (old first second new : Store) (root : Block) (group : ℕ) (items : En
         of_root = of_root;
         root_asks = record {
           of_objects = root_asks.of_objects;
-          are = all_demands_in first.spaces second.spaces steps.shapes opened.set group copies_of_meta changes root_asks.of_objects root_asks.are;
+          are = all_demands_in first.spaces second.spaces steps.shapes opened.set group (copies_of kinds.Meta) changes root_asks.of_objects root_asks.are;
           is = root_asks.is;
         };
         is = refl;

@@ -1,11 +1,9 @@
--- The tables of a new pool, and the copies of the blocks of a meta object set.
+-- The tables of a new pool.
 use Rattle.std.specs.Prelude.{ℕ, List, [], Option}
-use Rattle.block_store.specs.declared.block.CopyCount.TheVariants.{Three}
 use Rattle.meta_objset.specs.Reading.{HasConfig}
 use Rattle.meta_objset.specs.SpaceMaps.{maps_kind}
 use Rattle.meta_objset.specs.StaleSpans.{spans_kind}
 use Rattle.object_table.specs.Tables.{HasTable}
-use Rattle.objset.specs.declared.changes.SetCopies.{SetCopies}
 use Rattle.objset.specs.Objects.{Object}
 use Rattle.vdev_label.specs.Plain.{PlainVdev}
 
@@ -14,7 +12,3 @@ pub record HasFirstTables (objects : ℕ → Option Object) (vdevs : List PlainV
   pub config : HasConfig (objects 2) vdevs
   pub spans : HasTable spans_kind (objects 3) []
   pub maps : HasTable maps_kind (objects 4) []
-
--- all blocks of the meta object set have three copies
-abbrev pub copies_of_meta : SetCopies
-copies_of_meta = record { «data» = Three; other = Three }

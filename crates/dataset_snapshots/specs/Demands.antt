@@ -30,11 +30,12 @@ use Rattle.volume.specs.Reading.{IsVolumeFound}
 use Rattle.dataset_snapshots.specs.declared.groups.Opened.{Opened}
 use Rattle.dataset_snapshots.specs.declared.making.Making.{Making}
 use Rattle.dataset_snapshots.specs.declared.writing.WrittenVolume.{WrittenVolume}
-use Rattle.dataset_snapshots.specs.Creating.{copies_of_meta}
 use Rattle.dataset_snapshots.specs.Groups.{objects_of}
 use Rattle.dataset_snapshots.specs.Making.{IsGoodCreation, numbers_end}
 use Rattle.dataset_snapshots.specs.Opening.{IsGroupFound, IsGroupUnread}
 use Rattle.dataset_snapshots.specs.Pools.{dead_list_kind}
+use Rattle.dnode.specs.declared.object_set.ObjectSetKind.TheVariants as kinds
+use Rattle.objset.specs.Changes.{copies_of}
 
 -- each of these things asks some, and these are all of them, one after the other
 abbrev pub AreAsked : {X : Type 0} → (X → List Demand → Type 0) → List X → List Demand → Type 0
@@ -248,7 +249,7 @@ demand_of_root = record { sectors = 2; copies = 3 }
 pub record HasRootDemands (spaces : List VdevSpace) (set : ObjectSet) (group : ℕ)
     (changes : List ObjectChange) (demands : List Demand) : Type 0 where
   pub of_objects : List Demand
-  pub are : HasDemands spaces set group copies_of_meta changes of_objects
+  pub are : HasDemands spaces set group (copies_of kinds.Meta) changes of_objects
   pub is : demands ≡ of_objects ++ demand_of_root ∷ []
 
 -- for what they ask places were taken, and for nothing else
@@ -260,7 +261,7 @@ HasRootPlaces old new set group changes =
 -- no place for a block of the objects, or for the block of the set behind all of them
 abbrev pub LacksRootPlaces : Store → Store → ObjectSet → ℕ → List ObjectChange → Type 0
 LacksRootPlaces old new set group changes =
-    LacksRoom old new set group copies_of_meta changes
+    LacksRoom old new set group (copies_of kinds.Meta) changes
     ⊎ ((demands : List Demand) × HasRootDemands old.spaces set group changes demands
     × LackPlaces old.spaces demands new.spaces)
 

@@ -20,23 +20,23 @@ ghost use Rattle.pool_model.specs.declared.item.Write.{Write};
 ghost use Rattle.pool_model.specs.Pools.{PlainPool, applied, written};
 ghost use Rattle.pool_model.specs.Pools.{changed as pool_changed};
 ghost use Rattle.vdev_label.specs.Plain.{PlainVdev};
-ghost use Rattle.dataset_snapshots.specs.Creating.{HasFirstTables, copies_of_meta};
+ghost use Rattle.dataset_snapshots.specs.Creating.{HasFirstTables};
 ghost use Rattle.dataset_snapshots.specs.Demands.{AreVolumesRefused, HasGroupPlaces, HasRootPlaces, HasVolumePlaces, IsGroupRefused, IsRootRefused, IsWithDirectory};
 ghost use Rattle.dataset_snapshots.specs.Groups.{IsOpened, IsOpenedFrom, IsSetOf, SpellsAfter};
 ghost use Rattle.dataset_snapshots.specs.Making.{AreGoodCreations, IsReady, SpellsMaking};
 ghost use Rattle.dataset_snapshots.specs.Opening.{IsGroupFound, IsGroupUnread};
 ghost use Rattle.dataset_snapshots.specs.Pools.{SpellsPool};
+ghost use Rattle.objset.specs.Changes.{copies_of};
 
 use crate::finding::read_meta;
 use crate::making::Making;
 use crate::writing::{WrittenVolume, place_written, read_written, written_objects};
 use block_pointer::Block;
-use block_store::{BlockStore, CopyCount, Refusal};
+use block_store::{BlockStore, Refusal};
 use dnode::ObjectSet;
-use dnode_slots::plan_set;
 use meta_objset::{Directory, read_directory};
 use model_disk::Disk;
-use objset::{ObjectChange, SetCopies};
+use objset::{ObjectChange, plan_set};
 use pool_model::{Action, Write};
 use std::alloc::{AllocError, Global};
 use txg_pipeline::Pending;
@@ -57,12 +57,6 @@ pub(crate) const MOST_NAMES: usize = 1 << 40;
 
 /// The number of the first object behind the tables.
 pub(crate) const FIRST_OBJECT: u64 = 5;
-
-/// All blocks of the meta object set have three copies.
-const COPIES: SetCopies = SetCopies {
-    data: CopyCount::Three,
-    other: CopyCount::Three,
-};
 
 /// Plans the root of a pool after the items of the transaction group `group`: its writes, and then the volumes that it makes. `root`
 /// is the root of the group before. Each block that a write reaches is read, and then each of them is planned anew: so where
@@ -267,6 +261,7 @@ pub(crate) fn plan_root<D: Disk + Drop>(
     group: u64,
 ) -> Result<Block, Refusal>
     requires set { FitsObjectSet set.now }
+    requires kind { set.now.kind ≡ sets.Meta }
     requires numbers { All (λ change. (0 < change.number) × (change.number < 32 * 128 ^ 5))
         changes.now }
     requires order { AllPairs (λ change later. change.number < later.number) changes.now }
@@ -283,7 +278,7 @@ pub(crate) fn plan_root<D: Disk + Drop>(
         → (later : Contents) × Plans store.new stored later × Extends planned later
         × IsSetOf later group root set.now.kind (changed changes.now objects)) }
     ensures no_room { IfErr result (λ refusal. refusal ≡ Refusal.NoSpace
-        → HasNoRoom store.old store.new [] copies_of_meta
+        → HasNoRoom store.old store.new [] (copies_of sets.Meta)
         ⊎ HasNoRoomFor store.old store.new [] 2 3) }
     ensures known { IfErr result (λ refusal. (stored planned : Contents) (bound : ℕ)
         (objects : ℕ → Option Object) (own : List Block) (blocks : ℕ → List Block)
@@ -296,6 +291,6 @@ pub(crate) fn plan_root<D: Disk + Drop>(
     ensures refused { IfErr result
         (IsRootRefused store.old store.new set.now group changes.now) }
 {
-    let rewrite = objset::change(set, store, alloc, changes, group, COPIES, &[])?;
-    plan_set(&rewrite.set, store, alloc, group, CopyCount::Three)
+    let rewrite = objset::change(set, store, alloc, changes, group, &[])?;
+    plan_set(&rewrite.set, store, alloc, group)
 }

@@ -16,9 +16,9 @@ use block_store::{BlockStore, Refusal};
 use meta_objset::{DatasetKind, DatasetRecord, padded};
 use model_disk::Disk;
 use pool_model::Change;
-use volume_rules::is_good_shape;
 use std::alloc::Global;
 use volume::VolumeSet;
+use volume_rules::is_good_shape;
 
 /// A volume that may be made: its name can stand in a row, and it can have its sizes.
 #[derive(Clone, Copy, Debug)]

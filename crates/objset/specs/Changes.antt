@@ -2,10 +2,13 @@
 use Rattle.std.specs.Prelude.{ℕ, ◌≡◌, ◌≢◌, ◌⊎◌, ◌*◌, ◌^◌, ◌<◌, ◌≤◌, ◌==◌, if◌then◌else◌, max, List, [], ◌∷◌, ◌++◌, length, Option, Some, None, IsSomeAnd, All}
 use Rattle.block_pointer.specs.declared.block.Block.{Block}
 use Rattle.block_store.specs.declared.block.CopyCount.{CopyCount}
+use Rattle.block_store.specs.declared.block.CopyCount.TheVariants.{One, Two, Three}
 use Rattle.block_store.specs.Blocks.{Contents, Extends, count_of}
 use Rattle.block_store.specs.Steps.{HasNoRoomFor}
 use Rattle.block_store.specs.Store.{Store}
 use Rattle.dnode.specs.declared.object_set.ObjectSet.{ObjectSet}
+use Rattle.dnode.specs.declared.object_set.ObjectSetKind.{ObjectSetKind}
+use Rattle.dnode.specs.declared.object_set.ObjectSetKind.TheVariants.{Meta, Volume}
 use Rattle.dnode_slots.specs.declared.writes.SetRewrite.{SetRewrite}
 use Rattle.dnode_tree.specs.declared.writes.BlockWrite.{BlockWrite}
 use Rattle.dnode_tree.specs.declared.writes.CopyCounts.{CopyCounts}
@@ -61,6 +64,12 @@ MayChange (Replace writes) object = IsSomeAnd object (λ there. AreWhole there.d
 abbrev pub changed : List ObjectChange → (ℕ → Option Object) → ℕ → Option Object
 changed [] objects number = objects number
 changed (change ∷ changes) objects number = if change.number == number then after_change change.change (objects number) else changed changes objects number
+
+-- the copies of the blocks of a set of that kind: all blocks of the meta object set have three, the
+-- data blocks of a volume one, and its other blocks two
+abbrev pub copies_of : ObjectSetKind → SetCopies
+copies_of Meta = record { «data» = Three; other = Three }
+copies_of Volume = record { «data» = One; other = Two }
 
 -- the copies of an object's blocks
 abbrev pub object_copies : SetCopies → CopyCounts

@@ -1,5 +1,6 @@
 //! What is changed in an object set.
 use block_store::CopyCount;
+use dnode::ObjectSetKind;
 use dnode_tree::{BlockWrite, CopyCounts};
 
 /// What becomes of an object.
@@ -36,7 +37,7 @@ pub struct ObjectChange {
     pub change: Change,
 }
 
-/// How many copies the blocks of a set have.
+/// How many copies the blocks of a set have: its kind says it.
 #[derive(Debug, Clone, Copy)]
 pub struct SetCopies {
     /// Of the data blocks of objects.
@@ -47,7 +48,24 @@ pub struct SetCopies {
 
 impl SetCopies {
     ghost use Rattle.std.specs.Prelude.{◌≡◌};
-    ghost use Rattle.objset.specs.Changes.{object_copies, dnode_copies};
+    ghost use Rattle.objset.specs.Changes.{object_copies, dnode_copies, copies_of};
+
+    /// Those of a set of that kind: one of a volume's data blocks, two of its other blocks, and three of each block of the meta
+    /// object set.
+    pub fn of_kind(kind: ObjectSetKind) -> SetCopies
+        ensures are { result ≡ copies_of kind }
+    {
+        match kind {
+            ObjectSetKind::Meta => SetCopies {
+                data: CopyCount::Three,
+                other: CopyCount::Three,
+            },
+            ObjectSetKind::Volume => SetCopies {
+                data: CopyCount::One,
+                other: CopyCount::Two,
+            },
+        }
+    }
 
     /// Those of an object's blocks.
     pub(crate) fn of_objects(self) -> CopyCounts

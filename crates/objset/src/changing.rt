@@ -14,7 +14,7 @@ ghost use Rattle.dnode_tree.specs.Spots.{demands_of};
 ghost use Rattle.dnode_tree.specs.Tree.{IsTree, property_of};
 ghost use Rattle.dnode_tree.specs.Ways.{root_of, IsWalkRefused};
 ghost use Rattle.dnode_tree.specs.Writes.{IsForRoom};
-ghost use Rattle.objset.specs.Changes.{AreWhole, AreGoodWrites, IsGoodChange, MayChange, changed, AreChanged, IsGrownFor, HasNoRoom, object_copies};
+ghost use Rattle.objset.specs.Changes.{AreWhole, AreGoodWrites, IsGoodChange, MayChange, changed, AreChanged, IsGrownFor, HasNoRoom, copies_of, object_copies};
 ghost use Rattle.objset.specs.Changing.{ChangesEach, IsEachRefused, ChangesOne, IsOneRefused, ChangesNode, IsNodeRefused, WritesObject, ReplacesObject, LacksRoomForObject, HavePlacesFor, LackPlacesFor, LacksRoomForFirst, IsDnodeRefused, IsWritingRefused, IsReplaceRefused};
 ghost use Rattle.objset.specs.Demands.{FitsChange, empty_node, demands_of_change, HasDemands, LacksRoom};
 ghost use Rattle.objset.specs.Objects.{Object, AreObjects};
@@ -31,7 +31,7 @@ use std::alloc::{AllocError, Global};
 
 /// Plans the set with these changes made of its objects, in the transaction group `birth`. The changes are in the order of
 /// their objects' numbers. Each block on the way is planned once, and no other object is read. The set before stays as it
-/// was: its blocks were born in the group `birth` or before. `BadPointer` where a change can't be made: an object is there
+/// was: its blocks were born in the group `birth` or before. Each block has as many copies as the set's kind asks. `BadPointer` where a change can't be made: an object is there
 /// already, or is not there, or its blocks have another size; and where a pointer on the way, or its fill count, is bad.
 ///
 /// After an error blocks may be planned that no object has: begin another plan.
@@ -41,7 +41,6 @@ pub fn change<D: Disk + Drop>(
     alloc: Global,
     changes: &[ObjectChange],
     birth: u64,
-    copies: SetCopies,
     missing: &[usize],
 ) -> Result<SetRewrite, Refusal>
     requires set { FitsObjectSet set.now }
@@ -60,10 +59,10 @@ pub fn change<D: Disk + Drop>(
         → bound ≤ birth → AnswersAreTrue store.old store.new
         → All (λ change. MayChange change.change (objects change.number)) changes.now
         × (later : Contents) × Plans store.new stored later
-        × AreChanged copies planned later birth done changes.now (changed changes.now objects)
-        own before) }
+        × AreChanged (copies_of set.now.kind) planned later birth done changes.now
+        (changed changes.now objects) own before) }
     ensures no_room { IfErr result (λ refusal. refusal ≡ Refusal.NoSpace
-        → HasNoRoom store.old store.new missing.now copies) }
+        → HasNoRoom store.old store.new missing.now (copies_of set.now.kind)) }
 
     // And they are made, over disks that answer truly, unless there is no room or too many disks
     // miss of a block.
@@ -76,13 +75,14 @@ pub fn change<D: Disk + Drop>(
 
     // Whatever the set is: what places are taken for, and on a refusal its cause.
     ensures places { OnOk result ((demands : List Demand)
-        × HasDemands store.old.spaces set.now birth copies changes.now demands
+        × HasDemands store.old.spaces set.now birth (copies_of set.now.kind) changes.now demands
         × HavePlaces store.old.spaces demands store.new.spaces) }
     ensures refused { IfErr result (λ refusal. (refusal ≡ Refusal.NoMemory)
         ⊎ (((refusal ≡ Refusal.NoSpace)
-        × LacksRoom store.old store.new set.now birth copies changes.now)
+        × LacksRoom store.old store.new set.now birth (copies_of set.now.kind) changes.now)
         ⊎ IsChangeRefused store.old store.new missing.now set.now birth changes.now refusal)) }
 {
+    let copies = SetCopies::of_kind(set.kind);
     let changing = Changing {
         birth,
         copies,

@@ -6,6 +6,7 @@ mod changing;
 mod finding;
 mod laws;
 mod reading;
+mod set_blocks;
 mod shape;
 mod within;
 
@@ -17,5 +18,6 @@ pub use dnode_tree::BlockWrite;
 pub use finding::find;
 pub use laws::{objects_stand_on_their_blocks, replaced_blocks_of_sets_are_freed};
 pub use reading::{get, walk};
+pub use set_blocks::plan_set;
 pub use shape::ObjectShape;
 pub use within::walk_within;

@@ -5,18 +5,16 @@ ghost use Rattle.dnode.specs.ObjectSet.{FitsObjectSet};
 ghost use Rattle.meta_objset.specs.Record.{FitsRecord};
 ghost use Rattle.objset.specs.Changes.{IsGoodChange};
 
-use crate::objects::{COPIES, EMPTY};
+use crate::objects::EMPTY;
 use crate::stores::{Store, new_store, store_plan};
 use block_pointer::Block;
-use block_store::CopyCount;
 use dnode::ObjectSet;
-use dnode_slots::plan_set;
 use meta_objset::{
     DatasetKind, DatasetRecord, Directory, config_creation, config_replacement, is_name,
     read_config, read_directory, read_record, record_change, record_creation,
 };
 use object_table::{RowShape, TableKind, creation, read, replacement};
-use objset::{Change, ObjectChange, Refusal, change};
+use objset::{Change, ObjectChange, Refusal, change, plan_set};
 use std::alloc::Global;
 use std::test::Fail;
 use vdev_label::Config;
@@ -49,7 +47,7 @@ pub(crate) fn with(
         change: made,
     }];
     store.begin_plan(birth);
-    let done = change(set, store, alloc, &changes, birth, COPIES, &[])?;
+    let done = change(set, store, alloc, &changes, birth, &[])?;
     store_plan(store);
     Ok(done.set)
 }
@@ -199,7 +197,7 @@ pub(crate) fn block_of_set(store: &mut Store, alloc: Global) -> Result<Block, Re
     ensures { IfOk result FitsBlock }
 {
     store.begin_plan(1);
-    plan_set(&EMPTY, store, alloc, 1, CopyCount::Two)
+    plan_set(&EMPTY, store, alloc, 1)
 }
 
 /// Whether a record is read as it was written in the set, and none of another object.

@@ -5,7 +5,6 @@ ghost use Rattle.objset.specs.Changes.{AreGoodWrites, AreWhole, IsGoodChange};
 
 use crate::stores::{Store, new_store, store_plan};
 use block_pointer::BlockPtr;
-use block_store::CopyCount;
 use dnode::{ObjectNode, ObjectSet, ObjectSetKind};
 use objset::{
     BlockWrite, Change, ObjectChange, Refusal, SetCopies, SetRewrite, change, get, walk,
@@ -13,11 +12,6 @@ use objset::{
 };
 use std::alloc::{AllocError, Global};
 use std::test::Fail;
-
-pub(crate) const COPIES: SetCopies = SetCopies {
-    data: CopyCount::One,
-    other: CopyCount::Two,
-};
 
 /// A set with no object.
 pub(crate) const EMPTY: ObjectSet = ObjectSet {
@@ -105,7 +99,7 @@ fn change_both(
 {
     let changes = [first, second];
     store.begin_plan(birth);
-    let done = change(set, store, alloc, &changes, birth, COPIES, &[])?;
+    let done = change(set, store, alloc, &changes, birth, &[])?;
     store_plan(store);
     Ok(done)
 }
@@ -191,6 +185,15 @@ fn made(store: &mut Store, alloc: Global) -> Result<(usize, [usize; 4], [usize; 
 fn made_in_memory(alloc: Global) -> Result<(usize, [usize; 4], [usize; 2]), Fail> {
     let mut store = new_store(alloc)?;
     Ok(made(&mut store, alloc)?)
+}
+
+#[test]
+fn copies_are_as_many_as_the_kind_asks(rt: HostRuntime) -> Result<(), Fail> {
+    let volume = SetCopies::of_kind(ObjectSetKind::Volume);
+    let meta = SetCopies::of_kind(ObjectSetKind::Meta);
+    assert_eq!(rt; [volume.data.count(), volume.other.count()], [1, 2]);
+    assert_eq!(rt; [meta.data.count(), meta.other.count()], [3, 3]);
+    Ok(())
 }
 
 #[test]

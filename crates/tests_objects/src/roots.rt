@@ -6,11 +6,10 @@ ghost use Rattle.meta_objset.specs.Record.{FitsRecord};
 use crate::meta::{block_of_set, name_of, record_of, with};
 use crate::stores::{Store, new_store, store_plan};
 use block_pointer::{Block, BlockPtr};
-use block_store::CopyCount;
 use dataset_snapshots::{Dataset, find, first_group};
 use dnode::{ObjectNode, ObjectSet, ObjectSetKind};
-use dnode_slots::plan_set;
 use meta_objset::{DatasetRecord, Directory, is_name, record_creation};
+use objset::plan_set;
 use pool_model::Name;
 use std::alloc::Global;
 use std::test::Fail;
@@ -61,7 +60,7 @@ fn root_with(store: &mut Store, alloc: Global, one: &DatasetRecord) -> Result<Bl
 {
     let set = set_with(store, alloc, one)?;
     store.begin_plan(3);
-    let root = plan_set(&set, store, alloc, 3, CopyCount::Three)?;
+    let root = plan_set(&set, store, alloc, 3)?;
     store_plan(store);
     Ok(root)
 }

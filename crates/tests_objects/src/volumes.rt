@@ -6,7 +6,7 @@ use crate::stores::{Store, new_store, store_plan};
 use pool_model::{Bytes, Name, Write};
 use std::alloc::{AllocError, Global};
 use std::test::Fail;
-use volume::{GroupWrites, Refusal, Rewritten, VolumeSet, dataset_copies};
+use volume::{GroupWrites, Refusal, Rewritten, VolumeSet};
 
 /// In bytes: 300 blocks.
 const SIZE: u64 = 153_600;
@@ -141,14 +141,6 @@ fn is_written_in_memory(alloc: Global) -> Result<bool, Fail> {
 #[test]
 fn a_volume_is_written_in_one_call(rt: HostRuntime) -> Result<(), Fail> {
     assert!(rt; is_written_in_memory(rt.alloc())?);
-    Ok(())
-}
-
-#[test]
-fn data_blocks_have_one_copy_and_others_two(rt: HostRuntime) -> Result<(), Fail> {
-    let copies = dataset_copies();
-    assert_eq!(rt; copies.data.count(), 1);
-    assert_eq!(rt; copies.other.count(), 2);
     Ok(())
 }
 

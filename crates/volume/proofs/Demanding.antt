@@ -22,8 +22,10 @@ use Rattle.objset.specs.Demands.{HasDemands, LacksRoom}
 use Rattle.objset.specs.Refused.{IsChangeRefused}
 use Rattle.volume.specs.declared.volume.VolumeSet.{VolumeSet}
 use Rattle.volume.specs.Demands.{demand_of_set, HasPlaces, HasPlacesFor, HasSetDemands, IsPlanRefused}
-use Rattle.volume.specs.Placing.{copies_of_datasets, data_change}
+use Rattle.volume.specs.Placing.{data_change}
 use Rattle.volume.specs.Reading.{IsVolumeFound}
+use Rattle.dnode.specs.declared.object_set.ObjectSetKind.TheVariants as kinds
+use Rattle.objset.specs.Changes.{copies_of}
 
 -- what objects asked places for by these copies, and had them
 abbrev pub ObjectsHave : Store → Store → ObjectSet → ℕ → SetCopies → Change → Type 0
@@ -31,7 +33,7 @@ ObjectsHave old mid set birth copies change =
     (demands : List Demand) × HasDemands old.spaces set birth copies (data_change change) demands × HavePlaces old.spaces demands mid.spaces
 
 -- and then the set's block
-pub places_with_set : (old mid new : Store) (set : ObjectSet) (birth : ℕ) (copies : SetCopies) (change : Change) (block : Block) → copies ≡ copies_of_datasets
+pub places_with_set : (old mid new : Store) (set : ObjectSet) (birth : ℕ) (copies : SetCopies) (change : Change) (block : Block) → copies ≡ copies_of kinds.Volume
     → ObjectsHave old mid set birth copies change → length (dvas block.copies) ≡ 2 → AreChosen mid.spaces [] 2 (dvas block.copies) new.spaces → HasPlacesFor old new set birth change
 places_with_set old mid new set birth copies change block same objects two chosen = (
   objects.0 ++ demand_of_set ∷ [],
@@ -44,7 +46,7 @@ places_with_set old mid new set birth copies change block same objects two chose
 )
 
 -- or not
-pub set_refused : (old mid new : Store) (set : ObjectSet) (birth : ℕ) (copies : SetCopies) (change : Change) (refusal : Refusal) → copies ≡ copies_of_datasets
+pub set_refused : (old mid new : Store) (set : ObjectSet) (birth : ℕ) (copies : SetCopies) (change : Change) (refusal : Refusal) → copies ≡ copies_of kinds.Volume
     → ObjectsHave old mid set birth copies change → IsForRoom refusal → (refusal ≡ NoSpace → RanOut mid.spaces 2 2 new.spaces) → IsPlanRefused old new set birth change refusal
 set_refused old mid new set birth copies change refusal same objects (inl memory) ran_out = inl memory
 set_refused old mid new set birth copies change refusal same objects (inr is) ran_out =
@@ -62,7 +64,7 @@ set_refused old mid new set birth copies change refusal same objects (inr is) ra
     ))
 
 -- the change of the objects was refused
-pub objects_refused : (old new : Store) (set : ObjectSet) (birth : ℕ) (copies : SetCopies) (change : Change) (refusal : Refusal) → copies ≡ copies_of_datasets
+pub objects_refused : (old new : Store) (set : ObjectSet) (birth : ℕ) (copies : SetCopies) (change : Change) (refusal : Refusal) → copies ≡ copies_of kinds.Volume
     → ((refusal ≡ NoMemory) ⊎ (((refusal ≡ NoSpace) × LacksRoom old new set birth copies (data_change change)) ⊎ IsChangeRefused old new [] set birth (data_change change) refusal))
     → IsPlanRefused old new set birth change refusal
 objects_refused old new set birth copies change refusal same (inl memory) = inl memory

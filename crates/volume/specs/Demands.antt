@@ -17,9 +17,10 @@ use Rattle.objset.specs.Demands.{HasDemands, LacksRoom}
 use Rattle.objset.specs.Refused.{IsChangeRefused}
 use Rattle.volume.specs.declared.volume.VolumeSet.{VolumeSet}
 use Rattle.volume.specs.declared.writing.GroupWrites.{GroupWrites}
-use Rattle.volume.specs.Placing.{copies_of_datasets, data_change}
+use Rattle.volume.specs.Placing.{data_change}
 use Rattle.volume.specs.Reading.{IsReadRefused, IsVolumeFound, IsVolumeRefused}
 use Rattle.volume.specs.Writing.{AreBlocksOf, HasId, IsChanged, NeedsOldBytes}
+use Rattle.objset.specs.Changes.{copies_of}
 
 -- the block of an object set: 2 sectors, two copies
 abbrev pub demand_of_set : Demand
@@ -30,7 +31,7 @@ demand_of_set = record { sectors = 2; copies = 2 }
 pub record HasSetDemands (spaces : List VdevSpace) (set : ObjectSet) (birth : ℕ) (change : Change)
     (demands : List Demand) : Type 0 where
   pub of_objects : List Demand
-  pub are : HasDemands spaces set birth copies_of_datasets (data_change change) of_objects
+  pub are : HasDemands spaces set birth (copies_of kinds.Volume) (data_change change) of_objects
   pub is : demands ≡ of_objects ++ demand_of_set ∷ []
 
 -- for what the change asks places were taken, and for nothing else
@@ -42,7 +43,7 @@ HasPlacesFor old new set birth change =
 -- no place for a block of the objects, or for the block of the set behind all of them
 abbrev pub LacksPlacesFor : Store → Store → ObjectSet → ℕ → Change → Type 0
 LacksPlacesFor old new set birth change =
-    LacksRoom old new set birth copies_of_datasets (data_change change)
+    LacksRoom old new set birth (copies_of kinds.Volume) (data_change change)
     ⊎ ((demands : List Demand) × HasSetDemands old.spaces set birth change demands
     × LackPlaces old.spaces demands new.spaces)
 

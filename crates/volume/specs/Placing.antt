@@ -4,7 +4,6 @@ use Rattle.std.specs.declared.alloc.Global.{Global}
 use Rattle.block_pointer.specs.declared.block.Block.{Block}
 use Rattle.block_pointer.specs.Copies.{dvas}
 use Rattle.block_store.specs.Blocks.{Contents, Adds}
-use Rattle.block_store.specs.declared.block.CopyCount.TheVariants.{One, Two}
 use Rattle.block_store.specs.Steps.{HasNoRoomFor}
 use Rattle.block_store.specs.Store.{Store}
 use Rattle.dnode.specs.declared.object_set.ObjectSet.{ObjectSet}
@@ -15,20 +14,16 @@ use Rattle.dnode_tree.specs.declared.writes.BlockWrite.{BlockWrite}
 use Rattle.objset.specs.declared.changes.Change.{Change}
 use Rattle.objset.specs.declared.changes.Change.TheVariants.{Put}
 use Rattle.objset.specs.declared.changes.ObjectChange.{ObjectChange}
-use Rattle.objset.specs.declared.changes.SetCopies.{SetCopies}
-use Rattle.objset.specs.Changes.{AreChanged, HasNoRoom, changed}
+use Rattle.objset.specs.Changes.{AreChanged, HasNoRoom, changed, copies_of}
 use Rattle.objset.specs.Objects.{Object}
 use Rattle.volume.specs.declared.placing.Rewritten.{Rewritten}
 use Rattle.volume.specs.declared.volume.VolumeSet.{VolumeSet}
 use Rattle.volume.specs.Volume.{block_of, Spells}
-
--- data blocks of datasets have one copy, and all their other blocks two
-abbrev pub copies_of_datasets : SetCopies
-copies_of_datasets = record { «data» = One; other = Two }
+use Rattle.dnode.specs.declared.object_set.ObjectSetKind.TheVariants as kinds
 
 -- there was no room for a block of the data or of the objects, or for that of the object set
 abbrev pub LacksRoom : Store → Store → Type 0
-LacksRoom old new = HasNoRoom old new [] copies_of_datasets ⊎ HasNoRoomFor old new [] 2 2
+LacksRoom old new = HasNoRoom old new [] (copies_of kinds.Volume) ⊎ HasNoRoomFor old new [] 2 2
 
 -- the change of the object that has the data
 abbrev pub data_change : Change → List ObjectChange
@@ -39,7 +34,7 @@ pub record IsSetPlanned (planned later : Contents) (birth : ℕ) (set : ObjectSe
     (block : Block) (gone : List Block) : Type 0 where
   pub mid : Contents
   pub rewrite : SetRewrite
-  pub objects_are : AreChanged copies_of_datasets planned mid birth rewrite (data_change change) (changed (data_change change) objects) own before
+  pub objects_are : AreChanged (copies_of kinds.Volume) planned mid birth rewrite (data_change change) (changed (data_change change) objects) own before
   pub kind : rewrite.set.kind ≡ set.kind
   pub adds : Adds mid later block (object_set_bytes rewrite.set)
   pub is_set : IsSetBlock later birth block rewrite.set

@@ -14,6 +14,6 @@ mod writing;
 pub use block_store::Refusal;
 pub use dnode_tree::BlockWrite;
 pub use laws::{losses_of_volumes, volumes_stand_on_their_blocks, volumes_stay};
-pub use placing::{Rewritten, dataset_copies};
+pub use placing::Rewritten;
 pub use volume::VolumeSet;
 pub use writing::GroupWrites;

@@ -3,7 +3,7 @@ ghost use Rattle.std.specs.Prelude.{◌≡◌, ◌≢◌, ◌⊎◌, ◌≤◌, 
 ghost use Rattle.std.specs.declared.alloc.Global.{Global};
 ghost use Rattle.block_pointer.specs.declared.block.Block.{Block};
 ghost use Rattle.block_pointer.specs.Block.{FitsBlock};
-ghost use Rattle.block_store.specs.Blocks.{Contents, Extends, count_of};
+ghost use Rattle.block_store.specs.Blocks.{Contents, Extends};
 ghost use Rattle.block_store.specs.Plans.{Plans};
 ghost use Rattle.block_store.specs.Steps.{OnlyReadsAndPlans, AnswersAreTrue};
 ghost use Rattle.dnode.specs.declared.object_set.ObjectSet.{ObjectSet};
@@ -13,21 +13,21 @@ ghost use Rattle.dnode_tree.specs.Writes.{IsForRoom};
 ghost use Rattle.objset.specs.Changes.{IsGoodChange, MayChange};
 ghost use Rattle.objset.specs.Objects.{Object, AreObjects};
 ghost use Rattle.volume.specs.Demands.{ArePutBy, HasPlaces, HasPlacesFor, IsPlacingRefused, IsPlanRefused, IsWritingRefused};
-ghost use Rattle.volume.specs.Placing.{copies_of_datasets, IsPlaced, IsSetPlanned, LacksRoom};
+ghost use Rattle.volume.specs.Placing.{IsPlaced, IsSetPlanned, LacksRoom};
 ghost use Rattle.volume.specs.Volume.{size_of, block_size_of, block_of, HasData, HasShape, Spells};
 ghost use Rattle.volume.specs.Writing.{AreBlocksOf, IsArrayWith, IsChanged};
 ghost use Rattle.pool_model.specs.declared.volume.PlainVolume.{PlainVolume};
+ghost use Rattle.dnode.specs.declared.object_set.ObjectSetKind.TheVariants as kinds;
 ghost use Rattle.volume_rules.specs.Overlay.{after_writes};
 
 use crate::volume::{DATA, VolumeSet};
 use crate::writing::GroupWrites;
 use block_pointer::Block;
-use block_store::{BlockStore, CopyCount, Refusal};
+use block_store::{BlockStore, Refusal};
 use dnode::ObjectSet;
-use dnode_slots::plan_set;
 use dnode_tree::BlockWrite;
 use model_disk::Disk;
-use objset::{Change, ObjectChange, SetCopies};
+use objset::{Change, ObjectChange, plan_set};
 use std::alloc::{AllocError, Global};
 
 /// A volume after some of its blocks were written anew.
@@ -44,18 +44,6 @@ pub(crate) struct PlannedSet {
     pub block: Block,
     /// The blocks of the objects before that gave way to others.
     pub replaced: Vec<Block>,
-}
-
-/// How many copies the blocks of a dataset have.
-pub fn dataset_copies() -> SetCopies
-    ensures are { result ≡ copies_of_datasets }
-    ensures data { count_of result.data ≡ 1 }
-    ensures other { count_of result.other ≡ 2 }
-{
-    SetCopies {
-        data: CopyCount::One,
-        other: CopyCount::Two,
-    }
 }
 
 impl VolumeSet {
@@ -213,7 +201,7 @@ impl VolumeSet {
     }
 }
 
-/// Plans a set with one change of its object 1, and the set's block.
+/// Plans a volume's set with one change of its object 1, and the set's block.
 pub(crate) fn plan_change<D: Disk + Drop>(
     set: &ObjectSet,
     store: &mut BlockStore<D>,
@@ -222,6 +210,7 @@ pub(crate) fn plan_change<D: Disk + Drop>(
     birth: u64,
 ) -> Result<PlannedSet, Refusal>
     requires set { FitsObjectSet set.now }
+    requires kind { set.now.kind ≡ kinds.Volume }
     requires good { IsGoodChange change }
     requires born { 0 < birth }
     ensures steps { OnlyReadsAndPlans store.old store.new [] }
@@ -248,8 +237,8 @@ pub(crate) fn plan_change<D: Disk + Drop>(
         number: DATA,
         change,
     }];
-    let rewrite = objset::change(set, store, alloc, &changes, birth, dataset_copies(), &[])?;
-    let block = plan_set(&rewrite.set, store, alloc, birth, CopyCount::Two)?;
+    let rewrite = objset::change(set, store, alloc, &changes, birth, &[])?;
+    let block = plan_set(&rewrite.set, store, alloc, birth)?;
     Ok(PlannedSet {
         block,
         replaced: rewrite.replaced,

@@ -1,12 +1,33 @@
-use Rattle.std.proofs.Common.{[], List, All, inl, inr, ⊎_elim, refl, subst, arith}
+use Rattle.std.proofs.Common.{◌≡◌, ◌∙◌, ℕ, [], List, All, ap, inl, inr, ⊎_elim, subst, arith}
 use Rattle.std.specs.Prelude.{Any}
 use Rattle.std.proofs.lemmas.Result.{IfOk-weaker, IfErr-weaker}
 use Rattle.dataset_snapshots.proofs.GroupDemands.{err_both, objects_refused, ok_so, root_places, root_refused}
 use Rattle.block_store.proofs.Steps.{no_room_now, no_room_on, steps_on, true_before}
 use Rattle.dnode_tree.proofs.Refusing.{ok_both, passed_on}
 use Rattle.objset.proofs.Kept.{objects_stand}
-use Rattle.objset.specs.Changes.{changed}
+use Rattle.block_store.specs.Blocks.{count_of}
+use Rattle.block_store.specs.Places.{RanOut}
+use Rattle.block_store.specs.Store.{Store}
+use Rattle.dnode.specs.declared.object_set.ObjectSetKind.{ObjectSetKind}
+use Rattle.dnode.specs.declared.object_set.ObjectSetKind.TheVariants.{Meta}
+use Rattle.objset.specs.declared.changes.SetCopies.{SetCopies}
+use Rattle.objset.specs.Changes.{HasNoRoom, changed, copies_of}
 use Rattle.dataset_snapshots.proofs.groups.plan_root.Goals as goal
+
+-- the meta object set has three copies
+three : {kind : ObjectSetKind} → kind ≡ Meta → count_of (copies_of kind).other ≡ 3
+three is = ap (λ kind. count_of (copies_of kind).other) is
+
+three_copies : (old new : Store) (kind : ObjectSetKind) → kind ≡ Meta → RanOut old.spaces 2 (count_of (copies_of kind).other) new.spaces → RanOut old.spaces 2 3 new.spaces
+three_copies old new kind is = subst (λ (count : ℕ). RanOut old.spaces 2 count new.spaces) (three is)
+
+pub returns-clause-copies : goal.returns-clause-copies
+returns-clause-copies g c = IfOk-weaker c.plan_set.result _ _ (λ root is. is ∙ three (c.in_ok-rewrite.ensures.kind ∙ c.requires.kind)) c.plan_set.ensures.copies
+
+pub returns-in_err-rewrite-clause-no_room : goal.returns-in_err-rewrite-clause-no_room
+returns-in_err-rewrite-clause-no_room g c =
+    passed_on _ _ _ c.from_residual.ensures.1
+    (λ is. inl (subst (λ (copies : SetCopies). HasNoRoom c.args.store.now c.change.new.store [] copies) (ap copies_of c.requires.kind) (c.in_err-rewrite.ensures.no_room is)))
 
 all_or_none : {X : Type 0} (P : X → Type 0) (xs : List X) → All P xs → Any (λ x. ¬ P x) xs → ⊥
 all_or_none P xs all (k, x, within, at, none) = none (subst P at (all k x within))
@@ -45,21 +66,23 @@ pub returns-clause-no_room : goal.returns-clause-no_room
 returns-clause-no_room g c =
     IfErr-weaker c.plan_set.result _ _
     (λ refusal no is. inr (no_room_on c.args.store.now c.change.new.store c.plan_set.new.store [] 2 3 c.in_ok-rewrite.ensures.steps
-    (no_room_now c.change.new.store c.plan_set.new.store [] 2 3 (no is))))
+    (no_room_now c.change.new.store c.plan_set.new.store [] 2 3
+    (three_copies c.change.new.store c.plan_set.new.store _ (c.in_ok-rewrite.ensures.kind ∙ c.requires.kind) (no is)))))
     c.plan_set.ensures.no_room
 
 pub returns-clause-known : goal.returns-clause-known
 returns-clause-known g c = IfErr-weaker c.plan_set.result _ _ (λ refusal room stored planned bound objects own blocks plans are le honest may. inl room) c.plan_set.ensures.refused
 
 pub returns-in_err-rewrite-clause-refused : goal.returns-in_err-rewrite-clause-refused
-returns-in_err-rewrite-clause-refused g c = passed_on _ _ _ c.from_residual.ensures.1 (objects_refused _ _ _ _ _ _ _ refl c.in_err-rewrite.ensures.refused)
+returns-in_err-rewrite-clause-refused g c = passed_on _ _ _ c.from_residual.ensures.1 (objects_refused _ _ _ _ _ _ _ (ap copies_of c.requires.kind) c.in_err-rewrite.ensures.refused)
 
 pub returns-clause-places : goal.returns-clause-places
 returns-clause-places g c =
-    ok_so c.plan_set.result _ _ (λ block both. root_places c.args.store.now c.change.new.store c.plan_set.new.store c.args.set.now c.args.group _ c.args.changes.now block refl
-    c.in_ok-rewrite.ensures.places both.0 both.1) (ok_both c.plan_set.result _ _ c.plan_set.ensures.copies c.plan_set.ensures.places)
+    ok_so c.plan_set.result _ _ (λ block both. root_places c.args.store.now c.change.new.store c.plan_set.new.store c.args.set.now c.args.group _ c.args.changes.now block (ap copies_of c.requires.kind)
+    c.in_ok-rewrite.ensures.places (both.0 ∙ three (c.in_ok-rewrite.ensures.kind ∙ c.requires.kind)) both.1) (ok_both c.plan_set.result _ _ c.plan_set.ensures.copies c.plan_set.ensures.places)
 
 pub returns-clause-refused : goal.returns-clause-refused
 returns-clause-refused g c =
-    IfErr-weaker c.plan_set.result _ _ (λ refusal both. root_refused c.args.store.now c.change.new.store c.plan_set.new.store c.args.set.now c.args.group _ c.args.changes.now refusal refl
-    c.in_ok-rewrite.ensures.places both.0 both.1) (err_both c.plan_set.result _ _ c.plan_set.ensures.refused c.plan_set.ensures.no_room)
+    IfErr-weaker c.plan_set.result _ _ (λ refusal both. root_refused c.args.store.now c.change.new.store c.plan_set.new.store c.args.set.now c.args.group _ c.args.changes.now refusal (ap copies_of c.requires.kind)
+    c.in_ok-rewrite.ensures.places both.0
+    (λ is. three_copies c.change.new.store c.plan_set.new.store _ (c.in_ok-rewrite.ensures.kind ∙ c.requires.kind) (both.1 is))) (err_both c.plan_set.result _ _ c.plan_set.ensures.refused c.plan_set.ensures.no_room)
