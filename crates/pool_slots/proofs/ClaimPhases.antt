@@ -1,5 +1,5 @@
 -- A claim: one half of the labels, and then the other.
-use Rattle.std.proofs.Common.{◌≡◌, ◌⊎◌, inl, inr, ◌<◌, ◌∙◌, ℕ, ◌+◌, ◌%◌, Bool, List, ◌∷◌, length, slice_get, Option, Some, Contains, refl, sym, subst, arith}
+use Rattle.std.proofs.Common.{◌≡◌, ◌⊎◌, inl, inr, ◌<◌, ◌∙◌, ℕ, ◌+◌, ◌%◌, Bool, List, [], ◌∷◌, length, slice_get, Option, Some, Contains, refl, sym, subst, arith}
 use Rattle.uberblock_ring.specs.declared.uberblock.Uberblock.{Uberblock}
 use Rattle.uberblock_ring.specs.Uberblock.{Fits}
 use Rattle.uberblock_ring.specs.Ranking.{RanksUpTo}
@@ -8,7 +8,7 @@ use Rattle.model_disk.specs.Joint.{Disks, bytes_of, content}
 use Rattle.model_disk.specs.Runs.{Makes}
 use Rattle.model_disk.proofs.RunLemmas.{off_content, Makes-more, Makes-wider, each_weaker}
 use Rattle.pool_slots.specs.Slots.{AreThere, InUse, HaveLabels, MakesOn, AreSettled, spelled, slot_at, IsSlot, Shows}
-use Rattle.pool_slots.specs.Possible.{Possible, IsAllowed, LeadsOn, Trees, TreeStands, IsPossible, Leads, LeavesLeading}
+use Rattle.pool_slots.specs.Possible.{Possible, IsInReach, IsAllowed, LeadsOn, Trees, TreeStands, IsPossible, Leads, LeavesLeading}
 use Rattle.pool_slots.specs.Writes.{IsSlotWrite, in_use, InHalf, HasFound, InTurn, SlotsStand}
 use Rattle.pool_slots.specs.Commits.{AreOffLabels, AreAt, LeadAlways}
 use Rattle.pool_slots.specs.Opens.{AreOn, MayClaim, also_begun}
@@ -79,6 +79,11 @@ also last u begun v it =
       | inr later ↦ later_in last v (u ∷ begun) (later_in u v begun later)
     ]
 
+-- what an open may come to stays so as more is begun
+pub also_reached : (p : Possible) (u v : Uberblock) → IsInReach p v → IsInReach (also_begun u p) v
+also_reached p u v (inl among) = inl (also p.last u p.begun v among)
+also_reached p u v (inr earlier) = inr earlier
+
 -- one disk, once one half is written: it leads where it led, or to the uberblock
 half_leads : (size : ℕ) (held held' : ℕ → Option ℕ) (last u : Uberblock) (half : ℕ) (Good Good' : Uberblock → Type 0) → half < 2 → Fits u → RanksUpTo last u
     → ((v : Uberblock) → Good v → Good' v) → Good' u
@@ -143,8 +148,8 @@ between_halves trees out old mid p u all there room fits on may makes stand sett
           let it = (on which).0 used in
           half_leads (length (bytes_of old.starts which)) (content old which) (content mid which) p.last u ((it.0.other_half % 2 + 0) % 2)
           (IsPossible trees out (content old) p) (IsPossible trees out (content mid) (also_begun u p)) (omega arith) fits may.above
-          (λ v possible. (also p.last u p.begun v possible.0, tree_kept trees out old mid u v (InTurn all 0) fits may.off_labels makes possible.1))
-          (later_in p.last u (u ∷ p.begun) (first_in u p.begun), tree)
+          (λ v possible. (also_reached p u v possible.0, tree_kept trees out old mid u v (InTurn all 0) fits may.off_labels makes possible.1))
+          (inl (later_in p.last u (u ∷ p.begun) (first_in u p.begun)), tree)
           (λ label slot is away i inside. off_content (IsSlotWrite old.starts u (InTurn all 0)) old mid which (slot_at (length (bytes_of old.starts which)) label slot + i) makes
           (off_slot_writes old.starts u (InTurn all 0) which label slot fits (room which (there which used)) is
           (λ label' is' picked both. let R : ℕ → Type 0 = λ l. InTurn all 0 which l in away (same_half all which label it.0 it.1 (subst R both.0 picked), sym both.1)) i inside))
@@ -158,9 +163,9 @@ between_halves trees out old mid p u all there room fits on may makes stand sett
 pub first_always : (trees : Trees) (out : List Bool) (old new : Disks) (p : Possible) (u : Uberblock) (all : List (Option Found)) → AreThere out old.starts → HaveLabels old.starts → Fits u
     → MayClaim trees out old p u all → Makes (IsSlotWrite old.starts u (InTurn all 0)) old new → LeadAlways trees out old new (also_begun u p)
 first_always trees out old new p u all there room fits may makes =
-    phase_leaves trees out old new (IsSlotWrite old.starts u (InTurn all 0)) p.last (u ∷ p.begun) there may.settled
-    (leads_more trees out old.starts (content old) p.last p.begun (u ∷ p.begun) (also p.last u p.begun) may.leads)
-    (slot_phase trees out old p.last u (u ∷ p.begun) (InTurn all 0) there room fits may.off_labels (later_in p.last u (u ∷ p.begun) (first_in u p.begun)) may.tree
+    phase_leaves trees out old new (IsSlotWrite old.starts u (InTurn all 0)) (also_begun u p) there may.settled
+    (leads_more trees out old.starts (content old) p.last p.begun (u ∷ p.begun) p.before (also p.last u p.begun) may.leads)
+    (slot_phase trees out old (also_begun u p) u (InTurn all 0) there room fits may.off_labels (inl (later_in p.last u (u ∷ p.begun) (first_in u p.begun))) may.tree
     (λ which used. record {
       top = may.top which used;
       off = off_slot_writes old.starts u (InTurn all 0) which (may.top which used).label (may.top which used).slot fits (room which (there which used)) (may.top which used).is_slot
@@ -171,7 +176,7 @@ first_always trees out old new p u all there room fits may makes =
 -- ---- the second half
 
 second_phase : (trees : Trees) (out : List Bool) (old mid : Disks) (p : Possible) (u : Uberblock) (all : List (Option Found)) → AreThere out old.starts → HaveLabels old.starts → Fits u → AreOn out all
-    → MayClaim trees out old p u all → BetweenHalves trees out old mid p u all → IsPhase trees out mid (IsSlotWrite mid.starts u (InTurn all 1)) p.last (u ∷ p.begun)
+    → MayClaim trees out old p u all → BetweenHalves trees out old mid p u all → IsPhase trees out mid (IsSlotWrite mid.starts u (InTurn all 1)) (also_begun u p)
 second_phase trees out old mid p u all there room fits on may between =
     let starts = between.makes.starts in
     let T : List (List ℕ) → Type 0 = AreThere out in
@@ -181,7 +186,7 @@ second_phase trees out old mid p u all there room fits on may between =
     let there' : AreThere out mid.starts = subst T (sym starts) there in
     let room' : HaveLabels mid.starts = subst R (sym starts) room in
     let stand = subst S (sym starts) between.stand in
-    slot_phase trees out mid p.last u (u ∷ p.begun) (InTurn all 1) there' room' fits (subst O (sym starts) may.off_labels) (later_in p.last u (u ∷ p.begun) (first_in u p.begun)) between.tree
+    slot_phase trees out mid (also_begun u p) u (InTurn all 1) there' room' fits (subst O (sym starts) may.off_labels) (inl (later_in p.last u (u ∷ p.begun) (first_in u p.begun))) between.tree
     (λ which used.
     let it = (on which).0 used in
     let half = (it.0.other_half % 2 + 0) % 2 in
@@ -209,12 +214,12 @@ second_always trees out old mid new p u all there room fits on may between makes
     let T : List (List ℕ) → Type 0 = AreThere out in
     phases_leave trees out old mid new (also_begun u p) (sym between.makes.starts) makes.newer makes.calls
     (first_always trees out old mid p u all there room fits may between.makes)
-    (phase_leaves trees out mid new (IsSlotWrite mid.starts u (InTurn all 1)) p.last (u ∷ p.begun) (subst T (sym between.makes.starts) there) between.settled between.leads
+    (phase_leaves trees out mid new (IsSlotWrite mid.starts u (InTurn all 1)) (also_begun u p) (subst T (sym between.makes.starts) there) between.settled between.leads
     (second_phase trees out old mid p u all there room fits on may between) makes)
 
 pub claim_done : (trees : Trees) (out : List Bool) (old mid new : Disks) (p : Possible) (u : Uberblock) (all : List (Option Found)) → AreThere out old.starts → HaveLabels old.starts → Fits u → AreOn out all
     → MayClaim trees out old p u all → BetweenHalves trees out old mid p u all → Makes (IsSlotWrite mid.starts u (InTurn all 1)) mid new
-    → SlotsStand (content new) mid.starts u (InTurn all 1) (length mid.starts) → AreSettled out new.calls → AreAt trees out new u
+    → SlotsStand (content new) mid.starts u (InTurn all 1) (length mid.starts) → AreSettled out new.calls → AreAt trees out new u []
 claim_done trees out old mid new p u all there room fits on may between makes stand settled =
     let starts = between.makes.starts in
     let S : List (List ℕ) → Type 0 = λ s. SlotsStand (content new) s u (InTurn all 1) (length s) in
@@ -232,11 +237,11 @@ claim_done trees out old mid new p u all there room fits on may between makes st
       | inr second ↦ stand' which label below is second
     ] in
     let T : List (List ℕ) → Type 0 = AreThere out in
-    record { there = subst T (sym (makes.starts ∙ starts)) there; fits = fits; settled = settled; leads = finished trees out old new u there room fits may.off_labels whole both may.below may.tree }
+    record { there = subst T (sym (makes.starts ∙ starts)) there; fits = fits; settled = settled; leads = finished trees out old new u [] (λ w. ⊥) there room fits may.off_labels whole both may.below (λ w none. absurd none) may.tree }
 
 -- ---- what was possible stays so
 
 pub also_leads : (trees : Trees) (out : List Bool) (old new : Disks) (p : Possible) (u : Uberblock) → LeadAlways trees out old new p → LeadAlways trees out old new (also_begun u p)
 also_leads trees out old new p u always =
     each_weaker (LeavesLeading trees out old.starts p) (LeavesLeading trees out old.starts (also_begun u p)) (length old.calls) new.calls
-    (λ calls leads images left untorn. leads_more trees out images _ p.last p.begun (u ∷ p.begun) (also p.last u p.begun) (leads images left untorn)) always
+    (λ calls leads images left untorn. leads_more trees out images _ p.last p.begun (u ∷ p.begun) p.before (also p.last u p.begun) (leads images left untorn)) always

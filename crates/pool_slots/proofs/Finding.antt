@@ -21,7 +21,7 @@ use Rattle.pool_slots.proofs.Reading.{longer}
 
 -- ---- the same of disks on which nothing was written since
 
-known_on : (old new : Disks) (which : ℕ) → Makes no_write old new → IsKnown old which → IsKnown new which
+pub known_on : (old new : Disks) (which : ℕ) → Makes no_write old new → IsKnown old which → IsKnown new which
 known_on old new which makes known i inside =
     let P : List (List ℕ) → Type 0 = λ starts. i < length (bytes_of starts which) in
     let it = known i (subst P makes.starts inside) in
@@ -37,7 +37,7 @@ honest_before first may mid new makes honest =
     let Q : List JointCall → Type 0 = AreHonestSince first mid.starts in
     parts_are_honest mid.starts first first makes.newer mid.calls (omega arith) (subst Q makes.calls (subst P makes.starts honest))
 
-honest_since : (first later : ℕ) (new : Disks) → first ≤ later → AreHonestSince first new.starts new.calls → AreHonestSince later new.starts new.calls
+pub honest_since : (first later : ℕ) (new : Disks) → first ≤ later → AreHonestSince first new.starts new.calls → AreHonestSince later new.starts new.calls
 honest_since first later new le honest = parts_are_honest new.starts first later [] new.calls le honest
 
 pub highest_same : (size : ℕ) (held held' : ℕ → Option ℕ) (found : Found) → ((i : ℕ) → held' i ≡ held i) → IsHighest size held found → IsHighest size held' found

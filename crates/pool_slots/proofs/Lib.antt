@@ -11,6 +11,7 @@ pub mod CommitPhases
 pub mod ClaimPhases
 pub mod Reading
 pub mod Finding
+pub mod BackReads
 pub mod OpenSteps
 pub mod Opened
 pub mod LifeSteps

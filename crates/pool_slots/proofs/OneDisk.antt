@@ -5,8 +5,8 @@ use Rattle.uberblock_ring.specs.declared.uberblock.Uberblock.{Uberblock}
 use Rattle.uberblock_ring.specs.Uberblock.{Fits}
 use Rattle.uberblock_ring.specs.Slot.{slot_number}
 use Rattle.model_disk.specs.Runs.{IsOff}
-use Rattle.pool_slots.specs.Slots.{spelled, slot_at, IsSlot, Shows, RanksBelow}
-use Rattle.pool_slots.specs.Possible.{IsAllowed, IsTopped, LeadsOn, AreBelow}
+use Rattle.pool_slots.specs.Slots.{spelled, slot_at, IsSlot, Shows, IsOutOfReach}
+use Rattle.pool_slots.specs.Possible.{IsAllowed, IsTopped, LeadsOn}
 use Rattle.pool_slots.proofs.Places.{length-spelled, same_or_not}
 
 -- a slot with the same bytes shows the same
@@ -46,7 +46,7 @@ one_slot held imaged writes place slot last Good Good' goods only written u show
       | inl before ↦
           let old = only u (record { fits = shows.fits; number = shows.number; bytes = before }) in
           let len' : length (spelled old.u) ≡ 1024 = length-spelled old.u old.shows.fits in
-          let rank : RanksBelow old.u last ⊎ Good' old.u = elim old.rank [ inl lower ↦ inl lower | inr good ↦ inr (goods old.u good) ] in
+          let rank : IsOutOfReach old.u last ⊎ Good' old.u = elim old.rank [ inl lower ↦ inl lower | inr good ↦ inr (goods old.u good) ] in
           record {
             u = old.u;
             shows = record {
@@ -117,25 +117,20 @@ leads_kept_on size held held' last Good Good' goods same leads =
       };
     }
 
-finished_slot : (held held' : ℕ → Option ℕ) (place slot : ℕ) (v : Uberblock) (Good : Uberblock → Type 0)
-    → ((i : ℕ) → i < 1024 → held' (place + i) ≡ held (place + i))
-    → IsAllowed held place slot v (λ w. ⊥) → IsAllowed held' place slot v Good
-finished_slot held held' place slot v Good same below =
-    record {
-      u = below.u;
-      shows = shows_same held held' place slot below.u same below.shows;
-      rank = elim below.rank [ inl lower ↦ inl lower | inr none ↦ absurd none ];
-    }
+-- each reading of a slot is out of this one's reach, or has this
+abbrev pub AreAllowed : ℕ → (ℕ → Option ℕ) → Uberblock → (Uberblock → Type 0) → Type 0
+AreAllowed size held v Good =
+    (label slot : ℕ) → IsSlot label slot → (u : Uberblock) → Shows held (slot_at size label slot) slot u → IsAllowed held (slot_at size label slot) slot v Good
 
--- Where all slots showed what is lower, and now those of its number show the uberblock and the others are as they were,
+-- Where all slots showed what is out of its reach or good, and now those of its number show the uberblock and the others are as they were,
 -- the disk leads to it.
-pub leads_finished : (size : ℕ) (held held' : ℕ → Option ℕ) (v : Uberblock) (Good : Uberblock → Type 0) → Fits v → Good v
-    → AreBelow size held v
+pub leads_finished : (size : ℕ) (held held' : ℕ → Option ℕ) (v : Uberblock) (Old Good : Uberblock → Type 0) → Fits v → Good v → ((w : Uberblock) → Old w → Good w)
+    → AreAllowed size held v Old
     → ((label slot : ℕ) → IsSlot label slot → ¬ (slot ≡ slot_number v.group) → (i : ℕ) → i < 1024 → held' (slot_at size label slot + i) ≡ held (slot_at size label slot + i))
     → ((label : ℕ) → label < 4 → (i : ℕ) → i < length (spelled v) → held' (slot_at size label (slot_number v.group) + i) ≡ slice_get (spelled v) i)
     → slot_number v.group < 128
     → LeadsOn size held' v Good
-leads_finished size held held' v Good fits good below others done small =
+leads_finished size held held' v Old Good fits good goods below others done small =
     record {
       only = λ label slot is u shows.
           elim (same_or_not slot (slot_number v.group)) [
@@ -149,7 +144,7 @@ leads_finished size held held' v Good fits good below others done small =
             | inr elsewhere ↦
                 let same = others label slot is elsewhere in
                 let before : Shows held (slot_at size label slot) slot u = shows_same held' held (slot_at size label slot) slot u (λ i inside. sym (same i inside)) shows in
-                finished_slot held held' (slot_at size label slot) slot v Good same (below label slot is u before)
+                kept_allowed held held' (slot_at size label slot) slot v Old Good goods same (below label slot is u before)
           ];
       top = record {
         label = 0;

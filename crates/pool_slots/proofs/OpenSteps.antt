@@ -1,23 +1,26 @@
 -- From what was read to what may be claimed.
-use Rattle.std.proofs.Common.{◌≡◌, inl, inr, ◌≤◌, ◌∙◌, ℕ, ◌+◌, ◌-◌, ◌%◌, Bool, List, length, slice_get, Option, Some, None, Err, refl, sym, subst, arith}
+use Rattle.std.proofs.Common.{◌≡◌, ◌⊎◌, inl, inr, ◌<◌, ◌≤◌, ◌∙◌, ℕ, ◌+◌, ◌-◌, ◌%◌, Bool, List, length, slice_get, Option, Some, None, Contains, Ok, Err, refl, sym, subst, arith}
 use Rattle.uberblock_ring.specs.declared.uberblock.Uberblock.{Uberblock}
-use Rattle.uberblock_ring.specs.Ranking.{RanksUpTo}
+use Rattle.uberblock_ring.specs.Ranking.{RanksUpTo, IsRewound}
 use Rattle.uberblock_ring.proofs.Ranks.{ranks_through}
 use Rattle.model_disk.specs.Joint.{Disks, bytes_of, content, AreHonestSince}
 use Rattle.model_disk.specs.Runs.{Makes, no_write}
 use Rattle.pool_slots.specs.OpenRefusals.{IsCause}
-use Rattle.pool_slots.specs.Opens.{AreKnown, IsHighest, IsBare, IsFoundOn, AreFound, AreOn, IsHighestOf, FindsAll, FindsHighest, CanOpen, IsClaimOf, also_begun, MayClaim}
+use Rattle.pool_slots.specs.Opens.{AreKnown, IsHighest, IsBare, IsFoundOn, AreFound, AreOn, IsHighestOf, IsShown, IsHighestShown, FindsAll, FindsHighest, TakesFrom, CanOpen, IsClaimOf, IsTakenFrom, also_begun, MayClaim}
 use Rattle.pool_slots.specs.Commits.{AreOffLabels, LeadAlways}
-use Rattle.pool_slots.specs.Possible.{Possible, Trees, IsPossible, Leads}
-use Rattle.pool_slots.specs.Slots.{AreThere, InUse, AreSettled, RanksBelow}
+use Rattle.pool_slots.specs.Possible.{Possible, IsBefore, all_of, Trees, IsPossible, Leads}
+use Rattle.pool_slots.specs.Slots.{AreThere, InUse, AreSettled, IsOutOfReach}
 use Rattle.pool_slots.specs.Writes.{InHalf}
 use Rattle.pool_slots.specs.declared.found.Found.{Found}
 use Rattle.pool_slots.specs.declared.refusal.Refusal.{Refusal}
 use Rattle.pool_slots.specs.declared.refusal.Refusal.TheVariants.{NoMemory, DiskFault, NoUberblock, UsedUp}
 use Rattle.pool_slots.proofs.ClaimPhases.{also_leads}
-use Rattle.pool_slots.proofs.Finding.{known_later, highest_same}
+use Rattle.pool_slots.proofs.Finding.{known_later, highest_same, honest_before, honest_since}
+use Rattle.pool_slots.proofs.BackReads.{shown_later, shown_earlier}
+use Rattle.pool_slots.proofs.Reading.{longer}
+use Rattle.model_disk.proofs.FailureLemmas.{failed_in_second}
 use Rattle.pool_slots.proofs.OneDisk.{leads_kept_on}
-use Rattle.pool_slots.proofs.Phases.{IsPhase, phase_leaves, phases_leave, none_same, settled_later}
+use Rattle.pool_slots.proofs.Phases.{IsPhase, phase_leaves, phases_leave, none_same, settled_later, both_made}
 
 -- ---- calls that write nothing
 
@@ -51,7 +54,7 @@ found_later out old new all makes are which found at = found_case out old new wh
 
 -- ---- before the claim
 
-nothing_phase : (trees : Trees) (out : List Bool) (old : Disks) (p : Possible) → Leads trees out old.starts (content old) p → IsPhase trees out old no_write p.last p.begun
+nothing_phase : (trees : Trees) (out : List Bool) (old : Disks) (p : Possible) → Leads trees out old.starts (content old) p → IsPhase trees out old no_write p
 nothing_phase trees out old p leads =
     record {
       whole = λ which label slot used is to written none. absurd none;
@@ -63,18 +66,22 @@ nothing_phase trees out old p leads =
 pub nothing_leaves : (trees : Trees) (out : List Bool) (old new : Disks) (p : Possible) → AreThere out old.starts → AreSettled out old.calls → Leads trees out old.starts (content old) p
     → Makes no_write old new → LeadAlways trees out old new p
 nothing_leaves trees out old new p there settled leads makes =
-    phase_leaves trees out old new no_write p.last p.begun there settled leads (nothing_phase trees out old p leads) makes
+    phase_leaves trees out old new no_write p there settled leads (nothing_phase trees out old p leads) makes
 
 pub leads_before : (trees : Trees) (out : List Bool) (old new : Disks) (p : Possible) → AreThere out old.starts → CanOpen trees out old p → Makes no_write old new → LeadAlways trees out old new p
 leads_before trees out old new p there can makes = nothing_leaves trees out old new p there can.settled can.leads makes
 
 -- ---- what may be claimed
 
-higher_than_last : (last u : Uberblock) → RanksUpTo last u → RanksBelow u last → ⊥
-higher_than_last last u (inl a) (inl b) = omega arith
-higher_than_last last u (inl a) (inr b) = omega (arith, b.0)
-higher_than_last last u (inr a) (inl b) = omega (arith, a.0)
-higher_than_last last u (inr a) (inr b) = omega (arith, a.1, b.1)
+higher_than_last : (last u v : Uberblock) → RanksUpTo last u → (v.claim ≡ u.claim) × (u.group ≤ v.group + 2) → IsOutOfReach v last → ⊥
+higher_than_last last u v (inl a) near (inl b) = omega (arith, near.0)
+higher_than_last last u v (inl a) near (inr b) = omega (arith, near.0, b.0)
+higher_than_last last u v (inr a) near (inl b) = omega (arith, near.0, a.0)
+higher_than_last last u v (inr a) near (inr b) = omega (arith, near.1, a.1, b.1)
+
+not_before : (last u : Uberblock) (before : List Uberblock) → RanksUpTo last u → IsBefore last before u → ⊥
+not_before last u before (inl a) it = omega (arith, a, it.claim)
+not_before last u before (inr a) it = omega (arith, a.1, it.lower)
 
 claim_up_to : (a b : Uberblock) → RanksUpTo a b → a.claim ≤ b.claim
 claim_up_to a b (inl x) = omega arith
@@ -100,33 +107,62 @@ on_disk trees out disks p all which can are on used =
       rank = ranks_through p.last top.u it.0.uberblock top.rank (highest.greatest top.label top.slot top.is_slot top.u top.shows);
     }
 
--- the uberblock that is taken
-pub record IsTaken (trees : Trees) (out : List Bool) (disks : Disks) (p : Possible) (taken : Uberblock) : Type 0 where
-  pub possible : IsPossible trees out (content disks) p taken
-  pub rank : RanksUpTo p.last taken
-
-pub is_taken : (trees : Trees) (out : List Bool) (disks : Disks) (p : Possible) (all : List (Option Found)) (taken : Uberblock) → CanOpen trees out disks p → AreFound out disks all → IsHighestOf all taken
-    → IsTaken trees out disks p taken
-is_taken trees out disks p all taken can are one =
+-- the highest of all is shown, and all that is shown ranks up to it
+pub highest_shown : (out : List Bool) (disks : Disks) (all : List (Option Found)) (u : Uberblock) → AreFound out disks all → AreOn out all → IsHighestOf all u → IsHighestShown out disks u
+highest_shown out disks all u are on one =
     let here = are one.which (Some one.found) one.at in
-    let highest = here.1 in
-    let leads = can.leads one.which here.0 in
-    let top = leads.top in
-    let rank : RanksUpTo p.last one.found.uberblock =
-    ranks_through p.last top.u one.found.uberblock top.rank (highest.greatest top.label top.slot top.is_slot top.u top.shows) in
-    let it = leads.only highest.label highest.slot highest.is_slot one.found.uberblock highest.shows in
-    let same : it.u ≡ one.found.uberblock = highest.alone it.u it.shows in
-    let P : Uberblock → Type 0 = λ v. IsPossible trees out (content disks) p v in
-    let Q : Uberblock → Type 0 = λ v. RanksBelow v p.last in
-    let R : Uberblock → Type 0 = λ v. RanksUpTo p.last v in
-    let good : IsPossible trees out (content disks) p one.found.uberblock = elim it.rank [
-      | inl lower ↦ absurd (higher_than_last p.last one.found.uberblock rank (subst Q same lower))
-      | inr good ↦ subst P same good
-    ] in
-    record { possible = subst P (sym one.is) good; rank = subst R (sym one.is) rank }
+    let it = here.1 in
+    let P : Uberblock → Type 0 = IsShown out disks in
+    record {
+      shown = subst P (sym one.is) (record { which = one.which; used = here.0; on = record { label = it.label; slot = it.slot; is_slot = it.is_slot; shows = it.shows; alone = it.alone } });
+      greatest = λ v shown.
+          let mine = (on shown.which).0 shown.used in
+          let highest = (are shown.which (Some mine.0) mine.1).1 in
+          ranks_through v mine.0.uberblock u (highest.greatest shown.on.label shown.on.slot shown.on.is_slot v shown.on.shows) (one.greatest shown.which mine.0 mine.1);
+    }
 
-abbrev pub claimed_as : Uberblock → Uberblock
-claimed_as taken = record taken { claim = taken.claim + 1 }
+-- what is shown is out of reach, or possible
+shown_allowed : (trees : Trees) (out : List Bool) (disks : Disks) (p : Possible) (v : Uberblock) → CanOpen trees out disks p → IsShown out disks v
+    → IsOutOfReach v p.last ⊎ IsPossible trees out (content disks) p v
+shown_allowed trees out disks p v can shown =
+    let on = shown.on in
+    let it = (can.leads shown.which shown.used).only on.label on.slot on.is_slot v on.shows in
+    let P : Uberblock → Type 0 = λ w. IsOutOfReach w p.last ⊎ IsPossible trees out (content disks) p w in
+    subst P (on.alone it.u it.shows) it.rank
+
+-- the highest that is shown is one of the possible ones, and no lower than the last one
+pub record IsTop (out : List Bool) (disks : Disks) (p : Possible) (highest : Uberblock) : Type 0 where
+  pub shown : IsHighestShown out disks highest
+  pub among : Contains (all_of p) highest
+  pub rank : RanksUpTo p.last highest
+
+pub is_top : (trees : Trees) (out : List Bool) (disks : Disks) (p : Possible) (all : List (Option Found)) (highest : Uberblock) → CanOpen trees out disks p → AreFound out disks all → AreOn out all
+    → IsHighestOf all highest → IsTop out disks p highest
+is_top trees out disks p all highest can are on one =
+    let mine = on_disk trees out disks p all one.which can are on (are one.which (Some one.found) one.at).0 in
+    let rank : RanksUpTo p.last highest = ranks_through p.last mine.found.uberblock highest mine.rank (one.greatest one.which mine.found mine.at) in
+    let shown = highest_shown out disks all highest are on one in
+    record {
+      shown = shown;
+      among = elim (shown_allowed trees out disks p highest can shown.shown) [
+        | inl far ↦ absurd (higher_than_last p.last highest highest rank (refl, omega arith) far)
+        | inr possible ↦ elim possible.0 [ inl among ↦ among | inr earlier ↦ absurd (not_before p.last highest p.before rank earlier) ]
+      ];
+      rank = rank;
+    }
+
+-- what is taken is possible
+is_taken : (trees : Trees) (out : List Bool) (disks : Disks) (p : Possible) (highest taken : Uberblock) (rewind : ℕ) → CanOpen trees out disks p → rewind < 3 → IsTop out disks p highest
+    → IsRewound highest rewind taken → IsShown out disks taken → IsPossible trees out (content disks) p taken
+is_taken trees out disks p highest taken rewind can few top rewound shown =
+    elim (shown_allowed trees out disks p taken can shown) [
+      | inl far ↦ absurd (higher_than_last p.last highest taken top.rank (rewound.0, omega (arith, few, rewound.1)) far)
+      | inr possible ↦ possible
+    ]
+
+-- what is taken, under the claim after that of the highest
+abbrev pub claimed_as : Uberblock → Uberblock → Uberblock
+claimed_as highest taken = record taken { claim = highest.claim + 1 }
 
 other_label : (label first : ℕ) → first ≡ 1 - label % 2 → InHalf ((first % 2 + 0) % 2) label → ⊥
 other_label label first is (inl a) = omega arith
@@ -135,14 +171,23 @@ other_label label first is (inr a) = omega arith
 same_found : (a b : Found) → Some (Some a) ≡ Some (Some b) → a ≡ b
 same_found a b e = cc
 
-claim_is : (trees : Trees) (out : List Bool) (disks : Disks) (p : Possible) (taken : Uberblock) → IsTaken trees out disks p taken → IsClaimOf p (claimed_as taken)
-claim_is trees out disks p taken it =
-    record { taken = taken; possible = it.possible.0; is = refl; above = omega (arith, claim_up_to p.last taken it.rank) }
+claim_is : (trees : Trees) (out : List Bool) (disks : Disks) (p : Possible) (highest taken : Uberblock) (rewind : ℕ) → IsTop out disks p highest → IsRewound highest rewind taken
+    → IsPossible trees out (content disks) p taken → IsClaimOf p rewind (claimed_as highest taken)
+claim_is trees out disks p highest taken rewind top rewound possible =
+    record {
+      highest = highest;
+      possible = top.among;
+      rank = top.rank;
+      taken = taken;
+      rewound = rewound;
+      reached = possible.0;
+      is = refl;
+      above = omega (arith, claim_up_to p.last highest top.rank);
+    }
 
-may_claim : (trees : Trees) (out : List Bool) (disks : Disks) (p : Possible) (all : List (Option Found)) (taken : Uberblock) → CanOpen trees out disks p → AreFound out disks all → AreOn out all
-    → IsHighestOf all taken → MayClaim trees out disks p (claimed_as taken) all
-may_claim trees out disks p all taken can are on one =
-    let it = is_taken trees out disks p all taken can are one in
+may_claim : (trees : Trees) (out : List Bool) (disks : Disks) (p : Possible) (all : List (Option Found)) (highest taken : Uberblock) → CanOpen trees out disks p → AreFound out disks all → AreOn out all
+    → IsHighestOf all highest → IsTop out disks p highest → IsPossible trees out (content disks) p taken → MayClaim trees out disks p (claimed_as highest taken) all
+may_claim trees out disks p all highest taken can are on one top possible =
     let here : (which : ℕ) → InUse out which → OnDisk disks p all which = λ which used. on_disk trees out disks p all which can are on used in
     record {
       off_labels = can.off_labels;
@@ -150,10 +195,10 @@ may_claim trees out disks p all taken can are on one =
       leads = can.leads;
       below = λ which used label slot is v shows.
           let mine = here which used in
-          let rank : RanksUpTo v taken = ranks_through v mine.found.uberblock taken (mine.highest.greatest label slot is v shows) (one.greatest which mine.found mine.at) in
-          record { u = v; shows = shows; rank = inl (inl (omega (arith, claim_up_to v taken rank))) };
-      above = inl (omega (arith, claim_up_to p.last taken it.rank));
-      tree = it.possible.1;
+          let rank : RanksUpTo v highest = ranks_through v mine.found.uberblock highest (mine.highest.greatest label slot is v shows) (one.greatest which mine.found mine.at) in
+          record { u = v; shows = shows; rank = inl (inl (omega (arith, claim_up_to v highest rank))) };
+      above = inl (omega (arith, claim_up_to p.last highest top.rank));
+      tree = possible.1;
       top = λ which used.
           let mine = here which used in
           record { label = mine.highest.label; slot = mine.highest.slot; u = mine.found.uberblock; is_slot = mine.highest.is_slot; shows = mine.highest.shows; rank = mine.rank };
@@ -164,23 +209,64 @@ may_claim trees out disks p all taken can are on one =
           other_label mine.highest.label mine.found.other_half mine.highest.half half;
     }
 
--- what an open has chosen after its scan
-pub record IsChosen (trees : Trees) (out : List Bool) (disks : Disks) (p : Possible) (taken : Uberblock) (all : List (Option Found)) : Type 0 where
-  pub possible : IsTaken trees out disks p taken
-  pub claim : IsClaimOf p (claimed_as taken)
-  pub may : MayClaim trees out disks p (claimed_as taken) all
+-- ---- the reads of an open
 
-pub chosen : (trees : Trees) (out : List Bool) (old disks : Disks) (p : Possible) (all seen : List (Option Found)) (taken : Uberblock) → CanOpen trees out old p → Makes no_write old disks
-    → AreHonestSince (length old.calls) disks.starts disks.calls
-    → (AreKnown out old → AreHonestSince (length old.calls) disks.starts disks.calls → AreFound out old all) → AreOn out all → seen ≡ all → IsHighestOf seen taken
-    → IsChosen trees out disks p taken all
-chosen trees out old disks p all seen taken can makes honest found on same one =
+-- The reads of an open: of all disks, and where it goes back once more.
+pub record Reads (out : List Bool) (rewind : ℕ) (old mid disks : Disks) (all : List (Option Found)) (highest taken : Uberblock) : Type 0 where
+  pub scan : Makes no_write old mid
+  pub back : Makes no_write mid disks
+  pub found : AreKnown out old → AreHonestSince (length old.calls) mid.starts mid.calls → AreFound out old all
+  pub on : AreOn out all
+  pub one : IsHighestOf all highest
+  pub takes : TakesFrom out highest rewind mid disks (Ok taken)
+
+pub scanned : (out : List Bool) (rewind : ℕ) (old mid disks : Disks) (all : List (Option Found)) (highest taken : Uberblock) → Reads out rewind old mid disks all highest taken → Makes no_write old disks
+scanned out rewind old mid disks all highest taken reads = both_made no_write old mid disks reads.scan reads.back
+
+found_first : (out : List Bool) (rewind : ℕ) (old mid disks : Disks) (all : List (Option Found)) (highest taken : Uberblock) → Reads out rewind old mid disks all highest taken → AreKnown out old
+    → AreHonestSince (length old.calls) disks.starts disks.calls → AreFound out old all
+found_first out rewind old mid disks all highest taken reads known honest =
+    reads.found known (honest_before (length old.calls) no_write mid disks reads.back honest)
+
+honest_back : (old mid disks : Disks) → Makes no_write old mid → AreHonestSince (length old.calls) disks.starts disks.calls → AreHonestSince (length mid.calls) disks.starts disks.calls
+honest_back old mid disks scan honest = honest_since (length old.calls) (length mid.calls) disks (longer old mid no_write scan) honest
+
+-- what is taken is shown
+taken_shown : (out : List Bool) (rewind : ℕ) (old mid disks : Disks) (all : List (Option Found)) (highest taken : Uberblock) → Reads out rewind old mid disks all highest taken → AreKnown out old
+    → AreHonestSince (length old.calls) disks.starts disks.calls → IsShown out old taken
+taken_shown out rewind old mid disks all highest taken reads known honest =
+    let are = found_first out rewind old mid disks all highest taken reads known honest in
+    let top = highest_shown out old all highest are reads.on reads.one in
+    shown_earlier out old mid taken reads.scan
+    (reads.takes.2 (known_later out old mid reads.scan known) (honest_back old mid disks reads.scan honest) (shown_later out old mid highest reads.scan top.shown))
+
+pub taken_from : (out : List Bool) (rewind : ℕ) (old mid disks : Disks) (all : List (Option Found)) (highest taken : Uberblock) → Reads out rewind old mid disks all highest taken → AreKnown out old
+    → AreHonestSince (length old.calls) disks.starts disks.calls → IsTakenFrom out old rewind (claimed_as highest taken)
+taken_from out rewind old mid disks all highest taken reads known honest =
+    record {
+      highest = highest;
+      top = highest_shown out old all highest (found_first out rewind old mid disks all highest taken reads known honest) reads.on reads.one;
+      taken = taken;
+      shown = taken_shown out rewind old mid disks all highest taken reads known honest;
+      rewound = reads.takes.0;
+      is = refl;
+    }
+
+-- what an open has chosen after its reads
+pub record IsChosen (trees : Trees) (out : List Bool) (rewind : ℕ) (disks : Disks) (p : Possible) (highest taken : Uberblock) (all : List (Option Found)) : Type 0 where
+  pub claim : IsClaimOf p rewind (claimed_as highest taken)
+  pub may : MayClaim trees out disks p (claimed_as highest taken) all
+
+pub chosen : (trees : Trees) (out : List Bool) (rewind : ℕ) (old mid disks : Disks) (p : Possible) (all : List (Option Found)) (highest taken : Uberblock) → CanOpen trees out old p → rewind < 3
+    → Reads out rewind old mid disks all highest taken → AreHonestSince (length old.calls) disks.starts disks.calls → IsChosen trees out rewind disks p highest taken all
+chosen trees out rewind old mid disks p all highest taken can few reads honest =
+    let makes = scanned out rewind old mid disks all highest taken reads in
     let can' = can_open_later trees out old disks p makes can in
-    let are = found_later out old disks all makes (found can.known honest) in
-    let P : List (Option Found) → Type 0 = λ xs. IsHighestOf xs taken in
-    let one' = subst P same one in
-    let it = is_taken trees out disks p all taken can' are one' in
-    record { possible = it; claim = claim_is trees out disks p taken it; may = may_claim trees out disks p all taken can' are on one' }
+    let are = found_later out old disks all makes (found_first out rewind old mid disks all highest taken reads can.known honest) in
+    let top = is_top trees out disks p all highest can' are reads.on reads.one in
+    let shown = shown_later out old disks taken makes (taken_shown out rewind old mid disks all highest taken reads can.known honest) in
+    let possible = is_taken trees out disks p highest taken rewind can' few top reads.takes.0 shown in
+    record { claim = claim_is trees out disks p highest taken rewind top reads.takes.0 possible; may = may_claim trees out disks p all highest taken can' are reads.on reads.one top possible }
 
 -- a scan that found a disk bare wasn't of disks that lead somewhere
 not_bare : (trees : Trees) (out : List Bool) (disks : Disks) (p : Possible) → CanOpen trees out disks p → IsBare out disks → ⊥
@@ -194,12 +280,28 @@ pub found_some : (trees : Trees) (out : List Bool) (disks : Disks) (p : Possible
 found_some trees out disks p all can on none = let it = (on can.some.0).0 can.some.1 in none can.some.0 it.0 it.1
 
 -- why a scan refused
-pub scan_cause : (trees : Trees) (out : List Bool) (old new : Disks) (p : Possible) (refusal : Refusal) → CanOpen trees out old p → AreHonestSince (length old.calls) new.starts new.calls
-    → FindsAll out old new (Err refusal) → IsCause old new p refusal
-scan_cause trees out old new p NoMemory can honest finds = tt
-scan_cause trees out old new p DiskFault can honest finds = finds
-scan_cause trees out old new p NoUberblock can honest finds = not_bare trees out old p can (finds can.known honest)
-scan_cause trees out old new p UsedUp can honest finds = absurd finds
+pub scan_cause : (trees : Trees) (out : List Bool) (rewind : ℕ) (old new : Disks) (p : Possible) (refusal : Refusal) → CanOpen trees out old p → AreHonestSince (length old.calls) new.starts new.calls
+    → FindsAll out old new (Err refusal) → IsCause out rewind old new p refusal
+scan_cause trees out rewind old new p NoMemory can honest finds = tt
+scan_cause trees out rewind old new p DiskFault can honest finds = finds
+scan_cause trees out rewind old new p NoUberblock can honest finds = absurd (not_bare trees out old p can (finds can.known honest))
+scan_cause trees out rewind old new p UsedUp can honest finds = absurd finds
+
+-- why nothing was taken
+pub taken_cause : (trees : Trees) (out : List Bool) (rewind : ℕ) (old mid new : Disks) (p : Possible) (all : List (Option Found)) (highest : Uberblock) (refusal : Refusal) → CanOpen trees out old p
+    → Makes no_write old mid → Makes no_write mid new → (AreKnown out old → AreHonestSince (length old.calls) mid.starts mid.calls → AreFound out old all) → AreOn out all → IsHighestOf all highest
+    → AreHonestSince (length old.calls) new.starts new.calls → TakesFrom out highest rewind mid new (Err refusal) → IsCause out rewind old new p refusal
+taken_cause trees out rewind old mid new p all highest NoMemory can scan back found on one honest takes = tt
+taken_cause trees out rewind old mid new p all highest DiskFault can scan back found on one honest takes = failed_in_second no_write old mid new scan takes
+taken_cause trees out rewind old mid new p all highest NoUberblock can scan back found on one honest takes = (
+  takes.0,
+  record {
+    highest = highest;
+    top = highest_shown out old all highest (found can.known (honest_before (length old.calls) no_write mid new back honest)) on one;
+    none = λ v shown. takes.1 (known_later out old mid scan can.known) (honest_back old mid new scan honest) v (shown_later out old mid v scan shown);
+  },
+)
+taken_cause trees out rewind old mid new p all highest UsedUp can scan back found on one honest takes = absurd takes
 
 -- ---- the whole open
 
@@ -210,11 +312,11 @@ claim_always trees out old mid new p u there can scan may makes later =
     (also_leads trees out old mid p u (leads_before trees out old mid p there can scan)) later
 
 -- why no highest was found
-pub highest_cause : (trees : Trees) (out : List Bool) (old new : Disks) (p : Possible) (all seen : List (Option Found)) (refusal : Refusal) → CanOpen trees out old p → AreOn out all → seen ≡ all
-    → FindsHighest seen (Err refusal) → IsCause old new p refusal
-highest_cause trees out old new p all seen NoMemory can on same finds = tt
-highest_cause trees out old new p all seen DiskFault can on same finds = absurd finds
-highest_cause trees out old new p all seen NoUberblock can on same finds =
+pub highest_cause : (trees : Trees) (out : List Bool) (rewind : ℕ) (old new : Disks) (p : Possible) (all seen : List (Option Found)) (refusal : Refusal) → CanOpen trees out old p → AreOn out all
+    → seen ≡ all → FindsHighest seen (Err refusal) → IsCause out rewind old new p refusal
+highest_cause trees out rewind old new p all seen NoMemory can on same finds = tt
+highest_cause trees out rewind old new p all seen DiskFault can on same finds = absurd finds
+highest_cause trees out rewind old new p all seen NoUberblock can on same finds =
     let P : List (Option Found) → Type 0 = λ xs. (which : ℕ) (found : Found) → ¬ (slice_get xs which ≡ Some (Some found)) in
     absurd (found_some trees out old p all can on (subst P same finds))
-highest_cause trees out old new p all seen UsedUp can on same finds = absurd finds
+highest_cause trees out rewind old new p all seen UsedUp can on same finds = absurd finds

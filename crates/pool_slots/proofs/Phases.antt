@@ -1,5 +1,5 @@
 -- The disks in use, in a phase.
-use Rattle.std.proofs.Common.{◌≡◌, ◌<◌, ◌∙◌, ℕ, ◌+◌, Bool, List, [], ◌∷◌, ◌++◌, length, slice_get, Option, Some, Contains, refl, sym, ap, subst, arith}
+use Rattle.std.proofs.Common.{◌≡◌, inl, inr, ◌<◌, ◌∙◌, ℕ, ◌+◌, Bool, List, [], ◌∷◌, ◌++◌, length, slice_get, Option, Some, Contains, refl, sym, ap, subst, arith}
 use Rattle.uberblock_ring.specs.declared.uberblock.Uberblock.{Uberblock}
 use Rattle.uberblock_ring.specs.Uberblock.{Fits}
 use Rattle.model_disk.specs.Call.{Call}
@@ -9,7 +9,7 @@ use Rattle.model_disk.specs.Runs.{Makes, no_write, EachSince, IsSettled, IsOff, 
 use Rattle.model_disk.proofs.LawLemmas.{untouched_since}
 use Rattle.model_disk.proofs.RunLemmas.{Makes-none, off_is_left, held_in_run, off_content, each_after, calls_on-append, off_untouched, writes_on, Makes-more, Makes-wider}
 use Rattle.pool_slots.specs.Slots.{InUse, AreThere, MakesOn, AreSettled, spelled, slot_at, IsSlot}
-use Rattle.pool_slots.specs.Possible.{Possible, LeadsOn, Trees, IsPossible, Leads, held_by, LeavesLeading}
+use Rattle.pool_slots.specs.Possible.{Possible, IsInReach, LeadsOn, Trees, IsPossible, Leads, held_by, LeavesLeading}
 use Rattle.pool_slots.specs.Commits.{LeadAlways}
 use Rattle.pool_slots.proofs.OneDisk.{IsWritten, IsSafe, one_slot, top_is_left, leads_kept_on}
 use Rattle.pool_slots.proofs.Places.{length-spelled}
@@ -57,13 +57,15 @@ pub allowed_more : (size : ℕ) (held : ℕ → Option ℕ) (last : Uberblock) (
 allowed_more size held last Good Good' more leads = leads_kept_on size held held last Good Good' more (λ label slot is i inside. refl) leads
 
 -- with more that is possible
-pub leads_more : (trees : Trees) (out : List Bool) (starts : List (List ℕ)) (held : ℕ → ℕ → Option ℕ) (last : Uberblock) (begun more : List Uberblock)
+pub leads_more : (trees : Trees) (out : List Bool) (starts : List (List ℕ)) (held : ℕ → ℕ → Option ℕ) (last : Uberblock) (begun more before : List Uberblock)
     → ((u : Uberblock) → Contains (last ∷ begun) u → Contains (last ∷ more) u)
-    → Leads trees out starts held (record { last = last; begun = begun }) → Leads trees out starts held (record { last = last; begun = more })
-leads_more trees out starts held last begun more wider leads which used =
+    → Leads trees out starts held (record { last = last; begun = begun; before = before }) → Leads trees out starts held (record { last = last; begun = more; before = before })
+leads_more trees out starts held last begun more before wider leads which used =
+    let p : Possible = record { last = last; begun = begun; before = before } in
+    let q : Possible = record { last = last; begun = more; before = before } in
     allowed_more (length (bytes_of starts which)) (held which) last
-    (IsPossible trees out held (record { last = last; begun = begun })) (IsPossible trees out held (record { last = last; begun = more }))
-    (λ v possible. (wider v possible.0, possible.1)) (leads which used)
+    (IsPossible trees out held p) (IsPossible trees out held q)
+    (λ v possible. (elim possible.0 [ inl among ↦ inl (wider v among) | inr earlier ↦ inr earlier ], possible.1)) (leads which used)
 
 -- with fewer disks
 pub leads_fewer : (trees : Trees) (out later : List Bool) (starts : List (List ℕ)) (held : ℕ → ℕ → Option ℕ) (p : Possible)
@@ -75,22 +77,21 @@ leads_fewer trees out later starts held p fewer leads which used =
 -- ---- a phase
 
 -- what a phase may write, judged by its disks as it begins
-pub record IsPhase (trees : Trees) (out : List Bool) (old : Disks) (may : ℕ → ℕ → List ℕ → Type 0) (last : Uberblock) (begun : List Uberblock) : Type 0 where
+pub record IsPhase (trees : Trees) (out : List Bool) (old : Disks) (may : ℕ → ℕ → List ℕ → Type 0) (p : Possible) : Type 0 where
   pub whole : (which label slot : ℕ) → InUse out which → IsSlot label slot → IsWholeIn (may which) (slot_at (length (bytes_of old.starts which)) label slot) 1024
-  pub off : (u : Uberblock) → Contains (last ∷ begun) u → (which i value : ℕ) → InUse out which → trees u.root which i ≡ Some value → IsOff (may which) i
+  pub off : (u : Uberblock) → IsInReach p u → (which i value : ℕ) → InUse out which → trees u.root which i ≡ Some value → IsOff (may which) i
   pub written : (which label slot : ℕ) (u : Uberblock) → InUse out which → IsSlot label slot → Fits u → may which (slot_at (length (bytes_of old.starts which)) label slot) (spelled u)
-      → IsWritten slot u (IsPossible trees out (content old) (record { last = last; begun = begun }))
-  pub safe : (which : ℕ) → InUse out which → IsSafe (may which) (length (bytes_of old.starts which)) (content old which) last
+      → IsWritten slot u (IsPossible trees out (content old) p)
+  pub safe : (which : ℕ) → InUse out which → IsSafe (may which) (length (bytes_of old.starts which)) (content old which) p.last
 
 written_better : (slot : ℕ) (u : Uberblock) (Good Good' : Uberblock → Type 0) → ((v : Uberblock) → Good v → Good' v) → IsWritten slot u Good → IsWritten slot u Good'
 written_better slot u Good Good' better it = record { v = it.v; fits = it.fits; number = it.number; same = it.same; good = better it.v it.good }
 
 -- whatever a stop in a phase leaves leads where the disks led as it began, or to what the phase may write
-pub phase_leaves : (trees : Trees) (out : List Bool) (old new : Disks) (may : ℕ → ℕ → List ℕ → Type 0) (last : Uberblock) (begun : List Uberblock)
-    → AreThere out old.starts → AreSettled out old.calls → Leads trees out old.starts (content old) (record { last = last; begun = begun })
-    → IsPhase trees out old may last begun → Makes may old new → LeadAlways trees out old new (record { last = last; begun = begun })
-phase_leaves trees out old new may last begun there settled leads phase makes earlier moment images left untorn which used =
-    let p : Possible = record { last = last; begun = begun } in
+pub phase_leaves : (trees : Trees) (out : List Bool) (old new : Disks) (may : ℕ → ℕ → List ℕ → Type 0) (p : Possible)
+    → AreThere out old.starts → AreSettled out old.calls → Leads trees out old.starts (content old) p
+    → IsPhase trees out old may p → Makes may old new → LeadAlways trees out old new p
+phase_leaves trees out old new may p there settled leads phase makes earlier moment images left untorn which used =
     let size = length (bytes_of old.starts which) in
     let same_size : length (bytes_of images which) ≡ size = (left.each which (there which used)).size in
     let kept : (d i value : ℕ) → InUse out d → IsOff (may d) i → content old d i ≡ Some value → held_by images d i ≡ Some value = λ d i value d_used off known.
@@ -99,7 +100,7 @@ phase_leaves trees out old new may last begun there settled leads phase makes ea
       possible.0,
       λ d i value d_used is. kept d i value d_used (phase.off u possible.0 d i value d_used is) (possible.1 d i value d_used is),
     ) in
-    let P : ℕ → Type 0 = λ n. LeadsOn n (held_by images which) last (IsPossible trees out (held_by images) p) in
+    let P : ℕ → Type 0 = λ n. LeadsOn n (held_by images which) p.last (IsPossible trees out (held_by images) p) in
     let safe = phase.safe which used in
     subst P (sym same_size) (record {
       only = λ label slot is u shows.
@@ -110,11 +111,11 @@ phase_leaves trees out old new may last begun there settled leads phase makes ea
           let len : length (spelled u) ≡ 1024 = length-spelled u shows.fits in
           let W : ℕ → Type 0 = λ n. IsWholeIn (may which) place n in
           let it = held_in_run may old new earlier makes moment which place (spelled u) (settled which used) (omega (arith, len)) (subst W (sym len) (phase.whole which label slot used is)) held in
-          one_slot (content old which) (held_by images which) (may which place) place slot last (IsPossible trees out (content old) p) (IsPossible trees out (held_by images) p)
+          one_slot (content old which) (held_by images which) (may which place) place slot p.last (IsPossible trees out (content old) p) (IsPossible trees out (held_by images) p)
           stands ((leads which used).only label slot is)
           (λ w fits wrote. written_better slot w (IsPossible trees out (content old) p) (IsPossible trees out (held_by images) p) stands (phase.written which label slot w used is fits wrote))
           u shows it;
-      top = top_is_left (content old which) (held_by images which) size last safe.top
+      top = top_is_left (content old which) (held_by images which) size p.last safe.top
           (λ i value inside known. kept which (slot_at size safe.top.label safe.top.slot + i) value used (safe.off i inside) known);
     })
 

@@ -1,12 +1,12 @@
 -- What reads of slots tell.
-use Rattle.std.proofs.Common.{◌≡◌, inl, inr, ◌<◌, ◌≤◌, ◌∙◌, ℕ, zero, suc, ◌+◌, ◌*◌, ◌/◌, ◌%◌, List, [], ◌∷◌, ◌++◌, length, slice_get, get_or, Option, Some, None, All, Result, Ok, Err, refl, sym, ap, subst, arith}
+use Rattle.std.proofs.Common.{◌≡◌, inl, inr, ◌<◌, ◌≤◌, ◌∙◌, ℕ, zero, suc, ◌+◌, ◌*◌, ◌/◌, ◌%◌, List, [], ◌∷◌, ◌++◌, length, slice_get, get_or, Option, Some, None, All, Result, Ok, Err, IfSome, IfNone, refl, sym, ap, subst, arith}
 use Rattle.std.specs.Prelude.{Vec}
 use Rattle.std.specs.declared.alloc.Global.{Global}
 use Rattle.std.proofs.lemmas.Bool.{cases_lt}
 use Rattle.std.proofs.lemmas.List.{length-append, get_or_past}
 use Rattle.std.proofs.lemmas.List.Elements.{All-nil, All-cons}
 use Rattle.uberblock_ring.specs.Place.{nth_slot_at}
-use Rattle.uberblock_ring.specs.Ranking.{Has}
+use Rattle.uberblock_ring.specs.Ranking.{Has, IsRewound}
 use Rattle.uberblock_ring.specs.Reads.{slot_reads, size_of, HasRead, HasFailedAt, IsReading, ReadsSlots}
 use Rattle.uberblock_ring.specs.Slot.{SpellsSlot}
 use Rattle.uberblock_ring.specs.Uberblock.{Fits}
@@ -20,7 +20,7 @@ use Rattle.model_disk.proofs.FailureLemmas.{failures_are_seen, failed_in_second}
 use Rattle.model_disk.proofs.JointLemmas.{calls_on-other}
 use Rattle.model_disk.proofs.LawLemmas.{same_bytes}
 use Rattle.pool_slots.specs.OpenRefusals.{of_ring}
-use Rattle.pool_slots.specs.Opens.{IsKnown, HasHighest, IsHighest, IsBareOn, FindsOn}
+use Rattle.pool_slots.specs.Opens.{IsKnown, HasHighest, IsHighest, IsShownOn, IsBareOn, FindsOn, FindsRewoundOn}
 use Rattle.pool_slots.specs.Slots.{MakesOn, is_disk, spelled, slot_at, IsSlot, Shows}
 use Rattle.pool_slots.specs.declared.found.Found.{Found}
 use Rattle.pool_slots.proofs.Phases.{MakesOn-more, none_same}
@@ -235,3 +235,38 @@ pub finds_none : (old new : Disks) (which : ℕ) (slots : Vec (Option Uberblock)
     → ReadsSlots old new which (Ok slots) → ((k : ℕ) (u : Uberblock) → ¬ Has slots.items k u) → IsKnown old which → AreHonestSince (length old.calls) new.starts new.calls
     → IsBareOn (size_of old which) (content old which)
 finds_none old new which slots room starts it none known honest = bare_is old which slots.items (are_read old new which slots.items room starts it.0 it.1 known honest) none
+
+-- ---- going back
+
+-- why they are not
+pub slots_refused_back : (old new : Disks) (which : ℕ) (from : Uberblock) (groups : ℕ) (cause : RingRefusal) → ReadsSlots old new which (Err cause)
+    → FindsRewoundOn from groups old new which (Err (of_ring cause))
+slots_refused_back old new which from groups ring.DiskFault it = fault_seen old new which it.0 it.2
+slots_refused_back old new which from groups ring.NoMemory it = tt
+slots_refused_back old new which from groups ring.NoUberblock it = absurd it
+
+-- what was found in a slot is shown
+shown_is : (old : Disks) (which : ℕ) (slots : List (Option Uberblock)) (k : ℕ) (u : Uberblock) → AreRead old which slots → Has slots k u → IsShownOn (size_of old which) (content old which) u
+shown_is old which slots k u are has =
+    let below : k < 512 = omega (arith, within slots k u has, are.count) in
+    let says = says_some (k % 128) (are.bytes k) (get_or slots k None) u (are.says k below) has in
+    let place = slot_at (size_of old which) (k / 128) (k % 128) in
+    record {
+      label = k / 128;
+      slot = k % 128;
+      is_slot = slot_of_number k below;
+      shows = shows_spelled (content old which) place (k % 128) (are.bytes k) u (are.read k below) says.0;
+      alone = λ v shown. says.1 v (spells_shown (content old which) place (k % 128) (are.bytes k) v (are.read k below) shown);
+    }
+
+pub finds_rewound : (old new : Disks) (which : ℕ) (slots : Vec (Option Uberblock) Global) (from : Uberblock) (groups : ℕ) (found : Option Uberblock) → 1048576 ≤ size_of old which
+    → new.starts ≡ old.starts → ReadsSlots old new which (Ok slots) → IfSome found (IsRewound from groups) → IfSome found (λ u. (i : ℕ) × Has slots.items i u)
+    → IfNone found ((i : ℕ) (u : Uberblock) → Has slots.items i u → ¬ IsRewound from groups u) → FindsRewoundOn from groups old new which (Ok found)
+finds_rewound old new which slots from groups None room starts it some there none = λ v known honest shown.
+    none (shown.label * 128 + shown.slot) v (shown_found old which slots.items shown.label shown.slot v (are_read old new which slots.items room starts it.0 it.1 known honest) shown.is_slot shown.shows)
+finds_rewound old new which slots from groups (Some u) room starts it some there none =
+    let below : there.0 < 512 = omega (arith, within slots.items there.0 u there.1, it.0) in (
+      some,
+      (says_some (there.0 % 128) (it.1.bytes there.0) (get_or slots.items there.0 None) u (it.1.each there.0 below).1 there.1).0.0,
+      λ known honest. shown_is old which slots.items there.0 u (are_read old new which slots.items room starts it.0 it.1 known honest) there.1,
+    )

@@ -1,5 +1,5 @@
 -- Phases that write one uberblock's slots.
-use Rattle.std.proofs.Common.{◌≡◌, inl, inr, ◌≤◌, ◌∙◌, ℕ, ◌+◌, Bool, List, [], ◌∷◌, length, Option, Some, Contains, sym, ap, subst, arith}
+use Rattle.std.proofs.Common.{◌≡◌, inl, inr, ◌≤◌, ◌∙◌, ℕ, ◌+◌, Bool, List, [], length, Option, Some, sym, ap, subst, arith}
 use Rattle.uberblock_ring.specs.declared.uberblock.Uberblock.{Uberblock}
 use Rattle.uberblock_ring.specs.Uberblock.{Fits}
 use Rattle.uberblock_ring.specs.Slot.{slot_number}
@@ -10,11 +10,11 @@ use Rattle.model_disk.proofs.ContentsLemmas.{covers-outside}
 use Rattle.model_disk.proofs.LawLemmas.{same_bytes}
 use Rattle.model_disk.proofs.RunLemmas.{off_content}
 use Rattle.pool_slots.specs.Slots.{AreThere, InUse, HaveLabels, spelled, slot_at, IsSlot, Shows}
-use Rattle.pool_slots.specs.Possible.{Trees, TreeStands, IsPossible, Leads, AllAreBelow}
+use Rattle.pool_slots.specs.Possible.{Possible, IsInReach, Trees, TreeStands, IsPossible, Leads}
 use Rattle.pool_slots.specs.Writes.{IsSlotWrite, in_use, SlotsStand}
 use Rattle.pool_slots.specs.Commits.{AreOffLabels, only_last}
 use Rattle.pool_slots.proofs.Among.{first_in}
-use Rattle.pool_slots.proofs.OneDisk.{IsWritten, IsSafe, leads_finished}
+use Rattle.pool_slots.proofs.OneDisk.{AreAllowed, IsWritten, IsSafe, leads_finished}
 use Rattle.pool_slots.proofs.Phases.{IsPhase}
 use Rattle.pool_slots.proofs.Places.{slots_apart, length-spelled, off_slot}
 use Rattle.pool_slots.proofs.Same.{SameRank, same_rank}
@@ -49,16 +49,16 @@ slot_written starts u picks which label slot w Good fits room is good write =
     record { v = u; fits = fits; number = same; same = write.spells; good = good }
 
 -- a phase that writes one uberblock's slots, off the top of each disk
-pub slot_phase : (trees : Trees) (out : List Bool) (disks : Disks) (last u : Uberblock) (begun : List Uberblock) (picks : ℕ → ℕ → Type 0) → AreThere out disks.starts → HaveLabels disks.starts → Fits u
-    → AreOffLabels trees out disks.starts → Contains (last ∷ begun) u → TreeStands trees out (content disks) u.root
-    → ((which : ℕ) → InUse out which → IsSafe (IsSlotWrite disks.starts u picks which) (length (bytes_of disks.starts which)) (content disks which) last)
-    → IsPhase trees out disks (IsSlotWrite disks.starts u picks) last begun
-slot_phase trees out disks last u begun picks there room fits off_labels among stands safe =
+pub slot_phase : (trees : Trees) (out : List Bool) (disks : Disks) (p : Possible) (u : Uberblock) (picks : ℕ → ℕ → Type 0) → AreThere out disks.starts → HaveLabels disks.starts → Fits u
+    → AreOffLabels trees out disks.starts → IsInReach p u → TreeStands trees out (content disks) u.root
+    → ((which : ℕ) → InUse out which → IsSafe (IsSlotWrite disks.starts u picks which) (length (bytes_of disks.starts which)) (content disks which) p.last)
+    → IsPhase trees out disks (IsSlotWrite disks.starts u picks) p
+slot_phase trees out disks p u picks there room fits off_labels among stands safe =
     record {
       whole = λ which label slot used is. whole_slot_writes disks.starts u picks which label slot fits (room which (there which used)) is;
       off = λ v possible which i value used is. off_tree trees out disks.starts u v picks which i value off_labels fits used is;
       written = λ which label slot w used is fits' write.
-          slot_written disks.starts u picks which label slot w (IsPossible trees out (content disks) (record { last = last; begun = begun })) fits (room which (there which used)) is (among, stands) write;
+          slot_written disks.starts u picks which label slot w (IsPossible trees out (content disks) p) fits (room which (there which used)) is (among, stands) write;
       safe = safe;
     }
 
@@ -69,15 +69,18 @@ pub tree_kept : (trees : Trees) (out : List Bool) (old new : Disks) (u v : Uberb
 tree_kept trees out old new u v picks fits off_labels makes stands which i value used is =
     off_content (IsSlotWrite old.starts u picks) old new which i makes (off_tree trees out old.starts u v picks which i value off_labels fits used is) ∙ stands which i value used is
 
-pub finished : (trees : Trees) (out : List Bool) (old new : Disks) (u : Uberblock) → AreThere out old.starts → HaveLabels old.starts → Fits u → AreOffLabels trees out old.starts
-    → Makes (IsSlotWrite old.starts u (in_use out)) old new
-    → SlotsStand (content new) old.starts u (in_use out) (length old.starts) → AllAreBelow out old u → TreeStands trees out (content old) u.root
-    → Leads trees out new.starts (content new) (only_last u)
-finished trees out old new u there room fits off_labels makes stand below tree =
-    let P : List (List ℕ) → Type 0 = λ starts. Leads trees out starts (content new) (only_last u) in
+pub finished : (trees : Trees) (out : List Bool) (old new : Disks) (u : Uberblock) (before : List Uberblock) (Old : Uberblock → Type 0) → AreThere out old.starts → HaveLabels old.starts → Fits u
+    → AreOffLabels trees out old.starts → Makes (IsSlotWrite old.starts u (in_use out)) old new
+    → SlotsStand (content new) old.starts u (in_use out) (length old.starts)
+    → ((which : ℕ) → InUse out which → AreAllowed (length (bytes_of old.starts which)) (content old which) u Old)
+    → ((w : Uberblock) → Old w → IsPossible trees out (content old) (only_last u before) w) → TreeStands trees out (content old) u.root
+    → Leads trees out new.starts (content new) (only_last u before)
+finished trees out old new u before Old there room fits off_labels makes stand below goods tree =
+    let P : List (List ℕ) → Type 0 = λ starts. Leads trees out starts (content new) (only_last u before) in
     subst P (sym makes.starts) (λ which used.
-    leads_finished (length (bytes_of old.starts which)) (content old which) (content new which) u (IsPossible trees out (content new) (only_last u)) fits
-    (first_in u [], tree_kept trees out old new u u (in_use out) fits off_labels makes tree)
+    leads_finished (length (bytes_of old.starts which)) (content old which) (content new which) u Old (IsPossible trees out (content new) (only_last u before)) fits
+    (inl (first_in u []), tree_kept trees out old new u u (in_use out) fits off_labels makes tree)
+    (λ w it. let good = goods w it in (good.0, tree_kept trees out old new u w (in_use out) fits off_labels makes good.1))
     (below which used)
     (λ label slot is elsewhere i i_below.
     off_content (IsSlotWrite old.starts u (in_use out)) old new which (slot_at (length (bytes_of old.starts which)) label slot + i) makes

@@ -6,7 +6,7 @@ use Rattle.block_pointer.specs.declared.block.Block.{Block}
 use Rattle.uberblock_ring.specs.declared.uberblock.Uberblock.{Uberblock}
 use Rattle.uberblock_ring.specs.Uberblock.{Fits}
 use Rattle.pool_slots.specs.Slots.{InUse, AreThere, AreSettled, IsOffLabels}
-use Rattle.pool_slots.specs.Possible.{Possible, Trees, TreeStands, Leads, LeavesLeading}
+use Rattle.pool_slots.specs.Possible.{Possible, IsInReach, Trees, TreeStands, Leads, LeavesLeading}
 use Rattle.pool_slots.specs.Writes.{IsOffBlocks, BlocksStand}
 use Rattle.pool_slots.specs.declared.blocks.BlockWrite.{BlockWrite}
 
@@ -15,34 +15,35 @@ abbrev pub AreOffLabels : Trees → List Bool → List (List ℕ) → Type 0
 AreOffLabels trees out starts =
     (root : Block) (which i value : ℕ) → InUse out which → trees root which i ≡ Some value → IsOffLabels (length (bytes_of starts which)) i
 
-abbrev pub only_last : Uberblock → Possible
-only_last u = record { last = u; begun = [] }
+-- it alone, after these
+abbrev pub only_last : Uberblock → List Uberblock → Possible
+only_last u before = record { last = u; begun = []; before = before }
 
 -- the last uberblock, or this one, which was begun since
-abbrev pub last_or : Uberblock → Uberblock → Possible
-last_or last u = record { last = last; begun = u ∷ [] }
+abbrev pub last_or : Uberblock → List Uberblock → Uberblock → Possible
+last_or last before u = record { last = last; begun = u ∷ []; before = before }
 
--- the uberblock is committed: nothing is unflushed, and all disks in use lead to it alone
-pub record AreAt (trees : Trees) (out : List Bool) (disks : Disks) (u : Uberblock) : Type 0 where
+-- the uberblock is committed after these: nothing is unflushed, and all disks in use lead to it alone
+pub record AreAt (trees : Trees) (out : List Bool) (disks : Disks) (u : Uberblock) (before : List Uberblock) : Type 0 where
   pub there : AreThere out disks.starts
   pub fits : Fits u
   pub settled : AreSettled out disks.calls
-  pub leads : Leads trees out disks.starts (content disks) (only_last u)
+  pub leads : Leads trees out disks.starts (content disks) (only_last u before)
 
--- The next uberblock after the last one, with the blocks that its group writes: they are off the last tree, and once they stand and all
--- else is as it was, the new tree stands.
-pub record IsPlan (trees : Trees) (out : List Bool) (disks : Disks) (last u : Uberblock) (blocks : List BlockWrite) : Type 0 where
+-- The next uberblock after the last one, with the blocks that its group writes: they are off the last tree and those of the two groups
+-- before it, and once they stand and all else is as it was, the new tree stands.
+pub record IsPlan (trees : Trees) (out : List Bool) (disks : Disks) (last : Uberblock) (before : List Uberblock) (u : Uberblock) (blocks : List BlockWrite) : Type 0 where
   pub off_labels : AreOffLabels trees out disks.starts
   pub claim : u.claim ≡ last.claim
   pub group : u.group ≡ suc last.group
-  pub free : (which i value : ℕ) → InUse out which → trees last.root which i ≡ Some value → IsOffBlocks blocks which i
+  pub free : (v : Uberblock) → IsInReach (only_last last before) v → (which i value : ℕ) → InUse out which → trees v.root which i ≡ Some value → IsOffBlocks blocks which i
   pub whole : (held : ℕ → ℕ → Option ℕ) → BlocksStand held blocks (length blocks) → ((which i : ℕ) → IsOffBlocks blocks which i → held which i ≡ content disks which i)
       → TreeStands trees out held u.root
 
 -- the same, where the last one is committed
-pub record IsNext (trees : Trees) (out : List Bool) (disks : Disks) (last u : Uberblock) (blocks : List BlockWrite) : Type 0 where
-  pub at : AreAt trees out disks last
-  pub plan : IsPlan trees out disks last u blocks
+pub record IsNext (trees : Trees) (out : List Bool) (disks : Disks) (last : Uberblock) (before : List Uberblock) (u : Uberblock) (blocks : List BlockWrite) : Type 0 where
+  pub at : AreAt trees out disks last before
+  pub plan : IsPlan trees out disks last before u blocks
 
 -- a stop at any moment since the old one leaves disks that lead to one of the possible uberblocks
 abbrev pub LeadAlways : Trees → List Bool → Disks → Disks → Possible → Type 0
@@ -50,8 +51,10 @@ LeadAlways trees out old new p = EachSince (length old.calls) (LeavesLeading tre
 
 -- what `commit` ensures of any trees, at each moment
 abbrev pub CommitKeeps : List Bool → Disks → List BlockWrite → Uberblock → Disks → Type 0
-CommitKeeps out old blocks u new = (trees : Trees) (last : Uberblock) → IsNext trees out old last u blocks → LeadAlways trees out old new (last_or last u)
+CommitKeeps out old blocks u new =
+    (trees : Trees) (last : Uberblock) (before : List Uberblock) → IsNext trees out old last before u blocks → LeadAlways trees out old new (last_or last before u)
 
 -- and once it is done
 abbrev pub CommitGives : List Bool → Disks → List BlockWrite → Uberblock → Disks → Type 0
-CommitGives out old blocks u new = (trees : Trees) (last : Uberblock) → IsNext trees out old last u blocks → AreAt trees out new u
+CommitGives out old blocks u new =
+    (trees : Trees) (last : Uberblock) (before : List Uberblock) → IsNext trees out old last before u blocks → AreAt trees out new u (last ∷ before)

@@ -1,10 +1,10 @@
 -- Lives of a pool: commits and opens, finished or stopped, one after another.
-use Rattle.std.specs.Prelude.{◌≡◌, ◌≤◌, ◌<◌, ℕ, suc, Bool, true, false, List, [], ◌∷◌, length, Contains}
+use Rattle.std.specs.Prelude.{◌≡◌, ◌≤◌, ◌<◌, ℕ, suc, ◌+◌, ◌-◌, Bool, true, false, List, [], ◌∷◌, length, Contains}
 use Rattle.model_disk.specs.Joint.{Disks, JointCall, AreHonestSince, MayLeaveAll}
 use Rattle.model_disk.specs.Runs.{IsMoment}
 use Rattle.uberblock_ring.specs.declared.uberblock.Uberblock.{Uberblock}
 use Rattle.pool_slots.specs.Slots.{InUse, AreThere, AreUntorn}
-use Rattle.pool_slots.specs.Possible.{Possible, Trees, Leads, held_by}
+use Rattle.pool_slots.specs.Possible.{Possible, all_of, Trees, Leads, held_by}
 use Rattle.pool_slots.specs.Commits.{AreOffLabels, AreAt, IsPlan, only_last, CommitKeeps, CommitGives}
 use Rattle.pool_slots.specs.Opens.{IsClaimOf, also_begun, OpenKeeps, OpenGives}
 use Rattle.pool_slots.specs.declared.blocks.BlockWrite.{BlockWrite}
@@ -12,20 +12,21 @@ use Rattle.pool_slots.specs.declared.blocks.BlockWrite.{BlockWrite}
 -- ---- what happens, as the machine of possible uberblocks sees it
 
 pub data Event : Type 0 where
-  Opens : Uberblock → Event
+  -- an open, and how many groups it goes back
+  Opens : ℕ → Uberblock → Event
   -- an open was stopped before it claimed, or with this claim begun
   OpenStops : Event
-  ClaimStops : Uberblock → Event
+  ClaimStops : ℕ → Uberblock → Event
   Commits : Uberblock → Event
   CommitStops : Uberblock → Event
   -- a stop between the calls
   Stops : Event
 
 abbrev pub happens : Possible → Event → Possible
-happens p (Opens u) = only_last u
+happens p (Opens rewind u) = only_last u []
 happens p OpenStops = p
-happens p (ClaimStops u) = also_begun u p
-happens p (Commits u) = only_last u
+happens p (ClaimStops rewind u) = also_begun u p
+happens p (Commits u) = only_last u (p.last ∷ p.before)
 happens p (CommitStops u) = also_begun u p
 happens p Stops = p
 
@@ -33,11 +34,11 @@ happens p Stops = p
 abbrev pub IsNextGroup : Uberblock → Uberblock → Type 0
 IsNextGroup last u = (u.claim ≡ last.claim) × (u.group ≡ suc last.group)
 
--- an open takes the last one or one that was begun since, and raises its claim
+-- An open takes the last one or one that was begun since, or what is so many groups below it as it goes back, and raises its claim.
 abbrev pub IsLegal : Possible → Event → Type 0
-IsLegal p (Opens u) = IsClaimOf p u
+IsLegal p (Opens rewind u) = IsClaimOf p rewind u
 IsLegal p OpenStops = Unit {0}
-IsLegal p (ClaimStops u) = IsClaimOf p u
+IsLegal p (ClaimStops rewind u) = IsClaimOf p rewind u
 IsLegal p (Commits u) = IsNextGroup p.last u
 IsLegal p (CommitStops u) = IsNextGroup p.last u
 IsLegal p Stops = Unit {0}
@@ -53,29 +54,30 @@ after p (event ∷ events) = after (happens p event) events
 -- each open's claim is above this one and all that were opened before it
 abbrev pub ClaimsRise : ℕ → List Event → Type 0
 ClaimsRise claim [] = Unit {0}
-ClaimsRise claim (Opens u ∷ events) = (claim < u.claim) × ClaimsRise u.claim events
+ClaimsRise claim (Opens rewind u ∷ events) = (claim < u.claim) × ClaimsRise u.claim events
 ClaimsRise claim (OpenStops ∷ events) = ClaimsRise claim events
-ClaimsRise claim (ClaimStops u ∷ events) = ClaimsRise claim events
+ClaimsRise claim (ClaimStops rewind u ∷ events) = ClaimsRise claim events
 ClaimsRise claim (Commits u ∷ events) = ClaimsRise claim events
 ClaimsRise claim (CommitStops u ∷ events) = ClaimsRise claim events
 ClaimsRise claim (Stops ∷ events) = ClaimsRise claim events
 
--- each open's and commit's group is at or above this one and all before it
-abbrev pub GroupsRise : ℕ → List Event → Type 0
-GroupsRise group [] = Unit {0}
-GroupsRise group (Opens u ∷ events) = (group ≤ u.group) × GroupsRise u.group events
-GroupsRise group (OpenStops ∷ events) = GroupsRise group events
-GroupsRise group (ClaimStops u ∷ events) = GroupsRise group events
-GroupsRise group (Commits u ∷ events) = (group ≤ u.group) × GroupsRise u.group events
-GroupsRise group (CommitStops u ∷ events) = GroupsRise group events
-GroupsRise group (Stops ∷ events) = GroupsRise group events
+-- No open's group is below that of an open that was finished before it (`floor`). Nor is it below that of the last finished open or commit by
+-- more than it goes back, and the opens that were stopped in their claims since (`low` is so many groups below that one's).
+abbrev pub GroupsRise : ℕ → ℕ → List Event → Type 0
+GroupsRise floor low [] = Unit {0}
+GroupsRise floor low (Opens rewind u ∷ events) = (floor ≤ u.group) × (low ≤ u.group + rewind) × GroupsRise u.group u.group events
+GroupsRise floor low (OpenStops ∷ events) = GroupsRise floor low events
+GroupsRise floor low (ClaimStops rewind u ∷ events) = (floor ≤ u.group) × (low ≤ u.group + rewind) × GroupsRise floor (low - rewind) events
+GroupsRise floor low (Commits u ∷ events) = (floor ≤ u.group) × (low ≤ u.group) × GroupsRise floor u.group events
+GroupsRise floor low (CommitStops u ∷ events) = GroupsRise floor low events
+GroupsRise floor low (Stops ∷ events) = GroupsRise floor low events
 
 -- ---- what the calls did, and where they were stopped
 
--- each call with the disks that were out in it
+-- each call with the disks that were out in it, an open with the number of groups that it goes back
 pub data Step : Type 0 where
-  Opened : List Bool → Uberblock → Disks → Step
-  StoppedInOpen : List Bool → Disks → List (List ℕ) → Step
+  Opened : List Bool → ℕ → Uberblock → Disks → Step
+  StoppedInOpen : List Bool → ℕ → Disks → List (List ℕ) → Step
   Committed : List Bool → List BlockWrite → Uberblock → Disks → Step
   StoppedInCommit : List Bool → List BlockWrite → Uberblock → Disks → List (List ℕ) → Step
   Stopped : List (List ℕ) → Step
@@ -102,32 +104,33 @@ pub record IsPool (trees : Trees) (out : List Bool) (disks : Disks) : Type 0 whe
 
 -- The steps are those of calls that keep their contracts, from disks that are open or not: each open is of disks after a stop, whose
 -- answers are true, and each commit is of a next group.
-abbrev pub IsLife : Trees → List Bool → Bool → Disks → Uberblock → List Step → Type 0
-IsLife trees out up disks last [] = Unit {0}
-IsLife trees out false disks last (Opened later u new ∷ steps) =
-    StayOut out later × IsPool trees later disks × OpenGives later disks u new × AreHonestSince (length disks.calls) new.starts new.calls
-    × IsLife trees later true new u steps
-IsLife trees out false disks last (StoppedInOpen later new images ∷ steps) =
-    StayOut out later × IsPool trees later disks × OpenKeeps later disks new × AreHonestSince (length disks.calls) new.starts new.calls
-    × IsLeft later (length disks.calls) disks.starts new.calls images × IsLife trees later false (fresh images) last steps
-IsLife trees out true disks last (Committed later blocks u new ∷ steps) =
-    StayOut out later × IsPlan trees later disks last u blocks × CommitGives later disks blocks u new × IsLife trees later true new u steps
-IsLife trees out true disks last (StoppedInCommit later blocks u new images ∷ steps) =
-    StayOut out later × IsPlan trees later disks last u blocks × CommitKeeps later disks blocks u new
-    × IsLeft later (length disks.calls) disks.starts new.calls images × IsLife trees later false (fresh images) last steps
-IsLife trees out up disks last (Stopped images ∷ steps) =
-    MayLeaveAll disks.starts disks.calls images × AreUntorn out disks.starts disks.calls images × IsLife trees out false (fresh images) last steps
-IsLife trees out true disks last (Opened later u new ∷ steps) = ⊥
-IsLife trees out true disks last (StoppedInOpen later new images ∷ steps) = ⊥
-IsLife trees out false disks last (Committed later blocks u new ∷ steps) = ⊥
-IsLife trees out false disks last (StoppedInCommit later blocks u new images ∷ steps) = ⊥
+abbrev pub IsLife : Trees → List Bool → Bool → Disks → Uberblock → List Uberblock → List Step → Type 0
+IsLife trees out up disks last before [] = Unit {0}
+IsLife trees out false disks last before (Opened later rewind u new ∷ steps) =
+    StayOut out later × IsPool trees later disks × OpenGives later rewind disks u new × AreHonestSince (length disks.calls) new.starts new.calls
+    × IsLife trees later true new u [] steps
+IsLife trees out false disks last before (StoppedInOpen later rewind new images ∷ steps) =
+    StayOut out later × IsPool trees later disks × OpenKeeps later rewind disks new × AreHonestSince (length disks.calls) new.starts new.calls
+    × IsLeft later (length disks.calls) disks.starts new.calls images × IsLife trees later false (fresh images) last before steps
+IsLife trees out true disks last before (Committed later blocks u new ∷ steps) =
+    StayOut out later × IsPlan trees later disks last before u blocks × CommitGives later disks blocks u new
+    × IsLife trees later true new u (last ∷ before) steps
+IsLife trees out true disks last before (StoppedInCommit later blocks u new images ∷ steps) =
+    StayOut out later × IsPlan trees later disks last before u blocks × CommitKeeps later disks blocks u new
+    × IsLeft later (length disks.calls) disks.starts new.calls images × IsLife trees later false (fresh images) last before steps
+IsLife trees out up disks last before (Stopped images ∷ steps) =
+    MayLeaveAll disks.starts disks.calls images × AreUntorn out disks.starts disks.calls images × IsLife trees out false (fresh images) last before steps
+IsLife trees out true disks last before (Opened later rewind u new ∷ steps) = ⊥
+IsLife trees out true disks last before (StoppedInOpen later rewind new images ∷ steps) = ⊥
+IsLife trees out false disks last before (Committed later blocks u new ∷ steps) = ⊥
+IsLife trees out false disks last before (StoppedInCommit later blocks u new images ∷ steps) = ⊥
 
 -- an event for each step
 abbrev pub AreEvents : List Step → List Event → Type 0
 AreEvents [] [] = Unit {0}
-AreEvents (Opened out u new ∷ steps) (Opens v ∷ events) = (v ≡ u) × AreEvents steps events
-AreEvents (StoppedInOpen out new images ∷ steps) (OpenStops ∷ events) = AreEvents steps events
-AreEvents (StoppedInOpen out new images ∷ steps) (ClaimStops v ∷ events) = AreEvents steps events
+AreEvents (Opened out rewind u new ∷ steps) (Opens groups v ∷ events) = (groups ≡ rewind) × (v ≡ u) × AreEvents steps events
+AreEvents (StoppedInOpen out rewind new images ∷ steps) (OpenStops ∷ events) = AreEvents steps events
+AreEvents (StoppedInOpen out rewind new images ∷ steps) (ClaimStops groups v ∷ events) = (groups ≡ rewind) × AreEvents steps events
 AreEvents (Committed out blocks u new ∷ steps) (Commits v ∷ events) = (v ≡ u) × AreEvents steps events
 AreEvents (StoppedInCommit out blocks u new images ∷ steps) (CommitStops v ∷ events) = (v ≡ u) × AreEvents steps events
 AreEvents (Stopped images ∷ steps) (Stops ∷ events) = AreEvents steps events
@@ -135,7 +138,7 @@ AreEvents _ _ = ⊥
 
 -- Open disks lead to the last uberblock alone. Others are as a stop left them, and lead to one of the possible ones.
 abbrev pub IsHeld : Trees → List Bool → Bool → Disks → Possible → Type 0
-IsHeld trees out true disks p = (p ≡ only_last p.last) × AreAt trees out disks p.last
+IsHeld trees out true disks p = (p ≡ only_last p.last p.before) × AreAt trees out disks p.last p.before
 IsHeld trees out false disks p = (disks.calls ≡ []) × AreThere out disks.starts × Leads trees out disks.starts (held_by disks.starts) p
 
 -- what a step leaves: whether the disks are open, which are out, and the disks
@@ -145,8 +148,8 @@ pub record Left : Type 0 where
   pub disks : Disks
 
 abbrev pub left_by : Left → Step → Left
-left_by before (Opened out u new) = record { up = true; out = out; disks = new }
-left_by before (StoppedInOpen out new images) = record { up = false; out = out; disks = fresh images }
+left_by before (Opened out rewind u new) = record { up = true; out = out; disks = new }
+left_by before (StoppedInOpen out rewind new images) = record { up = false; out = out; disks = fresh images }
 left_by before (Committed out blocks u new) = record { up = true; out = out; disks = new }
 left_by before (StoppedInCommit out blocks u new images) = record { up = false; out = out; disks = fresh images }
 left_by before (Stopped images) = record { up = false; out = before.out; disks = fresh images }
@@ -166,12 +169,14 @@ pub record LeadsTo (trees : Trees) (before : Left) (p : Possible) (steps : List 
 abbrev pub LivesLoseNothing : Type 0
 LivesLoseNothing =
     (trees : Trees) (before : Left) (p : Possible) (steps : List Step) → IsHeld trees before.out before.up before.disks p
-    → IsLife trees before.out before.up before.disks p.last steps → LeadsTo trees before p steps
+    → IsLife trees before.out before.up before.disks p.last p.before steps → LeadsTo trees before p steps
 
--- none that was begun is lower than the last one
-pub record IsSane (p : Possible) : Type 0 where
-  pub begun : (u : Uberblock) → Contains p.begun u → (p.last.claim ≤ u.claim) × (p.last.group ≤ u.group)
+-- none of the possible ones is below these groups, and none before the last one below the first
+pub record IsSane (p : Possible) (floor low : ℕ) : Type 0 where
+  pub possible : (u : Uberblock) → Contains (all_of p) u → (floor ≤ u.group) × (low ≤ u.group)
+  pub before : (u : Uberblock) → Contains p.before u → floor ≤ u.group
 
--- in legal events no claim that was opened and no group that was opened or committed is gone below
+-- In legal events no claim that was opened is gone below, nor a group that was opened, and one that was committed by no more than opens go back.
 abbrev pub EventsRise : Type 0
-EventsRise = (p : Possible) (events : List Event) → IsSane p → AreLegal p events → ClaimsRise p.last.claim events × GroupsRise p.last.group events
+EventsRise =
+    (p : Possible) (floor low : ℕ) (events : List Event) → IsSane p floor low → AreLegal p events → ClaimsRise p.last.claim events × GroupsRise floor low events

@@ -1,12 +1,12 @@
 -- Why disks are not opened.
-use Rattle.std.specs.Prelude.{◌≤◌, ◌^◌, Bool, List, length, Contains}
+use Rattle.std.specs.Prelude.{◌≤◌, ◌<◌, ℕ, ◌^◌, Bool, List, length, Contains}
 use Rattle.model_disk.specs.Joint.{Disks, AreHonestSince}
 use Rattle.model_disk.specs.Runs.{HasFailed}
 use Rattle.uberblock_ring.specs.declared.uberblock.Uberblock.{Uberblock}
 use Rattle.uberblock_ring.specs.declared.refusal.Refusal.TheVariants as ring
 use Rattle.uberblock_ring.specs.declared.refusal.Refusal.{Refusal as RingRefusal}
 use Rattle.pool_slots.specs.Possible.{Possible, all_of, Trees}
-use Rattle.pool_slots.specs.Opens.{CanOpen}
+use Rattle.pool_slots.specs.Opens.{CanOpen, IsNotThere}
 use Rattle.pool_slots.specs.declared.refusal.Refusal.{Refusal}
 use Rattle.pool_slots.specs.declared.refusal.Refusal.TheVariants.{NoMemory, DiskFault, NoUberblock, UsedUp}
 
@@ -16,14 +16,15 @@ of_ring ring.NoMemory = NoMemory
 of_ring ring.DiskFault = DiskFault
 of_ring ring.NoUberblock = NoUberblock
 
--- want of memory; a call that failed; no claim is left above that of a possible uberblock; it is never that there is none
-abbrev pub IsCause : Disks → Disks → Possible → Refusal → Type 0
-IsCause old new p NoMemory = Unit {0}
-IsCause old new p DiskFault = HasFailed old new
-IsCause old new p NoUberblock = ⊥
-IsCause old new p UsedUp = (u : Uberblock) × Contains (all_of p) u × (2 ^ 62 ≤ u.claim)
+-- Want of memory; a call that failed; no disk shows what is so many groups below the highest, so it is never this where no group is gone back;
+-- no claim is left above that of a possible uberblock.
+abbrev pub IsCause : List Bool → ℕ → Disks → Disks → Possible → Refusal → Type 0
+IsCause out rewind old new p NoMemory = Unit {0}
+IsCause out rewind old new p DiskFault = HasFailed old new
+IsCause out rewind old new p NoUberblock = (0 < rewind) × IsNotThere out old rewind
+IsCause out rewind old new p UsedUp = (u : Uberblock) × Contains (all_of p) u × (2 ^ 62 ≤ u.claim)
 
 -- what `open` ensures where it refuses
-abbrev pub OpenRefuses : List Bool → Disks → Disks → Refusal → Type 0
-OpenRefuses out old new refusal =
-    (trees : Trees) (p : Possible) → CanOpen trees out old p → AreHonestSince (length old.calls) new.starts new.calls → IsCause old new p refusal
+abbrev pub OpenRefuses : List Bool → ℕ → Disks → Disks → Refusal → Type 0
+OpenRefuses out rewind old new refusal =
+    (trees : Trees) (p : Possible) → CanOpen trees out old p → AreHonestSince (length old.calls) new.starts new.calls → IsCause out rewind old new p refusal

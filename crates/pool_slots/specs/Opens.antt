@@ -1,13 +1,13 @@
 -- What an open reads, and what it claims.
-use Rattle.std.specs.Prelude.{◌≡◌, ◌↔◌, ◌⊎◌, ◌<◌, ℕ, ◌-◌, ◌/◌, ◌%◌, Bool, List, ◌∷◌, length, slice_get, Option, Some, None, Contains, Result, Ok, Err, Vec}
+use Rattle.std.specs.Prelude.{◌≡◌, ◌↔◌, ◌⊎◌, ◌<◌, ℕ, ◌+◌, ◌-◌, ◌/◌, ◌%◌, Bool, List, [], ◌∷◌, length, slice_get, Option, Some, None, Contains, Result, Ok, Err, Vec}
 use Rattle.std.specs.declared.alloc.Global.{Global}
 use Rattle.model_disk.specs.Joint.{Disks, bytes_of, content, AreHonestSince}
 use Rattle.model_disk.specs.Runs.{HasFailed, no_write}
 use Rattle.uberblock_ring.specs.declared.uberblock.Uberblock.{Uberblock}
-use Rattle.uberblock_ring.specs.Ranking.{RanksUpTo, Has}
+use Rattle.uberblock_ring.specs.Ranking.{RanksUpTo, Has, IsRewound}
 use Rattle.uberblock_ring.specs.Uberblock.{Fits}
 use Rattle.pool_slots.specs.Slots.{InUse, MakesOn, AreSettled, slot_at, IsSlot, Shows}
-use Rattle.pool_slots.specs.Possible.{Possible, all_of, IsTopped, Trees, TreeStands, Leads, AllAreBelow}
+use Rattle.pool_slots.specs.Possible.{Possible, all_of, IsInReach, IsTopped, Trees, TreeStands, Leads, AllAreBelow}
 use Rattle.pool_slots.specs.Writes.{HasFound, InTurn, IsSlotWrite, in_use}
 use Rattle.pool_slots.specs.Commits.{AreOffLabels, AreAt, LeadAlways}
 use Rattle.pool_slots.specs.declared.found.Found.{Found}
@@ -62,6 +62,25 @@ pub record IsBare (out : List Bool) (disks : Disks) : Type 0 where
   pub used : InUse out which
   pub none : IsBareOn (length (bytes_of disks.starts which)) (content disks which)
 
+-- a slot of the disk shows the uberblock, and no other
+pub record IsShownOn (size : ℕ) (held : ℕ → Option ℕ) (u : Uberblock) : Type 0 where
+  pub label : ℕ
+  pub slot : ℕ
+  pub is_slot : IsSlot label slot
+  pub shows : Shows held (slot_at size label slot) slot u
+  pub alone : (v : Uberblock) → Shows held (slot_at size label slot) slot v → v ≡ u
+
+-- a disk in use shows it
+pub record IsShown (out : List Bool) (disks : Disks) (u : Uberblock) : Type 0 where
+  pub which : ℕ
+  pub used : InUse out which
+  pub on : IsShownOn (length (bytes_of disks.starts which)) (content disks which) u
+
+-- the highest that disks in use show
+pub record IsHighestShown (out : List Bool) (disks : Disks) (u : Uberblock) : Type 0 where
+  pub shown : IsShown out disks u
+  pub greatest : (v : Uberblock) → IsShown out disks v → RanksUpTo v u
+
 abbrev pub uberblock_of : Option Found → Option Uberblock
 uberblock_of None = None
 uberblock_of (Some found) = Some found.uberblock
@@ -114,6 +133,46 @@ FindsHighest all (Err DiskFault) = ⊥
 FindsHighest all (Err NoUberblock) = (which : ℕ) (found : Found) → ¬ (slice_get all which ≡ Some (Some found))
 FindsHighest all (Err UsedUp) = ⊥
 
+-- on one disk the uberblock of the same claim as this one, and so many groups less, or none
+abbrev pub FindsRewoundOn : Uberblock → ℕ → Disks → Disks → ℕ → Result (Option Uberblock) Refusal → Type 0
+FindsRewoundOn from groups old new which (Ok (Some u)) =
+    IsRewound from groups u × Fits u
+    × (IsKnown old which → AreHonestSince (length old.calls) new.starts new.calls → IsShownOn (length (bytes_of old.starts which)) (content old which) u)
+FindsRewoundOn from groups old new which (Ok None) =
+    (v : Uberblock) → IsKnown old which → AreHonestSince (length old.calls) new.starts new.calls → IsShownOn (length (bytes_of old.starts which)) (content old which) v
+    → ¬ IsRewound from groups v
+FindsRewoundOn from groups old new which (Err NoMemory) = Unit {0}
+FindsRewoundOn from groups old new which (Err DiskFault) = HasFailed old new
+FindsRewoundOn from groups old new which (Err NoUberblock) = ⊥
+FindsRewoundOn from groups old new which (Err UsedUp) = ⊥
+
+-- the same where the disk may be out
+abbrev pub FindsRewoundIfUsed : List Bool → Uberblock → ℕ → Disks → Disks → ℕ → Result (Option Uberblock) Refusal → Type 0
+FindsRewoundIfUsed out from groups old new which (Ok (Some u)) = InUse out which × FindsRewoundOn from groups old new which (Ok (Some u))
+FindsRewoundIfUsed out from groups old new which (Ok None) = InUse out which → FindsRewoundOn from groups old new which (Ok None)
+FindsRewoundIfUsed out from groups old new which (Err refusal) = FindsRewoundOn from groups old new which (Err refusal)
+
+-- on all disks in use: the first; else want of memory, a call that failed, or no slot shows one
+abbrev pub FindsRewound : List Bool → Uberblock → ℕ → Disks → Disks → Result Uberblock Refusal → Type 0
+FindsRewound out from groups old new (Ok u) =
+    IsRewound from groups u × Fits u × (AreKnown out old → AreHonestSince (length old.calls) new.starts new.calls → IsShown out old u)
+FindsRewound out from groups old new (Err NoMemory) = Unit {0}
+FindsRewound out from groups old new (Err DiskFault) = HasFailed old new
+FindsRewound out from groups old new (Err NoUberblock) =
+    AreKnown out old → AreHonestSince (length old.calls) new.starts new.calls → (v : Uberblock) → IsShown out old v → ¬ IsRewound from groups v
+FindsRewound out from groups old new (Err UsedUp) = ⊥
+
+-- what is taken where the disks show this highest one: that itself, or the one so many groups less; which where groups are gone back may not be there
+abbrev pub TakesFrom : List Bool → Uberblock → ℕ → Disks → Disks → Result Uberblock Refusal → Type 0
+TakesFrom out highest rewind old new (Ok u) =
+    IsRewound highest rewind u × Fits u
+    × (AreKnown out old → AreHonestSince (length old.calls) new.starts new.calls → IsShown out old highest → IsShown out old u)
+TakesFrom out highest rewind old new (Err NoMemory) = Unit {0}
+TakesFrom out highest rewind old new (Err DiskFault) = HasFailed old new
+TakesFrom out highest rewind old new (Err NoUberblock) =
+    (0 < rewind) × (AreKnown out old → AreHonestSince (length old.calls) new.starts new.calls → (v : Uberblock) → IsShown out old v → ¬ IsRewound highest rewind v)
+TakesFrom out highest rewind old new (Err UsedUp) = ⊥
+
 -- ---- what is claimed
 
 -- disks that may be opened: nothing is unflushed, and all in use lead to one of the possible uberblocks
@@ -124,21 +183,42 @@ pub record CanOpen (trees : Trees) (out : List Bool) (disks : Disks) (p : Possib
   pub settled : AreSettled out disks.calls
   pub leads : Leads trees out disks.starts (content disks) p
 
--- the uberblock is one of the possible ones under a claim above that of the last one
-pub record IsClaimOf (p : Possible) (u : Uberblock) : Type 0 where
+-- The uberblock is, under a claim above that of the last one, what stands so many groups below a possible one that is no lower than the
+-- last one.
+pub record IsClaimOf (p : Possible) (rewind : ℕ) (u : Uberblock) : Type 0 where
+  pub highest : Uberblock
+  pub possible : Contains (all_of p) highest
+  pub rank : RanksUpTo p.last highest
   pub taken : Uberblock
-  pub possible : Contains (all_of p) taken
+  pub rewound : IsRewound highest rewind taken
+  pub reached : IsInReach p taken
   pub is : u ≡ record taken { claim = u.claim }
   pub above : p.last.claim < u.claim
 
+-- It is what the disks show so many groups below the highest that they show, under the claim after that one's.
+pub record IsTakenFrom (out : List Bool) (disks : Disks) (rewind : ℕ) (u : Uberblock) : Type 0 where
+  pub highest : Uberblock
+  pub top : IsHighestShown out disks highest
+  pub taken : Uberblock
+  pub shown : IsShown out disks taken
+  pub rewound : IsRewound highest rewind taken
+  pub is : u ≡ record taken { claim = highest.claim + 1 }
+
+-- no disk in use shows what is so many groups below the highest
+pub record IsNotThere (out : List Bool) (disks : Disks) (rewind : ℕ) : Type 0 where
+  pub highest : Uberblock
+  pub top : IsHighestShown out disks highest
+  pub none : (v : Uberblock) → IsShown out disks v → ¬ IsRewound highest rewind v
+
 abbrev pub also_begun : Uberblock → Possible → Possible
-also_begun u p = record { last = p.last; begun = u ∷ p.begun }
+also_begun u p = record { last = p.last; begun = u ∷ p.begun; before = p.before }
 
 -- A stop at any moment leaves what led there before, or also to a claim of it.
-abbrev pub LeadsOrClaims : Trees → List Bool → Disks → Disks → Possible → Type 0
-LeadsOrClaims trees out old new p = LeadAlways trees out old new p ⊎ ((u : Uberblock) × IsClaimOf p u × LeadAlways trees out old new (also_begun u p))
+abbrev pub LeadsOrClaims : Trees → List Bool → ℕ → Disks → Disks → Possible → Type 0
+LeadsOrClaims trees out rewind old new p =
+    LeadAlways trees out old new p ⊎ ((u : Uberblock) × IsClaimOf p rewind u × LeadAlways trees out old new (also_begun u p))
 
--- The uberblock may be claimed: it ranks above all that the disks show, its tree stands, and on each disk a slot outside the half that is
+-- The uberblock may be claimed: all that the disks show is out of its reach, its tree stands, and on each disk a slot outside the half that is
 -- written first shows what is no lower than the last one.
 pub record MayClaim (trees : Trees) (out : List Bool) (disks : Disks) (p : Possible) (u : Uberblock) (all : List (Option Found)) : Type 0 where
   pub off_labels : AreOffLabels trees out disks.starts
@@ -151,14 +231,19 @@ pub record MayClaim (trees : Trees) (out : List Bool) (disks : Disks) (p : Possi
   pub spared : (which : ℕ) → (used : InUse out which) → ¬ InTurn all 0 which (top which used).label
 
 -- what `open` ensures of any disks, at each moment
-abbrev pub OpenKeeps : List Bool → Disks → Disks → Type 0
-OpenKeeps out old new =
-    (trees : Trees) (p : Possible) → CanOpen trees out old p → AreHonestSince (length old.calls) new.starts new.calls → LeadsOrClaims trees out old new p
+abbrev pub OpenKeeps : List Bool → ℕ → Disks → Disks → Type 0
+OpenKeeps out rewind old new =
+    (trees : Trees) (p : Possible) → CanOpen trees out old p → AreHonestSince (length old.calls) new.starts new.calls → LeadsOrClaims trees out rewind old new p
 
 -- and once it is done
-abbrev pub OpenGives : List Bool → Disks → Uberblock → Disks → Type 0
-OpenGives out old u new =
-    (trees : Trees) (p : Possible) → CanOpen trees out old p → AreHonestSince (length old.calls) new.starts new.calls → IsClaimOf p u × AreAt trees out new u
+abbrev pub OpenGives : List Bool → ℕ → Disks → Uberblock → Disks → Type 0
+OpenGives out rewind old u new =
+    (trees : Trees) (p : Possible) → CanOpen trees out old p → AreHonestSince (length old.calls) new.starts new.calls
+    → IsClaimOf p rewind u × AreAt trees out new u []
+
+-- which one it has taken
+abbrev pub OpenTakes : List Bool → ℕ → Disks → Uberblock → Disks → Type 0
+OpenTakes out rewind old u new = AreKnown out old → AreHonestSince (length old.calls) new.starts new.calls → IsTakenFrom out old rewind u
 
 -- what it writes: nothing, or the slots of one uberblock, on disks in use; and no call is made on another disk
 abbrev pub OpenMakes : List Bool → Disks → Disks → Type 0
@@ -171,4 +256,4 @@ abbrev pub ClaimKeeps : List Bool → Disks → Uberblock → List (Option Found
 ClaimKeeps out old u all new = (trees : Trees) (p : Possible) → MayClaim trees out old p u all → LeadAlways trees out old new (also_begun u p)
 
 abbrev pub ClaimGives : List Bool → Disks → Uberblock → List (Option Found) → Disks → Type 0
-ClaimGives out old u all new = (trees : Trees) (p : Possible) → MayClaim trees out old p u all → AreAt trees out new u
+ClaimGives out old u all new = (trees : Trees) (p : Possible) → MayClaim trees out old p u all → AreAt trees out new u []

@@ -55,9 +55,9 @@ pub record Shows (held : ℕ → Option ℕ) (place slot : ℕ) (u : Uberblock) 
   pub number : slot ≡ slot_number u.group
   pub bytes : (i : ℕ) → i < length (spelled u) → held (place + i) ≡ slice_get (spelled u) i
 
--- by the claim, and under one claim by the group
-abbrev pub RanksBelow : Uberblock → Uberblock → Type 0
-RanksBelow first second = (first.claim < second.claim) ⊎ ((first.claim ≡ second.claim) × (first.group < second.group))
+-- The first has a lower claim, or more than two groups less: no open comes to it that goes back from the second, or from one that is higher.
+abbrev pub IsOutOfReach : Uberblock → Uberblock → Type 0
+IsOutOfReach first second = (first.claim < second.claim) ⊎ ((first.claim ≡ second.claim) × (first.group + 2 < second.group))
 
 -- What a stop tears in the slots of the disks in use doesn't read as an uberblock by chance: one that the images show stood in its
 -- slot at the last flush, or was written there since.

@@ -7,7 +7,8 @@ pub fn lives_lose_nothing()
     ensures { LivesLoseNothing }
 {}
 
-/// No claim of a finished open, and no group of a finished open or commit, is gone below.
+/// No claim and no group of a finished open is gone below, and the group of a finished open or commit by no
+/// more than opens go back.
 pub fn events_rise()
     ensures { EventsRise }
 {}

@@ -5,6 +5,7 @@ mod blocks;
 mod claiming;
 mod committing;
 mod found;
+mod going_back;
 pub mod laws;
 mod opening;
 mod refusal;

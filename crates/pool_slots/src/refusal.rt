@@ -11,6 +11,7 @@ pub enum Refusal {
     NoMemory,
     #[error("a disk failed")]
     DiskFault,
+    /// Or none that is so many groups below the highest, under its claim.
     #[error("a disk has no uberblock")]
     NoUberblock,
     /// The pool was opened 2^62 times.

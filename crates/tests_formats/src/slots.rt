@@ -140,7 +140,7 @@ fn the_claim_counts_before_the_group(rt: HostRuntime) {
 }
 
 /// The uberblock of the group behind.
-const NEXT: Uberblock = Uberblock {
+pub(crate) const NEXT: Uberblock = Uberblock {
     group: 5,
     root: Block { birth: 5, ..ROOT },
     ..UBERBLOCK

@@ -45,29 +45,29 @@ returns-clause-makes g c =
     (slot_writes c.args.out.now old.starts mid c.write_all.new.disks c.args.blocks.now c.args.uberblock.now first.makes.starts c.write_all.ensures.makes)) c.flush_all-2.ensures.makes
 
 pub returns-in_err-write_blocks-clause-any_moment : goal.returns-in_err-write_blocks-clause-any_moment
-returns-in_err-write_blocks-clause-any_moment g c = λ trees last next.
-    blocks_always trees c.args.out.now c.args.disks.now c.write_blocks.new.disks last c.args.uberblock.now c.args.blocks.now (are_there c.args.out.now c.args.disks.now.starts c.requires.out) c.requires.placed next
+returns-in_err-write_blocks-clause-any_moment g c = λ trees last before next.
+    blocks_always trees c.args.out.now c.args.disks.now c.write_blocks.new.disks last before c.args.uberblock.now c.args.blocks.now (are_there c.args.out.now c.args.disks.now.starts c.requires.out) c.requires.placed next
     c.write_blocks.ensures.makes.makes
 
 pub returns-in_err-flush_all-clause-any_moment : goal.returns-in_err-flush_all-clause-any_moment
-returns-in_err-flush_all-clause-any_moment g c = λ trees last next.
-    blocks_always trees c.args.out.now c.args.disks.now c.flush_all.new.disks last c.args.uberblock.now c.args.blocks.now (are_there c.args.out.now c.args.disks.now.starts c.requires.out) c.requires.placed next
+returns-in_err-flush_all-clause-any_moment g c = λ trees last before next.
+    blocks_always trees c.args.out.now c.args.disks.now c.flush_all.new.disks last before c.args.uberblock.now c.args.blocks.now (are_there c.args.out.now c.args.disks.now.starts c.requires.out) c.requires.placed next
     (both_made (IsBlockWrite c.args.blocks.now) c.args.disks.now c.write_blocks.new.disks c.flush_all.new.disks c.write_blocks.ensures.makes.makes c.flush_all.ensures.makes.makes)
 
 pub returns-in_err-write_all-clause-any_moment : goal.returns-in_err-write_all-clause-any_moment
-returns-in_err-write_all-clause-any_moment g c = λ trees last next.
+returns-in_err-write_all-clause-any_moment g c = λ trees last before next.
     let there = are_there c.args.out.now c.args.disks.now.starts c.requires.out in
-    let done = blocks_done trees c.args.out.now c.args.disks.now c.write_blocks.new.disks c.flush_all.new.disks last c.args.uberblock.now c.args.blocks.now c.requires.placed next
+    let done = blocks_done trees c.args.out.now c.args.disks.now c.write_blocks.new.disks c.flush_all.new.disks last before c.args.uberblock.now c.args.blocks.now c.requires.placed next
     c.write_blocks.ensures.makes.makes c.in_ok-write_blocks.ensures.stand c.flush_all.ensures.makes.makes in
-    slots_always trees c.args.out.now c.args.disks.now c.flush_all.new.disks c.write_all.new.disks last c.args.uberblock.now c.args.blocks.now there c.requires.labels c.requires.placed c.requires.fits next
+    slots_always trees c.args.out.now c.args.disks.now c.flush_all.new.disks c.write_all.new.disks last before c.args.uberblock.now c.args.blocks.now there c.requires.labels c.requires.placed c.requires.fits next
     done c.in_ok-flush_all.ensures.settled c.write_all.ensures.makes.makes
 
 pub returns-clause-any_moment : goal.returns-clause-any_moment
-returns-clause-any_moment g c = λ trees last next.
+returns-clause-any_moment g c = λ trees last before next.
     let there = are_there c.args.out.now c.args.disks.now.starts c.requires.out in
-    let done = blocks_done trees c.args.out.now c.args.disks.now c.write_blocks.new.disks c.flush_all.new.disks last c.args.uberblock.now c.args.blocks.now c.requires.placed next
+    let done = blocks_done trees c.args.out.now c.args.disks.now c.write_blocks.new.disks c.flush_all.new.disks last before c.args.uberblock.now c.args.blocks.now c.requires.placed next
     c.write_blocks.ensures.makes.makes c.in_ok-write_blocks.ensures.stand c.flush_all.ensures.makes.makes in
-    slots_always trees c.args.out.now c.args.disks.now c.flush_all.new.disks c.flush_all-2.new.disks last c.args.uberblock.now c.args.blocks.now there c.requires.labels c.requires.placed c.requires.fits next
+    slots_always trees c.args.out.now c.args.disks.now c.flush_all.new.disks c.flush_all-2.new.disks last before c.args.uberblock.now c.args.blocks.now there c.requires.labels c.requires.placed c.requires.fits next
     done c.in_ok-flush_all.ensures.settled
     (both_made (IsSlotWrite c.flush_all.new.disks.starts c.args.uberblock.now (in_use c.args.out.now)) c.flush_all.new.disks c.write_all.new.disks c.flush_all-2.new.disks c.write_all.ensures.makes.makes c.flush_all-2.ensures.makes.makes)
 
@@ -80,10 +80,10 @@ returns-clause-committed g c =
     let wrote = c.write_all.new.disks in
     let new = c.flush_all-2.new.disks in
     on_ok_use c.flush_all-2.result (AreSettled out new.calls) (CommitGives out old c.args.blocks.now u new)
-    (λ settled trees last next.
+    (λ settled trees last before next.
     let there = are_there out old.starts c.requires.out in
-    let done = blocks_done trees out old c.write_blocks.new.disks mid last u c.args.blocks.now c.requires.placed next c.write_blocks.ensures.makes.makes c.in_ok-write_blocks.ensures.stand c.flush_all.ensures.makes.makes in
-    commit_done trees out old mid new last u c.args.blocks.now there c.requires.labels c.requires.fits next done
+    let done = blocks_done trees out old c.write_blocks.new.disks mid last before u c.args.blocks.now c.requires.placed next c.write_blocks.ensures.makes.makes c.in_ok-write_blocks.ensures.stand c.flush_all.ensures.makes.makes in
+    commit_done trees out old mid new last before u c.args.blocks.now there c.requires.labels c.requires.fits next done
     (both_made (IsSlotWrite mid.starts u (in_use out)) mid wrote new c.write_all.ensures.makes.makes c.flush_all-2.ensures.makes.makes)
     (slots_flushed wrote new mid.starts u (in_use out) (length mid.starts) c.flush_all-2.ensures.makes.makes c.in_ok-write_all.ensures.stand) settled)
     c.flush_all-2.ensures.settled
