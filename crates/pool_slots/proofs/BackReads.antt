@@ -6,7 +6,7 @@ use Rattle.uberblock_ring.specs.declared.uberblock.Uberblock.{Uberblock}
 use Rattle.model_disk.specs.Joint.{Disks, bytes_of, content, AreHonestSince}
 use Rattle.model_disk.specs.Runs.{Makes, no_write}
 use Rattle.model_disk.proofs.FailureLemmas.{failed_in_second}
-use Rattle.pool_slots.specs.Opens.{AreKnown, IsShownOn, IsShown, FindsRewoundIfUsed, FindsRewound}
+use Rattle.pool_slots.specs.Opens.{AreKnown, IsShownOn, IsReadOn, IsShown, IsRead, FindsRewoundIfUsed, FindsRewound}
 use Rattle.pool_slots.specs.Slots.{AreThere, InUse, slot_at}
 use Rattle.pool_slots.specs.declared.refusal.Refusal.{Refusal}
 use Rattle.pool_slots.specs.declared.refusal.Refusal.TheVariants.{NoMemory, DiskFault, NoUberblock, UsedUp}
@@ -24,26 +24,43 @@ shown_same size held held' u same it =
       slot = it.slot;
       is_slot = it.is_slot;
       shows = shows_same held held' (slot_at size it.label it.slot) it.slot u (λ i below. same (slot_at size it.label it.slot + i)) it.shows;
-      alone = λ v shows. it.alone v (shows_same held' held (slot_at size it.label it.slot) it.slot v (λ i below. sym (same (slot_at size it.label it.slot + i))) shows);
     }
 
-on_later : (old new : Disks) (which : ℕ) (u : Uberblock) → Makes no_write old new → IsShownOn (length (bytes_of old.starts which)) (content old which) u
+read_same : (size : ℕ) (held held' : ℕ → Option ℕ) (u : Uberblock) → ((i : ℕ) → held' i ≡ held i) → IsReadOn size held u → IsReadOn size held' u
+unfolding shown_same
+read_same size held held' u same it =
+    let place = slot_at size it.on.label it.on.slot in
+    record {
+      on = shown_same size held held' u same it.on;
+      alone = λ v shows. it.alone v (shows_same held' held place it.on.slot v (λ i below. sym (same (place + i))) shows);
+    }
+
+shown_on_later : (old new : Disks) (which : ℕ) (u : Uberblock) → Makes no_write old new → IsShownOn (length (bytes_of old.starts which)) (content old which) u
     → IsShownOn (length (bytes_of new.starts which)) (content new which) u
-on_later old new which u makes it =
+shown_on_later old new which u makes it =
     let P : List (List ℕ) → Type 0 = λ starts. IsShownOn (length (bytes_of starts which)) (content new which) u in
     subst P (sym makes.starts) (shown_same (length (bytes_of old.starts which)) (content old which) (content new which) u (λ i. none_same old new which i makes) it)
 
-on_earlier : (old new : Disks) (which : ℕ) (u : Uberblock) → Makes no_write old new → IsShownOn (length (bytes_of new.starts which)) (content new which) u
-    → IsShownOn (length (bytes_of old.starts which)) (content old which) u
-on_earlier old new which u makes it =
-    let P : List (List ℕ) → Type 0 = λ starts. IsShownOn (length (bytes_of starts which)) (content old which) u in
-    subst P makes.starts (shown_same (length (bytes_of new.starts which)) (content new which) (content old which) u (λ i. sym (none_same old new which i makes)) it)
+read_on_later : (old new : Disks) (which : ℕ) (u : Uberblock) → Makes no_write old new → IsReadOn (length (bytes_of old.starts which)) (content old which) u
+    → IsReadOn (length (bytes_of new.starts which)) (content new which) u
+read_on_later old new which u makes it =
+    let P : List (List ℕ) → Type 0 = λ starts. IsReadOn (length (bytes_of starts which)) (content new which) u in
+    subst P (sym makes.starts) (read_same (length (bytes_of old.starts which)) (content old which) (content new which) u (λ i. none_same old new which i makes) it)
+
+read_on_earlier : (old new : Disks) (which : ℕ) (u : Uberblock) → Makes no_write old new → IsReadOn (length (bytes_of new.starts which)) (content new which) u
+    → IsReadOn (length (bytes_of old.starts which)) (content old which) u
+read_on_earlier old new which u makes it =
+    let P : List (List ℕ) → Type 0 = λ starts. IsReadOn (length (bytes_of starts which)) (content old which) u in
+    subst P makes.starts (read_same (length (bytes_of new.starts which)) (content new which) (content old which) u (λ i. sym (none_same old new which i makes)) it)
 
 pub shown_later : (out : List Bool) (old new : Disks) (u : Uberblock) → Makes no_write old new → IsShown out old u → IsShown out new u
-shown_later out old new u makes it = record { which = it.which; used = it.used; on = on_later old new it.which u makes it.on }
+shown_later out old new u makes it = record { which = it.which; used = it.used; on = shown_on_later old new it.which u makes it.on }
 
-pub shown_earlier : (out : List Bool) (old new : Disks) (u : Uberblock) → Makes no_write old new → IsShown out new u → IsShown out old u
-shown_earlier out old new u makes it = record { which = it.which; used = it.used; on = on_earlier old new it.which u makes it.on }
+pub read_later : (out : List Bool) (old new : Disks) (u : Uberblock) → Makes no_write old new → IsRead out old u → IsRead out new u
+read_later out old new u makes it = record { which = it.which; used = it.used; on = read_on_later old new it.which u makes it.on }
+
+pub read_earlier : (out : List Bool) (old new : Disks) (u : Uberblock) → Makes no_write old new → IsRead out new u → IsRead out old u
+read_earlier out old new u makes it = record { which = it.which; used = it.used; on = read_on_earlier old new it.which u makes it.on }
 
 -- ---- disk by disk
 
@@ -67,7 +84,7 @@ none_next out from groups first loop new which before makes without it w below u
           let S : ℕ → Type 0 = λ d. IsShownOn (length (bytes_of first.starts d)) (content first d) v in
           let used' : InUse out which = subst U same used in
           it used' v (known_on first loop which before (known which used')) (honest_since (length first.calls) (length loop.calls) new (longer first loop no_write before) honest)
-          (on_later first loop which v before (subst S same shown))
+          (shown_on_later first loop which v before (subst S same shown))
     ]
 
 pub found_here : (out : List Bool) (from : Uberblock) (groups : ℕ) (first loop new : Disks) (which : ℕ) (u : Uberblock) → Makes no_write first loop
@@ -78,7 +95,7 @@ found_here out from groups first loop new which u before it = (
   λ known honest. record {
     which = which;
     used = it.0;
-    on = on_earlier first loop which u before
+    on = read_on_earlier first loop which u before
         (it.1.2 (known_on first loop which before (known which it.0)) (honest_since (length first.calls) (length loop.calls) new (longer first loop no_write before) honest));
   },
 )

@@ -6,7 +6,7 @@ use Rattle.uberblock_ring.proofs.Ranks.{ranks_through}
 use Rattle.model_disk.specs.Joint.{Disks, bytes_of, content, AreHonestSince}
 use Rattle.model_disk.specs.Runs.{Makes, no_write}
 use Rattle.pool_slots.specs.OpenRefusals.{IsCause}
-use Rattle.pool_slots.specs.Opens.{AreKnown, IsHighest, IsBare, IsFoundOn, AreFound, AreOn, IsHighestOf, IsShown, IsHighestShown, FindsAll, FindsHighest, TakesFrom, CanOpen, IsClaimOf, IsTakenFrom, also_begun, MayClaim}
+use Rattle.pool_slots.specs.Opens.{AreKnown, IsHighest, IsBare, IsFoundOn, AreFound, AreOn, IsHighestOf, IsRead, IsHighestShown, FindsAll, FindsHighest, TakesFrom, CanOpen, IsClaimOf, IsTakenFrom, also_begun, MayClaim}
 use Rattle.pool_slots.specs.Commits.{AreOffLabels, LeadAlways}
 use Rattle.pool_slots.specs.Possible.{Possible, IsBefore, all_of, Trees, IsPossible, Leads}
 use Rattle.pool_slots.specs.Slots.{AreThere, InUse, AreSettled, IsOutOfReach}
@@ -16,7 +16,7 @@ use Rattle.pool_slots.specs.declared.refusal.Refusal.{Refusal}
 use Rattle.pool_slots.specs.declared.refusal.Refusal.TheVariants.{NoMemory, DiskFault, NoUberblock, UsedUp}
 use Rattle.pool_slots.proofs.ClaimPhases.{also_leads}
 use Rattle.pool_slots.proofs.Finding.{known_later, highest_same, honest_before, honest_since}
-use Rattle.pool_slots.proofs.BackReads.{shown_later, shown_earlier}
+use Rattle.pool_slots.proofs.BackReads.{shown_later, read_later, read_earlier}
 use Rattle.pool_slots.proofs.Reading.{longer}
 use Rattle.model_disk.proofs.FailureLemmas.{failed_in_second}
 use Rattle.pool_slots.proofs.OneDisk.{leads_kept_on}
@@ -112,9 +112,9 @@ pub highest_shown : (out : List Bool) (disks : Disks) (all : List (Option Found)
 highest_shown out disks all u are on one =
     let here = are one.which (Some one.found) one.at in
     let it = here.1 in
-    let P : Uberblock → Type 0 = IsShown out disks in
+    let P : Uberblock → Type 0 = IsRead out disks in
     record {
-      shown = subst P (sym one.is) (record { which = one.which; used = here.0; on = record { label = it.label; slot = it.slot; is_slot = it.is_slot; shows = it.shows; alone = it.alone } });
+      shown = subst P (sym one.is) (record { which = one.which; used = here.0; on = record { on = record { label = it.label; slot = it.slot; is_slot = it.is_slot; shows = it.shows }; alone = it.alone } });
       greatest = λ v shown.
           let mine = (on shown.which).0 shown.used in
           let highest = (are shown.which (Some mine.0) mine.1).1 in
@@ -122,13 +122,13 @@ highest_shown out disks all u are on one =
     }
 
 -- what is shown is out of reach, or possible
-shown_allowed : (trees : Trees) (out : List Bool) (disks : Disks) (p : Possible) (v : Uberblock) → CanOpen trees out disks p → IsShown out disks v
+shown_allowed : (trees : Trees) (out : List Bool) (disks : Disks) (p : Possible) (v : Uberblock) → CanOpen trees out disks p → IsRead out disks v
     → IsOutOfReach v p.last ⊎ IsPossible trees out (content disks) p v
 shown_allowed trees out disks p v can shown =
-    let on = shown.on in
+    let on = shown.on.on in
     let it = (can.leads shown.which shown.used).only on.label on.slot on.is_slot v on.shows in
     let P : Uberblock → Type 0 = λ w. IsOutOfReach w p.last ⊎ IsPossible trees out (content disks) p w in
-    subst P (on.alone it.u it.shows) it.rank
+    subst P (shown.on.alone it.u it.shows) it.rank
 
 -- the highest that is shown is one of the possible ones, and no lower than the last one
 pub record IsTop (out : List Bool) (disks : Disks) (p : Possible) (highest : Uberblock) : Type 0 where
@@ -153,7 +153,7 @@ is_top trees out disks p all highest can are on one =
 
 -- what is taken is possible
 is_taken : (trees : Trees) (out : List Bool) (disks : Disks) (p : Possible) (highest taken : Uberblock) (rewind : ℕ) → CanOpen trees out disks p → rewind < 3 → IsTop out disks p highest
-    → IsRewound highest rewind taken → IsShown out disks taken → IsPossible trees out (content disks) p taken
+    → IsRewound highest rewind taken → IsRead out disks taken → IsPossible trees out (content disks) p taken
 is_taken trees out disks p highest taken rewind can few top rewound shown =
     elim (shown_allowed trees out disks p taken can shown) [
       | inl far ↦ absurd (higher_than_last p.last highest taken top.rank (rewound.0, omega (arith, few, rewound.1)) far)
@@ -233,12 +233,12 @@ honest_back old mid disks scan honest = honest_since (length old.calls) (length 
 
 -- what is taken is shown
 taken_shown : (out : List Bool) (rewind : ℕ) (old mid disks : Disks) (all : List (Option Found)) (highest taken : Uberblock) → Reads out rewind old mid disks all highest taken → AreKnown out old
-    → AreHonestSince (length old.calls) disks.starts disks.calls → IsShown out old taken
+    → AreHonestSince (length old.calls) disks.starts disks.calls → IsRead out old taken
 taken_shown out rewind old mid disks all highest taken reads known honest =
     let are = found_first out rewind old mid disks all highest taken reads known honest in
     let top = highest_shown out old all highest are reads.on reads.one in
-    shown_earlier out old mid taken reads.scan
-    (reads.takes.2 (known_later out old mid reads.scan known) (honest_back old mid disks reads.scan honest) (shown_later out old mid highest reads.scan top.shown))
+    read_earlier out old mid taken reads.scan
+    (reads.takes.2 (known_later out old mid reads.scan known) (honest_back old mid disks reads.scan honest) (read_later out old mid highest reads.scan top.shown))
 
 pub taken_from : (out : List Bool) (rewind : ℕ) (old mid disks : Disks) (all : List (Option Found)) (highest taken : Uberblock) → Reads out rewind old mid disks all highest taken → AreKnown out old
     → AreHonestSince (length old.calls) disks.starts disks.calls → IsTakenFrom out old rewind (claimed_as highest taken)
@@ -264,7 +264,7 @@ chosen trees out rewind old mid disks p all highest taken can few reads honest =
     let can' = can_open_later trees out old disks p makes can in
     let are = found_later out old disks all makes (found_first out rewind old mid disks all highest taken reads can.known honest) in
     let top = is_top trees out disks p all highest can' are reads.on reads.one in
-    let shown = shown_later out old disks taken makes (taken_shown out rewind old mid disks all highest taken reads can.known honest) in
+    let shown = read_later out old disks taken makes (taken_shown out rewind old mid disks all highest taken reads can.known honest) in
     let possible = is_taken trees out disks p highest taken rewind can' few top reads.takes.0 shown in
     record { claim = claim_is trees out disks p highest taken rewind top reads.takes.0 possible; may = may_claim trees out disks p all highest taken can' are reads.on reads.one top possible }
 

@@ -20,7 +20,7 @@ use Rattle.model_disk.proofs.FailureLemmas.{failures_are_seen, failed_in_second}
 use Rattle.model_disk.proofs.JointLemmas.{calls_on-other}
 use Rattle.model_disk.proofs.LawLemmas.{same_bytes}
 use Rattle.pool_slots.specs.OpenRefusals.{of_ring}
-use Rattle.pool_slots.specs.Opens.{IsKnown, HasHighest, IsHighest, IsShownOn, IsBareOn, FindsOn, FindsRewoundOn}
+use Rattle.pool_slots.specs.Opens.{IsKnown, HasHighest, IsHighest, IsReadOn, IsBareOn, FindsOn, FindsRewoundOn}
 use Rattle.pool_slots.specs.Slots.{MakesOn, is_disk, spelled, slot_at, IsSlot, Shows}
 use Rattle.pool_slots.specs.declared.found.Found.{Found}
 use Rattle.pool_slots.proofs.Phases.{MakesOn-more, none_same}
@@ -245,17 +245,19 @@ slots_refused_back old new which from groups ring.DiskFault it = fault_seen old 
 slots_refused_back old new which from groups ring.NoMemory it = tt
 slots_refused_back old new which from groups ring.NoUberblock it = absurd it
 
--- what was found in a slot is shown
-shown_is : (old : Disks) (which : ℕ) (slots : List (Option Uberblock)) (k : ℕ) (u : Uberblock) → AreRead old which slots → Has slots k u → IsShownOn (size_of old which) (content old which) u
-shown_is old which slots k u are has =
+-- what was found in a slot is shown, and no other
+read_is : (old : Disks) (which : ℕ) (slots : List (Option Uberblock)) (k : ℕ) (u : Uberblock) → AreRead old which slots → Has slots k u → IsReadOn (size_of old which) (content old which) u
+read_is old which slots k u are has =
     let below : k < 512 = omega (arith, within slots k u has, are.count) in
     let says = says_some (k % 128) (are.bytes k) (get_or slots k None) u (are.says k below) has in
     let place = slot_at (size_of old which) (k / 128) (k % 128) in
     record {
-      label = k / 128;
-      slot = k % 128;
-      is_slot = slot_of_number k below;
-      shows = shows_spelled (content old which) place (k % 128) (are.bytes k) u (are.read k below) says.0;
+      on = record {
+        label = k / 128;
+        slot = k % 128;
+        is_slot = slot_of_number k below;
+        shows = shows_spelled (content old which) place (k % 128) (are.bytes k) u (are.read k below) says.0;
+      };
       alone = λ v shown. says.1 v (spells_shown (content old which) place (k % 128) (are.bytes k) v (are.read k below) shown);
     }
 
@@ -268,5 +270,5 @@ finds_rewound old new which slots from groups (Some u) room starts it some there
     let below : there.0 < 512 = omega (arith, within slots.items there.0 u there.1, it.0) in (
       some,
       (says_some (there.0 % 128) (it.1.bytes there.0) (get_or slots.items there.0 None) u (it.1.each there.0 below).1 there.1).0.0,
-      λ known honest. shown_is old which slots.items there.0 u (are_read old new which slots.items room starts it.0 it.1 known honest) there.1,
+      λ known honest. read_is old which slots.items there.0 u (are_read old new which slots.items room starts it.0 it.1 known honest) there.1,
     )

@@ -62,13 +62,17 @@ pub record IsBare (out : List Bool) (disks : Disks) : Type 0 where
   pub used : InUse out which
   pub none : IsBareOn (length (bytes_of disks.starts which)) (content disks which)
 
--- a slot of the disk shows the uberblock, and no other
+-- a slot of the disk shows the uberblock
 pub record IsShownOn (size : ℕ) (held : ℕ → Option ℕ) (u : Uberblock) : Type 0 where
   pub label : ℕ
   pub slot : ℕ
   pub is_slot : IsSlot label slot
   pub shows : Shows held (slot_at size label slot) slot u
-  pub alone : (v : Uberblock) → Shows held (slot_at size label slot) slot v → v ≡ u
+
+-- and no other
+pub record IsReadOn (size : ℕ) (held : ℕ → Option ℕ) (u : Uberblock) : Type 0 where
+  pub on : IsShownOn size held u
+  pub alone : (v : Uberblock) → Shows held (slot_at size on.label on.slot) on.slot v → v ≡ u
 
 -- a disk in use shows it
 pub record IsShown (out : List Bool) (disks : Disks) (u : Uberblock) : Type 0 where
@@ -76,9 +80,15 @@ pub record IsShown (out : List Bool) (disks : Disks) (u : Uberblock) : Type 0 wh
   pub used : InUse out which
   pub on : IsShownOn (length (bytes_of disks.starts which)) (content disks which) u
 
+-- and no other there
+pub record IsRead (out : List Bool) (disks : Disks) (u : Uberblock) : Type 0 where
+  pub which : ℕ
+  pub used : InUse out which
+  pub on : IsReadOn (length (bytes_of disks.starts which)) (content disks which) u
+
 -- the highest that disks in use show
 pub record IsHighestShown (out : List Bool) (disks : Disks) (u : Uberblock) : Type 0 where
-  pub shown : IsShown out disks u
+  pub shown : IsRead out disks u
   pub greatest : (v : Uberblock) → IsShown out disks v → RanksUpTo v u
 
 abbrev pub uberblock_of : Option Found → Option Uberblock
@@ -137,7 +147,7 @@ FindsHighest all (Err UsedUp) = ⊥
 abbrev pub FindsRewoundOn : Uberblock → ℕ → Disks → Disks → ℕ → Result (Option Uberblock) Refusal → Type 0
 FindsRewoundOn from groups old new which (Ok (Some u)) =
     IsRewound from groups u × Fits u
-    × (IsKnown old which → AreHonestSince (length old.calls) new.starts new.calls → IsShownOn (length (bytes_of old.starts which)) (content old which) u)
+    × (IsKnown old which → AreHonestSince (length old.calls) new.starts new.calls → IsReadOn (length (bytes_of old.starts which)) (content old which) u)
 FindsRewoundOn from groups old new which (Ok None) =
     (v : Uberblock) → IsKnown old which → AreHonestSince (length old.calls) new.starts new.calls → IsShownOn (length (bytes_of old.starts which)) (content old which) v
     → ¬ IsRewound from groups v
@@ -155,7 +165,7 @@ FindsRewoundIfUsed out from groups old new which (Err refusal) = FindsRewoundOn 
 -- on all disks in use: the first; else want of memory, a call that failed, or no slot shows one
 abbrev pub FindsRewound : List Bool → Uberblock → ℕ → Disks → Disks → Result Uberblock Refusal → Type 0
 FindsRewound out from groups old new (Ok u) =
-    IsRewound from groups u × Fits u × (AreKnown out old → AreHonestSince (length old.calls) new.starts new.calls → IsShown out old u)
+    IsRewound from groups u × Fits u × (AreKnown out old → AreHonestSince (length old.calls) new.starts new.calls → IsRead out old u)
 FindsRewound out from groups old new (Err NoMemory) = Unit {0}
 FindsRewound out from groups old new (Err DiskFault) = HasFailed old new
 FindsRewound out from groups old new (Err NoUberblock) =
@@ -166,7 +176,7 @@ FindsRewound out from groups old new (Err UsedUp) = ⊥
 abbrev pub TakesFrom : List Bool → Uberblock → ℕ → Disks → Disks → Result Uberblock Refusal → Type 0
 TakesFrom out highest rewind old new (Ok u) =
     IsRewound highest rewind u × Fits u
-    × (AreKnown out old → AreHonestSince (length old.calls) new.starts new.calls → IsShown out old highest → IsShown out old u)
+    × (AreKnown out old → AreHonestSince (length old.calls) new.starts new.calls → IsRead out old highest → IsRead out old u)
 TakesFrom out highest rewind old new (Err NoMemory) = Unit {0}
 TakesFrom out highest rewind old new (Err DiskFault) = HasFailed old new
 TakesFrom out highest rewind old new (Err NoUberblock) =
@@ -200,7 +210,7 @@ pub record IsTakenFrom (out : List Bool) (disks : Disks) (rewind : ℕ) (u : Ube
   pub highest : Uberblock
   pub top : IsHighestShown out disks highest
   pub taken : Uberblock
-  pub shown : IsShown out disks taken
+  pub shown : IsRead out disks taken
   pub rewound : IsRewound highest rewind taken
   pub is : u ≡ record taken { claim = highest.claim + 1 }
 
