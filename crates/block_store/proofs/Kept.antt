@@ -45,7 +45,7 @@ keeps kept more old new is stored holds = record {
 }
 
 -- a byte of a column's write is one of its extent
-of_write : (extent : Extent) (k : ℕ) (write : ColumnWrite) (i : ℕ) → IsColumnWrite extent k write → i < length write.bytes.items
+of_write : (extent : Extent) (k : ℕ) (write : ColumnWrite) (i : ℕ) → IsColumnWrite extent k write → i < length write.bytes.value.items
     → IsOfExtent extent write.disk (write.offset + i)
 of_write extent k write i is within = record {
   k = k;

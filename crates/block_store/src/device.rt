@@ -43,7 +43,7 @@ impl<D: Disk + Drop> BlockStore<D> {
         ensures spaces { self.new.spaces ≡ self.old.spaces }
         ensures call { (write : ColumnWrite) × (self.old.due ≡ write ∷ self.new.due)
             × (self.new.disks.calls
-            ≡ on write.disk (write_call result write.offset write.bytes.items)
+            ≡ on write.disk (write_call result write.offset write.bytes.value.items)
             ∷ self.old.disks.calls)
             × IfErr result (λ failed. failed.disk ≡ write.disk)
             × IfErr result (λ failed. IsOutToo self.old.out write.disk self.new.out) }
@@ -60,7 +60,7 @@ impl<D: Disk + Drop> BlockStore<D> {
         let Some(write) = self.due.pop_front() else {
             return Ok(());
         };
-        let answer = self.disks.write_at(write.disk, write.offset, &write.bytes);
+        let answer = self.disks.write_at(write.disk, write.offset, write.bytes());
         self.note(write.disk, answer.is_ok())
     }
 

@@ -1,17 +1,16 @@
 -- What becomes of the rows of a directory by the changes that a group's writes make.
-use Rattle.std.proofs.Common.{◌≡◌, ◌≢◌, ◌⊎◌, ℕ, zero, suc, ◌<◌, ◌≤◌, Bool, true, false, true≢false, eqb, cond, List, [], ◌∷◌, map, length, Option, Some, None, All, AllPairs, Contains, inl, inr, ⊎_elim, eqb-true, eq-eqb, refl, sym, ap, subst, ◌∙◌, arith}
-use Rattle.std.specs.Prelude.{Any, fold, find}
+use Rattle.std.proofs.Common.{◌≡◌, ◌≢◌, ◌⊎◌, ℕ, zero, suc, ◌<◌, ◌≤◌, Bool, true, false, true≢false, eqb, cond, List, [], ◌∷◌, map, Option, Some, None, All, Contains, inl, inr, ⊎_elim, eqb-true, eq-eqb, refl, sym, ap, subst, ◌∙◌, arith}
+use Rattle.std.specs.Prelude.{Any}
 use Rattle.std.specs.List.{AllZip}
 use Rattle.std.proofs.lemmas.Bool.{cases_lt}
 use Rattle.std.proofs.lemmas.Simd.{map-map}
-use Rattle.std.proofs.lemmas.List.Elements.{All-cons, All-head, All-tail, All-nil, All-contains, Contains-append_cases}
+use Rattle.std.proofs.lemmas.List.Elements.{All-cons, All-nil, All-contains, Contains-append_cases}
 use Rattle.block_pointer.specs.declared.block.Block.{Block}
 use Rattle.block_store.specs.Blocks.{Contents, Extends}
 use Rattle.dnode.specs.declared.dnode.Dnode.{Dnode}
 use Rattle.dnode.specs.declared.object_set.ObjectSet.{ObjectSet}
 use Rattle.dnode_slots.specs.Nodes.{birth_of}
 use Rattle.meta_objset.specs.declared.directory.DirectoryRow.{DirectoryRow}
-use Rattle.meta_objset.specs.declared.record.DatasetRecord.{DatasetRecord}
 use Rattle.meta_objset.specs.Datasets.{HasRecord}
 use Rattle.meta_objset.specs.Names.{IsNamed}
 use Rattle.meta_objset.proofs.Edits.{pairs_head, pairs_tail}
@@ -26,12 +25,12 @@ use Rattle.pool_model.specs.declared.volume.VolumeKind.TheVariants.{Volume}
 use Rattle.pool_model.specs.Names.{same}
 use Rattle.pool_model.specs.Names.{stored as with_bytes}
 use Rattle.pool_model.specs.Pools.{volume_after}
-use Rattle.pool_model.proofs.Places.{is_same, same_is}
+use Rattle.pool_model.proofs.Places.{same_is}
 use Rattle.volume_rules.specs.Overlay.{after_writes}
 use Rattle.volume_rules.proofs.Overlays.{name_after_writes}
 use Rattle.volume.proofs.Standing.{volumes_stay}
 use Rattle.dataset_snapshots.specs.Finding.{IsRowOf}
-use Rattle.dataset_snapshots.specs.Pools.{AreApart, IsRecordOf, SpellsDataset, dead_list_kind}
+use Rattle.dataset_snapshots.specs.Pools.{AreApart, SpellsDataset, dead_list_kind}
 use Rattle.dataset_snapshots.specs.Writing.{ChangesRecord, IsChangedFrom, IsWritten, SpellsEach}
 
 -- ---- lists

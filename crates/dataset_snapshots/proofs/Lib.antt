@@ -1,4 +1,5 @@
 pub mod Asking
+pub mod BlocksOnce
 pub mod ChangedRows
 pub mod Datasets
 pub mod FirstRoot
@@ -16,6 +17,8 @@ pub mod NamingOrder
 pub mod Opening
 pub mod PlacedRecord
 pub mod Pushing
+pub mod Reaching
 pub mod Rows
 pub mod Staying
+pub mod WalkedRows
 pub mod WrittenObjects

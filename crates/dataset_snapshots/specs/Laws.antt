@@ -1,11 +1,14 @@
 -- What follows from these definitions for those who have roots.
-use Rattle.std.specs.Prelude.{ℕ, ◌≡◌, ◌≤◌, List, []}
+use Rattle.std.specs.Prelude.{ℕ, ◌≡◌, ◌≤◌, ◌⊎◌, List, [], Some, slice_get, Contains}
 use Rattle.block_pointer.specs.declared.block.Block.{Block}
+use Rattle.block_pointer.specs.declared.dva.Dva.{Dva}
+use Rattle.block_pointer.specs.Copies.{dvas}
 use Rattle.block_store.specs.declared.refusal.Refusal.{Refusal}
 use Rattle.block_store.specs.declared.refusal.Refusal.TheVariants.{DiskFault}
 use Rattle.block_store.specs.Blocks.{Contents, Extends}
 use Rattle.block_store.specs.Losses.{IsBlockLost}
-use Rattle.block_store.specs.Store.{Store}
+use Rattle.block_store.specs.Places.{ArePlacesApart}
+use Rattle.block_store.specs.Store.{Holds, Store}
 use Rattle.pool_model.specs.Pools.{Entry, PlainPool}
 use Rattle.volume_rules.specs.GoodChanges.{MakesGoodVolumes}
 use Rattle.vdev_label.specs.Plain.{PlainVdev}
@@ -15,6 +18,7 @@ use Rattle.dataset_snapshots.specs.FirstGroup.{IsFirstRefused}
 use Rattle.dataset_snapshots.specs.Making.{AreGoodCreations}
 use Rattle.dataset_snapshots.specs.Pools.{SpellsPool}
 use Rattle.dataset_snapshots.specs.Ranges.{IsRangeRefused}
+use Rattle.dataset_snapshots.specs.Reach.{reach_of}
 
 -- A root spells its pool still where more blocks are known, and for a later group.
 abbrev pub RootsStay : Type 0
@@ -55,3 +59,14 @@ LossesOfRanges =
 abbrev pub GoodChangesMayBeMade : Type 0
 GoodChangesMayBeMade =
     (entry : Entry) → MakesGoodVolumes entry → AreGoodCreations entry.actions
+
+-- Of the blocks that a stored root leads to no two copies share a sector, be they of one block or
+-- of two.
+abbrev pub ReachesLieApart : Type 0
+ReachesLieApart =
+    (store : Store) (stored : Contents) (birth : ℕ) (root : Block) (pool : PlainPool)
+    → Holds store stored → (is : SpellsPool stored birth root pool)
+    → (block other : Block) (i k : ℕ) (place behind : Dva) → Contains (reach_of is) block
+    → Contains (reach_of is) other → slice_get (dvas block.copies) i ≡ Some place
+    → slice_get (dvas other.copies) k ≡ Some behind
+    → ((block ≡ other) × (i ≡ k)) ⊎ ArePlacesApart place behind

@@ -9,4 +9,5 @@ pub mod NewVolumes
 pub mod Opening
 pub mod Pools
 pub mod Ranges
+pub mod Reach
 pub mod Writing

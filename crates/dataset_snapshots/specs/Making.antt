@@ -1,9 +1,8 @@
 -- What a group makes of the meta object set.
-use Rattle.std.specs.Prelude.{ℕ, ◌≡◌, ◌≢◌, ◌*◌, ◌+◌, ◌^◌, ◌<◌, ◌≤◌, List, [], ◌∷◌, ◌++◌, Option, Some, None, All, AllPairs}
+use Rattle.std.specs.Prelude.{ℕ, ◌≡◌, ◌≢◌, ◌*◌, ◌+◌, ◌^◌, ◌<◌, ◌≤◌, List, [], ◌++◌, Option, Some, None, All, AllPairs}
 use Rattle.std.specs.List.{AllZip}
 use Rattle.block_store.specs.Blocks.{Contents}
-use Rattle.meta_objset.specs.declared.directory.DirectoryRow.{DirectoryRow}
-use Rattle.meta_objset.specs.Names.{IsName, IsNamed}
+use Rattle.meta_objset.specs.Names.{IsNamed}
 use Rattle.objset.specs.declared.changes.ObjectChange.{ObjectChange}
 use Rattle.objset.specs.Changes.{IsGoodChange, MayChange, changed}
 use Rattle.objset.specs.Objects.{Object}

@@ -1,5 +1,5 @@
 //! What a root has of a name.
-ghost use Rattle.std.specs.Prelude.{◌≡◌, ◌⊎◌, ℕ, List, Option, Some, IfOk, IfErr};
+ghost use Rattle.std.specs.Prelude.{◌≡◌, ◌≢◌, ◌⊎◌, ℕ, List, Option, Some, IfOk, IfErr};
 ghost use Rattle.block_pointer.specs.declared.block.Block.{Block};
 ghost use Rattle.block_store.specs.Blocks.{Contents};
 ghost use Rattle.block_store.specs.Losses.{IsForLoss};
@@ -97,6 +97,7 @@ pub(crate) fn read_meta<D: Disk + Drop>(
     ensures found { IfOk result (IsMetaFound store.old.spaces birth root.now) }
     ensures refused { IfErr result
         (IsMetaRefused store.old store.new missing.now birth root.now) }
+    ensures cause { IfErr result (λ refusal. refusal ≢ Refusal.NoSpace) }
     ensures known { IfErr result (λ refusal. (stored : Contents) (set : ObjectSet)
         → Holds store.old stored → IsSetBlock stored birth root.now set → set.kind ≡ sets.Meta
         → AnswersAreTrue store.old store.new → IsForLoss refusal) }
@@ -169,6 +170,7 @@ pub(crate) fn read_dataset<D: Disk + Drop>(
         IsRecordFound store.old.spaces set.now birth object dataset.record) }
     ensures refused { IfErr result (λ refusal. (refusal ≡ Refusal.NoMemory)
         ⊎ IsRecordRefused store.old store.new missing.now set.now birth object refusal) }
+    ensures cause { IfErr result (λ refusal. refusal ≢ Refusal.NoSpace) }
     ensures known { IfErr result (λ refusal. (stored : Contents) (objects : ℕ → Option Object)
         (own : List Block) (blocks : ℕ → List Block) (r : DatasetRecord)
         → Holds store.old stored → AreObjects stored birth set.now objects own blocks

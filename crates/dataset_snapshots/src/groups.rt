@@ -37,7 +37,7 @@ use dnode::ObjectSet;
 use meta_objset::{Directory, read_directory};
 use model_disk::Disk;
 use objset::{ObjectChange, plan_set};
-use pool_model::{Action, Write};
+use pool_model::Action;
 use std::alloc::{AllocError, Global};
 use txg_pipeline::Pending;
 
@@ -98,7 +98,7 @@ pub fn after_group<D: Disk + Drop>(
     ensures refused { IfErr result
         (IsGroupRefused store.old store.new root.now group items.now) }
 {
-    let opened = open_group(root, store, alloc, group - 1, items.writes())?;
+    let opened = open_group(root, store, alloc, group - 1, items)?;
     let set = opened.set;
     let changes = changes_of(opened, store, alloc, group, items.actions())?;
     plan_root(&set, store, alloc, &changes, group)
@@ -110,27 +110,27 @@ fn open_group<D: Disk + Drop>(
     store: &mut BlockStore<D>,
     alloc: Global,
     birth: u64,
-    writes: &[Write],
+    items: &Pending,
 ) -> Result<Opened, Refusal>
     ensures reads { OnlyReadsBlocks store.old store.new [] }
-    ensures opened { IfOk result (IsOpened writes.now) }
+    ensures opened { IfOk result (IsOpened items.now.writes) }
     ensures kind { IfOk result (λ opened. opened.set.kind ≡ sets.Meta) }
     ensures early { IfOk result (λ opened. root.now.birth ≤ birth) }
     ensures value { IfOk result (λ opened. (stored : Contents) (pool : PlainPool)
         → Holds store.old stored → (is : SpellsPool stored birth root.now pool)
         → AnswersAreTrue store.old store.new
-        → IsOpenedFrom stored birth root.now pool is writes.now opened) }
+        → IsOpenedFrom stored birth root.now pool is items.now.writes opened) }
     ensures known { IfErr result (λ refusal. (stored : Contents) (pool : PlainPool)
         → Holds store.old stored → SpellsPool stored birth root.now pool
         → AnswersAreTrue store.old store.new → IsForLoss refusal) }
-    ensures found { IfOk result (IsGroupFound store.old.spaces birth root.now writes.now) }
+    ensures found { IfOk result (IsGroupFound store.old.spaces birth root.now items.now.writes) }
     ensures refused { IfErr result (λ refusal. (refusal ≡ Refusal.NoMemory)
-        ⊎ IsGroupUnread store.old store.new birth root.now writes.now refusal) }
+        ⊎ IsGroupUnread store.old store.new birth root.now items.now.writes refusal) }
 {
     let set = read_meta(root, store, alloc, birth, &[])?;
     let directory = read_directory(&set, store, alloc, root.birth, &[])?;
-    let objects = written_objects(&directory, alloc, writes)?;
-    let written = read_written(&set, store, alloc, root.birth, &directory, &objects, writes)?;
+    let objects = written_objects(&directory, alloc, items.writes())?;
+    let written = read_written(&set, store, alloc, root.birth, &directory, &objects, items)?;
     Ok(Opened {
         set,
         directory,

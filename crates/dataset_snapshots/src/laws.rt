@@ -1,5 +1,5 @@
 //! What follows from the definitions, as functions with no body.
-ghost use Rattle.dataset_snapshots.specs.Laws.{GoodChangesMayBeMade, LossesOfDatasets, LossesOfFirstGroups, LossesOfGroups, LossesOfRanges, RootsStay};
+ghost use Rattle.dataset_snapshots.specs.Laws.{GoodChangesMayBeMade, LossesOfDatasets, LossesOfFirstGroups, LossesOfGroups, LossesOfRanges, ReachesLieApart, RootsStay};
 
 /// A root spells its pool where more blocks are known, and for a later group.
 pub fn roots_stay()
@@ -29,4 +29,9 @@ pub fn losses_of_ranges()
 /// What a pool accepts to be made can have its row and its volume.
 pub fn good_changes_may_be_made()
     ensures { GoodChangesMayBeMade }
+{}
+
+/// Of the blocks that a stored root leads to no two copies share a sector.
+pub fn reaches_lie_apart()
+    ensures { ReachesLieApart }
 {}

@@ -8,6 +8,7 @@ mod laws;
 mod making;
 mod new_volume;
 mod ranges;
+mod walks;
 mod writing;
 
 pub use block_store::Refusal;
@@ -16,6 +17,7 @@ pub use first_root::first_group;
 pub use groups::after_group;
 pub use laws::{
     good_changes_may_be_made, losses_of_datasets, losses_of_first_groups, losses_of_groups,
-    losses_of_ranges, roots_stay,
+    losses_of_ranges, reaches_lie_apart, roots_stay,
 };
 pub use ranges::{VolumeRange, read_range};
+pub use walks::reach;

@@ -36,6 +36,7 @@ use objset::ObjectChange;
 use pool_model::{Name, Write};
 use std::alloc::{AllocError, Global};
 use std::collections::VecDeque;
+use txg_pipeline::Pending;
 use volume::{BlockWrite, GroupWrites, VolumeSet};
 
 /// A volume that a group writes to.
@@ -81,7 +82,7 @@ pub(crate) fn read_written<D: Disk + Drop>(
     birth: u64,
     directory: &Directory,
     objects: &[u64],
-    writes: &[Write],
+    items: &Pending,
 ) -> Result<Vec<WrittenVolume>, Refusal>
     requires set { FitsObjectSet set.now }
     requires rows { All (λ object. (row : DirectoryRow) × HasRow directory.now object row)
@@ -93,7 +94,7 @@ pub(crate) fn read_written<D: Disk + Drop>(
     ensures value { IfOk result (λ read. (stored : Contents) (there : ℕ → Option Object)
         (own : List Block) (blocks : ℕ → List Block) → Holds store.old stored
         → AreObjects stored birth set.now there own blocks → AnswersAreTrue store.old store.new
-        → All (IsReadFrom stored birth there writes.now directory.now) read.items) }
+        → All (IsReadFrom stored birth there items.now.writes directory.now) read.items) }
     ensures known { IfErr result (λ refusal. (stored : Contents) (there : ℕ → Option Object)
         (own : List Block) (blocks : ℕ → List Block) (volumes : List PlainVolume)
         → Holds store.old stored → AreObjects stored birth set.now there own blocks
@@ -102,9 +103,9 @@ pub(crate) fn read_written<D: Disk + Drop>(
 
     // Whatever the set is: what was read, and on a refusal its cause.
     ensures found { IfOk result (λ read.
-        All (IsWrittenOf store.old.spaces set.now birth writes.now directory.now) read.items) }
+        All (IsWrittenOf store.old.spaces set.now birth items.now.writes directory.now) read.items) }
     ensures refused { IfErr result (λ refusal. (refusal ≡ Refusal.NoMemory)
-        ⊎ IsOneUnread store.old store.new set.now birth writes.now directory.now objects.now
+        ⊎ IsOneUnread store.old store.new set.now birth items.now.writes directory.now objects.now
         refusal) }
 {
     let mut read = Vec::new(alloc);
@@ -112,7 +113,7 @@ pub(crate) fn read_written<D: Disk + Drop>(
         let Some(row) = row_of(directory, *object) else {
             return Err(Refusal::BadPointer);
         };
-        let written = read_one(set, store, alloc, birth, row, writes)?;
+        let written = read_one(set, store, alloc, birth, row, items)?;
         push(&mut read, written)?;
     }
     Ok(read)
@@ -134,7 +135,7 @@ fn read_one<D: Disk + Drop>(
     alloc: Global,
     birth: u64,
     row: &DirectoryRow,
-    writes: &[Write],
+    items: &Pending,
 ) -> Result<WrittenVolume, Refusal>
     requires set { FitsObjectSet set.now }
     requires named { IsName row.now.name }
@@ -144,22 +145,22 @@ fn read_one<D: Disk + Drop>(
     ensures value { IfOk result (λ written. (stored : Contents) (there : ℕ → Option Object)
         (own : List Block) (blocks : ℕ → List Block) → Holds store.old stored
         → AreObjects stored birth set.now there own blocks → AnswersAreTrue store.old store.new
-        → IsReadFor stored birth there writes.now row.now written) }
+        → IsReadFor stored birth there items.now.writes row.now written) }
     ensures known { IfErr result (λ refusal. (stored : Contents) (there : ℕ → Option Object)
         (own : List Block) (blocks : ℕ → List Block) (volume : PlainVolume)
         → Holds store.old stored → AreObjects stored birth set.now there own blocks
         → SpellsDataset stored birth there row.now volume
         → AnswersAreTrue store.old store.new → IsForLoss refusal) }
     ensures found { IfOk result
-        (IsWrittenFound store.old.spaces set.now birth writes.now row.now) }
+        (IsWrittenFound store.old.spaces set.now birth items.now.writes row.now) }
     ensures refused { IfErr result
-        (IsWrittenRefused store.old store.new set.now birth writes.now row.now) }
+        (IsWrittenRefused store.old store.new set.now birth items.now.writes row.now) }
 {
     if row.object <= LAST_TABLE || row.object >= set.objects {
         return Err(Refusal::BadPointer);
     }
     let dataset = read_dataset(set, store, alloc, birth, row.object, &[])?;
-    let blocks = changed_blocks(&dataset.volume, store, alloc, birth, row, writes)?;
+    let blocks = changed_blocks(&dataset.volume, store, alloc, birth, row, items)?;
     Ok(WrittenVolume { dataset, blocks })
 }
 
@@ -170,7 +171,7 @@ fn changed_blocks<D: Disk + Drop>(
     alloc: Global,
     birth: u64,
     row: &DirectoryRow,
-    writes: &[Write],
+    items: &Pending,
 ) -> Result<Vec<BlockWrite>, Refusal>
     requires named { IsName row.now.name }
     ensures reads { OnlyReadsBlocks store.old store.new [] }
@@ -179,20 +180,17 @@ fn changed_blocks<D: Disk + Drop>(
         → Holds store.old stored → IsNamed row.now.name plain.name
         → Spells stored birth volume.now plain.bytes → AnswersAreTrue store.old store.new
         → IsArrayWith plain.bytes (block_size_of volume.now) blocks.items
-        (after_writes plain writes.now).bytes) }
+        (after_writes plain items.now.writes).bytes) }
     ensures known { IfErr result (λ refusal. (stored : Contents) (array : List ℕ)
         → Holds store.old stored → Spells stored birth volume.now array
         → AnswersAreTrue store.old store.new → IsForLoss refusal) }
     ensures found { IfOk result (λ blocks.
-        AreBlocksFound store.old.spaces volume.now birth writes.now row.now blocks.items) }
+        AreBlocksFound store.old.spaces volume.now birth items.now.writes row.now blocks.items) }
     ensures refused { IfErr result (λ refusal. (refusal ≡ Refusal.NoMemory)
-        ⊎ AreBlocksRefused store.old store.new volume.now birth writes.now row.now refusal) }
+        ⊎ AreBlocksRefused store.old store.new volume.now birth items.now.writes row.now refusal) }
 {
     let name = Name::new(Vec::from_slice(alloc, unpadded(&row.name))?);
-    let changes = GroupWrites {
-        name: &name,
-        writes,
-    };
+    let changes = GroupWrites { name: &name, items };
     volume.changed_blocks(store, alloc, birth, &changes)
 }
 

@@ -33,3 +33,5 @@ pub mod Replacing
 pub mod Counts
 pub mod Ages
 pub mod Ids
+pub mod Getting
+pub mod WholeGetting

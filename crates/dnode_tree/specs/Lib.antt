@@ -11,3 +11,4 @@ pub mod Tree
 pub mod Writes
 pub mod Ways
 pub mod Within
+pub mod Many

@@ -5,6 +5,7 @@
 mod descent;
 mod freeing;
 mod laws;
+mod many;
 mod planning;
 mod putting;
 mod reading;
@@ -20,6 +21,7 @@ pub use laws::{
     births_are_within, births_stand_on_their_blocks, blocks_of_trees_are_known, holes_are_trees,
     replaced_blocks_are_freed, trees_stand_on_their_blocks,
 };
+pub use many::get_many;
 pub use putting::put_many;
 pub use reading::{DataBlock, get, get_block};
 pub use walking::walk;

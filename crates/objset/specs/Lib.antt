@@ -3,6 +3,7 @@ pub mod Changing
 pub mod Demands
 pub mod Found
 pub mod Laws
+pub mod Many
 pub mod Objects
 pub mod Refused
 pub mod Shapes

@@ -159,15 +159,15 @@ one_failed old mid new left rest phase n next call so few one in_it failed out =
 
 pub write_made : {T E : Type 0} (result : Result T E) (mid new : Store) (write : ColumnWrite) (number : ℕ) → is_ok result ≡ true
     → new.disks.starts ≡ mid.disks.starts → new.spaces ≡ mid.spaces → KeepsPlans mid new
-    → new.disks.calls ≡ on write.disk (write_call result write.offset write.bytes.items) ∷ mid.disks.calls
-    → MadeOne mid new (due_write write.disk number) (write_call result write.offset write.bytes.items) × (is_failed (write_call result write.offset write.bytes.items) ≡ false)
+    → new.disks.calls ≡ on write.disk (write_call result write.offset write.bytes.value.items) ∷ mid.disks.calls
+    → MadeOne mid new (due_write write.disk number) (write_call result write.offset write.bytes.value.items) × (is_failed (write_call result write.offset write.bytes.value.items) ≡ false)
 write_made (Ok x) mid new write number ok starts spaces plans calls = (record { starts = starts; calls = calls; spaces = spaces; plans = plans; is_due = refl; fault = refl; no_read = refl }, refl)
 write_made (Err x) mid new write number ok starts spaces plans calls = absurd (cc)
 
 pub write_lost : {T E : Type 0} (result : Result T E) (mid new : Store) (write : ColumnWrite) (number : ℕ) → is_ok result ≡ false
     → new.disks.starts ≡ mid.disks.starts → new.spaces ≡ mid.spaces → KeepsPlans mid new
-    → new.disks.calls ≡ on write.disk (write_call result write.offset write.bytes.items) ∷ mid.disks.calls
-    → MadeOne mid new (due_write write.disk number) (write_call result write.offset write.bytes.items) × (is_failed (write_call result write.offset write.bytes.items) ≡ true)
+    → new.disks.calls ≡ on write.disk (write_call result write.offset write.bytes.value.items) ∷ mid.disks.calls
+    → MadeOne mid new (due_write write.disk number) (write_call result write.offset write.bytes.value.items) × (is_failed (write_call result write.offset write.bytes.value.items) ≡ true)
 write_lost (Err x) mid new write number ok starts spaces plans calls = (record { starts = starts; calls = calls; spaces = spaces; plans = plans; is_due = refl; fault = refl; no_read = refl }, refl)
 write_lost (Ok x) mid new write number ok starts spaces plans calls = absurd (cc)
 

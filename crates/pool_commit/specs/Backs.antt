@@ -26,7 +26,7 @@ SpellsRoot stored group None pool = pool ≡ no_volumes
 pub record SpellsGroup (stored : Contents) (group : ℕ) (kept : KeptGroup) (pool : PlainPool)
     : Type 0 where
   pub root : SpellsRoot stored group kept.root pool
-  pub names : Knows kept.names pool
+  pub names : Knows kept.names.value pool
 
 -- a kept group spells its pool; another isn't there
 abbrev pub SpellsKept : Contents → ℕ → Option KeptGroup → Option PlainPool → Type 0

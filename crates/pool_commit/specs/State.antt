@@ -37,6 +37,6 @@ group_at kept group =
 pub record IsFirst (kept : Kept) : Type 0 where
   pub committed : kept.committed ≡ 3
   pub root : kept.last.root ≡ None
-  pub names : Knows kept.last.names no_volumes
+  pub names : Knows kept.last.names.value no_volumes
   pub before : kept.before ≡ None
   pub earliest : kept.earliest ≡ None

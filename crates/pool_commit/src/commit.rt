@@ -5,7 +5,9 @@ ghost use Rattle.model_disk.specs.Joint.{calls_on, log_of};
 ghost use Rattle.block_store.specs.declared.shape.VdevShape.{VdevShape as ShapeOf};
 ghost use Rattle.block_store.specs.Config.{AreShapes, IsFewVdevs};
 ghost use Rattle.block_store.specs.Store.{is_out};
+ghost use Rattle.pool_model.specs.Pools.{no_volumes};
 ghost use Rattle.pool_model.specs.View.{View, counted, disks_of, started};
+ghost use Rattle.volume_rules.specs.Index.{Knows};
 ghost use Rattle.pool_commit.specs.HasDisks.{AreBelow, HasDisks};
 ghost use Rattle.pool_commit.specs.Config.{vdevs_of, vdevs_from};
 ghost use Rattle.pool_commit.specs.Suspension.{lacks_disks};
@@ -18,6 +20,7 @@ use model_disk::Disk;
 use raidz_io::Vdev;
 use std::alloc::{AllocError, Global};
 use std::collections::VecDeque;
+use std::sync::Arc;
 use volume_rules::NameIndex;
 
 /// The group that `create` commits.
@@ -33,6 +36,13 @@ pub struct Commit<D: Disk + Drop> {
     pub(crate) suspended: bool,
     ghost disks: { HasDisks (length store.disks.starts) planned },
     ghost suspension: { suspended ≡ lacks_disks store },
+}
+
+/// The names of a pool with no volumes.
+fn no_names(alloc: Global) -> Result<Arc<NameIndex, Global>, AllocError>
+    ensures { IfOk result (λ names. Knows names.value no_volumes) }
+{
+    Ok(Arc::new(alloc, NameIndex::new(alloc))?)
 }
 
 impl<D: Disk + Drop> Commit<D> {
@@ -60,7 +70,7 @@ impl<D: Disk + Drop> Commit<D> {
         };
         let first = KeptGroup {
             root: None,
-            names: NameIndex::new(alloc),
+            names: no_names(alloc)?,
         };
         let suspended = lacks_disks(&store);
         Ok(Commit {

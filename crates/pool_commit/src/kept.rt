@@ -3,20 +3,22 @@ ghost use Rattle.std.specs.Prelude.{◌≡◌, None};
 ghost use Rattle.std.specs.Option.{option_copied};
 
 use block_pointer::Block;
+use std::alloc::Global;
 use std::collections::VecDeque;
 use std::mem;
+use std::sync::Arc;
 use volume_rules::NameIndex;
 
-/// A group: its root, through which all else of it is read, and the names of its pool. A pool has no root before its first group
-/// is planned, and no volumes then.
-#[derive(Debug, Drop)]
+/// A group: its root, through which all else of it is read, and the names of its pool, which groups share that make no volume. A
+/// pool has no root before its first group is planned, and no volumes then.
+#[derive(Drop)]
 pub struct KeptGroup {
     pub(crate) root: Option<Block>,
-    pub(crate) names: NameIndex,
+    pub(crate) names: Arc<NameIndex, Global>,
 }
 
 /// The last three committed groups.
-#[derive(Debug, Drop)]
+#[derive(Drop)]
 pub struct Kept {
     committed: u64,
     last: KeptGroup,
@@ -25,10 +27,19 @@ pub struct Kept {
 }
 
 /// A plan: what the group that is synced makes, and the disks that are to be flushed once its blocks are written.
-#[derive(Debug, Drop)]
+#[derive(Drop)]
 pub struct Planned {
     pub(crate) after: KeptGroup,
     pub(crate) flushes: VecDeque<usize>,
+}
+
+impl KeptGroup {
+    /// The names of its pool.
+    pub(crate) fn names(&self) -> &NameIndex
+        ensures { result.now ≡ self.now.names.value }
+    {
+        self.names.as_ref()
+    }
 }
 
 impl Kept {

@@ -10,6 +10,7 @@ ghost use Rattle.pool_model.specs.Pools.{PlainPool, applied, no_volumes};
 ghost use Rattle.pool_model.specs.View.{View, DueCall, Unplanned, Due, is_planned};
 ghost use Rattle.pool_model.specs.Machine.{IsPlan};
 ghost use Rattle.volume_rules.specs.GoodChanges.{MakesGoodVolumes};
+ghost use Rattle.volume_rules.specs.Index.{Knows};
 ghost use Rattle.block_store.specs.declared.refusal.Refusal.TheVariants as lost_blocks;
 ghost use Rattle.pool_commit.specs.Backs.{Backs, SpellsGroup, SpellsRoot};
 ghost use Rattle.pool_commit.specs.Reading.{PoolAnswersTruly, IsReadFault};
@@ -26,9 +27,10 @@ use block_pointer::Block as RootBlock;
 use block_store::BlockStore;
 use dataset_snapshots::{after_group, first_group};
 use model_disk::Disk;
-use std::alloc::Global;
+use std::alloc::{AllocError, Global};
+use std::sync::Arc;
 use txg_pipeline::Pending;
-use volume_rules::makes_good_volumes;
+use volume_rules::{NameIndex, makes_good_volumes};
 
 /// Plans the first root of a pool.
 fn first_root<D: Disk + Drop>(
@@ -81,6 +83,23 @@ fn root_after<D: Disk + Drop>(
     }
 }
 
+/// The names after the items of a group. Where it makes no volume they are those before, and are not copied.
+fn names_after(
+    last: &Arc<NameIndex, Global>,
+    alloc: Global,
+    group: u64,
+    items: &Pending,
+) -> Result<Arc<NameIndex, Global>, AllocError>
+    ensures { IfOk result (λ after. (pool : PlainPool) → Knows last.now.value pool
+        → Knows after.value (applied group pool items.now)) }
+{
+    if items.actions().is_empty() {
+        return Arc::try_clone(last);
+    }
+    let after = last.as_ref().after_group(alloc, group, items)?;
+    Ok(Arc::new(alloc, after)?)
+}
+
 /// The group after the last one: its root, which is planned, and its names.
 fn group_after<D: Disk + Drop>(
     last: &KeptGroup,
@@ -103,7 +122,7 @@ fn group_after<D: Disk + Drop>(
     ensures refused { IfErr result
         (IsNextRefused store.old store.new last.now.root group items.now) }
 {
-    let names = last.names.after_group(alloc, group, items)?;
+    let names = names_after(&last.names, alloc, group, items)?;
     let root = root_after(last, store, alloc, group, items)?;
     Ok(KeptGroup {
         root: Some(root),

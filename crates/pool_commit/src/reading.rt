@@ -57,7 +57,7 @@ fn read_of<D: Disk + Drop>(
         → IsUnreadOf store.old store.new kept.now birth range.now.name.now range.now.offset range.now.len
         missing.now refusal) }
 {
-    let Some(shape) = kept.names.find(range.name) else {
+    let Some(shape) = kept.names().find(range.name) else {
         return Err(Refusal::NoSuchName);
     };
     if against_read(range.offset, range.len, Some(shape)).is_some() {

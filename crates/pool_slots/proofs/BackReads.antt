@@ -9,7 +9,7 @@ use Rattle.model_disk.proofs.FailureLemmas.{failed_in_second}
 use Rattle.pool_slots.specs.Opens.{AreKnown, IsShownOn, IsReadOn, IsShown, IsRead, FindsRewoundIfUsed, FindsRewound}
 use Rattle.pool_slots.specs.Slots.{AreThere, InUse, slot_at}
 use Rattle.pool_slots.specs.declared.refusal.Refusal.{Refusal}
-use Rattle.pool_slots.specs.declared.refusal.Refusal.TheVariants.{NoMemory, DiskFault, NoUberblock, UsedUp}
+use Rattle.pool_slots.specs.declared.refusal.Refusal.TheVariants.{NoMemory, DiskFault, NoUberblock, NoLabel, UsedUp}
 use Rattle.pool_slots.proofs.Finding.{known_on, honest_before, honest_since}
 use Rattle.pool_slots.proofs.OneDisk.{shows_same}
 use Rattle.pool_slots.proofs.Phases.{none_same}
@@ -105,6 +105,7 @@ pub refused_here : (out : List Bool) (from : Uberblock) (groups : ℕ) (first lo
 refused_here out from groups first loop new which NoMemory before it = tt
 refused_here out from groups first loop new which DiskFault before it = failed_in_second no_write first loop new before it
 refused_here out from groups first loop new which NoUberblock before it = absurd it
+refused_here out from groups first loop new which NoLabel before it = absurd it
 refused_here out from groups first loop new which UsedUp before it = absurd it
 
 pub none_there : (out : List Bool) (from : Uberblock) (groups : ℕ) (first now : Disks) (count : ℕ) → AreThere out first.starts → length first.starts ≤ count → AreWithout out from groups first now count

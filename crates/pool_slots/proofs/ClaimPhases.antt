@@ -239,6 +239,37 @@ claim_done trees out old mid new p u all there room fits on may between makes st
     let T : List (List ℕ) → Type 0 = AreThere out in
     record { there = subst T (sym (makes.starts ∙ starts)) there; fits = fits; settled = settled; leads = finished trees out old new u [] (λ w. ⊥) there room fits may.off_labels whole both may.below (λ w none. absurd none) may.tree }
 
+same_half_of : (all : List (Option Found)) (turn which label : ℕ) (found : Found) → slice_get all which ≡ Some (Some found) → InTurn all turn which label → InHalf ((found.other_half % 2 + turn) % 2) label
+same_half_of all turn which label found at it =
+    let P : Found → Type 0 = λ f. InHalf ((f.other_half % 2 + turn) % 2) label in
+    subst P (same_found it.found found (sym it.at ∙ at)) it.half
+
+-- and the disks lead where they led before too
+pub second_leads : (trees : Trees) (out : List Bool) (old mid new : Disks) (p : Possible) (u : Uberblock) (all : List (Option Found)) → AreThere out old.starts → HaveLabels old.starts → Fits u → AreOn out all
+    → MayClaim trees out old p u all → BetweenHalves trees out old mid p u all → Makes (IsSlotWrite mid.starts u (InTurn all 1)) mid new
+    → SlotsStand (content new) mid.starts u (InTurn all 1) (length mid.starts) → Leads trees out new.starts (content new) (also_begun u p)
+second_leads trees out old mid new p u all there room fits on may between makes stand =
+    let starts = between.makes.starts in
+    let T : List (List ℕ) → Type 0 = AreThere out in
+    let R : List (List ℕ) → Type 0 = HaveLabels in
+    let O : List (List ℕ) → Type 0 = AreOffLabels trees out in
+    let there' : AreThere out mid.starts = subst T (sym starts) there in
+    let room' : HaveLabels mid.starts = subst R (sym starts) room in
+    let off' : AreOffLabels trees out mid.starts = subst O (sym starts) may.off_labels in
+    let P : List (List ℕ) → Type 0 = λ s. Leads trees out s (content new) (also_begun u p) in
+    let tree : TreeStands trees out (content new) u.root = tree_kept trees out mid new u u (InTurn all 1) fits off' makes between.tree in
+    subst P (sym makes.starts) (λ which used.
+    let it = (on which).0 used in
+    half_leads (length (bytes_of mid.starts which)) (content mid which) (content new which) p.last u ((it.0.other_half % 2 + 1) % 2)
+    (IsPossible trees out (content mid) (also_begun u p)) (IsPossible trees out (content new) (also_begun u p)) (omega arith) fits may.above
+    (λ v possible. (possible.0, tree_kept trees out mid new u v (InTurn all 1) fits off' makes possible.1))
+    (inl (later_in p.last u (u ∷ p.begun) (first_in u p.begun)), tree)
+    (λ label slot is away i inside. off_content (IsSlotWrite mid.starts u (InTurn all 1)) mid new which (slot_at (length (bytes_of mid.starts which)) label slot + i) makes
+    (off_slot_writes mid.starts u (InTurn all 1) which label slot fits (room' which (there' which used)) is
+    (λ label' is' picked both. let S : ℕ → Type 0 = λ l. InTurn all 1 which l in away (same_half_of all 1 which label it.0 it.1 (subst S both.0 picked), sym both.1)) i inside))
+    (λ label is in_half i inside. stand which label (there' which used) is (record { found = it.0; at = it.1; half = in_half }) i inside)
+    (between.leads which used))
+
 -- ---- what was possible stays so
 
 pub also_leads : (trees : Trees) (out : List Bool) (old new : Disks) (p : Possible) (u : Uberblock) → LeadAlways trees out old new p → LeadAlways trees out old new (also_begun u p)

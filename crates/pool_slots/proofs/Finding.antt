@@ -14,7 +14,7 @@ use Rattle.pool_slots.specs.Slots.{AreThere, InUse, slot_at, Shows}
 use Rattle.pool_slots.specs.Writes.{HasFound}
 use Rattle.pool_slots.specs.declared.found.Found.{Found}
 use Rattle.pool_slots.specs.declared.refusal.Refusal.{Refusal}
-use Rattle.pool_slots.specs.declared.refusal.Refusal.TheVariants.{NoMemory, DiskFault, NoUberblock, UsedUp}
+use Rattle.pool_slots.specs.declared.refusal.Refusal.TheVariants.{NoMemory, DiskFault, NoUberblock, NoLabel, UsedUp}
 use Rattle.pool_slots.proofs.OneDisk.{shows_same}
 use Rattle.pool_slots.proofs.Phases.{none_same}
 use Rattle.pool_slots.proofs.Reading.{longer}
@@ -115,6 +115,7 @@ scan_refused out first loop new which NoUberblock before it = λ known honest.
     let here : IsBareOn size (content first which) = λ label slot is u shows.
     bare label slot is u (shows_same (content first which) (content loop which) (slot_at size label slot) slot u (λ i below. none_same first loop which (slot_at size label slot + i) before) shows) in
     record { which = which; used = it.0; none = subst P before.starts here }
+scan_refused out first loop new which NoLabel before it = absurd it.1
 scan_refused out first loop new which UsedUp before it = absurd it.1
 
 slice_get_some : {X : Type 0} (xs : List X) (i : ℕ) → i < length xs → (x : X) × (slice_get xs i ≡ Some x)

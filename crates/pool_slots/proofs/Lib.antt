@@ -15,3 +15,10 @@ pub mod BackReads
 pub mod OpenSteps
 pub mod Opened
 pub mod LifeSteps
+mod Choices
+mod LabelAreas
+mod LabelScans
+mod LabelWrites
+mod LabelPlans
+mod LabelPhases
+pub mod LifeClaims

@@ -16,15 +16,15 @@ use Rattle.pool_slots.proofs.Phases.{leads_fewer}
 
 -- ---- stops
 
-left_leads : (trees : Trees) (out : List Bool) (old new : Disks) (p : Possible) (images : List (List ℕ)) → LeadAlways trees out old new p
+pub left_leads : (trees : Trees) (out : List Bool) (old new : Disks) (p : Possible) (images : List (List ℕ)) → LeadAlways trees out old new p
     → IsLeft out (length old.calls) old.starts new.calls images → Leads trees out images (held_by images) p
 left_leads trees out old new p images always left = always left.earlier left.moment images left.left left.untorn
 
-there_left : (out : List Bool) (starts : List (List ℕ)) (calls : List JointCall) (images : List (List ℕ)) → AreThere out starts → MayLeaveAll starts calls images → AreThere out images
+pub there_left : (out : List Bool) (starts : List (List ℕ)) (calls : List JointCall) (images : List (List ℕ)) → AreThere out starts → MayLeaveAll starts calls images → AreThere out images
 there_left out starts calls images there left which used = omega (arith, there which used, left.count)
 
 -- a stop while nothing is unflushed
-stopped_leads : (trees : Trees) (out : List Bool) (disks : Disks) (p : Possible) (images : List (List ℕ)) → AreThere out disks.starts → AreSettled out disks.calls → Leads trees out disks.starts (content disks) p
+pub stopped_leads : (trees : Trees) (out : List Bool) (disks : Disks) (p : Possible) (images : List (List ℕ)) → AreThere out disks.starts → AreSettled out disks.calls → Leads trees out disks.starts (content disks) p
     → MayLeaveAll disks.starts disks.calls images → AreUntorn out disks.starts disks.calls images → Leads trees out images (held_by images) p
 stopped_leads trees out disks p images there settled leads left untorn =
     nothing_leaves trees out disks disks p there settled leads (Makes-none no_write disks) disks.calls (record { newer = []; is = refl; since = inl refl }) images left untorn
@@ -44,14 +44,14 @@ fresh_can_open trees out images p pool leads =
       leads = leads;
     }
 
-can_open : (trees : Trees) (out : List Bool) (disks : Disks) (p : Possible) → disks.calls ≡ [] → IsPool trees out disks → Leads trees out disks.starts (held_by disks.starts) p → CanOpen trees out disks p
+pub can_open : (trees : Trees) (out : List Bool) (disks : Disks) (p : Possible) → disks.calls ≡ [] → IsPool trees out disks → Leads trees out disks.starts (held_by disks.starts) p → CanOpen trees out disks p
 can_open trees out disks p none pool leads =
     let is = is_fresh disks none in
     let P : Disks → Type 0 = λ d. CanOpen trees out d p in
     let Q : Disks → Type 0 = λ d. IsPool trees out d in
     subst P (sym is) (fresh_can_open trees out disks.starts p (subst Q is pool) leads)
 
-fresh_stopped : (trees : Trees) (out : List Bool) (disks : Disks) (p : Possible) (images : List (List ℕ)) → AreThere out disks.starts → disks.calls ≡ [] → Leads trees out disks.starts (held_by disks.starts) p
+pub fresh_stopped : (trees : Trees) (out : List Bool) (disks : Disks) (p : Possible) (images : List (List ℕ)) → AreThere out disks.starts → disks.calls ≡ [] → Leads trees out disks.starts (held_by disks.starts) p
     → MayLeaveAll disks.starts disks.calls images → AreUntorn out disks.starts disks.calls images → Leads trees out images (held_by images) p
 fresh_stopped trees out disks p images there none leads left untorn =
     let P : List JointCall → Type 0 = λ calls. MayLeaveAll disks.starts calls images in
@@ -59,7 +59,7 @@ fresh_stopped trees out disks p images there none leads left untorn =
     stopped_leads trees out (fresh disks.starts) p images there (λ which used i. refl) leads (subst P none left) (subst Q none untorn)
 
 -- with fewer disks in use
-at_fewer : (trees : Trees) (out later : List Bool) (disks : Disks) (u : Uberblock) (before : List Uberblock) → StayOut out later → AreAt trees out disks u before → AreAt trees later disks u before
+pub at_fewer : (trees : Trees) (out later : List Bool) (disks : Disks) (u : Uberblock) (before : List Uberblock) → StayOut out later → AreAt trees out disks u before → AreAt trees later disks u before
 at_fewer trees out later disks u before stay at =
     record {
       there = λ which used. at.there which (stay which used);
@@ -68,7 +68,7 @@ at_fewer trees out later disks u before stay at =
       leads = leads_fewer trees out later disks.starts (content disks) (only_last u before) stay at.leads;
     }
 
-there_fewer : (out later : List Bool) (starts : List (List ℕ)) → StayOut out later → AreThere out starts → AreThere later starts
+pub there_fewer : (out later : List Bool) (starts : List (List ℕ)) → StayOut out later → AreThere out starts → AreThere later starts
 there_fewer out later starts stay there which used = there which (stay which used)
 
 -- ---- steps

@@ -8,12 +8,14 @@ use Rattle.model_disk.specs.Runs.{Makes, no_write}
 use Rattle.pool_slots.specs.OpenRefusals.{IsCause}
 use Rattle.pool_slots.specs.Opens.{AreKnown, IsHighest, IsBare, IsFoundOn, AreFound, AreOn, IsHighestOf, IsRead, IsHighestShown, FindsAll, FindsHighest, TakesFrom, CanOpen, IsClaimOf, IsTakenFrom, also_begun, MayClaim}
 use Rattle.pool_slots.specs.Commits.{AreOffLabels, LeadAlways}
-use Rattle.pool_slots.specs.Possible.{Possible, IsBefore, all_of, Trees, IsPossible, Leads}
+use Rattle.pool_slots.specs.Possible.{Possible, IsBefore, all_of, Trees, TreeStands, IsPossible, Leads}
 use Rattle.pool_slots.specs.Slots.{AreThere, InUse, AreSettled, IsOutOfReach}
 use Rattle.pool_slots.specs.Writes.{InHalf}
+use Rattle.pool_slots.specs.LabelReads.{IsPlanned}
 use Rattle.pool_slots.specs.declared.found.Found.{Found}
+use Rattle.pool_slots.specs.declared.labeled.Area.{Area}
 use Rattle.pool_slots.specs.declared.refusal.Refusal.{Refusal}
-use Rattle.pool_slots.specs.declared.refusal.Refusal.TheVariants.{NoMemory, DiskFault, NoUberblock, UsedUp}
+use Rattle.pool_slots.specs.declared.refusal.Refusal.TheVariants.{NoMemory, DiskFault, NoUberblock, NoLabel, UsedUp}
 use Rattle.pool_slots.proofs.ClaimPhases.{also_leads}
 use Rattle.pool_slots.proofs.Finding.{known_later, highest_same, honest_before, honest_since}
 use Rattle.pool_slots.proofs.BackReads.{shown_later, read_later, read_earlier}
@@ -160,9 +162,10 @@ is_taken trees out disks p highest taken rewind can few top rewound shown =
       | inr possible ↦ possible
     ]
 
--- what is taken, under the claim after that of the highest
-abbrev pub claimed_as : Uberblock → Uberblock → Uberblock
-claimed_as highest taken = record taken { claim = highest.claim + 1 }
+-- what is taken, under a claim above that of the highest
+pub record IsClaimed (highest taken u : Uberblock) : Type 0 where
+  pub is : u ≡ record taken { claim = u.claim }
+  pub above : highest.claim < u.claim
 
 other_label : (label first : ℕ) → first ≡ 1 - label % 2 → InHalf ((first % 2 + 0) % 2) label → ⊥
 other_label label first is (inl a) = omega arith
@@ -171,9 +174,9 @@ other_label label first is (inr a) = omega arith
 same_found : (a b : Found) → Some (Some a) ≡ Some (Some b) → a ≡ b
 same_found a b e = cc
 
-claim_is : (trees : Trees) (out : List Bool) (disks : Disks) (p : Possible) (highest taken : Uberblock) (rewind : ℕ) → IsTop out disks p highest → IsRewound highest rewind taken
-    → IsPossible trees out (content disks) p taken → IsClaimOf p rewind (claimed_as highest taken)
-claim_is trees out disks p highest taken rewind top rewound possible =
+claim_is : (trees : Trees) (out : List Bool) (disks : Disks) (p : Possible) (highest taken u : Uberblock) (rewind : ℕ) → IsTop out disks p highest → IsRewound highest rewind taken
+    → IsPossible trees out (content disks) p taken → IsClaimed highest taken u → IsClaimOf p rewind u
+claim_is trees out disks p highest taken u rewind top rewound possible claimed =
     record {
       highest = highest;
       possible = top.among;
@@ -181,13 +184,13 @@ claim_is trees out disks p highest taken rewind top rewound possible =
       taken = taken;
       rewound = rewound;
       reached = possible.0;
-      is = refl;
-      above = omega (arith, claim_up_to p.last highest top.rank);
+      is = claimed.is;
+      above = omega (arith, claim_up_to p.last highest top.rank, claimed.above);
     }
 
-may_claim : (trees : Trees) (out : List Bool) (disks : Disks) (p : Possible) (all : List (Option Found)) (highest taken : Uberblock) → CanOpen trees out disks p → AreFound out disks all → AreOn out all
-    → IsHighestOf all highest → IsTop out disks p highest → IsPossible trees out (content disks) p taken → MayClaim trees out disks p (claimed_as highest taken) all
-may_claim trees out disks p all highest taken can are on one top possible =
+may_claim : (trees : Trees) (out : List Bool) (disks : Disks) (p : Possible) (all : List (Option Found)) (highest taken u : Uberblock) → CanOpen trees out disks p → AreFound out disks all → AreOn out all
+    → IsHighestOf all highest → IsTop out disks p highest → IsPossible trees out (content disks) p taken → IsClaimed highest taken u → MayClaim trees out disks p u all
+may_claim trees out disks p all highest taken u can are on one top possible claimed =
     let here : (which : ℕ) → InUse out which → OnDisk disks p all which = λ which used. on_disk trees out disks p all which can are on used in
     record {
       off_labels = can.off_labels;
@@ -196,9 +199,10 @@ may_claim trees out disks p all highest taken can are on one top possible =
       below = λ which used label slot is v shows.
           let mine = here which used in
           let rank : RanksUpTo v highest = ranks_through v mine.found.uberblock highest (mine.highest.greatest label slot is v shows) (one.greatest which mine.found mine.at) in
-          record { u = v; shows = shows; rank = inl (inl (omega (arith, claim_up_to v highest rank))) };
-      above = inl (omega (arith, claim_up_to p.last highest top.rank));
-      tree = possible.1;
+          record { u = v; shows = shows; rank = inl (inl (omega (arith, claim_up_to v highest rank, claimed.above))) };
+      above = inl (omega (arith, claim_up_to p.last highest top.rank, claimed.above));
+      tree = (let R : Uberblock → Type 0 = λ v. TreeStands trees out (content disks) v.root in
+          subst R (sym claimed.is) possible.1);
       top = λ which used.
           let mine = here which used in
           record { label = mine.highest.label; slot = mine.highest.slot; u = mine.found.uberblock; is_slot = mine.highest.is_slot; shows = mine.highest.shows; rank = mine.rank };
@@ -211,62 +215,65 @@ may_claim trees out disks p all highest taken can are on one top possible =
 
 -- ---- the reads of an open
 
--- The reads of an open: of all disks, and where it goes back once more.
-pub record Reads (out : List Bool) (rewind : ℕ) (old mid disks : Disks) (all : List (Option Found)) (highest taken : Uberblock) : Type 0 where
+-- The reads of an open: of all disks, where it goes back once more, and of all labels; and what it has planned then.
+pub record Reads (out : List Bool) (rewind : ℕ) (old mid disks : Disks) (all : List (Option Found)) (highest taken u : Uberblock) (areas : List (Option Area)) : Type 0 where
   pub scan : Makes no_write old mid
   pub back : Makes no_write mid disks
   pub found : AreKnown out old → AreHonestSince (length old.calls) mid.starts mid.calls → AreFound out old all
   pub on : AreOn out all
   pub one : IsHighestOf all highest
   pub takes : TakesFrom out highest rewind mid disks (Ok taken)
+  pub claimed : IsClaimed highest taken u
+  pub planned : AreKnown out old → AreHonestSince (length old.calls) disks.starts disks.calls → IsPlanned out old highest u.claim areas
 
-pub scanned : (out : List Bool) (rewind : ℕ) (old mid disks : Disks) (all : List (Option Found)) (highest taken : Uberblock) → Reads out rewind old mid disks all highest taken → Makes no_write old disks
-scanned out rewind old mid disks all highest taken reads = both_made no_write old mid disks reads.scan reads.back
+pub scanned : (out : List Bool) (rewind : ℕ) (old mid disks : Disks) (all : List (Option Found)) (highest taken u : Uberblock) (areas : List (Option Area)) → Reads out rewind old mid disks all highest taken u areas → Makes no_write old disks
+scanned out rewind old mid disks all highest taken u areas reads = both_made no_write old mid disks reads.scan reads.back
 
-found_first : (out : List Bool) (rewind : ℕ) (old mid disks : Disks) (all : List (Option Found)) (highest taken : Uberblock) → Reads out rewind old mid disks all highest taken → AreKnown out old
+found_first : (out : List Bool) (rewind : ℕ) (old mid disks : Disks) (all : List (Option Found)) (highest taken u : Uberblock) (areas : List (Option Area)) → Reads out rewind old mid disks all highest taken u areas → AreKnown out old
     → AreHonestSince (length old.calls) disks.starts disks.calls → AreFound out old all
-found_first out rewind old mid disks all highest taken reads known honest =
+found_first out rewind old mid disks all highest taken u areas reads known honest =
     reads.found known (honest_before (length old.calls) no_write mid disks reads.back honest)
 
 honest_back : (old mid disks : Disks) → Makes no_write old mid → AreHonestSince (length old.calls) disks.starts disks.calls → AreHonestSince (length mid.calls) disks.starts disks.calls
 honest_back old mid disks scan honest = honest_since (length old.calls) (length mid.calls) disks (longer old mid no_write scan) honest
 
 -- what is taken is shown
-taken_shown : (out : List Bool) (rewind : ℕ) (old mid disks : Disks) (all : List (Option Found)) (highest taken : Uberblock) → Reads out rewind old mid disks all highest taken → AreKnown out old
+taken_shown : (out : List Bool) (rewind : ℕ) (old mid disks : Disks) (all : List (Option Found)) (highest taken u : Uberblock) (areas : List (Option Area)) → Reads out rewind old mid disks all highest taken u areas → AreKnown out old
     → AreHonestSince (length old.calls) disks.starts disks.calls → IsRead out old taken
-taken_shown out rewind old mid disks all highest taken reads known honest =
-    let are = found_first out rewind old mid disks all highest taken reads known honest in
+taken_shown out rewind old mid disks all highest taken u areas reads known honest =
+    let are = found_first out rewind old mid disks all highest taken u areas reads known honest in
     let top = highest_shown out old all highest are reads.on reads.one in
     read_earlier out old mid taken reads.scan
     (reads.takes.2 (known_later out old mid reads.scan known) (honest_back old mid disks reads.scan honest) (read_later out old mid highest reads.scan top.shown))
 
-pub taken_from : (out : List Bool) (rewind : ℕ) (old mid disks : Disks) (all : List (Option Found)) (highest taken : Uberblock) → Reads out rewind old mid disks all highest taken → AreKnown out old
-    → AreHonestSince (length old.calls) disks.starts disks.calls → IsTakenFrom out old rewind (claimed_as highest taken)
-taken_from out rewind old mid disks all highest taken reads known honest =
+pub taken_from : (out : List Bool) (rewind : ℕ) (old mid disks : Disks) (all : List (Option Found)) (highest taken u : Uberblock) (areas : List (Option Area)) → Reads out rewind old mid disks all highest taken u areas → AreKnown out old
+    → AreHonestSince (length old.calls) disks.starts disks.calls → IsTakenFrom out old rewind u
+taken_from out rewind old mid disks all highest taken u areas reads known honest =
     record {
       highest = highest;
-      top = highest_shown out old all highest (found_first out rewind old mid disks all highest taken reads known honest) reads.on reads.one;
+      top = highest_shown out old all highest (found_first out rewind old mid disks all highest taken u areas reads known honest) reads.on reads.one;
       taken = taken;
-      shown = taken_shown out rewind old mid disks all highest taken reads known honest;
+      shown = taken_shown out rewind old mid disks all highest taken u areas reads known honest;
       rewound = reads.takes.0;
-      is = refl;
+      is = reads.claimed.is;
+      next = (reads.planned known honest).next;
     }
 
 -- what an open has chosen after its reads
-pub record IsChosen (trees : Trees) (out : List Bool) (rewind : ℕ) (disks : Disks) (p : Possible) (highest taken : Uberblock) (all : List (Option Found)) : Type 0 where
-  pub claim : IsClaimOf p rewind (claimed_as highest taken)
-  pub may : MayClaim trees out disks p (claimed_as highest taken) all
+pub record IsChosen (trees : Trees) (out : List Bool) (rewind : ℕ) (disks : Disks) (p : Possible) (u : Uberblock) (all : List (Option Found)) : Type 0 where
+  pub claim : IsClaimOf p rewind u
+  pub may : MayClaim trees out disks p u all
 
-pub chosen : (trees : Trees) (out : List Bool) (rewind : ℕ) (old mid disks : Disks) (p : Possible) (all : List (Option Found)) (highest taken : Uberblock) → CanOpen trees out old p → rewind < 3
-    → Reads out rewind old mid disks all highest taken → AreHonestSince (length old.calls) disks.starts disks.calls → IsChosen trees out rewind disks p highest taken all
-chosen trees out rewind old mid disks p all highest taken can few reads honest =
-    let makes = scanned out rewind old mid disks all highest taken reads in
+pub chosen : (trees : Trees) (out : List Bool) (rewind : ℕ) (old mid disks : Disks) (p : Possible) (all : List (Option Found)) (highest taken u : Uberblock) (areas : List (Option Area)) → CanOpen trees out old p → rewind < 3
+    → Reads out rewind old mid disks all highest taken u areas → AreHonestSince (length old.calls) disks.starts disks.calls → IsChosen trees out rewind disks p u all
+chosen trees out rewind old mid disks p all highest taken u areas can few reads honest =
+    let makes = scanned out rewind old mid disks all highest taken u areas reads in
     let can' = can_open_later trees out old disks p makes can in
-    let are = found_later out old disks all makes (found_first out rewind old mid disks all highest taken reads can.known honest) in
+    let are = found_later out old disks all makes (found_first out rewind old mid disks all highest taken u areas reads can.known honest) in
     let top = is_top trees out disks p all highest can' are reads.on reads.one in
-    let shown = read_later out old disks taken makes (taken_shown out rewind old mid disks all highest taken reads can.known honest) in
+    let shown = read_later out old disks taken makes (taken_shown out rewind old mid disks all highest taken u areas reads can.known honest) in
     let possible = is_taken trees out disks p highest taken rewind can' few top reads.takes.0 shown in
-    record { claim = claim_is trees out disks p highest taken rewind top reads.takes.0 possible; may = may_claim trees out disks p all highest taken can' are reads.on reads.one top possible }
+    record { claim = claim_is trees out disks p highest taken u rewind top reads.takes.0 possible reads.claimed; may = may_claim trees out disks p all highest taken u can' are reads.on reads.one top possible reads.claimed }
 
 -- a scan that found a disk bare wasn't of disks that lead somewhere
 not_bare : (trees : Trees) (out : List Bool) (disks : Disks) (p : Possible) → CanOpen trees out disks p → IsBare out disks → ⊥
@@ -285,6 +292,7 @@ pub scan_cause : (trees : Trees) (out : List Bool) (rewind : ℕ) (old new : Dis
 scan_cause trees out rewind old new p NoMemory can honest finds = tt
 scan_cause trees out rewind old new p DiskFault can honest finds = finds
 scan_cause trees out rewind old new p NoUberblock can honest finds = absurd (not_bare trees out old p can (finds can.known honest))
+scan_cause trees out rewind old new p NoLabel can honest finds = absurd finds
 scan_cause trees out rewind old new p UsedUp can honest finds = absurd finds
 
 -- why nothing was taken
@@ -301,6 +309,7 @@ taken_cause trees out rewind old mid new p all highest NoUberblock can scan back
     none = λ v shown. takes.1 (known_later out old mid scan can.known) (honest_back old mid new scan honest) v (shown_later out old mid v scan shown);
   },
 )
+taken_cause trees out rewind old mid new p all highest NoLabel can scan back found on one honest takes = absurd takes
 taken_cause trees out rewind old mid new p all highest UsedUp can scan back found on one honest takes = absurd takes
 
 -- ---- the whole open
@@ -319,4 +328,5 @@ highest_cause trees out rewind old new p all seen DiskFault can on same finds = 
 highest_cause trees out rewind old new p all seen NoUberblock can on same finds =
     let P : List (Option Found) → Type 0 = λ xs. (which : ℕ) (found : Found) → ¬ (slice_get xs which ≡ Some (Some found)) in
     absurd (found_some trees out old p all can on (subst P same finds))
+highest_cause trees out rewind old new p all seen NoLabel can on same finds = absurd finds
 highest_cause trees out rewind old new p all seen UsedUp can on same finds = absurd finds

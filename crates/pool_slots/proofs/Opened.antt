@@ -1,54 +1,232 @@
 -- A whole open.
-use Rattle.std.proofs.Common.{◌≡◌, ◌<◌, ℕ, Bool, List, [], length, Option, sym, subst}
+use Rattle.std.proofs.Common.{◌≡◌, inl, inr, ◌<◌, ℕ, Bool, List, [], ◌∷◌, length, Option, Ok, Err, sym, subst, arith}
+use Rattle.std.specs.Prelude.{Vec}
+use Rattle.std.specs.declared.alloc.Global.{Global}
 use Rattle.uberblock_ring.specs.declared.uberblock.Uberblock.{Uberblock}
-use Rattle.model_disk.specs.Joint.{Disks, AreHonestSince}
-use Rattle.model_disk.specs.Runs.{Makes, no_write}
+use Rattle.model_disk.specs.Joint.{JointCall, Disks, bytes_of, content, AreHonestSince}
+use Rattle.model_disk.specs.Runs.{EachSince, Makes, no_write}
+use Rattle.model_disk.proofs.FailureLemmas.{failed_in_second}
+use Rattle.model_disk.proofs.RunLemmas.{each_weaker}
+use Rattle.vdev_label.specs.Plain.{PlainLabel}
 use Rattle.pool_slots.specs.Commits.{AreAt, LeadAlways}
-use Rattle.pool_slots.specs.Opens.{CanOpen, IsClaimOf, MayClaim, ClaimKeeps, ClaimGives, OpenTakes, also_begun}
-use Rattle.pool_slots.specs.Possible.{Possible, Trees}
+use Rattle.pool_slots.specs.LabelReads.{IsPlanned, LacksLabel, PlansClaim}
+use Rattle.pool_slots.specs.Labels.{IsClaimWrite, IsLabelShown, IsShownInUse}
+use Rattle.pool_slots.specs.Marks.{AreMarked, IsUsedUp, LeavesMarked, SparesMark}
+use Rattle.pool_slots.specs.OpenRefusals.{IsCause}
+use Rattle.pool_slots.specs.Opens.{AreFound, AreKnown, AreOn, AreSpared, CanOpen, ClaimGives, ClaimKeeps, ClaimsAt, FindsAll, IsClaimOf, IsHighestOf, IsRead, MarksAt, MayClaim, OpenTakes, TakesFrom, also_begun}
+use Rattle.pool_slots.specs.Possible.{Possible, Trees, LeavesLeading}
 use Rattle.pool_slots.specs.Slots.{AreThere, InUse, MakesOn}
-use Rattle.pool_slots.specs.Writes.{IsSlotWrite, in_use}
+use Rattle.pool_slots.specs.declared.areas.Plan.{Plan}
 use Rattle.pool_slots.specs.declared.found.Found.{Found}
-use Rattle.pool_slots.proofs.Finding.{honest_before}
-use Rattle.pool_slots.proofs.OpenSteps.{Reads, scanned, chosen, taken_from, claimed_as, claim_always}
-use Rattle.pool_slots.proofs.Phases.{MakesOn-more, none_wider}
+use Rattle.pool_slots.specs.declared.labeled.Area.{Area}
+use Rattle.pool_slots.specs.declared.refusal.Refusal.{Refusal}
+use Rattle.pool_slots.specs.declared.refusal.Refusal.TheVariants.{NoMemory, DiskFault, NoUberblock, NoLabel, UsedUp}
+use Rattle.pool_slots.proofs.BackReads.{read_earlier, read_later}
+use Rattle.pool_slots.proofs.ClaimPhases.{also}
+use Rattle.pool_slots.proofs.Finding.{honest_before, honest_since, known_later}
+use Rattle.pool_slots.proofs.LabelPhases.{each_joined, marked_always}
+use Rattle.pool_slots.proofs.LabelScans.{label_same}
+use Rattle.pool_slots.proofs.OpenSteps.{Reads, scanned, chosen, taken_from, claim_always, highest_shown, is_top, leads_before}
+use Rattle.pool_slots.proofs.Phases.{MakesOn-more, both_made, leads_more, none_same, none_wider}
+use Rattle.pool_slots.proofs.Reading.{longer}
 
-pub scan_then_claim : (out : List Bool) (old mid new : Disks) (u : Uberblock) → MakesOn (InUse out) no_write old mid → MakesOn (InUse out) (IsSlotWrite mid.starts u (in_use out)) mid new
-    → MakesOn (InUse out) (IsSlotWrite old.starts u (in_use out)) old new
+pub scan_then_claim : (out : List Bool) (old mid new : Disks) (u : Uberblock) → MakesOn (InUse out) no_write old mid → MakesOn (InUse out) (IsClaimWrite mid.starts out u) mid new
+    → MakesOn (InUse out) (IsClaimWrite old.starts out u) old new
 scan_then_claim out old mid new u scan makes =
-    let P : List (List ℕ) → Type 0 = λ s. MakesOn (InUse out) (IsSlotWrite s u (in_use out)) mid new in
-    MakesOn-more (InUse out) (IsSlotWrite old.starts u (in_use out)) old mid new (none_wider (InUse out) (IsSlotWrite old.starts u (in_use out)) old mid scan) (subst P scan.makes.starts makes)
+    let P : List (List ℕ) → Type 0 = λ s. MakesOn (InUse out) (IsClaimWrite s out u) mid new in
+    MakesOn-more (InUse out) (IsClaimWrite old.starts out u) old mid new (none_wider (InUse out) (IsClaimWrite old.starts out u) old mid scan) (subst P scan.makes.starts makes)
+
+-- ---- labels of disks on which nothing was written since
+
+shown_later : (old new : Disks) (which number : ℕ) (l : PlainLabel) → Makes no_write old new → IsLabelShown (length (bytes_of old.starts which)) (content old which) number l
+    → IsLabelShown (length (bytes_of new.starts which)) (content new which) number l
+shown_later old new which number l makes shown =
+    let P : List (List ℕ) → Type 0 = λ starts. IsLabelShown (length (bytes_of starts which)) (content new which) number l in
+    subst P (sym makes.starts) (label_same (length (bytes_of old.starts which)) number (content old which) (content new which) l (λ i. none_same old new which i makes) shown)
+
+shown_earlier : (old new : Disks) (which number : ℕ) (l : PlainLabel) → Makes no_write old new → IsLabelShown (length (bytes_of new.starts which)) (content new which) number l
+    → IsLabelShown (length (bytes_of old.starts which)) (content old which) number l
+shown_earlier old new which number l makes shown =
+    let P : List (List ℕ) → Type 0 = λ starts. IsLabelShown (length (bytes_of starts which)) (content old which) number l in
+    subst P makes.starts (label_same (length (bytes_of new.starts which)) number (content new which) (content old which) l (λ i. sym (none_same old new which i makes)) shown)
+
+in_use_later : (out : List Bool) (old new : Disks) (l : PlainLabel) → Makes no_write old new → IsShownInUse out old l → IsShownInUse out new l
+in_use_later out old new l makes it = record { which = it.which; used = it.used; number = it.number; shown = shown_later old new it.which it.number l makes it.shown }
+
+in_use_earlier : (out : List Bool) (old new : Disks) (l : PlainLabel) → Makes no_write old new → IsShownInUse out new l → IsShownInUse out old l
+in_use_earlier out old new l makes it = record { which = it.which; used = it.used; number = it.number; shown = shown_earlier old new it.which it.number l makes it.shown }
+
+planned_earlier : (out : List Bool) (old new : Disks) (highest : Uberblock) (claim : ℕ) (areas : List (Option Area)) → Makes no_write old new → IsPlanned out new highest claim areas
+    → IsPlanned out old highest claim areas
+planned_earlier out old new highest claim areas makes it =
+    record {
+      next = record {
+        above_slots = it.next.above_slots;
+        above_labels = λ l shown. it.next.above_labels l (in_use_later out old new l makes shown);
+        least = elim it.next.least [ inl least ↦ inl least | inr some ↦ inr (some.0, in_use_earlier out old new some.0 makes some.1, some.2) ];
+      };
+      spared = λ which number area l at shown.
+          let other = it.spared which number area l at (shown_later old new which number l makes shown) in
+          record {
+            number = other.number;
+            other = other.other;
+            label = other.label;
+            shown = shown_earlier old new which other.number other.label makes other.shown;
+            no_less = other.no_less;
+          };
+    }
+
+-- ---- the reads of an open
+
+pub reads_of : (out : List Bool) (rewind : ℕ) (old mid back disks : Disks) (all : Vec (Option Found) Global) (seen : List (Option Found)) (highest taken : Uberblock) (plan : Plan) → Makes no_write old mid
+    → Makes no_write mid back → Makes no_write back disks → FindsAll out old mid (Ok all) → seen ≡ all.items → IsHighestOf seen highest → TakesFrom out highest rewind mid back (Ok taken)
+    → PlansClaim out taken highest back disks (Ok plan) → Reads out rewind old mid disks all.items highest taken plan.claimed plan.areas.items
+reads_of out rewind old mid back disks all seen highest taken plan scan go_back planning finds same one takes plans =
+    let P : List (Option Found) → Type 0 = λ xs. IsHighestOf xs highest in
+    let first = both_made no_write old mid back scan go_back in
+    record {
+      scan = scan;
+      back = both_made no_write mid back disks go_back planning;
+      found = finds.3;
+      on = finds.1;
+      one = subst P same one;
+      takes = (takes.0, takes.1, λ known honest shown. takes.2 known (honest_before (length mid.calls) no_write back disks planning honest) shown);
+      claimed = record { is = plans.0; above = plans.1 };
+      planned = λ known honest.
+          planned_earlier out old back highest plan.claimed.claim plan.areas.items first
+          (plans.6 (known_later out old back first known) (honest_since (length old.calls) (length back.calls) disks (longer old back no_write first) honest));
+    }
 
 -- what was chosen, as the claim saw it
-seen_by_claim : (trees : Trees) (out : List Bool) (rewind : ℕ) (old mid disks new : Disks) (p : Possible) (all given : List (Option Found)) (highest taken : Uberblock) → CanOpen trees out old p
-    → rewind < 3 → Reads out rewind old mid disks all highest taken → Makes (IsSlotWrite disks.starts (claimed_as highest taken) (in_use out)) disks new
-    → AreHonestSince (length old.calls) new.starts new.calls → given ≡ all
-    → IsClaimOf p rewind (claimed_as highest taken) × MayClaim trees out disks p (claimed_as highest taken) given
-seen_by_claim trees out rewind old mid disks new p all given highest taken can few reads makes honest also =
-    let it = chosen trees out rewind old mid disks p all highest taken can few reads
-    (honest_before (length old.calls) (IsSlotWrite disks.starts (claimed_as highest taken) (in_use out)) disks new makes honest) in
-    let P : List (Option Found) → Type 0 = λ xs. MayClaim trees out disks p (claimed_as highest taken) xs in
-    (it.claim, subst P (sym also) it.may)
+seen_by_claim : (trees : Trees) (out : List Bool) (rewind : ℕ) (old mid disks new : Disks) (p : Possible) (all given : List (Option Found)) (highest taken u : Uberblock) (areas : List (Option Area))
+    → CanOpen trees out old p → rewind < 3 → Reads out rewind old mid disks all highest taken u areas → Makes (IsClaimWrite disks.starts out u) disks new
+    → AreHonestSince (length old.calls) new.starts new.calls → given ≡ all → IsClaimOf p rewind u × MayClaim trees out disks p u given
+seen_by_claim trees out rewind old mid disks new p all given highest taken u areas can few reads makes honest same =
+    let it = chosen trees out rewind old mid disks p all highest taken u areas can few reads (honest_before (length old.calls) (IsClaimWrite disks.starts out u) disks new makes honest) in
+    let P : List (Option Found) → Type 0 = λ xs. MayClaim trees out disks p u xs in
+    (it.claim, subst P (sym same) it.may)
 
-pub claims_always : (trees : Trees) (out : List Bool) (rewind : ℕ) (old mid disks new : Disks) (p : Possible) (all given : List (Option Found)) (highest taken : Uberblock) → AreThere out old.starts
-    → CanOpen trees out old p → rewind < 3 → Reads out rewind old mid disks all highest taken → Makes (IsSlotWrite disks.starts (claimed_as highest taken) (in_use out)) disks new
-    → AreHonestSince (length old.calls) new.starts new.calls → given ≡ all
-    → ClaimKeeps out disks (claimed_as highest taken) given new → (u : Uberblock) × IsClaimOf p rewind u × LeadAlways trees out old new (also_begun u p)
-claims_always trees out rewind old mid disks new p all given highest taken there can few reads makes honest also keeps =
-    let u = claimed_as highest taken in
-    let it = seen_by_claim trees out rewind old mid disks new p all given highest taken can few reads makes honest also in
-    (u, it.0, claim_always trees out old disks new p u there can (scanned out rewind old mid disks all highest taken reads) (IsSlotWrite disks.starts u (in_use out)) makes (keeps trees p it.1))
+-- ---- at each moment
 
-pub opened_is : (trees : Trees) (out : List Bool) (rewind : ℕ) (old mid disks new : Disks) (p : Possible) (all given : List (Option Found)) (highest taken : Uberblock) → CanOpen trees out old p
-    → rewind < 3 → Reads out rewind old mid disks all highest taken → Makes (IsSlotWrite disks.starts (claimed_as highest taken) (in_use out)) disks new
-    → AreHonestSince (length old.calls) new.starts new.calls → given ≡ all
-    → ClaimGives out disks (claimed_as highest taken) given new → IsClaimOf p rewind (claimed_as highest taken) × AreAt trees out new (claimed_as highest taken) []
-opened_is trees out rewind old mid disks new p all given highest taken can few reads makes honest also gives =
-    let it = seen_by_claim trees out rewind old mid disks new p all given highest taken can few reads makes honest also in
+leads_also : (trees : Trees) (out : List Bool) (disks : Disks) (p : Possible) (u : Uberblock) (areas : List (Option Area)) (calls : List JointCall) → ClaimsAt trees out disks p u areas calls
+    → LeavesLeading trees out disks.starts (also_begun u p) calls
+leads_also trees out disks p u areas calls (inl before) = λ images left untorn.
+    leads_more trees out images _ p.last p.begun (u ∷ p.begun) p.before (also p.last u p.begun) (before.0 images left untorn)
+leads_also trees out disks p u areas calls (inr after) = after.0
+
+pub claims_always : (trees : Trees) (out : List Bool) (rewind : ℕ) (old mid disks new : Disks) (p : Possible) (all given : List (Option Found)) (highest taken u : Uberblock) (areas : List (Option Area))
+    → AreThere out old.starts → CanOpen trees out old p → rewind < 3 → Reads out rewind old mid disks all highest taken u areas → Makes (IsClaimWrite disks.starts out u) disks new
+    → AreHonestSince (length old.calls) new.starts new.calls → given ≡ all → (seen : List (Option Area))
+    → ClaimKeeps out disks u given seen new → (w : Uberblock) × IsClaimOf p rewind w × LeadAlways trees out old new (also_begun w p)
+claims_always trees out rewind old mid disks new p all given highest taken u areas there can few reads makes honest same seen keeps =
+    let it = seen_by_claim trees out rewind old mid disks new p all given highest taken u areas can few reads makes honest same in
+    let always : LeadAlways trees out disks new (also_begun u p) =
+    each_weaker (ClaimsAt trees out disks p u seen) (LeavesLeading trees out disks.starts (also_begun u p)) (length disks.calls) new.calls (leads_also trees out disks p u seen) (keeps trees p it.1) in
+    (u, it.0, claim_always trees out old disks new p u there can (scanned out rewind old mid disks all highest taken u areas reads) (IsClaimWrite disks.starts out u) makes always)
+
+-- nothing is written yet
+pub marks_before : (trees : Trees) (out : List Bool) (rewind : ℕ) (old new : Disks) (p : Possible) (claim : ℕ) → AreThere out old.starts → CanOpen trees out old p
+    → AreMarked out old.starts (content old) claim → Makes no_write old new → EachSince (length old.calls) (MarksAt trees out rewind old p claim) new.calls
+marks_before trees out rewind old new p claim there can marked makes earlier moment =
+    inl (
+      leads_before trees out old new p there can makes earlier moment,
+      marked_always out old new no_write claim there can.settled makes
+          (λ which used.
+          let it = marked which used in
+          record { number = it.number; label = it.label; shown = it.shown; no_less = it.no_less; off = λ i below at bytes none. absurd none })
+          earlier moment,
+    )
+
+-- beside each claim label another shows no less than some label did
+spared_by : (out : List Bool) (old disks : Disks) (areas : List (Option Area)) (claim : ℕ) → Makes no_write old disks → SparesMark out old areas → AreMarked out old.starts (content old) claim
+    → AreSpared out disks areas claim
+spared_by out old disks areas claim scan spares marked which area used at =
+    let mark = marked which used in
+    let it = spares which mark.number area mark.label at mark.shown in
+    record { number = it.number; other = it.other; label = it.label; shown = shown_later old disks which it.number it.label scan it.shown; no_less = omega (arith, it.no_less, mark.no_less) }
+
+marks_case : (trees : Trees) (out : List Bool) (rewind : ℕ) (old disks : Disks) (p : Possible) (u : Uberblock) (areas : List (Option Area)) (claim : ℕ) (calls : List JointCall) → disks.starts ≡ old.starts
+    → IsClaimOf p rewind u → claim < u.claim → AreSpared out disks areas claim → ClaimsAt trees out disks p u areas calls → MarksAt trees out rewind old p claim calls
+marks_case trees out rewind old disks p u areas claim calls same is above spared (inl before) =
+    let P : List (List ℕ) → Type 0 = λ starts. LeavesLeading trees out starts p calls × LeavesMarked out starts claim calls in
+    inl (subst P same (before.0, before.1 claim spared))
+marks_case trees out rewind old disks p u areas claim calls same is above spared (inr after) =
+    let P : List (List ℕ) → Type 0 = λ starts. LeavesLeading trees out starts (also_begun u p) calls × LeavesMarked out starts u.claim calls in
+    let it = subst P same after in
+    inr (u, is, above, it.0, it.1)
+
+pub marks_always : (trees : Trees) (out : List Bool) (rewind : ℕ) (old mid disks new : Disks) (p : Possible) (claim : ℕ) (all given : List (Option Found)) (highest taken u : Uberblock) (areas seen : List (Option Area))
+    → AreThere out old.starts → CanOpen trees out old p → AreMarked out old.starts (content old) claim → rewind < 3 → Reads out rewind old mid disks all highest taken u areas
+    → Makes (IsClaimWrite disks.starts out u) disks new → AreHonestSince (length old.calls) new.starts new.calls → given ≡ all → seen ≡ areas
+    → ClaimKeeps out disks u given seen new → EachSince (length old.calls) (MarksAt trees out rewind old p claim) new.calls
+marks_always trees out rewind old mid disks new p claim all given highest taken u areas seen there can marked few reads makes honest same also_same keeps =
+    let it = seen_by_claim trees out rewind old mid disks new p all given highest taken u areas can few reads makes honest same in
+    let scan = scanned out rewind old mid disks all highest taken u areas reads in
+    let planned = reads.planned can.known (honest_before (length old.calls) (IsClaimWrite disks.starts out u) disks new makes honest) in
+    let S : List (Option Area) → Type 0 = λ xs. AreSpared out disks xs claim in
+    let spared : AreSpared out disks seen claim = subst S (sym also_same) (spared_by out old disks areas claim scan planned.spared marked) in
+    let mark = marked can.some.0 can.some.1 in
+    let above : claim < u.claim = omega (arith, mark.no_less, planned.next.above_labels mark.label (record { which = can.some.0; used = can.some.1; number = mark.number; shown = mark.shown })) in
+    each_joined (MarksAt trees out rewind old p claim) (IsClaimWrite disks.starts out u) old disks new makes (marks_before trees out rewind old disks p claim there can marked scan)
+    (each_weaker (ClaimsAt trees out disks p u seen) (MarksAt trees out rewind old p claim) (length disks.calls) new.calls
+    (λ calls at. marks_case trees out rewind old disks p u seen claim calls scan.starts it.0 above spared at) (keeps trees p it.1))
+
+-- ---- once it is done
+
+pub opened_is : (trees : Trees) (out : List Bool) (rewind : ℕ) (old mid disks new : Disks) (p : Possible) (all given : List (Option Found)) (highest taken u : Uberblock) (areas : List (Option Area))
+    → CanOpen trees out old p → rewind < 3 → Reads out rewind old mid disks all highest taken u areas → Makes (IsClaimWrite disks.starts out u) disks new
+    → AreHonestSince (length old.calls) new.starts new.calls → given ≡ all → ClaimGives out disks u given new → IsClaimOf p rewind u × AreAt trees out new u []
+opened_is trees out rewind old mid disks new p all given highest taken u areas can few reads makes honest same gives =
+    let it = seen_by_claim trees out rewind old mid disks new p all given highest taken u areas can few reads makes honest same in
     (it.0, gives trees p it.1)
 
-pub opened_from : (out : List Bool) (rewind : ℕ) (old mid disks new : Disks) (all : List (Option Found)) (highest taken : Uberblock) → Reads out rewind old mid disks all highest taken
-    → Makes (IsSlotWrite disks.starts (claimed_as highest taken) (in_use out)) disks new → OpenTakes out rewind old (claimed_as highest taken) new
-opened_from out rewind old mid disks new all highest taken reads makes known honest =
-    taken_from out rewind old mid disks all highest taken reads known
-    (honest_before (length old.calls) (IsSlotWrite disks.starts (claimed_as highest taken) (in_use out)) disks new makes honest)
+pub opened_from : (out : List Bool) (rewind : ℕ) (old mid disks new : Disks) (all : List (Option Found)) (highest taken u : Uberblock) (areas : List (Option Area))
+    → Reads out rewind old mid disks all highest taken u areas → Makes (IsClaimWrite disks.starts out u) disks new → OpenTakes out rewind old u new
+opened_from out rewind old mid disks new all highest taken u areas reads makes known honest =
+    taken_from out rewind old mid disks all highest taken u areas reads known (honest_before (length old.calls) (IsClaimWrite disks.starts out u) disks new makes honest)
+
+-- ---- why nothing was planned
+
+-- what was taken is shown
+taken_read : (out : List Bool) (rewind : ℕ) (old mid back new : Disks) (all : List (Option Found)) (highest taken : Uberblock) → Makes no_write old mid → Makes no_write mid back → Makes no_write back new
+    → (AreKnown out old → AreHonestSince (length old.calls) mid.starts mid.calls → AreFound out old all) → AreOn out all → IsHighestOf all highest → TakesFrom out highest rewind mid back (Ok taken)
+    → AreKnown out old → AreHonestSince (length old.calls) new.starts new.calls → IsRead out old taken
+taken_read out rewind old mid back new all highest taken scan go_back planning found on one takes known honest =
+    let honest_back = honest_before (length old.calls) no_write back new planning honest in
+    let are = found known (honest_before (length old.calls) no_write mid back go_back honest_back) in
+    let top = highest_shown out old all highest are on one in
+    read_earlier out old mid taken scan
+    (takes.2 (known_later out old mid scan known) (honest_since (length old.calls) (length mid.calls) back (longer old mid no_write scan) honest_back) (read_later out old mid highest scan top.shown))
+
+lacks_earlier : (out : List Bool) (old new : Disks) (digest : List ℕ) → Makes no_write old new → LacksLabel out new digest → LacksLabel out old digest
+lacks_earlier out old new digest makes it = record { which = it.which; used = it.used; without = λ number l shown. it.without number l (shown_later old new it.which number l makes shown) }
+
+used_up_earlier : (out : List Bool) (old new : Disks) (highest : Uberblock) → Makes no_write old new → IsUsedUp out new highest → IsUsedUp out old highest
+used_up_earlier out old new highest makes (inl past) = inl past
+used_up_earlier out old new highest makes (inr it) = inr (it.0, in_use_earlier out old new it.0 makes it.1, it.2)
+
+pub plan_cause : (trees : Trees) (out : List Bool) (rewind : ℕ) (old mid back new : Disks) (p : Possible) (all seen : List (Option Found)) (highest taken : Uberblock) (refusal : Refusal)
+    → CanOpen trees out old p → Makes no_write old mid → Makes no_write mid back → Makes no_write back new
+    → (AreKnown out old → AreHonestSince (length old.calls) mid.starts mid.calls → AreFound out old all) → AreOn out all → seen ≡ all → IsHighestOf seen highest
+    → TakesFrom out highest rewind mid back (Ok taken) → AreHonestSince (length old.calls) new.starts new.calls → PlansClaim out taken highest back new (Err refusal) → IsCause out rewind old new p refusal
+plan_cause trees out rewind old mid back new p all seen highest taken NoMemory can scan go_back planning found on same one takes honest plans = tt
+plan_cause trees out rewind old mid back new p all seen highest taken DiskFault can scan go_back planning found on same one takes honest plans =
+    failed_in_second no_write old back new (both_made no_write old mid back scan go_back) plans
+plan_cause trees out rewind old mid back new p all seen highest taken NoUberblock can scan go_back planning found on same one takes honest plans = absurd plans
+plan_cause trees out rewind old mid back new p all seen highest taken NoLabel can scan go_back planning found on same one takes honest plans =
+    let P : List (Option Found) → Type 0 = λ xs. IsHighestOf xs highest in
+    let first = both_made no_write old mid back scan go_back in (
+      taken,
+      taken_read out rewind old mid back new all highest taken scan go_back planning found on (subst P same one) takes can.known honest,
+      lacks_earlier out old back taken.config_digest first
+          (plans (known_later out old back first can.known) (honest_since (length old.calls) (length back.calls) new (longer old back no_write first) honest)),
+    )
+plan_cause trees out rewind old mid back new p all seen highest taken UsedUp can scan go_back planning found on same one takes honest plans =
+    let P : List (Option Found) → Type 0 = λ xs. IsHighestOf xs highest in
+    let first = both_made no_write old mid back scan go_back in
+    let are = found can.known (honest_before (length old.calls) no_write mid new (both_made no_write mid back new go_back planning) honest) in (
+      highest,
+      (is_top trees out old p all highest can are on (subst P same one)).among,
+      used_up_earlier out old back highest first
+          (plans (known_later out old back first can.known) (honest_since (length old.calls) (length back.calls) new (longer old back no_write first) honest)),
+    )

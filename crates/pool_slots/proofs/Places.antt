@@ -15,10 +15,10 @@ use Rattle.model_disk.specs.Contents.{covers}
 use Rattle.vdev_label.specs.Place.{label_at}
 use Rattle.pool_slots.specs.Slots.{spelled, slot_at, IsSlot, IsOffLabels}
 
-labels_apart : (size i j : ℕ) → 4 * 262144 ≤ size → i < j → j < 4 → label_at size i + 262144 ≤ label_at size j
+pub labels_apart : (size i j : ℕ) → 4 * 262144 ≤ size → i < j → j < 4 → label_at size i + 262144 ≤ label_at size j
 labels_apart size i j room below last = grind (arith, nat_tests)
 
-label_within : (size i : ℕ) → 4 * 262144 ≤ size → i < 4 → label_at size i + 262144 ≤ size
+pub label_within : (size i : ℕ) → 4 * 262144 ≤ size → i < 4 → label_at size i + 262144 ≤ size
 label_within size i room last = grind (arith, nat_tests)
 
 pub slot_within : (size label slot : ℕ) → 4 * 262144 ≤ size → IsSlot label slot → slot_at size label slot + 1024 ≤ size

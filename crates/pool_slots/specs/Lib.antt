@@ -1,7 +1,12 @@
 pub mod Slots
 pub mod Possible
 pub mod Writes
+pub mod Shown
+pub mod Labels
+pub mod Marks
 pub mod Commits
 pub mod Opens
+pub mod LabelReads
 pub mod OpenRefusals
 pub mod Lives
+pub mod Claims

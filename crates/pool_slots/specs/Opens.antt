@@ -1,18 +1,21 @@
 -- What an open reads, and what it claims.
-use Rattle.std.specs.Prelude.{◌≡◌, ◌↔◌, ◌⊎◌, ◌<◌, ℕ, ◌+◌, ◌-◌, ◌/◌, ◌%◌, Bool, List, [], ◌∷◌, length, slice_get, Option, Some, None, Contains, Result, Ok, Err, Vec}
+use Rattle.std.specs.Prelude.{◌≡◌, ◌↔◌, ◌⊎◌, ◌<◌, ℕ, ◌-◌, ◌/◌, ◌%◌, Bool, List, [], ◌∷◌, length, slice_get, Option, Some, None, Contains, Result, Ok, Err, Vec}
 use Rattle.std.specs.declared.alloc.Global.{Global}
-use Rattle.model_disk.specs.Joint.{Disks, bytes_of, content, AreHonestSince}
-use Rattle.model_disk.specs.Runs.{HasFailed, no_write}
+use Rattle.model_disk.specs.Joint.{JointCall, Disks, bytes_of, content, AreHonestSince}
+use Rattle.model_disk.specs.Runs.{HasFailed, EachSince, no_write}
 use Rattle.uberblock_ring.specs.declared.uberblock.Uberblock.{Uberblock}
 use Rattle.uberblock_ring.specs.Ranking.{RanksUpTo, Has, IsRewound}
 use Rattle.uberblock_ring.specs.Uberblock.{Fits}
 use Rattle.pool_slots.specs.Slots.{InUse, MakesOn, AreSettled, slot_at, IsSlot, Shows}
-use Rattle.pool_slots.specs.Possible.{Possible, all_of, IsInReach, IsTopped, Trees, TreeStands, Leads, AllAreBelow}
-use Rattle.pool_slots.specs.Writes.{HasFound, InTurn, IsSlotWrite, in_use}
+use Rattle.pool_slots.specs.Possible.{Possible, all_of, IsInReach, IsTopped, Trees, TreeStands, Leads, LeavesLeading, AllAreBelow}
+use Rattle.pool_slots.specs.Writes.{HasFound, InTurn}
 use Rattle.pool_slots.specs.Commits.{AreOffLabels, AreAt, LeadAlways}
+use Rattle.pool_slots.specs.Labels.{IsClaimWrite, IsNextClaim}
+use Rattle.pool_slots.specs.Marks.{AreMarked, IsSpared, LeavesMarked}
 use Rattle.pool_slots.specs.declared.found.Found.{Found}
+use Rattle.pool_slots.specs.declared.labeled.Area.{Area}
 use Rattle.pool_slots.specs.declared.refusal.Refusal.{Refusal}
-use Rattle.pool_slots.specs.declared.refusal.Refusal.TheVariants.{NoMemory, DiskFault, NoUberblock, UsedUp}
+use Rattle.pool_slots.specs.declared.refusal.Refusal.TheVariants.{NoMemory, DiskFault, NoUberblock, NoLabel, UsedUp}
 
 -- ---- what is read
 
@@ -117,6 +120,7 @@ FindsOn old new which (Err NoMemory) = Unit {0}
 FindsOn old new which (Err DiskFault) = HasFailed old new
 FindsOn old new which (Err NoUberblock) =
     IsKnown old which → AreHonestSince (length old.calls) new.starts new.calls → IsBareOn (length (bytes_of old.starts which)) (content old which)
+FindsOn old new which (Err NoLabel) = ⊥
 FindsOn old new which (Err UsedUp) = ⊥
 
 -- the same where the disk may be out: then nothing is found
@@ -133,6 +137,7 @@ FindsAll out old new (Ok all) =
 FindsAll out old new (Err NoMemory) = Unit {0}
 FindsAll out old new (Err DiskFault) = HasFailed old new
 FindsAll out old new (Err NoUberblock) = AreKnown out old → AreHonestSince (length old.calls) new.starts new.calls → IsBare out old
+FindsAll out old new (Err NoLabel) = ⊥
 FindsAll out old new (Err UsedUp) = ⊥
 
 -- the highest of all that were found; else want of memory, or there is none
@@ -141,6 +146,7 @@ FindsHighest all (Ok u) = IsHighestOf all u × Fits u
 FindsHighest all (Err NoMemory) = Unit {0}
 FindsHighest all (Err DiskFault) = ⊥
 FindsHighest all (Err NoUberblock) = (which : ℕ) (found : Found) → ¬ (slice_get all which ≡ Some (Some found))
+FindsHighest all (Err NoLabel) = ⊥
 FindsHighest all (Err UsedUp) = ⊥
 
 -- on one disk the uberblock of the same claim as this one, and so many groups less, or none
@@ -154,6 +160,7 @@ FindsRewoundOn from groups old new which (Ok None) =
 FindsRewoundOn from groups old new which (Err NoMemory) = Unit {0}
 FindsRewoundOn from groups old new which (Err DiskFault) = HasFailed old new
 FindsRewoundOn from groups old new which (Err NoUberblock) = ⊥
+FindsRewoundOn from groups old new which (Err NoLabel) = ⊥
 FindsRewoundOn from groups old new which (Err UsedUp) = ⊥
 
 -- the same where the disk may be out
@@ -170,6 +177,7 @@ FindsRewound out from groups old new (Err NoMemory) = Unit {0}
 FindsRewound out from groups old new (Err DiskFault) = HasFailed old new
 FindsRewound out from groups old new (Err NoUberblock) =
     AreKnown out old → AreHonestSince (length old.calls) new.starts new.calls → (v : Uberblock) → IsShown out old v → ¬ IsRewound from groups v
+FindsRewound out from groups old new (Err NoLabel) = ⊥
 FindsRewound out from groups old new (Err UsedUp) = ⊥
 
 -- what is taken where the disks show this highest one: that itself, or the one so many groups less; which where groups are gone back may not be there
@@ -181,6 +189,7 @@ TakesFrom out highest rewind old new (Err NoMemory) = Unit {0}
 TakesFrom out highest rewind old new (Err DiskFault) = HasFailed old new
 TakesFrom out highest rewind old new (Err NoUberblock) =
     (0 < rewind) × (AreKnown out old → AreHonestSince (length old.calls) new.starts new.calls → (v : Uberblock) → IsShown out old v → ¬ IsRewound highest rewind v)
+TakesFrom out highest rewind old new (Err NoLabel) = ⊥
 TakesFrom out highest rewind old new (Err UsedUp) = ⊥
 
 -- ---- what is claimed
@@ -205,14 +214,15 @@ pub record IsClaimOf (p : Possible) (rewind : ℕ) (u : Uberblock) : Type 0 wher
   pub is : u ≡ record taken { claim = u.claim }
   pub above : p.last.claim < u.claim
 
--- It is what the disks show so many groups below the highest that they show, under the claim after that one's.
+-- It is what the disks show so many groups below the highest that they show, under the claim after that one's and all that labels show.
 pub record IsTakenFrom (out : List Bool) (disks : Disks) (rewind : ℕ) (u : Uberblock) : Type 0 where
   pub highest : Uberblock
   pub top : IsHighestShown out disks highest
   pub taken : Uberblock
   pub shown : IsRead out disks taken
   pub rewound : IsRewound highest rewind taken
-  pub is : u ≡ record taken { claim = highest.claim + 1 }
+  pub is : u ≡ record taken { claim = u.claim }
+  pub next : IsNextClaim out disks highest u.claim
 
 -- no disk in use shows what is so many groups below the highest
 pub record IsNotThere (out : List Bool) (disks : Disks) (rewind : ℕ) : Type 0 where
@@ -255,15 +265,49 @@ OpenGives out rewind old u new =
 abbrev pub OpenTakes : List Bool → ℕ → Disks → Uberblock → Disks → Type 0
 OpenTakes out rewind old u new = AreKnown out old → AreHonestSince (length old.calls) new.starts new.calls → IsTakenFrom out old rewind u
 
--- what it writes: nothing, or the slots of one uberblock, on disks in use; and no call is made on another disk
+-- what it writes: nothing, or the slots of one uberblock and labels for it, on disks in use; and no call is made on another disk
 abbrev pub OpenMakes : List Bool → Disks → Disks → Type 0
 OpenMakes out old new =
-    MakesOn (InUse out) no_write old new ⊎ ((u : Uberblock) × MakesOn (InUse out) (IsSlotWrite old.starts u (in_use out)) old new)
+    MakesOn (InUse out) no_write old new ⊎ ((u : Uberblock) × MakesOn (InUse out) (IsClaimWrite old.starts out u) old new)
 
--- ---- what `claim` ensures
+-- A stop now leaves what led there before, with labels that show no less than before; or what leads also to a claim of it that is above
+-- all of them, with a label on each disk in use that shows it.
+abbrev pub MarksAt : Trees → List Bool → ℕ → Disks → Possible → ℕ → List JointCall → Type 0
+MarksAt trees out rewind old p claim calls =
+    (LeavesLeading trees out old.starts p calls × LeavesMarked out old.starts claim calls)
+    ⊎ ((u : Uberblock) × IsClaimOf p rewind u × (claim < u.claim) × LeavesLeading trees out old.starts (also_begun u p) calls × LeavesMarked out old.starts u.claim calls)
 
-abbrev pub ClaimKeeps : List Bool → Disks → Uberblock → List (Option Found) → Disks → Type 0
-ClaimKeeps out old u all new = (trees : Trees) (p : Possible) → MayClaim trees out old p u all → LeadAlways trees out old new (also_begun u p)
+-- what `open` ensures of labels, at each moment, where each disk in use has one
+abbrev pub OpenMarks : List Bool → ℕ → Disks → Disks → Type 0
+OpenMarks out rewind old new =
+    (trees : Trees) (p : Possible) (claim : ℕ) → CanOpen trees out old p → AreMarked out old.starts (content old) claim → AreHonestSince (length old.calls) new.starts new.calls
+    → EachSince (length old.calls) (MarksAt trees out rewind old p claim) new.calls
+
+-- ---- what a claim ensures
+
+-- of the slots alone: at each moment, and once it is done
+abbrev pub SlotsKeep : List Bool → Disks → Uberblock → List (Option Found) → Disks → Type 0
+SlotsKeep out old u all new = (trees : Trees) (p : Possible) → MayClaim trees out old p u all → LeadAlways trees out old new (also_begun u p)
+
+abbrev pub SlotsGive : List Bool → Disks → Uberblock → List (Option Found) → Disks → Type 0
+SlotsGive out old u all new =
+    (trees : Trees) (p : Possible) → MayClaim trees out old p u all → AreAt trees out new u [] × Leads trees out new.starts (content new) (also_begun u p)
+
+-- beside each disk's claim label another shows no less
+abbrev pub AreSpared : List Bool → Disks → List (Option Area) → ℕ → Type 0
+AreSpared out disks areas claim =
+    (which : ℕ) (area : Area) → InUse out which → slice_get areas which ≡ Some (Some area) → IsSpared (length (bytes_of disks.starts which)) (content disks which) area.first claim
+
+-- A stop now leaves what led there before, with each disk's labels but its claim label; or what leads also to the claim, with a label on each
+-- disk in use that shows it.
+abbrev pub ClaimsAt : Trees → List Bool → Disks → Possible → Uberblock → List (Option Area) → List JointCall → Type 0
+ClaimsAt trees out old p u areas calls =
+    (LeavesLeading trees out old.starts p calls × ((claim : ℕ) → AreSpared out old areas claim → LeavesMarked out old.starts claim calls))
+    ⊎ (LeavesLeading trees out old.starts (also_begun u p) calls × LeavesMarked out old.starts u.claim calls)
+
+abbrev pub ClaimKeeps : List Bool → Disks → Uberblock → List (Option Found) → List (Option Area) → Disks → Type 0
+ClaimKeeps out old u all areas new =
+    (trees : Trees) (p : Possible) → MayClaim trees out old p u all → EachSince (length old.calls) (ClaimsAt trees out old p u areas) new.calls
 
 abbrev pub ClaimGives : List Bool → Disks → Uberblock → List (Option Found) → Disks → Type 0
 ClaimGives out old u all new = (trees : Trees) (p : Possible) → MayClaim trees out old p u all → AreAt trees out new u []

@@ -1,19 +1,23 @@
 //! The claim of an uberblock.
 ghost use Rattle.std.specs.Prelude.{◌≡◌, length, OnErr, OnOk};
+ghost use Rattle.model_disk.specs.Joint.{content};
 ghost use Rattle.model_disk.specs.Runs.{HasFailed};
 ghost use Rattle.uberblock_ring.specs.Uberblock.{Fits};
-ghost use Rattle.pool_slots.specs.Opens.{AreOn, ClaimGives, ClaimKeeps};
-ghost use Rattle.pool_slots.specs.Slots.{HaveLabels, InUse, MakesOn};
+ghost use Rattle.pool_slots.specs.Labels.{AreClaimed, AreWhole, AreasFit, AreasOn, AreasStand, InAreaTurn, IsAreaWrite, IsClaimWrite};
+ghost use Rattle.pool_slots.specs.Opens.{AreOn, ClaimGives, ClaimKeeps, SlotsGive, SlotsKeep};
+ghost use Rattle.pool_slots.specs.Slots.{AreSettled, HaveLabels, InUse, MakesOn};
 ghost use Rattle.pool_slots.specs.Writes.{IsSlotWrite, in_use};
 
 use crate::found::Found;
+use crate::label_writes::write_labels;
+use crate::labeled::Area;
 use crate::writes::{flush_all, write_turn};
 use model_disk::{Disk, DiskArray, DiskError};
 use uberblock_ring::Uberblock;
 
 /// Writes an uberblock's slots in one half of the labels of each disk in use, and once they are
 /// flushed on all of them in the other half. The first fault ends it.
-pub(crate) fn claim<D: Disk + Drop>(
+fn claim_slots<D: Disk + Drop>(
     disks: &mut DiskArray<D>,
     out: &[bool],
     all: &[Option<Found>],
@@ -27,11 +31,65 @@ pub(crate) fn claim<D: Disk + Drop>(
     ensures makes { MakesOn (InUse out.now)
         (IsSlotWrite disks.old.starts uberblock.now (in_use out.now)) disks.old disks.new }
     ensures fault { OnErr result (HasFailed disks.old disks.new) }
-    ensures any_moment { ClaimKeeps out.now disks.old uberblock.now all.now disks.new }
-    ensures claimed { OnOk result (ClaimGives out.now disks.old uberblock.now all.now disks.new) }
+    ensures any_moment { SlotsKeep out.now disks.old uberblock.now all.now disks.new }
+    ensures settled { OnOk result (AreSettled out.now disks.new.calls) }
+    ensures claimed { OnOk result (SlotsGive out.now disks.old uberblock.now all.now disks.new) }
 {
     write_turn(disks, all, 0, uberblock)?;
     flush_all(disks, out)?;
     write_turn(disks, all, 1, uberblock)?;
     flush_all(disks, out)
+}
+
+/// Writes the labels whose turn it is, and flushes all disks in use.
+fn settle_labels<D: Disk + Drop>(
+    disks: &mut DiskArray<D>,
+    out: &[bool],
+    areas: &[Option<Area>],
+    first: bool,
+) -> Result<(), DiskError>
+    requires out { length out.now ≡ length disks.old.starts }
+    requires count { length areas.now ≡ length disks.old.starts }
+    requires on { AreasOn out.now areas.now }
+    requires whole { AreWhole areas.now }
+    requires labels { HaveLabels disks.old.starts }
+    ensures makes { MakesOn (InUse out.now)
+        (IsAreaWrite disks.old.starts areas.now (InAreaTurn areas.now first)) disks.old disks.new }
+    ensures stand { OnOk result (AreasStand (content disks.new) disks.old.starts areas.now
+        (InAreaTurn areas.now first)) }
+    ensures settled { OnOk result (AreSettled out.now disks.new.calls) }
+    ensures fault { OnErr result (HasFailed disks.old disks.new) }
+{
+    write_labels(disks, areas, first)?;
+    flush_all(disks, out)
+}
+
+/// Writes the claim label of each disk in use, then the slots, then the other labels, each flushed
+/// before the next begins. The first fault ends it.
+pub(crate) fn claim<D: Disk + Drop>(
+    disks: &mut DiskArray<D>,
+    out: &[bool],
+    all: &[Option<Found>],
+    areas: &[Option<Area>],
+    uberblock: &Uberblock,
+) -> Result<(), DiskError>
+    requires out { length out.now ≡ length disks.old.starts }
+    requires all { length all.now ≡ length disks.old.starts }
+    requires used { AreOn out.now all.now }
+    requires labels { HaveLabels disks.old.starts }
+    requires fits { Fits uberblock.now }
+    requires count { length areas.now ≡ length disks.old.starts }
+    requires on { AreasOn out.now areas.now }
+    requires areas { AreasFit uberblock.now areas.now }
+    ensures makes { MakesOn (InUse out.now)
+        (IsClaimWrite disks.old.starts out.now uberblock.now) disks.old disks.new }
+    ensures fault { OnErr result (HasFailed disks.old disks.new) }
+    ensures any_moment { ClaimKeeps
+        out.now disks.old uberblock.now all.now areas.now disks.new }
+    ensures claimed { OnOk result (ClaimGives out.now disks.old uberblock.now all.now disks.new) }
+    ensures labeled { OnOk result (AreClaimed out.now disks.new uberblock.now) }
+{
+    settle_labels(disks, out, areas, true)?;
+    claim_slots(disks, out, all, uberblock)?;
+    settle_labels(disks, out, areas, false)
 }

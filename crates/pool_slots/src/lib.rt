@@ -1,11 +1,16 @@
 //! The uberblock slots of a pool's disks: commits, claims, and what a stop at any moment leaves.
 #![tactic(auto)]
 
+mod areas;
 mod blocks;
 mod claiming;
 mod committing;
 mod found;
 mod going_back;
+mod label_choice;
+mod label_scan;
+mod label_writes;
+mod labeled;
 pub mod laws;
 mod opening;
 mod refusal;

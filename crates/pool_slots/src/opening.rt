@@ -1,9 +1,11 @@
 //! An open.
 ghost use Rattle.std.specs.Prelude.{◌≡◌, ◌<◌, length, IfErr, IfOk};
+ghost use Rattle.pool_slots.specs.Labels.{AreClaimed};
 ghost use Rattle.pool_slots.specs.OpenRefusals.{OpenRefuses};
-ghost use Rattle.pool_slots.specs.Opens.{OpenGives, OpenKeeps, OpenMakes, OpenTakes};
+ghost use Rattle.pool_slots.specs.Opens.{OpenGives, OpenKeeps, OpenMakes, OpenMarks, OpenTakes};
 ghost use Rattle.pool_slots.specs.Slots.{HaveLabels};
 
+use crate::areas::plan_claim;
 use crate::claiming::claim;
 use crate::going_back::taken_from;
 use crate::refusal::Refusal;
@@ -11,14 +13,20 @@ use crate::scan::{find_all, highest_of};
 use model_disk::{Disk, DiskArray};
 use std::alloc::Global;
 use uberblock_ring::Uberblock;
-use words::LAST_COUNT;
 
 /// Opens the disks in use: claims the highest uberblock on them, or where it goes back (`rewind`, 1 or 2)
-/// the one of the same claim that is so many groups less. The new claim is the next one. On each disk it
-/// is first written to the half of the labels in which the disk's own highest uberblock was not read.
+/// the one of the same claim that is so many groups less. The new claim is one more than the greatest that
+/// a label or the highest uberblock has.
 ///
-/// `NoUberblock` where none is so many groups less, or a disk has none at all; `UsedUp` where the
-/// highest has the last claim that there is.
+/// Four phases are written, each flushed on all disks in use before the next begins: each disk's claim
+/// label, the claimed uberblock in the half of each disk's labels in which its own highest one was not
+/// read, the same in the other half, and the disk's other three labels. The claim label is the lowest one
+/// that shows nothing; else the lowest without which the other three show the same configurations and the
+/// greatest claim; else the lowest of those with the least claim. All four are written alike: as the
+/// latest label of the disk with the configuration of the taken uberblock, with the claim and the group.
+///
+/// `NoUberblock` where none is so many groups less, or a disk has none at all; `NoLabel` where a disk has
+/// no label with the taken uberblock's configuration; `UsedUp` where the last claim that there is was taken.
 pub fn open<D: Disk + Drop>(
     alloc: Global,
     disks: &mut DiskArray<D>,
@@ -32,29 +40,29 @@ pub fn open<D: Disk + Drop>(
     // It is so many groups below one of the possible ones, under a claim above that of the last one, and the disks lead to it alone.
     ensures opened { IfOk result (λ u. OpenGives out.now rewind disks.old u disks.new) }
 
-    // And it is what they show so many groups below the highest that they show, under the next claim.
+    // And it is what they show so many groups below the highest that they show, under the claim after all that they show.
     ensures taken { IfOk result (λ u. OpenTakes out.now rewind disks.old u disks.new) }
 
-    // No disk that is out is called, and all that is written are an uberblock's slots.
+    // Then each of their labels shows its claim.
+    ensures labeled { IfOk result (λ u. AreClaimed out.now disks.new u) }
+
+    // No disk that is out is called, and all that is written are an uberblock's slots, and labels with its claim.
     ensures makes { OpenMakes out.now disks.old disks.new }
 
     // Stopped at any moment, inside a device call too, the disks lead to one of the possible ones, or to a claim of one.
     ensures any_moment { OpenKeeps out.now rewind disks.old disks.new }
 
+    // And until the claim is begun in a slot their labels show no less than before, and then on each disk one shows the claim.
+    ensures labels_any_moment { OpenMarks out.now rewind disks.old disks.new }
+
     // It is refused for want of memory, or where a device call failed, or where no claim is left, or where none is so many groups less:
-    // there is a highest one.
+    // there is a highest one. Or where a disk has no label with the configuration of the one that it takes.
     ensures refused { IfErr result (OpenRefuses out.now rewind disks.old disks.new) }
 {
     let all = find_all(alloc, disks, out)?;
     let highest = highest_of(alloc, &all)?;
-    if highest.claim >= LAST_COUNT {
-        return Err(Refusal::UsedUp);
-    }
     let taken = taken_from(alloc, disks, out, &highest, rewind)?;
-    let claimed = Uberblock {
-        claim: highest.claim + 1,
-        ..taken
-    };
-    claim(disks, out, &all, &claimed)?;
-    Ok(claimed)
+    let plan = plan_claim(alloc, disks, out, &taken, &highest)?;
+    claim(disks, out, &all, &plan.areas, &plan.claimed)?;
+    Ok(plan.claimed)
 }

@@ -14,6 +14,9 @@ pub enum Refusal {
     /// Or none that is so many groups below the highest, under its claim.
     #[error("a disk has no uberblock")]
     NoUberblock,
+    /// With the configuration of the uberblock that is taken.
+    #[error("a disk has no label")]
+    NoLabel,
     /// The pool was opened 2^62 times.
     #[error("no claim is left")]
     UsedUp,
@@ -59,6 +62,20 @@ impl From<uberblock_ring::Refusal> for Refusal {
             uberblock_ring::Refusal::NoMemory => Refusal::NoMemory,
             uberblock_ring::Refusal::DiskFault => Refusal::DiskFault,
             uberblock_ring::Refusal::NoUberblock => Refusal::NoUberblock,
+        }
+    }
+}
+
+impl From<vdev_label::Refusal> for Refusal {
+    ghost use Rattle.pool_slots.specs.OpenRefusals.{of_label};
+
+    ghost from_gives = { λ cause refusal. refusal ≡ of_label cause };
+
+    fn from(cause: vdev_label::Refusal) -> Refusal {
+        match cause {
+            vdev_label::Refusal::NoMemory => Refusal::NoMemory,
+            vdev_label::Refusal::DiskFault => Refusal::DiskFault,
+            vdev_label::Refusal::BadLabel(_) => Refusal::NoLabel,
         }
     }
 }

@@ -2,6 +2,7 @@
 ghost use Rattle.std.specs.Prelude.{ℕ, ◌≡◌, ◌≤◌, ◌<◌, ◌+◌, ◌↔◌, List, [], ◌∷◌, ◌++◌, length, sum, All, IsTrue, OnOk, IfOk, IfSome, IfNone, Contains};
 ghost use Rattle.sha2.specs.Sha256.{sha256};
 ghost use Rattle.raidz_parity.specs.Layout.{Block, columns_of, joined};
+ghost use Rattle.raidz_parity.specs.Stored.{parity_columns};
 ghost use Rattle.raidz_io.specs.Places.{sizes_of};
 ghost use Rattle.raidz_io.specs.Stripe.{IsStripe, stripe_sizes, read_columns, MatchesBut};
 ghost use Rattle.raidz_io.specs.Choices.{IsWhole, IsFound, IsFoundChoice, HasNone, AreFurther};
@@ -10,7 +11,7 @@ use crate::places::sizes;
 use crate::rebuild::{rebuilt, total};
 use arrayvec::ArrayVec;
 use raidz_map::Column;
-use raidz_parity::Columns;
+use raidz_parity::{Columns, Parity};
 use sha2::{Digest, Sha256};
 use std::alloc::{AllocError, Global};
 
@@ -20,6 +21,13 @@ pub(crate) fn has_digest(block: &[u8], digest: &[u8; 32]) -> bool
     ensures bytes { All (λ byte. byte < 256) block.now }
 {
     Sha256::digest(block) == *digest
+}
+
+/// A byte is below 256.
+fn are_bytes(block: &[u8])
+    ensures { All (λ byte. byte < 256) block.now }
+{
+    let _len = block.len();
 }
 
 /// The sizes of all columns, those of data first.
@@ -35,34 +43,35 @@ fn all_sizes(data: &[Column], parity: usize) -> ArrayVec<usize, 32>
     all
 }
 
-/// Appends the parity columns.
-fn add_parity(whole: &mut Vec<u8>, columns: &Columns, parity: usize) -> Result<(), AllocError>
-    requires { parity ≡ length columns.now.parity }
-    ensures { OnOk result (whole.new.items ≡ whole.old.items ++ joined columns.now.parity) }
+/// Appends the parity columns, of which there are so many.
+fn add_parity(whole: &mut Vec<u8>, parity: &Parity, count: usize) -> Result<(), AllocError>
+    requires { count ≡ length (parity_columns parity.now) }
+    ensures { OnOk result (whole.new.items
+        ≡ whole.old.items ++ joined (parity_columns parity.now)) }
 {
-    for row in 0..parity {
-        whole.extend_from_slice(columns.parity(row))?;
+    for row in 0..count {
+        whole.extend_from_slice(parity.row(row))?;
     }
     Ok(())
 }
 
-/// The bytes of a block and of its parity.
+/// The bytes of a block and of its parity. The block is not copied, where it has room for them.
 fn with_parity(
     alloc: Global,
     data: &[Column],
     parity: usize,
-    block: &[u8],
+    block: Vec<u8>,
 ) -> Result<Vec<u8>, AllocError>
     requires stripe { IsStripe parity (sizes_of data.now) }
-    requires size { length block.now ≡ sum (sizes_of data.now) }
+    requires size { length block.items ≡ sum (sizes_of data.now) }
     ensures { IfOk result (λ whole. (columns : Block)
-        × IsWhole parity (sizes_of data.now) block.now columns
+        × IsWhole parity (sizes_of data.now) block.items columns
         × (whole.items ≡ joined (read_columns columns))) }
 {
-    let mut whole = Vec::from_slice(alloc, block)?;
-    let block = Vec::from_slice(alloc, block)?;
+    are_bytes(&block);
     let columns = Columns::generate(alloc, parity, sizes(data), block)?;
-    add_parity(&mut whole, &columns, parity)?;
+    let (rows, mut whole) = columns.into_parts();
+    add_parity(&mut whole, &rows, parity)?;
     Ok(whole)
 }
 
@@ -120,7 +129,6 @@ fn try_choice(
         (HasNone digest.now parity (sizes_of data.now) bytes.now wrong.now)) }
 {
     let block = rebuilt(alloc, data, parity, bytes, wrong)?;
-    let block = block.as_slice();
     let size = total(sizes(data).as_slice());
     if block.len() != size {
         return Ok(None);

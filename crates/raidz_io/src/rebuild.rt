@@ -47,7 +47,16 @@ pub(crate) fn total(sizes: &[usize]) -> usize
     sizes.iter().sum()
 }
 
-/// The columns that were read.
+/// The bytes, with room for so many in all.
+fn with_room(alloc: Global, bytes: &[u8], room: usize) -> Result<Vec<u8>, AllocError>
+    ensures { IfOk result (λ copy. copy.items ≡ bytes.now) }
+{
+    let mut copy = Vec::with_capacity(alloc, room)?;
+    copy.extend_from_slice(bytes)?;
+    Ok(copy)
+}
+
+/// The columns that were read. Their block has room for the parity behind it.
 fn columns_in(
     alloc: Global,
     data: &[Column],
@@ -67,7 +76,7 @@ fn columns_in(
     let size = sizes.as_slice()[0];
     let (block, rest) = bytes.split_at(total(sizes.as_slice()));
     let parity = parity_in(alloc, parity, size, rest)?;
-    let block = Vec::from_slice(alloc, block)?;
+    let block = with_room(alloc, block, bytes.len())?;
     Ok(Columns::new(parity, sizes, block))
 }
 
@@ -110,7 +119,8 @@ pub(crate) fn rebuilt(
     columns
         .rebuild(numbers_of(wrong, data.len(), parity).as_slice())
         .unwrap();
-    Vec::from_slice(alloc, columns.block())
+    let (_, block) = columns.into_parts();
+    Ok(block)
 }
 
 /// The columns that were not read, of so many.

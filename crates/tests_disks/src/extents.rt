@@ -5,7 +5,7 @@ ghost use Rattle.model_disk.specs.Memory.{HaveSize};
 ghost use Rattle.raidz_io.specs.Places.{CanHold, IsOnDisks};
 
 use model_disk::{DiskArray, DiskError, Fault, FaultDisk, MemDisk};
-use raidz_io::{ColumnWrite, DATA_START, Extent, Refusal, Vdev, extent_fits};
+use raidz_io::{ColumnWrite, DATA_START, Extent, Refusal, Vdev, WritesAt, extent_fits};
 use raidz_map::Geometry;
 use sha2::{Digest, Sha256};
 use std::alloc::{AllocError, Global};
@@ -272,7 +272,7 @@ fn read_without_digest(rt: HostRuntime) -> Result<(), Fail> {
 }
 
 fn is_write(write: &ColumnWrite, disk: usize, offset: u64, bytes: &[u8]) -> bool {
-    write.disk == disk && write.offset == offset && write.bytes.as_slice() == bytes
+    write.disk == disk && write.offset == offset && write.bytes() == bytes
 }
 
 // Vdev sectors 3 to 9 of four disks: the parity is at 3 and 7, then the data at 4 and 8, 5 and 9, and 6.
@@ -300,6 +300,26 @@ fn column_writes(alloc: Global, extent: Extent) -> Result<bool, AllocError>
     let block = pattern(alloc)?;
     let writes = extent.column_writes(alloc, &block)?;
     Ok(are_by_column(&writes, &block))
+}
+
+/// The same of writes that share the bytes of others.
+fn shared_writes(alloc: Global, extent: Extent) -> Result<bool, AllocError>
+    requires sectors { extent.sectors ≡ 5 }
+    requires fits { CanHold extent }
+{
+    let block = pattern(alloc)?;
+    let writes = extent.column_writes(alloc, &block)?;
+    let others = WritesAt { extent, writes };
+    let writes = extent.writes_like(alloc, &block, &others)?;
+    Ok(are_by_column(&writes, &block))
+}
+
+#[test]
+fn writes_with_shared_bytes(rt: HostRuntime) -> Result<(), Fail> {
+    let (extent, _disks) = fresh(&rt, rt.alloc(), 4, 1, 0)?;
+    let right = shared_writes(rt.alloc(), extent)?;
+    assert!(rt; right);
+    Ok(())
 }
 
 #[test]

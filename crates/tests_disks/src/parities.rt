@@ -134,7 +134,8 @@ fn from_parities(alloc: Global) -> Result<bool, AllocError> {
     let block = [0, 0, 0].to_vec(alloc)?;
     let mut columns = Columns::new(Parity::Two(first, second), two(2, 1), block);
     let accepted = columns.rebuild(&[2, 3]).is_ok();
-    Ok(accepted && columns.block() == [0x01, 0x02, 0x03].as_slice())
+    let (parity, block) = columns.into_parts();
+    Ok(accepted && block.as_slice() == &[0x01, 0x02, 0x03] && parity.row(1) == &[0x01, 0x04])
 }
 
 #[test]

@@ -11,11 +11,16 @@ use vdev_label::*;
 use words::seal;
 
 /// The list of the first disk of a pool of one vdev with three disks of 8 MiB, spelled by hand.
-const LIST: &[u8; 576] =
+pub(crate) const LIST: &[u8; 576] =
     b"\0\0\0\x09\0\0\0\x05claim\0\0\0\0\0\0\x08\0\0\0\0\0\0\0\x01\0\0\0\x04guid\0\0\0\x08\0\0\0\0\0\0\0e\0\0\0\x04name\0\0\0\x09\0\0\0\x04pool\0\0\0\x09pool_guid\0\0\0\0\0\0\x08\0\0\0\0\0\0\0\x01\0\0\0\x05state\0\0\0\0\0\0\x08\0\0\0\0\0\0\0\0\0\0\0\x08top_guid\0\0\0\x08\0\0\0\0\0\0\0d\0\0\0\x03txg\0\0\0\0\x08\0\0\0\0\0\0\0\x02\0\0\0\x09vdev_tree\0\0\0\0\0\0\x13\0\0\0\x01\0\0\0\x08children\0\0\0\x14\0\0\0\x01\0\0\0\x09\0\0\0\x06ashift\0\0\0\0\0\x08\0\0\0\0\0\0\0\x09\0\0\0\x05asize\0\0\0\0\0\0\x08\0\0\0\0\0\0\x1c\0\0\0\0\x08children\0\0\0\x14\0\0\0\x03\0\0\0\x02\0\0\0\x04guid\0\0\0\x08\0\0\0\0\0\0\0e\0\0\0\x02id\0\0\0\0\0\x08\0\0\0\0\0\0\0\0\0\0\0\x02\0\0\0\x04guid\0\0\0\x08\0\0\0\0\0\0\0f\0\0\0\x02id\0\0\0\0\0\x08\0\0\0\0\0\0\0\x01\0\0\0\x02\0\0\0\x04guid\0\0\0\x08\0\0\0\0\0\0\0g\0\0\0\x02id\0\0\0\0\0\x08\0\0\0\0\0\0\0\x02\0\0\0\x04guid\0\0\0\x08\0\0\0\0\0\0\0d\0\0\0\x02id\0\0\0\0\0\x08\0\0\0\0\0\0\0\0\0\0\0\x0ameta_slabs\0\0\0\0\0\x08\0\0\0\0\0\0\0\x01\0\0\0\x08ms_shift\0\0\0\x08\0\0\0\0\0\0\0\x0c\0\0\0\x07nparity\0\0\0\0\x08\0\0\0\0\0\0\0\x01\0\0\0\x04type\0\0\0\x09\0\0\0\x05raidz\0\0\0\0\0\0\x07version\0\0\0\0\x08\0\0\0\0\0\0\0\x01";
 
 /// An area with this list, one byte of which is another, and its seal.
-fn area_with(alloc: Global, list: &[u8], place: usize, byte: u8) -> Result<Vec<u8>, AllocError>
+pub(crate) fn area_with(
+    alloc: Global,
+    list: &[u8],
+    place: usize,
+    byte: u8,
+) -> Result<Vec<u8>, AllocError>
     ensures { IfOk result (λ area. length area.items ≡ AREA_LEN) }
 {
     let mut area = Vec::new(alloc);

@@ -34,7 +34,7 @@ fn creation(alloc: Global, number: u64, name: u8, size: u64) -> Result<Item, Fai
 }
 
 /// Writes 600 bytes of 7 from byte 500 of a volume on: to the end of its first block, its second, and the front of its third.
-fn write(alloc: Global, number: u64, name: u8) -> Result<Item, Fail> {
+pub(crate) fn write(alloc: Global, number: u64, name: u8) -> Result<Item, Fail> {
     Ok(Item::Write(Write {
         writer: 1,
         number,
@@ -53,7 +53,12 @@ fn group_of(alloc: Global, item: Item) -> Result<Pipeline, Fail> {
 }
 
 /// The root after a group of one item, once it is stored.
-fn next_root(root: &Block, store: &mut Store, alloc: Global, item: Item) -> Result<Block, Fail> {
+pub(crate) fn next_root(
+    root: &Block,
+    store: &mut Store,
+    alloc: Global,
+    item: Item,
+) -> Result<Block, Fail> {
     let group = root.birth.saturating_add(1);
     let pipeline = group_of(alloc, item)?;
     store.begin_plan(group);
@@ -119,7 +124,7 @@ fn each_root_has_the_pool_of_its_group(rt: HostRuntime) -> Result<(), Fail> {
 }
 
 /// A group that makes `v` and `w`, of twice the size, and writes to `x`.
-fn group_of_three(alloc: Global) -> Result<Pipeline, Fail> {
+pub(crate) fn group_of_three(alloc: Global) -> Result<Pipeline, Fail> {
     let mut pipeline = Pipeline::new(alloc, 3);
     pipeline.hold(1)?;
     pipeline.accept(creation(alloc, 1, b'v', SIZE)?)?;

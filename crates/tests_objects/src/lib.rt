@@ -13,6 +13,8 @@ mod nodes;
 #[cfg(test)]
 mod objects;
 #[cfg(test)]
+mod reaches;
+#[cfg(test)]
 mod roots;
 #[cfg(test)]
 mod rows;

@@ -3,11 +3,12 @@ ghost use Rattle.std.specs.Prelude.{IfOk, ◌<◌, ◌≤◌};
 ghost use Rattle.volume.specs.Volume.{size_of, block_size_of, HasShape};
 
 use crate::stores::store_plan;
-use crate::volumes::{name, write_of};
+use crate::volumes::{accepted, name, write_of};
 use block_store::{BlockStore, VdevConfig};
 use model_disk::{Fault, FaultDisk, MemDisk};
+use pool_model::Write;
 use raidz_map::Geometry;
-use std::alloc::Global;
+use std::alloc::{AllocError, Global};
 use std::test::Fail;
 use volume::{GroupWrites, Refusal, VolumeSet};
 
@@ -67,6 +68,13 @@ fn made(store: &mut LossyStore, alloc: Global) -> Result<VolumeSet, Refusal>
     Ok(volume)
 }
 
+/// A write of so many bytes of one value at the front of the volume.
+fn front(alloc: Global, byte: u8, len: usize) -> Result<Vec<Write>, AllocError> {
+    let mut writes = Vec::new(alloc);
+    writes.push(write_of(alloc, 0, byte, len)?)?;
+    Ok(writes)
+}
+
 /// The volume after a write of so many bytes of one value at its front, once it is stored. The volume before was stored in
 /// the second group, or earlier.
 fn with_front(
@@ -82,10 +90,10 @@ fn with_front(
         (block_size_of volume.now)) }
 {
     let name = name(alloc)?;
-    let write = write_of(alloc, 0, byte, len)?;
+    let items = accepted(alloc, front(alloc, byte, len)?)?;
     let changes = GroupWrites {
         name: &name,
-        writes: &[write],
+        items: items.open_items(),
     };
     store.begin_plan(group);
     let done = volume.written(store, alloc, &changes, 2, group)?;

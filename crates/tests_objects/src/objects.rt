@@ -1,4 +1,5 @@
 //! Objects of a set.
+ghost use Rattle.std.specs.List.Sorted.{IsStrictlyIncreasing};
 ghost use Rattle.std.specs.Prelude.{◌≡◌, ◌*◌, ◌^◌, ◌<◌, ◌≤◌, IfOk};
 ghost use Rattle.dnode.specs.ObjectSet.{FitsObjectSet};
 ghost use Rattle.objset.specs.Changes.{AreGoodWrites, AreWhole, IsGoodChange};
@@ -7,7 +8,7 @@ use crate::stores::{Store, new_store, store_plan};
 use block_pointer::BlockPtr;
 use dnode::{ObjectNode, ObjectSet, ObjectSetKind};
 use objset::{
-    BlockWrite, Change, ObjectChange, Refusal, SetCopies, SetRewrite, change, get, walk,
+    BlockWrite, Change, ObjectChange, Refusal, SetCopies, SetRewrite, change, get, get_many, walk,
     walk_within,
 };
 use std::alloc::{AllocError, Global};
@@ -309,6 +310,60 @@ fn an_object_becomes_shorter(rt: HostRuntime) -> Result<(), Fail> {
     assert_eq!(rt; bytes, [9, HOLE, 8, 5]);
     // Its root and the block.
     assert_eq!(rt; blocks, 2);
+    Ok(())
+}
+
+/// The object 3 with two blocks, below two indirect blocks.
+fn two_blocks(store: &mut Store, alloc: Global) -> Result<SetRewrite, Refusal>
+    ensures { IfOk result (λ done. FitsObjectSet done.set) }
+{
+    let old = two_objects(store, alloc)?.set;
+    let case = Case {
+        number: 3,
+        is_new: false,
+        id: 2,
+        byte: 9,
+        sectors: 1,
+    };
+    let first = change_of(alloc, case)?;
+    let second = ObjectChange {
+        number: 40,
+        change: Change::Free,
+    };
+    change_both(&old, store, alloc, first, second, 2)
+}
+
+/// Two blocks below one indirect block, and two below another.
+fn four_ids() -> [u64; 4]
+    ensures { IsStrictlyIncreasing result }
+{
+    [0, 2, 200, 201]
+}
+
+/// Bytes of four blocks of an object that are read at once.
+fn several(store: &mut Store, alloc: Global) -> Result<[usize; 4], Refusal> {
+    let set = two_blocks(store, alloc)?.set;
+    let found = get_many(&set, store, alloc, 3, &four_ids(), 2, &[])?;
+    Ok(match found.as_slice() {
+        [a, b, c, d] => [
+            byte_of(a.as_deref(), 1),
+            byte_of(b.as_deref(), 1),
+            byte_of(c.as_deref(), 1),
+            byte_of(d.as_deref(), 1),
+        ],
+        _ => [OTHER; 4],
+    })
+}
+
+fn several_in_memory(alloc: Global) -> Result<[usize; 4], Fail> {
+    let mut store = new_store(alloc)?;
+    Ok(several(&mut store, alloc)?)
+}
+
+#[test]
+fn blocks_are_read_at_once(rt: HostRuntime) -> Result<(), Fail> {
+    let bytes = several_in_memory(rt.alloc())?;
+    assert_eq!(rt; bytes, [HOLE, 9, 5, HOLE]);
     Ok(())
 }
 

@@ -17,7 +17,7 @@ use txg_pipeline::Pipeline;
 use vdev_label::Config;
 
 /// A meta object set with no object.
-const EMPTY: ObjectSet = ObjectSet {
+pub(crate) const EMPTY: ObjectSet = ObjectSet {
     dnodes: ObjectNode {
         object_type: 10,
         data_sectors: 32,

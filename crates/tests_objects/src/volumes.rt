@@ -3,9 +3,10 @@ ghost use Rattle.std.specs.Prelude.{◌≡◌, ◌+◌, ◌≤◌, IfOk};
 ghost use Rattle.volume.specs.Volume.{size_of, block_size_of, HasShape};
 
 use crate::stores::{Store, new_store, store_plan};
-use pool_model::{Bytes, Name, Write};
+use pool_model::{Bytes, Item, Name, Write};
 use std::alloc::{AllocError, Global};
 use std::test::Fail;
+use txg_pipeline::Pipeline;
 use volume::{GroupWrites, Refusal, Rewritten, VolumeSet};
 
 /// In bytes: 300 blocks.
@@ -44,6 +45,22 @@ fn two_writes(alloc: Global) -> Result<Vec<Write>, AllocError> {
     Ok(writes)
 }
 
+/// A group that has accepted the writes, each with the next number.
+pub(crate) fn accepted(alloc: Global, writes: Vec<Write>) -> Result<Pipeline, Refusal> {
+    let mut pipeline = Pipeline::new(alloc, 3);
+    let mut is_taken = pipeline.hold(1).is_ok();
+    for write in writes {
+        let number = pipeline.expected(1);
+        let item = Item::Write(Write { number, ..write });
+        is_taken = pipeline.accept(item).is_ok() && is_taken;
+    }
+    if is_taken {
+        Ok(pipeline)
+    } else {
+        Err(Refusal::NoMemory)
+    }
+}
+
 /// A volume of zeros, once it is stored.
 fn made(store: &mut Store, alloc: Global) -> Result<VolumeSet, Refusal>
     ensures { IfOk result (λ volume. HasShape volume 153600 512) }
@@ -60,10 +77,10 @@ fn rewritten(volume: &VolumeSet, store: &mut Store, alloc: Global) -> Result<Rew
         (block_size_of volume.now)) }
 {
     let name = name(alloc)?;
-    let writes = two_writes(alloc)?;
+    let group = accepted(alloc, two_writes(alloc)?)?;
     let changes = GroupWrites {
         name: &name,
-        writes: &writes,
+        items: group.open_items(),
     };
     store.begin_plan(2);
     let blocks = volume.changed_blocks(store, alloc, 1, &changes)?;
@@ -121,10 +138,10 @@ fn a_volume_reads_as_it_was_written(rt: HostRuntime) -> Result<(), Fail> {
 fn is_written_at_once(store: &mut Store, alloc: Global) -> Result<bool, Refusal> {
     let before = made(store, alloc)?;
     let name = name(alloc)?;
-    let writes = two_writes(alloc)?;
+    let group = accepted(alloc, two_writes(alloc)?)?;
     let changes = GroupWrites {
         name: &name,
-        writes: &writes,
+        items: group.open_items(),
     };
     store.begin_plan(2);
     let done = before.written(store, alloc, &changes, 1, 2)?;

@@ -11,6 +11,8 @@ mod many_blocks;
 #[cfg(test)]
 mod parts;
 #[cfg(test)]
+mod places;
+#[cfg(test)]
 mod playing;
 #[cfg(test)]
 mod schedules;

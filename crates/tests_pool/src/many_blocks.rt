@@ -16,13 +16,15 @@ const BLOCK_BYTES: u64 = 512;
 /// and one to these 19.
 const POINTERS: u64 = 128;
 
-/// Which blocks a group writes: the group, the first block, how many there are from it on, and
-/// below how many indirect blocks. Group 5 writes the first and the last two below each indirect
-/// block; group 6 over such a border, and group 7 there too, into a hole, and up to the end. Not
-/// each block is written, since a plan reads the whole way to each block that it changes.
-const WRITTEN: [(u64, u64, u64, u64); 6] = [
-    (5, 0, 2, 19),
-    (5, 126, 2, 19),
+/// Group 5 writes the whole volume, by two writes: the bytes up to here, and those behind.
+const LONGEST_WRITE: u64 = 0x100000;
+
+/// Which blocks a later group writes, each by a write of its own: the group, the first block, how
+/// many there are from it on, and below how many indirect blocks. Group 6 writes over the border
+/// of each two indirect blocks and more at one, group 7 there too, between borders, and up to the
+/// end.
+const WRITTEN: [(u64, u64, u64, u64); 5] = [
+    (6, 127, 2, 18),
     (6, 1021, 5, 1),
     (7, 1023, 2, 1),
     (7, 60, 3, 1),
@@ -30,7 +32,8 @@ const WRITTEN: [(u64, u64, u64, u64); 6] = [
 ];
 
 /// The bytes that are read, by the first and how many there are: over the borders at blocks 1024,
-/// 128 and 2048, in the hole and behind it, and up to the end.
+/// 128 and 2048, of which the last begins what the second write wrote, between borders, and up to
+/// the end.
 const RANGES: [(u64, u64); 5] = [
     (1022 * BLOCK_BYTES + 100, 1000),
     (127 * BLOCK_BYTES + 300, 600),
@@ -48,11 +51,11 @@ fn value(group: u64, block: u64) -> u8 {
     (block % 241) as u8 + (group % 15) as u8
 }
 
-/// The byte that the volume has at a place under a group: that of the last group up to it that
-/// writes there.
+/// The byte that the volume has at a place under a group from 5 on: that of the last group up to
+/// it that writes there.
 fn byte_at(group: u64, at: u64) -> u8 {
     let block = at / BLOCK_BYTES;
-    let mut byte = 0;
+    let mut byte = if at < LONGEST_WRITE { 0x51 } else { 0x52 };
     for (writing, first, blocks, count) in WRITTEN {
         let behind = block.saturating_sub(first);
         let is_written = first <= block && behind % POINTERS < blocks && behind / POINTERS < count;
@@ -71,9 +74,9 @@ fn write_line(alloc: Global, number: u64, group: u64, block: u64) -> Result<Stri
     )
 }
 
-/// Adds the lines that write the blocks of a group. Of those of all groups the first has number 2.
+/// Adds the lines that write single blocks. Of those of all groups the first has number 4.
 fn add_writes(alloc: Global, group: u64, lines: &mut String) -> Result<(), AllocError> {
-    let mut number = 2u64;
+    let mut number = 4u64;
     for (writing, first, blocks, count) in WRITTEN {
         for below in 0..count {
             let start = first.saturating_add(below.saturating_mul(POINTERS));
@@ -95,6 +98,9 @@ fn lines(alloc: Global, group: u64) -> Result<String, AllocError> {
     lines.push_str("hold 1\n")?;
     if group == 4 {
         lines.push_str("create 1 1 v 1245184 512\n")?;
+    }
+    if group == 5 {
+        lines.push_str("write 1 2 v 0 1048576 51\nwrite 1 3 v 1048576 196608 52\n")?;
     }
     add_writes(alloc, group, &mut lines)?;
     lines.push_str("release 1\nsync\n")?;

@@ -1,3 +1,4 @@
 pub mod Items
+pub mod Positions
 pub mod Carries
 pub mod Calls

@@ -6,9 +6,11 @@
 mod calls;
 mod pending;
 mod pipeline;
+mod places;
 mod refusal;
 
 pub use calls::{Answer, Call, run};
 pub use pending::Pending;
 pub use pipeline::Pipeline;
+pub use places::PIECE_BYTES;
 pub use refusal::Refusal;

@@ -180,7 +180,8 @@ impl Pipeline {
     }
 
     /// A write under a hold of the open or the quiescing group, or an action under one of the open group, joins the
-    /// items of that group. It costs the same however many items there are.
+    /// items of that group. It costs the same however many items there are; a long write costs a look-up for each of its
+    /// pieces.
     pub fn accept(&mut self, item: Item) -> Result<u64, Refusal>
         ensures accepted { IfOk result (λ group. Does self.old (step_of_item item)
             (Receipt group) self.new) }
@@ -296,7 +297,13 @@ impl Pipeline {
         if self.next.try_reserve(1).is_err() {
             return false;
         }
-        if !add_to(&mut self.accepting, &mut self.waited, is_open, item) {
+        if !add_to(
+            self.alloc,
+            &mut self.accepting,
+            &mut self.waited,
+            is_open,
+            item,
+        ) {
             return false;
         }
         self.next.insert(writer, number + 1).is_ok()
@@ -353,15 +360,21 @@ fn is_action(item: &Item) -> bool
 }
 
 // The item joins those of the open group or of the waiting one, where memory suffices.
-fn add_to(accepting: &mut Pending, waited: &mut Pending, is_open: bool, item: Item) -> bool
+fn add_to(
+    alloc: Global,
+    accepting: &mut Pending,
+    waited: &mut Pending,
+    is_open: bool,
+    item: Item,
+) -> bool
     ensures accepting { accepting.new ≡
         (if result && is_open then added accepting.old item else accepting.old) }
     ensures waited { waited.new ≡
         (if result && not is_open then added waited.old item else waited.old) }
 {
     if is_open {
-        accepting.add(item).is_ok()
+        accepting.add(alloc, item).is_ok()
     } else {
-        waited.add(item).is_ok()
+        waited.add(alloc, item).is_ok()
     }
 }

@@ -5,14 +5,14 @@ mod Areas
 mod Children
 mod Configs
 mod Found
-mod Fronts
+pub mod Fronts
 mod GuidSums
 mod Labels
 mod Lookups
 mod Numbered
 mod ReadLabels
-mod Rooms
+pub mod Rooms
 mod Sizes
-mod Unique
+pub mod Unique
 mod Vdevs
 mod WriteLabels

@@ -3,7 +3,7 @@ use Rattle.std.proofs.Common.{◌≡◌, ◌⊎◌, ◌↔◌, ⊎_elim, inl, in
 use Rattle.std.specs.Prelude.{Any, Contains, IsPermutation}
 use Rattle.std.specs.List.{dedup}
 use Rattle.std.proofs.lemmas.Bool.{cases_lt}
-use Rattle.std.proofs.lemmas.List.{take_more}
+use Rattle.std.proofs.lemmas.List.{get_or_default}
 use Rattle.std.proofs.lemmas.List.Elements.{Contains-append_left, Contains-push, Contains-push_cases}
 use Rattle.std.proofs.lemmas.List.Kept.{Contains-dedup_nat, Contains-from_dedup}
 use Rattle.std.proofs.lemmas.List.Quantifiers.{Any-push}
@@ -11,6 +11,8 @@ use Rattle.std.proofs.lemmas.List.Sorted.{Contains-permutation, IsPermutation-sy
 use Rattle.pool_model.specs.Names.{same}
 use Rattle.pool_model.proofs.Places.{same_is, is_same}
 use Rattle.pool_model.specs.declared.item.Write.{Write}
+use Rattle.txg_pipeline.specs.Positions.{AreOf}
+use Rattle.volume_rules.proofs.InPieces.{is_listed}
 use Rattle.volume.specs.declared.volume.VolumeSet.{VolumeSet}
 use Rattle.volume.specs.Writing.{Reaches, IsChanged}
 use Rattle.volume.proofs.Dividing.{le_div, div_le, from_le_div, from_div_le}
@@ -58,43 +60,57 @@ Any-push_cases P xs y any =
 Any-append_left : {X : Type 0} (P : X → Type 0) (xs : List X) (y : X) → Any P xs → Any P (xs ++ y ∷ [])
 Any-append_left P xs y any = let there = Contains-append_left xs (y ∷ []) any.1 (any.0, any.2, any.3) in (there.0, any.1, there.1, there.2, any.4)
 
--- one write more
-pub changed_more : (volume : VolumeSet) (name : List ℕ) (writes : List Write) (i : ℕ) (write : Write) (id : ℕ) → i < length writes → write ≡ get_or writes i write
-    → IsChanged volume name (take (i + 1) writes) id
-    ↔ (IsChanged volume name (take i writes) id ⊎ ((write.volume ≡ name) × Reaches volume.size volume.block_size write id))
-changed_more volume name writes i write id lt is = (λ any. Any-push_cases P (take i writes) write (subst (Any P) more any), λ either. subst (Any P) (sym more) (there either))
-  where
-    P : Write → Type 0
-    P w = (w.volume ≡ name) × Reaches volume.size volume.block_size w id
+-- one of the writes at the first places reaches the block
+abbrev pub IsListedBefore : VolumeSet → List Write → List ℕ → ℕ → ℕ → Type 0
+IsListedBefore volume writes places i id =
+    (k : ℕ) × (write : Write) × (k < i) × (k < length places) × (get_or writes (get_or places k 0) write ≡ write) × Reaches volume.size volume.block_size write id
 
-    more : take (i + 1) writes ≡ take i writes ++ write ∷ []
-    more = take_more writes i write lt ∙ ap (λ w. take i writes ++ w ∷ []) (sym is)
-
-    there : (Any P (take i writes) ⊎ P write) → Any P (take i writes ++ write ∷ [])
-    there (inl any) = Any-append_left P (take i writes) write any
-    there (inr here) = Any-push P (take i writes) write here
-
--- a write to the volume adds the ids that it reaches, and another none
-pub reached_more : (volume : VolumeSet) (name : List ℕ) (writes : List Write) (i : ℕ) (write : Write) (ids new : List ℕ) → i < length writes → write ≡ get_or writes i write
-    → same write.volume name ≡ true
+-- one place more
+pub listed_more : (volume : VolumeSet) (writes : List Write) (places : List ℕ) (i : ℕ) (write : Write) (ids new : List ℕ)
+    → i < length places → get_or places i 0 < length writes → get_or writes (get_or places i 0) write ≡ write
     → ((id : ℕ) → Contains new id ↔ (Contains ids id ⊎ Reaches volume.size volume.block_size write id))
-    → ((id : ℕ) → Contains ids id ↔ IsChanged volume name (take i writes) id)
-    → (id : ℕ) → Contains new id ↔ IsChanged volume name (take (i + 1) writes) id
-reached_more volume name writes i write ids new lt is named adds so_far id =
-    let more = changed_more volume name writes i write id lt is in (
-      λ held. more.1 (⊎_elim (λ old. inl ((so_far id).0 old)) (λ reaches. inr (same_is write.volume name named, reaches)) ((adds id).0 held)),
-      λ changed. (adds id).1 (⊎_elim (λ old. inl ((so_far id).1 old)) (λ (called, reaches). inr reaches) (more.0 changed)),
-    )
+    → ((id : ℕ) → Contains ids id ↔ IsListedBefore volume writes places i id)
+    → (id : ℕ) → Contains new id ↔ IsListedBefore volume writes places (i + 1) id
+listed_more volume writes places i write ids new here within is adds so_far id = (
+  λ held. ⊎_elim
+      (λ old. let was = (so_far id).0 old in (was.0, was.1, (let lt = was.2 in omega arith), was.3, was.4, was.5))
+      (λ reaches. (i, write, omega arith, here, is, reaches))
+      ((adds id).0 held),
+  λ (k, other, lt, there, at, reaches). (adds id).1 (⊎_elim
+      (λ earlier. inl ((so_far id).1 (k, other, earlier, there, at, reaches)))
+      (λ last.
+      let same : k ≡ i = omega (arith, lt, last) in
+      let found : get_or writes (get_or places i 0) other ≡ other = subst (λ (n : ℕ). get_or writes (get_or places n 0) other ≡ other) same at in
+      let one : other ≡ write = sym found ∙ get_or_default writes (get_or places i 0) other write within ∙ is in
+      inr (subst (λ (w : Write). Reaches volume.size volume.block_size w id) one reaches))
+      (cases_lt k i)),
+)
 
-pub other_more : (volume : VolumeSet) (name : List ℕ) (writes : List Write) (i : ℕ) (write : Write) (ids : List ℕ) → i < length writes → write ≡ get_or writes i write
-    → same write.volume name ≡ false
-    → ((id : ℕ) → Contains ids id ↔ IsChanged volume name (take i writes) id)
-    → (id : ℕ) → Contains ids id ↔ IsChanged volume name (take (i + 1) writes) id
-other_more volume name writes i write ids lt is other so_far id =
-    let more = changed_more volume name writes i write id lt is in (
-      λ held. more.1 (inl ((so_far id).0 held)),
-      λ changed. (so_far id).1 (⊎_elim (λ old. old) (λ (called, reaches). absurd (true≢false (sym (is_same write.volume name called) ∙ other))) (more.0 changed)),
-    )
+-- the blocks that the writes at their places reach are those that are changed
+pub listed_all : (volume : VolumeSet) (name : List ℕ) (writes : List Write) (places : List ℕ) (i : ℕ) → length places ≤ i → AreOf name writes places
+    → (id : ℕ) → IsListedBefore volume writes places i id ↔ IsChanged volume name writes id
+listed_all volume name writes places i last are id = (
+  λ (k, write, lt, there, is, reaches).
+      let p : ℕ = get_or places k 0 in
+      let at = (are.exactly p).0 (is_listed places k p there refl) in
+      let one : at.0 ≡ write = sym at.2 ∙ get_or_default writes p at.0 write at.1 ∙ is in (
+        p,
+        write,
+        at.1,
+        is,
+        (subst (λ (w : Write). w.volume ≡ name) one at.3, reaches),
+      ),
+  λ any.
+      let held = (are.exactly any.0).1 (any.1, any.2, any.3, any.4.0) in
+      let here : get_or places held.0 0 ≡ any.0 = get_or_default places held.0 0 any.0 held.1 ∙ held.2 in (
+        held.0,
+        any.1,
+        (let within = held.1 in omega (arith, within, last)),
+        held.1,
+        subst (λ (n : ℕ). get_or writes n any.1 ≡ any.1) (sym here) any.3,
+        any.4.1,
+      ),
+)
 
 -- the ids in order, each once
 pub sorted_once : (ids sorted once : List ℕ) (P : ℕ → Type 0) → IsPermutation ids sorted → once ≡ dedup nat_eq sorted → ((id : ℕ) → Contains ids id ↔ P id) → (id : ℕ) → Contains once id ↔ P id

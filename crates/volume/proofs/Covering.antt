@@ -1,5 +1,5 @@
 -- Blocks that a write covers: the bytes before make no difference.
-use Rattle.std.proofs.Common.{◌≡◌, ◌⊎◌, ⊎_elim, inl, inr, ℕ, zero, suc, ◌+◌, ◌-◌, ◌*◌, ◌/◌, ◌<◌, ◌≤◌, Bool, true, false, true≢false, nat_le, List, [], ◌∷◌, ◌++◌, take, drop, length, get_or, replicate, refl, sym, ap, ◌∙◌, subst, arith}
+use Rattle.std.proofs.Common.{◌≡◌, ◌↔◌, ◌⊎◌, ⊎_elim, inl, inr, ℕ, zero, suc, ◌+◌, ◌-◌, ◌*◌, ◌/◌, ◌<◌, ◌≤◌, Bool, true, false, true≢false, nat_le, List, [], ◌∷◌, ◌++◌, take, drop, length, get_or, replicate, refl, sym, ap, ◌∙◌, subst, arith}
 use Rattle.std.specs.Prelude.{Any, cond}
 use Rattle.std.proofs.lemmas.Bool.{cases_lt}
 use Rattle.std.proofs.lemmas.Bool.Decides.{nat_tests}
@@ -11,6 +11,7 @@ use Rattle.pool_model.specs.Names.{same, stored}
 use Rattle.pool_model.specs.Pools.{volume_after}
 use Rattle.pool_model.proofs.Places.{is_same, name_after}
 use Rattle.volume_rules.specs.declared.shape.VolumeShape.{VolumeShape}
+use Rattle.volume_rules.specs.Covering.{AreCovering, CoversRange}
 use Rattle.volume_rules.specs.Overlay.{after_writes}
 use Rattle.volume_rules.proofs.Covering.{Sets, after_all}
 use Rattle.volume_rules.proofs.Overlays.{length_after_writes}
@@ -58,13 +59,29 @@ laid_over_zeros volume plain name writes id zeros new below named size covered a
     blank : PlainVolume
     blank = record plain { bytes = replicate volume.size 0 }
 
--- ---- the search for a write that covers
-
--- none of the writes so far, and not this one
-pub none_more : {X : Type 0} (P : X → Type 0) (xs : List X) (i : ℕ) (x : X) → i < length xs → x ≡ get_or xs i x → ¬ Any P (take i xs) → ¬ P x → ¬ Any P (take (i + 1) xs)
-none_more P xs i x lt is none apart any =
-    ⊎_elim none apart (Any-push_cases P (take i xs) x (subst (Any P) (take_more xs i x lt ∙ ap (λ y. take i xs ++ y ∷ []) (sym is)) any))
-
--- the write at an index
-pub found_at : {X : Type 0} (P : X → Type 0) (xs : List X) (i : ℕ) (x : X) → i < length xs → x ≡ get_or xs i x → P x → Any P xs
-found_at P xs i x lt is here = (i, x, lt, sym is, here)
+-- a write that has every byte of the block's range covers the block
+pub covering_is : (volume : VolumeSet) (name : List ℕ) (writes : List Write) (id : ℕ) → 0 < volume.block_size
+    → AreCovering name volume.size (id * volume.block_size) volume.block_size writes ↔ IsCovered volume name writes id
+covering_is volume name writes id wide = (
+  λ any.
+      let write : Write = any.1 in
+      let covers : CoversRange volume.size (id * volume.block_size) volume.block_size write = any.4.1 in (
+        any.0,
+        write,
+        any.2,
+        any.3,
+        (
+          any.4.0,
+          record {
+            within = covers.within;
+            some = let from = covers.begins in let to = covers.ends in omega arith;
+            begins = covers.begins;
+            ends = covers.ends;
+          },
+        ),
+      ),
+  λ any.
+      let write : Write = any.1 in
+      let covers : Covers volume.size volume.block_size write id = any.4.1 in
+      (any.0, write, any.2, any.3, (any.4.0, record { within = covers.within; begins = covers.begins; ends = covers.ends })),
+)

@@ -94,7 +94,7 @@ IsCreation block_size change =
 pub record ArePutBy (volume : VolumeSet) (changes : GroupWrites) (blocks : List BlockWrite)
     : Type 0 where
   pub are : AreBlocksOf volume blocks
-  pub which : (id : ℕ) → HasId blocks id ↔ IsChanged volume changes.name.now changes.writes.now id
+  pub which : (id : ℕ) → HasId blocks id ↔ IsChanged volume changes.name.now changes.items.now.writes id
 
 -- the blocks that the writes change were read, and then they were not placed
 pub record IsChangeUnplaced (old new : Store) (volume : VolumeSet) (birth : ℕ)
@@ -112,5 +112,5 @@ abbrev pub IsWritingRefused :
 IsWritingRefused old new volume birth_before birth changes refusal =
     (refusal ≡ NoMemory)
     ⊎ (IsReadRefused old new [] volume birth_before
-    (NeedsOldBytes volume changes.name.now changes.writes.now) refusal
+    (NeedsOldBytes volume changes.name.now changes.items.now.writes) refusal
     ⊎ IsChangeUnplaced old new volume birth changes refusal)

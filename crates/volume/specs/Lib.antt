@@ -3,4 +3,5 @@ pub mod Laws
 pub mod Placing
 pub mod Reading
 pub mod Volume
+pub mod Walking
 pub mod Writing

@@ -9,6 +9,7 @@ mod opening;
 mod placing;
 mod reading;
 mod volume;
+mod walking;
 mod writing;
 
 pub use block_store::Refusal;

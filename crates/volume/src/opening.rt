@@ -69,7 +69,7 @@ impl VolumeSet {
 }
 
 /// Whether the set is one of a volume.
-fn is_of_volume(set: &ObjectSet) -> bool
+pub(crate) fn is_of_volume(set: &ObjectSet) -> bool
     ensures { IsTrue result ↔ (set.now.kind ≡ kinds.Volume) }
 {
     match set.kind {

@@ -117,7 +117,7 @@ impl VolumeSet {
         requires born { 0 < birth }
         ensures steps { OnlyReadsAndPlans store.old store.new [] }
         ensures idle { ((id : ℕ)
-            → ¬ IsChanged self.now changes.now.name.now changes.now.writes.now id)
+            → ¬ IsChanged self.now changes.now.name.now changes.now.items.now.writes id)
             → store.new ≡ store.old }
         ensures shape { IfOk result (λ done.
             HasShape done.volume (size_of self.now) (block_size_of self.now)) }
@@ -127,7 +127,7 @@ impl VolumeSet {
             → AnswersAreTrue store.old store.new
             → (later : Contents) × Plans store.new stored later × Extends planned later
             × Spells later birth done.volume
-            (after_writes volume changes.now.writes.now).bytes) }
+            (after_writes volume changes.now.items.now.writes).bytes) }
         ensures no_room { IfErr result (λ refusal. refusal ≡ Refusal.NoSpace
             → LacksRoom store.old store.new) }
         ensures places { OnOk result ((blocks : Vec BlockWrite Global)

@@ -21,13 +21,14 @@ use dnode_tree::BlockWrite;
 use model_disk::Disk;
 use pool_model::{Name, Write};
 use std::alloc::{AllocError, Global};
-use volume_rules::lay_over;
+use txg_pipeline::Pending;
+use volume_rules::lay_pending;
 
 /// What a group writes, and the name of a volume. Writes to other volumes don't count.
 #[derive(Clone, Copy, Debug)]
 pub struct GroupWrites<'a> {
     pub name: &'a Name,
-    pub writes: &'a [Write],
+    pub items: &'a Pending,
 }
 
 impl VolumeSet {
@@ -43,29 +44,29 @@ impl VolumeSet {
     ) -> Result<Vec<BlockWrite>, Refusal>
         ensures reads { OnlyReadsBlocks store.old store.new [] }
         ensures idle { ((id : ℕ)
-            → ¬ IsChanged self.now changes.now.name.now changes.now.writes.now id)
+            → ¬ IsChanged self.now changes.now.name.now changes.now.items.now.writes id)
             → store.new ≡ store.old }
         ensures blocks { IfOk result (λ blocks. AreBlocksOf self.now blocks.items) }
         ensures changed { IfOk result (λ blocks. (id : ℕ) → HasId blocks.items id
-            ↔ IsChanged self.now changes.now.name.now changes.now.writes.now id) }
+            ↔ IsChanged self.now changes.now.name.now changes.now.items.now.writes id) }
 
         // They turn the volume's bytes into those after the writes.
         ensures value { IfOk result (λ blocks. (stored : Contents) (volume : PlainVolume)
             → Holds store.old stored → volume.name ≡ changes.now.name.now
             → Spells stored birth self.now volume.bytes → AnswersAreTrue store.old store.new
             → IsArrayWith volume.bytes (block_size_of self.now) blocks.items
-            (after_writes volume changes.now.writes.now).bytes) }
+            (after_writes volume changes.now.items.now.writes).bytes) }
 
         // Whatever the volume is: what was read, and on a refusal its cause. The set is judged
         // where any block is changed, and a block that one of the writes covers refuses nothing.
         ensures judged { IfOk result (λ blocks. blocks.items ≢ []
             → (set : ObjectSet) × IsVolumeFound store.old.spaces self.now birth set) }
         ensures found { IfOk result (λ blocks. All (λ block.
-            ¬ IsCovered self.now changes.now.name.now changes.now.writes.now block.id
+            ¬ IsCovered self.now changes.now.name.now changes.now.items.now.writes block.id
             → IsWayRead store.old.spaces self.now birth block.id) blocks.items) }
         ensures refused { IfErr result (λ refusal. (refusal ≡ Refusal.NoMemory)
             ⊎ IsReadRefused store.old store.new [] self.now birth
-            (NeedsOldBytes self.now changes.now.name.now changes.now.writes.now) refusal) }
+            (NeedsOldBytes self.now changes.now.name.now changes.now.items.now.writes) refusal) }
         ensures cause { IfErr result (λ refusal. refusal ≢ Refusal.NoSpace) }
 
         // And they are read, over disks that answer truly, unless too many disks miss of a block.
@@ -73,7 +74,7 @@ impl VolumeSet {
             → Holds store.old stored → Spells stored birth self.now array
             → AnswersAreTrue store.old store.new → IsForLoss refusal) }
     {
-        let ids = self.changed_ids(alloc, changes.name, changes.writes)?;
+        let ids = self.changed_ids(alloc, changes.name, changes.items)?;
         if ids.is_empty() {
             return Ok(Vec::new(alloc));
         }
@@ -102,17 +103,17 @@ impl VolumeSet {
             → HasData stored (block_of self.now).birth set.now (size_of self.now)
             (block_size_of self.now) volume.bytes → AnswersAreTrue store.old store.new
             → All (λ block. block.bytes.items ≡ part
-            (after_writes volume changes.now.writes.now).bytes
+            (after_writes volume changes.now.items.now.writes).bytes
             (block_size_of self.now) block.id) blocks.items) }
         ensures found { IfOk result (λ blocks. All (λ block.
-            ¬ IsCovered self.now changes.now.name.now changes.now.writes.now block.id
+            ¬ IsCovered self.now changes.now.name.now changes.now.items.now.writes block.id
             → (found : Option (List ℕ))
             × IsFound store.old.spaces self.now set.now block.id found) blocks.items) }
-        ensures unread { All (IsCovered self.now changes.now.name.now changes.now.writes.now) ids.now
+        ensures unread { All (IsCovered self.now changes.now.name.now changes.now.items.now.writes) ids.now
             → store.new ≡ store.old }
         ensures refused { IfErr result (λ refusal. (refusal ≡ Refusal.NoMemory)
             ⊎ IsUnread store.old store.new [] self.now set.now (λ id. Contains ids.now id
-            × ¬ IsCovered self.now changes.now.name.now changes.now.writes.now id) refusal) }
+            × ¬ IsCovered self.now changes.now.name.now changes.now.items.now.writes id) refusal) }
         ensures cause { IfErr result (λ refusal. refusal ≢ Refusal.NoSpace) }
         ensures known { IfErr result (λ refusal. (stored : Contents) (array : List ℕ)
             → Holds store.old stored → HasData stored (block_of self.now).birth set.now
@@ -145,16 +146,16 @@ impl VolumeSet {
             → Holds store.old stored → volume.name ≡ changes.now.name.now
             → HasData stored (block_of self.now).birth set.now (size_of self.now)
             (block_size_of self.now) volume.bytes → AnswersAreTrue store.old store.new
-            → block.bytes.items ≡ part (after_writes volume changes.now.writes.now).bytes
+            → block.bytes.items ≡ part (after_writes volume changes.now.items.now.writes).bytes
             (block_size_of self.now) block.id) }
         ensures found { IfOk result (λ block.
-            ¬ IsCovered self.now changes.now.name.now changes.now.writes.now block.id
+            ¬ IsCovered self.now changes.now.name.now changes.now.items.now.writes block.id
             → (found : Option (List ℕ))
             × IsFound store.old.spaces self.now set.now block.id found) }
-        ensures unread { IsCovered self.now changes.now.name.now changes.now.writes.now id
+        ensures unread { IsCovered self.now changes.now.name.now changes.now.items.now.writes id
             → store.new ≡ store.old }
         ensures refused { IfErr result (λ refusal. (refusal ≡ Refusal.NoMemory)
-            ⊎ ((¬ IsCovered self.now changes.now.name.now changes.now.writes.now id)
+            ⊎ ((¬ IsCovered self.now changes.now.name.now changes.now.items.now.writes id)
             × IsBlockRefused store.old store.new [] self.now set.now id refusal)) }
         ensures cause { IfErr result (λ refusal. refusal ≢ Refusal.NoSpace) }
         ensures known { IfErr result (λ refusal. (stored : Contents) (array : List ℕ)
@@ -179,13 +180,13 @@ impl VolumeSet {
         ensures value { (volume : PlainVolume) → volume.name ≡ changes.now.name.now
             → length volume.bytes ≡ size_of self.now
             → under.items ≡ part volume.bytes (block_size_of self.now) id
-            → result.bytes.items ≡ part (after_writes volume changes.now.writes.now).bytes
+            → result.bytes.items ≡ part (after_writes volume changes.now.items.now.writes).bytes
             (block_size_of self.now) id }
     {
         let mut bytes = under;
         let offset = id * self.block_size();
-        lay_over(
-            changes.writes,
+        lay_pending(
+            changes.items,
             changes.name,
             self.size(),
             offset,
@@ -199,17 +200,17 @@ impl VolumeSet {
         &self,
         alloc: Global,
         name: &Name,
-        writes: &[Write],
+        items: &Pending,
     ) -> Result<Vec<u64>, AllocError>
         ensures ids { IfOk result (λ ids. (id : ℕ) → Contains ids.items id
-            ↔ IsChanged self.now name.now writes.now id) }
+            ↔ IsChanged self.now name.now items.now.writes id) }
         ensures once { IfOk result (λ ids. IsStrictlyIncreasing ids.items) }
     {
+        let writes = items.writes();
+        let places = items.places_of(name);
         let mut ids = Vec::new(alloc);
-        for write in writes {
-            if write.volume.is(name) {
-                self.add_reached(write, &mut ids)?;
-            }
+        for position in places {
+            self.add_reached(&writes[*position], &mut ids)?;
         }
         ids.as_mut_slice().sort_unstable();
         ids.dedup();

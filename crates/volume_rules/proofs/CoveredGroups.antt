@@ -1,5 +1,5 @@
 -- The groups above the committed one, and whether a write of theirs covers a range.
-use Rattle.std.proofs.Common.{◌≡◌, ◌⊎◌, ⊎_elim, inl, inr, ℕ, suc, ◌-◌, ◌<◌, ◌≤◌, Bool, true, false, true≢false, List, refl, sym, ap, ◌∙◌, subst, arith}
+use Rattle.std.proofs.Common.{◌≡◌, ◌⊎◌, ⊎_elim, inl, inr, ℕ, suc, ◌-◌, ◌<◌, ◌≤◌, Bool, true, false, true≢false, List, sym, ap, ◌∙◌, subst, arith}
 use Rattle.std.specs.Prelude.{◌↔◌, IsTrue, cond, is_some}
 use Rattle.std.proofs.lemmas.Bool.{cases_lt}
 use Rattle.pool_model.specs.Groups.{taken_upto}

@@ -15,7 +15,7 @@ use Rattle.pool_model.proofs.Places.{same_is, is_same, name_after}
 use Rattle.volume_rules.specs.declared.shape.VolumeShape.{VolumeShape}
 use Rattle.volume_rules.specs.Shapes.{shape_of}
 use Rattle.volume_rules.specs.NowMoves.{GroupsAreBelow}
-use Rattle.volume_rules.specs.Covering.{CoversRange, AreCovering, IsCovered}
+use Rattle.volume_rules.specs.Covering.{IsCovered}
 use Rattle.volume_rules.specs.Overlay.{after_writes, bytes_or_zeros, base_of, HasRange}
 use Rattle.volume_rules.proofs.Overlays.{name_after_writes, shape_after_writes, applied_found, found_named}
 use Rattle.volume_rules.proofs.Ranges.{range_from, range_at}

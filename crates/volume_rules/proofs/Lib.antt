@@ -6,3 +6,4 @@ pub mod Overlays
 pub mod Pending
 pub mod Covering
 pub mod CoveredGroups
+pub mod InPieces

@@ -25,15 +25,15 @@ length-front a xs le = omega (arith, length-take a xs)
 
 -- ---- a part that is put in place of as many bytes
 
-put_before : (a m : ℕ) (xs ys : List ℕ) (k d : ℕ) → a ≤ length xs → k < a → get_or (put_mid a m xs ys) k d ≡ get_or xs k d
+pub put_before : (a m : ℕ) (xs ys : List ℕ) (k d : ℕ) → a ≤ length xs → k < a → get_or (put_mid a m xs ys) k d ≡ get_or xs k d
 put_before a m xs ys k d le lt = first (take a xs) ys _ k d (let e = length-front a xs le in omega arith) ∙ get_or-take a xs k d lt
 
-put_within : (a m : ℕ) (xs ys : List ℕ) (k d : ℕ) → a ≤ length xs → a ≤ k → k < a + length ys → get_or (put_mid a m xs ys) k d ≡ get_or ys (k - a) d
+pub put_within : (a m : ℕ) (xs ys : List ℕ) (k d : ℕ) → a ≤ length xs → a ≤ k → k < a + length ys → get_or (put_mid a m xs ys) k d ≡ get_or ys (k - a) d
 put_within a m xs ys k d le low lt =
     let e = length-front a xs le in
     second (take a xs) ys _ k d (omega arith) (omega arith) ∙ ap (λ n. get_or ys (k - n) d) e
 
-put_after : (a m : ℕ) (xs ys : List ℕ) (k d : ℕ) → a ≤ length xs → length ys ≡ m → a + m ≤ k → get_or (put_mid a m xs ys) k d ≡ get_or xs k d
+pub put_after : (a m : ℕ) (xs ys : List ℕ) (k d : ℕ) → a ≤ length xs → length ys ≡ m → a + m ≤ k → get_or (put_mid a m xs ys) k d ≡ get_or xs k d
 put_after a m xs ys k d le same low =
     let e = length-front a xs le in
     third (take a xs) ys _ k d (omega arith)
@@ -41,7 +41,7 @@ put_after a m xs ys k d le same low =
     ∙ (get_or-drop a xs (m + (k - length (take a xs) - length ys)) d
     ∙ ap (λ n. get_or xs n d) (let back : a + (m + (k - length (take a xs) - length ys)) ≡ k = omega arith in back)))
 
-length-put : (a m : ℕ) (xs ys : List ℕ) → length ys ≡ m → a + m ≤ length xs → length (put_mid a m xs ys) ≡ length xs
+pub length-put : (a m : ℕ) (xs ys : List ℕ) → length ys ≡ m → a + m ≤ length xs → length (put_mid a m xs ys) ≡ length xs
 length-put a m xs ys same le = simp (length-append, length-take, length-drop) (omega arith)
 
 -- ---- a write within a volume

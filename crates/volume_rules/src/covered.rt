@@ -7,6 +7,7 @@ ghost use Rattle.txg_pipeline.specs.Carries.{Carries};
 ghost use Rattle.volume_rules.specs.Covering.{AreCovering, CoversRange, IsCovered, IsCoveredBetween};
 ghost use Rattle.volume_rules.specs.Overlay.{closed_in};
 
+use crate::pieces::covers_any;
 use crate::shape::VolumeShape;
 use pool_model::{Name, Write};
 use txg_pipeline::{Pending, Pipeline};
@@ -89,12 +90,10 @@ fn is_covered_by(
     ensures { IsTrue result ↔ (shape.group ≤ before)
         × AreCovering name.now shape.size offset len items.now.writes }
 {
-    shape.group <= before
-        && items.writes().iter().any(|write| write.volume.is(name)
-            && covers(write, shape.size, offset, len))
+    shape.group <= before && covers_any(items, name, shape.size, offset, len)
 }
 
-fn covers(write: &Write, size: u64, offset: u64, len: u64) -> bool
+pub(crate) fn covers(write: &Write, size: u64, offset: u64, len: u64) -> bool
     ensures { IsTrue result ↔ CoversRange size offset len write.now }
 {
     let Some(end) = write.offset.checked_add(write.bytes.len() as u64) else {

@@ -7,6 +7,7 @@ mod covered;
 mod index;
 mod laws;
 mod overlay;
+mod pieces;
 mod shape;
 
 pub use causes::{against_change, against_read, against_write, is_good_shape, makes_good_volumes};
@@ -17,4 +18,5 @@ pub use laws::{
     creation_groups_tell_what_is_committed, groups_stay_below, indexes_follow_now, steps_move_now,
 };
 pub use overlay::{lay_over, read_pending};
+pub use pieces::{covers_any, lay_pending};
 pub use shape::VolumeShape;

@@ -12,6 +12,7 @@ ghost use Rattle.volume_rules.specs.NowMoves.{IsMadeBy, GroupsAreBelow};
 ghost use Rattle.volume_rules.specs.Overlay.{after_writes, base_of, bytes_or_zeros, closed_in, ComesTo, HasRange, Lays};
 ghost use Rattle.volume_rules.specs.Shapes.{shape_of};
 
+use crate::pieces::lay_pending;
 use crate::shape::VolumeShape;
 use pool_model::{Name, Write};
 use txg_pipeline::{Pending, Pipeline};
@@ -33,7 +34,7 @@ pub fn lay_over(writes: &[Write], name: &Name, size: u64, offset: u64, buffer: &
 
 /// Lays all pending writes over a range of the volume of this name, which has this shape in NOW: the buffer holds the
 /// range of the bytes that lie under them (those of the committed volume, or zeros where a pending group makes the
-/// volume), and then has the range of the volume's bytes. It looks at each pending write once.
+/// volume), and then has the range of the volume's bytes. It looks only at the writes that touch a piece of the range.
 pub fn read_pending(
     pipeline: &Pipeline,
     shape: VolumeShape,
@@ -114,12 +115,12 @@ fn lay_group(
         offset }
 {
     if shape.group <= before {
-        lay_over(items.writes(), name, shape.size, offset, buffer);
+        lay_pending(items, name, shape.size, offset, buffer);
     }
 }
 
 // A write that doesn't lie within the volume changes nothing.
-fn lay_one(write: &Write, size: u64, offset: u64, buffer: &mut [u8])
+pub(crate) fn lay_one(write: &Write, size: u64, offset: u64, buffer: &mut [u8])
     requires { offset + length buffer.old ≤ size }
     ensures { (bytes : List ℕ) → length bytes ≡ size → HasRange buffer.old bytes offset →
         HasRange buffer.new (stored write.now.offset write.now.bytes bytes) offset }

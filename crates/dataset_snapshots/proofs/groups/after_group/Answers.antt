@@ -1,4 +1,4 @@
-use Rattle.std.proofs.Common.{◌≤◌, ◌-◌, [], List, sym, subst, arith}
+use Rattle.std.proofs.Common.{◌≤◌, ◌-◌, [], List, sym, subst, refl, arith}
 use Rattle.std.specs.Prelude.{All, fold}
 use Rattle.std.proofs.lemmas.Result.{IfOk-weaker, IfErr-weaker}
 use Rattle.block_store.proofs.Steps.{steps_on, steps_read, true_before, true_after}
@@ -62,10 +62,8 @@ returns-clause-value g c =
     let of_list : IsSetOf made.0 c.args.group root c.in_ok-opened.opened.set.kind (changed list is.objects) =
     subst (λ (cs : List ObjectChange). IsSetOf made.0 c.args.group root c.in_ok-opened.opened.set.kind (changed cs is.objects)) c.deref.ensures.value made.3 in
     let set = subst (λ (kind : ObjectSetKind). IsSetOf made.0 c.args.group root kind (changed list is.objects)) c.in_ok-opened.ensures.kind of_list in
-    let of_writes = subst (λ (ws : List Write). SpellsAfter changes.0 c.args.group is.objects list (fold (λ p a. pool_changed c.args.group p a.change) (fold written pool ws) c.actions.result.now))
-    c.writes.ensures changes.3 in
     let of_items = subst (λ (actions : List Action). SpellsAfter changes.0 c.args.group is.objects list
-    (fold (λ p a. pool_changed c.args.group p a.change) (fold written pool c.args.items.now.writes) actions)) c.actions.ensures of_writes in
+    (fold (λ p a. pool_changed c.args.group p a.change) (fold written pool c.args.items.now.writes) actions)) c.actions.ensures changes.3 in
     let spells = spells_root changes.0 made.0 c.args.group root is.objects list (applied c.args.group pool c.args.items.now) of_items made.2 set planned_root.1 in (
       made.0,
       made.1,
@@ -93,12 +91,12 @@ returns-clause-known g c =
 pub returns-in_err-opened-clause-refused : goal.returns-in_err-opened-clause-refused
 returns-in_err-opened-clause-refused g c =
     passed_on _ _ _ c.from_residual.ensures.1
-    (group_unread c.args.store.now c.open_group.new.store c.args.root.now c.args.group c.args.items.now c.writes.result.now _ c.writes.ensures c.in_err-opened.ensures.refused)
+    (group_unread c.args.store.now c.open_group.new.store c.args.root.now c.args.group c.args.items.now c.args.items.now.writes _ refl c.in_err-opened.ensures.refused)
 
 pub returns-in_err-changes-clause-refused : goal.returns-in_err-changes-clause-refused
 returns-in_err-changes-clause-refused g c =
     let opened = c.in_ok-opened.opened in
-    let found = subst (λ (ws : List Write). IsGroupFound c.args.store.now.spaces (c.args.group - 1) c.args.root.now ws opened) c.writes.ensures c.in_ok-opened.ensures.found in
+    let found = c.in_ok-opened.ensures.found in
     IfErr-weaker c.from_residual-in_err-changes.result _ _
     (λ refusal why.
     group_volumes_refused c.args.store.now c.open_group.new.store c.open_group.new.store c.changes_of.new.store c.args.root.now c.args.group c.args.items.now opened c.in_ok-opened.ensures.reads found refusal
@@ -113,7 +111,7 @@ pub returns-clause-places : goal.returns-clause-places
 returns-clause-places g c =
     let opened = c.in_ok-opened.opened in
     let list : List ObjectChange = c.in_ok-changes.changes.items in
-    let found = subst (λ (ws : List Write). IsGroupFound c.args.store.now.spaces (c.args.group - 1) c.args.root.now ws opened) c.writes.ensures c.in_ok-opened.ensures.found in
+    let found = c.in_ok-opened.ensures.found in
     let volumes = subst (λ (actions : List Action). HasVolumePlaces c.open_group.new.store c.changes_of.new.store c.args.group opened actions list) c.actions.ensures c.in_ok-changes.ensures.places in
     on_ok_so c.plan_root.result _ _
     (λ has.
@@ -126,7 +124,7 @@ pub returns-clause-refused : goal.returns-clause-refused
 returns-clause-refused g c =
     let opened = c.in_ok-opened.opened in
     let list : List ObjectChange = c.in_ok-changes.changes.items in
-    let found = subst (λ (ws : List Write). IsGroupFound c.args.store.now.spaces (c.args.group - 1) c.args.root.now ws opened) c.writes.ensures c.in_ok-opened.ensures.found in
+    let found = c.in_ok-opened.ensures.found in
     let volumes = subst (λ (actions : List Action). HasVolumePlaces c.open_group.new.store c.changes_of.new.store c.args.group opened actions list) c.actions.ensures c.in_ok-changes.ensures.places in
     IfErr-weaker c.plan_root.result _ _
     (λ refusal why.

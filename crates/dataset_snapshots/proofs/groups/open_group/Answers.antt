@@ -5,6 +5,7 @@ use Rattle.std.specs.List.Sorted.{IsStrictlyIncreasing}
 use Rattle.block_store.proofs.Steps.{reads_on}
 use Rattle.block_store.specs.declared.space.VdevSpace.{VdevSpace}
 use Rattle.block_store.specs.Store.{Store}
+use Rattle.pool_model.specs.declared.item.Write.{Write}
 use Rattle.dnode_tree.proofs.FurtherReads.{true_before, true_after}
 use Rattle.dnode_tree.proofs.Refusing.{passed_on}
 use Rattle.meta_objset.specs.declared.directory.DirectoryRow.{DirectoryRow}
@@ -41,7 +42,7 @@ pub read_written-requires-clause-rows : goal.read_written-requires-clause-rows
 read_written-requires-clause-rows g c =
     subst (All (λ object. (row : DirectoryRow) × HasRow c.in_ok-directory.directory object row)) (sym c.deref.ensures.value)
     (all_from (λ object. (row : DirectoryRow) × HasRow c.in_ok-directory.directory object row) c.in_ok-objects.objects.items
-    (λ object held. let named = (c.in_ok-objects.ensures.objects object).0 held in let row = named.4 in (row.0, (row.1, row.3))))
+    (λ object held. let named = ((subst (λ (ws : List Write). (object : ℕ) → Contains c.in_ok-objects.objects.items object ↔ IsWritten c.in_ok-directory.directory ws object) c.writes.ensures c.in_ok-objects.ensures.objects) object).0 held in let row = named.4 in (row.0, (row.1, row.3))))
 
 pub returns-in_err-written-clause-reads : goal.returns-in_err-written-clause-reads
 returns-in_err-written-clause-reads g c =
@@ -72,7 +73,7 @@ returns-clause-opened g c =
       set = c.in_ok-set.ensures.fits;
       once = subst IsStrictlyIncreasing (sym are) c.in_ok-objects.ensures.once;
       each = c.in_ok-written.ensures.fits;
-      all = λ object named. subst (λ (ns : List ℕ). Contains ns object) (sym are) ((c.in_ok-objects.ensures.objects object).1 named);
+      all = λ object named. subst (λ (ns : List ℕ). Contains ns object) (sym are) (((subst (λ (ws : List Write). (object : ℕ) → Contains c.in_ok-objects.objects.items object ↔ IsWritten c.in_ok-directory.directory ws object) c.writes.ensures c.in_ok-objects.ensures.objects) object).1 named);
     }
 
 pub returns-clause-value : goal.returns-clause-value
@@ -88,24 +89,25 @@ returns-clause-value g c = λ stored pool held is honest.
     record {
       set = set;
       directory = same;
-      read = subst (λ (rows : List DirectoryRow). All (IsReadFrom stored c.args.root.now.birth is.objects c.args.writes.now rows) c.in_ok-written.written.items) same
+      read = subst (λ (rows : List DirectoryRow). All (IsReadFrom stored c.args.root.now.birth is.objects c.args.items.now.writes rows) c.in_ok-written.written.items) same
           (c.in_ok-written.ensures.value stored is.objects is.own is.blocks (both.keeps stored held) are (true_after _ _ _ _ both third honest));
     }
 
 pub returns-in_err-directory-clause-refused : goal.returns-in_err-directory-clause-refused
 returns-in_err-directory-clause-refused g c =
     passed_on _ _ _ c.from_residual-in_err-directory.ensures.1
-    (directory_refused c.args.store.now c.read_meta.new.store c.read_directory.new.store c.args.birth c.args.root.now c.args.writes.now c.in_ok-set.set _ c.in_ok-set.ensures.reads c.in_ok-set.ensures.found
+    (directory_refused c.args.store.now c.read_meta.new.store c.read_directory.new.store c.args.birth c.args.root.now c.args.items.now.writes c.in_ok-set.set _ c.in_ok-set.ensures.reads c.in_ok-set.ensures.found
     c.in_err-directory.ensures.refused)
 
 pub returns-in_err-written-clause-refused : goal.returns-in_err-written-clause-refused
 returns-in_err-written-clause-refused g c =
     let first = c.in_ok-set.ensures.reads in
     passed_on _ _ _ c.from_residual-in_err-written.ensures.1
-    (volume_unread c.args.store.now c.read_directory.new.store c.read_written.new.store c.args.birth c.args.root.now c.args.writes.now c.in_ok-set.set c.in_ok-directory.directory c.deref.result.now _
+    (volume_unread c.args.store.now c.read_directory.new.store c.read_written.new.store c.args.birth c.args.root.now c.args.items.now.writes c.in_ok-set.set c.in_ok-directory.directory c.deref.result.now _
     (reads_on _ _ _ _ first c.in_ok-directory.ensures.reads)
     (rows_found c.args.store.now c.read_meta.new.store c.args.birth c.args.root.now c.in_ok-set.set c.in_ok-directory.directory first c.in_ok-set.ensures.found c.in_ok-directory.ensures.found)
-    (subst (λ (objects : List ℕ). (object : ℕ) → Contains objects object ↔ IsWritten c.in_ok-directory.directory c.args.writes.now object) (sym c.deref.ensures.value) c.in_ok-objects.ensures.objects)
+    (subst (λ (objects : List ℕ). (object : ℕ) → Contains objects object ↔ IsWritten c.in_ok-directory.directory c.args.items.now.writes object) (sym c.deref.ensures.value)
+    (subst (λ (ws : List Write). (object : ℕ) → Contains c.in_ok-objects.objects.items object ↔ IsWritten c.in_ok-directory.directory ws object) c.writes.ensures c.in_ok-objects.ensures.objects))
     c.in_err-written.ensures.refused)
 
 pub returns-clause-found : goal.returns-clause-found
@@ -116,7 +118,8 @@ returns-clause-found g c =
     record {
       rows = rows_found c.args.store.now c.read_meta.new.store c.args.birth c.args.root.now c.in_ok-set.set c.in_ok-directory.directory first c.in_ok-set.ensures.found c.in_ok-directory.ensures.found;
       is = returns-clause-opened g c;
-      which = subst (λ (objects : List ℕ). (object : ℕ) → Contains objects object ↔ IsWritten c.in_ok-directory.directory c.args.writes.now object) (sym are) c.in_ok-objects.ensures.objects;
-      each = subst (λ (spaces : List VdevSpace). All (IsWrittenOf spaces c.in_ok-set.set c.args.root.now.birth c.args.writes.now c.in_ok-directory.directory) c.in_ok-written.written.items)
+      which = subst (λ (objects : List ℕ). (object : ℕ) → Contains objects object ↔ IsWritten c.in_ok-directory.directory c.args.items.now.writes object) (sym are)
+          (subst (λ (ws : List Write). (object : ℕ) → Contains c.in_ok-objects.objects.items object ↔ IsWritten c.in_ok-directory.directory ws object) c.writes.ensures c.in_ok-objects.ensures.objects);
+      each = subst (λ (spaces : List VdevSpace). All (IsWrittenOf spaces c.in_ok-set.set c.args.root.now.birth c.args.items.now.writes c.in_ok-directory.directory) c.in_ok-written.written.items)
           (ap (λ (s : Store). s.spaces) both.rest) c.in_ok-written.ensures.found;
     }

@@ -37,7 +37,7 @@ returns-clause-value g c = λ stored there own blocks held are honest volume is.
     let found = has_dataset stored _ volume c.in_ok-dataset.dataset is.r same c.in_ok-dataset.ensures.is is.is is.bytes in
     let sized = c.in_ok-dataset.ensures.is.0.1 ∙ ap (λ (r : DatasetRecord). r.block_size) same in (
       same,
-      subst (λ n. IsArrayWith volume.bytes n c.in_ok-blocks.blocks.items (after_writes volume c.args.writes.now).bytes) sized
+      subst (λ n. IsArrayWith volume.bytes n c.in_ok-blocks.blocks.items (after_writes volume c.args.items.now.writes).bytes) sized
           (c.in_ok-blocks.ensures.value stored volume (first.keeps stored held) is.name found.1 (true_after _ _ _ _ first second honest)),
     )
 

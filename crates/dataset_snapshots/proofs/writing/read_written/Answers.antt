@@ -49,16 +49,16 @@ loop-object-preserved g c =
           (c.in_ok-written.ensures.object ∙ c.in-Some.ensures.held.1) c.loop-object-test.true c.loop-object.invariant.objects;
       fits = all_more (FitsWritten c.args.set.now.objects) so_far now one c.in_ok-push.ensures c.loop-object.invariant.fits c.in_ok-written.ensures.fits;
       value = λ stored there own blocks held are honest.
-          all_more (IsReadFrom stored c.args.birth there c.args.writes.now c.args.directory.now) so_far now one c.in_ok-push.ensures
+          all_more (IsReadFrom stored c.args.birth there c.args.items.now.writes c.args.directory.now) so_far now one c.in_ok-push.ensures
           (c.loop-object.invariant.value stored there own blocks held are (true_before _ _ _ _ first reads honest)) (
             c.in-Some.row.now,
             (c.in-Some.ensures.held.0, sym c.in_ok-written.ensures.object),
             c.in_ok-written.ensures.value stored there own blocks (first.keeps stored held) are (true_after _ _ _ _ first reads honest),
           );
-      found = all_more (IsWrittenOf c.args.store.now.spaces c.args.set.now c.args.birth c.args.writes.now c.args.directory.now) so_far now one c.in_ok-push.ensures c.loop-object.invariant.found (
+      found = all_more (IsWrittenOf c.args.store.now.spaces c.args.set.now c.args.birth c.args.items.now.writes c.args.directory.now) so_far now one c.in_ok-push.ensures c.loop-object.invariant.found (
         c.in-Some.row.now,
         (c.in-Some.ensures.held.0, sym c.in_ok-written.ensures.object),
-        subst (λ (spaces : List VdevSpace). IsWrittenFound spaces c.args.set.now c.args.birth c.args.writes.now c.in-Some.row.now one) (ap (λ (s : Store). s.spaces) first.rest) c.in_ok-written.ensures.found,
+        subst (λ (spaces : List VdevSpace). IsWrittenFound spaces c.args.set.now c.args.birth c.args.items.now.writes c.in-Some.row.now one) (ap (λ (s : Store). s.spaces) first.rest) c.in_ok-written.ensures.found,
       );
     }
 

@@ -17,6 +17,6 @@ invariant-loop-object g l = record {
   fits : All (FitsWritten l.set.objects) l.read.items;
   value : (stored : Contents) (there : ℕ → Option Object) (own : List Block) (blocks : ℕ → List Block) → Holds l.fn.store stored
       → AreObjects stored l.birth l.set there own blocks → AnswersAreTrue l.fn.store l.store
-      → All (IsReadFrom stored l.birth there l.writes l.directory) l.read.items;
-  found : All (IsWrittenOf l.fn.store.spaces l.set l.birth l.writes l.directory) l.read.items;
+      → All (IsReadFrom stored l.birth there l.items.writes l.directory) l.read.items;
+  found : All (IsWrittenOf l.fn.store.spaces l.set l.birth l.items.writes l.directory) l.read.items;
 }

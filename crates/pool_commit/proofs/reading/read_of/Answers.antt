@@ -8,11 +8,11 @@ use Rattle.pool_commit.proofs.reading.read_of.Goals as goal
 
 pub returns-in_default-clause-refused : goal.returns-in_default-clause-refused
 returns-in_default-clause-refused g c = λ stored pool held spells.
-    inr (inl (ap (read_refusal c.args.range.now.offset c.args.range.now.len) (at_none _ (sym (c.find.ensures pool spells.names) ∙ c.in_default.is))))
+    inr (inl (ap (read_refusal c.args.range.now.offset c.args.range.now.len) (at_none _ (sym (c.find.ensures pool (rw c.names.ensures spells.names)) ∙ c.in_default.is))))
 
 pub returns-then-is_some-clause-refused : goal.returns-then-is_some-clause-refused
 returns-then-is_some-clause-refused g c = λ stored pool held spells.
-    let there = at_shape _ c.in-Some.shape (sym c.in-Some.is ∙ c.find.ensures pool spells.names) in
+    let there = at_shape _ c.in-Some.shape (sym c.in-Some.is ∙ c.find.ensures pool (rw c.names.ensures spells.names)) in
     inr (inl (is_out_of_range c.args.range.now.offset c.args.range.now.len c.args.range.now.name.now pool c.in-Some.shape c.against_read.result there.0 c.against_read.ensures there.1
     there.2 (sym c.is_some.ensures ∙ c.if-is_some.true)))
 
@@ -23,7 +23,7 @@ read_range-requires g c = record {
 
 pub returns-in-Ok-clause-bytes : goal.returns-in-Ok-clause-bytes
 returns-in-Ok-clause-bytes g c = λ stored pool held spells.
-    let there = at_shape _ c.in-Some.shape (sym c.in-Some.is ∙ c.find.ensures pool spells.names) in (
+    let there = at_shape _ c.in-Some.shape (sym c.in-Some.is ∙ c.find.ensures pool (rw c.names.ensures spells.names)) in (
       has_no_cause c.args.range.now.offset c.args.range.now.len c.args.range.now.name.now pool c.in-Some.shape c.against_read.result there.0 c.against_read.ensures there.1
           there.2 (sym c.is_some.ensures ∙ c.if-is_some.false),
       λ honest. (
@@ -35,7 +35,7 @@ returns-in-Ok-clause-bytes g c = λ stored pool held spells.
 
 pub returns-in-Err-clause-refused : goal.returns-in-Err-clause-refused
 returns-in-Err-clause-refused g c = λ stored pool held spells.
-    let there = at_shape _ c.in-Some.shape (sym c.in-Some.is ∙ c.find.ensures pool spells.names) in
+    let there = at_shape _ c.in-Some.shape (sym c.in-Some.is ∙ c.find.ensures pool (rw c.names.ensures spells.names)) in
     let none = has_no_cause c.args.range.now.offset c.args.range.now.len c.args.range.now.name.now pool c.in-Some.shape c.against_read.result there.0 c.against_read.ensures there.1
     there.2 (sym c.is_some.ensures ∙ c.if-is_some.false) in
     let within = (in_range c.args.range.now.offset c.args.range.now.len c.in-Some.shape c.against_read.result c.against_read.ensures (sym c.is_some.ensures ∙ c.if-is_some.false)).0 in

@@ -1,123 +1,178 @@
-use Rattle.std.proofs.Common.{length, refl}
+use Rattle.std.proofs.Common.{List, true, false, refl, sym, subst, arith}
+use Rattle.model_disk.specs.Joint.{content}
 use Rattle.model_disk.specs.Runs.{HasFailed}
 use Rattle.model_disk.proofs.FailureLemmas.{failed_in_second}
-use Rattle.pool_slots.specs.Opens.{ClaimGives}
-use Rattle.pool_slots.specs.Slots.{InUse, AreSettled}
-use Rattle.pool_slots.specs.Writes.{IsSlotWrite, in_use, InTurn}
-use Rattle.pool_slots.proofs.ClaimPhases.{first_always, between_halves, second_always, claim_done, turn_writes}
-use Rattle.pool_slots.proofs.CommitPhases.{slots_flushed}
-use Rattle.pool_slots.proofs.Phases.{MakesOn-more, flushed_too, both_made}
+use Rattle.pool_slots.specs.Labels.{AreClaimed, AreasStand, InAreaTurn, IsAreaWrite, IsClaimWrite}
+use Rattle.pool_slots.specs.Opens.{ClaimGives, ClaimsAt}
+use Rattle.pool_slots.specs.Slots.{AreSettled, HaveLabels, InUse}
+use Rattle.pool_slots.specs.Writes.{IsSlotWrite, in_use}
+use Rattle.pool_slots.specs.Commits.{AreOffLabels}
+use Rattle.std.proofs.Common.{ℕ}
+use Rattle.pool_slots.proofs.LabelPhases.{FirstStands, all_claimed, are_whole, areas_made, at_later, each_joined, first_claims, first_stays, may_later, others_claim, slots_claim, slots_made}
+use Rattle.pool_slots.proofs.Phases.{MakesOn-more}
 use Rattle.pool_slots.proofs.Results.{on_ok_use, on_err_use, on_err_is}
 use Rattle.pool_slots.proofs.Used.{are_there}
 use Rattle.pool_slots.proofs.claiming.claim.Goals as goal
 
-pub returns-in_err-write_turn-clause-makes : goal.returns-in_err-write_turn-clause-makes
-returns-in_err-write_turn-clause-makes g c =
-    turn_writes c.args.out.now c.args.all.now 0 c.args.disks.now.starts c.args.disks.now c.write_turn.new.disks c.args.uberblock.now c.requires.used refl c.write_turn.ensures.makes
+pub settle_labels-requires-clause-whole : goal.settle_labels-requires-clause-whole
+settle_labels-requires-clause-whole g c = are_whole c.args.uberblock.now c.args.areas.now c.requires.areas
 
-pub returns-in_err-flush_all-clause-makes : goal.returns-in_err-flush_all-clause-makes
-returns-in_err-flush_all-clause-makes g c =
-    let old = c.args.disks.now in
-    flushed_too (InUse c.args.out.now) (IsSlotWrite old.starts c.args.uberblock.now (in_use c.args.out.now)) old c.write_turn.new.disks c.flush_all.new.disks
-    (turn_writes c.args.out.now c.args.all.now 0 old.starts old c.write_turn.new.disks c.args.uberblock.now c.requires.used refl c.write_turn.ensures.makes) c.flush_all.ensures.makes
+pub settle_labels-requires-2-clause-whole : goal.settle_labels-requires-2-clause-whole
+settle_labels-requires-2-clause-whole g c = are_whole c.args.uberblock.now c.args.areas.now c.requires.areas
 
-pub returns-in_err-write_turn-2-clause-makes : goal.returns-in_err-write_turn-2-clause-makes
-returns-in_err-write_turn-2-clause-makes g c =
+pub returns-in_err-settle_labels-clause-makes : goal.returns-in_err-settle_labels-clause-makes
+returns-in_err-settle_labels-clause-makes g c =
+    let out = c.args.out.now in
     let old = c.args.disks.now in
-    let mid = c.flush_all.new.disks in
-    let may = IsSlotWrite old.starts c.args.uberblock.now (in_use c.args.out.now) in
-    let first = flushed_too (InUse c.args.out.now) may old c.write_turn.new.disks mid
-    (turn_writes c.args.out.now c.args.all.now 0 old.starts old c.write_turn.new.disks c.args.uberblock.now c.requires.used refl c.write_turn.ensures.makes) c.flush_all.ensures.makes in
-    MakesOn-more (InUse c.args.out.now) may old mid c.write_turn-2.new.disks first
-    (turn_writes c.args.out.now c.args.all.now 1 old.starts mid c.write_turn-2.new.disks c.args.uberblock.now c.requires.used first.makes.starts c.write_turn-2.ensures.makes)
+    let all = c.args.all.now in
+    let areas = c.args.areas.now in
+    let u = c.args.uberblock.now in
+    let mid = c.settle_labels.new.disks in
+    areas_made old mid old.starts out u areas (InAreaTurn areas true) c.requires.on c.requires.areas refl c.settle_labels.ensures.makes
+
+pub returns-in_err-claim_slots-clause-makes : goal.returns-in_err-claim_slots-clause-makes
+returns-in_err-claim_slots-clause-makes g c =
+    let out = c.args.out.now in
+    let old = c.args.disks.now in
+    let all = c.args.all.now in
+    let areas = c.args.areas.now in
+    let u = c.args.uberblock.now in
+    let mid = c.settle_labels.new.disks in
+    let wrote = c.claim_slots.new.disks in
+    MakesOn-more (InUse out) (IsClaimWrite old.starts out u) old mid wrote
+    (areas_made old mid old.starts out u areas (InAreaTurn areas true) c.requires.on c.requires.areas refl c.settle_labels.ensures.makes)
+    (slots_made mid wrote old.starts out u c.settle_labels.ensures.makes.makes.starts c.claim_slots.ensures.makes)
 
 pub returns-clause-makes : goal.returns-clause-makes
 returns-clause-makes g c =
+    let out = c.args.out.now in
     let old = c.args.disks.now in
-    let mid = c.flush_all.new.disks in
-    let may = IsSlotWrite old.starts c.args.uberblock.now (in_use c.args.out.now) in
-    let first = flushed_too (InUse c.args.out.now) may old c.write_turn.new.disks mid
-    (turn_writes c.args.out.now c.args.all.now 0 old.starts old c.write_turn.new.disks c.args.uberblock.now c.requires.used refl c.write_turn.ensures.makes) c.flush_all.ensures.makes in
-    flushed_too (InUse c.args.out.now) may old c.write_turn-2.new.disks c.flush_all-2.new.disks
-    (MakesOn-more (InUse c.args.out.now) may old mid c.write_turn-2.new.disks first
-    (turn_writes c.args.out.now c.args.all.now 1 old.starts mid c.write_turn-2.new.disks c.args.uberblock.now c.requires.used first.makes.starts c.write_turn-2.ensures.makes)) c.flush_all-2.ensures.makes
-
-pub returns-in_err-write_turn-clause-any_moment : goal.returns-in_err-write_turn-clause-any_moment
-returns-in_err-write_turn-clause-any_moment g c = λ trees p may.
-    first_always trees c.args.out.now c.args.disks.now c.write_turn.new.disks p c.args.uberblock.now c.args.all.now (are_there c.args.out.now c.args.disks.now.starts c.requires.out) c.requires.labels c.requires.fits may
-    c.write_turn.ensures.makes.makes
-
-pub returns-in_err-flush_all-clause-any_moment : goal.returns-in_err-flush_all-clause-any_moment
-returns-in_err-flush_all-clause-any_moment g c = λ trees p may.
-    first_always trees c.args.out.now c.args.disks.now c.flush_all.new.disks p c.args.uberblock.now c.args.all.now (are_there c.args.out.now c.args.disks.now.starts c.requires.out) c.requires.labels c.requires.fits may
-    (both_made (IsSlotWrite c.args.disks.now.starts c.args.uberblock.now (InTurn c.args.all.now 0)) c.args.disks.now c.write_turn.new.disks c.flush_all.new.disks c.write_turn.ensures.makes.makes c.flush_all.ensures.makes.makes)
-
-pub returns-in_err-write_turn-2-clause-any_moment : goal.returns-in_err-write_turn-2-clause-any_moment
-returns-in_err-write_turn-2-clause-any_moment g c = λ trees p may.
-    let old = c.args.disks.now in
-    let mid = c.flush_all.new.disks in
-    let u = c.args.uberblock.now in
     let all = c.args.all.now in
-    let there = are_there c.args.out.now old.starts c.requires.out in
-    let between = between_halves trees c.args.out.now old mid p u all there c.requires.labels c.requires.fits c.requires.used may
-    (both_made (IsSlotWrite old.starts u (InTurn all 0)) old c.write_turn.new.disks mid c.write_turn.ensures.makes.makes c.flush_all.ensures.makes.makes)
-    (slots_flushed c.write_turn.new.disks mid old.starts u (InTurn all 0) (length old.starts) c.flush_all.ensures.makes.makes c.in_ok-write_turn.ensures.stand) c.in_ok-flush_all.ensures.settled in
-    second_always trees c.args.out.now old mid c.write_turn-2.new.disks p u all there c.requires.labels c.requires.fits c.requires.used may between c.write_turn-2.ensures.makes.makes
+    let areas = c.args.areas.now in
+    let u = c.args.uberblock.now in
+    let mid = c.settle_labels.new.disks in
+    let wrote = c.claim_slots.new.disks in
+    let new = c.settle_labels-2.new.disks in
+    let before = MakesOn-more (InUse out) (IsClaimWrite old.starts out u) old mid wrote
+    (areas_made old mid old.starts out u areas (InAreaTurn areas true) c.requires.on c.requires.areas refl c.settle_labels.ensures.makes)
+    (slots_made mid wrote old.starts out u c.settle_labels.ensures.makes.makes.starts c.claim_slots.ensures.makes) in
+    MakesOn-more (InUse out) (IsClaimWrite old.starts out u) old wrote new before
+    (areas_made wrote new old.starts out u areas (InAreaTurn areas false) c.requires.on c.requires.areas before.makes.starts c.settle_labels-2.ensures.makes)
+
+pub returns-in_err-settle_labels-clause-any_moment : goal.returns-in_err-settle_labels-clause-any_moment
+returns-in_err-settle_labels-clause-any_moment g c = λ trees p may.
+    let out = c.args.out.now in
+    let old = c.args.disks.now in
+    let all = c.args.all.now in
+    let areas = c.args.areas.now in
+    let u = c.args.uberblock.now in
+    let mid = c.settle_labels.new.disks in
+    let there = are_there out old.starts c.requires.out in
+    first_claims trees out old mid p u all areas there c.requires.labels (are_whole u areas c.requires.areas) c.requires.on may c.settle_labels.ensures.makes.makes
+
+pub returns-in_err-claim_slots-clause-any_moment : goal.returns-in_err-claim_slots-clause-any_moment
+returns-in_err-claim_slots-clause-any_moment g c = λ trees p may.
+    let out = c.args.out.now in
+    let old = c.args.disks.now in
+    let all = c.args.all.now in
+    let areas = c.args.areas.now in
+    let u = c.args.uberblock.now in
+    let mid = c.settle_labels.new.disks in
+    let wrote = c.claim_slots.new.disks in
+    let whole = are_whole u areas c.requires.areas in
+    let there = are_there out old.starts c.requires.out in
+    let first : FirstStands out old mid u areas = record { starts = c.settle_labels.ensures.makes.makes.starts; stand = c.in_ok-settle_labels.ensures.stand; settled = c.in_ok-settle_labels.ensures.settled } in
+    let may' = may_later trees out old mid areas (InAreaTurn areas true) p u all there c.requires.labels whole c.settle_labels.ensures.makes.makes first.settled may in
+    each_joined (ClaimsAt trees out old p u areas) (IsSlotWrite mid.starts u (in_use out)) old mid wrote c.claim_slots.ensures.makes.makes
+    (first_claims trees out old mid p u all areas there c.requires.labels whole c.requires.on may c.settle_labels.ensures.makes.makes)
+    (slots_claim trees out old mid wrote p u areas there c.requires.labels c.requires.fits c.requires.on c.requires.areas first c.claim_slots.ensures.makes.makes (c.claim_slots.ensures.any_moment trees p may'))
 
 pub returns-clause-any_moment : goal.returns-clause-any_moment
 returns-clause-any_moment g c = λ trees p may.
+    let out = c.args.out.now in
     let old = c.args.disks.now in
-    let mid = c.flush_all.new.disks in
-    let u = c.args.uberblock.now in
     let all = c.args.all.now in
-    let there = are_there c.args.out.now old.starts c.requires.out in
-    let between = between_halves trees c.args.out.now old mid p u all there c.requires.labels c.requires.fits c.requires.used may
-    (both_made (IsSlotWrite old.starts u (InTurn all 0)) old c.write_turn.new.disks mid c.write_turn.ensures.makes.makes c.flush_all.ensures.makes.makes)
-    (slots_flushed c.write_turn.new.disks mid old.starts u (InTurn all 0) (length old.starts) c.flush_all.ensures.makes.makes c.in_ok-write_turn.ensures.stand) c.in_ok-flush_all.ensures.settled in
-    second_always trees c.args.out.now old mid c.flush_all-2.new.disks p u all there c.requires.labels c.requires.fits c.requires.used may between
-    (both_made (IsSlotWrite mid.starts u (InTurn all 1)) mid c.write_turn-2.new.disks c.flush_all-2.new.disks c.write_turn-2.ensures.makes.makes c.flush_all-2.ensures.makes.makes)
+    let areas = c.args.areas.now in
+    let u = c.args.uberblock.now in
+    let mid = c.settle_labels.new.disks in
+    let wrote = c.claim_slots.new.disks in
+    let new = c.settle_labels-2.new.disks in
+    let whole = are_whole u areas c.requires.areas in
+    let there = are_there out old.starts c.requires.out in
+    let first : FirstStands out old mid u areas = record { starts = c.settle_labels.ensures.makes.makes.starts; stand = c.in_ok-settle_labels.ensures.stand; settled = c.in_ok-settle_labels.ensures.settled } in
+    let second = first_stays out old mid wrote u areas c.requires.labels (omega (arith, c.requires.count)) c.requires.fits first c.claim_slots.ensures.makes.makes c.in_ok-claim_slots.ensures.settled in
+    let may' = may_later trees out old mid areas (InAreaTurn areas true) p u all there c.requires.labels whole c.settle_labels.ensures.makes.makes first.settled may in
+    each_joined (ClaimsAt trees out old p u areas) (IsAreaWrite wrote.starts areas (InAreaTurn areas false)) old wrote new c.settle_labels-2.ensures.makes.makes
+    (each_joined (ClaimsAt trees out old p u areas) (IsSlotWrite mid.starts u (in_use out)) old mid wrote c.claim_slots.ensures.makes.makes
+    (first_claims trees out old mid p u all areas there c.requires.labels whole c.requires.on may c.settle_labels.ensures.makes.makes)
+    (slots_claim trees out old mid wrote p u areas there c.requires.labels c.requires.fits c.requires.on c.requires.areas first c.claim_slots.ensures.makes.makes (c.claim_slots.ensures.any_moment trees p may')))
+    (others_claim trees out old wrote new p u areas there c.requires.labels whole may.off_labels c.requires.on c.requires.areas second (c.in_ok-claim_slots.ensures.claimed trees p may').1
+    c.settle_labels-2.ensures.makes.makes)
 
 pub returns-clause-claimed : goal.returns-clause-claimed
 returns-clause-claimed g c =
     let out = c.args.out.now in
     let old = c.args.disks.now in
-    let mid = c.flush_all.new.disks in
-    let new = c.flush_all-2.new.disks in
-    let u = c.args.uberblock.now in
     let all = c.args.all.now in
-    on_ok_use c.flush_all-2.result (AreSettled out new.calls) (ClaimGives out old u all new)
-    (λ settled trees p may.
+    let areas = c.args.areas.now in
+    let u = c.args.uberblock.now in
+    let mid = c.settle_labels.new.disks in
+    let wrote = c.claim_slots.new.disks in
+    let new = c.settle_labels-2.new.disks in
+    let whole = are_whole u areas c.requires.areas in
     let there = are_there out old.starts c.requires.out in
-    let between = between_halves trees out old mid p u all there c.requires.labels c.requires.fits c.requires.used may
-    (both_made (IsSlotWrite old.starts u (InTurn all 0)) old c.write_turn.new.disks mid c.write_turn.ensures.makes.makes c.flush_all.ensures.makes.makes)
-    (slots_flushed c.write_turn.new.disks mid old.starts u (InTurn all 0) (length old.starts) c.flush_all.ensures.makes.makes c.in_ok-write_turn.ensures.stand) c.in_ok-flush_all.ensures.settled in
-    claim_done trees out old mid new p u all there c.requires.labels c.requires.fits c.requires.used may between
-    (both_made (IsSlotWrite mid.starts u (InTurn all 1)) mid c.write_turn-2.new.disks new c.write_turn-2.ensures.makes.makes c.flush_all-2.ensures.makes.makes)
-    (slots_flushed c.write_turn-2.new.disks new mid.starts u (InTurn all 1) (length mid.starts) c.flush_all-2.ensures.makes.makes c.in_ok-write_turn-2.ensures.stand) settled)
-    c.flush_all-2.ensures.settled
+    let first : FirstStands out old mid u areas = record { starts = c.settle_labels.ensures.makes.makes.starts; stand = c.in_ok-settle_labels.ensures.stand; settled = c.in_ok-settle_labels.ensures.settled } in
+    let second = first_stays out old mid wrote u areas c.requires.labels (omega (arith, c.requires.count)) c.requires.fits first c.claim_slots.ensures.makes.makes c.in_ok-claim_slots.ensures.settled in
+    on_ok_use c.settle_labels-2.result (AreSettled out new.calls) (ClaimGives out old u all new)
+    (λ settled trees p may.
+    let may' = may_later trees out old mid areas (InAreaTurn areas true) p u all there c.requires.labels whole c.settle_labels.ensures.makes.makes first.settled may in
+    let R : List (List ℕ) → Type 0 = HaveLabels in
+    let O : List (List ℕ) → Type 0 = AreOffLabels trees out in
+    at_later trees out wrote new areas (InAreaTurn areas false) u (subst R (sym second.starts) c.requires.labels) whole (subst O (sym second.starts) may.off_labels) c.settle_labels-2.ensures.makes.makes settled
+    (c.in_ok-claim_slots.ensures.claimed trees p may').0)
+    c.settle_labels-2.ensures.settled
 
-pub returns-in_err-flush_all-clause-fault : goal.returns-in_err-flush_all-clause-fault
-returns-in_err-flush_all-clause-fault g c =
-    on_err_is c.from_residual-in_err-flush_all.result (HasFailed c.args.disks.now c.flush_all.new.disks)
-    (failed_in_second (IsSlotWrite c.args.disks.now.starts c.args.uberblock.now (InTurn c.args.all.now 0)) c.args.disks.now c.write_turn.new.disks c.flush_all.new.disks
-    c.write_turn.ensures.makes.makes c.in_err-flush_all.ensures.fault)
+pub returns-clause-labeled : goal.returns-clause-labeled
+returns-clause-labeled g c =
+    let out = c.args.out.now in
+    let old = c.args.disks.now in
+    let all = c.args.all.now in
+    let areas = c.args.areas.now in
+    let u = c.args.uberblock.now in
+    let mid = c.settle_labels.new.disks in
+    let wrote = c.claim_slots.new.disks in
+    let new = c.settle_labels-2.new.disks in
+    let whole = are_whole u areas c.requires.areas in
+    let there = are_there out old.starts c.requires.out in
+    let first : FirstStands out old mid u areas = record { starts = c.settle_labels.ensures.makes.makes.starts; stand = c.in_ok-settle_labels.ensures.stand; settled = c.in_ok-settle_labels.ensures.settled } in
+    let second = first_stays out old mid wrote u areas c.requires.labels (omega (arith, c.requires.count)) c.requires.fits first c.claim_slots.ensures.makes.makes c.in_ok-claim_slots.ensures.settled in
+    on_ok_use c.settle_labels-2.result (AreasStand (content new) wrote.starts areas (InAreaTurn areas false)) (AreClaimed out new u)
+    (λ stand. all_claimed out old wrote new u areas there c.requires.labels whole c.requires.on c.requires.areas second c.settle_labels-2.ensures.makes.makes stand)
+    c.settle_labels-2.ensures.stand
 
-pub returns-in_err-write_turn-2-clause-fault : goal.returns-in_err-write_turn-2-clause-fault
-returns-in_err-write_turn-2-clause-fault g c =
-    on_err_is c.from_residual-in_err-write_turn-2.result (HasFailed c.args.disks.now c.write_turn-2.new.disks)
-    (failed_in_second (IsSlotWrite c.args.disks.now.starts c.args.uberblock.now (InTurn c.args.all.now 0)) c.args.disks.now c.flush_all.new.disks c.write_turn-2.new.disks
-    (both_made (IsSlotWrite c.args.disks.now.starts c.args.uberblock.now (InTurn c.args.all.now 0)) c.args.disks.now c.write_turn.new.disks c.flush_all.new.disks c.write_turn.ensures.makes.makes c.flush_all.ensures.makes.makes)
-    c.in_err-write_turn-2.ensures.fault)
+pub returns-in_err-claim_slots-clause-fault : goal.returns-in_err-claim_slots-clause-fault
+returns-in_err-claim_slots-clause-fault g c =
+    let out = c.args.out.now in
+    let old = c.args.disks.now in
+    let all = c.args.all.now in
+    let areas = c.args.areas.now in
+    let u = c.args.uberblock.now in
+    let mid = c.settle_labels.new.disks in
+    let wrote = c.claim_slots.new.disks in
+    on_err_is c.from_residual-in_err-claim_slots.result (HasFailed old wrote)
+    (failed_in_second (IsAreaWrite old.starts areas (InAreaTurn areas true)) old mid wrote c.settle_labels.ensures.makes.makes c.in_err-claim_slots.ensures.fault)
 
 pub returns-clause-fault : goal.returns-clause-fault
 returns-clause-fault g c =
+    let out = c.args.out.now in
     let old = c.args.disks.now in
-    let mid = c.flush_all.new.disks in
-    let wrote = c.write_turn-2.new.disks in
-    let may = IsSlotWrite old.starts c.args.uberblock.now (in_use c.args.out.now) in
-    let first = flushed_too (InUse c.args.out.now) may old c.write_turn.new.disks mid
-    (turn_writes c.args.out.now c.args.all.now 0 old.starts old c.write_turn.new.disks c.args.uberblock.now c.requires.used refl c.write_turn.ensures.makes) c.flush_all.ensures.makes in
-    let all = MakesOn-more (InUse c.args.out.now) may old mid wrote first
-    (turn_writes c.args.out.now c.args.all.now 1 old.starts mid wrote c.args.uberblock.now c.requires.used first.makes.starts c.write_turn-2.ensures.makes) in
-    on_err_use c.flush_all-2.result (HasFailed wrote c.flush_all-2.new.disks) (HasFailed old c.flush_all-2.new.disks)
-    (failed_in_second may old wrote c.flush_all-2.new.disks all.makes) c.flush_all-2.ensures.fault
+    let all = c.args.all.now in
+    let areas = c.args.areas.now in
+    let u = c.args.uberblock.now in
+    let mid = c.settle_labels.new.disks in
+    let wrote = c.claim_slots.new.disks in
+    let new = c.settle_labels-2.new.disks in
+    let before = MakesOn-more (InUse out) (IsClaimWrite old.starts out u) old mid wrote
+    (areas_made old mid old.starts out u areas (InAreaTurn areas true) c.requires.on c.requires.areas refl c.settle_labels.ensures.makes)
+    (slots_made mid wrote old.starts out u c.settle_labels.ensures.makes.makes.starts c.claim_slots.ensures.makes) in
+    on_err_use c.settle_labels-2.result (HasFailed wrote new) (HasFailed old new) (failed_in_second (IsClaimWrite old.starts out u) old wrote new before.makes) c.settle_labels-2.ensures.fault

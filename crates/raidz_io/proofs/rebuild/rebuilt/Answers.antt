@@ -1,10 +1,8 @@
 use Rattle.std.proofs.Common.{ℕ, ◌≡◌, List, length, IsOk, sym, ap, ◌∙◌}
-use Rattle.raidz_parity.specs.Layout.{Block, AreBytes, columns_of, joined}
-use Rattle.raidz_parity.specs.Parity.{IsParity}
+use Rattle.raidz_parity.specs.Layout.{Block, joined}
 use Rattle.raidz_io.specs.Places.{sizes_of}
-use Rattle.raidz_io.specs.Stripe.{stripe_sizes, HasSizes, read_columns, MatchesBut}
 use Rattle.raidz_io.proofs.Sizes.{length-sizes}
-use Rattle.raidz_io.proofs.Rebuilt.{AreIn, rebuilds_below, not_more, rebuilt, ok_unless, at_ok, IfOk-map}
+use Rattle.raidz_io.proofs.Rebuilt.{AreIn, rebuilds_below, not_more, rebuilt, ok_unless, at_ok}
 use Rattle.raidz_io.proofs.rebuild.rebuilt.Goals as goal
 
 pub rebuild-requires : goal.rebuild-requires
@@ -30,13 +28,9 @@ returns c =
     let ok : IsOk c.rebuild.result =
     ok_unless c.rebuild.result (λ err.
     not_more c.args.parity n sizes c.args.bytes.now c.args.wrong.now _ c.in_ok-columns.columns are same c.requires.few (c.rebuild.ensures.refused.0 err)) in
-    IfOk-map c.from_slice.result (λ block. block.items ≡ c.block.result.now)
-    (λ block. (right : Block) → AreBytes right.data_columns → IsParity right → HasSizes c.args.parity sizes right
-    → MatchesBut c.args.wrong.now (read_columns right) (columns_of (stripe_sizes c.args.parity sizes) c.args.bytes.now) → block.items ≡ joined right.data_columns)
-    (λ block is right bytes parity has matches.
+    λ right bytes parity has matches.
     let again : c.rebuild.new.self ≡ right =
     rebuilt c.args.parity n sizes c.args.bytes.now c.args.wrong.now _ c.in_ok-columns.columns c.rebuild.new.self right are
     (sym (length-sizes c.args.data.now)) c.requires.whole same has matches
     (λ changed. at_ok c.rebuild.result (c.rebuild.new.self ≡ right) ok (c.rebuild.ensures.rebuilt right bytes parity changed)) in
-    is ∙ c.block.ensures ∙ ap (λ (b : Block). joined b.data_columns) again)
-    c.from_slice.ensures.items
+    c.into_parts-block.ensures.block ∙ ap (λ (b : Block). joined b.data_columns) again

@@ -1,14 +1,11 @@
-use Rattle.std.proofs.Common.{refl, subst, arith}
-use Rattle.std.specs.Prelude.{List}
-use Rattle.pool_model.specs.declared.item.Write.{Write}
-use Rattle.volume_rules.specs.Overlay.{after_writes, HasRange}
+use Rattle.std.proofs.Common.{refl, arith}
 use Rattle.volume_rules.proofs.Overlays.{group_laid}
 use Rattle.volume_rules.proofs.overlay.lay_group.Goals as goal
 
 pub returns-then-shape-before : goal.returns-then-shape-before
 returns-then-shape-before c = λ pool made comes range.
-    group_laid c.args.name.now c.args.shape c.args.before pool c.args.items.now c.args.buffer.now c.lay_over.new.buffer c.args.offset
-    (λ le volume named size r. subst (λ (writes : List Write). HasRange c.lay_over.new.buffer (after_writes volume writes).bytes c.args.offset) c.writes.ensures (c.lay_over.ensures volume named size r))
+    group_laid c.args.name.now c.args.shape c.args.before pool c.args.items.now c.args.buffer.now c.lay_pending.new.buffer c.args.offset
+    (λ le. c.lay_pending.ensures)
     (λ lt. absurd (omega arith)) made comes range
 
 pub returns-else-shape-before : goal.returns-else-shape-before

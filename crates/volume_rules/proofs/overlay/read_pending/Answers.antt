@@ -1,4 +1,4 @@
-use Rattle.std.proofs.Common.{ap, sym, subst, length, ◌∙◌, ◌≤◌, ◌+◌, ℕ}
+use Rattle.std.proofs.Common.{ap, sym, subst, length, ◌∙◌, ◌≤◌, ◌+◌}
 use Rattle.pool_model.specs.Flow.{Flow, flow_of}
 use Rattle.txg_pipeline.specs.Carries.{Carries}
 use Rattle.volume_rules.specs.declared.shape.VolumeShape.{VolumeShape}

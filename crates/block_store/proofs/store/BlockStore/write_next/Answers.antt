@@ -26,14 +26,14 @@ its_due : (g : Over) (c : goal.After-drop-write g) → c.args.self.now.due ≡ c
 its_due g c = ap (λ (s : Store). s.due) (sym c.self.view_is) ∙ c.in-Some.ensures.items ∙ ap (λ xs. c.in-Some.write ∷ xs) (sym c.note.ensures.due)
 
 its_calls : (g : Over) (c : goal.After-drop-write g) → c.note.new.self.disks.calls
-    ≡ on c.in-Some.write.disk (write_call c.note.result c.in-Some.write.offset c.in-Some.write.bytes.items) ∷ c.args.self.now.disks.calls
+    ≡ on c.in-Some.write.disk (write_call c.note.result c.in-Some.write.offset c.in-Some.write.bytes.value.items) ∷ c.args.self.now.disks.calls
 its_calls g c =
     let answers : is_ok c.note.result ≡ is_ok c.write_at-answer.result = c.note.ensures.ok ∙ c.is_ok.ensures.value in
-    let call = same_write_call c.note.result c.write_at-answer.result c.in-Some.write.offset c.in-Some.write.bytes.items answers in
+    let call = same_write_call c.note.result c.write_at-answer.result c.in-Some.write.offset c.in-Some.write.bytes.value.items answers in
     ap (λ (d : Disks). d.calls) c.note.ensures.disks ∙ c.write_at-answer.ensures.calls
-    ∙ ap (λ b. on c.in-Some.write.disk (write_call c.write_at-answer.result c.in-Some.write.offset b) ∷ c.self.inside.disks.calls) c.deref.ensures.value
+    ∙ ap (λ b. on c.in-Some.write.disk (write_call c.write_at-answer.result c.in-Some.write.offset b) ∷ c.self.inside.disks.calls) c.bytes.ensures
     ∙ ap (λ made. on c.in-Some.write.disk made ∷ c.self.inside.disks.calls) (sym call)
-    ∙ ap (λ (s : Store). on c.in-Some.write.disk (write_call c.note.result c.in-Some.write.offset c.in-Some.write.bytes.items) ∷ s.disks.calls) c.self.view_is
+    ∙ ap (λ (s : Store). on c.in-Some.write.disk (write_call c.note.result c.in-Some.write.offset c.in-Some.write.bytes.value.items) ∷ s.disks.calls) c.self.view_is
 
 laid_out : (g : Over) (c : goal.After-drop-write g) → IsLaidOut c.args.self.now.disks.starts c.args.self.now.spaces
 laid_out g c = subst (λ (s : Store). IsLaidOut s.disks.starts s.spaces) c.self.view_is c.self.invariant.laid_out

@@ -7,10 +7,10 @@ use Rattle.pool_commit.proofs.commit.Commit.new.Goals as goal
 
 pub returns-clause-backs : goal.returns-clause-backs
 returns-clause-backs g c =
-    starts c.in-Ok.store c.new-3.result c.args.vdevs.now c.in-Ok.ensures.shapes c.in-Ok.ensures.out c.in-Ok.ensures.plans (record {
-      committed = c.new-3.ensures.committed;
-      root = ap (λ (kept : KeptGroup). kept.root) c.new-3.ensures.last;
-      names = subst (λ (kept : KeptGroup). Knows kept.names no_volumes) (sym c.new-3.ensures.last) c.new-2.ensures;
-      before = c.new-3.ensures.before;
-      earliest = c.new-3.ensures.earliest;
+    starts c.in-Ok.store c.new-2.result c.args.vdevs.now c.in-Ok.ensures.shapes c.in-Ok.ensures.out c.in-Ok.ensures.plans (record {
+      committed = c.new-2.ensures.committed;
+      root = ap (λ (kept : KeptGroup). kept.root) c.new-2.ensures.last;
+      names = subst (λ (kept : KeptGroup). Knows kept.names.value no_volumes) (sym c.new-2.ensures.last) c.in_ok-no_names.ensures;
+      before = c.new-2.ensures.before;
+      earliest = c.new-2.ensures.earliest;
     })

@@ -45,14 +45,14 @@ loop-id-preserved g c =
     let block : BlockWrite = c.in_ok-block.block in
     let now : List BlockWrite = c.push.new.blocks.items in
     let reads = c.changed_block.ensures.reads in
-    let Way : BlockWrite → Type 0 = λ b. ¬ IsCovered c.args.self.now c.args.changes.now.name.now c.args.changes.now.writes.now b.id
+    let Way : BlockWrite → Type 0 = λ b. ¬ IsCovered c.args.self.now c.args.changes.now.name.now c.args.changes.now.items.now.writes b.id
     → (found : Option (List ℕ)) × IsFound c.args.store.now.spaces c.args.self.now c.args.set.now b.id found in
     record {
       reads = reads_on _ _ _ _ c.loop-id.invariant.reads reads;
       ids = one_id_more so_far now block c.args.ids.now c.loop-id.id-index c.in_ok-push.ensures c.in_ok-block.ensures.id c.loop-id-test.true c.loop-id.invariant.ids;
       whole = all_more (λ b. length b.bytes.items ≡ c.args.self.now.block_size) so_far now block c.in_ok-push.ensures c.loop-id.invariant.whole c.in_ok-block.ensures.len;
       value = λ stored volume held named has honest.
-          all_more (λ b. b.bytes.items ≡ part (after_writes volume c.args.changes.now.writes.now).bytes c.args.self.now.block_size b.id) so_far now block c.in_ok-push.ensures
+          all_more (λ b. b.bytes.items ≡ part (after_writes volume c.args.changes.now.items.now.writes).bytes c.args.self.now.block_size b.id) so_far now block c.in_ok-push.ensures
           (c.loop-id.invariant.value stored volume held named has (true_before _ _ _ _ c.loop-id.invariant.reads reads honest))
           (c.in_ok-block.ensures.value stored volume (c.loop-id.invariant.reads.keeps stored held) named has (true_after _ _ _ _ c.loop-id.invariant.reads reads honest));
       found = all_more Way so_far now block c.in_ok-push.ensures c.loop-id.invariant.found

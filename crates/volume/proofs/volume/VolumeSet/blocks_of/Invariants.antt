@@ -18,7 +18,7 @@ invariant-loop-id g l = record {
   whole : All (λ block. length block.bytes.items ≡ l.self.block_size) l.blocks.items;
   value : (stored : Contents) (volume : PlainVolume) → Holds l.fn.store stored → volume.name ≡ l.changes.name.now
       → HasData stored l.self.block.birth l.set l.self.size l.self.block_size volume.bytes → AnswersAreTrue l.fn.store l.store
-      → All (λ block. block.bytes.items ≡ part (after_writes volume l.changes.writes.now).bytes l.self.block_size block.id) l.blocks.items;
-  found : All (λ block. ¬ IsCovered l.self l.changes.name.now l.changes.writes.now block.id → (found : Option (List ℕ)) × IsFound l.fn.store.spaces l.self l.set block.id found) l.blocks.items;
-  unread : All (IsCovered l.self l.changes.name.now l.changes.writes.now) l.ids → l.store ≡ l.fn.store;
+      → All (λ block. block.bytes.items ≡ part (after_writes volume l.changes.items.now.writes).bytes l.self.block_size block.id) l.blocks.items;
+  found : All (λ block. ¬ IsCovered l.self l.changes.name.now l.changes.items.now.writes block.id → (found : Option (List ℕ)) × IsFound l.fn.store.spaces l.self l.set block.id found) l.blocks.items;
+  unread : All (IsCovered l.self l.changes.name.now l.changes.items.now.writes) l.ids → l.store ≡ l.fn.store;
 }

@@ -7,10 +7,10 @@ use Rattle.volume.proofs.volume.VolumeSet.changed_block.Goals as goal
 
 pub returns-then-is_covered-clause-value : goal.returns-then-is_covered-clause-value
 returns-then-is_covered-clause-value g c = λ stored volume held named has honest.
-    laid_over_zeros c.args.self.now volume c.args.changes.now.name.now c.args.changes.now.writes.now c.args.id c.in_ok-zeros.zeros.items c.laid.result.bytes.items c.requires.id named
+    laid_over_zeros c.args.self.now volume c.args.changes.now.name.now c.args.changes.now.items.now.writes c.args.id c.in_ok-zeros.zeros.items c.laid.result.bytes.items c.requires.id named
     has.data_is.size_is (c.is_covered.ensures.0 c.if-is_covered.true)
     (c.in_ok-zeros.ensures.items_if_clones_equal (λ y same. same) ∙ ap (λ n. replicate n 0) c.block_size.ensures.value) c.laid.ensures.value
-    ∙ ap (part (after_writes volume c.args.changes.now.writes.now).bytes c.args.self.now.block_size) (sym c.laid.ensures.id)
+    ∙ ap (part (after_writes volume c.args.changes.now.items.now.writes).bytes c.args.self.now.block_size) (sym c.laid.ensures.id)
 
 pub returns-in_err-old-clause-refused : goal.returns-in_err-old-clause-refused
 returns-in_err-old-clause-refused g c =
@@ -24,4 +24,4 @@ returns-in_err-old-clause-known g c =
 pub returns-clause-value : goal.returns-clause-value
 returns-clause-value g c = λ stored volume held named has honest.
     c.laid-2.ensures.value volume named has.data_is.size_is (c.in_ok-old.ensures.value stored volume.bytes held has honest c.requires.id)
-    ∙ ap (part (after_writes volume c.args.changes.now.writes.now).bytes c.args.self.now.block_size) (sym c.laid-2.ensures.id)
+    ∙ ap (part (after_writes volume c.args.changes.now.items.now.writes).bytes c.args.self.now.block_size) (sym c.laid-2.ensures.id)

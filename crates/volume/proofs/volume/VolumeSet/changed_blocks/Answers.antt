@@ -19,20 +19,20 @@ use Rattle.volume.proofs.volume.VolumeSet.changed_blocks.Goals as goal
 pub returns-then-is_empty-clause-changed : goal.returns-then-is_empty-clause-changed
 returns-then-is_empty-clause-changed g c =
     let none : length c.in_ok-ids.ids.items ≡ 0 = grind (arith, nat_tests, c.is_empty.ensures, c.if-is_empty.true) in
-    same_ids c.new.result.items c.in_ok-ids.ids.items (IsChanged c.args.self.now c.args.changes.now.name.now c.args.changes.now.writes.now)
+    same_ids c.new.result.items c.in_ok-ids.ids.items (IsChanged c.args.self.now c.args.changes.now.name.now c.args.changes.now.items.now.writes)
     (empty_ids c.new.result.items c.in_ok-ids.ids.items c.new.ensures.items none) c.in_ok-ids.ensures.ids
 
 pub returns-then-is_empty-clause-value : goal.returns-then-is_empty-clause-value
 returns-then-is_empty-clause-value g c = λ stored volume held named is honest.
     let none : length c.in_ok-ids.ids.items ≡ 0 = grind (arith, nat_tests, c.is_empty.ensures, c.if-is_empty.true) in
-    after_is_with c.args.self.now volume c.args.changes.now.name.now c.args.changes.now.writes.now c.new.result.items named is.has.data_is.size_is
-    (same_ids c.new.result.items c.in_ok-ids.ids.items (IsChanged c.args.self.now c.args.changes.now.name.now c.args.changes.now.writes.now)
+    after_is_with c.args.self.now volume c.args.changes.now.name.now c.args.changes.now.items.now.writes c.new.result.items named is.has.data_is.size_is
+    (same_ids c.new.result.items c.in_ok-ids.ids.items (IsChanged c.args.self.now c.args.changes.now.name.now c.args.changes.now.items.now.writes)
     (empty_ids c.new.result.items c.in_ok-ids.ids.items c.new.ensures.items none) c.in_ok-ids.ensures.ids)
     (λ k d within. absurd (omega (arith, within, ap length c.new.ensures.items)))
 
 pub returns-in_err-set-clause-idle : goal.returns-in_err-set-clause-idle
 returns-in_err-set-clause-idle g c = λ none.
-    let empty : length c.in_ok-ids.ids.items ≡ 0 = none_changed c.args.self.now c.args.changes.now.name.now c.args.changes.now.writes.now c.in_ok-ids.ids.items c.in_ok-ids.ensures.ids none in
+    let empty : length c.in_ok-ids.ids.items ≡ 0 = none_changed c.args.self.now c.args.changes.now.name.now c.args.changes.now.items.now.writes c.in_ok-ids.ids.items c.in_ok-ids.ensures.ids none in
     absurd (grind (arith, nat_tests, c.is_empty.ensures, c.if-is_empty.false, c.in_ok-ids.ids.ok.0, empty))
 
 pub returns-in_err-set-clause-refused : goal.returns-in_err-set-clause-refused
@@ -44,27 +44,27 @@ returns-in_err-set-clause-known g c =
 
 pub blocks_of-requires-clause-ids : goal.blocks_of-requires-clause-ids
 blocks_of-requires-clause-ids g c =
-    items_below c.args.self.now c.args.changes.now.name.now c.args.changes.now.writes.now c.in_ok-ids.ids.items c.deref.result.now c.deref.ensures.value c.in_ok-ids.ensures.ids
+    items_below c.args.self.now c.args.changes.now.name.now c.args.changes.now.items.now.writes c.in_ok-ids.ids.items c.deref.result.now c.deref.ensures.value c.in_ok-ids.ensures.ids
 
 pub returns-clause-reads : goal.returns-clause-reads
 returns-clause-reads g c = reads_on _ _ _ _ c.in_ok-set.ensures.reads c.blocks_of.ensures.reads
 
 pub returns-clause-idle : goal.returns-clause-idle
 returns-clause-idle g c = λ none.
-    let empty : length c.in_ok-ids.ids.items ≡ 0 = none_changed c.args.self.now c.args.changes.now.name.now c.args.changes.now.writes.now c.in_ok-ids.ids.items c.in_ok-ids.ensures.ids none in
+    let empty : length c.in_ok-ids.ids.items ≡ 0 = none_changed c.args.self.now c.args.changes.now.name.now c.args.changes.now.items.now.writes c.in_ok-ids.ids.items c.in_ok-ids.ensures.ids none in
     absurd (grind (arith, nat_tests, c.is_empty.ensures, c.if-is_empty.false, c.in_ok-ids.ids.ok.0, empty))
 
 pub returns-clause-blocks : goal.returns-clause-blocks
 returns-clause-blocks g c =
     IfOk-weaker c.blocks_of.result _ _
     (λ blocks is. are_blocks c.args.self.now blocks.items c.deref.result.now is.0 (subst IsStrictlyIncreasing (sym c.deref.ensures.value) c.in_ok-ids.ensures.once)
-    (items_below c.args.self.now c.args.changes.now.name.now c.args.changes.now.writes.now c.in_ok-ids.ids.items c.deref.result.now c.deref.ensures.value c.in_ok-ids.ensures.ids) is.1)
+    (items_below c.args.self.now c.args.changes.now.name.now c.args.changes.now.items.now.writes c.in_ok-ids.ids.items c.deref.result.now c.deref.ensures.value c.in_ok-ids.ensures.ids) is.1)
     (ok_both c.blocks_of.result _ _ c.blocks_of.ensures.ids c.blocks_of.ensures.whole)
 
 pub returns-clause-changed : goal.returns-clause-changed
 returns-clause-changed g c =
     IfOk-weaker c.blocks_of.result _ _
-    (λ blocks is. same_ids blocks.items c.in_ok-ids.ids.items (IsChanged c.args.self.now c.args.changes.now.name.now c.args.changes.now.writes.now) (is ∙ c.deref.ensures.value) c.in_ok-ids.ensures.ids)
+    (λ blocks is. same_ids blocks.items c.in_ok-ids.ids.items (IsChanged c.args.self.now c.args.changes.now.name.now c.args.changes.now.items.now.writes) (is ∙ c.deref.ensures.value) c.in_ok-ids.ensures.ids)
     c.blocks_of.ensures.ids
 
 pub returns-clause-value : goal.returns-clause-value
@@ -73,8 +73,8 @@ returns-clause-value g c =
     let rest = c.blocks_of.ensures.reads in
     IfOk-weaker c.blocks_of.result _ _
     (λ blocks both stored volume held named is honest.
-    after_is_with c.args.self.now volume c.args.changes.now.name.now c.args.changes.now.writes.now blocks.items named is.has.data_is.size_is
-    (same_ids blocks.items c.in_ok-ids.ids.items (IsChanged c.args.self.now c.args.changes.now.name.now c.args.changes.now.writes.now) (both.0 ∙ c.deref.ensures.value) c.in_ok-ids.ensures.ids)
+    after_is_with c.args.self.now volume c.args.changes.now.name.now c.args.changes.now.items.now.writes blocks.items named is.has.data_is.size_is
+    (same_ids blocks.items c.in_ok-ids.ids.items (IsChanged c.args.self.now c.args.changes.now.name.now c.args.changes.now.items.now.writes) (both.0 ∙ c.deref.ensures.value) c.in_ok-ids.ensures.ids)
     (both.1 stored volume (first.keeps stored held) named
     (subst (λ (set : ObjectSet). HasData stored _ set _ _ volume.bytes) (sym (c.in_ok-set.ensures.value stored _ _ held is (omega arith) (true_before _ _ _ _ first rest honest))) is.has)
     (true_after _ _ _ _ first rest honest)))
@@ -85,9 +85,9 @@ returns-clause-found g c =
     IfOk-weaker c.blocks_of.result _ _
     (λ blocks found.
     All-weaker
-    (λ (block : BlockWrite). ¬ IsCovered c.args.self.now c.args.changes.now.name.now c.args.changes.now.writes.now block.id
+    (λ (block : BlockWrite). ¬ IsCovered c.args.self.now c.args.changes.now.name.now c.args.changes.now.items.now.writes block.id
     → (found : Option (List ℕ)) × IsFound c.open.new.store.spaces c.args.self.now c.in_ok-set.set block.id found)
-    (λ (block : BlockWrite). ¬ IsCovered c.args.self.now c.args.changes.now.name.now c.args.changes.now.writes.now block.id
+    (λ (block : BlockWrite). ¬ IsCovered c.args.self.now c.args.changes.now.name.now c.args.changes.now.items.now.writes block.id
     → IsWayRead c.args.store.now.spaces c.args.self.now c.args.birth block.id)
     (λ block is none. let way = is none in (
       c.in_ok-set.set,

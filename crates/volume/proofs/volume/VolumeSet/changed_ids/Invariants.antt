@@ -1,7 +1,7 @@
-use Rattle.std.proofs.Common.{◌↔◌, ℕ, take, Contains}
-use Rattle.volume.specs.Writing.{IsChanged}
+use Rattle.std.proofs.Common.{◌↔◌, ℕ, Contains}
+use Rattle.volume.proofs.Changed.{IsListedBefore}
 use Rattle.volume.proofs.volume.VolumeSet.changed_ids.Given as goal
 
--- the ids are those that the writes so far reach
-abbrev pub invariant-loop-write : goal.invariant-loop-write
-invariant-loop-write l = (id : ℕ) → Contains l.ids.items id ↔ IsChanged l.self l.name (take l.write-index l.writes) id
+-- the ids are those that the writes at the places so far reach
+abbrev pub invariant-loop-position : goal.invariant-loop-position
+invariant-loop-position l = (id : ℕ) → Contains l.ids.items id ↔ IsListedBefore l.self l.writes l.places l.position-index id

@@ -33,7 +33,7 @@ returns-clause-value g c =
       did.0,
       did.1,
       did.2,
-      did.3 (after_writes volume c.args.changes.now.writes.now).bytes (c.in_ok-blocks.ensures.value stored volume plans.held named is
+      did.3 (after_writes volume c.args.changes.now.items.now.writes).bytes (c.in_ok-blocks.ensures.value stored volume plans.held named is
           (true_before c.args.store.now c.changed_blocks.new.store c.placed.new.store c.placed.ensures.steps.reads honest)),
     ))
     c.placed.ensures.value

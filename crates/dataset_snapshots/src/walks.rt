@@ -1,0 +1,254 @@
+//! All blocks that the root of a pool leads to.
+ghost use Rattle.std.specs.Prelude.{◌≡◌, ◌≢◌, ◌⊎◌, ◌+◌, ◌++◌, ◌∷◌, ◌<◌, ◌≤◌, ℕ, List, Option, length, IfOk, IfErr, OnOk};
+ghost use Rattle.std.specs.List.{AllZip};
+ghost use Rattle.block_pointer.specs.declared.block.Block.{Block};
+ghost use Rattle.block_store.specs.Blocks.{Contents};
+ghost use Rattle.block_store.specs.Losses.{IsForLoss};
+ghost use Rattle.block_store.specs.Steps.{OnlyReadsBlocks, AnswersAreTrue};
+ghost use Rattle.block_store.specs.Store.{Holds};
+ghost use Rattle.dnode.specs.declared.object_set.ObjectSet.{ObjectSet};
+ghost use Rattle.dnode.specs.declared.object_set.ObjectSetKind.TheVariants as sets;
+ghost use Rattle.dnode.specs.ObjectSet.{FitsObjectSet};
+ghost use Rattle.dnode_slots.specs.Sets.{IsSetBlock};
+ghost use Rattle.dnode_tree.specs.Rewriting.{AreDistinct};
+ghost use Rattle.dnode_tree.specs.Subtree.{joined};
+ghost use Rattle.meta_objset.specs.declared.directory.DirectoryRow.{DirectoryRow};
+ghost use Rattle.meta_objset.specs.Reading.{HasDirectory};
+ghost use Rattle.objset.specs.Objects.{Object, AreObjects};
+ghost use Rattle.pool_model.specs.declared.volume.PlainVolume.{PlainVolume};
+ghost use Rattle.pool_model.specs.Pools.{PlainPool};
+ghost use Rattle.dataset_snapshots.specs.Finding.{IsMetaFound};
+ghost use Rattle.dataset_snapshots.specs.Pools.{SpellsDataset, SpellsPool};
+ghost use Rattle.dataset_snapshots.specs.Reach.{blocks_of_dataset, parts_of, reach_of};
+ghost use Rattle.dataset_snapshots.specs.Reach.{AreRowsWalked, AreVolumesUnwalked, AreVolumesWalked, IsDatasetUnwalked};
+ghost use Rattle.dataset_snapshots.specs.Reach.{IsDatasetWalked, IsMetaMissed, IsReachRefused, IsReached, IsRowUnwalked};
+
+use crate::finding::{read_dataset, read_meta};
+use block_pointer::Block;
+use block_store::{BlockStore, Refusal};
+use dnode::ObjectSet;
+use dnode_tree::are_distinct;
+use meta_objset::{DirectoryRow, read_directory};
+use model_disk::Disk;
+use std::alloc::{AllocError, Global};
+
+/// All blocks that the root of a pool leads to, each once: that of the root; those of the meta object set, as
+/// `objset::walk_within` finds them; and for each row of the directory, in their order, those of its volume, as
+/// `VolumeSet::walk_within` finds them.
+///
+/// The pool may be forged. The walks read at most as many blocks as are left to be read, and count each of them off; beside them
+/// the directory is read, and the record of each dataset. `BadPointer` also where none is left, and where a block is there
+/// twice. The root was born in the transaction group `birth` or before. The disks that are named are taken as missing.
+pub fn reach<D: Disk + Drop>(
+    root: &Block,
+    store: &mut BlockStore<D>,
+    alloc: Global,
+    birth: u64,
+    left: &mut u64,
+    missing: &[usize],
+) -> Result<Vec<Block>, Refusal>
+    ensures reads { OnlyReadsBlocks store.old store.new missing.now }
+    ensures fewer { left.new ≤ left.old }
+    ensures reach { IfOk result (λ found. (stored : Contents) (pool : PlainPool)
+        → Holds store.old stored → (is : SpellsPool stored birth root.now pool)
+        → AnswersAreTrue store.old store.new → found.items ≡ reach_of is) }
+
+    // Whatever the root is: each block was found once, by so many reads, and on a refusal its cause.
+    ensures once { IfOk result (λ found. AreDistinct found.items) }
+    ensures count { IfOk result (λ found.
+        IsReached store.old.spaces birth root.now left.old left.new found.items) }
+    ensures refused { IfErr result (IsReachRefused store.old store.new missing.now birth root.now
+        left.old left.new) }
+    ensures cause { IfErr result (λ refusal. refusal ≢ Refusal.NoSpace) }
+
+    // And a whole pool that has each block once is walked, over disks that answer truly, where as
+    // many may be read as it has blocks, unless too many disks miss of a block.
+    ensures known { IfErr result (λ refusal. (stored : Contents) (pool : PlainPool)
+        → Holds store.old stored → (is : SpellsPool stored birth root.now pool)
+        → AreDistinct (reach_of is) → length (reach_of is) ≤ left.old
+        → AnswersAreTrue store.old store.new → IsForLoss refusal) }
+{
+    let set = count_meta(root, store, alloc, birth, left, missing)?;
+    let own = objset::walk_within(&set, store, alloc, root.birth, left, missing)?;
+    let below = walk_volumes(&set, store, alloc, root.birth, left, missing)?;
+    let found = with_root(*root, own, &below)?;
+    whole(alloc, found)
+}
+
+/// The meta object set of a root, whose block is counted off.
+fn count_meta<D: Disk + Drop>(
+    root: &Block,
+    store: &mut BlockStore<D>,
+    alloc: Global,
+    birth: u64,
+    left: &mut u64,
+    missing: &[usize],
+) -> Result<ObjectSet, Refusal>
+    ensures reads { OnlyReadsBlocks store.old store.new missing.now }
+    ensures fits { IfOk result FitsObjectSet }
+    ensures fewer { left.new ≤ left.old }
+    ensures count { IfOk result (λ set. left.old ≡ left.new + 1) }
+    ensures value { IfOk result (λ found. (stored : Contents) (set : ObjectSet)
+        → Holds store.old stored → IsSetBlock stored birth root.now set
+        → AnswersAreTrue store.old store.new → found ≡ set) }
+    ensures found { IfOk result (IsMetaFound store.old.spaces birth root.now) }
+    ensures refused { IfErr result
+        (IsMetaMissed store.old store.new missing.now birth root.now left.old) }
+    ensures cause { IfErr result (λ refusal. refusal ≢ Refusal.NoSpace) }
+    ensures known { IfErr result (λ refusal. (stored : Contents) (set : ObjectSet)
+        → Holds store.old stored → IsSetBlock stored birth root.now set → set.kind ≡ sets.Meta
+        → 0 < left.old → AnswersAreTrue store.old store.new → IsForLoss refusal) }
+{
+    if *left == 0 {
+        return Err(Refusal::BadPointer);
+    }
+    *left -= 1;
+    read_meta(root, store, alloc, birth, missing)
+}
+
+/// The blocks of all volumes that the directory of a set names, in the order of its rows.
+fn walk_volumes<D: Disk + Drop>(
+    set: &ObjectSet,
+    store: &mut BlockStore<D>,
+    alloc: Global,
+    birth: u64,
+    left: &mut u64,
+    missing: &[usize],
+) -> Result<Vec<Block>, Refusal>
+    requires { FitsObjectSet set.now }
+    ensures reads { OnlyReadsBlocks store.old store.new missing.now }
+    ensures fewer { left.new ≤ left.old }
+    ensures blocks { IfOk result (λ found. (stored : Contents) (objects : ℕ → Option Object)
+        (own : List Block) (blocks : ℕ → List Block) (rows : List DirectoryRow)
+        (volumes : List PlainVolume) → Holds store.old stored
+        → AreObjects stored birth set.now objects own blocks → HasDirectory (objects 1) rows
+        → (all : AllZip (SpellsDataset stored birth objects) rows volumes)
+        → AnswersAreTrue store.old store.new
+        → found.items ≡ joined (parts_of stored birth objects rows volumes all)) }
+    ensures count { IfOk result (λ found.
+        AreVolumesWalked store.old.spaces set.now birth left.old left.new found.items) }
+    ensures refused { IfErr result (AreVolumesUnwalked store.old store.new missing.now set.now birth
+        left.old left.new) }
+    ensures cause { IfErr result (λ refusal. refusal ≢ Refusal.NoSpace) }
+    ensures known { IfErr result (λ refusal. (stored : Contents) (objects : ℕ → Option Object)
+        (own : List Block) (blocks : ℕ → List Block) (rows : List DirectoryRow)
+        (volumes : List PlainVolume) → Holds store.old stored
+        → AreObjects stored birth set.now objects own blocks → HasDirectory (objects 1) rows
+        → (all : AllZip (SpellsDataset stored birth objects) rows volumes)
+        → AreDistinct (joined (parts_of stored birth objects rows volumes all))
+        → length (joined (parts_of stored birth objects rows volumes all)) ≤ left.old
+        → AnswersAreTrue store.old store.new → IsForLoss refusal) }
+{
+    let directory = read_directory(set, store, alloc, birth, missing)?;
+    walk_rows(set, directory.rows(), store, alloc, birth, left, missing)
+}
+
+/// The blocks of the volumes that the rows name, one after the other.
+fn walk_rows<D: Disk + Drop>(
+    set: &ObjectSet,
+    rows: &[DirectoryRow],
+    store: &mut BlockStore<D>,
+    alloc: Global,
+    birth: u64,
+    left: &mut u64,
+    missing: &[usize],
+) -> Result<Vec<Block>, Refusal>
+    requires { FitsObjectSet set.now }
+    ensures reads { OnlyReadsBlocks store.old store.new missing.now }
+    ensures fewer { left.new ≤ left.old }
+    ensures blocks { IfOk result (λ found. (stored : Contents) (objects : ℕ → Option Object)
+        (own : List Block) (blocks : ℕ → List Block) (volumes : List PlainVolume)
+        → Holds store.old stored → AreObjects stored birth set.now objects own blocks
+        → (all : AllZip (SpellsDataset stored birth objects) rows.now volumes)
+        → AnswersAreTrue store.old store.new
+        → found.items ≡ joined (parts_of stored birth objects rows.now volumes all)) }
+    ensures count { IfOk result (λ found.
+        AreRowsWalked store.old.spaces set.now birth rows.now left.old left.new found.items) }
+    ensures refused { IfErr result (λ refusal. (refusal ≡ Refusal.NoMemory)
+        ⊎ IsRowUnwalked store.old store.new missing.now set.now birth rows.now left.old left.new
+        refusal) }
+    ensures cause { IfErr result (λ refusal. refusal ≢ Refusal.NoSpace) }
+    ensures known { IfErr result (λ refusal. (stored : Contents) (objects : ℕ → Option Object)
+        (own : List Block) (blocks : ℕ → List Block) (volumes : List PlainVolume)
+        → Holds store.old stored → AreObjects stored birth set.now objects own blocks
+        → (all : AllZip (SpellsDataset stored birth objects) rows.now volumes)
+        → AreDistinct (joined (parts_of stored birth objects rows.now volumes all))
+        → length (joined (parts_of stored birth objects rows.now volumes all)) ≤ left.old
+        → AnswersAreTrue store.old store.new → IsForLoss refusal) }
+{
+    let mut found = Vec::new(alloc);
+    for row in rows {
+        let more = walk_dataset(set, store, alloc, birth, row.object, left, missing)?;
+        add(&mut found, &more)?;
+    }
+    Ok(found)
+}
+
+/// The blocks of the volume whose record an object has.
+fn walk_dataset<D: Disk + Drop>(
+    set: &ObjectSet,
+    store: &mut BlockStore<D>,
+    alloc: Global,
+    birth: u64,
+    object: u64,
+    left: &mut u64,
+    missing: &[usize],
+) -> Result<Vec<Block>, Refusal>
+    requires { FitsObjectSet set.now }
+    ensures reads { OnlyReadsBlocks store.old store.new missing.now }
+    ensures fewer { left.new ≤ left.old }
+    ensures blocks { IfOk result (λ found. (stored : Contents) (objects : ℕ → Option Object)
+        (own : List Block) (blocks : ℕ → List Block) (row : DirectoryRow) (volume : PlainVolume)
+        → Holds store.old stored → AreObjects stored birth set.now objects own blocks
+        → (is : SpellsDataset stored birth objects row volume) → row.object ≡ object
+        → AnswersAreTrue store.old store.new → found.items ≡ blocks_of_dataset is) }
+    ensures count { IfOk result (λ found.
+        IsDatasetWalked store.old.spaces set.now birth object left.old left.new found.items) }
+    ensures refused { IfErr result (IsDatasetUnwalked store.old store.new missing.now set.now birth
+        object left.old left.new) }
+    ensures cause { IfErr result (λ refusal. refusal ≢ Refusal.NoSpace) }
+    ensures known { IfErr result (λ refusal. (stored : Contents) (objects : ℕ → Option Object)
+        (own : List Block) (blocks : ℕ → List Block) (row : DirectoryRow) (volume : PlainVolume)
+        → Holds store.old stored → AreObjects stored birth set.now objects own blocks
+        → (is : SpellsDataset stored birth objects row volume) → row.object ≡ object
+        → AreDistinct (blocks_of_dataset is) → length (blocks_of_dataset is) ≤ left.old
+        → AnswersAreTrue store.old store.new → IsForLoss refusal) }
+{
+    let dataset = read_dataset(set, store, alloc, birth, object, missing)?;
+    dataset
+        .volume
+        .walk_within(store, alloc, birth, left, missing)
+}
+
+/// Adds blocks to a list.
+fn add(found: &mut Vec<Block>, blocks: &[Block]) -> Result<(), AllocError>
+    ensures { OnOk result (found.new.items ≡ found.old.items ++ blocks.now) }
+{
+    found.extend_from_slice(blocks)?;
+    Ok(())
+}
+
+/// The root's block, and then those of its set and those below.
+fn with_root(root: Block, own: Vec<Block>, below: &[Block]) -> Result<Vec<Block>, AllocError>
+    ensures { IfOk result (λ found. found.items ≡ root ∷ own.items ++ below.now) }
+{
+    let mut found = own;
+    found.insert(0, root)?;
+    found.extend_from_slice(below)?;
+    Ok(found)
+}
+
+/// The blocks again, if none is there twice.
+fn whole(alloc: Global, blocks: Vec<Block>) -> Result<Vec<Block>, Refusal>
+    ensures same { IfOk result (λ found. found.items ≡ blocks.items) }
+    ensures once { IfOk result (λ found. AreDistinct found.items) }
+    ensures refused { IfErr result (λ refusal. (refusal ≡ Refusal.NoMemory)
+        ⊎ ((refusal ≡ Refusal.BadPointer) × ¬ AreDistinct blocks.items)) }
+    ensures cause { IfErr result (λ refusal. refusal ≢ Refusal.NoSpace) }
+{
+    let is_once = are_distinct(alloc, &blocks)?;
+    if !is_once {
+        return Err(Refusal::BadPointer);
+    }
+    Ok(blocks)
+}

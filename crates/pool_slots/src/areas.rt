@@ -1,0 +1,146 @@
+//! What a claim is to write: the claimed uberblock, and the areas of the labels.
+ghost use Rattle.std.specs.Prelude.{◌≡◌, ◌≤◌, ◌<◌, length};
+ghost use Rattle.model_disk.specs.Joint.{bytes_of};
+ghost use Rattle.model_disk.specs.Runs.{no_write};
+ghost use Rattle.uberblock_ring.specs.Uberblock.{Fits};
+ghost use Rattle.pool_slots.specs.LabelReads.{AreSmall, HasLabeled, IsGreater, IsGreatestIn, MakesArea, MakesAreaIfRead, MakesAreas, PlansClaim};
+ghost use Rattle.pool_slots.specs.Slots.{HaveLabels, InUse, MakesOn, is_disk};
+
+use crate::label_scan::read_labels;
+use crate::labeled::{Area, Labeled};
+use crate::refusal::Refusal;
+use model_disk::{Disk, DiskArray};
+use std::alloc::Global;
+use uberblock_ring::Uberblock;
+use vdev_label::{Label, State, encode_area, read_label};
+use words::LAST_COUNT;
+
+/// What a claim writes.
+#[derive(Debug, Drop)]
+pub(crate) struct Plan {
+    pub claimed: Uberblock,
+    pub areas: Vec<Option<Area>>,
+}
+
+/// The area of a disk's labels for a claimed uberblock: that of the label that is written anew, with its
+/// claim and group.
+fn area_of<D: Disk + Drop>(
+    alloc: Global,
+    disks: &mut DiskArray<D>,
+    which: usize,
+    labeled: &Labeled,
+    uberblock: &Uberblock,
+) -> Result<Area, Refusal>
+    requires which { which < length disks.old.starts }
+    requires room { 1048576 ≤ length (bytes_of disks.old.starts which) }
+    requires first { labeled.now.first < 4 }
+    requires source { labeled.now.source < 4 }
+    requires fits { Fits uberblock.now }
+    ensures makes { MakesOn (is_disk which) no_write disks.old disks.new }
+    ensures area { MakesArea labeled.now uberblock.now disks.old disks.new which result }
+{
+    let label = read_label(alloc, disks, which, labeled.source)?;
+    let label = Label {
+        claim: uberblock.claim,
+        group: uberblock.group,
+        state: State::Active,
+        ..label
+    };
+    let bytes = encode_area(alloc, &label)?;
+    Ok(Area {
+        first: labeled.first,
+        bytes,
+    })
+}
+
+/// The same of a disk of which something was read; nothing of another.
+fn area_if_read<D: Disk + Drop>(
+    alloc: Global,
+    disks: &mut DiskArray<D>,
+    labels: &[Option<Labeled>],
+    which: usize,
+    uberblock: &Uberblock,
+) -> Result<Option<Area>, Refusal>
+    requires which { which < length disks.old.starts }
+    requires count { length labels.now ≡ length disks.old.starts }
+    requires small { AreSmall labels.now }
+    requires room { HaveLabels disks.old.starts }
+    requires fits { Fits uberblock.now }
+    ensures makes { MakesOn (HasLabeled labels.now) no_write disks.old disks.new }
+    ensures area { MakesAreaIfRead labels.now uberblock.now disks.old disks.new which result }
+{
+    match labels[which] {
+        Some(labeled) => Ok(Some(area_of(alloc, disks, which, &labeled, uberblock)?)),
+        None => Ok(None),
+    }
+}
+
+/// The areas of all disks of which something was read.
+fn areas_of<D: Disk + Drop>(
+    alloc: Global,
+    disks: &mut DiskArray<D>,
+    labels: &[Option<Labeled>],
+    uberblock: &Uberblock,
+) -> Result<Vec<Option<Area>>, Refusal>
+    requires count { length labels.now ≡ length disks.old.starts }
+    requires small { AreSmall labels.now }
+    requires room { HaveLabels disks.old.starts }
+    requires fits { Fits uberblock.now }
+    ensures makes { MakesOn (HasLabeled labels.now) no_write disks.old disks.new }
+    ensures areas { MakesAreas labels.now uberblock.now disks.old disks.new result }
+{
+    let mut all = Vec::new(alloc);
+    for which in 0..disks.len() {
+        let area = area_if_read(alloc, disks, labels, which, uberblock)?;
+        all.push(area)?;
+    }
+    Ok(all)
+}
+
+/// The greater of a claim and what labels show, if they were read.
+fn greater(claim: u64, labeled: Option<Labeled>) -> u64
+    ensures { IsGreater claim labeled result }
+{
+    match labeled {
+        Some(it) if it.claim > claim => it.claim,
+        _ => claim,
+    }
+}
+
+/// The greatest of a claim and those that labels show.
+fn greatest_of(labels: &[Option<Labeled>], least: u64) -> u64
+    ensures { IsGreatestIn labels.now least (length labels.now) result }
+{
+    let mut greatest = least;
+    for which in 0..labels.len() {
+        greatest = greater(greatest, labels[which]);
+    }
+    greatest
+}
+
+/// The taken uberblock under the next claim, and the areas of the labels for it.
+pub(crate) fn plan_claim<D: Disk + Drop>(
+    alloc: Global,
+    disks: &mut DiskArray<D>,
+    out: &[bool],
+    taken: &Uberblock,
+    highest: &Uberblock,
+) -> Result<Plan, Refusal>
+    requires out { length out.now ≡ length disks.old.starts }
+    requires labels { HaveLabels disks.old.starts }
+    requires fits { Fits taken.now }
+    ensures makes { MakesOn (InUse out.now) no_write disks.old disks.new }
+    ensures plans { PlansClaim out.now taken.now highest.now disks.old disks.new result }
+{
+    let labels = read_labels(alloc, disks, out, &taken.config_digest)?;
+    let greatest = greatest_of(&labels, highest.claim);
+    if greatest >= LAST_COUNT {
+        return Err(Refusal::UsedUp);
+    }
+    let claimed = Uberblock {
+        claim: greatest + 1,
+        ..*taken
+    };
+    let areas = areas_of(alloc, disks, &labels, &claimed)?;
+    Ok(Plan { claimed, areas })
+}

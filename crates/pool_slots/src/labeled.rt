@@ -1,0 +1,27 @@
+//! What the labels of a disk show, and what a claim writes to them.
+
+/// What one label shows.
+#[derive(Clone, Copy, Debug)]
+pub(crate) struct Shown {
+    pub claim: u64,
+    pub config_digest: [u8; 32],
+}
+
+/// What the four labels of a disk show.
+#[derive(Clone, Copy, Debug)]
+pub(crate) struct Labeled {
+    /// The greatest claim that they show.
+    pub claim: u64,
+    /// The label that is written anew: the latest of those with the wanted configuration.
+    pub source: u64,
+    /// The disk's claim label: the one that is written before any slot.
+    pub first: u64,
+}
+
+/// The area that a claim writes to the four labels of a disk.
+#[derive(Debug, Drop)]
+pub(crate) struct Area {
+    /// The disk's claim label.
+    pub first: u64,
+    pub bytes: Vec<u8>,
+}
