@@ -135,7 +135,8 @@ fn from_parities(alloc: Global) -> Result<bool, AllocError> {
     let mut columns = Columns::new(Parity::Two(first, second), two(2, 1), block);
     let accepted = columns.rebuild(&[2, 3]).is_ok();
     let (parity, block) = columns.into_parts();
-    Ok(accepted && block.as_slice() == &[0x01, 0x02, 0x03] && parity.row(1) == &[0x01, 0x04])
+    let rebuilt = block.as_slice() == [0x01, 0x02, 0x03].as_slice();
+    Ok(accepted && rebuilt && parity.row(1) == [0x01, 0x04].as_slice())
 }
 
 #[test]
