@@ -8,10 +8,11 @@ use Rattle.model_disk.specs.Runs.{EachSince, IsOff, Makes, no_write}
 use Rattle.model_disk.proofs.RunLemmas.{each_after, off_content, off_is_left}
 use Rattle.vdev_label.specs.Plain.{PlainLabel}
 use Rattle.pool_slots.specs.Commits.{AreOffLabels, AreAt, LeadAlways, only_last}
-use Rattle.pool_slots.specs.Labels.{AreClaimed, AreWhole, AreaStands, AreasFit, AreasOn, AreasStand, HasArea, InAreaTurn, IsAreaWrite, IsClaimWrite, IsInscribed, IsLabelShown, area_place, inscribed}
+use Rattle.pool_slots.specs.Labels.{AreClaimed, AreWhole, AreasFit, AreasOn, AreasStand, HasArea, InAreaTurn, IsAreaWrite, IsClaimWrite, IsInscribed, IsLabelShown, area_place, inscribed}
 use Rattle.pool_slots.specs.Marks.{IsMarked, LeavesMarked, MarkedAlways}
 use Rattle.pool_slots.specs.Opens.{ClaimsAt, MayClaim, also_begun}
 use Rattle.pool_slots.specs.Possible.{Possible, IsTopped, Trees, TreeStands, IsPossible, Leads, LeavesLeading, AllAreBelow, AreBelow, held_by}
+use Rattle.pool_slots.specs.Relabels.{all_labels}
 use Rattle.pool_slots.specs.Slots.{AreThere, AreSettled, HaveLabels, InUse, IsSlot, MakesOn, Shows, slot_at}
 use Rattle.pool_slots.specs.Writes.{IsSlotWrite, in_use}
 use Rattle.pool_slots.specs.declared.found.Found.{Found}
@@ -137,7 +138,7 @@ at_later trees out old new areas picks u room whole off makes settled at =
 
 -- ---- phase by phase
 
-same_area : (a b : Area) → Some (Some a) ≡ Some (Some b) → a ≡ b
+pub same_area : (a b : Area) → Some (Some a) ≡ Some (Some b) → a ≡ b
 same_area a b e = cc
 
 -- the claim labels
@@ -250,35 +251,41 @@ others_claim trees out old mid new p u areas there room whole off_labels on fit 
     (area_phase trees out mid (also_begun u p) areas picks there' room' whole off' leads) makes earlier moment in
     inr (subst P first.starts (led, marked))
 
--- in the end each label shows the claim
-pub all_claimed : (out : List Bool) (old mid new : Disks) (u : Uberblock) (areas : List (Option Area)) → AreThere out old.starts → HaveLabels old.starts → AreWhole areas → AreasOn out areas
-    → AreasFit u areas → FirstStands out old mid u areas → Makes (IsAreaWrite mid.starts areas (InAreaTurn areas false)) mid new
-    → AreasStand (content new) mid.starts areas (InAreaTurn areas false) → AreClaimed out new u
-all_claimed out old mid new u areas there room whole on fit first makes stand which number used is =
-    let area = (on which).0 used in
-    let it = fit which area.0 area.1 in
+-- in the end each area stands in each label of its disk
+pub all_stand : (out : List Bool) (old mid new : Disks) (u : Uberblock) (areas : List (Option Area)) → AreThere out old.starts → HaveLabels old.starts → AreWhole areas → AreasOn out areas
+    → FirstStands out old mid u areas → Makes (IsAreaWrite mid.starts areas (InAreaTurn areas false)) mid new → AreasStand (content new) mid.starts areas (InAreaTurn areas false)
+    → AreasStand (content new) old.starts areas all_labels
+all_stand out old mid new u areas there room whole on first makes stand which number area has is picked =
     let size = length (bytes_of old.starts which) in
+    let used = (on which).1 (area, has) in
     let S : List (List ℕ) → Type 0 = λ starts. AreasStand (content new) starts areas (InAreaTurn areas false) in
     let M : List (List ℕ) → Type 0 = λ starts. Makes (IsAreaWrite starts areas (InAreaTurn areas false)) mid new in
     let makes' = subst M first.starts makes in
-    let there_now : AreaStands (content new which) size number area.0 = elim (same_or_not number area.0.first) [
+    elim (same_or_not number area.first) [
       | inl same ↦ λ i below.
           off_content (IsAreaWrite old.starts areas (InAreaTurn areas false)) mid new which (area_place size number + i) makes'
           (off_area_writes old.starts areas (InAreaTurn areas false) which number whole (room which (there which used)) is
           (λ n picked equal.
-          let one : picked.area ≡ area.0 = same_area picked.area area.0 (sym picked.has ∙ area.1) in
+          let one : picked.area ≡ area = same_area picked.area area (sym picked.has ∙ has) in
           let Q : Area → Type 0 = λ a. ¬ (n ≡ a.first) in
           (subst Q one picked.turn) (equal ∙ same)) i below)
-          ∙ first.stand which number area.0 area.1 is (record { area = area.0; has = area.1; turn = same }) i below
-      | inr other ↦ (subst S first.starts stand) which number area.0 area.1 is (record { area = area.0; has = area.1; turn = other })
-    ] in
+          ∙ first.stand which number area has is (record { area = area; has = has; turn = same }) i below
+      | inr other ↦ (subst S first.starts stand) which number area has is (record { area = area; has = has; turn = other })
+    ]
+
+-- and each label shows the claim
+pub all_claimed : (out : List Bool) (old new : Disks) (u : Uberblock) (areas : List (Option Area)) → AreasOn out areas → AreasFit u areas → new.starts ≡ old.starts
+    → AreasStand (content new) old.starts areas all_labels → AreClaimed out new u
+all_claimed out old new u areas on fit starts stand which number used is =
+    let area = (on which).0 used in
+    let it = fit which area.0 area.1 in
     let P : List (List ℕ) → Type 0 = λ starts. (l : PlainLabel) × IsLabelShown (length (bytes_of starts which)) (content new which) number l × (l.claim ≡ u.claim) in
-    subst P (sym (makes.starts ∙ first.starts)) (
+    subst P (sym starts) (
       it.label,
       record {
         is_label = is;
         valid = it.inscribed_as.valid;
-        bytes = λ i below. there_now i below ∙ ap (λ (them : List ℕ). slice_get them i) it.inscribed_as.spells;
+        bytes = λ i below. stand which number area.0 area.1 is tt i below ∙ ap (λ (them : List ℕ). slice_get them i) it.inscribed_as.spells;
       },
       it.inscribed_as.claim,
     )

@@ -18,7 +18,7 @@ use Rattle.vdev_label.specs.declared.label.State.TheVariants.{Active}
 use Rattle.vdev_label.specs.declared.refusal.Refusal.{Refusal as LabelRefusal}
 use Rattle.vdev_label.specs.declared.refusal.Refusal.TheVariants as label
 use Rattle.vdev_label.proofs.Rooms.{relabeled_has_room}
-use Rattle.pool_slots.specs.LabelReads.{IsGreater, IsGreatestIn, ReadsAll, MakesArea, MakesAreaIfRead, MakesAreas, AreMadeFor, HasLabeled, AreLabeledOn, AreLabeled, IsPlanned, PlansClaim}
+use Rattle.pool_slots.specs.LabelReads.{AreFromSources, IsGreater, IsGreatestIn, ReadsAll, MakesArea, MakesAreaIfRead, MakesAreas, AreMadeFor, HasLabeled, AreLabeledOn, AreLabeled, IsPlanned, PlansClaim}
 use Rattle.pool_slots.specs.Labels.{IsLabelShown, IsShownAs, AreShownAs, IsLabeledAs, IsValid, IsShownInUse, FitsArea, HasArea, Keeps, inscribed}
 use Rattle.pool_slots.specs.OpenRefusals.{of_label}
 use Rattle.pool_slots.specs.Opens.{IsKnown, AreKnown}
@@ -30,10 +30,10 @@ use Rattle.pool_slots.specs.declared.labeled.Labeled.{Labeled}
 use Rattle.pool_slots.specs.declared.labeled.Shown.{Shown}
 use Rattle.pool_slots.specs.declared.refusal.Refusal.{Refusal}
 use Rattle.pool_slots.specs.declared.refusal.Refusal.TheVariants.{NoMemory, DiskFault, NoUberblock, NoLabel, UsedUp}
-use Rattle.pool_slots.proofs.Choices.{within, kept_beside}
+use Rattle.pool_slots.proofs.Choices.{claim_label_within, within, kept_beside}
 use Rattle.pool_slots.proofs.Finding.{known_on, honest_before, honest_since}
 use Rattle.pool_slots.proofs.LabelAreas.{inscribed_is, label_shown, reads_other}
-use Rattle.pool_slots.proofs.LabelScans.{label_same}
+use Rattle.pool_slots.proofs.LabelScans.{label_later, label_same}
 use Rattle.pool_slots.proofs.Phases.{none_same}
 use Rattle.pool_slots.proofs.Reading.{longer}
 
@@ -69,6 +69,9 @@ greatest_next labels least n claim result inside before next =
 
 pub greatest_end : (labels : List (Option Labeled)) (least n claim : ℕ) → length labels ≤ n → IsGreatestIn labels least n claim → IsGreatestIn labels least (length labels) claim
 greatest_end labels least n claim all it = record { from = it.from; each = λ which labeled below at. it.each which labeled (omega (arith, below, all)) at; is = it.is }
+
+same_labeled : (a b : Labeled) → Some (Some a) ≡ Some (Some b) → a ≡ b
+same_labeled a b e = cc
 
 -- ---- one area
 
@@ -143,6 +146,28 @@ made_next labels u loop new which all o count made one w it at =
           subst P (sym count ∙ sym here.0) (subst Q here.1 (made_here labels u loop new which o one))
     ]
 
+shown_area : (labels : List (Option Labeled)) (u : Uberblock) (first loop new : Disks) (which : ℕ) (o : Option Area) (it : Labeled) (area : Area) (l : PlainLabel) → Makes no_write first loop
+    → MakesAreaIfRead labels u loop new which (Ok o) → AreHonestSince (length loop.calls) new.starts new.calls → o ≡ Some area → slice_get labels which ≡ Some (Some it) → IsKnown first which
+    → IsLabelShown (length (bytes_of first.starts which)) (content first which) it.source l → area.bytes.items ≡ inscribed (relabeled l u.claim u.group Active)
+shown_area labels u first loop new which None it area l before one honest is labeled known shown = absurd cc
+shown_area labels u first loop new which (Some made) it area l before one honest is labeled known shown =
+    let mine : it ≡ one.0 = same_labeled it one.0 (sym labeled ∙ one.1) in
+    let P : Labeled → Type 0 = λ x. IsLabelShown (length (bytes_of loop.starts which)) (content loop which) x.source l in
+    let Q : Area → Type 0 = λ a. a.bytes.items ≡ inscribed (relabeled l u.claim u.group Active) in
+    subst Q (some_same made area is) (one.2.2 (known_on first loop which before known) honest l (subst P mine (label_later first loop which it.source l before shown)))
+
+pub sources_next : (labels : List (Option Labeled)) (u : Uberblock) (first loop new : Disks) (which : ℕ) (all : List (Option Area)) (o : Option Area) → length all ≡ which → Makes no_write first loop
+    → Makes no_write loop new → (AreHonestSince (length first.calls) loop.starts loop.calls → AreFromSources labels u first all) → MakesAreaIfRead labels u loop new which (Ok o)
+    → AreHonestSince (length first.calls) new.starts new.calls → AreFromSources labels u first (all ++ o ∷ [])
+sources_next labels u first loop new which all o count before makes sources one honest w it area l labeled at known shown =
+    elim (push_cases all o (Some area) w at) [
+      | inl earlier ↦ sources (honest_before (length first.calls) no_write loop new makes honest) w it area l labeled earlier known shown
+      | inr here ↦
+          let P : ℕ → Type 0 = λ d. MakesAreaIfRead labels u loop new d (Ok o) in
+          shown_area labels u first loop new w o it area l before (subst P (sym count ∙ sym here.0) one)
+          (honest_since (length first.calls) (length loop.calls) new (longer first loop no_write before) honest) here.1 labeled known shown
+    ]
+
 slice_get_some : {X : Type 0} (xs : List X) (i : ℕ) → i < length xs → (x : X) × (slice_get xs i ≡ Some x)
 slice_get_some [] i within = absurd (omega arith)
 slice_get_some (x ∷ xs) zero within = (x, refl)
@@ -154,8 +179,8 @@ has_case labels u all which None labeled at it = absurd (it labeled)
 has_case labels u all which (Some area) labeled at it = (area, at)
 
 pub made_done : (labels : List (Option Labeled)) (u : Uberblock) (old new : Disks) (all : Vec (Option Area) Global) → length all.items ≡ length labels → AreMadeTo labels u all.items
-    → MakesAreas labels u old new (Ok all)
-made_done labels u old new all count made = (
+    → (AreHonestSince (length old.calls) new.starts new.calls → AreFromSources labels u old all.items) → MakesAreas labels u old new (Ok all)
+made_done labels u old new all count made sources = (
   count,
   record {
     each = λ which labeled.
@@ -164,6 +189,7 @@ made_done labels u old new all count made = (
     only = λ which area at. let it = made which (Some area) at in (it.0, it.1, it.2);
   },
   λ which area at. (made which (Some area) at).3,
+  sources,
 )
 
 pub made_refused : (labels : List (Option Labeled)) (u : Uberblock) (first loop new : Disks) (which : ℕ) (refusal : Refusal) → Makes no_write first loop
@@ -242,21 +268,35 @@ areas_refused out taken highest u old mid new labels NoLabel scan makes on are i
     (subst P (sym scan.starts) (label_same size bad.it.source (content old bad.which) (content mid bad.which) there.0 (λ i. none_same old mid bad.which i scan) there.1)))
 areas_refused out taken highest u old mid new labels UsedUp scan makes on are it = absurd it
 
-planned : (out : List Bool) (disks : Disks) (highest : Uberblock) (digest : List ℕ) (labels : List (Option Labeled)) (areas : List (Option Area)) (greatest : ℕ) → AreLabeledOn out labels
-    → AreLabeled out disks digest labels → IsGreatestIn labels highest.claim (length labels) greatest → AreMadeFor labels areas → IsPlanned out disks highest (greatest + 1) areas
-planned out disks highest digest labels areas greatest on are is made =
+planned : (out : List Bool) (disks : Disks) (highest u : Uberblock) (labels : List (Option Labeled)) (areas : List (Option Area)) (greatest : ℕ) → u.claim ≡ greatest + 1 → AreLabeledOn out labels
+    → AreLabeled out disks u.config_digest labels → IsGreatestIn labels highest.claim (length labels) greatest → AreMadeFor labels areas → AreKnown out disks → AreFromSources labels u disks areas
+    → IsPlanned out disks highest u areas
+planned out disks highest u labels areas greatest claim on are is made known sources =
+    let digest = u.config_digest in
     record {
       next = record {
-        above_slots = omega (arith, is.from);
+        above_slots = omega (arith, is.from, claim);
         above_labels = λ l shown.
             let it = (on shown.which).0 shown.used in
             let most = at_most (length (bytes_of disks.starts shown.which)) (content disks shown.which) digest it.0 shown.number l (are shown.which it.0 it.1) shown.shown in
-            omega (arith, most, is.each shown.which it.0 (slice_get_within labels shown.which (Some it.0) it.1) it.1);
+            omega (arith, claim, most, is.each shown.which it.0 (slice_get_within labels shown.which (Some it.0) it.1) it.1);
         least = elim is.is [
-          | inl least ↦ inl (omega (arith, least))
-          | inr it ↦ let there = greatest_shown out disks digest labels it.0 it.1 on are it.2 in inr (there.0, there.1, omega (arith, it.3, there.2))
+          | inl least ↦ inl (omega (arith, claim, least))
+          | inr it ↦ let there = greatest_shown out disks digest labels it.0 it.1 on are it.2 in inr (there.0, there.1, omega (arith, claim, it.3, there.2))
         ];
       };
+      made = λ which area at.
+          let it = made.only which area at in
+          let labeled = are which it.0 it.1 in
+          let there = shown_at (length (bytes_of disks.starts which)) (content disks which) labeled.shown it.0.source labeled.summary.source.s labeled.are labeled.summary.source.at in
+          record {
+            it = it.0;
+            read = labeled;
+            first = it.2;
+            label = there.0;
+            source = there.1;
+            spells = sources which it.0 area there.0 it.1 at (known which ((on which).1 (it.0, it.1))) there.1;
+          };
       spared = λ which number area l at shown.
           let it = made.only which area at in
           let labeled = are which it.0 it.1 in
@@ -286,14 +326,15 @@ fits_claimed u claim fits from to =
     }
 
 pub plan_made : (out : List Bool) (taken highest : Uberblock) (old mid new : Disks) (labels : List (Option Labeled)) (greatest : ℕ) (plan : Plan) → plan.claimed ≡ record taken { claim = greatest + 1 }
-    → Fits taken → greatest < 2 ^ 62 → Makes no_write mid new → length labels ≡ length old.starts → AreLabeledOn out labels
+    → Fits taken → greatest < 2 ^ 62 → Makes no_write old mid → Makes no_write mid new → length labels ≡ length old.starts → AreLabeledOn out labels
     → (AreKnown out old → AreHonestSince (length old.calls) mid.starts mid.calls → AreLabeled out old taken.config_digest labels) → IsGreatestIn labels highest.claim (length labels) greatest
     → MakesAreas labels plan.claimed mid new (Ok plan.areas) → PlansClaim out taken highest old new (Ok plan)
-plan_made out taken highest old mid new labels greatest plan claimed fits below makes count on are is areas =
+plan_made out taken highest old mid new labels greatest plan claimed fits below scan makes count on are is areas =
     let claim : plan.claimed.claim ≡ greatest + 1 = ap (λ (u : Uberblock). u.claim) claimed in
     let F : Uberblock → Type 0 = Fits in
     let R : ℕ → Type 0 = λ n. plan.claimed ≡ record taken { claim = n } in
-    let S : ℕ → Type 0 = λ n. IsPlanned out old highest n plan.areas.items in (
+    let S : List ℕ → Type 0 = λ digest. AreLabeled out old digest labels in
+    let digest : plan.claimed.config_digest ≡ taken.config_digest = ap (λ (u : Uberblock). u.config_digest) claimed in (
       subst R (sym claim) claimed,
       omega (arith, claim, is.from),
       subst F (sym claimed) (fits_claimed taken (greatest + 1) fits (omega arith) (omega (arith, below))),
@@ -301,8 +342,13 @@ plan_made out taken highest old mid new labels greatest plan claimed fits below 
       λ which. (λ used. areas.1.each which ((on which).0 used), λ has. let it = areas.1.only which has.0 has.1 in (on which).1 (it.0, it.1)),
       areas.2,
       λ known honest.
-          subst S (sym claim) (planned out old highest taken.config_digest labels plan.areas.items greatest on (are known (honest_before (length old.calls) no_write mid new makes honest)) is areas.1),
+          planned out old highest plan.claimed labels plan.areas.items greatest claim on (subst S (sym digest) (are known (honest_before (length old.calls) no_write mid new makes honest))) is areas.1 known
+          (λ which it area l labeled at there shown. areas.3 (honest_since (length old.calls) (length mid.calls) new (longer old mid no_write scan) honest) which it area l labeled at
+          (known_on old mid which scan there) (label_later old mid which it.source l scan shown)),
     )
+
+pub claim_label_small : (size : ℕ) (held : ℕ → Option ℕ) (digest : List ℕ) (it : Labeled) → IsLabeledAs size held digest it → it.first < 4
+claim_label_small size held digest it is = omega (arith, claim_label_within is.shown it.claim it.first is.summary.first, is.are.four)
 
 pub labeled_used : (out : List Bool) (seen labels : List (Option Labeled)) → seen ≡ labels → AreLabeledOn out labels → (which : ℕ) → HasLabeled seen which → InUse out which
 labeled_used out seen labels same on which it = let P : List (Option Labeled) → Type 0 = λ xs. HasLabeled xs which in (on which).1 (subst P same it)

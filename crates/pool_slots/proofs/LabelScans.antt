@@ -41,13 +41,19 @@ labeled_as_same size held held' digest it same is =
       summary = is.summary;
     }
 
-pub labeled_later : (old new : Disks) (which : ℕ) (digest : List ℕ) (it : Labeled) → Makes no_write old new → IsLabeledAs (length (bytes_of old.starts which)) (content old which) digest it
-    → IsLabeledAs (length (bytes_of new.starts which)) (content new which) digest it
-labeled_later old new which digest it makes is =
-    let P : List (List ℕ) → Type 0 = λ starts. IsLabeledAs (length (bytes_of starts which)) (content new which) digest it in
-    subst P (sym makes.starts) (labeled_as_same (length (bytes_of old.starts which)) (content old which) (content new which) digest it (λ i. none_same old new which i makes) is)
+pub label_later : (old new : Disks) (which number : ℕ) (l : PlainLabel) → Makes no_write old new → IsLabelShown (length (bytes_of old.starts which)) (content old which) number l
+    → IsLabelShown (length (bytes_of new.starts which)) (content new which) number l
+label_later old new which number l makes shown =
+    let P : List (List ℕ) → Type 0 = λ starts. IsLabelShown (length (bytes_of starts which)) (content new which) number l in
+    subst P (sym makes.starts) (label_same (length (bytes_of old.starts which)) number (content old which) (content new which) l (λ i. none_same old new which i makes) shown)
 
-labeled_earlier : (old new : Disks) (which : ℕ) (digest : List ℕ) (it : Labeled) → Makes no_write old new → IsLabeledAs (length (bytes_of new.starts which)) (content new which) digest it
+pub label_earlier : (old new : Disks) (which number : ℕ) (l : PlainLabel) → Makes no_write old new → IsLabelShown (length (bytes_of new.starts which)) (content new which) number l
+    → IsLabelShown (length (bytes_of old.starts which)) (content old which) number l
+label_earlier old new which number l makes shown =
+    let P : List (List ℕ) → Type 0 = λ starts. IsLabelShown (length (bytes_of starts which)) (content old which) number l in
+    subst P makes.starts (label_same (length (bytes_of new.starts which)) number (content new which) (content old which) l (λ i. sym (none_same old new which i makes)) shown)
+
+pub labeled_earlier : (old new : Disks) (which : ℕ) (digest : List ℕ) (it : Labeled) → Makes no_write old new → IsLabeledAs (length (bytes_of new.starts which)) (content new which) digest it
     → IsLabeledAs (length (bytes_of old.starts which)) (content old which) digest it
 labeled_earlier old new which digest it makes is =
     let P : List (List ℕ) → Type 0 = λ starts. IsLabeledAs (length (bytes_of starts which)) (content old which) digest it in

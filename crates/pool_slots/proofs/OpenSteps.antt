@@ -224,7 +224,7 @@ pub record Reads (out : List Bool) (rewind : ℕ) (old mid disks : Disks) (all :
   pub one : IsHighestOf all highest
   pub takes : TakesFrom out highest rewind mid disks (Ok taken)
   pub claimed : IsClaimed highest taken u
-  pub planned : AreKnown out old → AreHonestSince (length old.calls) disks.starts disks.calls → IsPlanned out old highest u.claim areas
+  pub planned : AreKnown out old → AreHonestSince (length old.calls) disks.starts disks.calls → IsPlanned out old highest u areas
 
 pub scanned : (out : List Bool) (rewind : ℕ) (old mid disks : Disks) (all : List (Option Found)) (highest taken u : Uberblock) (areas : List (Option Area)) → Reads out rewind old mid disks all highest taken u areas → Makes no_write old disks
 scanned out rewind old mid disks all highest taken u areas reads = both_made no_write old mid disks reads.scan reads.back

@@ -1,20 +1,24 @@
 -- A whole open.
-use Rattle.std.proofs.Common.{◌≡◌, inl, inr, ◌<◌, ℕ, Bool, List, [], ◌∷◌, length, Option, Ok, Err, sym, subst, arith}
+use Rattle.std.proofs.Common.{◌≡◌, inl, inr, ◌<◌, ◌≤◌, ◌∙◌, ℕ, Bool, true, List, [], ◌∷◌, length, slice_get, Option, Ok, Err, refl, sym, ap, subst, arith}
 use Rattle.std.specs.Prelude.{Vec}
 use Rattle.std.specs.declared.alloc.Global.{Global}
 use Rattle.uberblock_ring.specs.declared.uberblock.Uberblock.{Uberblock}
 use Rattle.model_disk.specs.Joint.{JointCall, Disks, bytes_of, content, AreHonestSince}
 use Rattle.model_disk.specs.Runs.{EachSince, Makes, no_write}
 use Rattle.model_disk.proofs.FailureLemmas.{failed_in_second}
-use Rattle.model_disk.proofs.RunLemmas.{each_weaker}
+use Rattle.model_disk.proofs.RunLemmas.{Makes-more, Makes-wider, each_weaker}
+use Rattle.uberblock_ring.specs.Uberblock.{Fits}
 use Rattle.vdev_label.specs.Plain.{PlainLabel}
+use Rattle.vdev_label.specs.Room.{relabeled}
+use Rattle.vdev_label.specs.declared.label.State.TheVariants.{Active}
 use Rattle.pool_slots.specs.Commits.{AreAt, LeadAlways}
 use Rattle.pool_slots.specs.LabelReads.{IsPlanned, LacksLabel, PlansClaim}
-use Rattle.pool_slots.specs.Labels.{IsClaimWrite, IsLabelShown, IsShownInUse}
+use Rattle.pool_slots.specs.Labels.{AreasOn, AreasStand, InAreaTurn, IsAreaWrite, IsClaimWrite, IsLabelShown, IsShownInUse, area_place}
 use Rattle.pool_slots.specs.Marks.{AreMarked, IsUsedUp, LeavesMarked, SparesMark}
 use Rattle.pool_slots.specs.OpenRefusals.{IsCause}
 use Rattle.pool_slots.specs.Opens.{AreFound, AreKnown, AreOn, AreSpared, CanOpen, ClaimGives, ClaimKeeps, ClaimsAt, FindsAll, IsClaimOf, IsHighestOf, IsRead, MarksAt, MayClaim, OpenTakes, TakesFrom, also_begun}
 use Rattle.pool_slots.specs.Possible.{Possible, Trees, LeavesLeading}
+use Rattle.pool_slots.specs.Relabels.{AreFirst, AreMadeOf, AreMarkedFirst, IsClaimLabelWrite, IsRelabeled, all_labels}
 use Rattle.pool_slots.specs.Slots.{AreThere, InUse, MakesOn}
 use Rattle.pool_slots.specs.declared.areas.Plan.{Plan}
 use Rattle.pool_slots.specs.declared.found.Found.{Found}
@@ -24,10 +28,11 @@ use Rattle.pool_slots.specs.declared.refusal.Refusal.TheVariants.{NoMemory, Disk
 use Rattle.pool_slots.proofs.BackReads.{read_earlier, read_later}
 use Rattle.pool_slots.proofs.ClaimPhases.{also}
 use Rattle.pool_slots.proofs.Finding.{honest_before, honest_since, known_later}
-use Rattle.pool_slots.proofs.LabelPhases.{each_joined, marked_always}
-use Rattle.pool_slots.proofs.LabelScans.{label_same}
+use Rattle.pool_slots.proofs.LabelPhases.{each_joined, marked_always, same_area}
+use Rattle.pool_slots.proofs.LabelPlans.{claim_label_small, relabeled_valid}
+use Rattle.pool_slots.proofs.LabelScans.{label_earlier, label_later, labeled_earlier}
 use Rattle.pool_slots.proofs.OpenSteps.{Reads, scanned, chosen, taken_from, claim_always, highest_shown, is_top, leads_before}
-use Rattle.pool_slots.proofs.Phases.{MakesOn-more, both_made, leads_more, none_same, none_wider}
+use Rattle.pool_slots.proofs.Phases.{MakesOn-more, both_made, leads_more, none_wider}
 use Rattle.pool_slots.proofs.Reading.{longer}
 
 pub scan_then_claim : (out : List Bool) (old mid new : Disks) (u : Uberblock) → MakesOn (InUse out) no_write old mid → MakesOn (InUse out) (IsClaimWrite mid.starts out u) mid new
@@ -38,27 +43,15 @@ scan_then_claim out old mid new u scan makes =
 
 -- ---- labels of disks on which nothing was written since
 
-shown_later : (old new : Disks) (which number : ℕ) (l : PlainLabel) → Makes no_write old new → IsLabelShown (length (bytes_of old.starts which)) (content old which) number l
-    → IsLabelShown (length (bytes_of new.starts which)) (content new which) number l
-shown_later old new which number l makes shown =
-    let P : List (List ℕ) → Type 0 = λ starts. IsLabelShown (length (bytes_of starts which)) (content new which) number l in
-    subst P (sym makes.starts) (label_same (length (bytes_of old.starts which)) number (content old which) (content new which) l (λ i. none_same old new which i makes) shown)
-
-shown_earlier : (old new : Disks) (which number : ℕ) (l : PlainLabel) → Makes no_write old new → IsLabelShown (length (bytes_of new.starts which)) (content new which) number l
-    → IsLabelShown (length (bytes_of old.starts which)) (content old which) number l
-shown_earlier old new which number l makes shown =
-    let P : List (List ℕ) → Type 0 = λ starts. IsLabelShown (length (bytes_of starts which)) (content old which) number l in
-    subst P makes.starts (label_same (length (bytes_of new.starts which)) number (content new which) (content old which) l (λ i. sym (none_same old new which i makes)) shown)
-
 in_use_later : (out : List Bool) (old new : Disks) (l : PlainLabel) → Makes no_write old new → IsShownInUse out old l → IsShownInUse out new l
-in_use_later out old new l makes it = record { which = it.which; used = it.used; number = it.number; shown = shown_later old new it.which it.number l makes it.shown }
+in_use_later out old new l makes it = record { which = it.which; used = it.used; number = it.number; shown = label_later old new it.which it.number l makes it.shown }
 
 in_use_earlier : (out : List Bool) (old new : Disks) (l : PlainLabel) → Makes no_write old new → IsShownInUse out new l → IsShownInUse out old l
-in_use_earlier out old new l makes it = record { which = it.which; used = it.used; number = it.number; shown = shown_earlier old new it.which it.number l makes it.shown }
+in_use_earlier out old new l makes it = record { which = it.which; used = it.used; number = it.number; shown = label_earlier old new it.which it.number l makes it.shown }
 
-planned_earlier : (out : List Bool) (old new : Disks) (highest : Uberblock) (claim : ℕ) (areas : List (Option Area)) → Makes no_write old new → IsPlanned out new highest claim areas
-    → IsPlanned out old highest claim areas
-planned_earlier out old new highest claim areas makes it =
+planned_earlier : (out : List Bool) (old new : Disks) (highest u : Uberblock) (areas : List (Option Area)) → Makes no_write old new → IsPlanned out new highest u areas
+    → IsPlanned out old highest u areas
+planned_earlier out old new highest u areas makes it =
     record {
       next = record {
         above_slots = it.next.above_slots;
@@ -66,13 +59,23 @@ planned_earlier out old new highest claim areas makes it =
         least = elim it.next.least [ inl least ↦ inl least | inr some ↦ inr (some.0, in_use_earlier out old new some.0 makes some.1, some.2) ];
       };
       spared = λ which number area l at shown.
-          let other = it.spared which number area l at (shown_later old new which number l makes shown) in
+          let other = it.spared which number area l at (label_later old new which number l makes shown) in
           record {
             number = other.number;
             other = other.other;
             label = other.label;
-            shown = shown_earlier old new which other.number other.label makes other.shown;
+            shown = label_earlier old new which other.number other.label makes other.shown;
             no_less = other.no_less;
+          };
+      made = λ which area at.
+          let made = it.made which area at in
+          record {
+            it = made.it;
+            read = labeled_earlier old new which u.config_digest made.it makes made.read;
+            first = made.first;
+            label = made.label;
+            source = label_earlier old new which made.it.source made.label makes made.source;
+            spells = made.spells;
           };
     }
 
@@ -93,7 +96,7 @@ reads_of out rewind old mid back disks all seen highest taken plan scan go_back 
       takes = (takes.0, takes.1, λ known honest shown. takes.2 known (honest_before (length mid.calls) no_write back disks planning honest) shown);
       claimed = record { is = plans.0; above = plans.1 };
       planned = λ known honest.
-          planned_earlier out old back highest plan.claimed.claim plan.areas.items first
+          planned_earlier out old back highest plan.claimed plan.areas.items first
           (plans.6 (known_later out old back first known) (honest_since (length old.calls) (length back.calls) disks (longer old back no_write first) honest));
     }
 
@@ -143,7 +146,7 @@ spared_by : (out : List Bool) (old disks : Disks) (areas : List (Option Area)) (
 spared_by out old disks areas claim scan spares marked which area used at =
     let mark = marked which used in
     let it = spares which mark.number area mark.label at mark.shown in
-    record { number = it.number; other = it.other; label = it.label; shown = shown_later old disks which it.number it.label scan it.shown; no_less = omega (arith, it.no_less, mark.no_less) }
+    record { number = it.number; other = it.other; label = it.label; shown = label_later old disks which it.number it.label scan it.shown; no_less = omega (arith, it.no_less, mark.no_less) }
 
 marks_case : (trees : Trees) (out : List Bool) (rewind : ℕ) (old disks : Disks) (p : Possible) (u : Uberblock) (areas : List (Option Area)) (claim : ℕ) (calls : List JointCall) → disks.starts ≡ old.starts
     → IsClaimOf p rewind u → claim < u.claim → AreSpared out disks areas claim → ClaimsAt trees out disks p u areas calls → MarksAt trees out rewind old p claim calls
@@ -185,6 +188,80 @@ pub opened_from : (out : List Bool) (rewind : ℕ) (old mid disks new : Disks) (
 opened_from out rewind old mid disks new all highest taken u areas reads makes known honest =
     taken_from out rewind old mid disks all highest taken u areas reads known (honest_before (length old.calls) (IsClaimWrite disks.starts out u) disks new makes honest)
 
+-- ---- what is made of labels
+
+-- the areas that were planned are those of the disks' labels
+pub made_from : (out : List Bool) (rewind : ℕ) (old mid disks new : Disks) (all : List (Option Found)) (highest taken u : Uberblock) (areas : List (Option Area))
+    → Reads out rewind old mid disks all highest taken u areas → Makes (IsClaimWrite disks.starts out u) disks new → AreKnown out old → AreHonestSince (length old.calls) new.starts new.calls
+    → AreMadeOf old u areas
+made_from out rewind old mid disks new all highest taken u areas reads makes known honest =
+    (reads.planned known (honest_before (length old.calls) (IsClaimWrite disks.starts out u) disks new makes honest)).made
+
+-- so each disk's labels are
+pub relabeled_by : (out : List Bool) (old new : Disks) (u : Uberblock) (areas : List (Option Area)) → AreMadeOf old u areas → AreasOn out areas → Fits u → new.starts ≡ old.starts
+    → AreasStand (content new) old.starts areas all_labels → (which : ℕ) → InUse out which → IsRelabeled old u new which
+relabeled_by out old new u areas made on fits starts stand which used =
+    let area = (on which).0 used in
+    let mine = made which area.0 area.1 in
+    let l = relabeled mine.label u.claim u.group Active in
+    record {
+      it = mine.it;
+      read = mine.read;
+      label = mine.label;
+      source = mine.source;
+      each = λ number is.
+          let P : List (List ℕ) → Type 0 = λ them. IsLabelShown (length (bytes_of them which)) (content new which) number l in
+          subst P (sym starts) (record {
+            is_label = is;
+            valid = relabeled_valid mine.label u mine.source.valid fits;
+            bytes = λ i below. stand which number area.0 area.1 is tt i below ∙ ap (λ (them : List ℕ). slice_get them i) mine.spells;
+          });
+    }
+
+-- a claim label is written where its disk's labels say
+first_write : (starts : List (List ℕ)) (old : Disks) (u : Uberblock) (areas : List (Option Area)) → AreMadeOf old u areas → old.starts ≡ starts → (which at : ℕ) (bytes : List ℕ)
+    → IsAreaWrite starts areas (InAreaTurn areas true) which at bytes → IsClaimLabelWrite old u which at bytes
+first_write starts old u areas made same which at bytes write =
+    let mine = made which write.area write.has in
+    let one : write.picked.area ≡ write.area = same_area write.picked.area write.area (sym write.picked.has ∙ write.has) in
+    let number : write.number ≡ mine.it.first = write.picked.turn ∙ ap (λ (a : Area). a.first) one ∙ mine.first in
+    let P : List (List ℕ) → Type 0 = λ them. at ≡ area_place (length (bytes_of them which)) write.number in
+    let Q : ℕ → Type 0 = λ n. at ≡ area_place (length (bytes_of old.starts which)) n in
+    record { it = mine.it; read = mine.read; place = subst Q number (subst P (sym same) write.place) }
+
+-- at the moment at which the claim labels stand
+pub marked_by : (out : List Bool) (old disks new : Disks) (u : Uberblock) (areas : List (Option Area)) → Makes no_write old disks → AreMadeOf old u areas → AreasOn out areas → Fits u
+    → AreFirst out disks areas new → AreMarkedFirst out old u new
+marked_by out old disks new u areas scan made on fits first =
+    let M : (ℕ → ℕ → List ℕ → Type 0) → Type 0 = λ may. Makes may old first.now in
+    let wrote = Makes-wider (IsAreaWrite disks.starts areas (InAreaTurn areas true)) (IsClaimLabelWrite old u) disks first.now
+    (first_write disks.starts old u areas made (sym scan.starts)) first.alone in
+    let long : length old.calls ≤ length first.now.calls = omega (arith, longer old disks no_write scan, longer disks first.now (IsClaimLabelWrite old u) wrote) in
+    record {
+      now = first.now;
+      moment = record { newer = first.moment.newer; is = first.moment.is; since = inr long };
+      alone = Makes-more (IsClaimLabelWrite old u) old disks first.now (Makes-wider no_write (IsClaimLabelWrite old u) old disks (λ which at bytes none. absurd none) scan) wrote;
+      settled = first.settled;
+      marked = λ which used.
+          let area = (on which).0 used in
+          let mine = made which area.0 area.1 in
+          let valid = relabeled_valid mine.label u mine.source.valid fits in
+          let small : mine.it.first < 4 = claim_label_small (length (bytes_of old.starts which)) (content old which) u.config_digest mine.it mine.read in
+          let turn : InAreaTurn areas true which mine.it.first = record { area = area.0; has = area.1; turn = sym mine.first } in
+          let P : List (List ℕ) → Type 0 = λ them. IsLabelShown (length (bytes_of them which)) (content first.now which) mine.it.first (relabeled mine.label u.claim u.group Active) in
+          record {
+            it = mine.it;
+            read = mine.read;
+            label = relabeled mine.label u.claim u.group Active;
+            shown = subst P (sym first.alone.starts) (record {
+              is_label = small;
+              valid = valid;
+              bytes = λ i below. first.stand which mine.it.first area.0 area.1 small turn i below ∙ ap (λ (them : List ℕ). slice_get them i) mine.spells;
+            });
+            claim = refl;
+          };
+    }
+
 -- ---- why nothing was planned
 
 -- what was taken is shown
@@ -199,7 +276,7 @@ taken_read out rewind old mid back new all highest taken scan go_back planning f
     (takes.2 (known_later out old mid scan known) (honest_since (length old.calls) (length mid.calls) back (longer old mid no_write scan) honest_back) (read_later out old mid highest scan top.shown))
 
 lacks_earlier : (out : List Bool) (old new : Disks) (digest : List ℕ) → Makes no_write old new → LacksLabel out new digest → LacksLabel out old digest
-lacks_earlier out old new digest makes it = record { which = it.which; used = it.used; without = λ number l shown. it.without number l (shown_later old new it.which number l makes shown) }
+lacks_earlier out old new digest makes it = record { which = it.which; used = it.used; without = λ number l shown. it.without number l (label_later old new it.which number l makes shown) }
 
 used_up_earlier : (out : List Bool) (old new : Disks) (highest : Uberblock) → Makes no_write old new → IsUsedUp out new highest → IsUsedUp out old highest
 used_up_earlier out old new highest makes (inl past) = inl past

@@ -14,6 +14,10 @@ pub on_err_is : {T E : Type 0} (r : Result T E) (P : Type 0) → P → OnErr r P
 on_err_is (Ok x) P p = tt
 on_err_is (Err e) P p = p
 
+pub on_ok_is : {T E : Type 0} (r : Result T E) (P : Type 0) → P → OnOk r P
+on_ok_is (Ok x) P p = p
+on_ok_is (Err e) P p = tt
+
 -- what holds of this error holds of a result that has it
 pub err_use : {T E : Type 0} (r : Result T E) (e : E) (P : Result T E → Type 0) → IsErrAnd r (λ x. x ≡ e) → P (Err e) → P r
 err_use (Ok x) e P is p = absurd is

@@ -9,6 +9,7 @@ use Rattle.vdev_label.specs.Plain.{PlainLabel}
 use Rattle.pool_slots.specs.Labels.{IsLabelShown, IsShownAs, AreShownAs, IsLabeledAs, IsWithout, IsNextClaim, AreasOn, AreasFit, FitsArea, HasArea, inscribed}
 use Rattle.pool_slots.specs.Marks.{SparesMark, IsUsedUp}
 use Rattle.pool_slots.specs.Opens.{IsKnown, AreKnown}
+use Rattle.pool_slots.specs.Relabels.{AreMadeOf}
 use Rattle.pool_slots.specs.Slots.{InUse}
 use Rattle.pool_slots.specs.declared.areas.Plan.{Plan}
 use Rattle.pool_slots.specs.declared.labeled.Area.{Area}
@@ -133,8 +134,15 @@ pub record HasBadSource (labels : List (Option Labeled)) (disks : Disks) : Type 
   pub at : slice_get labels which ≡ Some (Some it)
   pub bad : IsKnown disks which → (l : PlainLabel) → ¬ IsLabelShown (length (bytes_of disks.starts which)) (content disks which) it.source l
 
+-- each area is that of the label which is written anew
+abbrev pub AreFromSources : List (Option Labeled) → Uberblock → Disks → List (Option Area) → Type 0
+AreFromSources labels u disks areas =
+    (which : ℕ) (it : Labeled) (area : Area) (l : PlainLabel) → slice_get labels which ≡ Some (Some it) → slice_get areas which ≡ Some (Some area) → IsKnown disks which
+    → IsLabelShown (length (bytes_of disks.starts which)) (content disks which) it.source l → area.bytes.items ≡ inscribed (relabeled l u.claim u.group Active)
+
 abbrev pub MakesAreas : List (Option Labeled) → Uberblock → Disks → Disks → Result (Vec (Option Area) Global) Refusal → Type 0
 MakesAreas labels u old new (Ok areas) = (length areas.items ≡ length labels) × AreMadeFor labels areas.items × AreasFit u areas.items
+    × (AreHonestSince (length old.calls) new.starts new.calls → AreFromSources labels u old areas.items)
 MakesAreas labels u old new (Err NoMemory) = Unit {0}
 MakesAreas labels u old new (Err DiskFault) = HasFailed old new
 MakesAreas labels u old new (Err NoUberblock) = ⊥
@@ -154,16 +162,17 @@ pub record IsGreatestIn (labels : List (Option Labeled)) (least n claim : ℕ) :
   pub is : (claim ≡ least) ⊎ ((which : ℕ) × (it : Labeled) × (slice_get labels which ≡ Some (Some it)) × (it.claim ≡ claim))
 
 -- what is learned of the disks, where they answer truly
-pub record IsPlanned (out : List Bool) (disks : Disks) (highest : Uberblock) (claim : ℕ) (areas : List (Option Area)) : Type 0 where
-  pub next : IsNextClaim out disks highest claim
+pub record IsPlanned (out : List Bool) (disks : Disks) (highest u : Uberblock) (areas : List (Option Area)) : Type 0 where
+  pub next : IsNextClaim out disks highest u.claim
   pub spared : SparesMark out disks areas
+  pub made : AreMadeOf disks u areas
 
 -- The taken uberblock under the next claim, and areas for the disks in use.
 abbrev pub PlansClaim : List Bool → Uberblock → Uberblock → Disks → Disks → Result Plan Refusal → Type 0
 PlansClaim out taken highest old new (Ok plan) =
     (plan.claimed ≡ record taken { claim = plan.claimed.claim }) × (highest.claim < plan.claimed.claim) × Fits plan.claimed
     × (length plan.areas.items ≡ length old.starts) × AreasOn out plan.areas.items × AreasFit plan.claimed plan.areas.items
-    × (AreKnown out old → AreHonestSince (length old.calls) new.starts new.calls → IsPlanned out old highest plan.claimed.claim plan.areas.items)
+    × (AreKnown out old → AreHonestSince (length old.calls) new.starts new.calls → IsPlanned out old highest plan.claimed plan.areas.items)
 PlansClaim out taken highest old new (Err NoMemory) = Unit {0}
 PlansClaim out taken highest old new (Err DiskFault) = HasFailed old new
 PlansClaim out taken highest old new (Err NoUberblock) = ⊥

@@ -6,6 +6,7 @@ pub mod Labels
 pub mod Marks
 pub mod Commits
 pub mod Opens
+pub mod Relabels
 pub mod LabelReads
 pub mod OpenRefusals
 pub mod Lives

@@ -5,6 +5,7 @@ ghost use Rattle.model_disk.specs.Runs.{HasFailed};
 ghost use Rattle.uberblock_ring.specs.Uberblock.{Fits};
 ghost use Rattle.pool_slots.specs.Labels.{AreClaimed, AreWhole, AreasFit, AreasOn, AreasStand, InAreaTurn, IsAreaWrite, IsClaimWrite};
 ghost use Rattle.pool_slots.specs.Opens.{AreOn, ClaimGives, ClaimKeeps, SlotsGive, SlotsKeep};
+ghost use Rattle.pool_slots.specs.Relabels.{AreFirst, all_labels};
 ghost use Rattle.pool_slots.specs.Slots.{AreSettled, HaveLabels, InUse, MakesOn};
 ghost use Rattle.pool_slots.specs.Writes.{IsSlotWrite, in_use};
 
@@ -88,6 +89,9 @@ pub(crate) fn claim<D: Disk + Drop>(
         out.now disks.old uberblock.now all.now areas.now disks.new }
     ensures claimed { OnOk result (ClaimGives out.now disks.old uberblock.now all.now disks.new) }
     ensures labeled { OnOk result (AreClaimed out.now disks.new uberblock.now) }
+    ensures stand { OnOk result
+        (AreasStand (content disks.new) disks.old.starts areas.now all_labels) }
+    ensures first { OnOk result (AreFirst out.now disks.old areas.now disks.new) }
 {
     settle_labels(disks, out, areas, true)?;
     claim_slots(disks, out, all, uberblock)?;

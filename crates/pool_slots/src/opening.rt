@@ -3,6 +3,7 @@ ghost use Rattle.std.specs.Prelude.{◌≡◌, ◌<◌, length, IfErr, IfOk};
 ghost use Rattle.pool_slots.specs.Labels.{AreClaimed};
 ghost use Rattle.pool_slots.specs.OpenRefusals.{OpenRefuses};
 ghost use Rattle.pool_slots.specs.Opens.{OpenGives, OpenKeeps, OpenMakes, OpenMarks, OpenTakes};
+ghost use Rattle.pool_slots.specs.Relabels.{OpenMarksFirst, OpenRelabels};
 ghost use Rattle.pool_slots.specs.Slots.{HaveLabels};
 
 use crate::areas::plan_claim;
@@ -45,6 +46,12 @@ pub fn open<D: Disk + Drop>(
 
     // Then each of their labels shows its claim.
     ensures labeled { IfOk result (λ u. AreClaimed out.now disks.new u) }
+
+    // They are as the latest label of the disk with the configuration that is taken: of the same guid, name, configuration.
+    ensures relabeled { IfOk result (λ u. OpenRelabels out.now disks.old u disks.new) }
+
+    // Of each disk the claim label is written first, and flushed on all before anything else is written.
+    ensures marked_first { IfOk result (λ u. OpenMarksFirst out.now disks.old u disks.new) }
 
     // No disk that is out is called, and all that is written are an uberblock's slots, and labels with its claim.
     ensures makes { OpenMakes out.now disks.old disks.new }

@@ -55,5 +55,5 @@ returns-clause-plans g c =
     let P : List (Option Labeled) → Type 0 = λ xs. IsGreatestIn xs least (length xs) c.greatest_of-greatest.result in
     let Q : List (Option Labeled) → Type 0 = λ xs. MakesAreas xs u mid new (Ok c.in_ok-areas.areas) in
     plan_made out c.args.taken.now c.args.highest.now c.args.disks.now mid new c.in_ok-labels.labels.items c.greatest_of-greatest.result (record { claimed = u; areas = c.in_ok-areas.areas }) refl
-    c.requires.fits (omega (arith, c.if-greatest-ge-LAST_COUNT.false)) c.areas_of.ensures.makes.makes c.in_ok-labels.ensures.reads.0 c.in_ok-labels.ensures.reads.1 c.in_ok-labels.ensures.reads.3
+    c.requires.fits (omega (arith, c.if-greatest-ge-LAST_COUNT.false)) c.read_labels.ensures.makes.makes c.areas_of.ensures.makes.makes c.in_ok-labels.ensures.reads.0 c.in_ok-labels.ensures.reads.1 c.in_ok-labels.ensures.reads.3
     (subst P c.deref.ensures.value c.greatest_of-greatest.ensures) (subst Q c.deref-2.ensures.value c.in_ok-areas.ensures.areas)

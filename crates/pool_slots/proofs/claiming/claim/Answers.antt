@@ -1,16 +1,18 @@
-use Rattle.std.proofs.Common.{List, true, false, refl, sym, subst, arith}
-use Rattle.model_disk.specs.Joint.{content}
+use Rattle.std.proofs.Common.{inr, ◌∙◌, ◌++◌, List, true, false, refl, sym, ap, subst, append_assoc, arith}
+use Rattle.model_disk.specs.Joint.{JointCall, content}
 use Rattle.model_disk.specs.Runs.{HasFailed}
 use Rattle.model_disk.proofs.FailureLemmas.{failed_in_second}
 use Rattle.pool_slots.specs.Labels.{AreClaimed, AreasStand, InAreaTurn, IsAreaWrite, IsClaimWrite}
 use Rattle.pool_slots.specs.Opens.{ClaimGives, ClaimsAt}
+use Rattle.pool_slots.specs.Relabels.{AreFirst, all_labels}
 use Rattle.pool_slots.specs.Slots.{AreSettled, HaveLabels, InUse}
 use Rattle.pool_slots.specs.Writes.{IsSlotWrite, in_use}
 use Rattle.pool_slots.specs.Commits.{AreOffLabels}
 use Rattle.std.proofs.Common.{ℕ}
-use Rattle.pool_slots.proofs.LabelPhases.{FirstStands, all_claimed, are_whole, areas_made, at_later, each_joined, first_claims, first_stays, may_later, others_claim, slots_claim, slots_made}
+use Rattle.pool_slots.proofs.LabelPhases.{FirstStands, all_claimed, all_stand, are_whole, areas_made, at_later, each_joined, first_claims, first_stays, may_later, others_claim, slots_claim, slots_made}
 use Rattle.pool_slots.proofs.Phases.{MakesOn-more}
-use Rattle.pool_slots.proofs.Results.{on_ok_use, on_err_use, on_err_is}
+use Rattle.pool_slots.proofs.Reading.{longer}
+use Rattle.pool_slots.proofs.Results.{on_ok_is, on_ok_use, on_err_use, on_err_is}
 use Rattle.pool_slots.proofs.Used.{are_there}
 use Rattle.pool_slots.proofs.claiming.claim.Goals as goal
 
@@ -147,8 +149,49 @@ returns-clause-labeled g c =
     let first : FirstStands out old mid u areas = record { starts = c.settle_labels.ensures.makes.makes.starts; stand = c.in_ok-settle_labels.ensures.stand; settled = c.in_ok-settle_labels.ensures.settled } in
     let second = first_stays out old mid wrote u areas c.requires.labels (omega (arith, c.requires.count)) c.requires.fits first c.claim_slots.ensures.makes.makes c.in_ok-claim_slots.ensures.settled in
     on_ok_use c.settle_labels-2.result (AreasStand (content new) wrote.starts areas (InAreaTurn areas false)) (AreClaimed out new u)
-    (λ stand. all_claimed out old wrote new u areas there c.requires.labels whole c.requires.on c.requires.areas second c.settle_labels-2.ensures.makes.makes stand)
+    (λ stand. all_claimed out old new u areas c.requires.on c.requires.areas (c.settle_labels-2.ensures.makes.makes.starts ∙ second.starts)
+    (all_stand out old wrote new u areas there c.requires.labels whole c.requires.on second c.settle_labels-2.ensures.makes.makes stand))
     c.settle_labels-2.ensures.stand
+
+pub returns-clause-stand : goal.returns-clause-stand
+returns-clause-stand g c =
+    let out = c.args.out.now in
+    let old = c.args.disks.now in
+    let all = c.args.all.now in
+    let areas = c.args.areas.now in
+    let u = c.args.uberblock.now in
+    let mid = c.settle_labels.new.disks in
+    let wrote = c.claim_slots.new.disks in
+    let new = c.settle_labels-2.new.disks in
+    let whole = are_whole u areas c.requires.areas in
+    let there = are_there out old.starts c.requires.out in
+    let first : FirstStands out old mid u areas = record { starts = c.settle_labels.ensures.makes.makes.starts; stand = c.in_ok-settle_labels.ensures.stand; settled = c.in_ok-settle_labels.ensures.settled } in
+    let second = first_stays out old mid wrote u areas c.requires.labels (omega (arith, c.requires.count)) c.requires.fits first c.claim_slots.ensures.makes.makes c.in_ok-claim_slots.ensures.settled in
+    on_ok_use c.settle_labels-2.result (AreasStand (content new) wrote.starts areas (InAreaTurn areas false)) (AreasStand (content new) old.starts areas all_labels)
+    (λ stand. all_stand out old wrote new u areas there c.requires.labels whole c.requires.on second c.settle_labels-2.ensures.makes.makes stand)
+    c.settle_labels-2.ensures.stand
+
+pub returns-clause-first : goal.returns-clause-first
+returns-clause-first g c =
+    let out = c.args.out.now in
+    let old = c.args.disks.now in
+    let areas = c.args.areas.now in
+    let mid = c.settle_labels.new.disks in
+    let wrote = c.claim_slots.new.disks in
+    let new = c.settle_labels-2.new.disks in
+    let slots = c.claim_slots.ensures.makes.makes in
+    let others = c.settle_labels-2.ensures.makes.makes in
+    on_ok_is c.settle_labels-2.result (AreFirst out old areas new) (record {
+      now = mid;
+      moment = record {
+        newer = others.newer ++ slots.newer;
+        is = others.calls ∙ ap (λ (them : List JointCall). others.newer ++ them) slots.calls ∙ sym (append_assoc others.newer slots.newer mid.calls);
+        since = inr (longer old mid (IsAreaWrite old.starts areas (InAreaTurn areas true)) c.settle_labels.ensures.makes.makes);
+      };
+      alone = c.settle_labels.ensures.makes.makes;
+      settled = c.in_ok-settle_labels.ensures.settled;
+      stand = c.in_ok-settle_labels.ensures.stand;
+    })
 
 pub returns-in_err-claim_slots-clause-fault : goal.returns-in_err-claim_slots-clause-fault
 returns-in_err-claim_slots-clause-fault g c =

@@ -1,15 +1,17 @@
-use Rattle.std.proofs.Common.{List, Option, inl, inr, sym, subst}
+use Rattle.std.proofs.Common.{ℕ, ◌∙◌, List, Option, inl, inr, sym, subst}
+use Rattle.model_disk.specs.Joint.{content}
 use Rattle.model_disk.specs.Runs.{no_write}
 use Rattle.model_disk.proofs.FailureLemmas.{failed_in_second}
-use Rattle.pool_slots.specs.Labels.{AreasFit, AreasOn}
+use Rattle.pool_slots.specs.Labels.{AreasFit, AreasOn, AreasStand}
 use Rattle.pool_slots.specs.OpenRefusals.{OpenRefuses}
 use Rattle.pool_slots.specs.Opens.{AreFitting, AreOn, IsHighestOf}
+use Rattle.pool_slots.specs.Relabels.{AreFirst, all_labels}
 use Rattle.pool_slots.specs.Slots.{InUse}
 use Rattle.pool_slots.specs.declared.found.Found.{Found}
 use Rattle.pool_slots.specs.declared.labeled.Area.{Area}
 use Rattle.pool_slots.specs.declared.refusal.Refusal.TheVariants.{DiskFault}
 use Rattle.pool_slots.proofs.OpenSteps.{leads_before, scan_cause, highest_cause, taken_cause}
-use Rattle.pool_slots.proofs.Opened.{claims_always, marks_always, marks_before, opened_from, opened_is, plan_cause, reads_of, scan_then_claim}
+use Rattle.pool_slots.proofs.Opened.{claims_always, made_from, marked_by, marks_always, marks_before, opened_from, opened_is, plan_cause, reads_of, relabeled_by, scan_then_claim}
 use Rattle.pool_slots.proofs.Phases.{MakesOn-more, both_made}
 use Rattle.pool_slots.proofs.Results.{if_err_is}
 use Rattle.pool_slots.proofs.Used.{are_there}
@@ -298,3 +300,47 @@ returns-clause-taken g c =
     let reads = reads_of out c.args.rewind old mid back disks c.in_ok-all.all c.deref.result.now highest taken plan c.find_all.ensures.makes.makes c.taken_from.ensures.makes.makes
     c.plan_claim.ensures.makes.makes c.in_ok-all.ensures.finds c.deref.ensures.value c.in_ok-highest.ensures.finds.0 c.in_ok-taken.ensures.takes c.in_ok-plan.ensures.plans in
     opened_from out c.args.rewind old mid disks new all highest taken u areas reads c.claim.ensures.makes.makes
+
+pub returns-clause-relabeled : goal.returns-clause-relabeled
+returns-clause-relabeled g c = λ known honest.
+    let out = c.args.out.now in
+    let old = c.args.disks.now in
+    let mid = c.find_all.new.disks in
+    let back = c.taken_from.new.disks in
+    let disks = c.plan_claim.new.disks in
+    let new = c.claim.new.disks in
+    let all = c.in_ok-all.all.items in
+    let highest = c.in_ok-highest.highest in
+    let taken = c.in_ok-taken.taken in
+    let plan = c.in_ok-plan.plan in
+    let u = plan.claimed in
+    let areas = plan.areas.items in
+    let reads = reads_of out c.args.rewind old mid back disks c.in_ok-all.all c.deref.result.now highest taken plan c.find_all.ensures.makes.makes c.taken_from.ensures.makes.makes
+    c.plan_claim.ensures.makes.makes c.in_ok-all.ensures.finds c.deref.ensures.value c.in_ok-highest.ensures.finds.0 c.in_ok-taken.ensures.takes c.in_ok-plan.ensures.plans in
+    let scan = both_made no_write old back disks (both_made no_write old mid back c.find_all.ensures.makes.makes c.taken_from.ensures.makes.makes) c.plan_claim.ensures.makes.makes in
+    let made = made_from out c.args.rewind old mid disks new all highest taken u areas reads c.claim.ensures.makes.makes known honest in
+    let P : List (Option Area) → Type 0 = λ xs. AreasStand (content new) disks.starts xs all_labels in
+    let Q : List (List ℕ) → Type 0 = λ starts. AreasStand (content new) starts areas all_labels in
+    relabeled_by out old new u areas made c.in_ok-plan.ensures.plans.4 c.in_ok-plan.ensures.plans.2 (c.claim.ensures.makes.makes.starts ∙ scan.starts)
+    (subst Q scan.starts (subst P c.deref-3.ensures.value c.in_ok-claim.ensures.stand))
+
+pub returns-clause-marked_first : goal.returns-clause-marked_first
+returns-clause-marked_first g c = λ known honest.
+    let out = c.args.out.now in
+    let old = c.args.disks.now in
+    let mid = c.find_all.new.disks in
+    let back = c.taken_from.new.disks in
+    let disks = c.plan_claim.new.disks in
+    let new = c.claim.new.disks in
+    let all = c.in_ok-all.all.items in
+    let highest = c.in_ok-highest.highest in
+    let taken = c.in_ok-taken.taken in
+    let plan = c.in_ok-plan.plan in
+    let u = plan.claimed in
+    let areas = plan.areas.items in
+    let reads = reads_of out c.args.rewind old mid back disks c.in_ok-all.all c.deref.result.now highest taken plan c.find_all.ensures.makes.makes c.taken_from.ensures.makes.makes
+    c.plan_claim.ensures.makes.makes c.in_ok-all.ensures.finds c.deref.ensures.value c.in_ok-highest.ensures.finds.0 c.in_ok-taken.ensures.takes c.in_ok-plan.ensures.plans in
+    let scan = both_made no_write old back disks (both_made no_write old mid back c.find_all.ensures.makes.makes c.taken_from.ensures.makes.makes) c.plan_claim.ensures.makes.makes in
+    let made = made_from out c.args.rewind old mid disks new all highest taken u areas reads c.claim.ensures.makes.makes known honest in
+    let P : List (Option Area) → Type 0 = λ xs. AreFirst out disks xs new in
+    marked_by out old disks new u areas scan made c.in_ok-plan.ensures.plans.4 c.in_ok-plan.ensures.plans.2 (subst P c.deref-3.ensures.value c.in_ok-claim.ensures.first)

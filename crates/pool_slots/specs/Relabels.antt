@@ -1,0 +1,85 @@
+-- What a claim makes of labels.
+use Rattle.std.specs.Prelude.{◌≡◌, ◌<◌, ℕ, Bool, true, List, length, slice_get, Option, Some}
+use Rattle.model_disk.specs.Joint.{Disks, bytes_of, content, AreHonestSince}
+use Rattle.model_disk.specs.Runs.{IsMoment, Makes}
+use Rattle.uberblock_ring.specs.declared.uberblock.Uberblock.{Uberblock}
+use Rattle.vdev_label.specs.Plain.{PlainLabel}
+use Rattle.vdev_label.specs.Room.{relabeled}
+use Rattle.vdev_label.specs.declared.label.State.TheVariants.{Active}
+use Rattle.pool_slots.specs.Labels.{AreasStand, InAreaTurn, IsAreaWrite, IsLabeledAs, IsLabelShown, area_place, inscribed}
+use Rattle.pool_slots.specs.Opens.{AreKnown}
+use Rattle.pool_slots.specs.Slots.{AreSettled, InUse}
+use Rattle.pool_slots.specs.declared.labeled.Area.{Area}
+use Rattle.pool_slots.specs.declared.labeled.Labeled.{Labeled}
+
+-- ---- the labels that are written
+
+-- what the labels of a disk show as the uberblock is claimed
+abbrev pub IsLabeledFor : Disks → Uberblock → ℕ → Labeled → Type 0
+IsLabeledFor disks u which it = IsLabeledAs (length (bytes_of disks.starts which)) (content disks which) u.config_digest it
+
+-- Each label of the disk now is the latest one that it had with the uberblock's configuration, but for the uberblock's claim and group,
+-- and that it is in use.
+pub record IsRelabeled (old : Disks) (u : Uberblock) (new : Disks) (which : ℕ) : Type 0 where
+  pub it : Labeled
+  pub read : IsLabeledFor old u which it
+  pub label : PlainLabel
+  pub source : IsLabelShown (length (bytes_of old.starts which)) (content old which) it.source label
+  pub each : (number : ℕ) → number < 4 → IsLabelShown (length (bytes_of new.starts which)) (content new which) number (relabeled label u.claim u.group Active)
+
+-- of the disks in use
+abbrev pub OpenRelabels : List Bool → Disks → Uberblock → Disks → Type 0
+OpenRelabels out old u new = AreKnown out old → AreHonestSince (length old.calls) new.starts new.calls → (which : ℕ) → InUse out which → IsRelabeled old u new which
+
+-- ---- which of them is written first
+
+-- a disk's claim label
+pub record IsClaimLabelWrite (disks : Disks) (u : Uberblock) (which at : ℕ) (bytes : List ℕ) : Type 0 where
+  pub it : Labeled
+  pub read : IsLabeledFor disks u which it
+  pub place : at ≡ area_place (length (bytes_of disks.starts which)) it.first
+
+-- the disk's claim label shows the claim
+pub record ShowsClaim (old : Disks) (u : Uberblock) (now : Disks) (which : ℕ) : Type 0 where
+  pub it : Labeled
+  pub read : IsLabeledFor old u which it
+  pub label : PlainLabel
+  pub shown : IsLabelShown (length (bytes_of now.starts which)) (content now which) it.first label
+  pub claim : label.claim ≡ u.claim
+
+-- At some moment nothing was written but claim labels, and each disk in use shows the claim in its own, flushed.
+pub record AreMarkedFirst (out : List Bool) (old : Disks) (u : Uberblock) (new : Disks) : Type 0 where
+  pub now : Disks
+  pub moment : IsMoment (length old.calls) new.calls now.calls
+  pub alone : Makes (IsClaimLabelWrite old u) old now
+  pub settled : AreSettled out now.calls
+  pub marked : (which : ℕ) → InUse out which → ShowsClaim old u now which
+
+abbrev pub OpenMarksFirst : List Bool → Disks → Uberblock → Disks → Type 0
+OpenMarksFirst out old u new = AreKnown out old → AreHonestSince (length old.calls) new.starts new.calls → AreMarkedFirst out old u new
+
+-- ---- what a claim is given, and what it ensures of that
+
+-- the area of one disk's labels, made of what they show
+pub record IsMadeOf (disks : Disks) (u : Uberblock) (which : ℕ) (area : Area) : Type 0 where
+  pub it : Labeled
+  pub read : IsLabeledFor disks u which it
+  pub first : area.first ≡ it.first
+  pub label : PlainLabel
+  pub source : IsLabelShown (length (bytes_of disks.starts which)) (content disks which) it.source label
+  pub spells : area.bytes.items ≡ inscribed (relabeled label u.claim u.group Active)
+
+abbrev pub AreMadeOf : Disks → Uberblock → List (Option Area) → Type 0
+AreMadeOf disks u areas = (which : ℕ) (area : Area) → slice_get areas which ≡ Some (Some area) → IsMadeOf disks u which area
+
+-- each label
+abbrev pub all_labels : ℕ → ℕ → Type 0
+all_labels which number = Unit {0}
+
+-- at some moment the claim labels alone were written, and stand flushed
+pub record AreFirst (out : List Bool) (old : Disks) (areas : List (Option Area)) (new : Disks) : Type 0 where
+  pub now : Disks
+  pub moment : IsMoment (length old.calls) new.calls now.calls
+  pub alone : Makes (IsAreaWrite old.starts areas (InAreaTurn areas true)) old now
+  pub settled : AreSettled out now.calls
+  pub stand : AreasStand (content now) old.starts areas (InAreaTurn areas true)
