@@ -2,7 +2,8 @@
 use Rattle.std.proofs.Common.{◌≡◌, ◌⊎◌, inl, inr, ◌<◌, ◌≤◌, ◌↔◌, ◌∙◌, ℕ, zero, suc, ◌+◌, Bool, true, false, IsTrue, List, length, get_or, Option, Some, None, IfNone, refl, sym, ap, subst, arith}
 use Rattle.std.proofs.lemmas.Bool.{cases_lt}
 use Rattle.std.proofs.lemmas.List.{get_or_past}
-use Rattle.pool_slots.specs.Shown.{At, HasBeside, IsBetter, IsBlank, IsClaimLabel, IsFirstLeast, IsGreatest, IsGreatestOf, IsLeast, IsLowest, IsSource, IsSpare, claim_of, has_claim, has_config}
+use Rattle.pool_slots.specs.Shown.{At, HasBeside, IsBetter, IsBlank, IsClaimLabel, IsFirstLeast, IsGreatest, IsGreatestOf, IsLeast, IsLowest, IsSource, IsSpare, IsSummary, claim_of, has_claim, has_config}
+use Rattle.pool_slots.specs.declared.labeled.Labeled.{Labeled}
 use Rattle.pool_slots.specs.declared.labeled.Shown.{Shown}
 
 -- none of the first n labels but this one has it
@@ -215,6 +216,60 @@ kept_beside shown claim k two greatest (inr (inr last)) =
             has = omega (arith, last.2.0.least j there.0 there.1, greatest.greatest j there.0 there.1, claim_same last.2.0.s greatest.s is, greatest.is);
           }
       | inr other ↦ record { j = greatest.k; s = greatest.s; at = greatest.at; other = other; has = greatest.is }
+    ]
+
+-- two labels that show one configuration: the others do without one of them
+spare_of_two : (shown : List (Option Shown)) (claim j k : ℕ) (s t : Shown) → IsGreatest shown claim → At shown j s → At shown k t → ¬ (j ≡ k) → s.config_digest ≡ t.config_digest
+    → ((n : ℕ) → ¬ IsSpare shown claim n) → ⊥
+spare_of_two shown claim j k s t greatest at also other same none =
+    elim (same_or_not greatest.k j) [
+      | inl first ↦ none k (record {
+        s = t;
+        at = also;
+        claimed = record { j = greatest.k; s = greatest.s; at = greatest.at; other = λ second. other (sym first ∙ second); has = greatest.is };
+        configured = record { j = j; s = s; at = at; other = other; has = same };
+      })
+      | inr not_first ↦ none j (record {
+        s = s;
+        at = at;
+        claimed = record { j = greatest.k; s = greatest.s; at = greatest.at; other = not_first; has = greatest.is };
+        configured = record { j = k; s = t; at = also; other = λ e. other (sym e); has = sym same };
+      })
+    ]
+
+-- a label shows nothing, or two show one configuration
+pub record HasTwo (shown : List (Option Shown)) : Type 0 where
+  pub j : ℕ
+  pub k : ℕ
+  pub s : Shown
+  pub t : Shown
+  pub at : At shown j s
+  pub also : At shown k t
+  pub other : ¬ (j ≡ k)
+  pub same : s.config_digest ≡ t.config_digest
+
+-- then beside the claim label another shows the configuration that is taken
+pub config_beside : (shown : List (Option Shown)) (digest : List ℕ) (it : Labeled) → IsSummary shown digest it → ((k : ℕ) × IsBlank shown k) ⊎ HasTwo shown → HasBeside shown it.first (has_config digest)
+config_beside shown digest it summary two =
+    let source = summary.source in
+    let taken : ¬ (it.source ≡ it.first) → HasBeside shown it.first (has_config digest) = λ other. record { j = it.source; s = source.s; at = source.at; other = other; has = source.config } in
+    elim (same_or_not it.source it.first) [
+      | inr other ↦ taken other
+      | inl same ↦ elim summary.first [
+        | inl blank ↦
+            let P : ℕ → Type 0 = λ n. At shown n source.s in
+            let e : None ≡ Some source.s = sym blank.0.1 ∙ subst P same source.at in
+            absurd cc
+        | inr (inl spare) ↦
+            let mine = spare.1.0 in
+            let one : source.s ≡ mine.s = same_at shown it.source it.first source.s mine.s same source.at mine.at in
+            let beside = mine.configured in
+            record { j = beside.j; s = beside.s; at = beside.at; other = beside.other; has = beside.has ∙ ap (λ (x : Shown). x.config_digest) (sym one) ∙ source.config }
+        | inr (inr last) ↦ elim two [
+          | inl blank ↦ absurd (last.0 blank.0 blank.1)
+          | inr both ↦ absurd (spare_of_two shown it.claim both.j both.k both.s both.t summary.greatest both.at both.also both.other both.same last.1)
+        ]
+      ]
     ]
 
 -- the next label, by whether it is taken

@@ -9,6 +9,7 @@ use Rattle.model_disk.proofs.RunLemmas.{each_after, off_content, off_is_left}
 use Rattle.vdev_label.specs.Plain.{PlainLabel}
 use Rattle.pool_slots.specs.Commits.{AreOffLabels, AreAt, LeadAlways, only_last}
 use Rattle.pool_slots.specs.Labels.{AreClaimed, AreWhole, AreasFit, AreasOn, AreasStand, HasArea, InAreaTurn, IsAreaWrite, IsClaimWrite, IsInscribed, IsLabelShown, area_place, inscribed}
+use Rattle.pool_slots.specs.Configs.{IsConfigured, IsOfConfig, LeavesConfigured, MayConfigure, of_config}
 use Rattle.pool_slots.specs.Marks.{IsMarked, LeavesMarked, MarkedAlways}
 use Rattle.pool_slots.specs.Opens.{ClaimsAt, MayClaim, also_begun}
 use Rattle.pool_slots.specs.Possible.{Possible, IsTopped, Trees, TreeStands, IsPossible, Leads, LeavesLeading, AllAreBelow, AreBelow, held_by}
@@ -59,6 +60,36 @@ marked_always out old new may claim there settled makes kept earlier moment imag
             (it.shown.bytes i below ∙ is) ∙ sym is;
       };
       no_less = it.no_less;
+    })
+
+-- a label of this configuration, off all that the run may write
+pub record KeptConfig (may : ℕ → List ℕ → Type 0) (size : ℕ) (held : ℕ → Option ℕ) (digest : List ℕ) : Type 0 where
+  pub number : ℕ
+  pub label : PlainLabel
+  pub shown : IsLabelShown size held number label
+  pub config : of_config digest label
+  pub off : (i : ℕ) → i < 114688 → IsOff may (area_place size number + i)
+
+pub configured_always : (out : List Bool) (old new : Disks) (may : ℕ → ℕ → List ℕ → Type 0) (digest : List ℕ) → AreThere out old.starts → AreSettled out old.calls → Makes may old new
+    → ((which : ℕ) → InUse out which → KeptConfig (may which) (length (bytes_of old.starts which)) (content old which) digest)
+    → EachSince (length old.calls) (LeavesConfigured out old.starts digest) new.calls
+configured_always out old new may digest there settled makes kept earlier moment images left which used =
+    let size = length (bytes_of old.starts which) in
+    let same_size : length (bytes_of images which) ≡ size = (left.each which (there which used)).size in
+    let P : ℕ → Type 0 = λ n. IsConfigured n (held_by images which) digest in
+    let it = kept which used in
+    subst P (sym same_size) (record {
+      number = it.number;
+      label = it.label;
+      shown = record {
+        is_label = it.shown.is_label;
+        valid = it.shown.valid;
+        bytes = λ i below.
+            let is : slice_get (inscribed it.label) i ≡ Some (get_or (inscribed it.label) i 0) = slice_get-get_or (inscribed it.label) i 0 (omega (arith, below, area_len it.label it.shown.valid)) in
+            off_is_left may old new earlier images makes moment left which (area_place size it.number + i) (get_or (inscribed it.label) i 0) (there which used) (settled which used) (it.off i below)
+            (it.shown.bytes i below ∙ is) ∙ sym is;
+      };
+      config = it.config;
     })
 
 -- ---- a phase that writes labels keeps slots and trees
@@ -196,6 +227,76 @@ first_mark out old now u areas may on fit first off which used =
       no_less = omega (arith, it.inscribed_as.claim);
       off = off which area.0.first area.0 used area.1 it.first refl;
     })
+
+-- beside them another label keeps the configuration
+pub first_configured : (out : List Bool) (old new : Disks) (areas : List (Option Area)) (digest : List ℕ) → AreThere out old.starts → HaveLabels old.starts → AreWhole areas → AreasOn out areas
+    → MayConfigure out old areas digest → Makes (IsAreaWrite old.starts areas (InAreaTurn areas true)) old new → EachSince (length old.calls) (LeavesConfigured out old.starts digest) new.calls
+first_configured out old new areas digest there room whole on may makes =
+    let picks = InAreaTurn areas true in
+    configured_always out old new (IsAreaWrite old.starts areas picks) digest there may.settled makes
+    (λ which used.
+    let area = (on which).0 used in
+    let it = may.beside which area.0 used area.1 in
+    record {
+      number = it.number;
+      label = it.label;
+      shown = it.shown;
+      config = it.config;
+      off = off_area_writes old.starts areas picks which it.number whole (room which (there which used)) it.shown.is_label
+          (λ n picked same.
+          let one : picked.area ≡ area.0 = same_area picked.area area.0 (sym picked.has ∙ area.1) in
+          let Q : Area → Type 0 = λ a. n ≡ a.first in
+          it.other (sym same ∙ subst Q one picked.turn));
+    })
+
+-- behind them the claim label does, while the run doesn't write it
+later_configured : (out : List Bool) (old now new : Disks) (u : Uberblock) (areas : List (Option Area)) (digest : List ℕ) (may : ℕ → ℕ → List ℕ → Type 0) → AreThere out old.starts → AreasOn out areas
+    → AreasFit u areas → ((which : ℕ) (area : Area) → slice_get areas which ≡ Some (Some area) → IsOfConfig digest area) → FirstStands out old now u areas
+    → ((which number : ℕ) (area : Area) → InUse out which → slice_get areas which ≡ Some (Some area) → number < 4 → number ≡ area.first
+    → (i : ℕ) → i < 114688 → IsOff (may which) (area_place (length (bytes_of old.starts which)) number + i)) → Makes may now new
+    → EachSince (length now.calls) (LeavesConfigured out old.starts digest) new.calls
+later_configured out old now new u areas digest may there on fit of first off makes =
+    let T : List (List ℕ) → Type 0 = AreThere out in
+    let E : List (List ℕ) → Type 0 = λ starts. EachSince (length now.calls) (LeavesConfigured out starts digest) new.calls in
+    subst E first.starts (configured_always out now new may digest (subst T (sym first.starts) there) first.settled makes
+    (λ which used.
+    let area = (on which).0 used in
+    let it = of which area.0 area.1 in
+    let is = (fit which area.0 area.1).first in
+    let P : List (List ℕ) → Type 0 = λ starts. KeptConfig (may which) (length (bytes_of starts which)) (content now which) digest in
+    let mine : InAreaTurn areas true which area.0.first = record { area = area.0; has = area.1; turn = refl } in
+    subst P (sym first.starts) (record {
+      number = area.0.first;
+      label = it.label;
+      shown = record {
+        is_label = is;
+        valid = it.valid;
+        bytes = λ i below. first.stand which area.0.first area.0 area.1 is mine i below ∙ ap (λ (them : List ℕ). slice_get them i) it.spells;
+      };
+      config = it.config;
+      off = off which area.0.first area.0 used area.1 is refl;
+    })))
+
+pub slots_configured : (out : List Bool) (old mid new : Disks) (u : Uberblock) (areas : List (Option Area)) (digest : List ℕ) → AreThere out old.starts → HaveLabels old.starts → Fits u → AreasOn out areas
+    → AreasFit u areas → MayConfigure out old areas digest → FirstStands out old mid u areas → Makes (IsSlotWrite mid.starts u (in_use out)) mid new
+    → EachSince (length mid.calls) (LeavesConfigured out old.starts digest) new.calls
+slots_configured out old mid new u areas digest there room fits on fit may first makes =
+    let M : List (List ℕ) → Type 0 = λ starts. Makes (IsSlotWrite starts u (in_use out)) mid new in
+    later_configured out old mid new u areas digest (IsSlotWrite old.starts u (in_use out)) there on fit may.each first
+    (λ which number area used at is same. off_area_of_slots old.starts u (in_use out) which number fits (room which (there which used)) is) (subst M first.starts makes)
+
+pub others_configured : (out : List Bool) (old mid new : Disks) (u : Uberblock) (areas : List (Option Area)) (digest : List ℕ) → AreThere out old.starts → HaveLabels old.starts → AreWhole areas
+    → AreasOn out areas → AreasFit u areas → MayConfigure out old areas digest → FirstStands out old mid u areas → Makes (IsAreaWrite mid.starts areas (InAreaTurn areas false)) mid new
+    → EachSince (length mid.calls) (LeavesConfigured out old.starts digest) new.calls
+others_configured out old mid new u areas digest there room whole on fit may first makes =
+    let picks = InAreaTurn areas false in
+    let M : List (List ℕ) → Type 0 = λ starts. Makes (IsAreaWrite starts areas picks) mid new in
+    later_configured out old mid new u areas digest (IsAreaWrite old.starts areas picks) there on fit may.each first
+    (λ which number area used at is same. off_area_writes old.starts areas picks which number whole (room which (there which used)) is
+    (λ n picked equal.
+    let one : picked.area ≡ area = same_area picked.area area (sym picked.has ∙ at) in
+    let Q : Area → Type 0 = λ a. ¬ (n ≡ a.first) in
+    (subst Q one picked.turn) (equal ∙ same))) (subst M first.starts makes)
 
 -- the slots
 pub slots_claim : (trees : Trees) (out : List Bool) (old mid new : Disks) (p : Possible) (u : Uberblock) (areas : List (Option Area)) → AreThere out old.starts → HaveLabels old.starts → Fits u

@@ -18,7 +18,7 @@ use Rattle.vdev_label.specs.declared.label.State.TheVariants.{Active}
 use Rattle.vdev_label.specs.declared.refusal.Refusal.{Refusal as LabelRefusal}
 use Rattle.vdev_label.specs.declared.refusal.Refusal.TheVariants as label
 use Rattle.vdev_label.proofs.Rooms.{relabeled_has_room}
-use Rattle.pool_slots.specs.LabelReads.{AreFromSources, IsGreater, IsGreatestIn, ReadsAll, MakesArea, MakesAreaIfRead, MakesAreas, AreMadeFor, HasLabeled, AreLabeledOn, AreLabeled, IsPlanned, PlansClaim}
+use Rattle.pool_slots.specs.LabelReads.{AreFromSources, IsGreater, IsGreatestIn, MakesArea, MakesAreaIfRead, MakesAreas, AreMadeFor, HasLabeled, AreLabeledOn, AreLabeled, IsPlanned, PlansClaim}
 use Rattle.pool_slots.specs.Labels.{IsLabelShown, IsShownAs, AreShownAs, IsLabeledAs, IsValid, IsShownInUse, FitsArea, HasArea, Keeps, inscribed}
 use Rattle.pool_slots.specs.OpenRefusals.{of_label}
 use Rattle.pool_slots.specs.Opens.{IsKnown, AreKnown}
@@ -209,7 +209,7 @@ made_refused labels u first loop new which UsedUp before it = absurd it.2
 -- ---- the plan
 
 -- a label that was read is shown
-shown_at : (size : ℕ) (held : ℕ → Option ℕ) (shown : List (Option Shown)) (k : ℕ) (s : Shown) → AreShownAs size held shown → At shown k s → (l : PlainLabel) × IsLabelShown size held k l × Keeps l s
+pub shown_at : (size : ℕ) (held : ℕ → Option ℕ) (shown : List (Option Shown)) (k : ℕ) (s : Shown) → AreShownAs size held shown → At shown k s → (l : PlainLabel) × IsLabelShown size held k l × Keeps l s
 shown_at size held shown k s are at =
     let P : Option Shown → Type 0 = IsShownAs size held k in
     (subst P at (are.each k (omega (arith, within shown k s at, are.four)))).0
@@ -232,14 +232,6 @@ greatest_shown out disks digest labels which it on are at =
     let top = is.summary.greatest in
     let there = shown_at (length (bytes_of disks.starts which)) (content disks which) is.shown top.k top.s is.are top.at in
     (there.0, record { which = which; used = (on which).1 (it, at); number = top.k; shown = there.1 }, sym top.is ∙ there.2.0)
-
-pub plan_refused : (out : List Bool) (taken highest : Uberblock) (old new : Disks) (refusal : Refusal) → ReadsAll out taken.config_digest old new (Err refusal)
-    → PlansClaim out taken highest old new (Err refusal)
-plan_refused out taken highest old new NoMemory it = tt
-plan_refused out taken highest old new DiskFault it = it
-plan_refused out taken highest old new NoUberblock it = absurd it
-plan_refused out taken highest old new NoLabel it = it
-plan_refused out taken highest old new UsedUp it = absurd it
 
 pub plan_used_up : (out : List Bool) (taken highest : Uberblock) (old new : Disks) (labels : List (Option Labeled)) (greatest : ℕ) → AreLabeledOn out labels
     → (AreKnown out old → AreHonestSince (length old.calls) new.starts new.calls → AreLabeled out old taken.config_digest labels) → IsGreatestIn labels highest.claim (length labels) greatest

@@ -12,13 +12,13 @@ use Rattle.vdev_label.specs.Plain.{PlainLabel}
 use Rattle.pool_slots.specs.LabelReads.{ReadsShown, ReadsFour, ReadsLabeled, ReadsIfUsed, ReadsAll, HasLabeled}
 use Rattle.pool_slots.specs.Labels.{IsLabelShown, IsShownAs, IsLabeledAs, IsWithout}
 use Rattle.pool_slots.specs.Opens.{IsKnown, AreKnown}
-use Rattle.pool_slots.specs.Shown.{At, IsSummary, has_config}
+use Rattle.pool_slots.specs.Shown.{At, has_config}
 use Rattle.pool_slots.specs.Slots.{AreThere, InUse}
 use Rattle.pool_slots.specs.declared.labeled.Labeled.{Labeled}
 use Rattle.pool_slots.specs.declared.labeled.Shown.{Shown}
 use Rattle.pool_slots.specs.declared.refusal.Refusal.{Refusal}
 use Rattle.pool_slots.specs.declared.refusal.Refusal.TheVariants.{NoMemory, DiskFault, NoUberblock, NoLabel, UsedUp}
-use Rattle.pool_slots.proofs.Choices.{within, claim_label_within}
+use Rattle.pool_slots.proofs.Choices.{within}
 use Rattle.pool_slots.proofs.Finding.{known_on, honest_before, honest_since}
 use Rattle.pool_slots.proofs.Phases.{none_same}
 use Rattle.pool_slots.proofs.Reading.{longer}
@@ -108,21 +108,6 @@ read_refused first loop new which number NoLabel before it = absurd it
 read_refused first loop new which number UsedUp before it = absurd it
 
 -- ---- what is taken from them
-
-pub four_refused : (digest : List ℕ) (old new : Disks) (which : ℕ) (refusal : Refusal) → ReadsFour old new which (Err refusal) → ReadsLabeled digest old new which (Err refusal)
-four_refused digest old new which NoMemory it = tt
-four_refused digest old new which DiskFault it = it
-four_refused digest old new which NoUberblock it = absurd it
-four_refused digest old new which NoLabel it = absurd it
-four_refused digest old new which UsedUp it = absurd it
-
-pub four_labeled : (digest : List ℕ) (old new : Disks) (which : ℕ) (all : Vec (Option Shown) Global) (it : Labeled) → ReadsFour old new which (Ok all) → IsSummary all.items digest it
-    → ReadsLabeled digest old new which (Ok it)
-four_labeled digest old new which all it read summary = (
-  omega (arith, claim_label_within all.items it.claim it.first summary.first, read.0),
-  omega (arith, within all.items it.source summary.source.s summary.source.at, read.0),
-  λ known honest. record { shown = all.items; are = read.1 known honest; summary = summary },
-)
 
 without_case : (size : ℕ) (held : ℕ → Option ℕ) (digest : List ℕ) (number : ℕ) (l : PlainLabel) (o : Option Shown) → ((s : Shown) → o ≡ Some s → ¬ has_config digest s) → IsShownAs size held number o
     → IsLabelShown size held number l → sha256 (config_bytes l.vdevs) ≡ digest → ⊥

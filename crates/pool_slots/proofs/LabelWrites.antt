@@ -1,5 +1,5 @@
 -- Writes of labels: what they leave.
-use Rattle.std.proofs.Common.{◌≡◌, ◌⊎◌, inl, inr, ◌<◌, ◌≤◌, ◌∙◌, ℕ, ◌+◌, ◌*◌, Bool, List, ◌∷◌, length, slice_get, get_or, Option, Some, None, Result, Ok, Err, OnOk, refl, sym, ap, subst, arith}
+use Rattle.std.proofs.Common.{◌≡◌, ◌⊎◌, inl, inr, ◌<◌, ◌≤◌, ◌∙◌, ℕ, ◌+◌, ◌*◌, Bool, List, ◌∷◌, length, slice_get, get_or, Option, Some, None, Result, refl, sym, ap, subst, arith}
 use Rattle.std.proofs.lemmas.Option.{slice_get-get_or, slice_get_within}
 use Rattle.std.proofs.lemmas.Bool.{cases_lt}
 use Rattle.uberblock_ring.specs.declared.uberblock.Uberblock.{Uberblock}
@@ -10,11 +10,10 @@ use Rattle.model_disk.specs.Contents.{covers}
 use Rattle.model_disk.specs.Joint.{Disks, on, bytes_of, content}
 use Rattle.model_disk.specs.Runs.{IsOff, Makes}
 use Rattle.model_disk.proofs.ContentsLemmas.{covers-outside}
-use Rattle.model_disk.proofs.LawLemmas.{written_bytes_stand}
 use Rattle.model_disk.proofs.RunLemmas.{off_content}
 use Rattle.vdev_label.specs.Place.{label_at}
 use Rattle.pool_slots.specs.Commits.{AreOffLabels}
-use Rattle.pool_slots.specs.Labels.{AreWhole, AreasStand, HasArea, InAreaTurn, IsAreaWrite, IsTurn, area_place, at_label}
+use Rattle.pool_slots.specs.Labels.{AreWhole, AreasStand, HasArea, InAreaTurn, IsAreaWrite, area_place, at_label}
 use Rattle.pool_slots.specs.Possible.{Possible, Trees, Leads}
 use Rattle.pool_slots.specs.Slots.{AreThere, InUse, HaveLabels, IsSlot, MakesOn, is_disk, slot_at}
 use Rattle.pool_slots.specs.Writes.{IsSlotWrite, on_disk}
@@ -124,20 +123,6 @@ makes_area r starts areas picks old new which number area is has picked same cal
     MakesOn-write r (IsAreaWrite starts areas picks) old new which (area_place (length (bytes_of starts which)) number) area.bytes.items same calls
     (record { number = number; is_label = is; area = area; has = has; picked = picked; place = refl; same = refl })
 
-pub area_written : {T E : Type 0} (r : Result T E) (starts : List (List ℕ)) (areas : List (Option Area)) (first : Bool) (old new : Disks) (which number : ℕ) (area : Area) → AreWhole areas
-    → slice_get areas which ≡ Some (Some area) → new.starts ≡ old.starts
-    → new.calls ≡ on which (write_call r (area_place (length (bytes_of starts which)) number) area.bytes.items) ∷ old.calls
-    → OnOk r (AreasStand (content new) starts areas (at_label which number (InAreaTurn areas first)))
-area_written (Err e) starts areas first old new which number area whole has same calls = tt
-area_written (Ok x) starts areas first old new which number area whole has same calls = λ d n it at is picked i inside.
-    let P : ℕ → Type 0 = λ w. slice_get areas w ≡ Some (Some it) in
-    let one : it ≡ area = same_area it area (sym (subst P picked.0 at) ∙ has) in
-    let stand = written_bytes_stand old new which (area_place (length (bytes_of starts which)) number) area.bytes.items same calls in
-    let Q : Area → Type 0 = λ a. content new which (area_place (length (bytes_of starts which)) number + i) ≡ slice_get a.bytes.items i in
-    let R : ℕ → Type 0 = λ w. content new w (area_place (length (bytes_of starts w)) number + i) ≡ slice_get it.bytes.items i in
-    let S : ℕ → Type 0 = λ m. content new d (area_place (length (bytes_of starts d)) m + i) ≡ slice_get it.bytes.items i in
-    subst S (sym picked.1) (subst R (sym picked.0) (subst Q (sym one) (stand i (omega (arith, inside, whole which area has)))))
-
 -- what stood in labels that aren't written, and what was written
 pub stand_joined : (starts : List (List ℕ)) (areas : List (Option Area)) (writes before now all : ℕ → ℕ → Type 0) (old new : Disks) → AreWhole areas → HaveLabels starts → length areas ≤ length starts
     → Makes (IsAreaWrite starts areas writes) old new → AreasStand (content old) starts areas before → AreasStand (content new) starts areas now
@@ -150,17 +135,6 @@ stand_joined starts areas writes before now all old new whole room count makes s
           (off_area_writes starts areas writes which number whole (room which within) is earlier.1 i inside) ∙ stood which number area has is earlier.0 i inside
       | inr later ↦ stand which number area has is later i inside
     ]
-
--- a label whose turn it isn't
-pub none_in_turn : (starts : List (List ℕ)) (areas : List (Option Area)) (first : Bool) (disks : Disks) (which number : ℕ) (area : Area) → slice_get areas which ≡ Some (Some area) → ¬ IsTurn first area number
-    → AreasStand (content disks) starts areas (at_label which number (InAreaTurn areas first))
-none_in_turn starts areas first disks which number area has none d n it at is picked =
-    let turn : InAreaTurn areas first d n = picked.2 in
-    let P : ℕ → Type 0 = λ w. slice_get areas w ≡ Some (Some turn.area) in
-    let one : turn.area ≡ area = same_area turn.area area (sym (subst P picked.0 turn.has) ∙ has) in
-    let Q : Area → Type 0 = λ a. IsTurn first a n in
-    let R : ℕ → Type 0 = λ m. IsTurn first area m in
-    absurd (none (subst R picked.1 (subst Q one turn.turn)))
 
 pub stand_none : (starts : List (List ℕ)) (areas : List (Option Area)) (first : Bool) (disks : Disks) (which : ℕ) → ((area : Area) → ¬ (slice_get areas which ≡ Some (Some area)))
     → AreasStand (content disks) starts areas (on_disk which (InAreaTurn areas first))

@@ -21,4 +21,5 @@ mod LabelScans
 mod LabelWrites
 mod LabelPlans
 mod LabelPhases
+mod ConfigLabels
 pub mod LifeClaims

@@ -7,6 +7,7 @@ pub mod Marks
 pub mod Commits
 pub mod Opens
 pub mod Relabels
+pub mod Configs
 pub mod LabelReads
 pub mod OpenRefusals
 pub mod Lives

@@ -3,6 +3,7 @@ ghost use Rattle.std.specs.Prelude.{◌≡◌, length, OnErr, OnOk};
 ghost use Rattle.model_disk.specs.Joint.{content};
 ghost use Rattle.model_disk.specs.Runs.{HasFailed};
 ghost use Rattle.uberblock_ring.specs.Uberblock.{Fits};
+ghost use Rattle.pool_slots.specs.Configs.{ClaimConfigures};
 ghost use Rattle.pool_slots.specs.Labels.{AreClaimed, AreWhole, AreasFit, AreasOn, AreasStand, InAreaTurn, IsAreaWrite, IsClaimWrite};
 ghost use Rattle.pool_slots.specs.Opens.{AreOn, ClaimGives, ClaimKeeps, SlotsGive, SlotsKeep};
 ghost use Rattle.pool_slots.specs.Relabels.{AreFirst, all_labels};
@@ -87,6 +88,7 @@ pub(crate) fn claim<D: Disk + Drop>(
     ensures fault { OnErr result (HasFailed disks.old disks.new) }
     ensures any_moment { ClaimKeeps
         out.now disks.old uberblock.now all.now areas.now disks.new }
+    ensures configured { ClaimConfigures out.now disks.old areas.now disks.new }
     ensures claimed { OnOk result (ClaimGives out.now disks.old uberblock.now all.now disks.new) }
     ensures labeled { OnOk result (AreClaimed out.now disks.new uberblock.now) }
     ensures stand { OnOk result

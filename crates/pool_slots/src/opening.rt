@@ -1,5 +1,6 @@
 //! An open.
 ghost use Rattle.std.specs.Prelude.{◌≡◌, ◌<◌, length, IfErr, IfOk};
+ghost use Rattle.pool_slots.specs.Configs.{OpenConfigures};
 ghost use Rattle.pool_slots.specs.Labels.{AreClaimed};
 ghost use Rattle.pool_slots.specs.OpenRefusals.{OpenRefuses};
 ghost use Rattle.pool_slots.specs.Opens.{OpenGives, OpenKeeps, OpenMakes, OpenMarks, OpenTakes};
@@ -61,6 +62,9 @@ pub fn open<D: Disk + Drop>(
 
     // And until the claim is begun in a slot their labels show no less than before, and then on each disk one shows the claim.
     ensures labels_any_moment { OpenMarks out.now rewind disks.old disks.new }
+
+    // And on each disk some label shows the configuration that is taken, where no disk showed four different ones before.
+    ensures configured_any_moment { OpenConfigures out.now rewind disks.old disks.new }
 
     // It is refused for want of memory, or where a device call failed, or where no claim is left, or where none is so many groups less:
     // there is a highest one. Or where a disk has no label with the configuration of the one that it takes.

@@ -3,13 +3,14 @@ use Rattle.model_disk.specs.Joint.{JointCall, content}
 use Rattle.model_disk.specs.Runs.{HasFailed}
 use Rattle.model_disk.proofs.FailureLemmas.{failed_in_second}
 use Rattle.pool_slots.specs.Labels.{AreClaimed, AreasStand, InAreaTurn, IsAreaWrite, IsClaimWrite}
+use Rattle.pool_slots.specs.Configs.{LeavesConfigured}
 use Rattle.pool_slots.specs.Opens.{ClaimGives, ClaimsAt}
 use Rattle.pool_slots.specs.Relabels.{AreFirst, all_labels}
 use Rattle.pool_slots.specs.Slots.{AreSettled, HaveLabels, InUse}
 use Rattle.pool_slots.specs.Writes.{IsSlotWrite, in_use}
 use Rattle.pool_slots.specs.Commits.{AreOffLabels}
 use Rattle.std.proofs.Common.{ℕ}
-use Rattle.pool_slots.proofs.LabelPhases.{FirstStands, all_claimed, all_stand, are_whole, areas_made, at_later, each_joined, first_claims, first_stays, may_later, others_claim, slots_claim, slots_made}
+use Rattle.pool_slots.proofs.LabelPhases.{FirstStands, all_claimed, all_stand, are_whole, areas_made, at_later, each_joined, first_claims, first_configured, first_stays, may_later, others_claim, others_configured, slots_claim, slots_configured, slots_made}
 use Rattle.pool_slots.proofs.Phases.{MakesOn-more}
 use Rattle.pool_slots.proofs.Reading.{longer}
 use Rattle.pool_slots.proofs.Results.{on_ok_is, on_ok_use, on_err_use, on_err_is}
@@ -110,6 +111,51 @@ returns-clause-any_moment g c = λ trees p may.
     (slots_claim trees out old mid wrote p u areas there c.requires.labels c.requires.fits c.requires.on c.requires.areas first c.claim_slots.ensures.makes.makes (c.claim_slots.ensures.any_moment trees p may')))
     (others_claim trees out old wrote new p u areas there c.requires.labels whole may.off_labels c.requires.on c.requires.areas second (c.in_ok-claim_slots.ensures.claimed trees p may').1
     c.settle_labels-2.ensures.makes.makes)
+
+pub returns-in_err-settle_labels-clause-configured : goal.returns-in_err-settle_labels-clause-configured
+returns-in_err-settle_labels-clause-configured g c = λ digest may.
+    let out = c.args.out.now in
+    let old = c.args.disks.now in
+    let areas = c.args.areas.now in
+    let u = c.args.uberblock.now in
+    let mid = c.settle_labels.new.disks in
+    let whole = are_whole u areas c.requires.areas in
+    let there = are_there out old.starts c.requires.out in
+    first_configured out old mid areas digest there c.requires.labels whole c.requires.on may c.settle_labels.ensures.makes.makes
+
+pub returns-in_err-claim_slots-clause-configured : goal.returns-in_err-claim_slots-clause-configured
+returns-in_err-claim_slots-clause-configured g c = λ digest may.
+    let out = c.args.out.now in
+    let old = c.args.disks.now in
+    let areas = c.args.areas.now in
+    let u = c.args.uberblock.now in
+    let mid = c.settle_labels.new.disks in
+    let whole = are_whole u areas c.requires.areas in
+    let there = are_there out old.starts c.requires.out in
+    let wrote = c.claim_slots.new.disks in
+    let first : FirstStands out old mid u areas = record { starts = c.settle_labels.ensures.makes.makes.starts; stand = c.in_ok-settle_labels.ensures.stand; settled = c.in_ok-settle_labels.ensures.settled } in
+    each_joined (LeavesConfigured out old.starts digest) (IsSlotWrite mid.starts u (in_use out)) old mid wrote c.claim_slots.ensures.makes.makes
+    (first_configured out old mid areas digest there c.requires.labels whole c.requires.on may c.settle_labels.ensures.makes.makes)
+    (slots_configured out old mid wrote u areas digest there c.requires.labels c.requires.fits c.requires.on c.requires.areas may first c.claim_slots.ensures.makes.makes)
+
+pub returns-clause-configured : goal.returns-clause-configured
+returns-clause-configured g c = λ digest may.
+    let out = c.args.out.now in
+    let old = c.args.disks.now in
+    let areas = c.args.areas.now in
+    let u = c.args.uberblock.now in
+    let mid = c.settle_labels.new.disks in
+    let whole = are_whole u areas c.requires.areas in
+    let there = are_there out old.starts c.requires.out in
+    let wrote = c.claim_slots.new.disks in
+    let first : FirstStands out old mid u areas = record { starts = c.settle_labels.ensures.makes.makes.starts; stand = c.in_ok-settle_labels.ensures.stand; settled = c.in_ok-settle_labels.ensures.settled } in
+    let new = c.settle_labels-2.new.disks in
+    let second = first_stays out old mid wrote u areas c.requires.labels (omega (arith, c.requires.count)) c.requires.fits first c.claim_slots.ensures.makes.makes c.in_ok-claim_slots.ensures.settled in
+    each_joined (LeavesConfigured out old.starts digest) (IsAreaWrite wrote.starts areas (InAreaTurn areas false)) old wrote new c.settle_labels-2.ensures.makes.makes
+    (each_joined (LeavesConfigured out old.starts digest) (IsSlotWrite mid.starts u (in_use out)) old mid wrote c.claim_slots.ensures.makes.makes
+    (first_configured out old mid areas digest there c.requires.labels whole c.requires.on may c.settle_labels.ensures.makes.makes)
+    (slots_configured out old mid wrote u areas digest there c.requires.labels c.requires.fits c.requires.on c.requires.areas may first c.claim_slots.ensures.makes.makes))
+    (others_configured out old wrote new u areas digest there c.requires.labels whole c.requires.on c.requires.areas may second c.settle_labels-2.ensures.makes.makes)
 
 pub returns-clause-claimed : goal.returns-clause-claimed
 returns-clause-claimed g c =

@@ -10,9 +10,10 @@ use Rattle.pool_slots.specs.Slots.{InUse}
 use Rattle.pool_slots.specs.declared.found.Found.{Found}
 use Rattle.pool_slots.specs.declared.labeled.Area.{Area}
 use Rattle.pool_slots.specs.declared.refusal.Refusal.TheVariants.{DiskFault}
+use Rattle.pool_slots.proofs.ConfigLabels.{open_configures}
 use Rattle.pool_slots.proofs.OpenSteps.{leads_before, scan_cause, highest_cause, taken_cause}
 use Rattle.pool_slots.proofs.Opened.{claims_always, made_from, marked_by, marks_always, marks_before, opened_from, opened_is, plan_cause, reads_of, relabeled_by, scan_then_claim}
-use Rattle.pool_slots.proofs.Phases.{MakesOn-more, both_made}
+use Rattle.pool_slots.proofs.Phases.{MakesOn-more, both_made, settled_later}
 use Rattle.pool_slots.proofs.Results.{if_err_is}
 use Rattle.pool_slots.proofs.Used.{are_there}
 use Rattle.pool_slots.proofs.opening.open.Goals as goal
@@ -344,3 +345,72 @@ returns-clause-marked_first g c = λ known honest.
     let made = made_from out c.args.rewind old mid disks new all highest taken u areas reads c.claim.ensures.makes.makes known honest in
     let P : List (Option Area) → Type 0 = λ xs. AreFirst out disks xs new in
     marked_by out old disks new u areas scan made c.in_ok-plan.ensures.plans.4 c.in_ok-plan.ensures.plans.2 (subst P c.deref-3.ensures.value c.in_ok-claim.ensures.first)
+
+pub returns-in_err-all-clause-configured_any_moment : goal.returns-in_err-all-clause-configured_any_moment
+returns-in_err-all-clause-configured_any_moment g c = λ known settled four honest.
+    inl c.find_all.ensures.makes.makes
+
+pub returns-in_err-highest-clause-configured_any_moment : goal.returns-in_err-highest-clause-configured_any_moment
+returns-in_err-highest-clause-configured_any_moment g c = λ known settled four honest.
+    inl c.find_all.ensures.makes.makes
+
+pub returns-in_err-taken-clause-configured_any_moment : goal.returns-in_err-taken-clause-configured_any_moment
+returns-in_err-taken-clause-configured_any_moment g c = λ known settled four honest.
+    inl (both_made no_write c.args.disks.now c.find_all.new.disks c.taken_from.new.disks c.find_all.ensures.makes.makes c.taken_from.ensures.makes.makes)
+
+pub returns-in_err-plan-clause-configured_any_moment : goal.returns-in_err-plan-clause-configured_any_moment
+returns-in_err-plan-clause-configured_any_moment g c = λ known settled four honest.
+    inl (both_made no_write c.args.disks.now c.taken_from.new.disks c.plan_claim.new.disks
+    (both_made no_write c.args.disks.now c.find_all.new.disks c.taken_from.new.disks c.find_all.ensures.makes.makes c.taken_from.ensures.makes.makes) c.plan_claim.ensures.makes.makes)
+
+pub returns-in_err-claim-clause-configured_any_moment : goal.returns-in_err-claim-clause-configured_any_moment
+returns-in_err-claim-clause-configured_any_moment g c = λ known settled four honest.
+    let out = c.args.out.now in
+    let old = c.args.disks.now in
+    let mid = c.find_all.new.disks in
+    let back = c.taken_from.new.disks in
+    let disks = c.plan_claim.new.disks in
+    let new = c.claim.new.disks in
+    let all = c.in_ok-all.all.items in
+    let highest = c.in_ok-highest.highest in
+    let taken = c.in_ok-taken.taken in
+    let plan = c.in_ok-plan.plan in
+    let u = plan.claimed in
+    let areas = plan.areas.items in
+    let reads = reads_of out c.args.rewind old mid back disks c.in_ok-all.all c.deref.result.now highest taken plan c.find_all.ensures.makes.makes c.taken_from.ensures.makes.makes
+    c.plan_claim.ensures.makes.makes c.in_ok-all.ensures.finds c.deref.ensures.value c.in_ok-highest.ensures.finds.0 c.in_ok-taken.ensures.takes c.in_ok-plan.ensures.plans in
+    let scan = both_made no_write old back disks (both_made no_write old mid back c.find_all.ensures.makes.makes c.taken_from.ensures.makes.makes) c.plan_claim.ensures.makes.makes in
+    let made = made_from out c.args.rewind old mid disks new all highest taken u areas reads c.claim.ensures.makes.makes known honest in
+    let there = are_there out old.starts c.requires.out in
+    inr (
+      u,
+      opened_from out c.args.rewind old mid disks new all highest taken u areas reads c.claim.ensures.makes.makes known honest,
+      open_configures out old disks new u areas c.deref-3.result.now there settled (λ which used. settled_later old disks which scan (settled which used)) four scan made c.in_ok-plan.ensures.plans.4 c.in_ok-plan.ensures.plans.2
+          c.claim.ensures.makes.makes c.deref-3.ensures.value c.claim.ensures.configured,
+    )
+
+pub returns-clause-configured_any_moment : goal.returns-clause-configured_any_moment
+returns-clause-configured_any_moment g c = λ known settled four honest.
+    let out = c.args.out.now in
+    let old = c.args.disks.now in
+    let mid = c.find_all.new.disks in
+    let back = c.taken_from.new.disks in
+    let disks = c.plan_claim.new.disks in
+    let new = c.claim.new.disks in
+    let all = c.in_ok-all.all.items in
+    let highest = c.in_ok-highest.highest in
+    let taken = c.in_ok-taken.taken in
+    let plan = c.in_ok-plan.plan in
+    let u = plan.claimed in
+    let areas = plan.areas.items in
+    let reads = reads_of out c.args.rewind old mid back disks c.in_ok-all.all c.deref.result.now highest taken plan c.find_all.ensures.makes.makes c.taken_from.ensures.makes.makes
+    c.plan_claim.ensures.makes.makes c.in_ok-all.ensures.finds c.deref.ensures.value c.in_ok-highest.ensures.finds.0 c.in_ok-taken.ensures.takes c.in_ok-plan.ensures.plans in
+    let scan = both_made no_write old back disks (both_made no_write old mid back c.find_all.ensures.makes.makes c.taken_from.ensures.makes.makes) c.plan_claim.ensures.makes.makes in
+    let made = made_from out c.args.rewind old mid disks new all highest taken u areas reads c.claim.ensures.makes.makes known honest in
+    let there = are_there out old.starts c.requires.out in
+    inr (
+      u,
+      opened_from out c.args.rewind old mid disks new all highest taken u areas reads c.claim.ensures.makes.makes known honest,
+      open_configures out old disks new u areas c.deref-3.result.now there settled (λ which used. settled_later old disks which scan (settled which used)) four scan made c.in_ok-plan.ensures.plans.4 c.in_ok-plan.ensures.plans.2
+          c.claim.ensures.makes.makes c.deref-3.ensures.value c.claim.ensures.configured,
+    )
