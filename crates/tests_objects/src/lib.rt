@@ -7,6 +7,8 @@ mod groups;
 #[cfg(test)]
 mod losses;
 #[cfg(test)]
+mod maps;
+#[cfg(test)]
 mod meta;
 #[cfg(test)]
 mod nodes;
