@@ -21,24 +21,35 @@ returns-in_err-rows-clause-refused g c =
 pub returns-clause-value : goal.returns-clause-value
 returns-clause-value g c =
     IfOk-weaker c.free_set_of.result _ _
-    (λ free leaves stored objects own blocks held are honest.
-    (c.in_ok-rows.rows.items, c.in_ok-rows.ensures.value stored objects own blocks held are honest,
-      subst (λ (bytes : List ℕ). LeavesFree bytes c.args.sectors free) c.deref.ensures.value leaves))
+    (λ free leaves stored objects own blocks held are honest. (
+      c.in_ok-rows.rows.items,
+      c.in_ok-rows.ensures.value stored objects own blocks held are honest,
+      subst (λ (bytes : List ℕ). LeavesFree bytes c.args.sectors free) c.deref.ensures.value leaves,
+    ))
     c.free_set_of.ensures.found
 
 pub returns-clause-found : goal.returns-clause-found
 returns-clause-found g c =
     IfOk-weaker c.free_set_of.result _ _
-    (λ free leaves. (c.in_ok-rows.rows.items, c.in_ok-rows.ensures.found,
-      subst (λ (bytes : List ℕ). LeavesFree bytes c.args.sectors free) c.deref.ensures.value leaves))
+    (λ free leaves. (
+      c.in_ok-rows.rows.items,
+      c.in_ok-rows.ensures.found,
+      subst (λ (bytes : List ℕ). LeavesFree bytes c.args.sectors free) c.deref.ensures.value leaves,
+    ))
     c.free_set_of.ensures.found
 
 pub returns-clause-refused : goal.returns-clause-refused
 returns-clause-refused g c =
     IfErr-weaker c.free_set_of.result _ _
     (λ refusal. ⊎_elim (λ memory. inl (inl memory))
-    (λ bad. inr (bad.0, (c.in_ok-rows.rows.items, c.in_ok-rows.ensures.found,
-      subst (λ (bytes : List ℕ). SpellsNoMap bytes c.args.sectors) c.deref.ensures.value bad.1))))
+    (λ bad. inr (
+      bad.0,
+      (
+        c.in_ok-rows.rows.items,
+        c.in_ok-rows.ensures.found,
+        subst (λ (bytes : List ℕ). SpellsNoMap bytes c.args.sectors) c.deref.ensures.value bad.1,
+      ),
+    )))
     c.free_set_of.ensures.refused
 
 pub returns-clause-known : goal.returns-clause-known
@@ -47,7 +58,7 @@ returns-clause-known g c =
     (λ refusal why stored objects own blocks held are honest.
     ⊎_elim (λ memory. inl (inl memory))
     (λ bad. inr (λ map.
-      let same = c.deref.ensures.value ∙ c.in_ok-rows.ensures.one stored objects own blocks held are honest map.1.0 map.1.1 in
-      subst (λ (bytes : List ℕ). SpellsNoMap bytes c.args.sectors) same bad.1 map.1.2.entries map.1.2.spelled map.1.2.is_map))
+    let same = c.deref.ensures.value ∙ c.in_ok-rows.ensures.one stored objects own blocks held are honest map.1.0 map.1.1 in
+    subst (λ (bytes : List ℕ). SpellsNoMap bytes c.args.sectors) same bad.1 map.1.2.entries map.1.2.spelled map.1.2.is_map))
     why)
     c.free_set_of.ensures.refused
