@@ -1,4 +1,5 @@
 //! Space maps in objects of a set.
+ghost use Rattle.std.specs.Prelude.{◌+◌, ◌<◌, ◌≤◌};
 ghost use Rattle.dnode.specs.ObjectSet.{FitsObjectSet};
 
 use crate::meta::with;
@@ -11,7 +12,10 @@ use std::alloc::Global;
 use std::test::Fail;
 
 /// A metaslab of 64 sectors, a run of which is in use.
-fn used(alloc: Global, start: u64, len: u64) -> Result<FreeSet, space_map::Refusal> {
+fn used(alloc: Global, start: u64, len: u64) -> Result<FreeSet, space_map::Refusal>
+    requires some { 0 < len }
+    requires within { start + len ≤ 64 }
+{
     let mut set = FreeSet::new(alloc, 64)?;
     set.change(Kind::Allocated, Run { start, len })?;
     Ok(set)
