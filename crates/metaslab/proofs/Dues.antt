@@ -5,7 +5,7 @@ use Rattle.space_map.specs.Sectors.{names, contains, changed}
 use Rattle.metaslab.specs.declared.settling.Release.{Release}
 use Rattle.metaslab.specs.Released.{released_by, frees, kept, AreHeldBack, IsHeldBack}
 use Rattle.metaslab.specs.Space.{Space, state_of}
-use Rattle.metaslab.specs.Calls.{Settles}
+use Rattle.metaslab.specs.Calls.{SettlesUnder}
 use Rattle.metaslab.specs.State.{is_due, is_in_use, settled}
 use Rattle.metaslab.proofs.Holding.{cases, others, not_free, still_held}
 
@@ -95,18 +95,18 @@ skipped_first due free r rs later s = rw later refl
 
 -- ---- the metaslab after that
 
-pub settled_space : (old new : Space) (g : ℕ) → IsHeldBack old.free old.released → new.free.sectors ≡ old.free.sectors
-    → ((s : ℕ) → contains new.free.runs s ≡ (contains old.free.runs s || frees (is_due old.pins g) old.released s))
-    → new.released ≡ kept (is_due old.pins g) old.released → new.pins ≡ old.pins → IsHeldBack new.free new.released × Settles old new g
-settled_space old new g h sectors given rest pins =
-    let due = is_due old.pins g in
+pub settled_space : (under : List ℕ) (old new : Space) (g : ℕ) → IsHeldBack old.free old.released → new.free.sectors ≡ old.free.sectors
+    → ((s : ℕ) → contains new.free.runs s ≡ (contains old.free.runs s || frees (is_due under g) old.released s))
+    → new.released ≡ kept (is_due under g) old.released → new.pins ≡ old.pins → IsHeldBack new.free new.released × SettlesUnder under old new g
+settled_space under old new g h sectors given rest pins =
+    let due = is_due under g in
     let held = held_after_settling old.free.sectors due (contains old.free.runs) (contains new.free.runs) old.released h
     (λ s m e later. given s ∙ not_given old.free.sectors due (contains old.free.runs) old.released h s m e later) in (
       rw (sectors, rest) held,
       record {
         states = λ s. ap (λ (b : Bool). state_of b (released_by new.released s)) (given s)
             ∙ ap (λ (rs : List Release). state_of (contains old.free.runs s || frees due old.released s) (released_by rs s)) rest
-            ∙ state_after_settling old.free.sectors old.pins g (contains old.free.runs) old.released h s;
+            ∙ state_after_settling old.free.sectors under g (contains old.free.runs) old.released h s;
         sectors = sectors;
         pins = pins;
       },

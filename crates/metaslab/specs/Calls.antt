@@ -1,5 +1,5 @@
 -- What the calls of a metaslab do, by the states of its sectors.
-use Rattle.std.specs.Prelude.{ℕ, ◌≡◌, ◌+◌, ◌<◌, ◌≤◌, ◌==◌, not, if◌then◌else◌, [], ◌∷◌, ◌++◌, filter, IsTrue}
+use Rattle.std.specs.Prelude.{ℕ, ◌≡◌, ◌+◌, ◌<◌, ◌≤◌, ◌==◌, not, if◌then◌else◌, List, [], ◌∷◌, ◌++◌, filter, IsTrue}
 use Rattle.space_map.specs.declared.entry.Run.{Run}
 use Rattle.space_map.specs.FreeRuns.{FreeRuns}
 use Rattle.space_map.specs.Sectors.{names, contains}
@@ -21,11 +21,15 @@ pub record Changes (old new : Space) (run : Run) (to : State) : Type 0 where
 abbrev pub HasFreeRun : Space → ℕ → Type 0
 HasFreeRun space sectors = (start : ℕ) × ((s : ℕ) → start ≤ s → s < start + sectors → state space s ≡ Free)
 
--- what is due to a group is free from now on, and all else is as it was
-pub record Settles (old new : Space) (group : ℕ) : Type 0 where
-  pub states : (s : ℕ) → state new s ≡ settled old.pins group (state old s)
+-- what is due to a group while these are pinned is free from now on, and all else is as it was
+pub record SettlesUnder (under : List ℕ) (old new : Space) (group : ℕ) : Type 0 where
+  pub states : (s : ℕ) → state new s ≡ settled under group (state old s)
   pub sectors : sectors_of new ≡ sectors_of old
   pub pins : new.pins ≡ old.pins
+
+-- the same under the metaslab's own pins
+abbrev pub Settles : Space → Space → ℕ → Type 0
+Settles old new group = SettlesUnder old.pins old new group
 
 -- the free sectors are those of the free set, and all others are in use
 pub record IsOf (space : Space) (free : FreeRuns) : Type 0 where

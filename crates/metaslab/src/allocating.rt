@@ -35,7 +35,7 @@ impl Model for Metaslab {
 impl Metaslab {
     ghost use Rattle.metaslab.specs.State.{Free, InUse, Released};
     ghost use Rattle.metaslab.specs.Space.{sectors_of};
-    ghost use Rattle.metaslab.specs.Calls.{IsRunOf, Changes, HasFreeRun, Settles, IsOf, AreUnused};
+    ghost use Rattle.metaslab.specs.Calls.{IsRunOf, Changes, HasFreeRun, Settles, SettlesUnder, IsOf, AreUnused};
     ghost use Rattle.metaslab.specs.Calls.{pinned, unpinned};
 
     /// A metaslab with this free set, as the replay of its space map gives it. All its other sectors are in
@@ -105,6 +105,19 @@ impl Metaslab {
         let mut free = self.free.clone()?;
         give_due(&mut free, &self.released, &self.pins, group)?;
         drop_due(&mut self.released, &self.pins, group);
+        self.free = free;
+        Ok(())
+    }
+
+    /// Settles under pins that stand elsewhere, as those of a vdev stand once beside its metaslabs: its own are not
+    /// asked. An error, that memory is short, leaves the metaslab as it was.
+    pub fn settle_under(&mut self, pins: &[u64], group: u64) -> Result<(), AllocError>
+        ensures settled { OnOk result (SettlesUnder pins.now self.old self.new group) }
+        ensures err { OnErr result (self.new ≡ self.old) }
+    {
+        let mut free = self.free.clone()?;
+        give_due(&mut free, &self.released, pins, group)?;
+        drop_due(&mut self.released, pins, group);
         self.free = free;
         Ok(())
     }
