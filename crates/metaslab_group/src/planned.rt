@@ -1,0 +1,123 @@
+//! A metaslab and a plan's copy of it.
+ghost use Rattle.std.specs.Prelude.{◌≡◌, ◌<◌, OnOk, OnErr, IfOk};
+
+use metaslab::{Metaslab, Refusal};
+use space_map::{FreeSet, Run};
+use std::alloc::{AllocError, Global};
+use std::marker::Model;
+
+/// A metaslab as the last committed group left it, and the copy that the plan of the next group works on,
+/// which is made once the plan touches the metaslab.
+///
+/// What the plan does is seen in the planned space alone, until it is kept or dropped.
+#[derive(Debug, Drop)]
+pub struct PlannedMetaslab {
+    kept: Metaslab,
+    copy: Option<Metaslab>,
+}
+
+impl Model for PlannedMetaslab {
+    ghost use Rattle.std.specs.Prelude.{unwrap_or};
+    ghost use Rattle.metaslab_group.specs.Spaces.{Spaces};
+
+    ghost Value = { Spaces };
+
+    ghost view = { λ m. record { kept = m.kept; planned = unwrap_or m.copy m.kept } };
+}
+
+impl PlannedMetaslab {
+    ghost use Rattle.std.specs.Prelude.{[], ◌↔◌, IsTrue};
+    ghost use Rattle.metaslab.specs.State.{Free, InUse, Released};
+    ghost use Rattle.metaslab.specs.Calls.{IsRunOf, Changes, HasFreeRun, SettlesUnder, IsOf};
+
+    /// A metaslab with this free set, as the replay of its space map gives it, before any plan.
+    pub fn new(alloc: Global, free: FreeSet) -> PlannedMetaslab
+        ensures kept { IsOf result.kept free }
+        ensures pins { result.kept.pins ≡ [] }
+        ensures planned { result.planned ≡ result.kept }
+    {
+        PlannedMetaslab {
+            kept: Metaslab::new(alloc, free),
+            copy: None,
+        }
+    }
+
+    /// Whether so many sectors in a row are free beside what is planned.
+    pub fn has_room(&self, sectors: u64) -> bool
+        requires { 0 < sectors }
+        ensures { IsTrue result ↔ HasFreeRun self.now.planned sectors }
+    {
+        match &self.copy {
+            Some(copy) => copy.has_room(sectors),
+            None => self.kept.has_room(sectors),
+        }
+    }
+
+    /// Takes so many free sectors in a row, any, for the plan. `NoSpace` comes only where no so many are free
+    /// in a row, and `NoMemory` may come in its place. An error leaves both spaces as they were.
+    pub fn allocate(&mut self, sectors: u64) -> Result<Run, Refusal>
+        requires { 0 < sectors }
+        ensures len { IfOk result (λ run. run.len ≡ sectors) }
+        ensures free { IfOk result (λ run. IsRunOf self.old.planned run Free) }
+        ensures taken { IfOk result (λ run. Changes self.old.planned self.new.planned run InUse) }
+        ensures no_space { result ≡ Err Refusal.NoSpace → ¬ HasFreeRun self.old.planned sectors }
+        ensures err { OnErr result (self.new ≡ self.old) }
+        ensures kept { self.new.kept ≡ self.old.kept }
+    {
+        if let Some(copy) = &mut self.copy {
+            return copy.allocate(sectors);
+        }
+        let mut copy = self.kept.clone()?;
+        let run = copy.allocate(sectors)?;
+        self.copy = Some(copy);
+        Ok(run)
+    }
+
+    /// Releases a run in use, with the group that is planned. An error, that memory is short, leaves both
+    /// spaces as they were.
+    pub fn release(&mut self, run: Run, group: u64) -> Result<(), AllocError>
+        requires some { 0 < run.len }
+        requires in_use { IsRunOf self.old.planned run InUse }
+        ensures released { OnOk result
+            (Changes self.old.planned self.new.planned run (Released group)) }
+        ensures err { OnErr result (self.new ≡ self.old) }
+        ensures kept { self.new.kept ≡ self.old.kept }
+    {
+        if let Some(copy) = &mut self.copy {
+            return copy.release(run, group);
+        }
+        let mut copy = self.kept.clone()?;
+        copy.release(run, group)?;
+        self.copy = Some(copy);
+        Ok(())
+    }
+
+    /// Begins the plan of a group while these groups are pinned: what was planned is dropped, and what is due
+    /// becomes free. An error, that memory is short, drops what was planned too, and settles nothing.
+    pub fn settle(&mut self, pins: &[u64], group: u64) -> Result<(), AllocError>
+        ensures settled { OnOk result (SettlesUnder pins.now self.old.kept self.new.kept group) }
+        ensures err { OnErr result (self.new.kept ≡ self.old.kept) }
+        ensures planned { self.new.planned ≡ self.new.kept }
+    {
+        self.copy = None;
+        self.kept.settle_under(pins, group)
+    }
+
+    /// Takes what is planned as what is there, as the plan's group is committed.
+    pub fn keep_planned(&mut self)
+        ensures kept { self.new.kept ≡ self.old.planned }
+        ensures planned { self.new.planned ≡ self.old.planned }
+    {
+        if let Some(copy) = self.copy.take() {
+            self.kept = copy;
+        }
+    }
+
+    /// Drops what is planned. It takes no memory.
+    pub fn drop_planned(&mut self)
+        ensures kept { self.new.kept ≡ self.old.kept }
+        ensures planned { self.new.planned ≡ self.old.kept }
+    {
+        self.copy = None;
+    }
+}
