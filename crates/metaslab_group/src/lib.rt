@@ -2,6 +2,8 @@
 //! one has it.
 #![tactic(auto)]
 
+mod group;
 mod planned;
 
+pub use group::MetaslabGroup;
 pub use planned::PlannedMetaslab;

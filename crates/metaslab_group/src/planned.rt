@@ -1,5 +1,6 @@
 //! A metaslab and a plan's copy of it.
-ghost use Rattle.std.specs.Prelude.{◌≡◌, ◌<◌, OnOk, OnErr, IfOk};
+ghost use Rattle.std.specs.Prelude.{◌≡◌, ◌<◌, map, OnOk, OnErr, IfOk};
+ghost use Rattle.metaslab_group.specs.Spaces.{AreSettled, AreSettledInPart};
 
 use metaslab::{Metaslab, Refusal};
 use space_map::{FreeSet, Run};
@@ -120,4 +121,23 @@ impl PlannedMetaslab {
     {
         self.copy = None;
     }
+}
+
+/// Settles one metaslab after the other.
+pub(crate) fn settle_each(
+    metaslabs: &mut Vec<PlannedMetaslab>,
+    pins: &[u64],
+    group: u64,
+) -> Result<(), AllocError>
+    requires none_planned { map (λ m. m.planned) metaslabs.old.items ≡ map (λ m. m.kept) metaslabs.old.items }
+    ensures settled { OnOk result (AreSettled pins.now group
+        (map (λ m. m.kept) metaslabs.old.items) (map (λ m. m.kept) metaslabs.new.items)) }
+    ensures err { OnErr result (AreSettledInPart pins.now group
+        (map (λ m. m.kept) metaslabs.old.items) (map (λ m. m.kept) metaslabs.new.items)) }
+    ensures planned { map (λ m. m.planned) metaslabs.new.items ≡ map (λ m. m.kept) metaslabs.new.items }
+{
+    for metaslab in 0..metaslabs.len() {
+        metaslabs[metaslab].settle(pins, group)?;
+    }
+    Ok(())
 }

@@ -1,0 +1,4 @@
+pub mod Pins
+pub mod Sound
+pub mod Steps
+pub mod Accounts
