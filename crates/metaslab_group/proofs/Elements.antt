@@ -12,6 +12,11 @@ set_same [] i x y is = absurd (cc)
 set_same (z ∷ xs) zero x y is = same_some x y is
 set_same (z ∷ xs) (suc i) x y is = set_same xs i x y is
 
+pub set_found : {X : Type 0} (xs : List X) (i : ℕ) (x y : X) → slice_get xs i ≡ Some x → slice_get (slice_set xs i y) i ≡ Some y
+set_found [] i x y found = absurd (cc)
+set_found (z ∷ xs) zero x y found = refl
+set_found (z ∷ xs) (suc i) x y found = set_found xs i x y found
+
 pub set_other : {X : Type 0} (xs : List X) (i k : ℕ) (x : X) → i ≢ k → slice_get (slice_set xs i x) k ≡ slice_get xs k
 set_other [] i k x differ = refl
 set_other (z ∷ xs) zero zero x differ = absurd (differ refl)

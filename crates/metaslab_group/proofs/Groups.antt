@@ -1,5 +1,5 @@
 -- The metaslabs of a vdev as their calls leave them.
-use Rattle.std.proofs.Common.{ℕ, ◌≡◌, inl, inr, ◌<◌, ◌≤◌, Option, Some, None, List, length, get_or, refl, sym, ap, subst, ◌∙◌, arith}
+use Rattle.std.proofs.Common.{ℕ, ◌≡◌, inl, inr, ◌+◌, ◌<◌, ◌≤◌, Option, Some, None, List, length, get_or, refl, sym, ap, subst, ◌∙◌, arith}
 use Rattle.std.specs.Prelude.{slice_set, map, IsSomeAnd}
 use Rattle.std.specs.List.{slice_get}
 use Rattle.std.proofs.lemmas.Bool.{cases_lt}
@@ -11,7 +11,7 @@ use Rattle.metaslab.specs.State.{State, InUse}
 use Rattle.metaslab.specs.Calls.{IsRunOf, Changes, HasFreeRun, SettlesUnder}
 use Rattle.metaslab_group.specs.Spaces.{GroupSpaces, HasFreeRunIn, IsInUseIn, ChangesIn, AreSettled, AreSettledInPart}
 use Rattle.metaslab_group.specs.declared.planned.PlannedMetaslab.{PlannedMetaslab}
-use Rattle.metaslab_group.proofs.Elements.{same_some, map_set, map_stays, map_found, found_in_map, maps_agree, HasBecome, all_done, length_set}
+use Rattle.metaslab_group.proofs.Elements.{same_some, map_set, map_stays, map_found, found_in_map, maps_agree, HasBecome, all_done, set_found, length_set}
 
 -- ---- one metaslab changes
 
@@ -26,6 +26,15 @@ changes_in metaslabs i x y run from to found was changes = record {
   changes = changes;
   rest = map_set (λ m. m.planned) metaslabs i y;
 }
+
+pub in_use_now : (metaslabs : List PlannedMetaslab) (i : ℕ) (x y : PlannedMetaslab) (run : Run) (from : State) → slice_get metaslabs i ≡ Some x
+    → IsRunOf x.planned run from → Changes x.planned y.planned run InUse → IsInUseIn (map (λ m. m.planned) (slice_set metaslabs i y)) i run
+in_use_now metaslabs i x y run from found was changes =
+    let is : IsRunOf y.planned run InUse = record {
+      within = subst (λ n. run.start + run.len ≤ n) (sym changes.sectors) was.within;
+      each = λ s named. changes.states s ∙ rw named refl;
+    } in
+    rw (map_found (λ m. m.planned) (slice_set metaslabs i y) i y (set_found metaslabs i x y found)) is
 
 abbrev pub group_of : List PlannedMetaslab → List ℕ → GroupSpaces
 group_of metaslabs pins = record { kept = map (λ m. m.kept) metaslabs; planned = map (λ m. m.planned) metaslabs; pins = pins }

@@ -56,6 +56,14 @@ impl MetaslabGroup {
         })
     }
 
+    /// How many metaslabs there are.
+    pub fn count(&self) -> usize
+        ensures kept { result ≡ length self.now.kept }
+        ensures planned { result ≡ length self.now.planned }
+    {
+        self.metaslabs.len()
+    }
+
     /// Whether so many sectors in a row are free in a metaslab beside what is planned.
     pub fn has_room(&self, metaslab: usize, sectors: u64) -> bool
         requires is_there { metaslab < length self.now.planned }
@@ -73,6 +81,8 @@ impl MetaslabGroup {
         requires some { 0 < sectors }
         ensures taken { IfOk result (λ start. ChangesIn self.old.planned self.new.planned metaslab
             (record { start = start; len = sectors }) Free InUse) }
+        ensures in_use { IfOk result (λ start. IsInUseIn self.new.planned metaslab
+            (record { start = start; len = sectors })) }
         ensures no_space { result ≡ Err Refusal.NoSpace
             → ¬ HasFreeRunIn self.old.planned metaslab sectors }
         ensures err { OnErr result (self.new ≡ self.old) }

@@ -2,8 +2,8 @@ use Rattle.std.proofs.Common.{rules, ◌≡◌, Some, subst}
 use Rattle.std.specs.Prelude.{slice_set, map}
 use Rattle.std.specs.List.{slice_get}
 use Rattle.metaslab.specs.State.{Free, InUse}
-use Rattle.metaslab_group.specs.Spaces.{ChangesIn}
-use Rattle.metaslab_group.proofs.Groups.{at_number, changes_in, rest_stays, no_room}
+use Rattle.metaslab_group.specs.Spaces.{ChangesIn, IsInUseIn}
+use Rattle.metaslab_group.proofs.Groups.{at_number, changes_in, in_use_now, rest_stays, no_room}
 use Rattle.metaslab_group.proofs.group.MetaslabGroup.allocate.Goals as goal
 
 pub returns-in_err-run-clause-no_space : goal.returns-in_err-run-clause-no_space
@@ -23,6 +23,16 @@ returns-clause-taken c =
     rw (← c.self.view_is)
     (subst (λ n. ChangesIn (map (λ m. m.planned) items) (map (λ m. m.planned) (slice_set items c.args.metaslab c.allocate.new.self)) c.args.metaslab (record { start = run.start; len = n }) Free InUse)
     c.in_ok-run.ensures.len done)
+
+pub returns-clause-in_use : goal.returns-clause-in_use
+returns-clause-in_use c =
+    let items = c.self.inside.metaslabs.items in
+    let at : slice_get items c.args.metaslab ≡ Some c.index_mut.result.now =
+    at_number items c.self.inside.pins.items c.args.self.now c.args.metaslab c.index_mut.result.now c.self.view_is c.requires.is_there c.index_mut.ensures.value in
+    let run = c.in_ok-run.run' in
+    subst (λ n. IsInUseIn (map (λ m. m.planned) (slice_set items c.args.metaslab c.allocate.new.self)) c.args.metaslab (record { start = run.start; len = n }))
+    c.in_ok-run.ensures.len
+    (in_use_now items c.args.metaslab c.index_mut.result.now c.allocate.new.self run Free at c.in_ok-run.ensures.free c.in_ok-run.ensures.taken)
 
 pub returns-clause-rest : goal.returns-clause-rest
 returns-clause-rest c =
