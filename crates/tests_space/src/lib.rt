@@ -6,4 +6,6 @@ mod dead_lists;
 #[cfg(test)]
 mod free_sets;
 #[cfg(test)]
+mod metaslab_groups;
+#[cfg(test)]
 mod metaslabs;
