@@ -1,10 +1,13 @@
 //! Metaslabs: which sectors of a part of a vdev may be handed out. What a group releases is handed out
-//! again three groups later, and not while a group that may still read it is pinned.
+//! again three groups later, and not while a group that may still read it is pinned. And the laws of free space over
+//! any list of steps that the metaslabs of a pool take.
 #![tactic(auto)]
 
 mod allocating;
+mod laws;
 mod refusal;
 mod settling;
 
 pub use allocating::Metaslab;
+pub use laws::{dropped_plans_change_nothing, space_is_accounted, steps_follow_runs};
 pub use refusal::Refusal;

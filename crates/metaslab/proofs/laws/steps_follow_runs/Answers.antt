@@ -1,5 +1,5 @@
-use Rattle.space_accounting.proofs.Accounts.{run_snoc, after_snoc}
-use Rattle.space_accounting.proofs.laws.steps_follow_runs.Goals as goal
+use Rattle.metaslab.proofs.Accounts.{run_snoc, after_snoc}
+use Rattle.metaslab.proofs.laws.steps_follow_runs.Goals as goal
 
 pub returns-clause-run : goal.returns-clause-run
 returns-clause-run c = run_snoc

@@ -4,9 +4,9 @@ use Rattle.std.proofs.lemmas.Bool.Decides.{nat_tests}
 use Rattle.std.specs.Prelude.{IsSomeAnd, ◌==◌, ◌≢◌, if◌then◌else◌}
 use Rattle.std.specs.Option.{option_map}
 use Rattle.metaslab.specs.State.{State, Free, InUse, Released, is_due, settled}
-use Rattle.space_accounting.specs.Pool.{Pool, Plan, Step, Begin, Take, Give, Commit, Drop, Settle, Pin, Unpin, is_pinned, IsReadable, MayStep, begun, kept_states, with_taken, with_given, after, after_all, Run, IsOpened}
-use Rattle.space_accounting.proofs.Pins.{cases, cases_le, both, either, or_true, not_true, due, still_pinned, pinned_or_was}
-use Rattle.space_accounting.proofs.Sound.{IsSoundPlan, IsSound}
+use Rattle.metaslab.specs.Pool.{Pool, Plan, Step, Begin, Take, Give, Commit, Drop, Settle, Pin, Unpin, is_pinned, IsReadable, MayStep, begun, kept_states, with_taken, with_given, after, after_all, Run, IsOpened}
+use Rattle.metaslab.proofs.Pins.{cases, cases_le, both, either, or_true, not_true, due, still_pinned, pinned_or_was}
+use Rattle.metaslab.proofs.Sound.{IsSoundPlan, IsSound}
 
 -- a plan that is there
 pub there : (o : Option Plan) (P : Plan → Type 0) → IsSomeAnd o P → (plan : Plan) × (o ≡ Some plan) × P plan

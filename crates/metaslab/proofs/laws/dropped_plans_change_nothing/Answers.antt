@@ -1,5 +1,5 @@
-use Rattle.space_accounting.proofs.Accounts.{dropped, early}
-use Rattle.space_accounting.proofs.laws.dropped_plans_change_nothing.Goals as goal
+use Rattle.metaslab.proofs.Accounts.{dropped, early}
+use Rattle.metaslab.proofs.laws.dropped_plans_change_nothing.Goals as goal
 
 pub returns-clause-dropped : goal.returns-clause-dropped
 returns-clause-dropped c = dropped

@@ -3,18 +3,18 @@ use Rattle.std.proofs.Common.{◌≡◌, ℕ, suc, ◌⊎◌, inl, inr, true, No
 use Rattle.std.specs.Prelude.{◌≢◌}
 use Rattle.std.specs.List.{AllByRecursion}
 use Rattle.metaslab.specs.State.{State, Free, InUse, Released, is_due, settled}
-use Rattle.space_accounting.specs.Pool.{Pool, Step, Begin, Take, Give, Commit, Drop, Settle, Pin, Unpin, MayStep, after, after_all, Run, IsOpened, IsOfPlan}
-use Rattle.space_accounting.specs.Accounted.{next_state, IsFreedIn, IsHeldBack, IsAccounted}
-use Rattle.space_accounting.proofs.Pins.{cases, not_due}
-use Rattle.space_accounting.proofs.Sound.{IsGone, IsSound}
-use Rattle.space_accounting.proofs.Steps.{settled_apart, sound_run, opened_is_sound}
+use Rattle.metaslab.specs.Pool.{Pool, Step, Begin, Take, Give, Commit, Drop, Settle, Pin, Unpin, MayStep, after, after_all, Run, IsOpened, IsOfPlan}
+use Rattle.metaslab.specs.Accounted.{next_state, IsFreedIn, IsWaiting, IsAccounted}
+use Rattle.metaslab.proofs.Pins.{cases, not_due}
+use Rattle.metaslab.proofs.Sound.{IsGone, IsSound}
+use Rattle.metaslab.proofs.Steps.{settled_apart, sound_run, opened_is_sound}
 
 freed : (pool : Pool) (m s : ℕ) → IsGone pool m s → IsFreedIn pool m s
 freed pool m s (before, next, since, to_last, was, gone) = record { before = before; next = next; since_open = since; committed = to_last; was = was; is_gone = gone m (omega arith) to_last }
 
 -- a sector that is not handed out is reached, or was freed and is held back
 held : (pool : Pool) (s : ℕ) (state : State) → IsSound pool → pool.states s ≡ state → settled pool.pins (suc pool.last) state ≢ Free
-    → (pool.reach pool.last s ≡ true) ⊎ ((group : ℕ) × IsFreedIn pool group s × IsHeldBack pool group)
+    → (pool.reach pool.last s ≡ true) ⊎ ((group : ℕ) × IsFreedIn pool group s × IsWaiting pool group)
 held pool s Free sound is other = absurd (other refl)
 held pool s InUse sound is other = inl (sound.in_use s is)
 held pool s (Released m) sound is other =

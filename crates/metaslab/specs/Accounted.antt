@@ -1,7 +1,7 @@
 -- No sector is used twice, and none is lost.
 use Rattle.std.specs.Prelude.{ℕ, suc, ◌≡◌, ◌≢◌, ◌⊎◌, ◌<◌, ◌≤◌, ◌↔◌, true, false, Some}
 use Rattle.metaslab.specs.State.{State, Free, InUse, settled}
-use Rattle.space_accounting.specs.Pool.{Pool, Plan, is_pinned, IsReadable}
+use Rattle.metaslab.specs.Pool.{Pool, Plan, is_pinned, IsReadable}
 
 -- what the sector is for as the next group is planned
 abbrev pub next_state : Pool → ℕ → State
@@ -17,8 +17,8 @@ pub record IsFreedIn (pool : Pool) (group s : ℕ) : Type 0 where
   pub is_gone : pool.reach group s ≡ false
 
 -- the group is one of the last two committed ones, or stands after a pinned one
-abbrev pub IsHeldBack : Pool → ℕ → Type 0
-IsHeldBack pool group = (pool.last ≤ suc group) ⊎ ((pin : ℕ) × (is_pinned pool.pins pin ≡ true) × (pin < group))
+abbrev pub IsWaiting : Pool → ℕ → Type 0
+IsWaiting pool group = (pool.last ≤ suc group) ⊎ ((pin : ℕ) × (is_pinned pool.pins pin ≡ true) × (pin < group))
 
 pub record IsAccounted (pool : Pool) : Type 0 where
   -- what may be handed out to the next plan is in no tree that may be read
@@ -29,6 +29,6 @@ pub record IsAccounted (pool : Pool) : Type 0 where
   pub may_give : (plan : Plan) (s : ℕ) → pool.plan ≡ Some plan → pool.reach pool.last s ≡ true → plan.given s ≡ false → plan.states s ≡ InUse
   -- what may not be handed out is reached by the last committed group, or was freed lately, or after a pinned group
   pub no_leak : (s : ℕ) → next_state pool s ≢ Free
-      → (pool.reach pool.last s ≡ true) ⊎ ((group : ℕ) × IsFreedIn pool group s × IsHeldBack pool group)
+      → (pool.reach pool.last s ≡ true) ⊎ ((group : ℕ) × IsFreedIn pool group s × IsWaiting pool group)
   -- what the space maps call allocated is what the last committed group reaches
   pub in_use : (s : ℕ) → (pool.states s ≡ InUse) ↔ (pool.reach pool.last s ≡ true)

@@ -1,9 +1,9 @@
 //! Laws of space, over every list of steps.
 ghost use Rattle.std.specs.Prelude.{ℕ, List, [], ◌∷◌, ◌++◌, ◌≡◌, None};
 ghost use Rattle.std.specs.List.{AllByRecursion};
-ghost use Rattle.space_accounting.specs.Pool.{Pool, Step, IsOpened, MayStep, after, after_all, Run};
-ghost use Rattle.space_accounting.specs.Pool.{IsOfPlan};
-ghost use Rattle.space_accounting.specs.Accounted.{next_state, IsAccounted};
+ghost use Rattle.metaslab.specs.Pool.{Pool, Step, IsOpened, MayStep, after, after_all, Run};
+ghost use Rattle.metaslab.specs.Pool.{IsOfPlan};
+ghost use Rattle.metaslab.specs.Accounted.{next_state, IsAccounted};
 
 /// No sector is used twice and none is lost, whatever is planned, dropped, committed, pinned and unpinned.
 pub fn space_is_accounted()

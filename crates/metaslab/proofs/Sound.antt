@@ -1,7 +1,7 @@
 -- What holds of the space of a pool after any steps.
 use Rattle.std.proofs.Common.{◌≡◌, ℕ, suc, ◌≤◌, ◌⊎◌, true, false, Some}
 use Rattle.metaslab.specs.State.{Free, InUse, Released}
-use Rattle.space_accounting.specs.Pool.{Pool, Plan, is_pinned, IsReadable}
+use Rattle.metaslab.specs.Pool.{Pool, Plan, is_pinned, IsReadable}
 
 -- the group's tree was the first that no longer reached the sector, and none has since
 abbrev pub IsGone : Pool → ℕ → ℕ → Type 0

@@ -4,7 +4,7 @@ use Rattle.std.proofs.lemmas.Bool.{cases_lt}
 use Rattle.std.proofs.lemmas.Bool.Decides.{nat_tests}
 use Rattle.std.specs.List.{list_all, filter}
 use Rattle.metaslab.specs.State.{is_due}
-use Rattle.space_accounting.specs.Pool.{is_pinned}
+use Rattle.metaslab.specs.Pool.{is_pinned}
 
 pub cases : (b : Bool) → (b ≡ true) ⊎ (b ≡ false)
 cases true = inl refl

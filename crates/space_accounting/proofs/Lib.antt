@@ -1,4 +1,0 @@
-pub mod Pins
-pub mod Sound
-pub mod Steps
-pub mod Accounts
