@@ -1,5 +1,5 @@
 -- Volumes that are made.
-use Rattle.std.proofs.Common.{◌≡◌, ℕ, ◌*◌, ◌/◌, ◌<◌, List, [], replicate, None, refl, sym, ap, subst}
+use Rattle.std.proofs.Common.{◌≡◌, ℕ, ◌*◌, ◌/◌, ◌<◌, List, [], replicate, None, refl, sym, ap, ◌∙◌, subst}
 use Rattle.std.specs.Prelude.{Vec}
 use Rattle.std.specs.declared.alloc.Global.{Global}
 use Rattle.std.proofs.lemmas.List.{length-replicate}
@@ -8,6 +8,7 @@ use Rattle.block_pointer.specs.declared.pointer.BlockPtr.TheVariants.{Hole}
 use Rattle.block_store.specs.Blocks.{Contents}
 use Rattle.dnode.specs.declared.dnode.Dnode.TheVariants.{Free}
 use Rattle.dnode.specs.declared.object_set.ObjectSet.{ObjectSet}
+use Rattle.dnode.specs.declared.object_set.ObjectSetKind.TheVariants as kinds
 use Rattle.dnode_tree.specs.declared.writes.BlockWrite.{BlockWrite}
 use Rattle.dnode_tree.specs.Writes.{written}
 use Rattle.dnode_tree.specs.Births.{AreBirths, height_of}
@@ -55,11 +56,16 @@ data_of_zeros size block_size sectors writes none is some = record {
   behind = λ id past. ap (λ (blocks : List BlockWrite). written blocks (λ id. None) id) none;
 }
 
-pub made : (planned later : Contents) (birth : ℕ) (volume : VolumeSet) (set : ObjectSet) (change : Change) (block : Block) (gone : List Block) → volume.block ≡ block
+pub made : (planned later : Contents) (birth : ℕ) (volume : VolumeSet) (set : ObjectSet) (change : Change) (writes : Vec BlockWrite Global) (block_size : ℕ) (block : Block) (gone : List Block)
+    → volume.block ≡ block → volume.block_size ≡ block_size → set.kind ≡ kinds.Volume → writes.items ≡ [] → change ≡ Create 23 (block_size / 512) writes
     → IsSetPlanned planned later birth set change (λ number. None) [] (λ number. []) block gone → IsMade planned later birth volume
-made planned later birth volume set change block gone same is = record {
+made planned later birth volume set change writes block_size block gone same sized kind none creates is = record {
   set = set;
+  kind = kind;
   change = change;
+  writes = writes;
+  none = none;
+  creates = creates ∙ ap (λ n. Create 23 (n / 512) writes) (sym sized);
   gone = gone;
   planned_is = subst (λ (b : Block). IsSetPlanned planned later birth set change (λ number. None) [] (λ number. []) b gone) (sym same) is;
 }

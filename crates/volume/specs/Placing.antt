@@ -1,5 +1,5 @@
 -- Volumes that are planned.
-use Rattle.std.specs.Prelude.{ℕ, ◌≡◌, ◌⊎◌, List, [], ◌∷◌, ◌++◌, Vec, Option, None, length}
+use Rattle.std.specs.Prelude.{ℕ, ◌≡◌, ◌⊎◌, List, [], ◌∷◌, ◌++◌, ◌/◌, Vec, Option, None, length}
 use Rattle.std.specs.declared.alloc.Global.{Global}
 use Rattle.block_pointer.specs.declared.block.Block.{Block}
 use Rattle.block_pointer.specs.Copies.{dvas}
@@ -12,7 +12,7 @@ use Rattle.dnode_slots.specs.declared.writes.SetRewrite.{SetRewrite}
 use Rattle.dnode_slots.specs.Sets.{IsSetBlock}
 use Rattle.dnode_tree.specs.declared.writes.BlockWrite.{BlockWrite}
 use Rattle.objset.specs.declared.changes.Change.{Change}
-use Rattle.objset.specs.declared.changes.Change.TheVariants.{Put}
+use Rattle.objset.specs.declared.changes.Change.TheVariants.{Create, Put}
 use Rattle.objset.specs.declared.changes.ObjectChange.{ObjectChange}
 use Rattle.objset.specs.Changes.{AreChanged, HasNoRoom, changed, copies_of}
 use Rattle.objset.specs.Objects.{Object}
@@ -49,9 +49,14 @@ pub record IsPlaced (stored planned later : Contents) (bound birth : ℕ) (old :
   pub planned_is : IsSetPlanned planned later birth is.set (Put blocks) is.has.objects is.has.own is.has.blocks (block_of done.volume) gone
   pub replaced : done.replaced.items ≡ gone ++ block_of old ∷ []
 
--- A volume was made: of a set with no objects and no blocks. No blocks are new but those of its object set.
+-- A volume was made: of a set with no objects and no blocks, by the object of its data with no blocks written. No blocks are new but
+-- those of its object set.
 pub record IsMade (planned later : Contents) (birth : ℕ) (volume : VolumeSet) : Type 0 where
   pub set : ObjectSet
+  pub kind : set.kind ≡ kinds.Volume
   pub change : Change
+  pub writes : Vec BlockWrite Global
+  pub none : writes.items ≡ []
+  pub creates : change ≡ Create 23 (volume.block_size / 512) writes
   pub gone : List Block
   pub planned_is : IsSetPlanned planned later birth set change (λ number. None) [] (λ number. []) (block_of volume) gone

@@ -20,7 +20,8 @@ returns-clause-value g c = λ stored planned plans honest.
           (planned_spells planned did.0 c.args.birth _ _ (λ number. None) [] (λ number. []) c.in_ok-planned.planned.block c.in_ok-planned.planned.replaced.items
           c.args.size c.args.block_size _ did.2 refl (data_of_zeros c.args.size c.args.block_size _ c.new.result c.new.ensures.items refl
           (some_block c.args.size c.args.block_size c.requires.block_sized c.requires.least))),
-      made planned did.0 c.args.birth c.new-2.result _ _ c.in_ok-planned.planned.block c.in_ok-planned.planned.replaced.items c.new-2.ensures.block did.2,
+      made planned did.0 c.args.birth c.new-2.result _ _ c.new.result c.args.block_size c.in_ok-planned.planned.block c.in_ok-planned.planned.replaced.items c.new-2.ensures.block c.new-2.ensures.shape.1 refl
+          c.new.ensures.items refl did.2,
     )
 
 pub returns-in_err-planned-clause-refused : goal.returns-in_err-planned-clause-refused
