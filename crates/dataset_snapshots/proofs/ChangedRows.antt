@@ -2,7 +2,7 @@
 use Rattle.std.proofs.Common.{◌≡◌, ◌≢◌, ◌⊎◌, ℕ, zero, suc, ◌<◌, ◌≤◌, Bool, true, false, true≢false, eqb, cond, List, [], ◌∷◌, map, Option, Some, None, All, Contains, inl, inr, ⊎_elim, eqb-true, eq-eqb, refl, sym, ap, subst, ◌∙◌, arith}
 use Rattle.std.specs.Prelude.{Any}
 use Rattle.std.specs.List.{AllZip}
-use Rattle.std.proofs.lemmas.Bool.{cases_lt}
+use Rattle.std.proofs.lemmas.Bool.{cases_eq, cases_lt}
 use Rattle.std.proofs.lemmas.Simd.{map-map}
 use Rattle.std.proofs.lemmas.List.Elements.{All-cons, All-nil, All-contains, Contains-append_cases}
 use Rattle.block_pointer.specs.declared.block.Block.{Block}
@@ -28,10 +28,11 @@ use Rattle.pool_model.specs.Pools.{volume_after}
 use Rattle.pool_model.proofs.Places.{same_is}
 use Rattle.volume_rules.specs.Overlay.{after_writes}
 use Rattle.volume_rules.proofs.Overlays.{name_after_writes}
-use Rattle.volume.proofs.Standing.{volumes_stay}
 use Rattle.dataset_snapshots.specs.Finding.{IsRowOf}
 use Rattle.dataset_snapshots.specs.Pools.{AreApart, SpellsDataset, dead_list_kind}
-use Rattle.dataset_snapshots.specs.Writing.{ChangesRecord, IsChangedFrom, IsWritten, SpellsEach}
+use Rattle.dataset_snapshots.specs.Reach.{HasBlocksOf, blocks_of_dataset}
+use Rattle.dataset_snapshots.specs.Writing.{AreChangedFrom, ChangesRecord, IsChangedFrom, IsWritten, SpellsEach, blocks_of_change}
+use Rattle.dataset_snapshots.proofs.KeptVolumes.{volume_kept}
 
 -- ---- lists
 
@@ -155,6 +156,32 @@ looked_up R (first ∷ rows) (volume ∷ volumes) apart all row held = elim (fir
       (looked_up R rows volumes (pairs_tail (λ (a b : DirectoryRow). a.object ≢ b.object) first rows apart) all.1 row later)
 ]
 
+-- the blocks of the dataset of an object
+abbrev pub blocks_at : (stored : Contents) (birth : ℕ) (objects : ℕ → Option Object) (rows : List DirectoryRow) (volumes : List PlainVolume)
+    → AllZip (SpellsDataset stored birth objects) rows volumes → ℕ → List Block
+blocks_at stored birth objects [] volumes all number = []
+blocks_at stored birth objects (row ∷ rows) [] all number = []
+blocks_at stored birth objects (row ∷ rows) (volume ∷ volumes) all number = cond (eqb row.object number) (blocks_of_dataset all.0) (blocks_at stored birth objects rows volumes all.1 number)
+
+pub looked_listed : (stored : Contents) (birth : ℕ) (objects : ℕ → Option Object) (rows : List DirectoryRow) (volumes : List PlainVolume) → AreApart rows
+    → (all : AllZip (SpellsDataset stored birth objects) rows volumes) → SpellsEach stored birth objects rows (look rows volumes) (blocks_at stored birth objects rows volumes all)
+looked_listed stored birth objects [] volumes apart all row held = absurd (nothing_in row held)
+looked_listed stored birth objects (first ∷ rows) [] apart all row held = absurd all
+looked_listed stored birth objects (first ∷ rows) (volume ∷ volumes) apart all row held =
+    let lists : ℕ → List Block = blocks_at stored birth objects (first ∷ rows) (volume ∷ volumes) all in
+    let rest : ℕ → List Block = blocks_at stored birth objects rows volumes all.1 in
+    elim (first_or_later first row rows held) [
+      | inl one ↦ subst (λ (r : DirectoryRow). HasBlocksOf stored birth objects lists r (look (first ∷ rows) (volume ∷ volumes) r.object)) one
+          (subst (HasBlocksOf stored birth objects lists first) (sym (taken first.object first.object volume (look rows volumes first.object) refl))
+          (all.0, sym (taken first.object first.object (blocks_of_dataset all.0) (rest first.object) refl)))
+      | inr later ↦
+          let below = looked_listed stored birth objects rows volumes (pairs_tail (λ (a b : DirectoryRow). a.object ≢ b.object) first rows apart) all.1 row later in
+          let other : first.object ≢ row.object =
+          All-contains (λ (other : DirectoryRow). first.object ≢ other.object) rows row (pairs_head (λ (a b : DirectoryRow). a.object ≢ b.object) first rows apart) later in
+          subst (HasBlocksOf stored birth objects lists row) (sym (passed_first first rows volume volumes row apart later))
+          (below.0, below.1 ∙ sym (passed first.object row.object (blocks_of_dataset all.0) (rest row.object) other))
+    ]
+
 pub looked_all : (R : DirectoryRow → PlainVolume → Type 0) (rows : List DirectoryRow) (volumes : List PlainVolume) → AreApart rows → AllZip R rows volumes
     → volumes ≡ map (λ row. look rows volumes row.object) rows
 looked_all R [] [] apart all = refl
@@ -172,12 +199,47 @@ zip_from S h (x ∷ xs) each = (each x (is_first x xs), zip_from S h xs (λ y he
 
 -- ---- rows after writes
 
-module _ (stored later : Contents) (bound birth : ℕ) (objects : ℕ → Option Object) (writes : List Write) (rows : List DirectoryRow) (volumes : ℕ → PlainVolume) (changes : List ObjectChange)
-    (more : Extends stored later) (le : bound ≤ birth) (spelled : SpellsEach stored bound objects rows volumes)
-    (each : All (IsChangedFrom later birth objects volumes writes) changes)
+-- the blocks of the parts at their numbers, and the others as they were
+abbrev pub with_parts : List ObjectChange → List (List Block) → (ℕ → List Block) → ℕ → List Block
+with_parts [] parts lists number = lists number
+with_parts (change ∷ changes) [] lists number = lists number
+with_parts (change ∷ changes) (part ∷ parts) lists number = cond (eqb change.number number) part (with_parts changes parts lists number)
+
+-- what changes with their parts make of an object: nothing, or what one of them does
+abbrev pub IsPartedOrNot : (ObjectChange → List Block → Type 0) → List ObjectChange → List (List Block) → (ℕ → Option Object) → (ℕ → List Block) → ℕ → Type 0
+IsPartedOrNot R changes parts objects lists number =
+    (((change : ObjectChange) → Contains changes change → change.number ≢ number) × (changed changes objects number ≡ objects number) × (with_parts changes parts lists number ≡ lists number))
+    ⊎ ((change : ObjectChange) × (part : List Block) × R change part × (change.number ≡ number) × (changed changes objects number ≡ after_change change.change (objects number))
+    × (with_parts changes parts lists number ≡ part))
+
+pub parted_or_not : (R : ObjectChange → List Block → Type 0) (changes : List ObjectChange) (parts : List (List Block)) (objects : ℕ → Option Object) (lists : ℕ → List Block) (number : ℕ) → AllZip R changes parts
+    → IsPartedOrNot R changes parts objects lists number
+parted_or_not R [] [] objects lists number all = inl (λ change held is. nothing_in change held, refl, refl)
+parted_or_not R [] (part ∷ parts) objects lists number all = absurd all
+parted_or_not R (change ∷ changes) [] objects lists number all = absurd all
+parted_or_not R (change ∷ changes) (part ∷ parts) objects lists number all =
+    let to : Option Object = after_change change.change (objects number) in
+    let rest : Option Object = changed changes objects number in
+    let others : List Block = with_parts changes parts lists number in
+    elim (cases_eq change.number number) [
+      | inl is ↦ inr (change, part, all.0, is, taken change.number number to rest is, taken change.number number part others is)
+      | inr apart ↦ elim (parted_or_not R changes parts objects lists number all.1) [
+        | inl none ↦ inl (
+          λ other held is. ⊎_elim (λ one. apart (ap (λ (c : ObjectChange). c.number) one ∙ is)) (λ later. none.0 other later is) (first_or_later change other changes held),
+          passed change.number number to rest apart ∙ none.1,
+          passed change.number number part others apart ∙ none.2,
+        )
+        | inr one ↦ inr (one.0, one.1, one.2, one.3, passed change.number number to rest apart ∙ one.4, passed change.number number part others apart ∙ one.5)
+      ]
+    ]
+
+module _ (stored later : Contents) (bound birth : ℕ) (objects : ℕ → Option Object) (writes : List Write) (rows : List DirectoryRow) (volumes : ℕ → PlainVolume) (lists : ℕ → List Block)
+    (changes : List ObjectChange) (parts : List (List Block))
+    (more : Extends stored later) (le : bound ≤ birth) (spelled : SpellsEach stored bound objects rows volumes lists)
+    (each : AreChangedFrom later birth objects volumes writes changes parts)
     (all : (object : ℕ) → IsWritten rows writes object → (change : ObjectChange) × Contains changes change × (change.number ≡ object)) where
-  change_is : (change : ObjectChange) → Contains changes change → IsChangedFrom later birth objects volumes writes change
-  change_is change held = All-contains (IsChangedFrom later birth objects volumes writes) changes change each held
+  change_is : (change : ObjectChange) → Contains changes change → ChangesRecord later birth objects change.number (after_writes (volumes change.number) writes) change.change
+  change_is change held = (zip_has (IsChangedFrom later birth objects volumes writes) changes parts change each held).1.0
 
   pub others_stay : (number : ℕ) (there : Object) → objects number ≡ Some there → there.object_type ≢ 201 → changed changes objects number ≡ objects number
   others_stay number there is other = elim (changed_or_not changes objects number) [
@@ -198,50 +260,58 @@ module _ (stored later : Contents) (bound birth : ℕ) (objects : ℕ → Option
       let other : dead.there.object_type ≢ 201 = λ is. let clash : 202 ≡ 201 = sym dead.of_kind.0 ∙ is in omega (arith, clash) in
       subst (λ (o : Option Object). HasTable dead_list_kind o []) (sym (others_stay number dead.there dead.is other)) dead
 
-  row_after : (row : DirectoryRow) → Contains rows row → SpellsDataset later birth (λ number. changed changes objects number) row (after_writes (volumes row.object) writes)
+  row_after : (row : DirectoryRow) → Contains rows row
+      → HasBlocksOf later birth (λ number. changed changes objects number) (with_parts changes parts lists) row (after_writes (volumes row.object) writes)
   row_after row held =
       let volume : PlainVolume = volumes row.object in
-      let is : SpellsDataset stored bound objects row volume = spelled row held in
-      elim (changed_or_not changes objects row.object) [
+      let both : HasBlocksOf stored bound objects lists row volume = spelled row held in
+      let is : SpellsDataset stored bound objects row volume = both.0 in
+      elim (parted_or_not (IsChangedFrom later birth objects volumes writes) changes parts objects lists row.object each) [
         | inl none ↦
             let same_volume : after_writes volume writes ≡ volume = unwritten volume writes (λ write within named.
             let one = all row.object (any_of (λ (w : Write). IsRowOf rows w.volume row.object) writes write within (row, held, subst (IsNamed row.name) (sym named) is.name, refl)) in
             none.0 one.0 one.1 one.2) in
-            subst (λ (v : PlainVolume). SpellsDataset later birth (λ number. changed changes objects number) row v) (sym same_volume) (record {
-              name = is.name;
-              behind = is.behind;
-              r = is.r;
-              has = subst (λ (o : Option Object). HasRecord o is.r) (sym none.1) is.has;
-              is = is.is;
-              bytes = volumes_stay stored later bound birth is.r.object_set is.r.size is.r.block_size volume.bytes le more is.bytes;
-              dead = dead_stays is.r.dead_list is.dead;
-            })
+            let kept = volume_kept stored later bound birth is.r.object_set is.r.size is.r.block_size volume.bytes le more is.bytes in
+            subst (λ (v : PlainVolume). HasBlocksOf later birth (λ number. changed changes objects number) (with_parts changes parts lists) row v) (sym same_volume) (
+              record {
+                name = is.name;
+                behind = is.behind;
+                r = is.r;
+                has = subst (λ (o : Option Object). HasRecord o is.r) (sym none.1) is.has;
+                is = is.is;
+                bytes = kept.0;
+                dead = dead_stays is.r.dead_list is.dead;
+              },
+              kept.1 ∙ (both.1 ∙ sym none.2),
+            )
         | inr one ↦
-            let to : ChangesRecord later birth objects row.object (after_writes volume writes) one.0.change =
-            subst (λ n. ChangesRecord later birth objects n (after_writes (volumes n) writes) one.0.change) one.2 (change_is one.0 one.1) in
-            record {
-              name = subst (IsNamed row.name) (sym (name_after_writes volume writes)) is.name;
-              behind = is.behind;
-              r = to.r;
-              has = subst (λ (o : Option Object). HasRecord o to.r) (sym one.3) to.has;
-              is = to.is;
-              bytes = to.bytes;
-              dead = dead_stays to.r.dead_list to.dead;
-            }
+            let to : (to : ChangesRecord later birth objects row.object (after_writes volume writes) one.0.change) × (blocks_of_change to ≡ one.1) =
+            subst (λ n. (to : ChangesRecord later birth objects n (after_writes (volumes n) writes) one.0.change) × (blocks_of_change to ≡ one.1)) one.3 one.2 in (
+              record {
+                name = subst (IsNamed row.name) (sym (name_after_writes volume writes)) is.name;
+                behind = is.behind;
+                r = to.0.r;
+                has = subst (λ (o : Option Object). HasRecord o to.0.r) (sym one.4) to.0.has;
+                is = to.0.is;
+                bytes = to.0.bytes;
+                dead = dead_stays to.0.r.dead_list to.0.dead;
+              },
+              to.1 ∙ sym one.5,
+            )
       ]
 
-  pub rows_after : AllZip (SpellsDataset later birth (λ number. changed changes objects number)) rows (map (λ row. after_writes (volumes row.object) writes) rows)
-  rows_after = zip_from (SpellsDataset later birth (λ number. changed changes objects number)) (λ row. after_writes (volumes row.object) writes) rows row_after
+  pub rows_after : AllZip (HasBlocksOf later birth (λ number. changed changes objects number) (with_parts changes parts lists)) rows (map (λ row. after_writes (volumes row.object) writes) rows)
+  rows_after = zip_from (HasBlocksOf later birth (λ number. changed changes objects number) (with_parts changes parts lists)) (λ row. after_writes (volumes row.object) writes) rows row_after
 
 -- they are the volumes after the writes, in order
-pub rows_after_all : (stored later : Contents) (bound birth : ℕ) (objects : ℕ → Option Object) (writes : List Write) (rows : List DirectoryRow) (volumes : List PlainVolume) (changes : List ObjectChange)
-    → Extends stored later → bound ≤ birth → AreApart rows → AllZip (SpellsDataset stored bound objects) rows volumes
-    → All (IsChangedFrom later birth objects (look rows volumes) writes) changes
+pub rows_after_all : (stored later : Contents) (bound birth : ℕ) (objects : ℕ → Option Object) (writes : List Write) (rows : List DirectoryRow) (volumes : List PlainVolume) (lists : ℕ → List Block)
+    (changes : List ObjectChange) (parts : List (List Block)) → Extends stored later → bound ≤ birth → AreApart rows → AllZip (SpellsDataset stored bound objects) rows volumes
+    → SpellsEach stored bound objects rows (look rows volumes) lists → AreChangedFrom later birth objects (look rows volumes) writes changes parts
     → ((object : ℕ) → IsWritten rows writes object → (change : ObjectChange) × Contains changes change × (change.number ≡ object))
-    → AllZip (SpellsDataset later birth (λ number. changed changes objects number)) rows (map (λ volume. after_writes volume writes) volumes)
-rows_after_all stored later bound birth objects writes rows volumes changes more le apart spelled each all =
+    → AllZip (HasBlocksOf later birth (λ number. changed changes objects number) (with_parts changes parts lists)) rows (map (λ volume. after_writes volume writes) volumes)
+rows_after_all stored later bound birth objects writes rows volumes lists changes parts more le apart spelled looked each all =
     let R : DirectoryRow → PlainVolume → Type 0 = SpellsDataset stored bound objects in
-    subst (AllZip (SpellsDataset later birth (λ number. changed changes objects number)) rows)
+    subst (AllZip (HasBlocksOf later birth (λ number. changed changes objects number) (with_parts changes parts lists)) rows)
     (sym (map-map (λ (volume : PlainVolume). after_writes volume writes) (λ (row : DirectoryRow). look rows volumes row.object) rows)
     ∙ ap (map (λ (volume : PlainVolume). after_writes volume writes)) (sym (looked_all R rows volumes apart spelled)))
-    (rows_after stored later bound birth objects writes rows (look rows volumes) changes more le (looked_up R rows volumes apart spelled) each all)
+    (rows_after stored later bound birth objects writes rows (look rows volumes) lists changes parts more le looked each all)

@@ -32,6 +32,8 @@ use Rattle.dataset_snapshots.specs.Creating.{HasFirstTables}
 use Rattle.dataset_snapshots.specs.Demands.{HasRootPlaces, IsActionRefused, IsRootRefused}
 use Rattle.dataset_snapshots.specs.FirstGroup.{AreFirstGroupChanges, AreFirstVolumes, AreTableChanges, HasFirstPlaces, IsFirstRefused, IsWithTables, empty_meta}
 use Rattle.dataset_snapshots.specs.Groups.{IsSetOf}
+use Rattle.dataset_snapshots.specs.Reach.{HasBlocksOf}
+use Rattle.dataset_snapshots.proofs.KeptVolumes.{listed_spell}
 use Rattle.dataset_snapshots.specs.Making.{IsReady, SpellsMaking, after_all}
 use Rattle.dataset_snapshots.specs.Pools.{AreApart, SpellsDataset, SpellsPool, dead_list_kind}
 use Rattle.dataset_snapshots.proofs.Asking.{all_demands_in}
@@ -59,14 +61,14 @@ pool_first group items actions same =
     ap (fold (λ p a. pool_changed group p a.change) no_volumes) same ∙ ap (λ p. fold (λ p a. pool_changed group p a.change) p items.actions) (sym (nothing_written items.writes))
 
 module _ (start : Making) (no_rows : start.directory ≡ []) (no_changes : start.changes.items ≡ []) where
-  pub begins_first : (stored : Contents) (group : ℕ) → SpellsMaking stored group nothing start no_volumes
+  pub begins_first : (stored : Contents) (group : ℕ) → SpellsMaking stored group nothing (λ number. []) start no_volumes
   begins_first stored group = record {
     apart = subst AreApart (sym no_rows) (λ i j d before within. absurd (omega (arith, within)));
     free = λ number high. refl;
     below = subst (All (λ (row : DirectoryRow). row.object < start.next)) (sym no_rows) (none_in _);
     may = subst (All (λ (change : ObjectChange). MayChange change.change (nothing change.number))) (sym no_changes) (none_in _);
     others = λ number there known other. let clash : None ≡ Some there = known in absurd cc;
-    volumes = subst (λ (rows : List DirectoryRow). AllZip (SpellsDataset stored group (after_all start nothing)) rows []) (sym no_rows) tt;
+    volumes = subst (λ (rows : List DirectoryRow). AllZip (HasBlocksOf stored group (after_all start nothing) (λ number. [])) rows []) (sym no_rows) tt;
   }
 
 -- ---- the tables
@@ -101,8 +103,8 @@ module _ (vdevs : List PlainVdev) (making : Making) (changes : List ObjectChange
   made = making.changes.items
 
   -- the changes may be made of nothing
-  pub first_may : (stored : Contents) (group : ℕ) (pool : PlainPool) → SpellsMaking stored group nothing making pool → All (λ change. MayChange change.change (nothing change.number)) changes
-  first_may stored group pool spells =
+  pub first_may : (stored : Contents) (group : ℕ) (lists : ℕ → List Block) (pool : PlainPool) → SpellsMaking stored group nothing lists making pool → All (λ change. MayChange change.change (nothing change.number)) changes
+  first_may stored group lists pool spells =
       subst (All (λ (change : ObjectChange). MayChange change.change (nothing change.number))) (sym all.2)
       (All-append (λ (change : ObjectChange). MayChange change.change (nothing change.number)) all.0 made (tables_may vdevs making.directory all.0 all.1) spells.may)
 
@@ -130,9 +132,9 @@ module _ (vdevs : List PlainVdev) (making : Making) (changes : List ObjectChange
   table_has Has number low has =
       subst Has (sym (table_is number low ∙ ap (λ (cs : List ObjectChange). changed cs nothing number) all.1.are)) has
 
-  first_volumes : (stored : Contents) (group : ℕ) (pool : PlainPool) → SpellsMaking stored group nothing making pool
+  first_volumes : (stored : Contents) (group : ℕ) (lists : ℕ → List Block) (pool : PlainPool) → SpellsMaking stored group nothing lists making pool
       → AllZip (SpellsDataset stored group (changed changes nothing)) making.directory pool.volumes
-  first_volumes stored group pool spells =
+  first_volumes stored group lists pool spells =
       zip_each (SpellsDataset stored group (after_all making nothing)) (SpellsDataset stored group (changed changes nothing)) making.directory pool.volumes (λ row volume is. record {
         name = is.name;
         behind = is.behind;
@@ -141,12 +143,12 @@ module _ (vdevs : List PlainVdev) (making : Making) (changes : List ObjectChange
         is = is.is;
         bytes = is.bytes;
         dead = subst (λ o. HasTable dead_list_kind o []) (sym (volume_is is.r.dead_list (high_number is.r.dead_list is.dead.there is.dead.is))) is.dead;
-      }) spells.volumes
+      }) (listed_spell stored group (after_all making nothing) lists making.directory pool.volumes spells.volumes).0
 
   -- the set of these objects is that of the pool, with the first tables
-  pub spells_first : (stored later : Contents) (group : ℕ) (root : Block) (pool : PlainPool) → SpellsMaking stored group nothing making pool → Extends stored later
+  pub spells_first : (stored later : Contents) (group : ℕ) (root : Block) (lists : ℕ → List Block) (pool : PlainPool) → SpellsMaking stored group nothing lists making pool → Extends stored later
       → IsSetOf later group root sets.Meta (changed changes nothing) → root.birth ≡ group → (is : SpellsPool later group root pool) × HasFirstTables is.objects vdevs
-  spells_first stored later group root pool spells more set born = (
+  spells_first stored later group root lists pool spells more set born = (
     record {
       set = set.set;
       is_set = set.is_set;
@@ -159,7 +161,7 @@ module _ (vdevs : List PlainVdev) (making : Making) (changes : List ObjectChange
       directory = table_has (λ o. HasDirectory o making.directory) 1 (omega arith) all.1.has_directory;
       apart = spells.apart;
       volumes = subst (λ n. AllZip (SpellsDataset later n (changed changes nothing)) making.directory pool.volumes) (sym born)
-          (datasets_stay stored later group (changed changes nothing) making.directory pool.volumes more (first_volumes stored group pool spells));
+          (datasets_stay stored later group (changed changes nothing) making.directory pool.volumes more (first_volumes stored group lists pool spells));
     },
     record {
       config = table_has (λ o. HasConfig o vdevs) 2 (omega arith) all.1.has_config;

@@ -1,5 +1,5 @@
 -- The root of a group, from what was read and planned for it.
-use Rattle.std.proofs.Common.{◌≡◌, ◌≢◌, ℕ, ◌<◌, ◌≤◌, max, List, [], ◌∷◌, map, length, get_or, Option, Some, All, AllPairs, Contains, ⊎_elim, sym, ap, subst, ◌∙◌, arith}
+use Rattle.std.proofs.Common.{◌≡◌, ◌≢◌, ℕ, ◌<◌, ◌≤◌, max, List, [], ◌∷◌, ◌++◌, map, length, get_or, Option, Some, All, AllPairs, Contains, ⊎_elim, refl, sym, ap, subst, ◌∙◌, arith}
 use Rattle.std.specs.Prelude.{fold}
 use Rattle.std.specs.List.{AllZip}
 use Rattle.std.specs.List.Sorted.{IsStrictlyIncreasing}
@@ -18,6 +18,7 @@ use Rattle.object_table.specs.Tables.{HasTable, IsOfKind}
 use Rattle.objset.specs.declared.changes.ObjectChange.{ObjectChange}
 use Rattle.objset.specs.Changes.{IsGoodChange, MayChange, after_change, changed}
 use Rattle.objset.specs.Objects.{Object}
+use Rattle.objset.specs.Within.{blocks_of_set}
 use Rattle.objset.proofs.Numbers.{changed_left, passed, taken}
 use Rattle.pool_model.specs.declared.item.Write.{Write}
 use Rattle.pool_model.specs.Pools.{PlainPool, volume_after, written}
@@ -31,18 +32,20 @@ use Rattle.dataset_snapshots.specs.Creating.{HasFirstTables}
 use Rattle.dataset_snapshots.specs.Groups.{IsOpened, IsOpenedFrom, IsSetOf, SpellsAfter, objects_of}
 use Rattle.dataset_snapshots.specs.Making.{IsReady, SpellsMaking, numbers_end}
 use Rattle.dataset_snapshots.specs.Pools.{AreApart, SpellsDataset, SpellsPool, dead_list_kind}
-use Rattle.dataset_snapshots.specs.Writing.{FitsWritten, IsChangedFrom, IsWritten}
-use Rattle.dataset_snapshots.proofs.ChangedRows.{all_from, first_or_later, is_first, is_later, look, looked_up, none_behind, nothing_in, some_within, zip_has, others_stay, all_may, rows_after_all}
-use Rattle.dataset_snapshots.proofs.Staying.{datasets_stay}
+use Rattle.dataset_snapshots.specs.Reach.{HasBlocksOf, blocks_listed, reach_of}
+use Rattle.dataset_snapshots.specs.Writing.{AreChangedFrom, FitsWritten, IsReadFrom, IsWritten, SpellsEach}
+use Rattle.dataset_snapshots.proofs.ChangedRows.{all_from, first_or_later, is_first, is_later, look, none_behind, nothing_in, some_within, with_parts, zip_has, others_stay, all_may, rows_after_all}
+use Rattle.dataset_snapshots.proofs.KeptVolumes.{datasets_listed_stay, listed_spell}
+use Rattle.dataset_snapshots.proofs.Numbered.{AreApartNumbers, changes_apart}
 
 -- ---- numbers
 
-contains_map : {X Y : Type 0} (f : X → Y) (xs : List X) (y : Y) → Contains (map f xs) y → (x : X) × Contains xs x × (f x ≡ y)
+pub contains_map : {X Y : Type 0} (f : X → Y) (xs : List X) (y : Y) → Contains (map f xs) y → (x : X) × Contains xs x × (f x ≡ y)
 contains_map f [] y held = absurd (nothing_in y held)
 contains_map f (x ∷ xs) y held =
     ⊎_elim (λ is. (x, is_first x xs, is)) (λ later. let there = contains_map f xs y later in (there.0, is_later x there.0 xs there.1, there.2)) (first_or_later (f x) y (map f xs) held)
 
-map_contains : {X Y : Type 0} (f : X → Y) (xs : List X) (x : X) → Contains xs x → Contains (map f xs) (f x)
+pub map_contains : {X Y : Type 0} (f : X → Y) (xs : List X) (x : X) → Contains xs x → Contains (map f xs) (f x)
 map_contains f [] x held = absurd (nothing_in x held)
 map_contains f (first ∷ xs) x held =
     ⊎_elim (λ is. subst (λ y. Contains (f first ∷ map f xs) (f y)) is (is_first (f first) (map f xs))) (λ later. is_later (f first) (f x) (map f xs) (map_contains f xs x later))
@@ -57,7 +60,7 @@ number_at changes numbers i d are lt = sym (get_or-map (λ (c : ObjectChange). c
 as_many : (changes : List ObjectChange) (numbers : List ℕ) → numbers_of changes ≡ numbers → length changes ≡ length numbers
 as_many changes numbers are = sym (length-map changes (λ (c : ObjectChange). c.number)) ∙ ap length are
 
-in_order : (changes : List ObjectChange) (numbers : List ℕ) → numbers_of changes ≡ numbers → IsStrictlyIncreasing numbers → AllPairs (λ change later. change.number < later.number) changes
+pub in_order : (changes : List ObjectChange) (numbers : List ℕ) → numbers_of changes ≡ numbers → IsStrictlyIncreasing numbers → AllPairs (λ change later. change.number < later.number) changes
 in_order changes numbers are up i j d before within =
     let below : get_or numbers i 0 < get_or numbers j 0 = AllPairs-from_increasing numbers up i j 0 before (omega (arith, within, as_many changes numbers are)) in
     omega (arith, below, number_at changes numbers i d are (omega arith), number_at changes numbers j d are within)
@@ -90,18 +93,20 @@ written_each pool (write ∷ writes) =
     written_each (written pool write) writes ∙ (λ i. record pool { volumes = map-map (λ volume. after_writes volume writes) (volume_after write) pool.volumes i })
 
 pub making_begins : (stored later : Contents) (birth group : ℕ) (root : Block) (pool : PlainPool) (writes : List Write) (is : SpellsPool stored birth root pool) (opened : Opened) (making : Making)
+    (lists : ℕ → List Block) (parts : List (List Block))
     → Extends stored later → root.birth ≤ group → IsOpened writes opened → IsOpenedFrom stored birth root pool is writes opened
-    → All (IsChangedFrom later group is.objects (look is.rows pool.volumes) writes) making.changes.items → numbers_of making.changes.items ≡ objects_of opened
+    → SpellsEach stored root.birth is.objects is.rows (look is.rows pool.volumes) lists
+    → AreChangedFrom later group is.objects (look is.rows pool.volumes) writes making.changes.items parts → numbers_of making.changes.items ≡ objects_of opened
     → making.directory ≡ opened.directory → opened.set.objects ≤ making.next
-    → SpellsMaking later group is.objects making (fold written pool writes)
-making_begins stored later birth group root pool writes is opened making more le opens from each are directory least =
+    → SpellsMaking later group is.objects (with_parts making.changes.items parts lists) making (fold written pool writes)
+making_begins stored later birth group root pool writes is opened making lists parts more le opens from looked each are directory least =
     let changes = making.changes.items in
     let rows_are : making.directory ≡ is.rows = directory ∙ from.directory in
     let all : (object : ℕ) → IsWritten is.rows writes object → (change : ObjectChange) × Contains changes change × (change.number ≡ object) = λ object named.
     contains_map (λ (c : ObjectChange). c.number) changes object (subst (λ ns. Contains ns object) (sym are) (opens.all object (subst (λ rows. IsWritten rows writes object) (sym from.directory) named))) in
     let objects_are : is.set.objects ≤ making.next = subst (λ (s : ObjectSet). s.objects ≤ making.next) from.set least in
     let spelled = is.volumes in
-    let looked = looked_up (SpellsDataset stored root.birth is.objects) is.rows pool.volumes is.apart spelled in
+    let after : ℕ → List Block = with_parts changes parts lists in
     record {
       apart = subst AreApart (sym rows_are) is.apart;
       free = λ number high. none_behind stored root.birth is.set is.objects is.own is.blocks number is.are (omega (arith, high, objects_are));
@@ -109,12 +114,23 @@ making_begins stored later birth group root pool writes is opened making more le
           let to = zip_has (SpellsDataset stored root.birth is.objects) is.rows pool.volumes row spelled held in
           let low = some_within stored root.birth is.set is.objects is.own is.blocks row.object to.1.has.there is.are to.1.has.is in
           omega (arith, low, objects_are)));
-      may = all_may stored later root.birth group is.objects writes is.rows (look is.rows pool.volumes) changes more le looked each all;
-      others = λ number there known other. others_stay stored later root.birth group is.objects writes is.rows (look is.rows pool.volumes) changes more le looked each all number there known other;
-      volumes = subst (λ (p : PlainPool). AllZip (SpellsDataset later group (λ number. changed changes is.objects number)) making.directory p.volumes) (sym (written_each pool writes))
-          (subst (λ rows. AllZip (SpellsDataset later group (λ number. changed changes is.objects number)) rows (map (λ volume. after_writes volume writes) pool.volumes)) (sym rows_are)
-          (rows_after_all stored later root.birth group is.objects writes is.rows pool.volumes changes more le is.apart spelled each all));
+      may = all_may stored later root.birth group is.objects writes is.rows (look is.rows pool.volumes) lists changes parts more le looked each all;
+      others = λ number there known other. others_stay stored later root.birth group is.objects writes is.rows (look is.rows pool.volumes) lists changes parts more le looked each all number there known other;
+      volumes = subst (λ (p : PlainPool). AllZip (HasBlocksOf later group (λ number. changed changes is.objects number) after) making.directory p.volumes) (sym (written_each pool writes))
+          (subst (λ rows. AllZip (HasBlocksOf later group (λ number. changed changes is.objects number) after) rows (map (λ volume. after_writes volume writes) pool.volumes)) (sym rows_are)
+          (rows_after_all stored later root.birth group is.objects writes is.rows pool.volumes lists changes parts more le is.apart spelled looked each all));
     }
+
+-- the changes are of objects that rows have, each once
+pub changes_once : (writes : List Write) (opened : Opened) (changes : List ObjectChange) → IsOpened writes opened → numbers_of changes ≡ objects_of opened → AreApartNumbers (numbers_of changes)
+changes_once writes opened changes opens are = changes_apart changes (in_order changes (objects_of opened) are opens.once)
+
+pub changes_within : (stored : Contents) (birth : ℕ) (root : Block) (pool : PlainPool) (writes : List Write) (is : SpellsPool stored birth root pool) (opened : Opened) (changes : List ObjectChange)
+    → IsOpenedFrom stored birth root pool is writes opened → numbers_of changes ≡ objects_of opened → (n : ℕ) → Contains (numbers_of changes) n → Contains (map (λ row. row.object) is.rows) n
+changes_within stored birth root pool writes is opened changes from are n held =
+    let there = contains_map (λ w. w.dataset.object) opened.written.items n (subst (λ ns. Contains ns n) are held) in
+    let read = All-contains (IsReadFrom stored root.birth is.objects writes is.rows) opened.written.items there.0 from.read there.1 in
+    subst (λ m. Contains (map (λ (row : DirectoryRow). row.object) is.rows) m) (read.1.1 ∙ there.2) (map_contains (λ (row : DirectoryRow). row.object) is.rows read.0 read.1.0)
 
 -- ---- the directory in front
 
@@ -130,48 +146,56 @@ zip_each R S [] (y ∷ ys) weaker all = absurd all
 zip_each R S (x ∷ xs) [] weaker all = absurd all
 zip_each R S (x ∷ xs) (y ∷ ys) weaker all = (weaker x y all.0, zip_each R S xs ys weaker all.1)
 
-module _ (stored : Contents) (birth : ℕ) (objects : ℕ → Option Object) (making : Making) (pool : PlainPool) (rows : List DirectoryRow)
-    (ready_is : IsReady making) (directory : HasDirectory (objects 1) rows) (spells : SpellsMaking stored birth objects making pool) where
+module _ (stored : Contents) (birth : ℕ) (objects : ℕ → Option Object) (lists : ℕ → List Block) (making : Making) (pool : PlainPool) (rows : List DirectoryRow)
+    (ready_is : IsReady making) (directory : HasDirectory (objects 1) rows) (spells : SpellsMaking stored birth objects lists making pool) where
   table_left : (number : ℕ) → number ≤ 4 → changed making.changes.items objects number ≡ objects number
   table_left number low = changed_left making.changes.items objects number (behind_tables making number ready_is low)
 
-  pub after_none : making.directory ≡ rows → SpellsAfter stored birth objects making.changes.items pool
-  after_none same = record {
-    rows = rows;
-    directory = subst (λ o. HasDirectory o rows) (sym (table_left 1 (omega arith))) directory;
-    apart = subst AreApart same spells.apart;
-    may = spells.may;
-    tables = λ number low high. table_left number high;
-    volumes = subst (λ rs. AllZip (SpellsDataset stored birth (λ number. changed making.changes.items objects number)) rs pool.volumes) same spells.volumes;
-  }
+  pub after_none : making.directory ≡ rows → (then : SpellsAfter stored birth objects lists making.changes.items pool) × (then.rows ≡ making.directory)
+  after_none same = (
+    record {
+      rows = rows;
+      directory = subst (λ o. HasDirectory o rows) (sym (table_left 1 (omega arith))) directory;
+      apart = subst AreApart same spells.apart;
+      may = spells.may;
+      tables = λ number low high. table_left number high;
+      volumes = subst (λ rs. AllZip (HasBlocksOf stored birth (λ number. changed making.changes.items objects number) lists) rs pool.volumes) same spells.volumes;
+    },
+    sym same,
+  )
 
   pub after_made : (change : ObjectChange) → change.number ≡ 1 → ((object : Object) → IsOfKind directory_kind object → MayChange change.change (Some object))
       → ((object : Object) → IsOfKind directory_kind object → HasDirectory (after_change change.change (Some object)) making.directory)
-      → SpellsAfter stored birth objects (change ∷ making.changes.items) pool
+      → (then : SpellsAfter stored birth objects lists (change ∷ making.changes.items) pool) × (then.rows ≡ making.directory)
   after_made change is may made =
       let there = directory.1.there in
       let first : changed (change ∷ making.changes.items) objects 1 ≡ after_change change.change (Some there) =
       taken change.number 1 (after_change change.change (objects 1)) (changed making.changes.items objects 1) is ∙ ap (after_change change.change) directory.1.is in
       let rest : (number : ℕ) → number ≢ 1 → changed (change ∷ making.changes.items) objects number ≡ changed making.changes.items objects number = λ number other.
-      passed change.number number (after_change change.change (objects number)) (changed making.changes.items objects number) (λ same. other (sym same ∙ is)) in
-      record {
-        rows = making.directory;
-        directory = subst (λ o. HasDirectory o making.directory) (sym first) (made there directory.1.of_kind);
-        apart = spells.apart;
-        may = All-cons (λ (c : ObjectChange). MayChange c.change (objects c.number)) change making.changes.items
-            (subst (λ n. MayChange change.change (objects n)) (sym is) (subst (MayChange change.change) (sym directory.1.is) (may there directory.1.of_kind))) spells.may;
-        tables = λ number low high. rest number (λ same. omega (arith, low, same)) ∙ table_left number high;
-        volumes = zip_each (SpellsDataset stored birth (λ number. changed making.changes.items objects number)) (SpellsDataset stored birth (λ number. changed (change ∷ making.changes.items) objects number))
-            making.directory pool.volumes (λ row volume one. record {
-              name = one.name;
-              behind = one.behind;
-              r = one.r;
-              has = subst (λ o. HasRecord o one.r) (sym (rest row.object (λ same. let behind = one.behind in omega (arith, behind, same)))) one.has;
-              is = one.is;
-              bytes = one.bytes;
-              dead = subst (λ o. HasTable dead_list_kind o []) (sym (rest one.r.dead_list (not_dead one.r.dead_list one.dead))) one.dead;
-            }) spells.volumes;
-      }
+      passed change.number number (after_change change.change (objects number)) (changed making.changes.items objects number) (λ same. other (sym same ∙ is)) in (
+        record {
+          rows = making.directory;
+          directory = subst (λ o. HasDirectory o making.directory) (sym first) (made there directory.1.of_kind);
+          apart = spells.apart;
+          may = All-cons (λ (c : ObjectChange). MayChange c.change (objects c.number)) change making.changes.items
+              (subst (λ n. MayChange change.change (objects n)) (sym is) (subst (MayChange change.change) (sym directory.1.is) (may there directory.1.of_kind))) spells.may;
+          tables = λ number low high. rest number (λ same. omega (arith, low, same)) ∙ table_left number high;
+          volumes = zip_each (HasBlocksOf stored birth (λ number. changed making.changes.items objects number) lists) (HasBlocksOf stored birth (λ number. changed (change ∷ making.changes.items) objects number) lists)
+              making.directory pool.volumes (λ row volume one. (
+                record {
+                  name = one.0.name;
+                  behind = one.0.behind;
+                  r = one.0.r;
+                  has = subst (λ o. HasRecord o one.0.r) (sym (rest row.object (λ same. let behind = one.0.behind in omega (arith, behind, same)))) one.0.has;
+                  is = one.0.is;
+                  bytes = one.0.bytes;
+                  dead = subst (λ o. HasTable dead_list_kind o []) (sym (rest one.0.r.dead_list (not_dead one.0.r.dead_list one.0.dead))) one.0.dead;
+                },
+                one.1,
+              )) spells.volumes;
+        },
+        refl,
+      )
     where
       -- the directory is no dead list
       not_dead : (number : ℕ) → HasTable dead_list_kind (changed making.changes.items objects number) [] → number ≢ 1
@@ -190,23 +214,27 @@ tables_stay objects now vdevs same tables = record {
   maps = subst (λ o. HasTable maps_kind o []) (sym (same 4 (omega arith) (omega arith))) tables.maps;
 }
 
-pub spells_root : (stored later : Contents) (group : ℕ) (root : Block) (objects : ℕ → Option Object) (changes : List ObjectChange) (pool : PlainPool)
-    → SpellsAfter stored group objects changes pool → Extends stored later → IsSetOf later group root sets.Meta (changed changes objects) → root.birth ≡ group
+pub spells_root : (stored later : Contents) (group : ℕ) (root : Block) (objects : ℕ → Option Object) (lists : ℕ → List Block) (changes : List ObjectChange) (pool : PlainPool)
+    → (after : SpellsAfter stored group objects lists changes pool) → Extends stored later → (set : IsSetOf later group root sets.Meta (changed changes objects)) → root.birth ≡ group
     → (then : SpellsPool later group root pool) × ((vdevs : List PlainVdev) → HasFirstTables objects vdevs → HasFirstTables then.objects vdevs)
-spells_root stored later group root objects changes pool after more set born = (
-  record {
-    set = set.set;
-    is_set = set.is_set;
-    kind = set.kind_is;
-    objects = changed changes objects;
-    own = set.own;
-    blocks = set.blocks;
-    are = set.are;
-    rows = after.rows;
-    directory = after.directory;
-    apart = after.apart;
-    volumes = subst (λ n. AllZip (SpellsDataset later n (changed changes objects)) after.rows pool.volumes) (sym born)
-        (datasets_stay stored later group (changed changes objects) after.rows pool.volumes more after.volumes);
-  },
-  λ vdevs tables. tables_stay objects (changed changes objects) vdevs after.tables tables,
-)
+    × (reach_of then ≡ root ∷ blocks_of_set set.set set.own set.blocks ++ blocks_listed lists after.rows)
+spells_root stored later group root objects lists changes pool after more set born =
+    let listed = subst (λ n. AllZip (HasBlocksOf later n (changed changes objects) lists) after.rows pool.volumes) (sym born)
+    (datasets_listed_stay stored later group (changed changes objects) lists after.rows pool.volumes more after.volumes) in
+    let spelled = listed_spell later root.birth (changed changes objects) lists after.rows pool.volumes listed in (
+      record {
+        set = set.set;
+        is_set = set.is_set;
+        kind = set.kind_is;
+        objects = changed changes objects;
+        own = set.own;
+        blocks = set.blocks;
+        are = set.are;
+        rows = after.rows;
+        directory = after.directory;
+        apart = after.apart;
+        volumes = spelled.0;
+      },
+      λ vdevs tables. tables_stay objects (changed changes objects) vdevs after.tables tables,
+      ap (λ below. root ∷ blocks_of_set set.set set.own set.blocks ++ below) spelled.1,
+    )

@@ -1,9 +1,10 @@
 -- What is made, with a dataset more.
-use Rattle.std.proofs.Common.{◌≡◌, ◌≢◌, ℕ, ◌+◌, ◌<◌, ◌≤◌, List, [], ◌∷◌, ◌++◌, length, take, drop, get_or, Option, Some, None, Contains, inl, inr, refl, sym, ap, subst, ◌∙◌, append_assoc, arith}
+use Rattle.std.proofs.Common.{◌≡◌, ◌≢◌, ℕ, ◌+◌, ◌<◌, ◌≤◌, Bool, eqb, cond, List, [], ◌∷◌, ◌++◌, length, take, drop, get_or, Option, Some, None, Contains, inl, inr, refl, sym, ap, subst, ◌∙◌, append_assoc, arith}
 use Rattle.std.specs.Prelude.{All, AllPairs, fold, replicate}
+use Rattle.std.specs.List.{count_by}
 use Rattle.std.proofs.lemmas.Bool.{cases_lt}
 use Rattle.std.proofs.lemmas.List.{append-nil, length-replicate, take-append-drop, take_more}
-use Rattle.std.proofs.lemmas.List.Elements.{All-append, All-cons, All-drop, All-nil, All-take, All-weaker}
+use Rattle.std.proofs.lemmas.List.Elements.{All-append, All-cons, All-contains, All-drop, All-nil, All-take, All-weaker}
 use Rattle.std.proofs.lemmas.List.Quantifiers.{all_pairs_push}
 use Rattle.block_pointer.specs.declared.block.Block.{Block}
 use Rattle.block_store.specs.Blocks.{Contents, Extends}
@@ -17,6 +18,7 @@ use Rattle.object_table.specs.Tables.{HasTable}
 use Rattle.objset.specs.declared.changes.ObjectChange.{ObjectChange}
 use Rattle.objset.specs.Changes.{IsGoodChange, MayChange, after_change, changed as after_changes}
 use Rattle.objset.specs.Objects.{Object}
+use Rattle.objset.proofs.Numbers.{passed, taken}
 use Rattle.pool_model.specs.declared.item.Action.{Action}
 use Rattle.pool_model.specs.declared.item.Change.{Change}
 use Rattle.pool_model.specs.declared.item.Change.TheVariants.{Create}
@@ -28,24 +30,28 @@ use Rattle.dataset_snapshots.specs.declared.making.Making.{Making}
 use Rattle.dataset_snapshots.specs.declared.new_volume.NewVolume.{NewVolume}
 use Rattle.dataset_snapshots.specs.Making.{AreGoodCreations, GoesOn, IsGoodCreation, IsReady, SpellsMaking, after_all, numbers_end}
 use Rattle.dataset_snapshots.specs.NewVolumes.{IsAdded, IsNewVolume, new_record}
-use Rattle.dataset_snapshots.specs.Pools.{IsRecordOf, SpellsDataset, dead_list_kind}
+use Rattle.dataset_snapshots.specs.Pools.{IsRecordOf, dead_list_kind}
 use Rattle.dataset_snapshots.proofs.MakingChanges.{LacksNumber, changed_behind, changed_first, changed_front, may_make, unchanged}
-use Rattle.dataset_snapshots.proofs.MakingVolumes.{datasets_kept, volumes_same, volumes_with}
-use Rattle.dataset_snapshots.proofs.Staying.{datasets_stay}
+use Rattle.dataset_snapshots.specs.Leaving.{IsReachExchanged}
+use Rattle.dataset_snapshots.specs.Reach.{HasBlocksOf, blocks_listed}
+use Rattle.dataset_snapshots.proofs.Exchanges.{given_as, same_given}
+use Rattle.dataset_snapshots.proofs.KeptVolumes.{HasVolumeBlocks, datasets_kept, datasets_listed_stay, relisted, volume_blocks}
+use Rattle.dataset_snapshots.proofs.MakingVolumes.{volumes_same, volumes_with}
+use Rattle.dataset_snapshots.proofs.Numbered.{listed_with}
 
 abbrev InOrder : ObjectChange → ObjectChange → Type 0
 InOrder change later = change.number < later.number
 
 -- where more is known, what is made spells the same
-pub making_stays : (old new : Contents) (group : ℕ) (objects : ℕ → Option Object) (making : Making) (pool : PlainPool) → Extends old new
-    → SpellsMaking old group objects making pool → SpellsMaking new group objects making pool
-making_stays old new group objects making pool more is = record {
+pub making_stays : (old new : Contents) (group : ℕ) (objects : ℕ → Option Object) (lists : ℕ → List Block) (making : Making) (pool : PlainPool) → Extends old new
+    → SpellsMaking old group objects lists making pool → SpellsMaking new group objects lists making pool
+making_stays old new group objects lists making pool more is = record {
   apart = is.apart;
   free = is.free;
   below = is.below;
   may = is.may;
   others = is.others;
-  volumes = datasets_stay old new group (after_all making objects) making.directory pool.volumes more is.volumes;
+  volumes = datasets_listed_stay old new group (after_all making objects) lists making.directory pool.volumes more is.volumes;
 }
 
 module _ (old new : Making) (name : List ℕ) (r : DatasetRecord) (ready : IsReady old) (added : IsAdded old name r new) where
@@ -145,17 +151,20 @@ module _ (old new : Making) (name : List ℕ) (r : DatasetRecord) (ready : IsRea
         (subst (MayChange added.objects.of_record) (sym (free old.next (omega arith))) (may_make added.objects.of_record added.objects.has.there added.objects.has.is))
         (subst (MayChange added.objects.of_dead) (sym (free (old.next + 1) (omega arith))) (may_make added.objects.of_dead added.objects.dead.there added.objects.dead.is))
 
-    dataset_after : (stored : Contents) (group : ℕ) (volume : PlainVolume) → IsNamed name volume.name → r.dead_list ≡ old.next + 1 → IsRecordOf r volume
-        → IsVolume stored group r.object_set r.size r.block_size volume.bytes → SpellsDataset stored group (after_all new objects) row volume
-    dataset_after stored group volume named dead_is is bytes = record {
-      name = named;
-      behind = ready.behind;
-      r = r;
-      has = subst (λ o. HasRecord o r) (sym record_after) added.objects.has;
-      is = is;
-      bytes = bytes;
-      dead = subst (λ o. HasTable dead_list_kind o []) (sym (ap (after_all new objects) dead_is ∙ dead_after)) added.objects.dead;
-    }
+    dataset_after : (stored : Contents) (group : ℕ) (volume : PlainVolume) (lists : ℕ → List Block) → IsNamed name volume.name → r.dead_list ≡ old.next + 1 → IsRecordOf r volume
+        → HasVolumeBlocks stored group r.object_set r.size r.block_size volume.bytes (lists old.next) → HasBlocksOf stored group (after_all new objects) lists row volume
+    dataset_after stored group volume lists named dead_is is bytes = (
+      record {
+        name = named;
+        behind = ready.behind;
+        r = r;
+        has = subst (λ o. HasRecord o r) (sym record_after) added.objects.has;
+        is = is;
+        bytes = bytes.0;
+        dead = subst (λ o. HasTable dead_list_kind o []) (sym (ap (after_all new objects) dead_is ∙ dead_after)) added.objects.dead;
+      },
+      bytes.1,
+    )
 
   rows_after : (P : DirectoryRow → Type 0) → All P old.directory → P row → All P new.directory
   rows_after P so_far one =
@@ -163,10 +172,17 @@ module _ (old new : Making) (name : List ℕ) (r : DatasetRecord) (ready : IsRea
       subst (All P) (sym added.row.placed)
       (All-append P (take at old.directory) (row ∷ drop at old.directory) (All-take P at old.directory so_far) (All-cons P row (drop at old.directory) one (All-drop P at old.directory so_far)))
 
-  pub spells_after : (stored : Contents) (group : ℕ) (objects : ℕ → Option Object) (pool : PlainPool) (volume : PlainVolume) → SpellsMaking stored group objects old pool
-      → LacksName old.directory name → IsNamed name volume.name → r.dead_list ≡ old.next + 1 → IsRecordOf r volume
-      → IsVolume stored group r.object_set r.size r.block_size volume.bytes → SpellsMaking stored group objects new (with_volume volume pool)
-  spells_after stored group objects pool volume is lacks named dead_is record_is bytes =
+  not_row : (other : DirectoryRow) → Contains old.directory other → All (λ (o : DirectoryRow). o.object < old.next) old.directory → old.next ≢ other.object
+  not_row other held below same = let low = All-contains (λ (o : DirectoryRow). o.object < old.next) old.directory other below held in omega (arith, low, same)
+
+  -- the row is the last of its object
+  abbrev with_row : (ℕ → List Block) → List Block → ℕ → List Block
+  with_row lists blocks number = cond (eqb old.next number) blocks (lists number)
+
+  pub spells_after : (stored : Contents) (group : ℕ) (objects : ℕ → Option Object) (lists : ℕ → List Block) (blocks : List Block) (pool : PlainPool) (volume : PlainVolume)
+      → SpellsMaking stored group objects lists old pool → LacksName old.directory name → IsNamed name volume.name → r.dead_list ≡ old.next + 1 → IsRecordOf r volume
+      → HasVolumeBlocks stored group r.object_set r.size r.block_size volume.bytes blocks → SpellsMaking stored group objects (with_row lists blocks) new (with_volume volume pool)
+  spells_after stored group objects lists blocks pool volume is lacks named dead_is record_is bytes =
       let at : ℕ = added.row.at in
       let next = added.next in
       let Apart : DirectoryRow → DirectoryRow → Type 0 = λ first later. first.object ≢ later.object in
@@ -185,28 +201,57 @@ module _ (old new : Making) (name : List ℕ) (r : DatasetRecord) (ready : IsRea
               | inl lt ↦ others_after objects is.free number lt ∙ is.others number there held other
               | inr le ↦ let clash : None ≡ Some there = sym (is.free number le) ∙ held in absurd cc
             ];
-        volumes = volumes_with stored group (after_all new objects) old.directory new.directory row pool volume added.row lacks
-            (datasets_kept stored group (after_all old objects) (after_all new objects) old.directory pool.volumes (stays_after objects is.free) is.volumes)
-            (dataset_after objects is.free stored group volume named dead_is record_is bytes);
+        volumes = volumes_with stored group (after_all new objects) (with_row lists blocks) old.directory new.directory row pool volume added.row lacks
+            (relisted stored group (after_all new objects) lists (with_row lists blocks) old.directory pool.volumes
+            (λ other held. passed old.next other.object blocks (lists other.object) (not_row other held is.below))
+            (datasets_kept stored group (after_all old objects) (after_all new objects) lists old.directory pool.volumes (stays_after objects is.free) is.volumes))
+            (dataset_after objects is.free stored group volume (with_row lists blocks) named dead_is record_is
+            (bytes.0, bytes.1 ∙ sym (taken old.next old.next blocks (lists old.next) refl)));
       }
 
+  -- the blocks of all rows are those before and those of the new one
+  pub listed_after : (lists : ℕ → List Block) (blocks : List Block) → All (λ (o : DirectoryRow). o.object < old.next) old.directory → (test : Block → Bool)
+      → count_by test (blocks_listed (with_row lists blocks) new.directory) ≡ count_by test blocks + count_by test (blocks_listed lists old.directory)
+  listed_after lists blocks below test =
+      ap (λ rows. count_by test (blocks_listed (with_row lists blocks) rows)) added.row.placed
+      ∙ listed_with lists (with_row lists blocks) blocks old.directory row added.row.at (taken old.next old.next blocks (lists old.next) refl)
+      (λ other held. passed old.next other.object blocks (lists other.object) (not_row other held below)) test
+
+-- what a volume more is in what is made, and which blocks are new
+abbrev pub IsMadeFrom : Contents → Contents → ℕ → (ℕ → Option Object) → (ℕ → List Block) → Making → Making → PlainPool → Type 0
+IsMadeFrom planned later group objects lists old new pool =
+    (listed : ℕ → List Block) × SpellsMaking later group objects listed new pool
+    × IsReachExchanged group planned later (blocks_listed lists old.directory) (blocks_listed listed new.directory) []
+
 -- the volume of a change is made
-pub volume_made : (old new : Making) (change : Change) (v : NewVolume) (group : ℕ) (object_set : Block) (r : DatasetRecord) (planned later : Contents) (objects : ℕ → Option Object) (pool : PlainPool)
-    → IsNewVolume change v → IsReady old → LacksName old.directory v.name → IsAdded old v.name r new → r ≡ new_record v group (old.next + 1) object_set → Extends planned later
-    → IsVolume later group object_set v.size v.block_size (replicate v.size 0) → SpellsMaking planned group objects old pool → SpellsMaking later group objects new (changed group pool change)
-volume_made old new (Create name size block_size) v group object_set r planned later objects pool is ready lacks added r_is more bytes spells =
-    spells_after old new v.name (new_record v group (old.next + 1) object_set) ready (subst (λ (r : DatasetRecord). IsAdded old v.name r new) r_is added) later group objects pool (created group name size block_size)
-    (making_stays planned later group objects old pool more spells) lacks is.0 refl
-    (record { kind = refl; is_volume = refl; size = is.1 ∙ sym (length-replicate size 0); block_size = is.2; created = refl })
-    (subst (λ n. IsVolume later group object_set v.size v.block_size (replicate n 0)) is.1 bytes)
+pub volume_made : (old new : Making) (change : Change) (v : NewVolume) (group : ℕ) (object_set : Block) (r : DatasetRecord) (planned later : Contents) (objects : ℕ → Option Object) (lists : ℕ → List Block)
+    (pool : PlainPool) → IsNewVolume change v → IsReady old → LacksName old.directory v.name → IsAdded old v.name r new → r ≡ new_record v group (old.next + 1) object_set → Extends planned later
+    → (bytes : IsVolume later group object_set v.size v.block_size (replicate v.size 0)) → IsReachExchanged group planned later [] (volume_blocks bytes) []
+    → SpellsMaking planned group objects lists old pool → IsMadeFrom planned later group objects lists old new (changed group pool change)
+volume_made old new (Create name size block_size) v group object_set r planned later objects lists pool is ready lacks added r_is more bytes fresh spells =
+    let made : DatasetRecord = new_record v group (old.next + 1) object_set in
+    let now : IsAdded old v.name made new = subst (λ (r : DatasetRecord). IsAdded old v.name r new) r_is added in
+    let blocks : List Block = volume_blocks bytes in (
+      with_row old new v.name made ready now lists blocks,
+      spells_after old new v.name made ready now later group objects lists blocks pool (created group name size block_size)
+          (making_stays planned later group objects lists old pool more spells) lacks is.0 refl
+          (record { kind = refl; is_volume = refl; size = is.1 ∙ sym (length-replicate size 0); block_size = is.2; created = refl })
+          (subst (λ n. HasVolumeBlocks later group object_set v.size v.block_size (replicate n 0) blocks) is.1 (bytes, refl)),
+      given_as group planned later [] blocks [] (blocks_listed lists old.directory) (blocks_listed (with_row old new v.name made ready now lists blocks) new.directory) []
+          (blocks_listed lists old.directory) [] fresh
+          (λ test. omega arith) (listed_after old new v.name made ready now lists blocks spells.below) (λ test. omega arith),
+    )
 
 -- or its name is there
-pub volume_passed : (making : Making) (change : Change) (v : NewVolume) (group object : ℕ) (stored : Contents) (objects : ℕ → Option Object) (pool : PlainPool)
-    → IsNewVolume change v → Contains making.directory (record { name = v.name; object = object }) → SpellsMaking stored group objects making pool
-    → SpellsMaking stored group objects making (changed group pool change)
-volume_passed making (Create name size block_size) v group object stored objects pool is held spells =
-    subst (SpellsMaking stored group objects making)
-    (sym (volumes_same stored group (after_all making objects) making.directory (record { name = v.name; object = object }) pool (created group name size block_size) held is.0 spells.volumes)) spells
+pub volume_passed : (making : Making) (change : Change) (v : NewVolume) (group object : ℕ) (stored : Contents) (objects : ℕ → Option Object) (lists : ℕ → List Block) (pool : PlainPool)
+    → IsNewVolume change v → Contains making.directory (record { name = v.name; object = object }) → SpellsMaking stored group objects lists making pool
+    → IsMadeFrom stored stored group objects lists making making (changed group pool change)
+volume_passed making (Create name size block_size) v group object stored objects lists pool is held spells = (
+  lists,
+  subst (SpellsMaking stored group objects lists making)
+      (sym (volumes_same stored group (after_all making objects) lists making.directory (record { name = v.name; object = object }) pool (created group name size block_size) held is.0 spells.volumes)) spells,
+  same_given group stored (blocks_listed lists making.directory),
+)
 
 -- ---- one after the other
 

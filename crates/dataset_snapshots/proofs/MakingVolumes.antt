@@ -3,43 +3,21 @@ use Rattle.std.proofs.Common.{◌≡◌, ℕ, zero, suc, ◌+◌, ◌≤◌, Boo
 use Rattle.std.specs.Prelude.{All, cond, not, insert, is_some}
 use Rattle.std.specs.List.{AllZip, position_or_len}
 use Rattle.std.proofs.lemmas.List.Elements.{All-head}
+use Rattle.block_pointer.specs.declared.block.Block.{Block}
 use Rattle.block_store.specs.Blocks.{Contents}
 use Rattle.meta_objset.specs.declared.directory.DirectoryRow.{DirectoryRow}
-use Rattle.meta_objset.specs.Datasets.{HasRecord}
 use Rattle.meta_objset.specs.Directory.{IsPlacedAmong, LacksName}
 use Rattle.meta_objset.specs.Names.{IsBefore, IsNamed}
-use Rattle.object_table.specs.Tables.{HasTable}
 use Rattle.objset.specs.Objects.{Object}
 use Rattle.pool_model.specs.declared.volume.PlainVolume.{PlainVolume}
 use Rattle.pool_model.specs.Names.{is_before, same}
 use Rattle.pool_model.specs.Pools.{PlainPool, placed, volume_at, with_volume}
 use Rattle.pool_model.proofs.Places.{is_same}
-use Rattle.dataset_snapshots.specs.Pools.{SpellsDataset, dead_list_kind}
+use Rattle.dataset_snapshots.specs.Pools.{SpellsDataset}
+use Rattle.dataset_snapshots.specs.Reach.{HasBlocksOf}
+use Rattle.dataset_snapshots.proofs.KeptVolumes.{listed_spell}
 use Rattle.dataset_snapshots.proofs.NamingOrder.{before_named, behind_named}
 use Rattle.dataset_snapshots.proofs.Rows.{at, first_or_later, names_same, no_row}
-
--- a dataset stays where each object that there is stays
-dataset_stays : (stored : Contents) (birth : ℕ) (old new : ℕ → Option Object) (row : DirectoryRow) (volume : PlainVolume)
-    → ((number : ℕ) (there : Object) → old number ≡ Some there → new number ≡ old number)
-    → SpellsDataset stored birth old row volume → SpellsDataset stored birth new row volume
-dataset_stays stored birth old new row volume stays is = record {
-  name = is.name;
-  behind = is.behind;
-  r = is.r;
-  has = subst (λ o. HasRecord o is.r) (sym (stays row.object is.has.there is.has.is)) is.has;
-  is = is.is;
-  bytes = is.bytes;
-  dead = subst (λ o. HasTable dead_list_kind o []) (sym (stays is.r.dead_list is.dead.there is.dead.is)) is.dead;
-}
-
-pub datasets_kept : (stored : Contents) (birth : ℕ) (old new : ℕ → Option Object) (rows : List DirectoryRow) (volumes : List PlainVolume)
-    → ((number : ℕ) (there : Object) → old number ≡ Some there → new number ≡ old number)
-    → AllZip (SpellsDataset stored birth old) rows volumes → AllZip (SpellsDataset stored birth new) rows volumes
-datasets_kept stored birth old new [] [] stays spells = spells
-datasets_kept stored birth old new (row ∷ rows) (volume ∷ volumes) stays spells =
-    (dataset_stays stored birth old new row volume stays spells.0, datasets_kept stored birth old new rows volumes stays spells.1)
-datasets_kept stored birth old new [] (volume ∷ volumes) stays spells = absurd spells
-datasets_kept stored birth old new (row ∷ rows) [] stays spells = absurd spells
 
 zip_insert : {X Y : Type 0} (R : X → Y → Type 0) (xs : List X) (ys : List Y) (x : X) (y : Y) (place : ℕ) → AllZip R xs ys → R x y
     → AllZip R (insert xs place x) (insert ys place y)
@@ -52,6 +30,13 @@ zip_insert R (first ∷ xs) [] x y (suc place) all one = absurd all
 module _ (stored : Contents) (birth : ℕ) (objects : ℕ → Option Object) where
   abbrev Spelled : List DirectoryRow → List PlainVolume → Type 0
   Spelled rows volumes = AllZip (SpellsDataset stored birth objects) rows volumes
+
+  -- with their blocks by their objects
+  abbrev Listed : (ℕ → List Block) → List DirectoryRow → List PlainVolume → Type 0
+  Listed lists rows volumes = AllZip (HasBlocksOf stored birth objects lists) rows volumes
+
+  spelled_of : (lists : ℕ → List Block) (rows : List DirectoryRow) (volumes : List PlainVolume) → Listed lists rows volumes → Spelled rows volumes
+  spelled_of lists rows volumes listed = (listed_spell stored birth objects lists rows volumes listed).0
 
   -- a row has its place among the rows where its volume has one among the volumes
   module _ (row : DirectoryRow) (name : List ℕ) (named : IsNamed row.name name) where
@@ -100,18 +85,20 @@ module _ (stored : Contents) (birth : ℕ) (objects : ℕ → Option Object) whe
     called (first ∷ rows) [] spells held = absurd spells
 
   -- the volumes with one more
-  pub volumes_with : (rows new : List DirectoryRow) (row : DirectoryRow) (pool : PlainPool) (volume : PlainVolume) → IsPlacedAmong rows row new → LacksName rows row.name
-      → Spelled rows pool.volumes → SpellsDataset stored birth objects row volume → Spelled new (with_volume volume pool).volumes
-  volumes_with rows new row pool volume among lacks spells more =
-      let free : volume_at volume.name pool ≡ None = unnamed row volume.name more.name rows pool.volumes spells lacks in
-      let there = place_is row volume.name more.name among.at rows pool.volumes among.within spells among.front among.behind in
-      subst (λ (o : Option PlainVolume). Spelled new (cond (is_some o) pool (record pool { volumes = placed volume pool.volumes })).volumes) (sym free)
-      (subst (λ (all : List DirectoryRow). Spelled all (placed volume pool.volumes)) (sym among.placed)
-      (subst (λ k. Spelled (insert rows among.at row) (insert pool.volumes k volume)) (sym there)
-      (zip_insert (SpellsDataset stored birth objects) rows pool.volumes row volume among.at spells more)))
+  pub volumes_with : (lists : ℕ → List Block) (rows new : List DirectoryRow) (row : DirectoryRow) (pool : PlainPool) (volume : PlainVolume) → IsPlacedAmong rows row new → LacksName rows row.name
+      → Listed lists rows pool.volumes → HasBlocksOf stored birth objects lists row volume → Listed lists new (with_volume volume pool).volumes
+  volumes_with lists rows new row pool volume among lacks listed more =
+      let spells = spelled_of lists rows pool.volumes listed in
+      let free : volume_at volume.name pool ≡ None = unnamed row volume.name more.0.name rows pool.volumes spells lacks in
+      let there = place_is row volume.name more.0.name among.at rows pool.volumes among.within spells among.front among.behind in
+      subst (λ (o : Option PlainVolume). Listed lists new (cond (is_some o) pool (record pool { volumes = placed volume pool.volumes })).volumes) (sym free)
+      (subst (λ (all : List DirectoryRow). Listed lists all (placed volume pool.volumes)) (sym among.placed)
+      (subst (λ k. Listed lists (insert rows among.at row) (insert pool.volumes k volume)) (sym there)
+      (zip_insert (HasBlocksOf stored birth objects lists) rows pool.volumes row volume among.at listed more)))
 
   -- a volume whose name is there is passed over
-  pub volumes_same : (rows : List DirectoryRow) (row : DirectoryRow) (pool : PlainPool) (volume : PlainVolume) → Contains rows row → IsNamed row.name volume.name
-      → Spelled rows pool.volumes → with_volume volume pool ≡ pool
-  volumes_same rows row pool volume held named spells =
+  pub volumes_same : (lists : ℕ → List Block) (rows : List DirectoryRow) (row : DirectoryRow) (pool : PlainPool) (volume : PlainVolume) → Contains rows row → IsNamed row.name volume.name
+      → Listed lists rows pool.volumes → with_volume volume pool ≡ pool
+  volumes_same lists rows row pool volume held named listed =
+      let spells = spelled_of lists rows pool.volumes listed in
       ap (λ b. cond b pool (record pool { volumes = placed volume pool.volumes })) (called row volume.name named rows pool.volumes spells held)

@@ -125,7 +125,7 @@ rows_known stored birth objects (row ∷ rows) (volume ∷ volumes) all block he
       | inr later ↦ rows_known stored birth objects rows volumes all.1 block later
     ]
 
-reach_known : (stored : Contents) (birth : ℕ) (root : Block) (pool : PlainPool) (is : SpellsPool stored birth root pool) (block : Block) → Contains (reach_of is) block → IsKnown stored block
+pub reach_known : (stored : Contents) (birth : ℕ) (root : Block) (pool : PlainPool) (is : SpellsPool stored birth root pool) (block : Block) → Contains (reach_of is) block → IsKnown stored block
 reach_known stored birth root pool is block held =
     elim (first_or_later root block (blocks_of_set is.set is.own is.blocks ++ joined (parts_of stored root.birth is.objects is.rows pool.volumes is.volumes)) held) [
       | inl same ↦ subst (IsKnown stored) same (is.is_set.bytes, is.is_set.known)

@@ -16,7 +16,8 @@ use Rattle.objset.specs.Objects.{Object, AreObjects}
 use Rattle.pool_model.specs.declared.item.Write.{Write}
 use Rattle.pool_model.specs.Pools.{PlainPool}
 use Rattle.dataset_snapshots.specs.declared.groups.Opened.{Opened}
-use Rattle.dataset_snapshots.specs.Pools.{AreApart, SpellsDataset, SpellsPool}
+use Rattle.dataset_snapshots.specs.Pools.{AreApart, SpellsPool}
+use Rattle.dataset_snapshots.specs.Reach.{HasBlocksOf}
 use Rattle.dataset_snapshots.specs.Writing.{FitsWritten, IsReadFrom, IsWritten}
 
 -- the objects of the volumes that are written to
@@ -47,12 +48,12 @@ pub record IsSetOf (stored : Contents) (birth : ℕ) (root : Block) (kind : Obje
   pub are : AreObjects stored root.birth set objects own blocks
 
 -- Of these objects the changes make those of the pool: the directory, which names its volumes in the order of their names, no more
--- and no fewer. The other tables are as they were.
-pub record SpellsAfter (stored : Contents) (birth : ℕ) (objects : ℕ → Option Object) (changes : List ObjectChange)
-    (pool : PlainPool) : Type 0 where
+-- and no fewer, each with the blocks listed for its object. The other tables are as they were.
+pub record SpellsAfter (stored : Contents) (birth : ℕ) (objects : ℕ → Option Object) (lists : ℕ → List Block)
+    (changes : List ObjectChange) (pool : PlainPool) : Type 0 where
   pub rows : List DirectoryRow
   pub directory : HasDirectory (changed changes objects 1) rows
   pub apart : AreApart rows
   pub may : All (λ change. MayChange change.change (objects change.number)) changes
   pub tables : (number : ℕ) → 1 < number → number ≤ 4 → changed changes objects number ≡ objects number
-  pub volumes : AllZip (SpellsDataset stored birth (λ number. changed changes objects number)) rows pool.volumes
+  pub volumes : AllZip (HasBlocksOf stored birth (λ number. changed changes objects number) lists) rows pool.volumes

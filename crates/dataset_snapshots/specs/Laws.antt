@@ -9,6 +9,8 @@ use Rattle.block_store.specs.Blocks.{Contents, Extends}
 use Rattle.block_store.specs.Losses.{IsBlockLost}
 use Rattle.block_store.specs.Places.{ArePlacesApart}
 use Rattle.block_store.specs.Store.{Holds, Store}
+use Rattle.dnode_tree.specs.Freeing.{AreOnlyIn}
+use Rattle.dnode_tree.specs.Rewriting.{AreDistinct}
 use Rattle.pool_model.specs.Pools.{Entry, PlainPool}
 use Rattle.volume_rules.specs.GoodChanges.{MakesGoodVolumes}
 use Rattle.vdev_label.specs.Plain.{PlainVdev}
@@ -16,6 +18,7 @@ use Rattle.dataset_snapshots.specs.Demands.{IsGroupRefused}
 use Rattle.dataset_snapshots.specs.Finding.{IsRefused}
 use Rattle.dataset_snapshots.specs.FirstGroup.{IsFirstRefused}
 use Rattle.dataset_snapshots.specs.Making.{AreGoodCreations}
+use Rattle.dataset_snapshots.specs.Leaving.{IsReachExchanged}
 use Rattle.dataset_snapshots.specs.Pools.{SpellsPool}
 use Rattle.dataset_snapshots.specs.Ranges.{IsRangeRefused}
 use Rattle.dataset_snapshots.specs.Reach.{reach_of}
@@ -70,3 +73,13 @@ ReachesLieApart =
     → Contains (reach_of is) other → slice_get (dvas block.copies) i ≡ Some place
     → slice_get (dvas other.copies) k ≡ Some behind
     → ((block ≡ other) × (i ≡ k)) ⊎ ArePlacesApart place behind
+
+-- Where a stored root leads to no block twice, what gave way by a group are the blocks that it leads
+-- to and that are not among those after, each once, and those after are each there once.
+abbrev pub ReplacedOfGroupsLeave : Type 0
+ReplacedOfGroupsLeave =
+    (stored planned later : Contents) (birth group : ℕ) (root : Block) (pool : PlainPool)
+    → (is : SpellsPool stored birth root pool) → (after gone : List Block)
+    → Extends stored planned → AreDistinct (reach_of is)
+    → IsReachExchanged group planned later (reach_of is) after gone
+    → AreOnlyIn (reach_of is) after gone × AreDistinct after

@@ -4,6 +4,7 @@ pub mod Finding
 pub mod FirstGroup
 pub mod Groups
 pub mod Laws
+pub mod Leaving
 pub mod Making
 pub mod NewVolumes
 pub mod Opening

@@ -1,6 +1,7 @@
 -- What a group makes of the meta object set.
 use Rattle.std.specs.Prelude.{ℕ, ◌≡◌, ◌≢◌, ◌*◌, ◌+◌, ◌^◌, ◌<◌, ◌≤◌, List, [], ◌++◌, Option, Some, None, All, AllPairs}
 use Rattle.std.specs.List.{AllZip}
+use Rattle.block_pointer.specs.declared.block.Block.{Block}
 use Rattle.block_store.specs.Blocks.{Contents}
 use Rattle.meta_objset.specs.Names.{IsNamed}
 use Rattle.objset.specs.declared.changes.ObjectChange.{ObjectChange}
@@ -13,7 +14,8 @@ use Rattle.pool_model.specs.Pools.{PlainPool}
 use Rattle.volume_rules.specs.GoodChanges.{is_good_size}
 use Rattle.std.specs.Prelude.{true}
 use Rattle.dataset_snapshots.specs.declared.making.Making.{Making}
-use Rattle.dataset_snapshots.specs.Pools.{AreApart, SpellsDataset}
+use Rattle.dataset_snapshots.specs.Pools.{AreApart}
+use Rattle.dataset_snapshots.specs.Reach.{HasBlocksOf}
 
 -- object numbers are below this one
 abbrev pub numbers_end : ℕ
@@ -32,16 +34,16 @@ abbrev pub after_all : Making → (ℕ → Option Object) → ℕ → Option Obj
 after_all making objects number = changed making.changes.items objects number
 
 -- Of these objects the changes make those of the pool: its volumes stand in the directory, in the order of their names, no more
--- and no fewer. Objects that have no record are as they were.
-pub record SpellsMaking (stored : Contents) (birth : ℕ) (objects : ℕ → Option Object) (making : Making)
-    (pool : PlainPool) : Type 0 where
+-- and no fewer, each with the blocks listed for its object. Objects that have no record are as they were.
+pub record SpellsMaking (stored : Contents) (birth : ℕ) (objects : ℕ → Option Object) (lists : ℕ → List Block)
+    (making : Making) (pool : PlainPool) : Type 0 where
   pub apart : AreApart making.directory
   pub free : (number : ℕ) → making.next ≤ number → objects number ≡ None
   pub below : All (λ row. row.object < making.next) making.directory
   pub may : All (λ change. MayChange change.change (objects change.number)) making.changes.items
   pub others : (number : ℕ) (there : Object) → objects number ≡ Some there → there.object_type ≢ 201
       → after_all making objects number ≡ objects number
-  pub volumes : AllZip (SpellsDataset stored birth (after_all making objects)) making.directory pool.volumes
+  pub volumes : AllZip (HasBlocksOf stored birth (after_all making objects) lists) making.directory pool.volumes
 
 -- the making goes on: changes of new objects came behind those so far; with none of them the directory is the same
 pub record GoesOn (old new : Making) : Type 0 where

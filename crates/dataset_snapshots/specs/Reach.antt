@@ -1,6 +1,6 @@
 -- All blocks that the root of a pool leads to.
-use Rattle.std.specs.Prelude.{ℕ, suc, ◌≡◌, ◌⊎◌, List, [], ◌∷◌, ◌++◌, Option}
-use Rattle.std.specs.List.{AllZip}
+use Rattle.std.specs.Prelude.{ℕ, suc, ◌≡◌, ◌⊎◌, List, [], ◌∷◌, ◌++◌, Option, map}
+use Rattle.std.specs.List.{AllZip, flat_map}
 use Rattle.block_pointer.specs.declared.block.Block.{Block}
 use Rattle.block_store.specs.Blocks.{Contents}
 use Rattle.block_store.specs.declared.refusal.Refusal.{Refusal}
@@ -29,6 +29,16 @@ abbrev pub blocks_of_dataset : {stored : Contents} {birth : ℕ} {objects : ℕ 
     → List Block
 blocks_of_dataset is =
     blocks_of_volume is.r.object_set is.bytes.set is.bytes.has.own is.bytes.has.blocks
+
+-- the row leads to the volume, whose blocks are those listed for the row's object
+abbrev pub HasBlocksOf : Contents → ℕ → (ℕ → Option Object) → (ℕ → List Block) → DirectoryRow
+    → PlainVolume → Type 0
+HasBlocksOf stored birth objects lists row volume =
+    (is : SpellsDataset stored birth objects row volume) × (blocks_of_dataset is ≡ lists row.object)
+
+-- the blocks listed for the objects of the rows
+abbrev pub blocks_listed : (ℕ → List Block) → List DirectoryRow → List Block
+blocks_listed lists rows = flat_map lists (map (λ row. row.object) rows)
 
 -- those of each dataset, in the order of the rows
 abbrev pub parts_of : (stored : Contents) (birth : ℕ) (objects : ℕ → Option Object)

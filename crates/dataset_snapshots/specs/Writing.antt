@@ -1,5 +1,7 @@
 -- The volumes that a group writes to.
-use Rattle.std.specs.Prelude.{ℕ, ◌≡◌, ◌<◌, List, [], Contains, Option, Some, Any}
+use Rattle.std.specs.Prelude.{ℕ, ◌≡◌, ◌<◌, List, [], Contains, Option, Some, Any, map}
+use Rattle.std.specs.List.{AllZip}
+use Rattle.block_pointer.specs.declared.block.Block.{Block}
 use Rattle.block_store.specs.Blocks.{Contents}
 use Rattle.meta_objset.specs.declared.directory.DirectoryRow.{DirectoryRow}
 use Rattle.meta_objset.specs.declared.record.DatasetRecord.{DatasetRecord}
@@ -14,10 +16,12 @@ use Rattle.pool_model.specs.declared.item.Write.{Write}
 use Rattle.pool_model.specs.declared.volume.PlainVolume.{PlainVolume}
 use Rattle.volume_rules.specs.Overlay.{after_writes}
 use Rattle.volume.specs.Volume.{IsVolume}
+use Rattle.volume.specs.Walking.{blocks_of_volume}
 use Rattle.volume.specs.Writing.{AreBlocksOf, IsArrayWith}
 use Rattle.dataset_snapshots.specs.declared.writing.WrittenVolume.{WrittenVolume}
 use Rattle.dataset_snapshots.specs.Finding.{IsRowOf, IsVolumeOf}
 use Rattle.dataset_snapshots.specs.Pools.{IsRecordOf, SpellsDataset, dead_list_kind}
+use Rattle.dataset_snapshots.specs.Reach.{HasBlocksOf}
 
 -- one of the writes is to a name that the directory has with this object
 abbrev pub IsWritten : List DirectoryRow → List Write → ℕ → Type 0
@@ -61,12 +65,29 @@ pub record ChangesRecord (stored : Contents) (birth : ℕ) (objects : ℕ → Op
   pub bytes : IsVolume stored birth r.object_set r.size r.block_size volume.bytes
   pub dead : HasTable dead_list_kind (objects r.dead_list) []
 
--- each row names the volume that is its object's
-abbrev pub SpellsEach : Contents → ℕ → (ℕ → Option Object) → List DirectoryRow → (ℕ → PlainVolume) → Type 0
-SpellsEach stored birth objects rows volumes =
-    (row : DirectoryRow) → Contains rows row → SpellsDataset stored birth objects row (volumes row.object)
+-- all blocks of the volume that the change leads to
+abbrev pub blocks_of_change : {stored : Contents} {birth : ℕ} {objects : ℕ → Option Object}
+    {number : ℕ} {volume : PlainVolume} {change : Change}
+    → ChangesRecord stored birth objects number volume change → List Block
+blocks_of_change is =
+    blocks_of_volume is.r.object_set is.bytes.set is.bytes.has.own is.bytes.has.blocks
 
--- the change is what a group's writes make of the volume of its object
-abbrev pub IsChangedFrom : Contents → ℕ → (ℕ → Option Object) → (ℕ → PlainVolume) → List Write → ObjectChange → Type 0
-IsChangedFrom stored birth objects volumes writes change =
-    ChangesRecord stored birth objects change.number (after_writes (volumes change.number) writes) change.change
+-- each row names the volume that is its object's, with the blocks that are its object's
+abbrev pub SpellsEach : Contents → ℕ → (ℕ → Option Object) → List DirectoryRow → (ℕ → PlainVolume) → (ℕ → List Block) → Type 0
+SpellsEach stored birth objects rows volumes lists =
+    (row : DirectoryRow) → Contains rows row → HasBlocksOf stored birth objects lists row (volumes row.object)
+
+-- the change is what a group's writes make of the volume of its object, which has these blocks then
+abbrev pub IsChangedFrom : Contents → ℕ → (ℕ → Option Object) → (ℕ → PlainVolume) → List Write → ObjectChange → List Block → Type 0
+IsChangedFrom stored birth objects volumes writes change blocks =
+    (is : ChangesRecord stored birth objects change.number (after_writes (volumes change.number) writes) change.change)
+    × (blocks_of_change is ≡ blocks)
+
+-- so are the changes, one by one
+abbrev pub AreChangedFrom : Contents → ℕ → (ℕ → Option Object) → (ℕ → PlainVolume) → List Write → List ObjectChange → List (List Block) → Type 0
+AreChangedFrom stored birth objects volumes writes changes parts =
+    AllZip (IsChangedFrom stored birth objects volumes writes) changes parts
+
+-- the objects of changes
+abbrev pub numbers_of : List ObjectChange → List ℕ
+numbers_of changes = map (λ change. change.number) changes

@@ -1,5 +1,6 @@
 //! The first root of a pool.
-ghost use Rattle.std.specs.Prelude.{◌≡◌, ◌⊎◌, ◌++◌, ◌*◌, ◌^◌, ◌<◌, [], None, All, AllPairs, length, fold, IfOk, IfErr, OnOk};
+ghost use Rattle.std.specs.Prelude.{◌≡◌, ◌⊎◌, ◌++◌, ◌*◌, ◌^◌, ◌<◌, ℕ, List, [], None, All, AllPairs, length, fold, IfOk, IfErr, OnOk};
+ghost use Rattle.block_pointer.specs.declared.block.Block.{Block};
 ghost use Rattle.block_pointer.specs.Block.{FitsBlock};
 ghost use Rattle.block_pointer.specs.Copies.{dvas};
 ghost use Rattle.block_store.specs.Blocks.{Contents, Extends};
@@ -83,7 +84,8 @@ pub fn first_group<D: Disk + Drop>(
 {
     let making = first_volumes(store, alloc, group, items.actions())?;
     let changes = with_tables(making, alloc, config)?;
-    plan_root(&EMPTY, store, alloc, &changes, group)
+    let mut replaced = Vec::new(alloc);
+    plan_root(&EMPTY, store, alloc, &changes, group, &mut replaced)
 }
 
 /// Makes the volumes of these actions where there are none, in order, and plans their sets.
@@ -99,7 +101,7 @@ fn first_volumes<D: Disk + Drop>(
     ensures value { IfOk result (λ making. (stored planned : Contents)
         → Plans store.old stored planned → AnswersAreTrue store.old store.new
         → (later : Contents) × Plans store.new stored later × Extends planned later
-        × SpellsMaking later group (λ number. None) making
+        × (lists : ℕ → List Block) × SpellsMaking later group (λ number. None) lists making
         (fold (λ p a. changed group p a.change) no_volumes actions.now)) }
     ensures known { IfErr result (λ refusal. (stored planned : Contents)
         → Plans store.old stored planned → AnswersAreTrue store.old store.new

@@ -1,5 +1,5 @@
 //! The root of a pool after a group.
-ghost use Rattle.std.specs.Prelude.{◌≡◌, ◌≢◌, ◌⊎◌, ◌≤◌, ◌<◌, ◌-◌, ◌*◌, ◌^◌, ℕ, List, [], Option, Some, All, AllPairs, IfOk, IfErr, OnOk, ◌∷◌, fold, length};
+ghost use Rattle.std.specs.Prelude.{◌≡◌, ◌≢◌, ◌⊎◌, ◌≤◌, ◌<◌, ◌-◌, ◌*◌, ◌^◌, ◌++◌, ℕ, List, [], Option, Some, All, AllPairs, IfOk, IfErr, OnOk, ◌∷◌, fold, length};
 ghost use Rattle.block_pointer.specs.Block.{FitsBlock};
 ghost use Rattle.block_pointer.specs.Copies.{dvas};
 ghost use Rattle.block_pointer.specs.declared.block.Block.{Block};
@@ -10,12 +10,14 @@ ghost use Rattle.block_store.specs.Steps.{OnlyReadsAndPlans, OnlyReadsBlocks, An
 ghost use Rattle.block_store.specs.Store.{Holds};
 ghost use Rattle.dnode.specs.ObjectSet.{FitsObjectSet};
 ghost use Rattle.dnode.specs.declared.object_set.ObjectSetKind.TheVariants as sets;
+ghost use Rattle.dnode_tree.specs.Subtree.{joined};
 ghost use Rattle.dnode_tree.specs.Writes.{IsForRoom};
 ghost use Rattle.meta_objset.specs.declared.directory.DirectoryRow.{DirectoryRow};
 ghost use Rattle.meta_objset.specs.Reading.{HasDirectory, directory_kind};
 ghost use Rattle.object_table.specs.Tables.{IsOfKind};
 ghost use Rattle.objset.specs.Changes.{HasNoRoom, IsGoodChange, MayChange, after_change, changed};
 ghost use Rattle.objset.specs.Objects.{Object, AreObjects};
+ghost use Rattle.objset.specs.Within.{blocks_of_set};
 ghost use Rattle.pool_model.specs.declared.item.Write.{Write};
 ghost use Rattle.pool_model.specs.Pools.{PlainPool, applied, written};
 ghost use Rattle.pool_model.specs.Pools.{changed as pool_changed};
@@ -23,9 +25,11 @@ ghost use Rattle.vdev_label.specs.Plain.{PlainVdev};
 ghost use Rattle.dataset_snapshots.specs.Creating.{HasFirstTables};
 ghost use Rattle.dataset_snapshots.specs.Demands.{AreVolumesRefused, HasGroupPlaces, HasRootPlaces, HasVolumePlaces, IsGroupRefused, IsRootRefused, IsWithDirectory};
 ghost use Rattle.dataset_snapshots.specs.Groups.{IsOpened, IsOpenedFrom, IsSetOf, SpellsAfter};
+ghost use Rattle.dataset_snapshots.specs.Leaving.{IsReachExchanged};
 ghost use Rattle.dataset_snapshots.specs.Making.{AreGoodCreations, IsReady, SpellsMaking};
 ghost use Rattle.dataset_snapshots.specs.Opening.{IsGroupFound, IsGroupUnread};
 ghost use Rattle.dataset_snapshots.specs.Pools.{SpellsPool};
+ghost use Rattle.dataset_snapshots.specs.Reach.{blocks_listed, parts_of, reach_of};
 ghost use Rattle.objset.specs.Changes.{copies_of};
 
 use crate::finding::read_meta;
@@ -40,6 +44,13 @@ use objset::{ObjectChange, plan_set};
 use pool_model::Action;
 use std::alloc::{AllocError, Global};
 use txg_pipeline::Pending;
+
+/// The root of a pool after a group, and the blocks that the root before led to and this one doesn't.
+#[derive(Debug, Drop)]
+pub struct NextRoot {
+    pub root: Block,
+    pub replaced: Vec<Block>,
+}
 
 /// What a group is planned from: the meta object set, its directory, and the volumes that the group writes to.
 #[derive(Debug, Drop)]
@@ -71,21 +82,24 @@ pub fn after_group<D: Disk + Drop>(
     alloc: Global,
     group: u64,
     items: &Pending,
-) -> Result<Block, Refusal>
+) -> Result<NextRoot, Refusal>
     requires born { 0 < group }
     ensures steps { OnlyReadsAndPlans store.old store.new [] }
-    ensures fits { IfOk result FitsBlock }
-    ensures born { IfOk result (λ after. after.birth ≡ group) }
-    ensures copies { IfOk result (λ after. length (dvas after.copies) ≡ 3) }
+    ensures fits { IfOk result (λ after. FitsBlock after.root) }
+    ensures born { IfOk result (λ after. after.root.birth ≡ group) }
+    ensures copies { IfOk result (λ after. length (dvas after.root.copies) ≡ 3) }
 
-    // It spells the pool after the group, once the plan is stored, and has the other tables that there were.
+    // It spells the pool after the group, once the plan is stored, and has the other tables that there were. The blocks that
+    // gave way are those that the root before leads to and this one doesn't; what is planned is what it leads to besides.
     ensures value { IfOk result (λ after. (stored planned : Contents) (pool : PlainPool)
         → Plans store.old stored planned → (is : SpellsPool stored (group - 1) root.now pool)
         → AnswersAreTrue store.old store.new
         → (later : Contents) × Plans store.new stored later × Extends planned later
-        × (then : SpellsPool later group after (applied group pool items.now))
+        × (then : SpellsPool later group after.root (applied group pool items.now))
         × ((vdevs : List PlainVdev) → HasFirstTables is.objects vdevs
-        → HasFirstTables then.objects vdevs)) }
+        → HasFirstTables then.objects vdevs)
+        × IsReachExchanged group planned later (reach_of is) (reach_of then)
+        after.replaced.items) }
 
     // Over disks that answer truly, and where all may be made, only room is wanting, or disks.
     ensures known { IfErr result (λ refusal. (stored planned : Contents) (pool : PlainPool)
@@ -100,8 +114,22 @@ pub fn after_group<D: Disk + Drop>(
 {
     let opened = open_group(root, store, alloc, group - 1, items)?;
     let set = opened.set;
-    let changes = changes_of(opened, store, alloc, group, items.actions())?;
-    plan_root(&set, store, alloc, &changes, group)
+    let mut replaced = only(root, alloc)?;
+    let changes = changes_of(opened, store, alloc, group, items.actions(), &mut replaced)?;
+    let next = plan_root(&set, store, alloc, &changes, group, &mut replaced)?;
+    Ok(NextRoot {
+        root: next,
+        replaced,
+    })
+}
+
+/// A list with one block.
+fn only(block: &Block, alloc: Global) -> Result<Vec<Block>, AllocError>
+    ensures { IfOk result (λ blocks. blocks.items ≡ block.now ∷ []) }
+{
+    let mut blocks = Vec::new(alloc);
+    blocks.push(*block)?;
+    Ok(blocks)
 }
 
 /// Reads what the group is planned from. The root was born in the transaction group `birth` or before.
@@ -138,13 +166,15 @@ fn open_group<D: Disk + Drop>(
     })
 }
 
-/// Plans the volumes after the group: the changes of the meta object set, in the order of their objects' numbers.
+/// Plans the volumes after the group: the changes of the meta object set, in the order of their objects' numbers. The volumes'
+/// blocks that gave way to others come behind those in `replaced`.
 fn changes_of<D: Disk + Drop>(
     opened: Opened,
     store: &mut BlockStore<D>,
     alloc: Global,
     group: u64,
     actions: &[Action],
+    replaced: &mut Vec<Block>,
 ) -> Result<Vec<ObjectChange>, Refusal>
     requires born { 0 < group }
     requires opened { (writes : List Write) × IsOpened writes opened }
@@ -162,8 +192,12 @@ fn changes_of<D: Disk + Drop>(
         → IsOpenedFrom stored birth root pool is writes opened
         → AnswersAreTrue store.old store.new
         → (later : Contents) × Plans store.new stored later × Extends planned later
-        × SpellsAfter later group is.objects changes.items
-        (fold (λ p a. pool_changed group p a.change) (fold written pool writes) actions.now)) }
+        × (lists : ℕ → List Block) × (then : SpellsAfter later group is.objects lists changes.items
+        (fold (λ p a. pool_changed group p a.change) (fold written pool writes) actions.now))
+        × (gone : List Block) × (replaced.new.items ≡ replaced.old.items ++ gone)
+        × IsReachExchanged group planned later
+        (joined (parts_of stored root.birth is.objects is.rows pool.volumes is.volumes))
+        (blocks_listed lists then.rows) gone) }
     ensures known { IfErr result (λ refusal. (stored planned : Contents) (birth : ℕ)
         (root : Block) (pool : PlainPool) (writes : List Write)
         → Plans store.old stored planned → (is : SpellsPool stored birth root pool)
@@ -177,7 +211,14 @@ fn changes_of<D: Disk + Drop>(
         (AreVolumesRefused store.old store.new group opened actions.now) }
 {
     let next = opened.set.objects.max(FIRST_OBJECT);
-    let changes = place_written(store, alloc, group, opened.set.objects, opened.written)?;
+    let changes = place_written(
+        store,
+        alloc,
+        group,
+        opened.set.objects,
+        opened.written,
+        replaced,
+    )?;
     let count = changes.len();
     let mut making = Making {
         directory: opened.directory,
@@ -199,10 +240,12 @@ fn with_directory(making: Making, alloc: Global, count: usize) -> Result<Vec<Obj
     ensures good { IfOk result (λ changes. All (λ change. IsGoodChange change.change)
         changes.items) }
     ensures value { IfOk result (λ changes. (stored : Contents) (birth : ℕ)
-        (objects : ℕ → Option Object) (pool : PlainPool) (rows : List DirectoryRow)
-        → HasDirectory (objects 1) rows → SpellsMaking stored birth objects making pool
+        (objects : ℕ → Option Object) (lists : ℕ → List Block) (pool : PlainPool)
+        (rows : List DirectoryRow)
+        → HasDirectory (objects 1) rows → SpellsMaking stored birth objects lists making pool
         → (length making.changes.items ≡ count → making.directory ≡ rows)
-        → SpellsAfter stored birth objects changes.items pool) }
+        → (then : SpellsAfter stored birth objects lists changes.items pool)
+        × (then.rows ≡ making.directory)) }
     ensures same { IfOk result (λ changes. length making.changes.items ≡ count
         → changes.items ≡ making.changes.items) }
     ensures more { IfOk result (λ changes. length making.changes.items ≢ count
@@ -252,13 +295,15 @@ fn directory_change(directory: &Directory, alloc: Global) -> Result<ObjectChange
     }
 }
 
-/// Plans a meta object set with these changes, and its block. All blocks have three copies.
+/// Plans a meta object set with these changes, and its block. All blocks have three copies. The set's blocks that gave way to
+/// others come behind those in `replaced`.
 pub(crate) fn plan_root<D: Disk + Drop>(
     set: &ObjectSet,
     store: &mut BlockStore<D>,
     alloc: Global,
     changes: &[ObjectChange],
     group: u64,
+    replaced: &mut Vec<Block>,
 ) -> Result<Block, Refusal>
     requires set { FitsObjectSet set.now }
     requires kind { set.now.kind ≡ sets.Meta }
@@ -276,7 +321,10 @@ pub(crate) fn plan_root<D: Disk + Drop>(
         → Plans store.old stored planned → AreObjects stored bound set.now objects own blocks
         → bound ≤ group → AnswersAreTrue store.old store.new
         → (later : Contents) × Plans store.new stored later × Extends planned later
-        × IsSetOf later group root set.now.kind (changed changes.now objects)) }
+        × (then : IsSetOf later group root set.now.kind (changed changes.now objects))
+        × (gone : List Block) × (replaced.new.items ≡ replaced.old.items ++ gone)
+        × IsReachExchanged group planned later (blocks_of_set set.now own blocks)
+        (root ∷ blocks_of_set then.set then.own then.blocks) gone) }
     ensures no_room { IfErr result (λ refusal. refusal ≡ Refusal.NoSpace
         → HasNoRoom store.old store.new [] (copies_of sets.Meta)
         ⊎ HasNoRoomFor store.old store.new [] 2 3) }
@@ -292,5 +340,6 @@ pub(crate) fn plan_root<D: Disk + Drop>(
         (IsRootRefused store.old store.new set.now group changes.now) }
 {
     let rewrite = objset::change(set, store, alloc, changes, group, &[])?;
+    replaced.extend_from_slice(&rewrite.replaced)?;
     plan_set(&rewrite.set, store, alloc, group)
 }

@@ -1,5 +1,5 @@
 //! What follows from the definitions, as functions with no body.
-ghost use Rattle.dataset_snapshots.specs.Laws.{GoodChangesMayBeMade, LossesOfDatasets, LossesOfFirstGroups, LossesOfGroups, LossesOfRanges, ReachesLieApart, RootsStay};
+ghost use Rattle.dataset_snapshots.specs.Laws.{GoodChangesMayBeMade, LossesOfDatasets, LossesOfFirstGroups, LossesOfGroups, LossesOfRanges, ReachesLieApart, ReplacedOfGroupsLeave, RootsStay};
 
 /// A root spells its pool where more blocks are known, and for a later group.
 pub fn roots_stay()
@@ -34,4 +34,10 @@ pub fn good_changes_may_be_made()
 /// Of the blocks that a stored root leads to no two copies share a sector.
 pub fn reaches_lie_apart()
     ensures { ReachesLieApart }
+{}
+
+/// Where a stored root leads to no block twice, the blocks that a group replaced are those that the root before leads to and the
+/// root after doesn't.
+pub fn replaced_of_groups_leave()
+    ensures { ReplacedOfGroupsLeave }
 {}

@@ -14,10 +14,10 @@ mod writing;
 pub use block_store::Refusal;
 pub use finding::{Dataset, find};
 pub use first_root::first_group;
-pub use groups::after_group;
+pub use groups::{NextRoot, after_group};
 pub use laws::{
     good_changes_may_be_made, losses_of_datasets, losses_of_first_groups, losses_of_groups,
-    losses_of_ranges, reaches_lie_apart, roots_stay,
+    losses_of_ranges, reaches_lie_apart, replaced_of_groups_leave, roots_stay,
 };
 pub use ranges::{VolumeRange, read_range};
 pub use walks::reach;

@@ -1,5 +1,6 @@
 //! Volumes that a group makes.
-ghost use Rattle.std.specs.Prelude.{◌≡◌, ◌⊎◌, ◌+◌, ◌<◌, ◌≤◌, ◌++◌, ◌∷◌, ℕ, [], Option, fold, OnOk, IfErr};
+ghost use Rattle.std.specs.Prelude.{◌≡◌, ◌⊎◌, ◌+◌, ◌<◌, ◌≤◌, ◌++◌, ◌∷◌, ℕ, List, [], Option, fold, OnOk, IfErr};
+ghost use Rattle.block_pointer.specs.declared.block.Block.{Block};
 ghost use Rattle.block_store.specs.Blocks.{Contents, Extends};
 ghost use Rattle.block_store.specs.Plans.{Plans};
 ghost use Rattle.block_store.specs.Steps.{OnlyReadsAndPlans, AnswersAreTrue};
@@ -11,8 +12,10 @@ ghost use Rattle.objset.specs.Objects.{Object};
 ghost use Rattle.pool_model.specs.Pools.{PlainPool, changed};
 ghost use Rattle.volume.specs.Placing.{LacksRoom};
 ghost use Rattle.dataset_snapshots.specs.Demands.{IsActionRefused, IsMakingRefused, MakesAll, MakesOne};
+ghost use Rattle.dataset_snapshots.specs.Leaving.{IsReachExchanged};
 ghost use Rattle.dataset_snapshots.specs.NewVolumes.{IsAdded, MakesObjects};
 ghost use Rattle.dataset_snapshots.specs.Making.{AreGoodCreations, GoesOn, HasNoNumbers, IsGoodCreation, IsReady, SpellsMaking, numbers_end};
+ghost use Rattle.dataset_snapshots.specs.Reach.{blocks_listed};
 
 use crate::new_volume::NewVolume;
 use block_store::{BlockStore, Refusal};
@@ -67,12 +70,14 @@ impl Making {
         ensures ready { OnOk result (IsReady self.new) }
         ensures goes_on { OnOk result (GoesOn self.old self.new) }
         ensures value { OnOk result ((stored planned : Contents) (objects : ℕ → Option Object)
-            (pool : PlainPool) → Plans store.old stored planned
-            → SpellsMaking planned group objects self.old pool
+            (lists : ℕ → List Block) (pool : PlainPool) → Plans store.old stored planned
+            → SpellsMaking planned group objects lists self.old pool
             → AnswersAreTrue store.old store.new
             → (later : Contents) × Plans store.new stored later × Extends planned later
-            × SpellsMaking later group objects self.new
-            (fold (λ p a. changed group p a.change) pool actions.now)) }
+            × (new : ℕ → List Block) × SpellsMaking later group objects new self.new
+            (fold (λ p a. changed group p a.change) pool actions.now)
+            × IsReachExchanged group planned later (blocks_listed lists self.old.directory)
+            (blocks_listed new self.new.directory) []) }
         ensures bad { IfErr result (λ refusal. refusal ≡ Refusal.BadConfig
             → ¬ AreGoodCreations actions.now) }
         ensures no_room { IfErr result (λ refusal. refusal ≡ Refusal.NoSpace
@@ -114,9 +119,12 @@ impl Making {
         ensures value { OnOk result ((stored planned : Contents) → Plans store.old stored planned
             → AnswersAreTrue store.old store.new
             → (later : Contents) × Plans store.new stored later × Extends planned later
-            × ((objects : ℕ → Option Object) (pool : PlainPool)
-            → SpellsMaking planned group objects self.old pool
-            → SpellsMaking later group objects self.new (changed group pool change.now))) }
+            × ((objects : ℕ → Option Object) (lists : ℕ → List Block) (pool : PlainPool)
+            → SpellsMaking planned group objects lists self.old pool
+            → (new : ℕ → List Block)
+            × SpellsMaking later group objects new self.new (changed group pool change.now)
+            × IsReachExchanged group planned later (blocks_listed lists self.old.directory)
+            (blocks_listed new self.new.directory) [])) }
         ensures bad { IfErr result (λ refusal. refusal ≡ Refusal.BadConfig
             → ¬ IsGoodCreation change.now) }
         ensures no_room { IfErr result (λ refusal. refusal ≡ Refusal.NoSpace

@@ -10,6 +10,8 @@ ghost use Rattle.meta_objset.specs.Record.{FitsRecord};
 ghost use Rattle.volume_rules.specs.GoodChanges.{is_good_size};
 ghost use Rattle.volume.specs.Placing.{LacksRoom};
 ghost use Rattle.volume.specs.Volume.{IsVolume};
+ghost use Rattle.volume.specs.Walking.{blocks_of_volume};
+ghost use Rattle.dataset_snapshots.specs.Leaving.{IsReachExchanged};
 
 use block_pointer::Block;
 use block_store::{BlockStore, Refusal};
@@ -96,8 +98,10 @@ impl NewVolume {
         ensures value { IfOk result (λ object_set. (stored planned : Contents)
             → Plans store.old stored planned → AnswersAreTrue store.old store.new
             → (later : Contents) × Plans store.new stored later × Extends planned later
-            × IsVolume later group object_set self.now.size self.now.block_size
-            (replicate self.now.size 0)) }
+            × (is : IsVolume later group object_set self.now.size self.now.block_size
+            (replicate self.now.size 0))
+            × IsReachExchanged group planned later []
+            (blocks_of_volume object_set is.set is.has.own is.has.blocks) []) }
         ensures cause { IfErr result (λ refusal. refusal ≢ Refusal.BadConfig) }
         ensures no_room { IfErr result (λ refusal. refusal ≡ Refusal.NoSpace
             → LacksRoom store.old store.new) }

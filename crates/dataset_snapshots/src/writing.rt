@@ -1,6 +1,6 @@
 //! The volumes that a group writes to: what is read of them, and their records after the writes.
 ghost use Rattle.std.specs.Prelude.{◌≡◌, ◌⊎◌, ◌↔◌, ◌<◌, ◌≤◌, ◌++◌, ◌∷◌, [], ℕ, List, Option, Contains, All, map, IfOk, IfErr, IfSome, IfNone, OnOk};
-ghost use Rattle.std.specs.List.{AllZip};
+ghost use Rattle.std.specs.List.{AllZip, flat_map};
 ghost use Rattle.std.specs.List.Sorted.{IsStrictlyIncreasing};
 ghost use Rattle.block_pointer.specs.declared.block.Block.{Block};
 ghost use Rattle.block_store.specs.Blocks.{Contents, Extends};
@@ -10,6 +10,7 @@ ghost use Rattle.block_store.specs.Plans.{Plans};
 ghost use Rattle.block_store.specs.Steps.{OnlyReadsAndPlans, OnlyReadsBlocks, AnswersAreTrue};
 ghost use Rattle.block_store.specs.Store.{Holds};
 ghost use Rattle.dnode.specs.ObjectSet.{FitsObjectSet};
+ghost use Rattle.dnode_tree.specs.Subtree.{joined};
 ghost use Rattle.dnode_tree.specs.Writes.{IsForRoom};
 ghost use Rattle.meta_objset.specs.declared.directory.DirectoryRow.{DirectoryRow};
 ghost use Rattle.meta_objset.specs.Names.{IsName, IsNamed};
@@ -22,9 +23,11 @@ ghost use Rattle.volume.specs.Demands.{IsPlacingRefused};
 ghost use Rattle.volume.specs.Volume.{Spells, block_size_of};
 ghost use Rattle.volume.specs.Writing.{AreBlocksOf, IsArrayWith};
 ghost use Rattle.dataset_snapshots.specs.Demands.{HavePlacesFor, HasVolumeDemands, IsVolumeUnplaced, WritesRecord};
+ghost use Rattle.dataset_snapshots.specs.Leaving.{IsReachExchanged};
 ghost use Rattle.dataset_snapshots.specs.Opening.{AreBlocksFound, AreBlocksRefused, IsOneUnread, IsWrittenFound, IsWrittenOf, IsWrittenRefused};
 ghost use Rattle.dataset_snapshots.specs.Pools.{SpellsDataset};
-ghost use Rattle.dataset_snapshots.specs.Writing.{ChangesRecord, FitsWritten, HasRow, IsChangedFrom, IsReadFor, IsReadFrom, IsWritten, SpellsEach};
+ghost use Rattle.dataset_snapshots.specs.Reach.{blocks_of_dataset};
+ghost use Rattle.dataset_snapshots.specs.Writing.{AreChangedFrom, ChangesRecord, FitsWritten, HasRow, IsReadFor, IsReadFrom, IsWritten, SpellsEach, blocks_of_change, numbers_of};
 
 use crate::finding::{Dataset, number_in, read_dataset};
 use block_pointer::Block;
@@ -203,7 +206,8 @@ fn push(read: &mut Vec<WrittenVolume>, written: WrittenVolume) -> Result<(), All
 }
 
 /// Plans these volumes with their blocks in the transaction group `group`: the changes that give their objects the records after
-/// them, in the same order. The volumes before were born in that group or before.
+/// them, in the same order. The volumes before were born in that group or before. Their blocks that gave way to others come
+/// behind those in `replaced`.
 ///
 /// After an error volumes may be planned that no root has: begin another plan.
 pub(crate) fn place_written<D: Disk + Drop>(
@@ -212,6 +216,7 @@ pub(crate) fn place_written<D: Disk + Drop>(
     group: u64,
     objects: u64,
     written: Vec<WrittenVolume>,
+    replaced: &mut Vec<Block>,
 ) -> Result<Vec<ObjectChange>, Refusal>
     requires born { 0 < group }
     requires fits { All (FitsWritten objects) written.items }
@@ -222,18 +227,22 @@ pub(crate) fn place_written<D: Disk + Drop>(
         changes.items) }
     ensures value { IfOk result (λ changes. (stored planned : Contents) (bound : ℕ)
         (there : ℕ → Option Object) (writes : List Write) (rows : List DirectoryRow)
-        (volumes : ℕ → PlainVolume)
+        (volumes : ℕ → PlainVolume) (lists : ℕ → List Block)
         → Plans store.old stored planned → bound ≤ group → AnswersAreTrue store.old store.new
         → All (IsReadFrom stored bound there writes rows) written.items
-        → SpellsEach stored bound there rows volumes
+        → SpellsEach stored bound there rows volumes lists
         → (later : Contents) × Plans store.new stored later × Extends planned later
-        × All (IsChangedFrom later group there volumes writes) changes.items) }
+        × (parts : List (List Block))
+        × AreChangedFrom later group there volumes writes changes.items parts
+        × (gone : List Block) × (replaced.new.items ≡ replaced.old.items ++ gone)
+        × IsReachExchanged group planned later (flat_map lists (numbers_of changes.items))
+        (joined parts) gone) }
     ensures known { IfErr result (λ refusal. (stored planned : Contents) (bound : ℕ)
         (there : ℕ → Option Object) (writes : List Write) (rows : List DirectoryRow)
-        (volumes : ℕ → PlainVolume)
+        (volumes : ℕ → PlainVolume) (lists : ℕ → List Block)
         → Plans store.old stored planned → bound ≤ group → AnswersAreTrue store.old store.new
         → All (IsReadFrom stored bound there writes rows) written.items
-        → SpellsEach stored bound there rows volumes
+        → SpellsEach stored bound there rows volumes lists
         → IsForRoom refusal ⊎ (refusal ≡ Refusal.DiskFault)) }
 
     // Whatever the volumes are: what places are taken for, and on a refusal its cause.
@@ -247,7 +256,7 @@ pub(crate) fn place_written<D: Disk + Drop>(
     let mut changes = Vec::new(alloc);
     let mut left = VecDeque::from_vec(written);
     'placing: while let Some(next) = left.pop_front() {
-        let change = place_one(store, alloc, group, objects, next)?;
+        let change = place_one(store, alloc, group, objects, next, replaced)?;
         push_change(&mut changes, change)?;
     }
     Ok(changes)
@@ -260,6 +269,7 @@ fn place_one<D: Disk + Drop>(
     group: u64,
     objects: u64,
     written: WrittenVolume,
+    replaced: &mut Vec<Block>,
 ) -> Result<ObjectChange, Refusal>
     requires born { 0 < group }
     requires fits { FitsWritten objects written }
@@ -271,10 +281,13 @@ fn place_one<D: Disk + Drop>(
         (volume : PlainVolume)
         → Plans store.old stored planned → bound ≤ group → AnswersAreTrue store.old store.new
         → IsReadFor stored bound there writes row written
-        → SpellsDataset stored bound there row volume
+        → (is : SpellsDataset stored bound there row volume)
         → (later : Contents) × Plans store.new stored later × Extends planned later
-        × ChangesRecord later group there row.object (after_writes volume writes)
-        change.change) }
+        × (to : ChangesRecord later group there row.object (after_writes volume writes)
+        change.change)
+        × (gone : List Block) × (replaced.new.items ≡ replaced.old.items ++ gone)
+        × IsReachExchanged group planned later (blocks_of_dataset is) (blocks_of_change to)
+        gone) }
     ensures known { IfErr result (λ refusal. (stored planned : Contents) (bound : ℕ)
         (there : ℕ → Option Object) (writes : List Write) (row : DirectoryRow)
         (volume : PlainVolume)
@@ -291,6 +304,7 @@ fn place_one<D: Disk + Drop>(
 {
     let WrittenVolume { dataset, blocks } = written;
     let placed = dataset.volume.placed(store, alloc, blocks, group)?;
+    replaced.extend_from_slice(&placed.replaced)?;
     let record = with_object_set(&dataset.record, placed.volume.block());
     Ok(ObjectChange {
         number: dataset.object,

@@ -45,11 +45,11 @@ returns-clause-value g c =
     (λ root both stored planned plans honest.
     let volumes = c.in_ok-making.ensures.value stored planned plans
     (true_before c.args.store.now c.first_volumes.new.store c.plan_root.new.store c.plan_root.ensures.steps.reads honest) in
-    let spells = subst (λ (pool : PlainPool). SpellsMaking volumes.0 c.args.group nothing making pool) (pool_first c.args.group c.args.items.now c.actions.result.now c.actions.ensures) volumes.3 in
+    let spells = subst (λ (pool : PlainPool). SpellsMaking volumes.0 c.args.group nothing volumes.3 making pool) (pool_first c.args.group c.args.items.now c.actions.result.now c.actions.ensures) volumes.4 in
     let planned_root = both.0 stored volumes.0 0 nothing [] (λ number. []) volumes.1 (no_objects stored 0 empty_meta refl) (omega arith)
     (true_after c.args.store.now c.first_volumes.new.store c.plan_root.new.store c.in_ok-making.ensures.steps.reads honest) in
     let set = subst (λ (cs : List ObjectChange). IsSetOf planned_root.0 c.args.group root sets.Meta (changed cs nothing)) c.deref.ensures.value planned_root.3 in
-    let is = spells_first (config_view c.args.config.now) making list c.in_ok-making.ensures.ready c.in_ok-changes.ensures.tables volumes.0 planned_root.0 c.args.group root _ spells planned_root.2 set
+    let is = spells_first (config_view c.args.config.now) making list c.in_ok-making.ensures.ready c.in_ok-changes.ensures.tables volumes.0 planned_root.0 c.args.group root volumes.3 _ spells planned_root.2 set
     both.1 in (
       planned_root.0,
       planned_root.1,
@@ -70,7 +70,7 @@ returns-clause-known g c =
     why stored volumes.0 0 nothing [] (λ number. []) volumes.1 (no_objects stored 0 empty_meta refl) (omega arith)
     (true_after c.args.store.now c.first_volumes.new.store c.plan_root.new.store c.in_ok-making.ensures.steps.reads honest)
     (subst (All (λ (change : ObjectChange). MayChange change.change (nothing change.number))) (sym c.deref.ensures.value)
-    (first_may (config_view c.args.config.now) c.in_ok-making.making list c.in_ok-making.ensures.ready c.in_ok-changes.ensures.tables volumes.0 c.args.group pool volumes.3)))
+    (first_may (config_view c.args.config.now) c.in_ok-making.making list c.in_ok-making.ensures.ready c.in_ok-changes.ensures.tables volumes.0 c.args.group volumes.3 pool volumes.4)))
     c.plan_root.ensures.known
 
 pub returns-clause-places : goal.returns-clause-places

@@ -1,4 +1,4 @@
-use Rattle.std.proofs.Common.{◌≤◌, ◌-◌, [], List, sym, subst, refl, arith}
+use Rattle.std.proofs.Common.{◌≤◌, ◌-◌, ◌++◌, [], List, ap, sym, subst, ◌∙◌, refl, arith}
 use Rattle.std.specs.Prelude.{All, fold}
 use Rattle.std.proofs.lemmas.Result.{IfOk-weaker, IfErr-weaker}
 use Rattle.block_store.proofs.Steps.{steps_on, steps_read, true_before, true_after}
@@ -11,7 +11,15 @@ use Rattle.pool_model.specs.declared.item.Action.{Action}
 use Rattle.pool_model.specs.declared.item.Write.{Write}
 use Rattle.pool_model.specs.Pools.{applied, written}
 use Rattle.pool_model.specs.Pools.{changed as pool_changed}
-use Rattle.dataset_snapshots.specs.Groups.{IsSetOf, SpellsAfter}
+use Rattle.dnode.specs.declared.object_set.ObjectSet.{ObjectSet}
+use Rattle.dnode.specs.declared.object_set.ObjectSetKind.TheVariants.{Meta}
+use Rattle.block_pointer.specs.declared.block.Block.{Block}
+use Rattle.dnode_tree.specs.Subtree.{joined}
+use Rattle.objset.specs.Within.{blocks_of_set}
+use Rattle.pool_model.specs.Pools.{PlainPool}
+use Rattle.dataset_snapshots.specs.Leaving.{IsReachExchanged}
+use Rattle.dataset_snapshots.specs.Reach.{blocks_listed, parts_of, reach_of}
+use Rattle.dataset_snapshots.proofs.GroupReach.{AreVolumesGiven, IsRootGiven, group_given}
 use Rattle.dataset_snapshots.specs.Making.{AreGoodCreations}
 use Rattle.dataset_snapshots.proofs.Datasets.{are_of_root}
 use Rattle.dataset_snapshots.proofs.GroupRoot.{spells_root}
@@ -49,44 +57,61 @@ returns-clause-value g c =
     let first = c.in_ok-opened.ensures.reads in
     let second = c.in_ok-changes.ensures.steps in
     let both = steps_on c.args.store.now c.open_group.new.store c.changes_of.new.store [] (steps_read c.args.store.now c.open_group.new.store [] first) second in
-    IfOk-weaker c.plan_root.result _ _ (λ root planned_root stored planned pool plans is honest.
+    let root = c.in_ok-next.next in
+    λ stored planned pool plans is honest.
     let so_far = true_before c.args.store.now c.changes_of.new.store c.plan_root.new.store c.plan_root.ensures.steps.reads honest in
     let le : c.args.root.now.birth ≤ c.args.group = omega (arith, c.in_ok-opened.ensures.early) in
     let from = c.in_ok-opened.ensures.value stored pool plans.held is (true_before c.args.store.now c.open_group.new.store c.changes_of.new.store second.reads so_far) in
     let changes = c.in_ok-changes.ensures.value stored planned _ c.args.root.now pool _ (first.plans stored planned plans) is le c.in_ok-opened.ensures.opened from
     (true_after c.args.store.now c.open_group.new.store c.changes_of.new.store first.reads so_far) in
     let are = are_of_root stored _ c.args.root.now pool c.in_ok-opened.opened.set is from.set in
-    let made = planned_root.0 stored changes.0 c.args.root.now.birth is.objects is.own is.blocks changes.1 are le
+    let made = c.in_ok-next.ensures.value stored changes.0 c.args.root.now.birth is.objects is.own is.blocks changes.1 are le
     (true_after c.args.store.now c.changes_of.new.store c.plan_root.new.store both.reads honest) in
     let list : List ObjectChange = c.in_ok-changes.changes.items in
-    let of_list : IsSetOf made.0 c.args.group root c.in_ok-opened.opened.set.kind (changed list is.objects) =
-    subst (λ (cs : List ObjectChange). IsSetOf made.0 c.args.group root c.in_ok-opened.opened.set.kind (changed cs is.objects)) c.deref.ensures.value made.3 in
-    let set = subst (λ (kind : ObjectSetKind). IsSetOf made.0 c.args.group root kind (changed list is.objects)) c.in_ok-opened.ensures.kind of_list in
-    let of_items = subst (λ (actions : List Action). SpellsAfter changes.0 c.args.group is.objects list
-    (fold (λ p a. pool_changed c.args.group p a.change) (fold written pool c.args.items.now.writes) actions)) c.actions.ensures changes.3 in
-    let spells = spells_root changes.0 made.0 c.args.group root is.objects list (applied c.args.group pool c.args.items.now) of_items made.2 set planned_root.1 in (
+    let of_list : IsRootGiven changes.0 made.0 c.args.group root c.in_ok-opened.opened.set.kind (changed list is.objects) (blocks_of_set c.in_ok-opened.opened.set is.own is.blocks) made.4 =
+    subst (λ (cs : List ObjectChange). IsRootGiven changes.0 made.0 c.args.group root c.in_ok-opened.opened.set.kind (changed cs is.objects)
+    (blocks_of_set c.in_ok-opened.opened.set is.own is.blocks) made.4) c.deref.ensures.value (made.3, made.6) in
+    let of_kind = subst (λ (kind : ObjectSetKind). IsRootGiven changes.0 made.0 c.args.group root kind (changed list is.objects) (blocks_of_set c.in_ok-opened.opened.set is.own is.blocks) made.4)
+    c.in_ok-opened.ensures.kind of_list in
+    let set = subst (λ (s : ObjectSet). IsRootGiven changes.0 made.0 c.args.group root Meta (changed list is.objects) (blocks_of_set s is.own is.blocks) made.4) from.set of_kind in
+    let items : List Action → PlainPool = λ actions. fold (λ p a. pool_changed c.args.group p a.change) (fold written pool c.args.items.now.writes) actions in
+    let of_items : AreVolumesGiven planned changes.0 c.args.group is.objects list changes.3 (items c.args.items.now.actions)
+    (joined (parts_of stored c.args.root.now.birth is.objects is.rows pool.volumes is.volumes)) changes.5 =
+    subst (λ (actions : List Action). AreVolumesGiven planned changes.0 c.args.group is.objects list changes.3 (items actions)
+    (joined (parts_of stored c.args.root.now.birth is.objects is.rows pool.volumes is.volumes)) changes.5) c.actions.ensures (changes.4, changes.7) in
+    let spells = spells_root changes.0 made.0 c.args.group root is.objects changes.3 list (applied c.args.group pool c.args.items.now) of_items.0 made.2 set.0 c.in_ok-next.ensures.born in (
       made.0,
       made.1,
       λ block bytes known. made.2 block bytes (changes.2 block bytes known),
       spells.0,
       spells.1,
-    )) (ok_both c.plan_root.result _ _ c.plan_root.ensures.value c.plan_root.ensures.born)
+      subst (λ (blocks : List Block). IsReachExchanged c.args.group planned made.0 (reach_of is) blocks c.plan_root.new.replaced.items) (sym spells.2)
+          (group_given planned changes.0 made.0 c.args.group c.args.root.now root (joined (parts_of stored c.args.root.now.birth is.objects is.rows pool.volumes is.volumes))
+          (blocks_listed changes.3 of_items.0.rows) (blocks_of_set is.set is.own is.blocks) (blocks_of_set set.0.set set.0.own set.0.blocks) changes.5 made.4 c.plan_root.new.replaced.items
+          changes.2 made.2 of_items.1 set.1 (made.5 ∙ ap (λ (bs : List Block). bs ++ made.4) (changes.6 ∙ ap (λ (bs : List Block). bs ++ changes.5) c.in_ok-replaced.ensures))),
+    )
 
-pub returns-clause-known : goal.returns-clause-known
-returns-clause-known g c =
+pub returns-in_err-next-clause-steps : goal.returns-in_err-next-clause-steps
+returns-in_err-next-clause-steps g c = steps_on _ _ _ _ (steps_on _ _ _ _ (steps_read _ _ _ c.in_ok-opened.ensures.reads) c.in_ok-changes.ensures.steps) c.plan_root.ensures.steps
+
+pub returns-in_err-replaced-clause-steps : goal.returns-in_err-replaced-clause-steps
+returns-in_err-replaced-clause-steps g c = steps_read _ _ _ c.in_ok-opened.ensures.reads
+
+pub returns-in_err-next-clause-known : goal.returns-in_err-next-clause-known
+returns-in_err-next-clause-known g c =
     let first = c.in_ok-opened.ensures.reads in
     let second = c.in_ok-changes.ensures.steps in
     let both = steps_on c.args.store.now c.open_group.new.store c.changes_of.new.store [] (steps_read c.args.store.now c.open_group.new.store [] first) second in
-    IfErr-weaker c.plan_root.result _ _ (λ refusal why stored planned pool plans is honest good.
+    passed_on _ _ _ c.from_residual-in_err-next.ensures.1 (λ stored planned pool plans is honest good.
     let so_far = true_before c.args.store.now c.changes_of.new.store c.plan_root.new.store c.plan_root.ensures.steps.reads honest in
     let le : c.args.root.now.birth ≤ c.args.group = omega (arith, c.in_ok-opened.ensures.early) in
     let from = c.in_ok-opened.ensures.value stored pool plans.held is (true_before c.args.store.now c.open_group.new.store c.changes_of.new.store second.reads so_far) in
     let changes = c.in_ok-changes.ensures.value stored planned _ c.args.root.now pool _ (first.plans stored planned plans) is le c.in_ok-opened.ensures.opened from
     (true_after c.args.store.now c.open_group.new.store c.changes_of.new.store first.reads so_far) in
     let are = are_of_root stored _ c.args.root.now pool c.in_ok-opened.opened.set is from.set in
-    why stored changes.0 c.args.root.now.birth is.objects is.own is.blocks changes.1 are le
+    c.in_err-next.ensures.known stored changes.0 c.args.root.now.birth is.objects is.own is.blocks changes.1 are le
     (true_after c.args.store.now c.changes_of.new.store c.plan_root.new.store both.reads honest)
-    (subst (All (λ (change : ObjectChange). MayChange change.change (is.objects change.number))) (sym c.deref.ensures.value) changes.3.may)) c.plan_root.ensures.known
+    (subst (All (λ (change : ObjectChange). MayChange change.change (is.objects change.number))) (sym c.deref.ensures.value) changes.4.may))
 
 pub returns-in_err-opened-clause-refused : goal.returns-in_err-opened-clause-refused
 returns-in_err-opened-clause-refused g c =
@@ -113,22 +138,19 @@ returns-clause-places g c =
     let list : List ObjectChange = c.in_ok-changes.changes.items in
     let found = c.in_ok-opened.ensures.found in
     let volumes = subst (λ (actions : List Action). HasVolumePlaces c.open_group.new.store c.changes_of.new.store c.args.group opened actions list) c.actions.ensures c.in_ok-changes.ensures.places in
-    on_ok_so c.plan_root.result _ _
-    (λ has.
     group_has c.args.store.now c.open_group.new.store c.changes_of.new.store c.plan_root.new.store c.args.root.now c.args.group c.args.items.now opened c.in_ok-opened.ensures.reads found list
     c.in_ok-changes.ensures.steps volumes
-    (subst (λ (cs : List ObjectChange). HasRootPlaces c.changes_of.new.store c.plan_root.new.store opened.set c.args.group cs) c.deref.ensures.value has))
-    c.plan_root.ensures.places
+    (subst (λ (cs : List ObjectChange). HasRootPlaces c.changes_of.new.store c.plan_root.new.store opened.set c.args.group cs) c.deref.ensures.value c.in_ok-next.ensures.places)
 
-pub returns-clause-refused : goal.returns-clause-refused
-returns-clause-refused g c =
+pub returns-in_err-next-clause-refused : goal.returns-in_err-next-clause-refused
+returns-in_err-next-clause-refused g c =
     let opened = c.in_ok-opened.opened in
     let list : List ObjectChange = c.in_ok-changes.changes.items in
     let found = c.in_ok-opened.ensures.found in
     let volumes = subst (λ (actions : List Action). HasVolumePlaces c.open_group.new.store c.changes_of.new.store c.args.group opened actions list) c.actions.ensures c.in_ok-changes.ensures.places in
-    IfErr-weaker c.plan_root.result _ _
+    IfErr-weaker c.from_residual-in_err-next.result _ _
     (λ refusal why.
     group_changes_refused c.args.store.now c.open_group.new.store c.changes_of.new.store c.plan_root.new.store c.args.root.now c.args.group c.args.items.now opened c.in_ok-opened.ensures.reads found list refusal
     c.in_ok-changes.ensures.steps volumes
     (subst (λ (cs : List ObjectChange). IsRootRefused c.changes_of.new.store c.plan_root.new.store opened.set c.args.group cs refusal) c.deref.ensures.value why))
-    c.plan_root.ensures.refused
+    (passed_on _ _ _ c.from_residual-in_err-next.ensures.1 c.in_err-next.ensures.refused)

@@ -1,10 +1,11 @@
-use Rattle.std.proofs.Common.{◌≡◌, ◌∙◌, ℕ, [], List, All, ap, inl, inr, ⊎_elim, subst, arith}
+use Rattle.std.proofs.Common.{◌≡◌, ◌∙◌, ◌++◌, ℕ, [], List, All, ap, inl, inr, ⊎_elim, subst, arith}
 use Rattle.std.specs.Prelude.{Any}
 use Rattle.std.proofs.lemmas.Result.{IfOk-weaker, IfErr-weaker}
 use Rattle.dataset_snapshots.proofs.GroupDemands.{err_both, objects_refused, ok_so, root_places, root_refused}
 use Rattle.block_store.proofs.Steps.{no_room_now, no_room_on, steps_on, true_before}
 use Rattle.dnode_tree.proofs.Refusing.{ok_both, passed_on}
 use Rattle.objset.proofs.Kept.{objects_stand}
+use Rattle.block_pointer.specs.declared.block.Block.{Block}
 use Rattle.block_store.specs.Blocks.{count_of}
 use Rattle.block_store.specs.Places.{RanOut}
 use Rattle.block_store.specs.Store.{Store}
@@ -12,6 +13,7 @@ use Rattle.dnode.specs.declared.object_set.ObjectSetKind.{ObjectSetKind}
 use Rattle.dnode.specs.declared.object_set.ObjectSetKind.TheVariants.{Meta}
 use Rattle.objset.specs.declared.changes.SetCopies.{SetCopies}
 use Rattle.objset.specs.Changes.{HasNoRoom, changed, copies_of}
+use Rattle.dataset_snapshots.proofs.Numbered.{none_behind, set_planned}
 use Rattle.dataset_snapshots.proofs.groups.plan_root.Goals as goal
 
 -- the meta object set has three copies
@@ -59,6 +61,10 @@ returns-clause-value g c =
         are = objects_stand one.1 two.0 c.args.group root.birth c.in_ok-rewrite.rewrite.set (changed c.args.changes.now objects) one.3.own_after one.3.after (omega (arith, both.1))
             (λ block known_bytes held known. two.2.kept block known_bytes known) one.3.are;
       },
+      c.in_ok-rewrite.rewrite.replaced.items,
+      c.in_ok-extend_from_slice.ensures.items ∙ ap (λ (bs : List Block). c.args.replaced.now.items ++ bs) c.deref.ensures.value,
+      set_planned (copies_of c.args.set.now.kind) planned one.1 two.0 c.args.group c.args.set.now c.in_ok-rewrite.rewrite c.args.changes.now (changed c.args.changes.now objects) own blocks root _
+          (none_behind stored bound c.args.set.now objects own blocks are) c.requires.order one.3 two.2 both.1,
     ))
     (ok_both c.plan_set.result _ _ c.plan_set.ensures.planned c.plan_set.ensures.birth)
 

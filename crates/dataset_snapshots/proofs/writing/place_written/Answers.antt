@@ -1,18 +1,18 @@
 use Rattle.std.proofs.Common.{◌≡◌, inr, [], ◌∷◌, ◌++◌, ℕ, List, map, All, Contains, sym, ap, ◌∙◌, subst, append_assoc}
 use Rattle.std.proofs.lemmas.List.{append-nil, map-append}
-use Rattle.std.proofs.lemmas.List.Elements.{All-contains, All-head, All-nil, All-tail, All-weaker, Contains-append_right}
+use Rattle.std.proofs.lemmas.List.Elements.{All-contains, All-head, All-nil, All-tail, Contains-append_right}
 use Rattle.block_store.proofs.Steps.{steps_none, steps_on, true_before, true_after}
 use Rattle.dnode_tree.proofs.Refusing.{passed_on}
 use Rattle.objset.specs.declared.changes.ObjectChange.{ObjectChange}
 use Rattle.objset.specs.Changes.{IsGoodChange}
-use Rattle.volume_rules.specs.Overlay.{after_writes}
 use Rattle.txg_pipeline.proofs.Running.{drops_nothing}
 use Rattle.dataset_snapshots.specs.declared.writing.WrittenVolume.{WrittenVolume}
 use Rattle.dataset_snapshots.specs.Demands.{HavePlacesFor, HasVolumeDemands, WritesRecord}
-use Rattle.dataset_snapshots.specs.Writing.{ChangesRecord, FitsWritten, IsChangedFrom, IsReadFrom}
+use Rattle.dataset_snapshots.specs.Reach.{blocks_of_dataset}
+use Rattle.dataset_snapshots.specs.Writing.{FitsWritten, IsReadFrom}
 use Rattle.dataset_snapshots.proofs.Asking.{no_places, places_more, volume_demands_in}
 use Rattle.dataset_snapshots.proofs.ChangedRows.{is_first}
-use Rattle.dataset_snapshots.proofs.PlacedRecord.{change_stays}
+use Rattle.dataset_snapshots.proofs.PlacedVolumes.{none_placed, one_placed}
 use Rattle.dataset_snapshots.proofs.Pushing.{all_more}
 use Rattle.dataset_snapshots.proofs.writing.place_written.Goals as goal
 
@@ -33,12 +33,8 @@ placing-init g c = record {
   fits = subst (All (FitsWritten c.args.objects)) (sym c.from_vec-left.ensures.items) c.requires.fits;
   good = subst (All (λ (change : ObjectChange). IsGoodChange change.change)) (sym c.new-changes.ensures.items) (All-nil (λ (change : ObjectChange). IsGoodChange change.change));
   writes = subst (All (λ (change : ObjectChange). WritesRecord change.change)) (sym c.new-changes.ensures.items) (All-nil (λ (change : ObjectChange). WritesRecord change.change));
-  value = λ stored planned bound there writes rows volumes plans le honest read spelled. (
-    planned,
-    plans,
-    λ block bytes known. known,
-    subst (All (IsChangedFrom planned c.args.group there volumes writes)) (sym c.new-changes.ensures.items) (All-nil (IsChangedFrom planned c.args.group there volumes writes)),
-  );
+  value = λ stored planned bound there writes rows volumes lists plans le honest read spelled.
+      none_placed c.args.store.now stored planned c.args.group there writes volumes lists c.args.replaced.now.items c.new-changes.result.items plans c.new-changes.ensures.items;
 }
 
 pub place_one-requires-clause-fits : goal.place_one-requires-clause-fits
@@ -53,10 +49,10 @@ returns-in_err-change-clause-known g c =
     let i = c.placing.invariant in
     let front = i.front in
     let held = next_held front.0 c.placing.left.items c.pop_front.new.self.items c.args.written.items c.in-Some.next front.1 c.in-Some.ensures.items in
-    passed_on _ _ _ c.from_residual.ensures.1 (λ stored planned bound there writes rows volumes plans le honest read spelled.
-    let so_far = i.value stored planned bound there writes rows volumes plans le (true_before c.args.store.now c.placing.store c.place_one.new.store c.place_one.ensures.steps.reads honest) read spelled in
+    passed_on _ _ _ c.from_residual.ensures.1 (λ stored planned bound there writes rows volumes lists plans le honest read spelled.
+    let so_far = i.value stored planned bound there writes rows volumes lists plans le (true_before c.args.store.now c.placing.store c.place_one.new.store c.place_one.ensures.steps.reads honest) read spelled in
     let from = All-contains (IsReadFrom stored bound there writes rows) c.args.written.items c.in-Some.next read held in
-    c.in_err-change.ensures.known stored so_far.0 bound there writes from.0 (volumes from.0.object) so_far.1 le (true_after c.args.store.now c.placing.store c.place_one.new.store i.steps.reads honest) from.2 (spelled from.0 from.1.0))
+    c.in_err-change.ensures.known stored so_far.0 bound there writes from.0 (volumes from.0.object) so_far.1 le (true_after c.args.store.now c.placing.store c.place_one.new.store i.steps.reads honest) from.2 (spelled from.0 from.1.0).0)
 
 pub returns-in_err-push_change-clause-steps : goal.returns-in_err-push_change-clause-steps
 returns-in_err-push_change-clause-steps g c = steps_on _ _ _ _ c.placing.invariant.steps c.place_one.ensures.steps
@@ -90,21 +86,15 @@ placing-preserved g c =
       fits = All-tail (FitsWritten c.args.objects) next rest (subst (All (FitsWritten c.args.objects)) c.in-Some.ensures.items i.fits);
       good = all_more (λ (change : ObjectChange). IsGoodChange change.change) so_far now one more i.good c.in_ok-change.ensures.good;
       writes = all_more (λ (change : ObjectChange). WritesRecord change.change) so_far now one more i.writes c.in_ok-change.ensures.writes;
-      value = λ stored planned bound there writes rows volumes plans le honest read spelled.
-          let before = i.value stored planned bound there writes rows volumes plans le (true_before c.args.store.now c.placing.store c.place_one.new.store c.place_one.ensures.steps.reads honest) read spelled in
+      value = λ stored planned bound there writes rows volumes lists plans le honest read spelled.
+          let before = i.value stored planned bound there writes rows volumes lists plans le (true_before c.args.store.now c.placing.store c.place_one.new.store c.place_one.ensures.steps.reads honest) read spelled in
           let from = All-contains (IsReadFrom stored bound there writes rows) c.args.written.items next read held in
-          let placed = c.in_ok-change.ensures.value stored before.0 bound there writes from.0 (volumes from.0.object) before.1 le (true_after c.args.store.now c.placing.store c.place_one.new.store i.steps.reads honest) from.2 (spelled from.0 from.1.0) in
+          let is = spelled from.0 from.1.0 in
           let number : from.0.object ≡ one.number = from.1.1 ∙ sym c.in_ok-change.ensures.number in
-          let here : IsChangedFrom placed.0 c.args.group there volumes writes one =
-          subst (λ n. ChangesRecord placed.0 c.args.group there n (after_writes (volumes n) writes) one.change) number placed.3 in
-          let old : All (IsChangedFrom placed.0 c.args.group there volumes writes) so_far =
-          All-weaker (IsChangedFrom before.0 c.args.group there volumes writes) (IsChangedFrom placed.0 c.args.group there volumes writes)
-          (λ change is. change_stays before.0 placed.0 c.args.group there change.number (after_writes (volumes change.number) writes) change.change placed.2 is) so_far before.3 in (
-            placed.0,
-            placed.1,
-            λ block bytes known. placed.2 block bytes (before.2 block bytes known),
-            all_more (IsChangedFrom placed.0 c.args.group there volumes writes) so_far now one more old here,
-          );
+          one_placed c.placing.store c.place_one.new.store stored planned c.args.group there writes volumes lists c.args.replaced.now.items c.placing.replaced.items c.place_one.new.replaced.items
+          so_far now one from.0.object (blocks_of_dataset is.0) more before number is.1
+          (c.in_ok-change.ensures.value stored before.0 bound there writes from.0 (volumes from.0.object) before.1 le
+          (true_after c.args.store.now c.placing.store c.place_one.new.store i.steps.reads honest) from.2 is.0);
     }
 
 pub returns-in_err-change-clause-refused : goal.returns-in_err-change-clause-refused

@@ -1,7 +1,8 @@
 use Rattle.std.proofs.Common.{◌≡◌, ◌≤◌, ◌++◌, [], ℕ, List, Option, map}
 use Rattle.std.specs.Prelude.{All}
 use Rattle.std.specs.VecDeque.{deque_len}
-use Rattle.block_store.specs.Blocks.{Contents, Extends}
+use Rattle.block_pointer.specs.declared.block.Block.{Block}
+use Rattle.block_store.specs.Blocks.{Contents}
 use Rattle.block_store.specs.Plans.{Plans}
 use Rattle.block_store.specs.Steps.{OnlyReadsAndPlans, AnswersAreTrue}
 use Rattle.meta_objset.specs.declared.directory.DirectoryRow.{DirectoryRow}
@@ -11,7 +12,8 @@ use Rattle.pool_model.specs.declared.item.Write.{Write}
 use Rattle.pool_model.specs.declared.volume.PlainVolume.{PlainVolume}
 use Rattle.dataset_snapshots.specs.declared.writing.WrittenVolume.{WrittenVolume}
 use Rattle.dataset_snapshots.specs.Demands.{HavePlacesFor, HasVolumeDemands, WritesRecord}
-use Rattle.dataset_snapshots.specs.Writing.{FitsWritten, IsChangedFrom, IsReadFrom, SpellsEach}
+use Rattle.dataset_snapshots.specs.Writing.{FitsWritten, IsReadFrom, SpellsEach}
+use Rattle.dataset_snapshots.proofs.PlacedVolumes.{ArePlaced}
 use Rattle.dataset_snapshots.proofs.writing.place_written.Given as goal
 
 -- a front of the volumes is planned, and what is left follows it
@@ -24,10 +26,10 @@ invariant-placing g l = record {
   fits : All (FitsWritten l.objects) l.left.items;
   good : All (λ change. IsGoodChange change.change) l.changes.items;
   writes : All (λ change. WritesRecord change.change) l.changes.items;
-  value : (stored planned : Contents) (bound : ℕ) (there : ℕ → Option Object) (writes : List Write) (rows : List DirectoryRow) (volumes : ℕ → PlainVolume)
+  value : (stored planned : Contents) (bound : ℕ) (there : ℕ → Option Object) (writes : List Write) (rows : List DirectoryRow) (volumes : ℕ → PlainVolume) (lists : ℕ → List Block)
       → Plans l.fn.store stored planned → bound ≤ l.group → AnswersAreTrue l.fn.store l.store → All (IsReadFrom stored bound there writes rows) l.fn.written.items
-      → SpellsEach stored bound there rows volumes
-      → (later : Contents) × Plans l.store stored later × Extends planned later × All (IsChangedFrom later l.group there volumes writes) l.changes.items;
+      → SpellsEach stored bound there rows volumes lists
+      → ArePlaced l.store stored planned l.group there writes volumes lists l.fn.replaced.items l.replaced.items l.changes.items;
 }
 
 abbrev pub decreases-placing : goal.decreases-placing

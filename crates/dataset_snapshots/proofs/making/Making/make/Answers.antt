@@ -34,7 +34,7 @@ returns-then-is_some-clause-value g c = λ stored planned plans honest.
       planned,
       plans,
       λ block bytes known. known,
-      λ objects pool spells. volume_passed c.args.self.now c.args.change.now c.in_ok-new.new c.args.group there.0 planned objects pool c.in_ok-new.ensures.is there.1 spells,
+      λ objects lists pool spells. volume_passed c.args.self.now c.args.change.now c.in_ok-new.new c.args.group there.0 planned objects lists pool c.in_ok-new.ensures.is there.1 spells,
     )
 
 pub returns-then-self-gt-NUMBERS_END-clause-steps : goal.returns-then-self-gt-NUMBERS_END-clause-steps
@@ -61,9 +61,9 @@ returns-clause-value g c =
       is.0,
       is.1,
       is.2,
-      λ objects pool spells.
-          volume_made c.args.self.now c.add.new.self c.args.change.now c.in_ok-new.new c.args.group c.in_ok-object_set.object_set c.record-dataset.result planned is.0 objects pool
-          c.in_ok-new.ensures.is c.requires.ready lacks added c.record-dataset.ensures.value is.2 is.3 spells,
+      λ objects lists pool spells.
+          volume_made c.args.self.now c.add.new.self c.args.change.now c.in_ok-new.new c.args.group c.in_ok-object_set.object_set c.record-dataset.result planned is.0 objects lists pool
+          c.in_ok-new.ensures.is c.requires.ready lacks added c.record-dataset.ensures.value is.2 is.3 is.4 spells,
     ))
     c.add.ensures.added
 

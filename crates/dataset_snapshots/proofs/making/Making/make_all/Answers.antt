@@ -8,6 +8,8 @@ use Rattle.pool_model.specs.Pools.{PlainPool, changed}
 use Rattle.volume.proofs.Putting.{lacks_on}
 use Rattle.dataset_snapshots.specs.Demands.{MakesAll}
 use Rattle.dataset_snapshots.specs.Making.{SpellsMaking}
+use Rattle.dataset_snapshots.specs.Reach.{blocks_listed}
+use Rattle.dataset_snapshots.proofs.Exchanges.{given_then, same_given}
 use Rattle.dataset_snapshots.proofs.MakingDemands.{action_refused, makes_more, makes_none, taken_more}
 use Rattle.dataset_snapshots.proofs.MakingSteps.{goes_on_none, goes_on_on, one_good, pool_more}
 use Rattle.dataset_snapshots.proofs.making.Making.make_all.Goals as goal
@@ -18,7 +20,7 @@ loop-action-init g c = record {
   ready = c.requires.ready;
   goes_on = goes_on_none c.args.self.now;
   next = omega arith;
-  value = λ stored planned plans honest. (planned, plans, λ block bytes known. known, λ objects pool spells. spells);
+  value = λ stored planned plans honest. (planned, plans, λ block bytes known. known, λ objects lists pool spells. (lists, spells, same_given c.args.group planned (blocks_listed lists c.args.self.now.directory)));
   made = makes_none c.args.store.now c.args.group c.args.self.now;
 }
 
@@ -58,10 +60,16 @@ loop-action-preserved g c =
             two.0,
             two.1,
             λ block bytes known. two.2 block bytes (one.2 block bytes known),
-            λ objects pool spells.
-                subst (λ (p : PlainPool). SpellsMaking two.0 c.args.group objects c.make.new.self p)
-                (pool_more c.args.group pool c.args.actions.now c.loop-action.action-index c.action-item.result c.loop-action-test.true c.action-item.is)
-                (two.3 objects (fold (λ p a. changed c.args.group p a.change) pool (take c.loop-action.action-index c.args.actions.now)) (one.3 objects pool spells)),
+            λ objects lists pool spells.
+                let so_far : PlainPool = fold (λ p a. changed c.args.group p a.change) pool (take c.loop-action.action-index c.args.actions.now) in
+                let first = one.3 objects lists pool spells in
+                let last = two.3 objects first.0 so_far first.1 in (
+                  last.0,
+                  subst (λ (p : PlainPool). SpellsMaking two.0 c.args.group objects last.0 c.make.new.self p)
+                      (pool_more c.args.group pool c.args.actions.now c.loop-action.action-index c.action-item.result c.loop-action-test.true c.action-item.is) last.1,
+                  given_then c.args.group planned one.0 two.0 (blocks_listed lists c.args.self.now.directory) (blocks_listed first.0 c.loop-action.self.directory)
+                      (blocks_listed last.0 c.make.new.self.directory) [] one.2 two.2 first.2 last.2,
+                ),
           );
       made = subst (λ (actions : List Action). MakesAll c.args.store.now c.make.new.store c.args.group c.args.self.now c.make.new.self actions)
           (sym (taken_more c.args.actions.now c.loop-action.action-index c.action-item.result c.loop-action-test.true c.action-item.is))
@@ -82,11 +90,14 @@ returns-clause-places g c =
     (take_all c.loop-action.action-index c.args.actions.now c.loop-action-test.false) c.loop-action.invariant.made
 
 pub returns-clause-value : goal.returns-clause-value
-returns-clause-value g c = λ stored planned objects pool plans spells honest.
-    let done = c.loop-action.invariant.value stored planned plans honest in (
+returns-clause-value g c = λ stored planned objects lists pool plans spells honest.
+    let done = c.loop-action.invariant.value stored planned plans honest in
+    let made = done.3 objects lists pool spells in (
       done.0,
       done.1,
       done.2,
-      subst (λ actions. SpellsMaking done.0 c.args.group objects c.loop-action.self (fold (λ p a. changed c.args.group p a.change) pool actions))
-          (take_all c.loop-action.action-index c.args.actions.now c.loop-action-test.false) (done.3 objects pool spells),
+      made.0,
+      subst (λ actions. SpellsMaking done.0 c.args.group objects made.0 c.loop-action.self (fold (λ p a. changed c.args.group p a.change) pool actions))
+          (take_all c.loop-action.action-index c.args.actions.now c.loop-action-test.false) made.1,
+      made.2,
     )

@@ -1,8 +1,8 @@
-use Rattle.std.proofs.Common.{sym, subst}
+use Rattle.std.proofs.Common.{ap, sym, subst}
 use Rattle.std.specs.Prelude.{replicate}
 use Rattle.block_pointer.specs.declared.block.Block.{Block}
 use Rattle.dnode_tree.proofs.Refusing.{passed_on}
-use Rattle.volume.specs.Volume.{IsVolume}
+use Rattle.dataset_snapshots.proofs.VolumeBlocks.{IsNew, volume_new}
 use Rattle.dataset_snapshots.proofs.MakingRefusals.{not_config}
 use Rattle.dataset_snapshots.proofs.new_volume.NewVolume.planned.Goals as goal
 
@@ -22,13 +22,16 @@ pub returns-clause-value : goal.returns-clause-value
 returns-clause-value g c = λ stored planned plans honest.
     let size = c.args.self.now.size in
     let is = c.in_ok-volume.ensures.value stored planned plans honest in
-    let shape = c.in_ok-volume.ensures.shape in (
+    let shape = c.in_ok-volume.ensures.shape in
+    let new = subst (λ (b : Block). IsNew is.0 planned c.args.group b size c.args.self.now.block_size (replicate size 0)) (sym c.block.ensures)
+    (subst (λ n. IsNew is.0 planned c.args.group c.in_ok-volume.volume.block n c.args.self.now.block_size (replicate size 0)) shape.0
+    (subst (λ n. IsNew is.0 planned c.args.group c.in_ok-volume.volume.block c.in_ok-volume.volume.size n (replicate size 0)) shape.1
+    (volume_new planned is.0 c.args.group c.in_ok-volume.volume (replicate size 0) (ap (λ n. replicate n 0) (sym shape.0)) is.3 is.4))) in (
       is.0,
       is.1,
       is.2,
-      subst (λ (b : Block). IsVolume is.0 c.args.group b size c.args.self.now.block_size (replicate size 0)) (sym c.block.ensures)
-          (subst (λ n. IsVolume is.0 c.args.group c.in_ok-volume.volume.block n c.args.self.now.block_size (replicate size 0)) shape.0
-          (subst (λ n. IsVolume is.0 c.args.group c.in_ok-volume.volume.block c.in_ok-volume.volume.size n (replicate size 0)) shape.1 is.3)),
+      new.0,
+      new.1,
     )
 
 pub returns-in_err-volume-clause-refused : goal.returns-in_err-volume-clause-refused

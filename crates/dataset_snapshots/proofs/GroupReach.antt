@@ -1,0 +1,53 @@
+-- What left the reach of a root by a group.
+use Rattle.std.proofs.Common.{◌≡◌, ℕ, List, [], ◌∷◌, ◌++◌, Option, Some, Contains, ap, arith}
+use Rattle.std.specs.List.{count_by}
+use Rattle.block_pointer.specs.declared.block.Block.{Block}
+use Rattle.block_store.specs.Blocks.{Contents, Extends}
+use Rattle.dnode.specs.declared.object_set.ObjectSetKind.{ObjectSetKind}
+use Rattle.dnode_tree.proofs.Exchanging.{count_by-append}
+use Rattle.objset.specs.declared.changes.ObjectChange.{ObjectChange}
+use Rattle.objset.specs.Objects.{Object}
+use Rattle.objset.specs.Within.{blocks_of_set}
+use Rattle.pool_model.specs.Pools.{PlainPool}
+use Rattle.dataset_snapshots.proofs.Exchanges.{after_once, both_given, given_as, gone_are}
+use Rattle.dataset_snapshots.proofs.Reaching.{reach_known}
+use Rattle.dataset_snapshots.specs.Groups.{IsSetOf, SpellsAfter}
+use Rattle.dataset_snapshots.specs.Laws.{ReplacedOfGroupsLeave}
+use Rattle.dataset_snapshots.specs.Leaving.{IsReachExchanged}
+use Rattle.dataset_snapshots.specs.Reach.{blocks_listed, reach_of}
+
+-- a set of these objects was planned, with its block, for the one that had these blocks
+abbrev pub IsRootGiven : Contents → Contents → ℕ → Block → ObjectSetKind → (ℕ → Option Object) → List Block → List Block → Type 0
+IsRootGiven planned later group root kind objects before gone =
+    (then : IsSetOf later group root kind objects) × IsReachExchanged group planned later before (root ∷ blocks_of_set then.set then.own then.blocks) gone
+
+-- volumes were planned for those that had these blocks
+abbrev pub AreVolumesGiven : Contents → Contents → ℕ → (ℕ → Option Object) → List ObjectChange → (ℕ → List Block) → PlainPool → List Block → List Block → Type 0
+AreVolumesGiven planned later group objects changes lists pool before gone =
+    (then : SpellsAfter later group objects lists changes pool) × IsReachExchanged group planned later before (blocks_listed lists then.rows) gone
+
+-- the volumes' blocks first, then those of the set, and the root's
+pub group_given : (planned mid later : Contents) (group : ℕ) (old root : Block) (volumes new_volumes set new_set gone gone_too replaced : List Block) → Extends planned mid → Extends mid later
+    → IsReachExchanged group planned mid volumes new_volumes gone → IsReachExchanged group mid later set (root ∷ new_set) gone_too → replaced ≡ ((old ∷ []) ++ gone) ++ gone_too
+    → IsReachExchanged group planned later (old ∷ set ++ volumes) (root ∷ new_set ++ new_volumes) replaced
+group_given planned mid later group old root volumes new_volumes set new_set gone gone_too replaced first last one two are =
+    given_as group planned later (volumes ++ set) (new_volumes ++ root ∷ new_set) (gone ++ gone_too) (old ∷ set ++ volumes) (root ∷ new_set ++ new_volumes) replaced [] (old ∷ [])
+    (both_given group planned mid later volumes new_volumes gone set (root ∷ new_set) gone_too first last one two)
+    (λ test. omega (arith, count_by-append test volumes set, count_by-append test (old ∷ []) (set ++ volumes), count_by-append test set volumes))
+    (λ test. omega (arith, count_by-append test new_volumes (root ∷ new_set), count_by-append test (root ∷ new_set) new_volumes))
+    (λ test. omega (
+      arith,
+      ap (count_by test) are,
+      count_by-append test gone gone_too,
+      count_by-append test ((old ∷ []) ++ gone) gone_too,
+      count_by-append test (old ∷ []) gone,
+    ))
+
+-- where the root before is stored
+pub replaced_leave : ReplacedOfGroupsLeave
+replaced_leave stored planned later birth group root pool is after gone kept once one =
+    let known : (block : Block) → Contains (reach_of is) block → (bytes : List ℕ) × (planned block ≡ Some bytes) =
+    λ block held. (let there = reach_known stored birth root pool is block held in (there.0, kept block there.0 there.1)) in (
+      gone_are group planned later (reach_of is) after gone known once one,
+      after_once group planned later (reach_of is) after gone known once one,
+    )
