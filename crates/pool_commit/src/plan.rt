@@ -78,7 +78,7 @@ fn root_after<D: Disk + Drop>(
         (IsNextRefused store.old store.new last.now.root group items.now) }
 {
     match &last.root {
-        Some(root) => after_group(root, store, alloc, group, items),
+        Some(root) => Ok(after_group(root, store, alloc, group, items)?.root),
         None => first_root(store, alloc, group, items),
     }
 }

@@ -2,7 +2,7 @@
 use crate::roots::{create_empty, find_letter, first_root};
 use crate::stores::{Store, new_store, store_plan};
 use block_pointer::Block;
-use dataset_snapshots::{Refusal, VolumeRange, after_group, read_range};
+use dataset_snapshots::{NextRoot, Refusal, VolumeRange, after_group, read_range};
 use pool_model::{Action, Bytes, Change, Item, Name, Write};
 use std::alloc::Global;
 use std::test::Fail;
@@ -59,12 +59,22 @@ pub(crate) fn next_root(
     alloc: Global,
     item: Item,
 ) -> Result<Block, Fail> {
+    Ok(next_group(root, store, alloc, item)?.root)
+}
+
+/// And the blocks that it replaced.
+pub(crate) fn next_group(
+    root: &Block,
+    store: &mut Store,
+    alloc: Global,
+    item: Item,
+) -> Result<NextRoot, Fail> {
     let group = root.birth.saturating_add(1);
     let pipeline = group_of(alloc, item)?;
     store.begin_plan(group);
-    let root = after_group(root, store, alloc, group, pipeline.open_items())?;
+    let next = after_group(root, store, alloc, group, pipeline.open_items())?;
     store_plan(store);
-    Ok(root)
+    Ok(next)
 }
 
 /// The bytes of `v` from one on.

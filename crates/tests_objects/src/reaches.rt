@@ -2,12 +2,13 @@
 ghost use Rattle.std.specs.Prelude.{◌<◌, ◌^◌, length, IfOk};
 ghost use Rattle.block_pointer.specs.Block.{FitsBlock};
 
-use crate::groups::{group_of_three, next_root, write};
+use crate::groups::{group_of_three, next_group, write};
 use crate::meta::{name_of, record_of, with};
 use crate::roots::{EMPTY, first_root};
 use crate::stores::{Store, new_store, store_plan};
 use block_pointer::{Block, Copies};
-use dataset_snapshots::{Refusal, reach};
+use dataset_snapshots::{NextRoot, Refusal, reach};
+use dnode_tree::are_distinct;
 use meta_objset::{Directory, is_name, record_creation};
 use objset::plan_set;
 use std::alloc::Global;
@@ -35,25 +36,52 @@ fn reached(
     Ok((counts, left))
 }
 
+/// Whether the blocks that were replaced are those that the root before leads to and the one after doesn't, each once.
+fn has_left(
+    before: &Block,
+    next: &NextRoot,
+    store: &mut Store,
+    alloc: Global,
+) -> Result<bool, Refusal> {
+    let mut most = 100;
+    let old = reach(before, store, alloc, before.birth, &mut most, &[])?;
+    let new = reach(&next.root, store, alloc, next.root.birth, &mut most, &[])?;
+    let mut gone = 0usize;
+    let mut right = are_distinct(alloc, &next.replaced)?;
+    for block in &old {
+        let left = !new.contains(block);
+        right = right && left == next.replaced.contains(block);
+        gone = gone.saturating_add(usize::from(left));
+    }
+    Ok(right && gone == next.replaced.len())
+}
+
 /// What a root with `w` leads to, and with `v`, whose first three blocks are written: with as many reads as it asks, and
 /// with one less.
 ///
 /// Ten blocks have three copies: the root; the one block of its set's dnodes; and a block each of the four tables, the two
 /// records and the two dead lists. Of `w` there are two blocks, the object set and its dnodes, and of `v` besides an indirect
 /// block and the three of data. Seven of all are read: the root, its dnodes, two of `w` and three of `v`.
-fn outcomes(alloc: Global) -> Result<[bool; 2], Fail> {
+///
+/// And a group that writes the first three blocks of `v` again replaces what its root doesn't lead to any more.
+fn outcomes(alloc: Global) -> Result<[bool; 3], Fail> {
     let mut store = new_store(alloc)?;
     let group = group_of_three(alloc)?;
     let made = first_root(&mut store, alloc, &group)?;
-    let root = next_root(&made, &mut store, alloc, write(alloc, 1, b'v')?)?;
+    let root = next_group(&made, &mut store, alloc, write(alloc, 1, b'v')?)?.root;
     let all = reached(&root, &mut store, alloc, 7);
     let few = reached(&root, &mut store, alloc, 6);
-    Ok([all == Ok(([3, 5, 10], 0)), few == Err(Refusal::BadPointer)])
+    let next = next_group(&root, &mut store, alloc, write(alloc, 1, b'v')?)?;
+    Ok([
+        all == Ok(([3, 5, 10], 0)),
+        few == Err(Refusal::BadPointer),
+        has_left(&root, &next, &mut store, alloc)?,
+    ])
 }
 
 #[test]
 fn a_root_leads_to_all_blocks_of_its_pool(rt: HostRuntime) -> Result<(), Fail> {
-    assert_eq!(rt; outcomes(rt.alloc())?, [true; 2]);
+    assert_eq!(rt; outcomes(rt.alloc())?, [true; 3]);
     Ok(())
 }
 
