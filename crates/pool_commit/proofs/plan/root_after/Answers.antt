@@ -8,16 +8,16 @@ use Rattle.pool_model.specs.Pools.{PlainPool, applied, no_volumes}
 use Rattle.pool_commit.specs.Backs.{SpellsRoot}
 use Rattle.pool_commit.proofs.plan.root_after.Goals as goal
 
-pub returns-in-Some-clause-value : goal.returns-in-Some-clause-value
-returns-in-Some-clause-value g c = λ stored planned pool plans spells honest.
-    let there = c.in_ok-after_group.ensures.value stored planned pool plans (subst (λ (o : Option Block). SpellsRoot stored (c.args.group - 1) o pool) c.in-Some.is spells) honest in
+pub returns-in_ok-after_group-in-Some-clause-value : goal.returns-in_ok-after_group-in-Some-clause-value
+returns-in_ok-after_group-in-Some-clause-value g c = λ stored planned pool plans spells honest.
+    let there = c.in_ok-after_group-in-Some.ensures.value stored planned pool plans (subst (λ (o : Option Block). SpellsRoot stored (c.args.group - 1) o pool) c.in-Some.is spells) honest in
     (there.0, there.1, there.2, there.3)
 
-pub returns-in-Some-in_err-after_group-clause-known : goal.returns-in-Some-in_err-after_group-clause-known
-returns-in-Some-in_err-after_group-clause-known g c =
+pub returns-in_err-after_group-in-Some-clause-known : goal.returns-in_err-after_group-in-Some-clause-known
+returns-in_err-after_group-in-Some-clause-known g c =
     passed_on _ _ _ c.from_residual.ensures.1
     (λ stored planned pool plans spells honest good.
-    c.in_err-after_group.ensures.known stored planned pool plans (subst (λ (o : Option Block). SpellsRoot stored (c.args.group - 1) o pool) c.in-Some.is spells) honest
+    c.in_err-after_group-in-Some.ensures.known stored planned pool plans (subst (λ (o : Option Block). SpellsRoot stored (c.args.group - 1) o pool) c.in-Some.is spells) honest
     (good_changes_may_be_made c.args.items.now good))
 
 pub returns-in-None-clause-value : goal.returns-in-None-clause-value
