@@ -9,6 +9,8 @@ pub mod Made
 pub mod Judging
 pub mod Losses
 pub mod Putting
+pub mod Needed
+pub mod RangeIds
 mod Ranges
 pub mod Refusing
 pub mod Sizes

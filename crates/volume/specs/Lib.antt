@@ -1,4 +1,5 @@
 pub mod Demands
+pub mod InTurn
 pub mod Laws
 pub mod Placing
 pub mod Reading

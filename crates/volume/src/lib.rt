@@ -5,6 +5,7 @@
 mod covered;
 mod creating;
 mod laws;
+mod many;
 mod opening;
 mod placing;
 mod reading;

@@ -1,24 +1,24 @@
 //! Reads of a volume.
-ghost use Rattle.std.specs.Prelude.{◌≡◌, ◌≢◌, ◌⊎◌, ◌+◌, ◌/◌, ◌≤◌, ◌<◌, ◌^◌, ℕ, List, Some, Option, length, IfOk, IfErr, slice_range};
+ghost use Rattle.std.specs.Prelude.{◌≡◌, ◌⊎◌, ◌+◌, ◌-◌, ◌*◌, ◌/◌, ◌≤◌, ◌<◌, ◌^◌, [], ℕ, List, All, length, IfOk, IfErr, slice_range};
+ghost use Rattle.std.specs.List.{AllZip, range_with_len};
 ghost use Rattle.block_store.specs.Blocks.{Contents};
 ghost use Rattle.block_store.specs.Losses.{IsForLoss};
 ghost use Rattle.block_store.specs.Steps.{OnlyReadsBlocks, AnswersAreTrue};
 ghost use Rattle.block_store.specs.Store.{Holds};
 ghost use Rattle.dnode.specs.declared.object_set.ObjectSet.{ObjectSet};
 ghost use Rattle.dnode.specs.ObjectSet.{FitsObjectSet};
-ghost use Rattle.dnode_tree.specs.Ways.{bytes_of};
-ghost use Rattle.volume.specs.Reading.{IsBlockRefused, IsFound, IsReadRefused, IsUnread, IsVolumeFound, LiesIn};
-ghost use Rattle.volume.specs.Volume.{size_of, block_size_of, block_of, part, HasBytes, HasData, Spells};
+ghost use Rattle.volume.specs.Reading.{IsReadRefused, IsUnread, IsVolumeFound, LiesIn};
+ghost use Rattle.volume.specs.Volume.{size_of, block_size_of, block_of, part, HasData, Spells};
 
-use crate::volume::{DATA, VolumeSet};
+use crate::volume::VolumeSet;
 use block_store::{BlockStore, Refusal};
 use dnode::ObjectSet;
 use model_disk::Disk;
-use std::alloc::Global;
+use std::alloc::{AllocError, Global};
 
 impl VolumeSet {
     /// A range of the volume's bytes. It reads the block of the object set once and the way to the dnode of object 1, and then
-    /// the way to each block in which the range lies. The set's block was born in the transaction group `birth` or before. The
+    /// the way to the blocks in which the range lies, each indirect block once. The set's block was born in the transaction group `birth` or before. The
     /// disks that are named are taken as missing. `BadPointer` where the set spells no volume there: no object set, or one of
     /// another kind; no object 1, or one of another type, with blocks of another size or behind the volume's end.
     pub fn read<D: Disk + Drop>(
@@ -82,66 +82,69 @@ impl VolumeSet {
             (size_of self.now) (block_size_of self.now) array → AnswersAreTrue store.old store.new
             → IsForLoss refusal) }
     {
+        let ids = self.ids_in(alloc, offset, len)?;
+        let blocks = self.whole_blocks(set, store, alloc, &ids, missing)?;
+        Ok(self.joined(alloc, &blocks, offset, len)?)
+    }
+
+    /// The ids of the blocks in which a range lies, in order. An empty range lies in none.
+    fn ids_in(&self, alloc: Global, offset: u64, len: u64) -> Result<Vec<u64>, AllocError>
+        requires within { offset + len ≤ size_of self.now }
+        ensures ids { IfOk result (λ ids. ids.items
+            ≡ range_with_len (offset / block_size_of self.now) (length ids.items)) }
+        ensures lie { IfOk result (λ ids. All (LiesIn self.now offset (offset + len)) ids.items) }
+        ensures all { IfOk result (λ ids. 0 < len → offset + len
+            ≤ (offset / block_size_of self.now + length ids.items) * block_size_of self.now) }
+        ensures idle { IfOk result (λ ids. len ≡ 0 → ids.items ≡ []) }
+    {
+        if len == 0 {
+            return Ok(Vec::new(alloc));
+        }
         let block_size = self.block_size();
+        ids_between(
+            alloc,
+            offset / block_size,
+            (offset + len - 1) / block_size + 1,
+        )
+    }
+
+    /// A range of the bytes that whole blocks have, from the block in which it begins on.
+    fn joined(
+        &self,
+        alloc: Global,
+        blocks: &[Vec<u8>],
+        offset: u64,
+        len: u64,
+    ) -> Result<Vec<u8>, AllocError>
+        requires within { offset + len ≤ size_of self.now }
+        requires few { len ≤ 2 ^ 20 }
+        requires whole { All (λ bytes. length bytes.items ≡ block_size_of self.now) blocks.now }
+        requires all { 0 < len → offset + len
+            ≤ (offset / block_size_of self.now + length blocks.now) * block_size_of self.now }
+        ensures len { IfOk result (λ read. length read.items ≡ len) }
+        ensures value { IfOk result (λ read. (array : List ℕ) → length array ≡ size_of self.now
+            → AllZip (λ id bytes. bytes.items ≡ part array (block_size_of self.now) id)
+            (range_with_len (offset / block_size_of self.now) (length blocks.now)) blocks.now
+            → read.items ≡ slice_range array offset (offset + len)) }
+    {
+        let block_size = self.block_size();
+        let first = offset / block_size;
         let mut read = Vec::new(alloc);
         'parts: while (read.len() as u64) < len {
             let done = read.len() as u64;
             let at = offset + done;
-            let block = self.block_bytes(set, store, alloc, at / block_size, missing)?;
+            let block = &blocks[(at / block_size - first) as usize];
             let start = at % block_size;
             let count = (block_size - start).min(len - done);
             read.extend_from_slice(&block[start as usize..(start + count) as usize])?;
         }
         Ok(read)
     }
+}
 
-    /// The bytes of a block of data, in an object set of the volume.
-    pub(crate) fn block_bytes<D: Disk + Drop>(
-        &self,
-        set: &ObjectSet,
-        store: &mut BlockStore<D>,
-        alloc: Global,
-        id: u64,
-        missing: &[usize],
-    ) -> Result<Vec<u8>, Refusal>
-        requires { FitsObjectSet set.now }
-        ensures reads { OnlyReadsBlocks store.old store.new missing.now }
-        ensures len { IfOk result (λ bytes. length bytes.items ≡ block_size_of self.now) }
-        ensures value { IfOk result (λ bytes. (stored : Contents) (array : List ℕ)
-            → Holds store.old stored → HasData stored (block_of self.now).birth set.now
-            (size_of self.now) (block_size_of self.now) array → AnswersAreTrue store.old store.new
-            → id < size_of self.now / block_size_of self.now
-            → bytes.items ≡ part array (block_size_of self.now) id) }
-        ensures found { IfOk result (λ bytes. (found : Option (List ℕ))
-            × IsFound store.old.spaces self.now set.now id found) }
-        ensures refused { IfErr result (λ refusal. (refusal ≡ Refusal.NoMemory)
-            ⊎ IsBlockRefused store.old store.new missing.now self.now set.now id refusal) }
-        ensures cause { IfErr result (λ refusal. refusal ≢ Refusal.NoSpace) }
-        ensures known { IfErr result (λ refusal. (stored : Contents) (array : List ℕ)
-            → Holds store.old stored → HasData stored (block_of self.now).birth set.now
-            (size_of self.now) (block_size_of self.now) array → AnswersAreTrue store.old store.new
-            → id < size_of self.now / block_size_of self.now → IsForLoss refusal) }
-    {
-        let found = objset::get(set, store, alloc, DATA, id, self.block.birth, missing)?;
-        self.whole(alloc, found)
-    }
-
-    /// The bytes of a whole block, zeros where nothing was found. `BadPointer` where they have another size.
-    fn whole(&self, alloc: Global, found: Option<Vec<u8>>) -> Result<Vec<u8>, Refusal>
-        ensures len { IfOk result (λ bytes. length bytes.items ≡ block_size_of self.now) }
-        ensures value { IfOk result (λ bytes.
-            HasBytes (block_size_of self.now) (bytes_of found) bytes.items) }
-        ensures refused { IfErr result (λ refusal. (refusal ≡ Refusal.NoMemory)
-            ⊎ ((refusal ≡ Refusal.BadPointer) × ((bytes : List ℕ)
-            × (bytes_of found ≡ Some bytes) × (length bytes ≢ block_size_of self.now)))) }
-        ensures cause { IfErr result (λ refusal. refusal ≢ Refusal.NoSpace) }
-    {
-        let Some(bytes) = found else {
-            return Ok(vec![in alloc; 0; self.block_size() as usize]?);
-        };
-        if bytes.len() as u64 != self.block_size() {
-            return Err(Refusal::BadPointer);
-        }
-        Ok(bytes)
-    }
+/// The ids from the first on and before the end.
+fn ids_between(alloc: Global, first: u64, end: u64) -> Result<Vec<u64>, AllocError>
+    ensures { IfOk result (λ ids. ids.items ≡ range_with_len first (end - first)) }
+{
+    (first..end).collect(alloc)
 }

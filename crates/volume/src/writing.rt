@@ -1,5 +1,6 @@
 //! The blocks that a group's writes change.
-ghost use Rattle.std.specs.Prelude.{◌≡◌, ◌≢◌, ◌⊎◌, ◌↔◌, ◌/◌, ◌<◌, ◌++◌, ◌∷◌, [], ℕ, List, IfOk, IfErr, OnOk, length, map, Option, Contains, All};
+ghost use Rattle.std.specs.Prelude.{◌≡◌, ◌≢◌, ◌⊎◌, ◌↔◌, ◌/◌, ◌<◌, ◌++◌, ◌∷◌, [], ℕ, List, Vec, IfOk, IfErr, IfSome, OnOk, length, map, Option, Some, None, Contains, All};
+ghost use Rattle.std.specs.declared.alloc.Global.{Global};
 ghost use Rattle.std.specs.List.Sorted.{IsStrictlyIncreasing};
 ghost use Rattle.pool_model.specs.declared.volume.PlainVolume.{PlainVolume};
 ghost use Rattle.volume_rules.specs.Overlay.{after_writes};
@@ -10,7 +11,8 @@ ghost use Rattle.block_store.specs.Store.{Holds};
 ghost use Rattle.dnode.specs.declared.object_set.ObjectSet.{ObjectSet};
 ghost use Rattle.dnode.specs.ObjectSet.{FitsObjectSet};
 ghost use Rattle.dnode_tree.specs.declared.writes.BlockWrite.{BlockWrite};
-ghost use Rattle.volume.specs.Reading.{IsBlockRefused, IsFound, IsReadRefused, IsUnread, IsVolumeFound, IsWayRead};
+ghost use Rattle.volume.specs.Reading.{IsFound, IsReadRefused, IsUnread, IsVolumeFound, IsWayRead};
+ghost use Rattle.volume.specs.InTurn.{HaveInTurn};
 ghost use Rattle.volume.specs.Volume.{size_of, block_size_of, block_of, part, HasData, Spells};
 ghost use Rattle.volume.specs.Writing.{Reaches, IsChanged, IsCovered, NeedsOldBytes, HasId, AreBlocksOf, IsArrayWith};
 
@@ -21,6 +23,7 @@ use dnode_tree::BlockWrite;
 use model_disk::Disk;
 use pool_model::{Name, Write};
 use std::alloc::{AllocError, Global};
+use std::collections::VecDeque;
 use txg_pipeline::Pending;
 use volume_rules::lay_pending;
 
@@ -33,7 +36,7 @@ pub struct GroupWrites<'a> {
 
 impl VolumeSet {
     /// The blocks that writes change, whole, in the order of their ids. It only reads: the object set, as `read` does, and the
-    /// way to each of these blocks of which no write has every byte; nothing where no block is changed. The set's block was born
+    /// way to those of these blocks of which no write has every byte; nothing where no block is changed. The set's block was born
     /// in the transaction group `birth` or before. `BadPointer` where the set spells no volume there, as in `read`.
     pub fn changed_blocks<D: Disk + Drop>(
         &self,
@@ -120,55 +123,114 @@ impl VolumeSet {
             (size_of self.now) (block_size_of self.now) array → AnswersAreTrue store.old store.new
             → IsForLoss refusal) }
     {
-        let mut blocks = Vec::new(alloc);
+        let needed = self.uncovered(alloc, changes, ids)?;
+        let old = self.whole_blocks(set, store, alloc, &needed, &[])?;
+        Ok(self.laid_all(alloc, changes, ids, old)?)
+    }
+
+    /// Those of the ids whose blocks no write covers, in order.
+    fn uncovered(
+        &self,
+        alloc: Global,
+        changes: &GroupWrites,
+        ids: &[u64],
+    ) -> Result<Vec<u64>, AllocError>
+        requires ids { All (λ id. id < size_of self.now / block_size_of self.now) ids.now }
+        ensures { IfOk result (λ needed. HaveInTurn
+            (IsCovered self.now changes.now.name.now changes.now.items.now.writes)
+            (λ id same. same ≡ id) ids.now needed.items) }
+    {
+        let mut needed = Vec::new(alloc);
         for id in ids {
-            let block = self.changed_block(set, store, alloc, changes, *id)?;
+            if !self.is_covered(changes, *id) {
+                needed.push(*id)?;
+            }
+        }
+        Ok(needed)
+    }
+
+    /// The blocks of these ids after the writes. Of those that no write covers there are the old bytes, in order.
+    fn laid_all(
+        &self,
+        alloc: Global,
+        changes: &GroupWrites,
+        ids: &[u64],
+        old: Vec<Vec<u8>>,
+    ) -> Result<Vec<BlockWrite>, AllocError>
+        requires ids { All (λ id. id < size_of self.now / block_size_of self.now) ids.now }
+        requires old { HaveInTurn
+            (IsCovered self.now changes.now.name.now changes.now.items.now.writes)
+            (λ id bytes. length bytes.items ≡ block_size_of self.now) ids.now old.items }
+        ensures ids { IfOk result (λ blocks. map (λ block. block.id) blocks.items ≡ ids.now) }
+        ensures whole { IfOk result (λ blocks. All (λ block.
+            length block.bytes.items ≡ block_size_of self.now) blocks.items) }
+        ensures value { IfOk result (λ blocks. (volume : PlainVolume)
+            → volume.name ≡ changes.now.name.now → length volume.bytes ≡ size_of self.now
+            → HaveInTurn
+            (IsCovered self.now changes.now.name.now changes.now.items.now.writes)
+            (λ id bytes. bytes.items ≡ part volume.bytes (block_size_of self.now) id)
+            ids.now old.items
+            → All (λ block. block.bytes.items ≡ part
+            (after_writes volume changes.now.items.now.writes).bytes
+            (block_size_of self.now) block.id) blocks.items) }
+    {
+        let mut blocks = Vec::new(alloc);
+        let mut left = VecDeque::from_vec(old);
+        for id in ids {
+            let under = self.next_old(changes, *id, &mut left);
+            let block = self.laid_over(alloc, changes, *id, under)?;
             push(&mut blocks, block)?;
         }
         Ok(blocks)
     }
 
-    /// A block after the writes. Where one of them covers it, its bytes before are not read.
-    fn changed_block<D: Disk + Drop>(
+    /// Takes the next of the old bytes, unless a write covers the block.
+    fn next_old(
         &self,
-        set: &ObjectSet,
-        store: &mut BlockStore<D>,
+        changes: &GroupWrites,
+        id: u64,
+        left: &mut VecDeque<Vec<u8>>,
+    ) -> Option<Vec<u8>>
+        requires id { id < size_of self.now / block_size_of self.now }
+        ensures covered { IsCovered self.now changes.now.name.now changes.now.items.now.writes id
+            → (result ≡ None) × (left.new.items ≡ left.old.items) }
+        ensures next { ¬ IsCovered self.now changes.now.name.now changes.now.items.now.writes id
+            → (bytes : Vec ℕ Global) (rest : List (Vec ℕ Global))
+            → left.old.items ≡ bytes ∷ rest
+            → (result ≡ Some bytes) × (left.new.items ≡ rest) }
+    {
+        if self.is_covered(changes, id) {
+            return None;
+        }
+        left.pop_front()
+    }
+
+    /// A block after the writes. Where it has no old bytes, a write covers it.
+    fn laid_over(
+        &self,
         alloc: Global,
         changes: &GroupWrites,
         id: u64,
-    ) -> Result<BlockWrite, Refusal>
-        requires set { FitsObjectSet set.now }
+        old: Option<Vec<u8>>,
+    ) -> Result<BlockWrite, AllocError>
         requires id { id < size_of self.now / block_size_of self.now }
-        ensures reads { OnlyReadsBlocks store.old store.new [] }
+        requires old { old ≡ None
+            → IsCovered self.now changes.now.name.now changes.now.items.now.writes id }
+        requires len { IfSome old (λ bytes. length bytes.items ≡ block_size_of self.now) }
         ensures id { IfOk result (λ block. block.id ≡ id) }
         ensures len { IfOk result (λ block. length block.bytes.items ≡ block_size_of self.now) }
-        ensures value { IfOk result (λ block. (stored : Contents) (volume : PlainVolume)
-            → Holds store.old stored → volume.name ≡ changes.now.name.now
-            → HasData stored (block_of self.now).birth set.now (size_of self.now)
-            (block_size_of self.now) volume.bytes → AnswersAreTrue store.old store.new
+        ensures value { IfOk result (λ block. (volume : PlainVolume)
+            → volume.name ≡ changes.now.name.now → length volume.bytes ≡ size_of self.now
+            → IfSome old (λ bytes.
+            bytes.items ≡ part volume.bytes (block_size_of self.now) id)
             → block.bytes.items ≡ part (after_writes volume changes.now.items.now.writes).bytes
             (block_size_of self.now) block.id) }
-        ensures found { IfOk result (λ block.
-            ¬ IsCovered self.now changes.now.name.now changes.now.items.now.writes block.id
-            → (found : Option (List ℕ))
-            × IsFound store.old.spaces self.now set.now block.id found) }
-        ensures unread { IsCovered self.now changes.now.name.now changes.now.items.now.writes id
-            → store.new ≡ store.old }
-        ensures refused { IfErr result (λ refusal. (refusal ≡ Refusal.NoMemory)
-            ⊎ ((¬ IsCovered self.now changes.now.name.now changes.now.items.now.writes id)
-            × IsBlockRefused store.old store.new [] self.now set.now id refusal)) }
-        ensures cause { IfErr result (λ refusal. refusal ≢ Refusal.NoSpace) }
-        ensures known { IfErr result (λ refusal. (stored : Contents) (array : List ℕ)
-            → Holds store.old stored → HasData stored (block_of self.now).birth set.now
-            (size_of self.now) (block_size_of self.now) array → AnswersAreTrue store.old store.new
-            → IsForLoss refusal) }
     {
-        if self.is_covered(changes, id) {
+        let Some(bytes) = old else {
             let zeros = vec![in alloc; 0; self.block_size() as usize]?;
             return Ok(self.laid(changes, id, zeros));
-        }
-        let old = self.block_bytes(set, store, alloc, id, &[])?;
-        Ok(self.laid(changes, id, old))
+        };
+        Ok(self.laid(changes, id, bytes))
     }
 
     /// A block of these bytes with the writes laid over it.
