@@ -18,9 +18,10 @@ use std::alloc::{AllocError, Global};
 
 impl VolumeSet {
     /// A range of the volume's bytes. It reads the block of the object set once and the way to the dnode of object 1, and then
-    /// the way to the blocks in which the range lies, each indirect block once. The set's block was born in the transaction group `birth` or before. The
-    /// disks that are named are taken as missing. `BadPointer` where the set spells no volume there: no object set, or one of
-    /// another kind; no object 1, or one of another type, with blocks of another size or behind the volume's end.
+    /// the way to the blocks in which the range lies, each indirect block once. The set's block was born in the transaction
+    /// group `birth` or before. The disks that are named are taken as missing. `BadPointer` where the set spells no volume
+    /// there: no object set, or one of another kind; no object 1, or one of another type, with blocks of another size or
+    /// behind the volume's end.
     pub fn read<D: Disk + Drop>(
         &self,
         store: &mut BlockStore<D>,
