@@ -58,11 +58,7 @@ impl VolumeSet {
     }
 
     /// The bytes of whole blocks, zeros where nothing was found. `BadPointer` where one has another size.
-    fn all_whole(
-        &self,
-        alloc: Global,
-        found: Vec<Option<Vec<u8>>>,
-    ) -> Result<Vec<Vec<u8>>, Refusal>
+    fn all_whole(&self, alloc: Global, found: Vec<Option<Vec<u8>>>) -> Result<Vec<Vec<u8>>, Refusal>
         ensures len { IfOk result (λ blocks.
             All (λ bytes. length bytes.items ≡ block_size_of self.now) blocks.items) }
         ensures value { IfOk result (λ blocks. AllZip (λ block bytes.
