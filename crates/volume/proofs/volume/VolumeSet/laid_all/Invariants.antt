@@ -1,4 +1,4 @@
-use Rattle.std.proofs.Common.{◌≡◌, List, ℕ, length, map, drop, take}
+use Rattle.std.proofs.Common.{◌≡◌, length, map, drop, take}
 use Rattle.std.specs.Prelude.{All}
 use Rattle.pool_model.specs.declared.volume.PlainVolume.{PlainVolume}
 use Rattle.volume_rules.specs.Overlay.{after_writes}
