@@ -450,10 +450,10 @@ const FLUSH_FAULTS: [(&str, &str); 6] = [
     ("fault 2 flush 1\n", NO_DISK_2),
 ];
 
-/// One read of one disk fails. The disks have 1, 9 and 11 reads for what is pending, then 1, 15
-/// and 17 for the plan of group 5, then 12, 13 and 2 under it, and 1, 9 and 11 under group 4: the
-/// first of all, the plan's first and last, the first and the last under group 5, and the last of
-/// all.
+/// One read of one disk fails. With the way read for each block alone the disks have 1, 9 and 11 reads for what is pending,
+/// then 1, 15 and 17 for the plan of group 5, then 12, 13 and 2 under it, and 1, 9 and 11 under group 4: the first of all, the
+/// plan's first and last, the first and the last under group 5, and the last of all. Blocks that are read together share their
+/// way, so there are fewer, and a fault behind the last one never comes.
 const READ_FAULTS: [(&str, &str); 6] = [
     ("fault 0 read 0\n", ""),
     ("fault 1 read 9\n", ""),
