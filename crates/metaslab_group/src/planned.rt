@@ -129,12 +129,14 @@ pub(crate) fn settle_each(
     pins: &[u64],
     group: u64,
 ) -> Result<(), AllocError>
-    requires none_planned { map (λ m. m.planned) metaslabs.old.items ≡ map (λ m. m.kept) metaslabs.old.items }
+    requires none_planned { map (λ m. m.planned) metaslabs.old.items
+        ≡ map (λ m. m.kept) metaslabs.old.items }
     ensures settled { OnOk result (AreSettled pins.now group
         (map (λ m. m.kept) metaslabs.old.items) (map (λ m. m.kept) metaslabs.new.items)) }
     ensures err { OnErr result (AreSettledInPart pins.now group
         (map (λ m. m.kept) metaslabs.old.items) (map (λ m. m.kept) metaslabs.new.items)) }
-    ensures planned { map (λ m. m.planned) metaslabs.new.items ≡ map (λ m. m.kept) metaslabs.new.items }
+    ensures planned { map (λ m. m.planned) metaslabs.new.items
+        ≡ map (λ m. m.kept) metaslabs.new.items }
 {
     for metaslab in 0..metaslabs.len() {
         metaslabs[metaslab].settle(pins, group)?;

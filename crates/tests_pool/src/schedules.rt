@@ -450,17 +450,17 @@ const FLUSH_FAULTS: [(&str, &str); 6] = [
     ("fault 2 flush 1\n", NO_DISK_2),
 ];
 
-/// One read of one disk fails. With the way read for each block alone the disks have 1, 9 and 11 reads for what is pending,
-/// then 1, 15 and 17 for the plan of group 5, then 12, 13 and 2 under it, and 1, 9 and 11 under group 4: the first of all, the
-/// plan's first and last, the first and the last under group 5, and the last of all. Blocks that are read together share their
-/// way, so there are fewer, and a fault behind the last one never comes.
+/// One read of one disk fails. Where each block of the two is read by a way of its own, the disks have 1, 9 and 11 reads for what
+/// is pending, then 1, 15 and 17 for the plan of group 5, then 12, 13 and 2 under it, and 1, 9 and 11 under group 4. The two share
+/// their way, which is at most four reads less on a disk: so each of these faults comes, the first on the first read of all, and
+/// the last near the last.
 const READ_FAULTS: [(&str, &str); 6] = [
     ("fault 0 read 0\n", ""),
     ("fault 1 read 9\n", ""),
     ("fault 2 read 27\n", ""),
     ("fault 0 read 2\n", ""),
     ("fault 1 read 36\n", ""),
-    ("fault 2 read 40\n", ""),
+    ("fault 2 read 36\n", ""),
 ];
 
 /// Behind it, two groups are committed all the same.
