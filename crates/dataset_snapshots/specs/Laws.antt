@@ -29,6 +29,29 @@ RootsStay =
     (old new : Contents) (bound birth : ℕ) (root : Block) (pool : PlainPool) → bound ≤ birth
     → Extends old new → SpellsPool old bound root pool → SpellsPool new birth root pool
 
+-- each of the blocks that the old contents know the new ones know too, with the same bytes
+abbrev pub KeepsEach : Contents → Contents → List Block → Type 0
+KeepsEach old new blocks =
+    (block : Block) (bytes : List ℕ) → Contains blocks block → old block ≡ Some bytes
+    → new block ≡ Some bytes
+
+-- A root spells its pool still, and leads to the same blocks, where the blocks that it leads to stay
+-- known, whatever becomes of others, and also for a later group.
+abbrev pub RootsStandOnTheirReach : Type 0
+RootsStandOnTheirReach =
+    (old new : Contents) (bound birth : ℕ) (root : Block) (pool : PlainPool) → bound ≤ birth
+    → (is : SpellsPool old bound root pool) → KeepsEach old new (reach_of is)
+    → (still : SpellsPool new birth root pool) × (reach_of still ≡ reach_of is)
+
+-- Each block that a root leads to is known; and where more is known it leads to the same blocks.
+pub record ReachIsKnown : Type 0 where
+  pub known : (stored : Contents) (birth : ℕ) (root : Block) (pool : PlainPool)
+      (is : SpellsPool stored birth root pool) (block : Block) → Contains (reach_of is) block
+      → (bytes : List ℕ) × (stored block ≡ Some bytes)
+  pub stays : (old new : Contents) (bound birth : ℕ) (root : Block) (pool : PlainPool)
+      → bound ≤ birth → Extends old new → (is : SpellsPool old bound root pool)
+      → (still : SpellsPool new birth root pool) × (reach_of still ≡ reach_of is)
+
 -- A block is lost where a name is not found for a fault of disks.
 abbrev pub LossesOfDatasets : Type 0
 LossesOfDatasets =

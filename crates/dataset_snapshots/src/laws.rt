@@ -1,9 +1,19 @@
 //! What follows from the definitions, as functions with no body.
-ghost use Rattle.dataset_snapshots.specs.Laws.{GoodChangesMayBeMade, LossesOfDatasets, LossesOfFirstGroups, LossesOfGroups, LossesOfRanges, ReachesLieApart, ReplacedOfGroupsLeave, RootsStay};
+ghost use Rattle.dataset_snapshots.specs.Laws.{GoodChangesMayBeMade, LossesOfDatasets, LossesOfFirstGroups, LossesOfGroups, LossesOfRanges, ReachesLieApart, ReachIsKnown, ReplacedOfGroupsLeave, RootsStandOnTheirReach, RootsStay};
 
 /// A root spells its pool where more blocks are known, and for a later group.
 pub fn roots_stay()
     ensures { RootsStay }
+{}
+
+/// A root spells its pool, and leads to the same blocks, whatever becomes of blocks that it doesn't lead to.
+pub fn roots_stand_on_their_reach()
+    ensures { RootsStandOnTheirReach }
+{}
+
+/// Each block that a root leads to is known, and it leads to the same blocks where more is known.
+pub fn reach_is_known()
+    ensures { ReachIsKnown }
 {}
 
 /// Where a name is not found for a fault of disks, a block is lost.
