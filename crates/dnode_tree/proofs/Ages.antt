@@ -50,7 +50,7 @@ pub births_stand : BirthsStandOnTheirBlocks
 births_stand old new birth node array blocks births keeps tree were = part_stands old new (property_of node) _ 0 birth node.pointer array blocks births keeps tree.root were
 
 -- the place of an id in one of the parts below a root
-in_part : (first id span : ℕ) → first ≤ id → 0 < span → (first + (id - first) / span * span ≤ id) × (id < first + (id - first) / span * span + span)
+pub in_part : (first id span : ℕ) → first ≤ id → 0 < span → (first + (id - first) / span * span ≤ id) × (id < first + (id - first) / span * span + span)
 in_part first id span from some = (omega (arith, from, some), omega (arith, from, some))
 
 part_within : (stored : Contents) (property : ℕ → Property) (level first birth : ℕ) (pointer : BlockPtr) (array : ℕ → Option (List ℕ)) (blocks : List Block) (births : ℕ → ℕ → ℕ)

@@ -32,6 +32,7 @@ pub mod SameBlocks
 pub mod Replacing
 pub mod Counts
 pub mod Ages
+pub mod Readings
 pub mod Ids
 pub mod Getting
 pub mod WholeGetting

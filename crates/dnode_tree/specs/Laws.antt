@@ -36,3 +36,9 @@ abbrev pub BirthsAreWithin : Type 0
 BirthsAreWithin =
     (stored : Contents) (birth : ℕ) (node : ObjectNode) (array : ℕ → Option (List ℕ)) (blocks : List Block) (births : ℕ → ℕ → ℕ) → node.highest < 128 ^ 5
     → IsTree stored birth node array blocks → HasBirths stored node births → (id : ℕ) → array id ≢ None → births 0 id ≤ birth
+
+-- a tree reads as one array, and has one list of blocks, whatever births are asked
+abbrev pub TreesReadAsOne : Type 0
+TreesReadAsOne =
+    (stored : Contents) (birth later : ℕ) (node : ObjectNode) (array other : ℕ → Option (List ℕ)) (blocks others : List Block) → node.highest < 128 ^ 5
+    → IsTree stored birth node array blocks → IsTree stored later node other others → (array ≡ other) × (blocks ≡ others)

@@ -1,6 +1,6 @@
 //! Laws of trees, as functions with no body: what each ensures follows from the definitions alone.
 ghost use Rattle.dnode_tree.specs.Freeing.{ReplacedAreFreed};
-ghost use Rattle.dnode_tree.specs.Laws.{TreesStandOnTheirBlocks, BlocksOfTreesAreKnown, HolesAreTrees, BirthsStandOnTheirBlocks, BirthsAreWithin};
+ghost use Rattle.dnode_tree.specs.Laws.{TreesStandOnTheirBlocks, BlocksOfTreesAreKnown, HolesAreTrees, BirthsStandOnTheirBlocks, BirthsAreWithin, TreesReadAsOne};
 
 /// A tree keeps its array and its blocks whatever becomes of other blocks.
 pub fn trees_stand_on_their_blocks()
@@ -31,4 +31,9 @@ pub fn births_stand_on_their_blocks()
 /// A data block is as old as its tree, or older.
 pub fn births_are_within()
     ensures { BirthsAreWithin }
+{}
+
+/// A tree reads as one array, and has one list of blocks.
+pub fn trees_read_as_one()
+    ensures { TreesReadAsOne }
 {}
