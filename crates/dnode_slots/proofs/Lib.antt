@@ -9,3 +9,5 @@ mod Refusing
 mod SlotBytes
 pub mod Objects
 pub mod WithinLemmas
+pub mod Spellings
+pub mod Readings

@@ -1,9 +1,9 @@
 -- What bytes spell is one list of pointers.
-use Rattle.std.proofs.Common.{◌≡◌, ℕ, ◌+◌, ◌*◌, ◌^◌, ◌<◌, List, [], ◌∷◌, ◌++◌, length, take, drop, get_or, refl, sym, ap, ◌∙◌, arith}
+use Rattle.std.proofs.Common.{◌≡◌, ℕ, ◌+◌, ◌*◌, ◌^◌, ◌<◌, List, [], ◌∷◌, ◌++◌, length, take, drop, get_or, append_assoc, refl, sym, ap, ◌∙◌, arith}
 use Rattle.std.specs.Prelude.{replicate}
 use Rattle.std.specs.List.{flat_map, AllByRecursion}
 use Rattle.std.specs.Int.{w64, to_le_bytes}
-use Rattle.std.proofs.lemmas.List.{take_at, drop_at}
+use Rattle.std.proofs.lemmas.List.{length-append, take_at, drop_at}
 use Rattle.std.proofs.lemmas.List.Concat.{flat_map-cons}
 use Rattle.std.specs.Int.{from_le_bytes}
 use Rattle.std.proofs.lemmas.Nat.{from_le_bytes-to_le_bytes_8}
@@ -24,13 +24,13 @@ use Rattle.dnode.specs.Indirect.{FitsPointer, SpellsIndirect, indirect_bytes}
 
 -- ---- words
 
-abbrev AreWords : List ℕ → Type 0
+abbrev pub AreWords : List ℕ → Type 0
 AreWords words = AllByRecursion (λ word. word < 2 ^ 64) words
 
-abbrev word_bytes : List ℕ → List ℕ
+abbrev pub word_bytes : List ℕ → List ℕ
 word_bytes words = flat_map (to_le_bytes w64) words
 
-words_same : (words others : List ℕ) → AreWords words → AreWords others → word_bytes words ≡ word_bytes others → words ≡ others
+pub words_same : (words others : List ℕ) → AreWords words → AreWords others → word_bytes words ≡ word_bytes others → words ≡ others
 words_same [] [] fits fit same = refl
 words_same [] (other ∷ others) fits fit same = absurd (omega (arith, ap length same, ap length (flat_map-cons (to_le_bytes w64) other others)))
 words_same (word ∷ words) [] fits fit same = absurd (omega (arith, ap length same, ap length (flat_map-cons (to_le_bytes w64) word words)))
@@ -44,6 +44,10 @@ words_same (word ∷ words) (other ∷ others) fits fit same =
     sym (drop_at (to_le_bytes w64 word) (word_bytes words) 8 refl) ∙ ap (drop 8) parts ∙ drop_at (to_le_bytes w64 other) (word_bytes others) 8 refl in
     ap (λ w. w ∷ words) first ∙ ap (λ ws. other ∷ ws) (words_same words others fits.1 fit.1 rest)
 
+pub bytes_len : (words : List ℕ) → length (word_bytes words) ≡ 8 * length words
+bytes_len [] = refl
+bytes_len (word ∷ words) = ap length (flat_map-cons (to_le_bytes w64) word words) ∙ omega (arith, bytes_len words)
+
 -- ---- blocks
 
 dva_same : (a b : Dva) → FitsDva a → FitsDva b → a.vdev * 2 ^ 32 + a.allocated ≡ b.vdev * 2 ^ 32 + b.allocated → a.offset ≡ b.offset → a ≡ b
@@ -52,7 +56,7 @@ dva_same a b fits fit word offset =
     let allocated : a.allocated ≡ b.allocated = omega (arith, word, vdev) in
     λ i. record { vdev = vdev i; offset = offset i; allocated = allocated i }
 
-at_word : (k : ℕ) (words others : List ℕ) → words ≡ others → get_or words k 0 ≡ get_or others k 0
+pub at_word : (k : ℕ) (words others : List ℕ) → words ≡ others → get_or words k 0 ≡ get_or others k 0
 at_word k words others same = ap (λ ws. get_or ws k 0) same
 
 unused_not : (d : Dva) → FitsDva d → 0 ≡ d.vdev * 2 ^ 32 + d.allocated → ⊥
@@ -110,7 +114,7 @@ block_not_zeros b fits same =
     let property : 0 ≡ property_word b.property = at_word 0 _ _ (ap (drop 6) words ∙ tails b) in
     omega (arith, property)
 
-pointer_same : (p q : BlockPtr) → Fits p → Fits q → spelling p ≡ spelling q → p ≡ q
+pub pointer_same : (p q : BlockPtr) → Fits p → Fits q → spelling p ≡ spelling q → p ≡ q
 pointer_same Hole Hole fits fit same = refl
 pointer_same Hole (At b) fits fit same = absurd (block_not_zeros b fit same)
 pointer_same (At a) Hole fits fit same = absurd (block_not_zeros a fits (sym same))
@@ -136,3 +140,29 @@ lists_same (p ∷ ps) (q ∷ qs) len fits fit same =
 pub spelled_once : (bytes other : List ℕ) (ps qs : List BlockPtr) → bytes ≡ other → SpellsIndirect bytes ps → SpellsIndirect other qs → ps ≡ qs
 spelled_once bytes other ps qs same one two =
     lists_same ps qs (one.0.count ∙ sym two.0.count) one.0.each two.0.each (sym one.1 ∙ same ∙ two.1)
+
+-- ---- pointers in front of other bytes
+
+-- parts of one length
+pub parts_same : (front other rest behind : List ℕ) → length front ≡ length other → front ++ rest ≡ other ++ behind → (front ≡ other) × (rest ≡ behind)
+parts_same front other rest behind len same = (
+  sym (take_at front rest (length other) len) ∙ ap (take (length other)) same ∙ take_at other behind (length other) refl,
+  sym (drop_at front rest (length other) len) ∙ ap (drop (length other)) same ∙ drop_at other behind (length other) refl,
+)
+
+block_not_front : (b : Block) (rest behind : List ℕ) → FitsBlock b → replicate 128 0 ++ rest ≡ (word_bytes (block_words b) ++ b.checksum) ++ behind → ⊥
+block_not_front b rest behind fits same =
+    let whole = same ∙ append_assoc (word_bytes (block_words b)) b.checksum behind in
+    let front : word_bytes (replicate 12 0) ≡ word_bytes (block_words b) = ap (take 96) whole ∙ take_at (word_bytes (block_words b)) (b.checksum ++ behind) 96 (length-words b) in
+    let zeros : AreWords (replicate 12 0) = (omega arith, (omega arith, (omega arith, (omega arith, (omega arith, (omega arith, (omega arith, (omega arith, (omega arith, (omega arith, (omega arith, (omega arith, tt)))))))))))) in
+    let words = words_same (replicate 12 0) (block_words b) zeros (AreWords-block b fits) front in
+    let property : 0 ≡ property_word b.property = at_word 0 _ _ (ap (drop 6) words ∙ tails b) in
+    omega (arith, property)
+
+pub front_pointer : (p q : BlockPtr) (rest : List ℕ) → Fits p → Fits q → spelling p ++ rest ≡ spelling q ++ rest → p ≡ q
+front_pointer Hole Hole rest fits fit same = refl
+front_pointer Hole (At b) rest fits fit same = absurd (block_not_front b rest rest fit same)
+front_pointer (At a) Hole rest fits fit same = absurd (block_not_front a rest rest fits (sym same))
+front_pointer (At a) (At b) rest fits fit same =
+    let len : length (spelling (At a)) ≡ length (spelling (At b)) = omega (arith, ap length same, length-append (spelling (At a)) rest, length-append (spelling (At b)) rest) in
+    pointer_same (At a) (At b) fits fit (parts_same (spelling (At a)) (spelling (At b)) rest rest len same).0
