@@ -14,3 +14,4 @@ pub mod Shapes
 pub mod Trees
 pub mod Underway
 pub mod WithinLemmas
+pub mod Readings

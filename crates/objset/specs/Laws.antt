@@ -1,5 +1,5 @@
 -- What follows from these definitions for those who have objects.
-use Rattle.std.specs.Prelude.{ℕ, ◌≡◌, ◌<◌, ◌≤◌, ◌⊎◌, ◌↔◌, List, Option, Some, Contains, AllPairs}
+use Rattle.std.specs.Prelude.{ℕ, ◌≡◌, ◌^◌, ◌<◌, ◌≤◌, ◌⊎◌, ◌↔◌, List, Option, Some, Contains, AllPairs}
 use Rattle.block_pointer.specs.declared.block.Block.{Block}
 use Rattle.block_store.specs.Blocks.{Contents, Extends}
 use Rattle.dnode.specs.declared.object_set.ObjectSet.{ObjectSet}
@@ -39,3 +39,9 @@ ReplacedOfSetsAreFreed =
     → HasEachOnce changed.own_after changed.after
     × ((block : Block) → Contains done.replaced.items block ↔ (IsOfSet own before block × ¬ IsOfSet changed.own_after changed.after block))
     × AreDistinct done.replaced.items
+
+-- A set has one object at each number and one list of blocks of each, whatever births are asked.
+abbrev pub ObjectsAreOne : Type 0
+ObjectsAreOne =
+    (stored : Contents) (birth later : ℕ) (set : ObjectSet) (objects others : ℕ → Option Object) (own more : List Block) (blocks lists : ℕ → List Block) → set.dnodes.highest < 128 ^ 5
+    → AreObjects stored birth set objects own blocks → AreObjects stored later set others more lists → (objects ≡ others) × (own ≡ more) × (blocks ≡ lists)

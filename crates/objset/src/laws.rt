@@ -1,5 +1,5 @@
 //! What follows from the definitions, as functions with no body.
-ghost use Rattle.objset.specs.Laws.{ObjectsStandOnTheirBlocks, ReplacedOfSetsAreFreed};
+ghost use Rattle.objset.specs.Laws.{ObjectsAreOne, ObjectsStandOnTheirBlocks, ReplacedOfSetsAreFreed};
 
 /// Objects stay what they are whatever becomes of other blocks.
 pub fn objects_stand_on_their_blocks()
@@ -10,4 +10,9 @@ pub fn objects_stand_on_their_blocks()
 /// each block once, as an empty one, and so has the set that `change` makes of it.
 pub fn replaced_blocks_of_sets_are_freed()
     ensures { ReplacedOfSetsAreFreed }
+{}
+
+/// A set has one object at each number, with one list of blocks.
+pub fn objects_are_one()
+    ensures { ObjectsAreOne }
 {}
