@@ -12,6 +12,7 @@ pub mod Putting
 pub mod Needed
 pub mod RangeIds
 mod Ranges
+pub mod Readings
 pub mod Refusing
 pub mod Sizes
 pub mod Standing

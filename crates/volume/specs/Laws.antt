@@ -1,5 +1,5 @@
 -- What follows from these definitions for those who have volumes.
-use Rattle.std.specs.Prelude.{ℕ, ◌≡◌, ◌≤◌, ◌⊎◌, List, [], Some, Vec}
+use Rattle.std.specs.Prelude.{ℕ, ◌≡◌, ◌%◌, ◌≤◌, ◌⊎◌, List, [], Some, Vec}
 use Rattle.std.specs.declared.alloc.Global.{Global}
 use Rattle.block_pointer.specs.declared.block.Block.{Block}
 use Rattle.block_store.specs.declared.refusal.Refusal.{Refusal}
@@ -37,6 +37,17 @@ abbrev pub VolumesStay : Type 0
 VolumesStay =
     (old new : Contents) (bound birth : ℕ) (set_block : Block) (size block_size : ℕ) (array : List ℕ) → bound ≤ birth → Extends old new
     → IsVolume old bound set_block size block_size array → IsVolume new birth set_block size block_size array
+
+-- Of whole blocks a volume reads as one array, by the same set and the same blocks, whatever births are
+-- asked.
+abbrev pub VolumesReadAsOne : Type 0
+VolumesReadAsOne =
+    (stored : Contents) (birth later : ℕ) (set_block : Block) (size block_size : ℕ)
+    (array other : List ℕ) → size % block_size ≡ 0
+    → (one : IsVolume stored birth set_block size block_size array)
+    → (two : IsVolume stored later set_block size block_size other)
+    → (array ≡ other) × (one.set ≡ two.set) × (one.has.own ≡ two.has.own)
+    × (one.has.blocks ≡ two.has.blocks)
 
 -- A block is lost where a fault of disks refuses a read of a range, or of the blocks whose old bytes
 -- writes need; a plan that changes a set's object 1; the placing of blocks; or the writes of a group.
