@@ -1,5 +1,5 @@
 -- The first root of a pool, from the volumes that are made and the tables.
-use Rattle.std.proofs.Common.{◌≡◌, ◌≢◌, ◌⊎◌, inl, inr, ℕ, ◌<◌, ◌≤◌, List, [], ◌∷◌, Option, Some, None, All, ⊎_elim, refl, sym, ap, ◌∙◌, subst, arith}
+use Rattle.std.proofs.Common.{◌≡◌, ◌≢◌, ◌⊎◌, inl, inr, ℕ, ◌<◌, ◌≤◌, List, [], ◌∷◌, ◌++◌, Option, Some, None, All, ⊎_elim, refl, sym, ap, ◌∙◌, subst, arith}
 use Rattle.std.specs.Prelude.{fold}
 use Rattle.std.specs.List.{AllZip}
 use Rattle.std.proofs.lemmas.Bool.{cases_lt}
@@ -32,14 +32,17 @@ use Rattle.dataset_snapshots.specs.Creating.{HasFirstTables}
 use Rattle.dataset_snapshots.specs.Demands.{HasRootPlaces, IsActionRefused, IsRootRefused}
 use Rattle.dataset_snapshots.specs.FirstGroup.{AreFirstGroupChanges, AreFirstVolumes, AreTableChanges, HasFirstPlaces, IsFirstRefused, IsWithTables, empty_meta}
 use Rattle.dataset_snapshots.specs.Groups.{IsSetOf}
-use Rattle.dataset_snapshots.specs.Reach.{HasBlocksOf}
-use Rattle.dataset_snapshots.proofs.KeptVolumes.{listed_spell}
+use Rattle.dataset_snapshots.specs.Leaving.{IsReachExchanged}
+use Rattle.dataset_snapshots.specs.Reach.{HasBlocksOf, blocks_listed, reach_of}
+use Rattle.dataset_snapshots.proofs.Exchanges.{both_given, given_as}
+use Rattle.dataset_snapshots.proofs.KeptVolumes.{datasets_listed_stay, listed_spell}
+use Rattle.dnode_tree.proofs.Exchanging.{count_by-append}
+use Rattle.objset.specs.Within.{blocks_of_set}
 use Rattle.dataset_snapshots.specs.Making.{IsReady, SpellsMaking, after_all}
-use Rattle.dataset_snapshots.specs.Pools.{AreApart, SpellsDataset, SpellsPool, dead_list_kind}
+use Rattle.dataset_snapshots.specs.Pools.{AreApart, SpellsPool, dead_list_kind}
 use Rattle.dataset_snapshots.proofs.Asking.{all_demands_in}
 use Rattle.dataset_snapshots.proofs.GroupRoot.{behind_tables, zip_each}
 use Rattle.dataset_snapshots.proofs.MakingChanges.{changed_behind, changed_front, may_make, unchanged}
-use Rattle.dataset_snapshots.proofs.Staying.{datasets_stay}
 use Rattle.objset.specs.Changes.{copies_of}
 
 abbrev pub nothing : ℕ → Option Object
@@ -133,42 +136,64 @@ module _ (vdevs : List PlainVdev) (making : Making) (changes : List ObjectChange
       subst Has (sym (table_is number low ∙ ap (λ (cs : List ObjectChange). changed cs nothing number) all.1.are)) has
 
   first_volumes : (stored : Contents) (group : ℕ) (lists : ℕ → List Block) (pool : PlainPool) → SpellsMaking stored group nothing lists making pool
-      → AllZip (SpellsDataset stored group (changed changes nothing)) making.directory pool.volumes
+      → AllZip (HasBlocksOf stored group (changed changes nothing) lists) making.directory pool.volumes
   first_volumes stored group lists pool spells =
-      zip_each (SpellsDataset stored group (after_all making nothing)) (SpellsDataset stored group (changed changes nothing)) making.directory pool.volumes (λ row volume is. record {
-        name = is.name;
-        behind = is.behind;
-        r = is.r;
-        has = subst (λ o. HasRecord o is.r) (sym (volume_is row.object is.behind)) is.has;
-        is = is.is;
-        bytes = is.bytes;
-        dead = subst (λ o. HasTable dead_list_kind o []) (sym (volume_is is.r.dead_list (high_number is.r.dead_list is.dead.there is.dead.is))) is.dead;
-      }) (listed_spell stored group (after_all making nothing) lists making.directory pool.volumes spells.volumes).0
+      zip_each (HasBlocksOf stored group (after_all making nothing) lists) (HasBlocksOf stored group (changed changes nothing) lists) making.directory pool.volumes (λ row volume one. (
+        record {
+          name = one.0.name;
+          behind = one.0.behind;
+          r = one.0.r;
+          has = subst (λ o. HasRecord o one.0.r) (sym (volume_is row.object one.0.behind)) one.0.has;
+          is = one.0.is;
+          bytes = one.0.bytes;
+          dead = subst (λ o. HasTable dead_list_kind o []) (sym (volume_is one.0.r.dead_list (high_number one.0.r.dead_list one.0.dead.there one.0.dead.is))) one.0.dead;
+        },
+        one.1,
+      )) spells.volumes
 
-  -- the set of these objects is that of the pool, with the first tables
+  -- the set of these objects is that of the pool, with the first tables, and leads to its own blocks and those of the volumes
   pub spells_first : (stored later : Contents) (group : ℕ) (root : Block) (lists : ℕ → List Block) (pool : PlainPool) → SpellsMaking stored group nothing lists making pool → Extends stored later
-      → IsSetOf later group root sets.Meta (changed changes nothing) → root.birth ≡ group → (is : SpellsPool later group root pool) × HasFirstTables is.objects vdevs
-  spells_first stored later group root lists pool spells more set born = (
-    record {
-      set = set.set;
-      is_set = set.is_set;
-      kind = set.kind_is;
-      objects = changed changes nothing;
-      own = set.own;
-      blocks = set.blocks;
-      are = set.are;
-      rows = making.directory;
-      directory = table_has (λ o. HasDirectory o making.directory) 1 (omega arith) all.1.has_directory;
-      apart = spells.apart;
-      volumes = subst (λ n. AllZip (SpellsDataset later n (changed changes nothing)) making.directory pool.volumes) (sym born)
-          (datasets_stay stored later group (changed changes nothing) making.directory pool.volumes more (first_volumes stored group lists pool spells));
-    },
-    record {
-      config = table_has (λ o. HasConfig o vdevs) 2 (omega arith) all.1.has_config;
-      spans = table_has (λ o. HasTable spans_kind o []) 3 (omega arith) all.1.has_spans;
-      maps = table_has (λ o. HasTable maps_kind o []) 4 (omega arith) all.1.has_maps;
-    },
-  )
+      → (set : IsSetOf later group root sets.Meta (changed changes nothing)) → root.birth ≡ group
+      → (is : SpellsPool later group root pool) × HasFirstTables is.objects vdevs
+      × (reach_of is ≡ root ∷ blocks_of_set set.set set.own set.blocks ++ blocks_listed lists making.directory)
+  spells_first stored later group root lists pool spells more set born =
+      let listed = subst (λ n. AllZip (HasBlocksOf later n (changed changes nothing) lists) making.directory pool.volumes) (sym born)
+      (datasets_listed_stay stored later group (changed changes nothing) lists making.directory pool.volumes more (first_volumes stored group lists pool spells)) in
+      let spelled = listed_spell later root.birth (changed changes nothing) lists making.directory pool.volumes listed in (
+        record {
+          set = set.set;
+          is_set = set.is_set;
+          kind = set.kind_is;
+          objects = changed changes nothing;
+          own = set.own;
+          blocks = set.blocks;
+          are = set.are;
+          rows = making.directory;
+          directory = table_has (λ o. HasDirectory o making.directory) 1 (omega arith) all.1.has_directory;
+          apart = spells.apart;
+          volumes = spelled.0;
+        },
+        record {
+          config = table_has (λ o. HasConfig o vdevs) 2 (omega arith) all.1.has_config;
+          spans = table_has (λ o. HasTable spans_kind o []) 3 (omega arith) all.1.has_spans;
+          maps = table_has (λ o. HasTable maps_kind o []) 4 (omega arith) all.1.has_maps;
+        },
+        ap (λ below. root ∷ blocks_of_set set.set set.own set.blocks ++ below) spelled.1,
+      )
+
+-- ---- what is planned
+
+-- the volumes' blocks first, and then the root with those of the set: nothing else is new, and nothing gave way
+pub first_given : (planned mid later : Contents) (group : ℕ) (root : Block) (new_volumes new_set gone : List Block) → Extends planned mid → Extends mid later
+    → IsReachExchanged group planned mid [] new_volumes []
+    → IsReachExchanged group mid later (blocks_of_set empty_meta [] (λ number. [])) (root ∷ new_set) gone
+    → IsReachExchanged group planned later [] (root ∷ new_set ++ new_volumes) []
+first_given planned mid later group root new_volumes new_set gone first last one two =
+    given_as group planned later ([] ++ blocks_of_set empty_meta [] (λ number. [])) (new_volumes ++ root ∷ new_set) ([] ++ gone) [] (root ∷ new_set ++ new_volumes) [] [] []
+    (both_given group planned mid later [] new_volumes [] (blocks_of_set empty_meta [] (λ number. [])) (root ∷ new_set) gone first last one two)
+    (λ test. omega arith)
+    (λ test. omega (arith, count_by-append test new_volumes (root ∷ new_set), count_by-append test (root ∷ new_set) new_volumes))
+    (λ test. omega (arith, two.before_are test))
 
 -- ---- places and refusals
 

@@ -14,8 +14,10 @@ ghost use Rattle.vdev_label.specs.Plain.{config_view};
 ghost use Rattle.dataset_snapshots.specs.Creating.{HasFirstTables};
 ghost use Rattle.dataset_snapshots.specs.Demands.{IsActionRefused};
 ghost use Rattle.dataset_snapshots.specs.FirstGroup.{AreFirstVolumes, AreTableChanges, HasFirstPlaces, IsFirstRefused, IsWithTables};
+ghost use Rattle.dataset_snapshots.specs.Leaving.{IsReachExchanged};
 ghost use Rattle.dataset_snapshots.specs.Making.{AreGoodCreations, IsReady, SpellsMaking};
 ghost use Rattle.dataset_snapshots.specs.Pools.{SpellsPool};
+ghost use Rattle.dataset_snapshots.specs.Reach.{blocks_listed, reach_of};
 
 use crate::groups::{FIRST_OBJECT, MOST_NAMES, plan_root};
 use crate::making::Making;
@@ -63,12 +65,14 @@ pub fn first_group<D: Disk + Drop>(
     ensures born { IfOk result (λ root. root.birth ≡ group) }
     ensures copies { IfOk result (λ root. length (dvas root.copies) ≡ 3) }
 
-    // It spells the pool after the group, once the plan is stored, and has the tables of a new pool.
+    // It spells the pool after the group, once the plan is stored, and has the tables of a new pool. What is planned is what it
+    // leads to, and nothing else.
     ensures value { IfOk result (λ root. (stored planned : Contents)
         → Plans store.old stored planned → AnswersAreTrue store.old store.new
         → (later : Contents) × Plans store.new stored later × Extends planned later
         × (is : SpellsPool later group root (applied group no_volumes items.now))
-        × HasFirstTables is.objects (config_view config.now)) }
+        × HasFirstTables is.objects (config_view config.now)
+        × IsReachExchanged group planned later [] (reach_of is) []) }
 
     // Over disks that answer truly, and where all may be made, only room is wanting.
     ensures known { IfErr result (λ refusal. (stored planned : Contents)
@@ -102,7 +106,8 @@ fn first_volumes<D: Disk + Drop>(
         → Plans store.old stored planned → AnswersAreTrue store.old store.new
         → (later : Contents) × Plans store.new stored later × Extends planned later
         × (lists : ℕ → List Block) × SpellsMaking later group (λ number. None) lists making
-        (fold (λ p a. changed group p a.change) no_volumes actions.now)) }
+        (fold (λ p a. changed group p a.change) no_volumes actions.now)
+        × IsReachExchanged group planned later [] (blocks_listed lists making.directory) []) }
     ensures known { IfErr result (λ refusal. (stored planned : Contents)
         → Plans store.old stored planned → AnswersAreTrue store.old store.new
         → AreGoodCreations actions.now

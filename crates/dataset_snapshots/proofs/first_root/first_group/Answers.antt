@@ -13,9 +13,13 @@ use Rattle.vdev_label.specs.Plain.{config_view}
 use Rattle.volume.proofs.Made.{no_objects}
 use Rattle.dataset_snapshots.specs.Demands.{HasRootPlaces, IsRootRefused}
 use Rattle.dataset_snapshots.specs.FirstGroup.{AreFirstVolumes, empty_meta}
-use Rattle.dataset_snapshots.specs.Groups.{IsSetOf}
+use Rattle.block_pointer.specs.declared.block.Block.{Block}
+use Rattle.objset.specs.Within.{blocks_of_set}
+use Rattle.dataset_snapshots.specs.Leaving.{IsReachExchanged}
+use Rattle.dataset_snapshots.specs.Reach.{blocks_listed, reach_of}
+use Rattle.dataset_snapshots.proofs.GroupReach.{IsRootGiven}
 use Rattle.dataset_snapshots.specs.Making.{AreGoodCreations, SpellsMaking}
-use Rattle.dataset_snapshots.proofs.FirstRoot.{first_has, first_may, first_set_refused, first_volumes_refused, nothing, pool_first, spells_first}
+use Rattle.dataset_snapshots.proofs.FirstRoot.{first_given, first_has, first_may, first_set_refused, first_volumes_refused, nothing, pool_first, spells_first}
 use Rattle.dataset_snapshots.proofs.GroupDemands.{on_ok_so}
 use Rattle.dataset_snapshots.proofs.first_root.first_group.Goals as goal
 
@@ -48,7 +52,10 @@ returns-clause-value g c =
     let spells = subst (λ (pool : PlainPool). SpellsMaking volumes.0 c.args.group nothing volumes.3 making pool) (pool_first c.args.group c.args.items.now c.actions.result.now c.actions.ensures) volumes.4 in
     let planned_root = both.0 stored volumes.0 0 nothing [] (λ number. []) volumes.1 (no_objects stored 0 empty_meta refl) (omega arith)
     (true_after c.args.store.now c.first_volumes.new.store c.plan_root.new.store c.in_ok-making.ensures.steps.reads honest) in
-    let set = subst (λ (cs : List ObjectChange). IsSetOf planned_root.0 c.args.group root sets.Meta (changed cs nothing)) c.deref.ensures.value planned_root.3 in
+    let given : IsRootGiven volumes.0 planned_root.0 c.args.group root sets.Meta (changed list nothing) (blocks_of_set empty_meta [] (λ number. [])) planned_root.4 =
+    subst (λ (cs : List ObjectChange). IsRootGiven volumes.0 planned_root.0 c.args.group root sets.Meta (changed cs nothing) (blocks_of_set empty_meta [] (λ number. [])) planned_root.4)
+    c.deref.ensures.value (planned_root.3, planned_root.6) in
+    let set = given.0 in
     let is = spells_first (config_view c.args.config.now) making list c.in_ok-making.ensures.ready c.in_ok-changes.ensures.tables volumes.0 planned_root.0 c.args.group root volumes.3 _ spells planned_root.2 set
     both.1 in (
       planned_root.0,
@@ -56,6 +63,9 @@ returns-clause-value g c =
       λ block bytes known. planned_root.2 block bytes (volumes.2 block bytes known),
       is.0,
       is.1,
+      subst (λ (blocks : List Block). IsReachExchanged c.args.group planned planned_root.0 [] blocks []) (sym is.2)
+          (first_given planned volumes.0 planned_root.0 c.args.group root (blocks_listed volumes.3 making.directory) (blocks_of_set set.set set.own set.blocks) planned_root.4 volumes.2 planned_root.2
+          volumes.5 given.1),
     ))
     (ok_both c.plan_root.result _ _ c.plan_root.ensures.value c.plan_root.ensures.born)
 
