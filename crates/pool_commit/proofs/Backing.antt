@@ -116,6 +116,8 @@ backs_after s store missing v reads backs = record {
     plans = reads.plans backs.blocks.stored backs.blocks.planned backs.blocks.plans;
     kept = backs.blocks.kept;
     plan = plan_stays s store backs.blocks.planned s.planned v (ap (λ (t : Store). t.due) reads.rest) (ap (λ (t : Store). t.out) reads.rest) reads.reads backs.blocks.plan;
+    reached = backs.blocks.reached;
+    plan_reached = backs.blocks.plan_reached;
   };
 }
 

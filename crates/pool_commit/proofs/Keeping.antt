@@ -38,32 +38,32 @@ last_kept stored kept v c spells = go (is_kept v v.committed) refl (subst (λ (o
     go true e s = (e, subst (λ (t : Bool). SpellsKept stored v.committed (Some kept.last) (if t then Some (v.pools v.committed) else None)) e s)
     go false e s = absurd (subst (λ (t : Bool). SpellsKept stored v.committed (Some kept.last) (if t then Some (v.pools v.committed) else None)) e s)
 
-first_low : (v : View) → is_kept v v.committed ≡ true → v.first ≤ v.committed
+pub first_low : (v : View) → is_kept v v.committed ≡ true → v.first ≤ v.committed
 first_low v e = grind (arith, nat_tests, e)
 
 -- what is kept after one more group is committed, group by group
-new_group : (kept new : Kept) (c group : ℕ) → new.committed ≡ suc c → group ≡ suc c → group_at new group ≡ Some new.last
+pub new_group : (kept new : Kept) (c group : ℕ) → new.committed ≡ suc c → group ≡ suc c → group_at new group ≡ Some new.last
 new_group kept new c group n e = grind (arith, nat_tests, n, e)
 
-new_pool : (v : View) (group : ℕ) → v.first ≤ v.committed → group ≡ suc v.committed → kept_pool (committed_next v) group ≡ Some (pool_after v)
+pub new_pool : (v : View) (group : ℕ) → v.first ≤ v.committed → group ≡ suc v.committed → kept_pool (committed_next v) group ≡ Some (pool_after v)
 new_pool v group low e = subst (λ g. kept_pool (committed_next v) g ≡ Some (pool_after v)) (sym e) (there v low)
   where
     there : (v : View) → v.first ≤ v.committed → kept_pool (committed_next v) (suc v.committed) ≡ Some (pool_after v)
     there v low = grind (arith, nat_tests, low)
 
-old_group : (kept new : Kept) (c group : ℕ) → kept.committed ≡ c → new.committed ≡ suc c → new.before ≡ Some kept.last → new.earliest ≡ kept.before
+pub old_group : (kept new : Kept) (c group : ℕ) → kept.committed ≡ c → new.committed ≡ suc c → new.before ≡ Some kept.last → new.earliest ≡ kept.before
     → (group ≡ c) ⊎ (suc group ≡ c) → group_at new group ≡ group_at kept group
 old_group kept new c group k n b e (inl at) = grind (arith, nat_tests, k, n, b, at)
 old_group kept new c group k n b e (inr at) = grind (arith, nat_tests, k, n, e, at)
 
-old_pool : (v : View) (group : ℕ) → (group ≡ v.committed) ⊎ (suc group ≡ v.committed) → kept_pool (committed_next v) group ≡ kept_pool v group
+pub old_pool : (v : View) (group : ℕ) → (group ≡ v.committed) ⊎ (suc group ≡ v.committed) → kept_pool (committed_next v) group ≡ kept_pool v group
 old_pool v group (inl at) = grind (arith, nat_tests, at)
 old_pool v group (inr at) = grind (arith, nat_tests, at)
 
-gone_group : (new : Kept) (c group : ℕ) → new.committed ≡ suc c → group ≢ suc c → group ≢ c → suc group ≢ c → group_at new group ≡ None
+pub gone_group : (new : Kept) (c group : ℕ) → new.committed ≡ suc c → group ≢ suc c → group ≢ c → suc group ≢ c → group_at new group ≡ None
 gone_group new c group n a b d = grind (arith, nat_tests, n, a, b, d)
 
-gone_pool : (v : View) (group : ℕ) → group ≢ suc v.committed → group ≢ v.committed → suc group ≢ v.committed → kept_pool (committed_next v) group ≡ None
+pub gone_pool : (v : View) (group : ℕ) → group ≢ suc v.committed → group ≢ v.committed → suc group ≢ v.committed → kept_pool (committed_next v) group ≡ None
 gone_pool v group a b d = grind (arith, nat_tests, a, b, d)
 
 pub kept_next : (v : View) (kept new : Kept) (stored planned : Contents) → kept.committed ≡ v.committed → new.committed ≡ suc v.committed

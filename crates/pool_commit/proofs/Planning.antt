@@ -26,12 +26,16 @@ use Rattle.pool_model.proofs.Plans.{writes_on, is_plan as plan_of}
 use Rattle.pool_model.specs.Pools.{PlainPool, Entry, applied}
 use Rattle.pool_model.specs.View.{View, Vdev, DueCall, Sync, Due, is_planned, counted, disks_of, disks_in_use}
 use Rattle.pool_commit.specs.declared.kept.Planned.{Planned}
-use Rattle.pool_commit.specs.Backs.{Backs, IsPlanOf, left_calls, SpellsGroup}
+use Rattle.block_pointer.specs.declared.block.Block.{Block}
+use Rattle.dataset_snapshots.specs.Leaving.{IsReachExchanged}
+use Rattle.pool_commit.specs.Backs.{Backs, IsPlanOf, LeadsTo, left_calls, SpellsGroup}
 use Rattle.pool_commit.specs.Making.{writes_left}
 use Rattle.pool_commit.specs.Config.{shown, vdevs_of}
 use Rattle.pool_commit.specs.Room.{IsBegun}
-use Rattle.pool_commit.specs.State.{State}
-use Rattle.pool_commit.proofs.Backing.{last_spelled}
+use Rattle.pool_commit.specs.State.{State, group_at}
+use Rattle.pool_commit.proofs.Backing.{last_at, last_spelled}
+use Rattle.pool_commit.proofs.Reaching.{kept_leads, plan_reaches}
+use Rattle.pool_commit.proofs.Reaching.{no_plan as no_reach}
 use Rattle.pool_commit.proofs.Tolerating.{vdev_at}
 
 -- ---- disks in lists
@@ -163,8 +167,17 @@ backs_begun s store v out shapes plans sync none backs = record {
     plans = plans backs.blocks.stored backs.blocks.plans.held;
     kept = backs.blocks.kept;
     plan = none;
+    reached = backs.blocks.reached;
+    plan_reached = tt;
   };
 }
+
+-- nothing but what is stored is planned then
+pub begun_plans : (s : State) (store : Store) (v : View) (out : store.out ≡ s.store.out) (shapes : shapes_of store.spaces ≡ shapes_of s.store.spaces)
+    (plans : (stored : Contents) → Holds s.store stored → Plans store stored stored) (sync : Sync) (none : is_planned sync ≡ false) (backs : Backs s v)
+    → Plans store (backs_begun s store v out shapes plans sync none backs).blocks.stored (backs_begun s store v out shapes plans sync none backs).blocks.stored
+unfolding backs_begun
+begun_plans s store v out shapes plans sync none backs = plans backs.blocks.stored backs.blocks.plans.held
 
 -- and where more was planned since, but no plan was made
 pub backs_still : (s : State) (new : Store) (v : View) → s.planned ≡ None → OnlyReadsAndPlans s.store new [] → Backs s v
@@ -181,6 +194,8 @@ backs_still s new v no_plan kept backs =
         plans = there.1;
         kept = backs.blocks.kept;
         plan = none_is_left s new backs.blocks.planned there.0 s.planned v no_plan backs.blocks.plan;
+        reached = backs.blocks.reached;
+        plan_reached = no_reach backs.blocks.stored there.0 s.planned v no_plan;
       };
     }
   where
@@ -193,24 +208,44 @@ backs_still s new v no_plan kept backs =
 pub unplanned_still : (s : State) (planned : Option Planned) (v : View) → planned ≡ None → Backs (record s { planned = None }) v → Backs (record s { planned = planned }) v
 unplanned_still s planned v none backs = subst (λ (o : Option Planned). Backs (record s { planned = o }) v) (sym none) backs
 
+-- the committed group leads to the blocks of its reach
+last_leads : (s : State) (v : View) (backs : Backs s v) → LeadsTo backs.blocks.stored v.committed s.kept.last.root (v.pools v.committed) (backs.blocks.reached.reach v.committed)
+last_leads s v backs =
+    kept_leads backs.blocks.stored v v.committed (group_at s.kept v.committed) s.kept.last (backs.blocks.reached.reach v.committed)
+    (ap (group_at s.kept) (sym backs.committed) ∙ last_at s.kept) (backs.blocks.reached.leads v.committed)
+
 -- the next group, once it was planned
 abbrev pub IsAfter : Store → Store → ℕ → KeptGroup → Entry → KeptGroup → Type 0
 IsAfter old new group last items after =
-    (stored planned : Contents) (pool : PlainPool) → Plans old stored planned → SpellsGroup stored (group - 1) last pool → AnswersAreTrue old new
+    (stored planned : Contents) (pool : PlainPool) (before : List Block) → Plans old stored planned → SpellsGroup stored (group - 1) last pool
+    → LeadsTo stored (group - 1) last.root pool before → AnswersAreTrue old new
     → (later : Contents) × Plans new stored later × Extends planned later × SpellsGroup later group after (applied group pool items)
+    × (reach : List Block) × LeadsTo later group after.root (applied group pool items) reach × (gone : List Block) × IsReachExchanged group planned later before reach gone
 
-pub plan_is_backed : (s : State) (new : Store) (group : ℕ) (last : KeptGroup) (plan : Planned) (items : Entry) (v : View) → Backs s v → s.store.due ≡ []
+-- and its blocks are what its root leads to, for those of the group before
+abbrev LeadsOn : Contents → Contents → ℕ → KeptGroup → PlainPool → List Block → Type 0
+LeadsOn stored later group after pool before =
+    (reach : List Block) × LeadsTo later group after.root pool reach × (gone : List Block) × IsReachExchanged group stored later before reach gone
+
+pub plan_is_backed : (s : State) (new : Store) (group : ℕ) (last : KeptGroup) (plan : Planned) (items : Entry) (v : View) → (backs : Backs s v) → s.store.due ≡ []
     → group ≡ suc v.committed → last ≡ s.kept.last → items ≡ v.ledger (suc v.committed)
     → plan.flushes.items ≡ filter (λ disk. not (is_out s.store.out disk)) (disks_of (vdevs_of s.store.spaces))
-    → OnlyReadsAndPlans s.store new [] → AnswersAreTrue s.store new → IsAfter s.store new group last items plan.after
+    → OnlyReadsAndPlans s.store new [] → AnswersAreTrue s.store new → Plans s.store backs.blocks.stored backs.blocks.stored → IsAfter s.store new group last items plan.after
     → (calls : List DueCall) × IsPlan v calls × Backs (record { store = new; kept = s.kept; planned = Some plan }) (record v { sync = Due calls })
-plan_is_backed s new group last plan items v backs none next is_last are flushes kept honest after =
+plan_is_backed s new group last plan items v backs none next is_last are flushes kept honest begun after =
     let before : group - 1 ≡ v.committed = omega arith in
     let pool : PlainPool = v.pools v.committed in
     let spelled : SpellsGroup backs.blocks.stored (group - 1) last pool =
     subst (λ (n : ℕ). SpellsGroup backs.blocks.stored n last pool) (sym before)
     (subst (λ (kept : KeptGroup). SpellsGroup backs.blocks.stored v.committed kept pool) (sym is_last) (last_spelled s v backs)) in
-    let there = after backs.blocks.stored backs.blocks.planned pool backs.blocks.plans spelled honest in
+    let led_last : LeadsTo backs.blocks.stored v.committed last.root pool (backs.blocks.reached.reach v.committed) =
+    subst (λ (kept : KeptGroup). LeadsTo backs.blocks.stored v.committed kept.root pool (backs.blocks.reached.reach v.committed)) (sym is_last) (last_leads s v backs) in
+    let led : LeadsTo backs.blocks.stored (group - 1) last.root pool (backs.blocks.reached.reach v.committed) =
+    subst (λ (n : ℕ). LeadsTo backs.blocks.stored n last.root pool (backs.blocks.reached.reach v.committed)) (sym before) led_last in
+    let there = after backs.blocks.stored backs.blocks.stored pool (backs.blocks.reached.reach v.committed) begun spelled led honest in
+    let on : LeadsOn backs.blocks.stored there.0 (suc v.committed) plan.after (applied (suc v.committed) pool (v.ledger (suc v.committed))) (backs.blocks.reached.reach v.committed) =
+    subst (λ (entry : Entry). LeadsOn backs.blocks.stored there.0 (suc v.committed) plan.after (applied (suc v.committed) pool entry) (backs.blocks.reached.reach v.committed)) are
+    (subst (λ (n : ℕ). LeadsOn backs.blocks.stored there.0 n plan.after (applied n pool items) (backs.blocks.reached.reach v.committed)) next (there.4, there.5, there.6, there.7)) in
     let all : plan.flushes.items ≡ disks_in_use v =
     flushes ∙ (λ i. filter (λ disk. not (sym (backs.out disk) i)) (disks_of (sym backs.vdevs i))) in
     let plan_is : IsPlan v (left_calls none_before new.due plan.flushes.items) =
@@ -237,6 +272,8 @@ plan_is_backed s new group last plan items v backs none next is_last are flushes
             in_use = subst (λ (out : List Bool). AllByRecursion (λ (call : DueCall). is_out out call.disk ≡ false) (left_calls none_before new.due plan.flushes.items)) (sym kept.out)
                 (calls_in_use s.store v (left_calls none_before new.due plan.flushes.items) backs.out plan_is.in_use);
           };
+          reached = backs.blocks.reached;
+          plan_reached = plan_reaches backs.blocks.stored there.0 plan.after v last.root pool (backs.blocks.reached.reach v.committed) on.0 on.2 led_last (backs.blocks.reached.once v.committed) on.1 on.3;
         };
       },
     )

@@ -22,14 +22,17 @@ use Rattle.pool_commit.specs.declared.device.Progress.{Progress}
 use Rattle.pool_commit.specs.declared.device.Progress.TheVariants.{Moved, Done, Dropped}
 use Rattle.pool_commit.specs.declared.kept.Kept.{Kept}
 use Rattle.pool_commit.specs.declared.kept.Planned.{Planned}
-use Rattle.pool_commit.specs.Backs.{Backs, IsPlanOf, IsToFlush, SpellsKept, kept_pool, left_calls, pool_after, SpellsGroup}
+use Rattle.pool_commit.specs.Backs.{Backs, IsPlanOf, IsToFlush, PlansReach, SpellsKept, StoresReach, kept_pool, left_calls, pool_after, SpellsGroup}
 use Rattle.pool_commit.specs.Calls.{disk_call, made_between, faults_between, unread_between, called_between, IsFlushed}
 use Rattle.pool_commit.specs.Config.{shown, vdevs_of}
 use Rattle.pool_commit.specs.HasDisks.{AreBelow, HasDisks}
 use Rattle.pool_commit.specs.Making.{writes_left, flushes_left, MadeCalls, FailedCall, FlushesMove}
 use Rattle.pool_commit.specs.Progress.{AreMade, Progresses, GoesOn, DropsPlan, with_plan}
 use Rattle.pool_commit.specs.State.{State, group_at}
-use Rattle.pool_commit.proofs.Keeping.{kept_next}
+use Rattle.block_store.proofs.Fewer.{fewer_planned}
+use Rattle.block_store.specs.Blocks.{Contents}
+use Rattle.pool_commit.proofs.Keeping.{first_low, kept_next, last_kept}
+use Rattle.pool_commit.proofs.Reaching.{among, forgets, kept_blocks, no_plan, reached_next, spells_next}
 use Rattle.pool_commit.proofs.Made.{writes_count}
 
 -- only the shapes of the vdevs matter
@@ -175,6 +178,8 @@ goes_on old mid plan later v phase n (Moved moved) new after_made backs low some
                 (subst (AllByRecursion (λ (call : DueCall). is_out mid.out call.disk ≡ false)) so.order
                 (subst (λ (out : List Bool). AllByRecursion (λ (call : DueCall). is_out out call.disk ≡ false) left) (sym so.out) has.in_use));
           };
+          reached = backs.blocks.reached;
+          plan_reached = subst (λ (g : KeptGroup). PlansReach backs.blocks.stored backs.blocks.planned (suc v.committed) g (pool_after v)) (sym same) backs.blocks.plan_reached;
         };
       },
     )
@@ -185,7 +190,11 @@ goes_on old mid plan later v phase n (Moved moved) new after_made backs low some
 goes_on old mid plan later v phase n Done new after_made backs low some few so next stays same goes =
     let has = backs.blocks.plan in
     let left : List DueCall = left_calls has.counts old.store.due plan.flushes.items in
-    let next_group = goes.3.committed (subst (λ c. c < 2 ^ 62) (sym backs.committed) low) ∙ ap suc backs.committed in (
+    let next_group = goes.3.committed (subst (λ c. c < 2 ^ 62) (sym backs.committed) low) ∙ ap suc backs.committed in
+    let reaches : PlansReach backs.blocks.stored backs.blocks.planned (suc v.committed) new.kept.last (pool_after v) =
+    subst (λ (g : KeptGroup). PlansReach backs.blocks.stored backs.blocks.planned (suc v.committed) g (pool_after v)) (sym (goes.3.last ∙ same)) backs.blocks.plan_reached in
+    let left_over : Contents = among (kept_blocks v.committed backs.blocks.reached.reach reaches.reach) backs.blocks.planned in
+    let low_first = first_low v (last_kept backs.blocks.stored old.kept v backs.committed (backs.blocks.kept v.committed)).0 in (
       record {
         left = left;
         made = so.made;
@@ -201,13 +210,20 @@ goes_on old mid plan later v phase n Done new after_made backs low some few so n
         out = λ disk. backs.out disk ∙ ap (λ (out : List Bool). is_out out disk) (sym (goes.2.out ∙ so.out));
         committed = next_group;
         blocks = record {
-          stored = backs.blocks.planned;
-          planned = backs.blocks.planned;
-          plans = goes.2.plans backs.blocks.stored backs.blocks.planned (so.same.plans backs.blocks.stored backs.blocks.planned backs.blocks.plans);
-          kept = kept_next v old.kept new.kept backs.blocks.stored backs.blocks.planned backs.committed
+          stored = left_over;
+          planned = left_over;
+          plans = fewer_planned new.store backs.blocks.planned backs.blocks.planned left_over left_over
+              (forgets new.store (kept_blocks v.committed backs.blocks.reached.reach reaches.reach) backs.blocks.planned)
+              (goes.2.plans backs.blocks.stored backs.blocks.planned (so.same.plans backs.blocks.stored backs.blocks.planned backs.blocks.plans));
+          kept = spells_next v old.kept new.kept backs.blocks.stored backs.blocks.planned backs.blocks.reached reaches low_first backs.committed
               next_group goes.3.before goes.3.earliest backs.blocks.plans.kept
-              (subst (λ (g : KeptGroup). SpellsGroup backs.blocks.planned (suc v.committed) g (pool_after v)) (sym (goes.3.last ∙ same)) has.spells) backs.blocks.kept;
-          plan = subst (λ (o : Option Planned). IsPlanOf new backs.blocks.planned o (committed_next v)) (sym goes.4) refl;
+              (kept_next v old.kept new.kept backs.blocks.stored backs.blocks.planned backs.committed
+              next_group goes.3.before goes.3.earliest backs.blocks.plans.kept
+              (subst (λ (g : KeptGroup). SpellsGroup backs.blocks.planned (suc v.committed) g (pool_after v)) (sym (goes.3.last ∙ same)) has.spells) backs.blocks.kept);
+          plan = subst (λ (o : Option Planned). IsPlanOf new left_over o (committed_next v)) (sym goes.4) refl;
+          reached = reached_next v old.kept new.kept backs.blocks.stored backs.blocks.planned backs.blocks.reached reaches low_first backs.committed
+              next_group goes.3.before goes.3.earliest backs.blocks.plans.kept;
+          plan_reached = no_plan left_over left_over new.planned (committed_next v) goes.4;
         };
       },
     )
@@ -258,6 +274,8 @@ drops old mid plan v phase disk new backs failed next drop kept none =
           plans = drop.plans backs.blocks.stored backs.blocks.planned (failed.same.plans backs.blocks.stored backs.blocks.planned backs.blocks.plans);
           kept = subst (λ (k : Kept). (group : ℕ) → SpellsKept backs.blocks.stored group (group_at k group) (kept_pool v group)) (sym kept) backs.blocks.kept;
           plan = subst (λ (o : Option Planned). IsPlanOf new backs.blocks.stored o (dropped v disk)) (sym none) (none_planned v.sync);
+          reached = subst (λ (k : Kept). StoresReach backs.blocks.stored k (kept_pool v)) (sym kept) backs.blocks.reached;
+          plan_reached = no_plan backs.blocks.stored backs.blocks.stored new.planned (dropped v disk) none;
         };
       },
     )

@@ -17,9 +17,10 @@ use Rattle.pool_commit.specs.declared.kept.KeptGroup.{KeptGroup}
 use Rattle.pool_model.specs.Pools.{PlainPool, no_volumes}
 use Rattle.pool_model.specs.View.{Vdev, started}
 use Rattle.pool_commit.specs.declared.kept.Kept.{Kept}
-use Rattle.pool_commit.specs.Backs.{Backs, SpellsKept, kept_pool, SpellsGroup, SpellsRoot}
+use Rattle.pool_commit.specs.Backs.{Backs, KeptLeadsTo, LeadsTo, SpellsKept, kept_pool, SpellsGroup, SpellsRoot}
 use Rattle.pool_commit.specs.Config.{shown, vdevs_from}
 use Rattle.pool_commit.specs.State.{IsFirst, group_at}
+use Rattle.pool_commit.proofs.Reaching.{none_distinct}
 
 vdev_is : (first : ℕ) (config : Geometry) (vdev : VdevOnDisks) → vdev.first ≡ first → vdev.geometry ≡ config
     → record { first = first; children = config.children; parity = config.parity } ≡ shown vdev
@@ -66,6 +67,30 @@ no_volumes_first kept is stored birth = record {
   names = is.names;
 }
 
+-- and nothing is led to
+leads_first : (kept : Kept) (vdevs : List Vdev) → IsFirst kept → (group : ℕ) → KeptLeadsTo nothing_stored group (group_at kept group) (kept_pool (started vdevs) group) []
+leads_first kept vdevs is group = elim (cases_eq group 3) [
+  | inl at ↦
+      subst (λ (o : Option KeptGroup). KeptLeadsTo nothing_stored group o (kept_pool (started vdevs) group) []) (sym (there at))
+      (subst (λ (o : Option PlainPool). KeptLeadsTo nothing_stored group (Some kept.last) o []) (sym (pool_there at))
+      (subst (λ (root : Option Block). LeadsTo nothing_stored group root no_volumes []) (sym is.root) refl))
+  | inr other ↦
+      subst (λ (o : Option KeptGroup). KeptLeadsTo nothing_stored group o (kept_pool (started vdevs) group) []) (sym (gone other))
+      (subst (λ (o : Option PlainPool). KeptLeadsTo nothing_stored group None o []) (sym (pool_gone other)) refl)
+]
+  where
+    there : group ≡ 3 → group_at kept group ≡ Some kept.last
+    there at = grind (arith, nat_tests, is.committed, at)
+
+    pool_there : group ≡ 3 → kept_pool (started vdevs) group ≡ Some no_volumes
+    pool_there at = grind (arith, nat_tests, at)
+
+    gone : group ≢ 3 → group_at kept group ≡ None
+    gone other = grind (arith, nat_tests, is.committed, is.before, is.earliest, other)
+
+    pool_gone : group ≢ 3 → kept_pool (started vdevs) group ≡ None
+    pool_gone other = grind (arith, nat_tests, other)
+
 pub starts : (store : Store) (kept : Kept) (configs : List VdevConfig) → AreShapes store.disks.starts 0 configs (shapes_of store.spaces)
     → ((disk : ℕ) → is_out store.out disk ≡ false) → Plans store nothing_stored nothing_stored → IsFirst kept
     → Backs (record { store = store; kept = kept; planned = None }) (started (vdevs_from 0 configs))
@@ -79,5 +104,12 @@ starts store kept configs shapes out plans first = record {
     plans = plans;
     kept = kept_first kept (vdevs_from 0 configs) first.committed first.before first.earliest (no_volumes_first kept first);
     plan = refl;
+    reached = record {
+      reach = λ group. [];
+      leads = leads_first kept (vdevs_from 0 configs) first;
+      once = λ group. none_distinct;
+      only = λ block bytes known. absurd (let clash : None ≡ Some bytes = known in cc);
+    };
+    plan_reached = tt;
   };
 }

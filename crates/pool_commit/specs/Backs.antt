@@ -7,9 +7,12 @@ use Rattle.block_store.specs.Plans.{Plans}
 use Rattle.block_store.specs.Store.{Store, is_out}
 use Rattle.block_pointer.specs.declared.block.Block.{Block}
 use Rattle.dataset_snapshots.specs.Pools.{SpellsPool}
+use Rattle.dataset_snapshots.specs.Reach.{reach_of}
+use Rattle.dnode_tree.specs.Rewriting.{AreDistinct}
 use Rattle.pool_model.specs.Pools.{PlainPool, applied, no_volumes}
 use Rattle.pool_model.specs.View.{View, DueCall, Due, is_planned, is_kept, disks_in_use}
 use Rattle.volume_rules.specs.Index.{Knows}
+use Rattle.pool_commit.specs.declared.kept.Kept.{Kept}
 use Rattle.pool_commit.specs.declared.kept.KeptGroup.{KeptGroup}
 use Rattle.pool_commit.specs.declared.kept.Planned.{Planned}
 use Rattle.pool_commit.specs.Calls.{IsFlushed}
@@ -63,6 +66,38 @@ abbrev pub IsPlanOf : State → Contents → Option Planned → View → Type 0
 IsPlanOf s planned None v = is_planned v.sync ≡ false
 IsPlanOf s planned (Some plan) v = HasPlan s planned plan v
 
+-- ---- what the roots lead to
+
+-- these are all blocks that a group's root leads to; with no root there are none
+abbrev pub LeadsTo : Contents → ℕ → Option Block → PlainPool → List Block → Type 0
+LeadsTo stored group (Some root) pool blocks = (is : SpellsPool stored group root pool) × (reach_of is ≡ blocks)
+LeadsTo stored group None pool blocks = blocks ≡ []
+
+-- so it is of a kept group; one that isn't there leads to none
+abbrev pub KeptLeadsTo : Contents → ℕ → Option KeptGroup → Option PlainPool → List Block → Type 0
+KeptLeadsTo stored group (Some kept) (Some pool) blocks = LeadsTo stored group kept.root pool blocks
+KeptLeadsTo stored group None None blocks = blocks ≡ []
+KeptLeadsTo stored group (Some kept) None blocks = ⊥
+KeptLeadsTo stored group None (Some pool) blocks = ⊥
+
+-- each kept group leads to blocks, to none of them twice, and no other block is stored
+pub record StoresReach (stored : Contents) (kept : Kept) (pools : ℕ → Option PlainPool) : Type 0 where
+  pub reach : ℕ → List Block
+  pub leads : (group : ℕ) → KeptLeadsTo stored group (group_at kept group) (pools group) (reach group)
+  pub once : (group : ℕ) → AreDistinct (reach group)
+  pub only : (block : Block) (bytes : List ℕ) → stored block ≡ Some bytes → (group : ℕ) × Contains (reach group) block
+
+-- a group that is planned leads to blocks, to none of them twice, and beside what is stored no other block is planned
+pub record PlansReach (stored planned : Contents) (group : ℕ) (after : KeptGroup) (pool : PlainPool) : Type 0 where
+  pub reach : List Block
+  pub leads : LeadsTo planned group after.root pool reach
+  pub once : AreDistinct reach
+  pub only : (block : Block) (bytes : List ℕ) → planned block ≡ Some bytes → Contains reach block ⊎ (stored block ≡ Some bytes)
+
+abbrev pub IsReachOfPlan : Contents → Contents → Option Planned → View → Type 0
+IsReachOfPlan stored planned None v = Unit {0}
+IsReachOfPlan stored planned (Some plan) v = PlansReach stored planned (suc v.committed) plan.after (pool_after v)
+
 -- each block taken with the bytes that it was written with
 pub record HasBlocks (s : State) (v : View) : Type 0 where
   pub stored : Contents
@@ -70,6 +105,8 @@ pub record HasBlocks (s : State) (v : View) : Type 0 where
   pub plans : Plans s.store stored planned
   pub kept : (group : ℕ) → SpellsKept stored group (group_at s.kept group) (kept_pool v group)
   pub plan : IsPlanOf s planned s.planned v
+  pub reached : StoresReach stored s.kept (kept_pool v)
+  pub plan_reached : IsReachOfPlan stored planned s.planned v
 
 pub record Backs (s : State) (v : View) : Type 0 where
   pub vdevs : v.vdevs ≡ vdevs_of s.store.spaces

@@ -12,7 +12,8 @@ ghost use Rattle.pool_model.specs.Machine.{IsPlan};
 ghost use Rattle.volume_rules.specs.GoodChanges.{MakesGoodVolumes};
 ghost use Rattle.volume_rules.specs.Index.{Knows};
 ghost use Rattle.block_store.specs.declared.refusal.Refusal.TheVariants as lost_blocks;
-ghost use Rattle.pool_commit.specs.Backs.{Backs, SpellsGroup, SpellsRoot};
+ghost use Rattle.dataset_snapshots.specs.Leaving.{IsReachExchanged};
+ghost use Rattle.pool_commit.specs.Backs.{Backs, LeadsTo, SpellsGroup, SpellsRoot};
 ghost use Rattle.pool_commit.specs.Reading.{PoolAnswersTruly, IsReadFault};
 ghost use Rattle.pool_commit.specs.Reading.{IsUnreadForPlan, IsLostForPlan};
 ghost use Rattle.pool_commit.specs.Room.{LacksRoom, IsNextRefused};
@@ -44,7 +45,10 @@ fn first_root<D: Disk + Drop>(
     ensures value { IfOk result (λ root. (stored planned : Contents)
         → Plans store.old stored planned → AnswersAreTrue store.old store.new
         → (later : Contents) × Plans store.new stored later × Extends planned later
-        × SpellsRoot later group (Some root) (applied group no_volumes items.now)) }
+        × SpellsRoot later group (Some root) (applied group no_volumes items.now)
+        × (reach : List Block) × LeadsTo later group (Some root)
+        (applied group no_volumes items.now) reach
+        × IsReachExchanged group planned later [] reach []) }
     ensures known { IfErr result (λ refusal. (stored planned : Contents)
         → Plans store.old stored planned → AnswersAreTrue store.old store.new
         → MakesGoodVolumes items.now → IsForRoom refusal ⊎ (refusal ≡ lost_blocks.DiskFault)) }
@@ -66,10 +70,15 @@ fn root_after<D: Disk + Drop>(
     requires born { 0 < group }
     ensures steps { OnlyReadsAndPlans store.old store.new [] }
     ensures value { IfOk result (λ root. (stored planned : Contents) (pool : PlainPool)
+        (before : List Block)
         → Plans store.old stored planned → SpellsRoot stored (group - 1) last.now.root pool
+        → LeadsTo stored (group - 1) last.now.root pool before
         → AnswersAreTrue store.old store.new
         → (later : Contents) × Plans store.new stored later × Extends planned later
-        × SpellsRoot later group (Some root) (applied group pool items.now)) }
+        × SpellsRoot later group (Some root) (applied group pool items.now)
+        × (reach : List Block) × LeadsTo later group (Some root)
+        (applied group pool items.now) reach
+        × (gone : List Block) × IsReachExchanged group planned later before reach gone) }
     ensures known { IfErr result (λ refusal. (stored planned : Contents) (pool : PlainPool)
         → Plans store.old stored planned → SpellsRoot stored (group - 1) last.now.root pool
         → AnswersAreTrue store.old store.new → MakesGoodVolumes items.now
@@ -78,7 +87,10 @@ fn root_after<D: Disk + Drop>(
         (IsNextRefused store.old store.new last.now.root group items.now) }
 {
     match &last.root {
-        Some(root) => Ok(after_group(root, store, alloc, group, items)?.root),
+        Some(root) => {
+            let next = after_group(root, store, alloc, group, items)?;
+            Ok(next.root)
+        }
         None => first_root(store, alloc, group, items),
     }
 }
@@ -111,10 +123,15 @@ fn group_after<D: Disk + Drop>(
     requires born { 0 < group }
     ensures steps { OnlyReadsAndPlans store.old store.new [] }
     ensures value { IfOk result (λ after. (stored planned : Contents) (pool : PlainPool)
+        (before : List Block)
         → Plans store.old stored planned → SpellsGroup stored (group - 1) last.now pool
+        → LeadsTo stored (group - 1) last.now.root pool before
         → AnswersAreTrue store.old store.new
         → (later : Contents) × Plans store.new stored later × Extends planned later
-        × SpellsGroup later group after (applied group pool items.now)) }
+        × SpellsGroup later group after (applied group pool items.now)
+        × (reach : List Block) × LeadsTo later group after.root
+        (applied group pool items.now) reach
+        × (gone : List Block) × IsReachExchanged group planned later before reach gone) }
     ensures known { IfErr result (λ refusal. (stored planned : Contents) (pool : PlainPool)
         → Plans store.old stored planned → SpellsGroup stored (group - 1) last.now pool
         → AnswersAreTrue store.old store.new → MakesGoodVolumes items.now

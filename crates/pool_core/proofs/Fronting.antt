@@ -16,7 +16,7 @@ use Rattle.pool_model.proofs.Plans.{nothing_quiet, may_nothing}
 use Rattle.pool_intake.specs.declared.intake.Intake.{Intake}
 use Rattle.pool_intake.specs.Follows.{Follows, KeepsCommitted}
 use Rattle.pool_commit.specs.declared.kept.Planned.{Planned}
-use Rattle.pool_commit.specs.Backs.{Backs, IsPlanOf, SpellsGroup, SpellsKept, kept_pool, pool_after}
+use Rattle.pool_commit.specs.Backs.{Backs, IsPlanOf, IsReachOfPlan, KeptLeadsTo, PlansReach, SpellsGroup, SpellsKept, kept_pool, pool_after}
 use Rattle.pool_commit.specs.Calls.{fault_call, unread_call, which_call}
 use Rattle.pool_commit.specs.State.{State, group_at}
 use Rattle.pool_commit.proofs.Made.{made_by_none, told_by_none}
@@ -48,6 +48,13 @@ plan_kept s planned (Some plan) v w k is = record {
   in_use = is.in_use;
 }
 
+reach_kept : (s : State) (stored planned : Contents) (plan : Option Planned) (v w : View) → KeepsCommitted v w → IsPlanOf s planned plan v → IsReachOfPlan stored planned plan v
+    → IsReachOfPlan stored planned plan w
+reach_kept s stored planned None v w k is reach = tt
+reach_kept s stored planned (Some plan) v w k is reach =
+    subst (λ (p : PlainPool). PlansReach stored planned (suc w.committed) plan.after p) (sym (made_kept v w k (ap is_syncing is.sync)))
+    (subst (λ c. PlansReach stored planned (suc c) plan.after (pool_after v)) (sym k.committed) reach)
+
 pub backs_kept : (s : State) (v w : View) → KeepsCommitted v w → Backs s v → Backs s w
 backs_kept s v w k backs = record {
   vdevs = k.vdevs ∙ backs.vdevs;
@@ -59,6 +66,15 @@ backs_kept s v w k backs = record {
     plans = backs.blocks.plans;
     kept = λ group. subst (λ (o : Option PlainPool). SpellsKept backs.blocks.stored group (group_at s.kept group) o) (sym (pool_kept v w k group)) (backs.blocks.kept group);
     plan = plan_kept s backs.blocks.planned s.planned v w k backs.blocks.plan;
+    reached = record {
+      reach = backs.blocks.reached.reach;
+      leads = λ group.
+          subst (λ (o : Option PlainPool). KeptLeadsTo backs.blocks.stored group (group_at s.kept group) o (backs.blocks.reached.reach group)) (sym (pool_kept v w k group))
+          (backs.blocks.reached.leads group);
+      once = backs.blocks.reached.once;
+      only = backs.blocks.reached.only;
+    };
+    plan_reached = reach_kept s backs.blocks.stored backs.blocks.planned s.planned v w k backs.blocks.plan backs.blocks.plan_reached;
   };
 }
 

@@ -24,7 +24,7 @@ use Rattle.pool_intake.specs.Follows.{Follows}
 use Rattle.pool_intake.proofs.Stepping.{followed}
 use Rattle.pool_commit.specs.declared.device.Progress.TheVariants as progress
 use Rattle.pool_commit.specs.declared.kept.Planned.{Planned as PlannedGroup}
-use Rattle.pool_commit.specs.Backs.{Backs, IsPlanOf}
+use Rattle.pool_commit.specs.Backs.{Backs, IsPlanOf, IsReachOfPlan}
 use Rattle.pool_commit.specs.Calls.{disk_call, plan_call, fault_call, unread_call, told_since, made_between, faults_between, unread_between, GrewTo, which_call, called_between}
 use Rattle.pool_commit.specs.Progress.{AreMade, Progresses}
 use Rattle.pool_commit.specs.Reading.{IsLostUnder, IsLostForPlan}
@@ -333,12 +333,24 @@ backs_taken s v backs none = record {
   vdevs = backs.vdevs;
   out = backs.out;
   committed = backs.committed;
-  blocks = record { stored = backs.blocks.stored; planned = backs.blocks.planned; plans = backs.blocks.plans; kept = backs.blocks.kept; plan = still s.planned backs.blocks.plan };
+  blocks = record {
+    stored = backs.blocks.stored;
+    planned = backs.blocks.planned;
+    plans = backs.blocks.plans;
+    kept = backs.blocks.kept;
+    plan = still s.planned backs.blocks.plan;
+    reached = backs.blocks.reached;
+    plan_reached = same_reach s.planned backs.blocks.plan_reached;
+  };
 }
   where
     still : (plan : Option PlannedGroup) → IsPlanOf s backs.blocks.planned plan v → IsPlanOf s backs.blocks.planned plan (taken v Unplanned)
     still None is = refl
     still (Some plan) is = absurd (true≢false (sym (ap is_planned is.sync) ∙ none))
+
+    same_reach : (plan : Option PlannedGroup) → IsReachOfPlan backs.blocks.stored backs.blocks.planned plan v → IsReachOfPlan backs.blocks.stored backs.blocks.planned plan (taken v Unplanned)
+    same_reach None is = tt
+    same_reach (Some plan) is = is
 
 -- a group is taken, and planned
 pub plans : (s : CoreState) (intake : Intake) (commit : State) (v : View) (trusted : Bool) (timestamp group : ℕ) (calls : List DueCall)

@@ -1,7 +1,8 @@
-use Rattle.std.proofs.Common.{[]}
+use Rattle.std.proofs.Common.{[], refl}
 use Rattle.std.proofs.lemmas.Result.{IfOk-weaker, IfErr-weaker}
 use Rattle.block_store.proofs.Steps.{steps_none}
 use Rattle.dataset_snapshots.proofs.GoodNames.{good_changes_may_be_made}
+use Rattle.dataset_snapshots.specs.Reach.{reach_of}
 use Rattle.pool_commit.proofs.plan.first_root.Goals as goal
 
 pub returns-in_err-config-clause-steps : goal.returns-in_err-config-clause-steps
@@ -9,7 +10,7 @@ returns-in_err-config-clause-steps g c = steps_none c.args.store.now []
 
 pub returns-clause-value : goal.returns-clause-value
 returns-clause-value g c =
-    IfOk-weaker c.first_group.result _ _ (λ root known stored planned plans honest. let there = known stored planned plans honest in (there.0, there.1, there.2, there.3)) c.first_group.ensures.value
+    IfOk-weaker c.first_group.result _ _ (λ root known stored planned plans honest. let there = known stored planned plans honest in (there.0, there.1, there.2, there.3, reach_of there.3, (there.3, refl), there.5)) c.first_group.ensures.value
 
 pub returns-clause-known : goal.returns-clause-known
 returns-clause-known g c =

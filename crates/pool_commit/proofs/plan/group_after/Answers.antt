@@ -11,6 +11,6 @@ returns-in_err-root-clause-known g c =
     passed_on _ _ _ c.from_residual-in_err-root.ensures.1 (λ stored planned pool plans spells honest good. c.in_err-root.ensures.known stored planned pool plans spells.root honest good)
 
 pub returns-clause-value : goal.returns-clause-value
-returns-clause-value g c = λ stored planned pool plans spells honest.
-    let there = c.in_ok-root.ensures.value stored planned pool plans spells.root honest in
-    (there.0, there.1, there.2, record { root = there.3; names = c.in_ok-names.ensures pool spells.names })
+returns-clause-value g c = λ stored planned pool before plans spells leads honest.
+    let there = c.in_ok-root.ensures.value stored planned pool before plans spells.root leads honest in
+    (there.0, there.1, there.2, record { root = there.3; names = c.in_ok-names.ensures pool spells.names }, there.4, there.5, there.6, there.7)

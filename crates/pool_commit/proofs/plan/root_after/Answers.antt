@@ -1,32 +1,59 @@
-use Rattle.std.proofs.Common.{◌≡◌, ◌-◌, Option, sym, subst}
+use Rattle.std.proofs.Common.{ℕ, ◌≡◌, ◌-◌, List, [], Option, Some, refl, sym, subst}
 use Rattle.std.proofs.lemmas.Result.{IfOk-weaker, IfErr-weaker}
 use Rattle.block_pointer.specs.declared.block.Block.{Block}
 use Rattle.dataset_snapshots.proofs.GoodNames.{good_changes_may_be_made}
 use Rattle.dnode_tree.proofs.Refusing.{passed_on}
-use Rattle.dataset_snapshots.specs.Pools.{SpellsPool}
-use Rattle.pool_model.specs.Pools.{PlainPool, applied, no_volumes}
-use Rattle.pool_commit.specs.Backs.{SpellsRoot}
+use Rattle.pool_model.specs.Pools.{Entry, PlainPool, applied, no_volumes}
+use Rattle.block_store.specs.Blocks.{Contents}
+use Rattle.dataset_snapshots.specs.Leaving.{IsReachExchanged}
+use Rattle.dataset_snapshots.specs.Reach.{reach_of}
+use Rattle.pool_commit.specs.Backs.{LeadsTo, SpellsRoot}
 use Rattle.pool_commit.proofs.plan.root_after.Goals as goal
 
-pub returns-in_ok-after_group-in-Some-clause-value : goal.returns-in_ok-after_group-in-Some-clause-value
-returns-in_ok-after_group-in-Some-clause-value g c = λ stored planned pool plans spells honest.
-    let there = c.in_ok-after_group-in-Some.ensures.value stored planned pool plans (subst (λ (o : Option Block). SpellsRoot stored (c.args.group - 1) o pool) c.in-Some.is spells) honest in
-    (there.0, there.1, there.2, there.3)
+pub returns-in_ok-next-in-Some-clause-value : goal.returns-in_ok-next-in-Some-clause-value
+returns-in_ok-next-in-Some-clause-value g c = λ stored planned pool before plans spells leads honest.
+    let led = subst (λ (o : Option Block). LeadsTo stored (c.args.group - 1) o pool before) c.in-Some.is leads in
+    let there = c.in_ok-next-in-Some.ensures.value stored planned pool plans led.0 honest in (
+      there.0,
+      there.1,
+      there.2,
+      there.3,
+      reach_of there.3,
+      (there.3, refl),
+      c.in_ok-next-in-Some.next.replaced.items,
+      subst (λ (blocks : List Block). IsReachExchanged c.args.group planned there.0 blocks (reach_of there.3) c.in_ok-next-in-Some.next.replaced.items) led.1 there.5,
+    )
 
-pub returns-in_err-after_group-in-Some-clause-known : goal.returns-in_err-after_group-in-Some-clause-known
-returns-in_err-after_group-in-Some-clause-known g c =
+pub returns-in_err-next-in-Some-clause-known : goal.returns-in_err-next-in-Some-clause-known
+returns-in_err-next-in-Some-clause-known g c =
     passed_on _ _ _ c.from_residual.ensures.1
     (λ stored planned pool plans spells honest good.
-    c.in_err-after_group-in-Some.ensures.known stored planned pool plans (subst (λ (o : Option Block). SpellsRoot stored (c.args.group - 1) o pool) c.in-Some.is spells) honest
+    c.in_err-next-in-Some.ensures.known stored planned pool plans (subst (λ (o : Option Block). SpellsRoot stored (c.args.group - 1) o pool) c.in-Some.is spells) honest
     (good_changes_may_be_made c.args.items.now good))
+
+-- a root was planned where there was none
+abbrev IsFirst : Contents → Contents → ℕ → Block → Entry → PlainPool → Type 0
+IsFirst planned later group root items pool =
+    SpellsRoot later group (Some root) (applied group pool items)
+    × (reach : List Block) × LeadsTo later group (Some root) (applied group pool items) reach × IsReachExchanged group planned later [] reach []
 
 pub returns-in-None-clause-value : goal.returns-in-None-clause-value
 returns-in-None-clause-value g c =
     IfOk-weaker c.first_root.result _ _
-    (λ root known stored planned pool plans spells honest.
+    (λ root known stored planned pool before plans spells leads honest.
     let empty : pool ≡ no_volumes = subst (λ (o : Option Block). SpellsRoot stored (c.args.group - 1) o pool) c.in-None.is spells in
+    let nothing : before ≡ [] = subst (λ (o : Option Block). LeadsTo stored (c.args.group - 1) o pool before) c.in-None.is leads in
     let there = known stored planned plans honest in
-    (there.0, there.1, there.2, subst (λ (p : PlainPool). SpellsPool there.0 c.args.group root (applied c.args.group p c.args.items.now)) (sym empty) there.3))
+    let first : IsFirst planned there.0 c.args.group root c.args.items.now pool = subst (IsFirst planned there.0 c.args.group root c.args.items.now) (sym empty) (there.3, there.4, there.5, there.6) in (
+      there.0,
+      there.1,
+      there.2,
+      first.0,
+      first.1,
+      first.2,
+      [],
+      subst (λ (blocks : List Block). IsReachExchanged c.args.group planned there.0 blocks first.1 []) (sym nothing) first.3,
+    ))
     c.first_root.ensures.value
 
 pub returns-in-None-clause-known : goal.returns-in-None-clause-known

@@ -11,7 +11,7 @@ use Rattle.pool_commit.specs.Room.{IsNextRefused, IsPlanRefused}
 use Rattle.pool_commit.specs.State.{State}
 use Rattle.pool_commit.specs.StateOf.{state_of}
 use Rattle.pool_commit.proofs.Backing.{last_spelled}
-use Rattle.pool_commit.proofs.Planning.{is_begun, untouched_since, at_error, backs_begun, backs_still, unplanned_still, plan_is_backed}
+use Rattle.pool_commit.proofs.Planning.{is_begun, untouched_since, at_error, backs_begun, backs_still, begun_plans, unplanned_still, plan_is_backed}
 use Rattle.pool_commit.proofs.Refusing.{no_config, only_room, plan_faults}
 use Rattle.pool_commit.proofs.Suspending.{still}
 use Rattle.pool_commit.proofs.Unread.{lost_for_plan}
@@ -39,7 +39,8 @@ returns-in-Ok-clause-planned g c = λ v backs none few items honest.
     let next : c.saturating_add-group.result ≡ suc v.committed = let same = c.committed.ensures ∙ backs.committed in omega arith in
     plan_is_backed s c.group_after.new.store c.saturating_add-group.result c.last-last.result.now (record { after = c.in-Ok.after; flushes = c.in_ok-flushes.flushes })
     c.args.items.now v begun c.begin_plan.ensures.due next c.last-last.ensures items c.in_ok-flushes.ensures.disks c.in-Ok.ensures.steps
-    (subst (λ (disks : Disks). IsHonestSince disks c.group_after.new.store.disks) (sym c.begin_plan.ensures.disks) honest) c.in-Ok.ensures.value
+    (subst (λ (disks : Disks). IsHonestSince disks c.group_after.new.store.disks) (sym c.begin_plan.ensures.disks) honest)
+    (begun_plans (state_of c.args.self.now) c.begin_plan.new.self v c.begin_plan.ensures.out c.begin_plan.ensures.shapes c.begin_plan.ensures.plans v.sync none backs) c.in-Ok.ensures.value
 
 pub returns-in_err-flushes-clause-unplanned : goal.returns-in_err-flushes-clause-unplanned
 returns-in_err-flushes-clause-unplanned g c = at_error c.from_residual.result _ (λ v backs none.
