@@ -8,3 +8,4 @@ pub mod Ordered
 pub mod Spans
 pub mod Maps
 pub mod Losses
+pub mod Readings

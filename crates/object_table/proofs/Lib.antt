@@ -2,3 +2,4 @@ pub mod Seams
 pub mod Tables
 pub mod Written
 pub mod Losses
+pub mod Readings
