@@ -23,6 +23,7 @@ pub mod PlacedRecord
 pub mod PlacedVolumes
 pub mod Pushing
 pub mod Reaching
+pub mod Readings
 pub mod Rows
 pub mod Standing
 pub mod Staying

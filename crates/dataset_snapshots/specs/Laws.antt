@@ -52,6 +52,13 @@ pub record ReachIsKnown : Type 0 where
       → bound ≤ birth → Extends old new → (is : SpellsPool old bound root pool)
       → (still : SpellsPool new birth root pool) × (reach_of still ≡ reach_of is)
 
+-- A root spells one pool and leads to one list of blocks, whatever births are asked.
+abbrev pub RootsSpellOnePool : Type 0
+RootsSpellOnePool =
+    (stored : Contents) (birth later : ℕ) (root : Block) (pool other : PlainPool)
+    → (one : SpellsPool stored birth root pool) → (two : SpellsPool stored later root other)
+    → (pool ≡ other) × (reach_of one ≡ reach_of two)
+
 -- A block is lost where a name is not found for a fault of disks.
 abbrev pub LossesOfDatasets : Type 0
 LossesOfDatasets =

@@ -1,5 +1,5 @@
 //! What follows from the definitions, as functions with no body.
-ghost use Rattle.dataset_snapshots.specs.Laws.{GoodChangesMayBeMade, LossesOfDatasets, LossesOfFirstGroups, LossesOfGroups, LossesOfRanges, ReachesLieApart, ReachIsKnown, ReplacedOfGroupsLeave, RootsStandOnTheirReach, RootsStay};
+ghost use Rattle.dataset_snapshots.specs.Laws.{GoodChangesMayBeMade, LossesOfDatasets, LossesOfFirstGroups, LossesOfGroups, LossesOfRanges, ReachesLieApart, ReachIsKnown, ReplacedOfGroupsLeave, RootsSpellOnePool, RootsStandOnTheirReach, RootsStay};
 
 /// A root spells its pool where more blocks are known, and for a later group.
 pub fn roots_stay()
@@ -14,6 +14,11 @@ pub fn roots_stand_on_their_reach()
 /// Each block that a root leads to is known, and it leads to the same blocks where more is known.
 pub fn reach_is_known()
     ensures { ReachIsKnown }
+{}
+
+/// A root spells one pool, and leads to one list of blocks.
+pub fn roots_spell_one_pool()
+    ensures { RootsSpellOnePool }
 {}
 
 /// Where a name is not found for a fault of disks, a block is lost.
