@@ -24,6 +24,7 @@ pub mod PlacedVolumes
 pub mod Pushing
 pub mod Reaching
 pub mod Readings
+pub mod ReadRefusals
 pub mod Rows
 pub mod Standing
 pub mod Staying

@@ -10,6 +10,7 @@ use Rattle.block_store.specs.Losses.{IsBlockLost}
 use Rattle.block_store.specs.Places.{ArePlacesApart}
 use Rattle.block_store.specs.Store.{Holds, Store}
 use Rattle.dnode_tree.specs.Freeing.{AreOnlyIn}
+use Rattle.dnode_tree.specs.ReadRefusals.{IsForRead}
 use Rattle.dnode_tree.specs.Rewriting.{AreDistinct}
 use Rattle.pool_model.specs.Pools.{Entry, PlainPool}
 use Rattle.volume_rules.specs.GoodChanges.{MakesGoodVolumes}
@@ -21,7 +22,7 @@ use Rattle.dataset_snapshots.specs.Making.{AreGoodCreations}
 use Rattle.dataset_snapshots.specs.Leaving.{IsReachExchanged}
 use Rattle.dataset_snapshots.specs.Pools.{SpellsPool}
 use Rattle.dataset_snapshots.specs.Ranges.{IsRangeRefused}
-use Rattle.dataset_snapshots.specs.Reach.{reach_of}
+use Rattle.dataset_snapshots.specs.Reach.{reach_of, IsReachRefused}
 
 -- A root spells its pool still where more blocks are known, and for a later group.
 abbrev pub RootsStay : Type 0
@@ -87,6 +88,18 @@ LossesOfRanges =
     (offset len : ℕ) (refusal : Refusal)
     → IsRangeRefused old new missing birth root name offset len refusal
     → refusal ≡ DiskFault → IsBlockLost old new missing
+
+-- What the search for a name, the read of a range, or the walk of all blocks under a root is refused
+-- for: memory, a fault of disks, or a block that is not what its pointer says, and so never room.
+pub record ReadsNeedNoRoom : Type 0 where
+  pub names : (old new : Store) (missing : List ℕ) (birth : ℕ) (root : Block) (name : List ℕ)
+      (refusal : Refusal) → IsRefused old new missing birth root name refusal → IsForRead refusal
+  pub ranges : (old new : Store) (missing : List ℕ) (birth : ℕ) (root : Block) (name : List ℕ)
+      (offset len : ℕ) (refusal : Refusal)
+      → IsRangeRefused old new missing birth root name offset len refusal → IsForRead refusal
+  pub reaches : (old new : Store) (missing : List ℕ) (birth : ℕ) (root : Block)
+      (before after : ℕ) (refusal : Refusal)
+      → IsReachRefused old new missing birth root before after refusal → IsForRead refusal
 
 -- What a pool accepts to be made can have its row and its volume.
 abbrev pub GoodChangesMayBeMade : Type 0

@@ -11,3 +11,4 @@ pub mod Objects
 pub mod WithinLemmas
 pub mod Spellings
 pub mod Readings
+pub mod ReadRefusals

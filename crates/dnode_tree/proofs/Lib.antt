@@ -36,3 +36,4 @@ pub mod Readings
 pub mod Ids
 pub mod Getting
 pub mod WholeGetting
+pub mod ReadRefusals

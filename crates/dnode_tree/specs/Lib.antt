@@ -3,6 +3,7 @@ pub mod Freeing
 pub mod Laws
 pub mod PartsRefused
 pub mod PartsRewritten
+pub mod ReadRefusals
 pub mod Refused
 pub mod Rewriting
 pub mod Spots

@@ -9,3 +9,4 @@ pub mod Spans
 pub mod Maps
 pub mod Losses
 pub mod Readings
+pub mod ReadRefusals

@@ -3,3 +3,4 @@ pub mod Tables
 pub mod Written
 pub mod Losses
 pub mod Readings
+pub mod ReadRefusals

@@ -15,3 +15,4 @@ pub mod Trees
 pub mod Underway
 pub mod WithinLemmas
 pub mod Readings
+pub mod ReadRefusals

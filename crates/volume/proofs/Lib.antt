@@ -13,6 +13,7 @@ pub mod Needed
 pub mod RangeIds
 mod Ranges
 pub mod Readings
+pub mod ReadRefusals
 pub mod Refusing
 pub mod Sizes
 pub mod Standing
