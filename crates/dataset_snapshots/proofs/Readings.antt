@@ -14,7 +14,6 @@ use Rattle.objset.proofs.Readings.{objects_are_one}
 use Rattle.objset.specs.Objects.{Object, AreObjects}
 use Rattle.objset.specs.Within.{blocks_of_set}
 use Rattle.pool_model.specs.declared.volume.PlainVolume.{PlainVolume}
-use Rattle.pool_model.specs.Pools.{PlainPool}
 use Rattle.volume.proofs.Readings.{volumes_read_as_one}
 use Rattle.volume.specs.Volume.{IsVolume}
 use Rattle.volume.specs.Walking.{blocks_of_volume}

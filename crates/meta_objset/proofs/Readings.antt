@@ -4,7 +4,6 @@ use Rattle.std.proofs.lemmas.List.{length-append}
 use Rattle.std.proofs.lemmas.List.Elements.{All-head, All-tail}
 use Rattle.words.specs.Words.{word_bytes}
 use Rattle.words.proofs.WordLemmas.{length-word_bytes}
-use Rattle.block_pointer.specs.declared.block.Block.{Block}
 use Rattle.block_pointer.specs.declared.pointer.BlockPtr.TheVariants.{Block as At}
 use Rattle.block_pointer.specs.Pointer.{spelling}
 use Rattle.dnode_tree.proofs.Spellings.{at_word, front_pointer, parts_same, words_same}
