@@ -1,0 +1,5 @@
+pub mod Blocks
+pub mod Datasets
+pub mod Sound
+pub mod Operations
+pub mod Runs
