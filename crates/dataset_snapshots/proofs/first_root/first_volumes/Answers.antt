@@ -14,8 +14,7 @@ returns-in_err-make_all-clause-known g c =
 pub returns-clause-value : goal.returns-clause-value
 returns-clause-value g c = λ stored planned plans honest.
     let made = c.in_ok-make_all.ensures.value stored planned nothing (λ number. []) no_volumes plans
-    (begins_first (record { directory = c.new.result; changes = c.new-2.result; next = 5 }) c.new.ensures c.new-2.ensures.items planned c.args.group) honest in
-    (
+    (begins_first (record { directory = c.new.result; changes = c.new-2.result; next = 5 }) c.new.ensures c.new-2.ensures.items planned c.args.group) honest in (
       made.0,
       made.1,
       made.2,
