@@ -10,3 +10,4 @@ mod Taking
 mod Removing
 mod Steps
 mod WholeRuns
+mod RowLists

@@ -3,3 +3,4 @@ pub mod Datasets
 pub mod Sound
 pub mod Operations
 pub mod Runs
+pub mod Rows

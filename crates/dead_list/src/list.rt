@@ -13,7 +13,7 @@ use std::marker::Model;
 /// The one error is that memory is short. It leaves each list with the blocks that it had.
 #[derive(Debug, Drop)]
 pub struct DeadList {
-    blocks: Vec<Block>,
+    pub(crate) blocks: Vec<Block>,
 }
 
 impl Model for DeadList {
