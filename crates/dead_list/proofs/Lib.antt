@@ -10,4 +10,4 @@ mod Taking
 mod Removing
 mod Steps
 mod WholeRuns
-mod RowLists
+pub mod RowLists

@@ -1,6 +1,6 @@
 //! Dead lists: the blocks that a dataset does not reach any more and the snapshot before it does, by the groups
-//! that they were born in, and the rows that spell them. And the laws of datasets that keep such lists: what snapshots, clones, overwrites and
-//! destroys free is what nothing reaches any more.
+//! that they were born in, and the rows that spell them. And the laws of datasets that keep such lists: what
+//! snapshots, clones, overwrites and destroys free is what nothing reaches any more.
 #![tactic(auto)]
 
 mod laws;

@@ -1,0 +1,62 @@
+use Rattle.std.proofs.Common.{ℕ, List, inl, inr, ⊎_elim, subst, ◌∙◌}
+use Rattle.std.proofs.lemmas.Result.{IfOk-weaker, IfErr-weaker}
+use Rattle.dnode_tree.proofs.Refusing.{passed_on}
+use Rattle.dead_list_objects.proofs.Unread.{unread, lossy}
+use Rattle.dead_list.specs.Rows.{SpellsList, SpellsNoList}
+use Rattle.dead_list_objects.proofs.reading.read_dead_list.Goals as goal
+
+pub returns-in_err-rows-clause-known : goal.returns-in_err-rows-clause-known
+returns-in_err-rows-clause-known g c =
+    passed_on _ _ _ c.from_residual.ensures.1
+    (λ stored objects own blocks held are honest.
+    ⊎_elim (λ loss. inl (lossy _ loss)) (λ bad. inr (λ some. bad.1 some.1.0 some.1.1))
+    (c.in_err-rows.ensures.known stored objects own blocks held are honest))
+
+pub returns-in_err-rows-clause-refused : goal.returns-in_err-rows-clause-refused
+returns-in_err-rows-clause-refused g c =
+    passed_on _ _ _ c.from_residual.ensures.1 (inl (unread _ _ _ _ _ _ _ c.in_err-rows.ensures.refused))
+
+pub returns-clause-value : goal.returns-clause-value
+returns-clause-value g c =
+    IfOk-weaker c.list_of.result _ _
+    (λ list spells stored objects own blocks held are honest. (
+      c.in_ok-rows.rows.items,
+      c.in_ok-rows.ensures.value stored objects own blocks held are honest,
+      subst (λ (bytes : List ℕ). SpellsList bytes list) c.deref.ensures.value spells,
+    ))
+    c.list_of.ensures.found
+
+pub returns-clause-found : goal.returns-clause-found
+returns-clause-found g c =
+    IfOk-weaker c.list_of.result _ _
+    (λ list spells. (
+      c.in_ok-rows.rows.items,
+      c.in_ok-rows.ensures.found,
+      subst (λ (bytes : List ℕ). SpellsList bytes list) c.deref.ensures.value spells,
+    ))
+    c.list_of.ensures.found
+
+pub returns-clause-refused : goal.returns-clause-refused
+returns-clause-refused g c =
+    IfErr-weaker c.list_of.result _ _
+    (λ refusal. ⊎_elim (λ memory. inl (inl memory))
+    (λ bad. inr (
+      bad.0,
+      (
+        c.in_ok-rows.rows.items,
+        c.in_ok-rows.ensures.found,
+        subst (λ (bytes : List ℕ). SpellsNoList bytes) c.deref.ensures.value bad.1,
+      ),
+    )))
+    c.list_of.ensures.refused
+
+pub returns-clause-known : goal.returns-clause-known
+returns-clause-known g c =
+    IfErr-weaker c.list_of.result _ _
+    (λ refusal why stored objects own blocks held are honest.
+    ⊎_elim (λ memory. inl (inl memory))
+    (λ bad. inr (λ some.
+    let same = c.deref.ensures.value ∙ c.in_ok-rows.ensures.one stored objects own blocks held are honest some.1.0 some.1.1 in
+    subst (λ (bytes : List ℕ). SpellsNoList bytes) same bad.1 some.1.2.0 some.1.2.2))
+    why)
+    c.list_of.ensures.refused

@@ -1,0 +1,13 @@
+-- What a list's reader answers where its rows are not read.
+use Rattle.block_store.specs.declared.refusal.Refusal.{Refusal as StoreRefusal}
+use Rattle.block_store.specs.declared.refusal.Refusal.TheVariants.{NoMemory as NoStoreMemory, DiskFault, NoSpace, BadPointer, BadDigest, BadConfig}
+use Rattle.dead_list_objects.specs.declared.refusal.Refusal.{Refusal}
+use Rattle.dead_list_objects.specs.declared.refusal.Refusal.TheVariants.{NoMemory, Unread}
+
+abbrev pub of_read : StoreRefusal → Refusal
+of_read NoStoreMemory = NoMemory
+of_read DiskFault = Unread DiskFault
+of_read NoSpace = Unread NoSpace
+of_read BadPointer = Unread BadPointer
+of_read BadDigest = Unread BadDigest
+of_read BadConfig = Unread BadConfig

@@ -1,0 +1,12 @@
+//! Dead lists as objects of the meta object set.
+#![tactic(auto)]
+
+mod kind;
+mod making;
+mod reading;
+mod refusal;
+
+pub use kind::DEAD_LIST_KIND;
+pub use making::{creation, replacement};
+pub use reading::read_dead_list;
+pub use refusal::Refusal;

@@ -1,0 +1,64 @@
+//! Dead lists are read.
+ghost use Rattle.std.specs.Prelude.{◌≡◌, ◌⊎◌, ℕ, List, Option, IfOk, IfErr};
+ghost use Rattle.block_pointer.specs.declared.block.Block.{Block};
+ghost use Rattle.block_store.specs.Blocks.{Contents};
+ghost use Rattle.block_store.specs.Steps.{OnlyReadsBlocks, AnswersAreTrue};
+ghost use Rattle.block_store.specs.Store.{Holds};
+ghost use Rattle.dead_list.specs.Rows.{SpellsList, SpellsNoList};
+ghost use Rattle.dnode.specs.ObjectSet.{FitsObjectSet};
+ghost use Rattle.objset.specs.Objects.{Object, AreObjects};
+ghost use Rattle.dead_list_objects.specs.Lists.{HasDeadList, HasSomeDeadList, IsForLossOf, IsListFound, IsListRefused};
+
+use crate::kind::DEAD_LIST_KIND;
+use crate::refusal::Refusal;
+use block_store::BlockStore;
+use dead_list::DeadList;
+use dnode::ObjectSet;
+use model_disk::Disk;
+use std::alloc::Global;
+
+/// The dead list of an object, by the object's number. `BadList` where a row of it is no block pointer, or a hole's; `Unread`
+/// with `BadPointer` where it is no object of a dead list. The set's blocks were born in the transaction group `birth` or
+/// before. The disks that are named are taken as missing.
+pub fn read_dead_list<D: Disk + Drop>(
+    set: &ObjectSet,
+    store: &mut BlockStore<D>,
+    alloc: Global,
+    number: u64,
+    birth: u64,
+    missing: &[usize],
+) -> Result<DeadList, Refusal>
+    requires { FitsObjectSet set.now }
+    ensures reads { OnlyReadsBlocks store.old store.new missing.now }
+    ensures value { IfOk result (λ list. (stored : Contents) (objects : ℕ → Option Object)
+        (own : List Block) (blocks : ℕ → List Block) → Holds store.old stored
+        → AreObjects stored birth set.now objects own blocks → AnswersAreTrue store.old store.new
+        → HasDeadList (objects number) list) }
+
+    // Whatever the set is: what was read, and on a refusal its cause.
+    ensures found { IfOk result (IsListFound store.old.spaces set.now birth number) }
+    ensures refused { IfErr result
+        (IsListRefused store.old store.new missing.now set.now birth number) }
+
+    // And it is read, over disks that answer truly, unless too many disks miss of a block.
+    ensures known { IfErr result (λ refusal. (stored : Contents) (objects : ℕ → Option Object)
+        (own : List Block) (blocks : ℕ → List Block) → Holds store.old stored
+        → AreObjects stored birth set.now objects own blocks → AnswersAreTrue store.old store.new
+        → IsForLossOf refusal ⊎ ¬ HasSomeDeadList (objects number)) }
+{
+    let rows = object_table::read(set, store, alloc, DEAD_LIST_KIND, number, birth, missing)?;
+    list_of(alloc, &rows)
+}
+
+/// The list that the rows spell.
+fn list_of(alloc: Global, rows: &[u8]) -> Result<DeadList, Refusal>
+    ensures found { IfOk result (SpellsList rows.now) }
+    ensures refused { IfErr result (λ refusal. (refusal ≡ Refusal.NoMemory)
+        ⊎ ((refusal ≡ Refusal.BadList) × SpellsNoList rows.now)) }
+{
+    match DeadList::decode(alloc, rows) {
+        Ok(list) => Ok(list),
+        Err(dead_list::Refusal::BadPointer) => Err(Refusal::BadList),
+        Err(dead_list::Refusal::NoMemory) => Err(Refusal::NoMemory),
+    }
+}
