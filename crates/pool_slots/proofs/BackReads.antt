@@ -5,9 +5,9 @@ use Rattle.uberblock_ring.specs.Ranking.{IsRewound}
 use Rattle.uberblock_ring.specs.declared.uberblock.Uberblock.{Uberblock}
 use Rattle.model_disk.specs.Joint.{Disks, bytes_of, content, AreHonestSince}
 use Rattle.model_disk.specs.Runs.{Makes, no_write}
-use Rattle.model_disk.proofs.FailureLemmas.{failed_in_second}
 use Rattle.pool_slots.specs.Opens.{AreKnown, IsShownOn, IsReadOn, IsShown, IsRead, FindsRewoundIfUsed, FindsRewound}
 use Rattle.pool_slots.specs.Slots.{AreThere, InUse, slot_at}
+use Rattle.pool_slots.proofs.Failing.{fails_later}
 use Rattle.pool_slots.specs.declared.refusal.Refusal.{Refusal}
 use Rattle.pool_slots.specs.declared.refusal.Refusal.TheVariants.{NoMemory, DiskFault, NoUberblock, NoLabel, UsedUp}
 use Rattle.pool_slots.proofs.Finding.{known_on, honest_before, honest_since}
@@ -103,7 +103,7 @@ found_here out from groups first loop new which u before it = (
 pub refused_here : (out : List Bool) (from : Uberblock) (groups : ℕ) (first loop new : Disks) (which : ℕ) (refusal : Refusal) → Makes no_write first loop
     → FindsRewoundIfUsed out from groups loop new which (Err refusal) → FindsRewound out from groups first new (Err refusal)
 refused_here out from groups first loop new which NoMemory before it = tt
-refused_here out from groups first loop new which DiskFault before it = failed_in_second no_write first loop new before it
+refused_here out from groups first loop new which (DiskFault d) before it = fails_later no_write first loop new before d it
 refused_here out from groups first loop new which NoUberblock before it = absurd it
 refused_here out from groups first loop new which NoLabel before it = absurd it
 refused_here out from groups first loop new which UsedUp before it = absurd it

@@ -7,12 +7,12 @@ use Rattle.uberblock_ring.specs.Uberblock.{Fits}
 use Rattle.uberblock_ring.specs.declared.uberblock.Uberblock.{Uberblock}
 use Rattle.model_disk.specs.Joint.{JointCall, Disks, bytes_of, content, AreHonestSince}
 use Rattle.model_disk.specs.Runs.{Makes, no_write}
-use Rattle.model_disk.proofs.FailureLemmas.{failed_in_second}
 use Rattle.model_disk.proofs.LawLemmas.{parts_are_honest}
 use Rattle.pool_slots.specs.Opens.{IsKnown, AreKnown, IsHighest, IsFoundOn, AreFitting, IsBareOn, IsHighestOf, FindsIfUsed, FindsAll, uberblock_of}
 use Rattle.pool_slots.specs.Slots.{AreThere, InUse, slot_at, Shows}
 use Rattle.pool_slots.specs.Writes.{HasFound}
 use Rattle.pool_slots.specs.declared.found.Found.{Found}
+use Rattle.pool_slots.proofs.Failing.{fails_later}
 use Rattle.pool_slots.specs.declared.refusal.Refusal.{Refusal}
 use Rattle.pool_slots.specs.declared.refusal.Refusal.TheVariants.{NoMemory, DiskFault, NoUberblock, NoLabel, UsedUp}
 use Rattle.pool_slots.proofs.OneDisk.{shows_same}
@@ -107,7 +107,7 @@ scans_next out first loop new which all found count before makes scanned one w i
 pub scan_refused : (out : List Bool) (first loop new : Disks) (which : ℕ) (refusal : Refusal) → Makes no_write first loop → FindsIfUsed out loop new which (Err refusal)
     → FindsAll out first new (Err refusal)
 scan_refused out first loop new which NoMemory before it = tt
-scan_refused out first loop new which DiskFault before it = failed_in_second no_write first loop new before it.1
+scan_refused out first loop new which (DiskFault d) before it = fails_later no_write first loop new before d it.1
 scan_refused out first loop new which NoUberblock before it = λ known honest.
     let bare = it.1 (known_on first loop which before (known which it.0)) (honest_since (length first.calls) (length loop.calls) new (longer first loop no_write before) honest) in
     let P : List (List ℕ) → Type 0 = λ starts. IsBareOn (length (bytes_of starts which)) (content first which) in

@@ -10,7 +10,7 @@ use Rattle.words.proofs.SealLemmas.{seal_parts}
 use Rattle.model_disk.specs.Call.{Call, Read, FailedRead}
 use Rattle.model_disk.specs.Joint.{JointCall, Disks, on, bytes_of, calls_on, content, AreHonestSince}
 use Rattle.model_disk.specs.Runs.{WritesOnly, no_write}
-use Rattle.model_disk.proofs.FailureLemmas.{failures_are_seen}
+use Rattle.pool_slots.proofs.Failing.{fails_now}
 use Rattle.model_disk.proofs.JointLemmas.{calls_on-other}
 use Rattle.model_disk.proofs.LawLemmas.{same_bytes}
 use Rattle.vdev_label.specs.Area.{HasRoom, Spells, IsBreach, front_of, area_of}
@@ -159,10 +159,10 @@ reads_some old new which number found s room is starts it keeps = λ known hones
     ((label_view found, there.0, keeps), λ l shown. keeps_same l (label_view found) s (there.1 l shown) keeps)
 
 pub reads_other : (old new : Disks) (which number : ℕ) (cause : LabelRefusal) → 1048576 ≤ length (bytes_of old.starts which) → number < 4 → new.starts ≡ old.starts
-    → ReadsLabel old new which number (Err cause) → ReadsShown old new which number (unread_as cause)
+    → ReadsLabel old new which number (Err cause) → ReadsShown old new which number (unread_as which cause)
 reads_other old new which number label.NoMemory room is starts it = tt
 reads_other old new which number label.DiskFault room is starts it =
-    failures_are_seen.now old new which (FailedRead (area_at (length (bytes_of old.starts which)) number) 114688) it refl
+    fails_now old new which (FailedRead (area_at (length (bytes_of old.starts which)) number) 114688) it refl
 reads_other old new which number (label.BadLabel b) room is starts it = λ known honest l shown.
     no_label it.0 b l it.2 shown.valid it.1.0
     (shown_read (content old which) (length (bytes_of old.starts which)) number it.0 l it.1.0 (read_same old new which number it.0 room is starts it.1 known honest) shown)

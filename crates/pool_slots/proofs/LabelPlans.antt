@@ -6,7 +6,6 @@ use Rattle.std.proofs.lemmas.Bool.{cases_lt}
 use Rattle.std.proofs.lemmas.Option.{slice_get-get_or, slice_get_within}
 use Rattle.model_disk.specs.Joint.{Disks, bytes_of, content, AreHonestSince}
 use Rattle.model_disk.specs.Runs.{Makes, no_write}
-use Rattle.model_disk.proofs.FailureLemmas.{failed_in_second}
 use Rattle.uberblock_ring.specs.declared.uberblock.Uberblock.{Uberblock}
 use Rattle.uberblock_ring.specs.Uberblock.{Fits}
 use Rattle.vdev_label.specs.Area.{area_of}
@@ -28,6 +27,7 @@ use Rattle.pool_slots.specs.declared.areas.Plan.{Plan}
 use Rattle.pool_slots.specs.declared.labeled.Area.{Area}
 use Rattle.pool_slots.specs.declared.labeled.Labeled.{Labeled}
 use Rattle.pool_slots.specs.declared.labeled.Shown.{Shown}
+use Rattle.pool_slots.proofs.Failing.{fails_later}
 use Rattle.pool_slots.specs.declared.refusal.Refusal.{Refusal}
 use Rattle.pool_slots.specs.declared.refusal.Refusal.TheVariants.{NoMemory, DiskFault, NoUberblock, NoLabel, UsedUp}
 use Rattle.pool_slots.proofs.Choices.{claim_label_within, within, kept_beside}
@@ -111,7 +111,7 @@ area_made it u old new which found area room first source fits starts read same 
 )
 
 pub area_unmade : (it : Labeled) (u : Uberblock) (old new : Disks) (which : ℕ) (cause : LabelRefusal) → 1048576 ≤ length (bytes_of old.starts which) → it.source < 4 → new.starts ≡ old.starts
-    → ReadsLabel old new which it.source (Err cause) → MakesArea it u old new which (Err (of_label cause))
+    → ReadsLabel old new which it.source (Err cause) → MakesArea it u old new which (Err (of_label which cause))
 area_unmade it u old new which label.NoMemory room source starts read = tt
 area_unmade it u old new which label.DiskFault room source starts read = reads_other old new which it.source label.DiskFault room source starts read
 area_unmade it u old new which (label.BadLabel b) room source starts read = reads_other old new which it.source (label.BadLabel b) room source starts read
@@ -195,7 +195,7 @@ made_done labels u old new all count made sources = (
 pub made_refused : (labels : List (Option Labeled)) (u : Uberblock) (first loop new : Disks) (which : ℕ) (refusal : Refusal) → Makes no_write first loop
     → MakesAreaIfRead labels u loop new which (Err refusal) → MakesAreas labels u first new (Err refusal)
 made_refused labels u first loop new which NoMemory before it = tt
-made_refused labels u first loop new which DiskFault before it = failed_in_second no_write first loop new before it.2
+made_refused labels u first loop new which (DiskFault d) before it = fails_later no_write first loop new before d it.2
 made_refused labels u first loop new which NoUberblock before it = absurd it.2
 made_refused labels u first loop new which NoLabel before it = λ honest.
     let size = length (bytes_of loop.starts which) in
@@ -248,7 +248,7 @@ pub areas_refused : (out : List Bool) (taken highest u : Uberblock) (old mid new
     → AreLabeledOn out labels → (AreKnown out old → AreHonestSince (length old.calls) mid.starts mid.calls → AreLabeled out old taken.config_digest labels)
     → MakesAreas labels u mid new (Err refusal) → PlansClaim out taken highest old new (Err refusal)
 areas_refused out taken highest u old mid new labels NoMemory scan makes on are it = tt
-areas_refused out taken highest u old mid new labels DiskFault scan makes on are it = failed_in_second no_write old mid new scan it
+areas_refused out taken highest u old mid new labels (DiskFault d) scan makes on are it = fails_later no_write old mid new scan d it
 areas_refused out taken highest u old mid new labels NoUberblock scan makes on are it = absurd it
 areas_refused out taken highest u old mid new labels NoLabel scan makes on are it = λ known honest.
     let bad = it (honest_since (length old.calls) (length mid.calls) new (longer old mid no_write scan) honest) in

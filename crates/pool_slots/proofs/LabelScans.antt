@@ -6,7 +6,6 @@ use Rattle.sha2.specs.Sha256.{sha256}
 use Rattle.std.proofs.lemmas.List.{length-append}
 use Rattle.model_disk.specs.Joint.{Disks, bytes_of, content, AreHonestSince}
 use Rattle.model_disk.specs.Runs.{Makes, no_write}
-use Rattle.model_disk.proofs.FailureLemmas.{failed_in_second}
 use Rattle.vdev_label.specs.Config.{config_bytes}
 use Rattle.vdev_label.specs.Plain.{PlainLabel}
 use Rattle.pool_slots.specs.LabelReads.{ReadsShown, ReadsFour, ReadsLabeled, ReadsIfUsed, ReadsAll, HasLabeled}
@@ -16,6 +15,7 @@ use Rattle.pool_slots.specs.Shown.{At, has_config}
 use Rattle.pool_slots.specs.Slots.{AreThere, InUse}
 use Rattle.pool_slots.specs.declared.labeled.Labeled.{Labeled}
 use Rattle.pool_slots.specs.declared.labeled.Shown.{Shown}
+use Rattle.pool_slots.proofs.Failing.{fails_later}
 use Rattle.pool_slots.specs.declared.refusal.Refusal.{Refusal}
 use Rattle.pool_slots.specs.declared.refusal.Refusal.TheVariants.{NoMemory, DiskFault, NoUberblock, NoLabel, UsedUp}
 use Rattle.pool_slots.proofs.Choices.{within}
@@ -102,7 +102,7 @@ read_done old new which all count read = (count, λ known honest. record { four 
 
 pub read_refused : (first loop new : Disks) (which number : ℕ) (refusal : Refusal) → Makes no_write first loop → ReadsShown loop new which number (Err refusal) → ReadsFour first new which (Err refusal)
 read_refused first loop new which number NoMemory before it = tt
-read_refused first loop new which number DiskFault before it = failed_in_second no_write first loop new before it
+read_refused first loop new which number (DiskFault d) before it = fails_later no_write first loop new before d it
 read_refused first loop new which number NoUberblock before it = absurd it
 read_refused first loop new which number NoLabel before it = absurd it
 read_refused first loop new which number UsedUp before it = absurd it
@@ -169,7 +169,7 @@ labels_next out digest first loop new which all o count before makes scanned one
 pub labels_refused : (out : List Bool) (digest : List ℕ) (first loop new : Disks) (which : ℕ) (refusal : Refusal) → Makes no_write first loop → ReadsIfUsed out digest loop new which (Err refusal)
     → ReadsAll out digest first new (Err refusal)
 labels_refused out digest first loop new which NoMemory before it = tt
-labels_refused out digest first loop new which DiskFault before it = failed_in_second no_write first loop new before it.1
+labels_refused out digest first loop new which (DiskFault d) before it = fails_later no_write first loop new before d it.1
 labels_refused out digest first loop new which NoUberblock before it = absurd it.1
 labels_refused out digest first loop new which NoLabel before it = λ known honest.
     let bare = it.1 (known_on first loop which before (known which it.0)) (honest_since (length first.calls) (length loop.calls) new (longer first loop no_write before) honest) in

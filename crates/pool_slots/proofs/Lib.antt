@@ -5,6 +5,7 @@ pub mod OneDisk
 pub mod Phases
 pub mod Used
 pub mod Results
+pub mod Failing
 pub mod Writing
 pub mod SlotPhases
 pub mod CommitPhases

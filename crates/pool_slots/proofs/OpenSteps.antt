@@ -14,13 +14,13 @@ use Rattle.pool_slots.specs.Writes.{InHalf}
 use Rattle.pool_slots.specs.LabelReads.{IsPlanned}
 use Rattle.pool_slots.specs.declared.found.Found.{Found}
 use Rattle.pool_slots.specs.declared.labeled.Area.{Area}
+use Rattle.pool_slots.proofs.Failing.{fails_later}
 use Rattle.pool_slots.specs.declared.refusal.Refusal.{Refusal}
 use Rattle.pool_slots.specs.declared.refusal.Refusal.TheVariants.{NoMemory, DiskFault, NoUberblock, NoLabel, UsedUp}
 use Rattle.pool_slots.proofs.ClaimPhases.{also_leads}
 use Rattle.pool_slots.proofs.Finding.{known_later, highest_same, honest_before, honest_since}
 use Rattle.pool_slots.proofs.BackReads.{shown_later, read_later, read_earlier}
 use Rattle.pool_slots.proofs.Reading.{longer}
-use Rattle.model_disk.proofs.FailureLemmas.{failed_in_second}
 use Rattle.pool_slots.proofs.OneDisk.{leads_kept_on}
 use Rattle.pool_slots.proofs.Phases.{IsPhase, phase_leaves, phases_leave, none_same, settled_later, both_made}
 
@@ -290,7 +290,7 @@ found_some trees out disks p all can on none = let it = (on can.some.0).0 can.so
 pub scan_cause : (trees : Trees) (out : List Bool) (rewind : ℕ) (old new : Disks) (p : Possible) (refusal : Refusal) → CanOpen trees out old p → AreHonestSince (length old.calls) new.starts new.calls
     → FindsAll out old new (Err refusal) → IsCause out rewind old new p refusal
 scan_cause trees out rewind old new p NoMemory can honest finds = tt
-scan_cause trees out rewind old new p DiskFault can honest finds = finds
+scan_cause trees out rewind old new p (DiskFault d) can honest finds = finds
 scan_cause trees out rewind old new p NoUberblock can honest finds = absurd (not_bare trees out old p can (finds can.known honest))
 scan_cause trees out rewind old new p NoLabel can honest finds = absurd finds
 scan_cause trees out rewind old new p UsedUp can honest finds = absurd finds
@@ -300,7 +300,7 @@ pub taken_cause : (trees : Trees) (out : List Bool) (rewind : ℕ) (old mid new 
     → Makes no_write old mid → Makes no_write mid new → (AreKnown out old → AreHonestSince (length old.calls) mid.starts mid.calls → AreFound out old all) → AreOn out all → IsHighestOf all highest
     → AreHonestSince (length old.calls) new.starts new.calls → TakesFrom out highest rewind mid new (Err refusal) → IsCause out rewind old new p refusal
 taken_cause trees out rewind old mid new p all highest NoMemory can scan back found on one honest takes = tt
-taken_cause trees out rewind old mid new p all highest DiskFault can scan back found on one honest takes = failed_in_second no_write old mid new scan takes
+taken_cause trees out rewind old mid new p all highest (DiskFault d) can scan back found on one honest takes = fails_later no_write old mid new scan d takes
 taken_cause trees out rewind old mid new p all highest NoUberblock can scan back found on one honest takes = (
   takes.0,
   record {
@@ -324,7 +324,7 @@ claim_always trees out old mid new p u there can scan may makes later =
 pub highest_cause : (trees : Trees) (out : List Bool) (rewind : ℕ) (old new : Disks) (p : Possible) (all seen : List (Option Found)) (refusal : Refusal) → CanOpen trees out old p → AreOn out all
     → seen ≡ all → FindsHighest seen (Err refusal) → IsCause out rewind old new p refusal
 highest_cause trees out rewind old new p all seen NoMemory can on same finds = tt
-highest_cause trees out rewind old new p all seen DiskFault can on same finds = absurd finds
+highest_cause trees out rewind old new p all seen (DiskFault d) can on same finds = absurd finds
 highest_cause trees out rewind old new p all seen NoUberblock can on same finds =
     let P : List (Option Found) → Type 0 = λ xs. (which : ℕ) (found : Found) → ¬ (slice_get xs which ≡ Some (Some found)) in
     absurd (found_some trees out old p all can on (subst P same finds))

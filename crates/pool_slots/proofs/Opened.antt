@@ -5,7 +5,6 @@ use Rattle.std.specs.declared.alloc.Global.{Global}
 use Rattle.uberblock_ring.specs.declared.uberblock.Uberblock.{Uberblock}
 use Rattle.model_disk.specs.Joint.{JointCall, Disks, bytes_of, content, AreHonestSince}
 use Rattle.model_disk.specs.Runs.{EachSince, Makes, no_write}
-use Rattle.model_disk.proofs.FailureLemmas.{failed_in_second}
 use Rattle.model_disk.proofs.RunLemmas.{Makes-more, Makes-wider, each_weaker}
 use Rattle.uberblock_ring.specs.Uberblock.{Fits}
 use Rattle.vdev_label.specs.Plain.{PlainLabel}
@@ -23,6 +22,7 @@ use Rattle.pool_slots.specs.Slots.{AreThere, InUse, MakesOn}
 use Rattle.pool_slots.specs.declared.areas.Plan.{Plan}
 use Rattle.pool_slots.specs.declared.found.Found.{Found}
 use Rattle.pool_slots.specs.declared.labeled.Area.{Area}
+use Rattle.pool_slots.proofs.Failing.{fails_later}
 use Rattle.pool_slots.specs.declared.refusal.Refusal.{Refusal}
 use Rattle.pool_slots.specs.declared.refusal.Refusal.TheVariants.{NoMemory, DiskFault, NoUberblock, NoLabel, UsedUp}
 use Rattle.pool_slots.proofs.BackReads.{read_earlier, read_later}
@@ -287,8 +287,8 @@ pub plan_cause : (trees : Trees) (out : List Bool) (rewind : ℕ) (old mid back 
     → (AreKnown out old → AreHonestSince (length old.calls) mid.starts mid.calls → AreFound out old all) → AreOn out all → seen ≡ all → IsHighestOf seen highest
     → TakesFrom out highest rewind mid back (Ok taken) → AreHonestSince (length old.calls) new.starts new.calls → PlansClaim out taken highest back new (Err refusal) → IsCause out rewind old new p refusal
 plan_cause trees out rewind old mid back new p all seen highest taken NoMemory can scan go_back planning found on same one takes honest plans = tt
-plan_cause trees out rewind old mid back new p all seen highest taken DiskFault can scan go_back planning found on same one takes honest plans =
-    failed_in_second no_write old back new (both_made no_write old mid back scan go_back) plans
+plan_cause trees out rewind old mid back new p all seen highest taken (DiskFault d) can scan go_back planning found on same one takes honest plans =
+    fails_later no_write old back new (both_made no_write old mid back scan go_back) d plans
 plan_cause trees out rewind old mid back new p all seen highest taken NoUberblock can scan go_back planning found on same one takes honest plans = absurd plans
 plan_cause trees out rewind old mid back new p all seen highest taken NoLabel can scan go_back planning found on same one takes honest plans =
     let P : List (Option Found) → Type 0 = λ xs. IsHighestOf xs highest in

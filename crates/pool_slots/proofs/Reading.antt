@@ -15,8 +15,9 @@ use Rattle.uberblock_ring.specs.declared.refusal.Refusal.TheVariants as ring
 use Rattle.uberblock_ring.specs.declared.uberblock.Uberblock.{Uberblock}
 use Rattle.model_disk.specs.Call.{Read, FailedRead}
 use Rattle.model_disk.specs.Joint.{JointCall, Disks, on, calls_on, content, AreHonestSince}
-use Rattle.model_disk.specs.Runs.{HasFailed, Makes, WritesOnly, no_write}
-use Rattle.model_disk.proofs.FailureLemmas.{failures_are_seen, failed_in_second}
+use Rattle.model_disk.specs.Runs.{Makes, WritesOnly, no_write}
+use Rattle.pool_slots.proofs.Failing.{fails_now, fails_later}
+use Rattle.pool_slots.specs.Failures.{HasFailedOn}
 use Rattle.model_disk.proofs.JointLemmas.{calls_on-other}
 use Rattle.model_disk.proofs.LawLemmas.{same_bytes}
 use Rattle.pool_slots.specs.OpenRefusals.{of_ring}
@@ -71,15 +72,15 @@ slots_make old new which (Err ring.DiskFault) starts it = failed_makes old new w
 slots_make old new which (Err ring.NoMemory) starts it = reads_make old new which (λ i. []) 0 starts it
 slots_make old new which (Err ring.NoUberblock) starts it = absurd it
 
-fault_seen : (old new : Disks) (which n : ℕ) → HasFailedAt old new which n → HasFailed old new
+fault_seen : (old new : Disks) (which n : ℕ) → HasFailedAt old new which n → HasFailedOn old new which
 fault_seen old new which n failed =
     let size = size_of old which in
     let mid : Disks = record { starts = old.starts; calls = slot_reads which size failed.bytes n ++ old.calls } in
-    failed_in_second no_write old mid new (reads_make old mid which failed.bytes n refl refl).makes
-    (failures_are_seen.now mid new which (FailedRead (nth_slot_at size n) 1024) failed.calls refl)
+    fails_later no_write old mid new (reads_make old mid which failed.bytes n refl refl).makes which
+    (fails_now mid new which (FailedRead (nth_slot_at size n) 1024) failed.calls refl)
 
 -- why the slots of a disk are not read
-pub slots_refused : (old new : Disks) (which : ℕ) (cause : RingRefusal) → ReadsSlots old new which (Err cause) → FindsOn old new which (Err (of_ring cause))
+pub slots_refused : (old new : Disks) (which : ℕ) (cause : RingRefusal) → ReadsSlots old new which (Err cause) → FindsOn old new which (Err (of_ring which cause))
 slots_refused old new which ring.DiskFault it = fault_seen old new which it.0 it.2
 slots_refused old new which ring.NoMemory it = tt
 slots_refused old new which ring.NoUberblock it = absurd it
@@ -240,7 +241,7 @@ finds_none old new which slots room starts it none known honest = bare_is old wh
 
 -- why they are not
 pub slots_refused_back : (old new : Disks) (which : ℕ) (from : Uberblock) (groups : ℕ) (cause : RingRefusal) → ReadsSlots old new which (Err cause)
-    → FindsRewoundOn from groups old new which (Err (of_ring cause))
+    → FindsRewoundOn from groups old new which (Err (of_ring which cause))
 slots_refused_back old new which from groups ring.DiskFault it = fault_seen old new which it.0 it.2
 slots_refused_back old new which from groups ring.NoMemory it = tt
 slots_refused_back old new which from groups ring.NoUberblock it = absurd it

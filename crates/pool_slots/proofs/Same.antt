@@ -8,10 +8,8 @@ use Rattle.words.specs.Words.{AreWords, word_bytes}
 use Rattle.words.proofs.SealLemmas.{seal_parts}
 use Rattle.uberblock_ring.specs.declared.uberblock.Uberblock.{Uberblock}
 use Rattle.uberblock_ring.specs.Uberblock.{Fits, head_words}
-use Rattle.model_disk.specs.Call.{Wrote, FailedWrite, write_call}
+use Rattle.model_disk.specs.Call.{Wrote, write_call}
 use Rattle.model_disk.specs.Joint.{Disks, on}
-use Rattle.model_disk.specs.Runs.{HasFailed}
-use Rattle.model_disk.proofs.FailureLemmas.{failures_are_seen}
 use Rattle.uberblock_ring.specs.Place as place
 use Rattle.uberblock_ring.specs.Slot.{front_bytes, slot_bytes, slot_number}
 use Rattle.uberblock_ring.proofs.Fronts.{fields_of, AreWords-head}
@@ -77,7 +75,3 @@ pub slot_wrote : (old new : Disks) (which size label : ℕ) (u : Uberblock)
     → new.calls ≡ on which (Wrote (slot_at size label (slot_number u.group)) (spelled u)) ∷ old.calls
 unfolding slot_at spelled
 slot_wrote old new which size label u is = is
-
-pub slot_failed : (old new : Disks) (which size label : ℕ) (u : Uberblock)
-    → new.calls ≡ on which (FailedWrite (place.slot_at size label (slot_number u.group)) (slot_bytes u)) ∷ old.calls → HasFailed old new
-slot_failed old new which size label u is = failures_are_seen.now old new which (FailedWrite (place.slot_at size label (slot_number u.group)) (slot_bytes u)) is refl

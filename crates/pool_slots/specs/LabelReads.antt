@@ -2,10 +2,10 @@
 use Rattle.std.specs.Prelude.{◌≡◌, ◌↔◌, ◌⊎◌, ◌≤◌, ◌<◌, ℕ, Bool, List, length, slice_get, Option, Some, None, Result, Ok, Err, Vec}
 use Rattle.std.specs.declared.alloc.Global.{Global}
 use Rattle.model_disk.specs.Joint.{Disks, bytes_of, content, AreHonestSince}
-use Rattle.model_disk.specs.Runs.{HasFailed}
 use Rattle.uberblock_ring.specs.declared.uberblock.Uberblock.{Uberblock}
 use Rattle.uberblock_ring.specs.Uberblock.{Fits}
 use Rattle.vdev_label.specs.Plain.{PlainLabel}
+use Rattle.pool_slots.specs.Failures.{HasFailedOn}
 use Rattle.pool_slots.specs.Labels.{IsLabelShown, IsShownAs, AreShownAs, IsLabeledAs, IsWithout, IsNextClaim, AreasOn, AreasFit, FitsArea, HasArea, inscribed}
 use Rattle.pool_slots.specs.Marks.{SparesMark, IsUsedUp}
 use Rattle.pool_slots.specs.Opens.{IsKnown, AreKnown}
@@ -27,7 +27,7 @@ abbrev pub ReadsShown : Disks → Disks → ℕ → ℕ → Result (Option Shown
 ReadsShown old new which number (Ok it) =
     IsKnown old which → AreHonestSince (length old.calls) new.starts new.calls → IsShownAs (length (bytes_of old.starts which)) (content old which) number it
 ReadsShown old new which number (Err NoMemory) = Unit {0}
-ReadsShown old new which number (Err DiskFault) = HasFailed old new
+ReadsShown old new which number (Err (DiskFault disk)) = HasFailedOn old new disk
 ReadsShown old new which number (Err NoUberblock) = ⊥
 ReadsShown old new which number (Err NoLabel) = ⊥
 ReadsShown old new which number (Err UsedUp) = ⊥
@@ -38,7 +38,7 @@ ReadsFour old new which (Ok all) =
     (length all.items ≡ 4)
     × (IsKnown old which → AreHonestSince (length old.calls) new.starts new.calls → AreShownAs (length (bytes_of old.starts which)) (content old which) all.items)
 ReadsFour old new which (Err NoMemory) = Unit {0}
-ReadsFour old new which (Err DiskFault) = HasFailed old new
+ReadsFour old new which (Err (DiskFault disk)) = HasFailedOn old new disk
 ReadsFour old new which (Err NoUberblock) = ⊥
 ReadsFour old new which (Err NoLabel) = ⊥
 ReadsFour old new which (Err UsedUp) = ⊥
@@ -49,17 +49,17 @@ ReadsLabeled digest old new which (Ok it) =
     (it.first < 4) × (it.source < 4)
     × (IsKnown old which → AreHonestSince (length old.calls) new.starts new.calls → IsLabeledAs (length (bytes_of old.starts which)) (content old which) digest it)
 ReadsLabeled digest old new which (Err NoMemory) = Unit {0}
-ReadsLabeled digest old new which (Err DiskFault) = HasFailed old new
+ReadsLabeled digest old new which (Err (DiskFault disk)) = HasFailedOn old new disk
 ReadsLabeled digest old new which (Err NoUberblock) = ⊥
 ReadsLabeled digest old new which (Err NoLabel) =
     IsKnown old which → AreHonestSince (length old.calls) new.starts new.calls → IsWithout (length (bytes_of old.starts which)) (content old which) digest
 ReadsLabeled digest old new which (Err UsedUp) = ⊥
 
--- why a label is not read: an invalid one shows nothing
-abbrev pub unread_as : LabelRefusal → Result (Option Shown) Refusal
-unread_as label.NoMemory = Err NoMemory
-unread_as label.DiskFault = Err DiskFault
-unread_as (label.BadLabel it) = Ok None
+-- why a label of a disk is not read: an invalid one shows nothing
+abbrev pub unread_as : ℕ → LabelRefusal → Result (Option Shown) Refusal
+unread_as which label.NoMemory = Err NoMemory
+unread_as which label.DiskFault = Err (DiskFault which)
+unread_as which (label.BadLabel it) = Ok None
 
 -- the same where the disk may be out: then nothing is read
 abbrev pub ReadsIfUsed : List Bool → List ℕ → Disks → Disks → ℕ → Result (Option Labeled) Refusal → Type 0
@@ -95,7 +95,7 @@ ReadsAll out digest old new (Ok all) =
     (length all.items ≡ length old.starts) × AreLabeledOn out all.items × AreSmall all.items
     × (AreKnown out old → AreHonestSince (length old.calls) new.starts new.calls → AreLabeled out old digest all.items)
 ReadsAll out digest old new (Err NoMemory) = Unit {0}
-ReadsAll out digest old new (Err DiskFault) = HasFailed old new
+ReadsAll out digest old new (Err (DiskFault disk)) = HasFailedOn old new disk
 ReadsAll out digest old new (Err NoUberblock) = ⊥
 ReadsAll out digest old new (Err NoLabel) = AreKnown out old → AreHonestSince (length old.calls) new.starts new.calls → LacksLabel out old digest
 ReadsAll out digest old new (Err UsedUp) = ⊥
@@ -109,7 +109,7 @@ MakesArea it u old new which (Ok area) =
     × (IsKnown old which → AreHonestSince (length old.calls) new.starts new.calls → (l : PlainLabel)
     → IsLabelShown (length (bytes_of old.starts which)) (content old which) it.source l → area.bytes.items ≡ inscribed (relabeled l u.claim u.group Active))
 MakesArea it u old new which (Err NoMemory) = Unit {0}
-MakesArea it u old new which (Err DiskFault) = HasFailed old new
+MakesArea it u old new which (Err (DiskFault disk)) = HasFailedOn old new disk
 MakesArea it u old new which (Err NoUberblock) = ⊥
 MakesArea it u old new which (Err NoLabel) =
     IsKnown old which → AreHonestSince (length old.calls) new.starts new.calls → (l : PlainLabel)
@@ -144,7 +144,7 @@ abbrev pub MakesAreas : List (Option Labeled) → Uberblock → Disks → Disks 
 MakesAreas labels u old new (Ok areas) = (length areas.items ≡ length labels) × AreMadeFor labels areas.items × AreasFit u areas.items
     × (AreHonestSince (length old.calls) new.starts new.calls → AreFromSources labels u old areas.items)
 MakesAreas labels u old new (Err NoMemory) = Unit {0}
-MakesAreas labels u old new (Err DiskFault) = HasFailed old new
+MakesAreas labels u old new (Err (DiskFault disk)) = HasFailedOn old new disk
 MakesAreas labels u old new (Err NoUberblock) = ⊥
 MakesAreas labels u old new (Err NoLabel) = AreHonestSince (length old.calls) new.starts new.calls → HasBadSource labels old
 MakesAreas labels u old new (Err UsedUp) = ⊥
@@ -174,7 +174,7 @@ PlansClaim out taken highest old new (Ok plan) =
     × (length plan.areas.items ≡ length old.starts) × AreasOn out plan.areas.items × AreasFit plan.claimed plan.areas.items
     × (AreKnown out old → AreHonestSince (length old.calls) new.starts new.calls → IsPlanned out old highest plan.claimed plan.areas.items)
 PlansClaim out taken highest old new (Err NoMemory) = Unit {0}
-PlansClaim out taken highest old new (Err DiskFault) = HasFailed old new
+PlansClaim out taken highest old new (Err (DiskFault disk)) = HasFailedOn old new disk
 PlansClaim out taken highest old new (Err NoUberblock) = ⊥
 PlansClaim out taken highest old new (Err NoLabel) = AreKnown out old → AreHonestSince (length old.calls) new.starts new.calls → LacksLabel out old taken.config_digest
 PlansClaim out taken highest old new (Err UsedUp) = AreKnown out old → AreHonestSince (length old.calls) new.starts new.calls → IsUsedUp out old highest

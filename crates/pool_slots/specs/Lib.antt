@@ -1,4 +1,5 @@
 pub mod Slots
+pub mod Failures
 pub mod Possible
 pub mod Writes
 pub mod Shown

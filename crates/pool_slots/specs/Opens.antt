@@ -2,10 +2,11 @@
 use Rattle.std.specs.Prelude.{◌≡◌, ◌↔◌, ◌⊎◌, ◌<◌, ℕ, ◌-◌, ◌/◌, ◌%◌, Bool, List, [], ◌∷◌, length, slice_get, Option, Some, None, Contains, Result, Ok, Err, Vec}
 use Rattle.std.specs.declared.alloc.Global.{Global}
 use Rattle.model_disk.specs.Joint.{JointCall, Disks, bytes_of, content, AreHonestSince}
-use Rattle.model_disk.specs.Runs.{HasFailed, EachSince, no_write}
+use Rattle.model_disk.specs.Runs.{EachSince, no_write}
 use Rattle.uberblock_ring.specs.declared.uberblock.Uberblock.{Uberblock}
 use Rattle.uberblock_ring.specs.Ranking.{RanksUpTo, Has, IsRewound}
 use Rattle.uberblock_ring.specs.Uberblock.{Fits}
+use Rattle.pool_slots.specs.Failures.{HasFailedOn}
 use Rattle.pool_slots.specs.Slots.{InUse, MakesOn, AreSettled, slot_at, IsSlot, Shows}
 use Rattle.pool_slots.specs.Possible.{Possible, all_of, IsInReach, IsTopped, Trees, TreeStands, Leads, LeavesLeading, AllAreBelow}
 use Rattle.pool_slots.specs.Writes.{HasFound, InTurn}
@@ -117,7 +118,7 @@ FindsOn old new which (Ok found) =
     Fits found.uberblock
     × (IsKnown old which → AreHonestSince (length old.calls) new.starts new.calls → IsHighest (length (bytes_of old.starts which)) (content old which) found)
 FindsOn old new which (Err NoMemory) = Unit {0}
-FindsOn old new which (Err DiskFault) = HasFailed old new
+FindsOn old new which (Err (DiskFault disk)) = HasFailedOn old new disk
 FindsOn old new which (Err NoUberblock) =
     IsKnown old which → AreHonestSince (length old.calls) new.starts new.calls → IsBareOn (length (bytes_of old.starts which)) (content old which)
 FindsOn old new which (Err NoLabel) = ⊥
@@ -135,7 +136,7 @@ FindsAll out old new (Ok all) =
     (length all.items ≡ length old.starts) × AreOn out all.items × AreFitting all.items
     × (AreKnown out old → AreHonestSince (length old.calls) new.starts new.calls → AreFound out old all.items)
 FindsAll out old new (Err NoMemory) = Unit {0}
-FindsAll out old new (Err DiskFault) = HasFailed old new
+FindsAll out old new (Err (DiskFault disk)) = HasFailedOn old new disk
 FindsAll out old new (Err NoUberblock) = AreKnown out old → AreHonestSince (length old.calls) new.starts new.calls → IsBare out old
 FindsAll out old new (Err NoLabel) = ⊥
 FindsAll out old new (Err UsedUp) = ⊥
@@ -144,7 +145,7 @@ FindsAll out old new (Err UsedUp) = ⊥
 abbrev pub FindsHighest : List (Option Found) → Result Uberblock Refusal → Type 0
 FindsHighest all (Ok u) = IsHighestOf all u × Fits u
 FindsHighest all (Err NoMemory) = Unit {0}
-FindsHighest all (Err DiskFault) = ⊥
+FindsHighest all (Err (DiskFault disk)) = ⊥
 FindsHighest all (Err NoUberblock) = (which : ℕ) (found : Found) → ¬ (slice_get all which ≡ Some (Some found))
 FindsHighest all (Err NoLabel) = ⊥
 FindsHighest all (Err UsedUp) = ⊥
@@ -158,7 +159,7 @@ FindsRewoundOn from groups old new which (Ok None) =
     (v : Uberblock) → IsKnown old which → AreHonestSince (length old.calls) new.starts new.calls → IsShownOn (length (bytes_of old.starts which)) (content old which) v
     → ¬ IsRewound from groups v
 FindsRewoundOn from groups old new which (Err NoMemory) = Unit {0}
-FindsRewoundOn from groups old new which (Err DiskFault) = HasFailed old new
+FindsRewoundOn from groups old new which (Err (DiskFault disk)) = HasFailedOn old new disk
 FindsRewoundOn from groups old new which (Err NoUberblock) = ⊥
 FindsRewoundOn from groups old new which (Err NoLabel) = ⊥
 FindsRewoundOn from groups old new which (Err UsedUp) = ⊥
@@ -174,7 +175,7 @@ abbrev pub FindsRewound : List Bool → Uberblock → ℕ → Disks → Disks �
 FindsRewound out from groups old new (Ok u) =
     IsRewound from groups u × Fits u × (AreKnown out old → AreHonestSince (length old.calls) new.starts new.calls → IsRead out old u)
 FindsRewound out from groups old new (Err NoMemory) = Unit {0}
-FindsRewound out from groups old new (Err DiskFault) = HasFailed old new
+FindsRewound out from groups old new (Err (DiskFault disk)) = HasFailedOn old new disk
 FindsRewound out from groups old new (Err NoUberblock) =
     AreKnown out old → AreHonestSince (length old.calls) new.starts new.calls → (v : Uberblock) → IsShown out old v → ¬ IsRewound from groups v
 FindsRewound out from groups old new (Err NoLabel) = ⊥
@@ -186,7 +187,7 @@ TakesFrom out highest rewind old new (Ok u) =
     IsRewound highest rewind u × Fits u
     × (AreKnown out old → AreHonestSince (length old.calls) new.starts new.calls → IsRead out old highest → IsRead out old u)
 TakesFrom out highest rewind old new (Err NoMemory) = Unit {0}
-TakesFrom out highest rewind old new (Err DiskFault) = HasFailed old new
+TakesFrom out highest rewind old new (Err (DiskFault disk)) = HasFailedOn old new disk
 TakesFrom out highest rewind old new (Err NoUberblock) =
     (0 < rewind) × (AreKnown out old → AreHonestSince (length old.calls) new.starts new.calls → (v : Uberblock) → IsShown out old v → ¬ IsRewound highest rewind v)
 TakesFrom out highest rewind old new (Err NoLabel) = ⊥

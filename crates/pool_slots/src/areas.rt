@@ -8,7 +8,7 @@ ghost use Rattle.pool_slots.specs.Slots.{HaveLabels, InUse, MakesOn, is_disk};
 
 use crate::label_scan::read_labels;
 use crate::labeled::{Area, Labeled};
-use crate::refusal::Refusal;
+use crate::refusal::{Refusal, label_unread};
 use model_disk::{Disk, DiskArray};
 use std::alloc::Global;
 use uberblock_ring::Uberblock;
@@ -39,7 +39,10 @@ fn area_of<D: Disk + Drop>(
     ensures makes { MakesOn (is_disk which) no_write disks.old disks.new }
     ensures area { MakesArea labeled.now uberblock.now disks.old disks.new which result }
 {
-    let label = read_label(alloc, disks, which, labeled.source)?;
+    let label = match read_label(alloc, disks, which, labeled.source) {
+        Ok(label) => label,
+        Err(cause) => return Err(label_unread(which, cause)),
+    };
     let label = Label {
         claim: uberblock.claim,
         group: uberblock.group,

@@ -1,8 +1,8 @@
 //! The claim of an uberblock.
-ghost use Rattle.std.specs.Prelude.{◌≡◌, length, OnErr, OnOk};
+ghost use Rattle.std.specs.Prelude.{◌≡◌, length, IfErr, OnOk};
 ghost use Rattle.model_disk.specs.Joint.{content};
-ghost use Rattle.model_disk.specs.Runs.{HasFailed};
 ghost use Rattle.uberblock_ring.specs.Uberblock.{Fits};
+ghost use Rattle.pool_slots.specs.Failures.{IsFailure};
 ghost use Rattle.pool_slots.specs.Configs.{ClaimConfigures};
 ghost use Rattle.pool_slots.specs.Labels.{AreClaimed, AreWhole, AreasFit, AreasOn, AreasStand, InAreaTurn, IsAreaWrite, IsClaimWrite};
 ghost use Rattle.pool_slots.specs.Opens.{AreOn, ClaimGives, ClaimKeeps, SlotsGive, SlotsKeep};
@@ -13,8 +13,9 @@ ghost use Rattle.pool_slots.specs.Writes.{IsSlotWrite, in_use};
 use crate::found::Found;
 use crate::label_writes::write_labels;
 use crate::labeled::Area;
+use crate::refusal::DiskFailure;
 use crate::writes::{flush_all, write_turn};
-use model_disk::{Disk, DiskArray, DiskError};
+use model_disk::{Disk, DiskArray};
 use uberblock_ring::Uberblock;
 
 /// Writes an uberblock's slots in one half of the labels of each disk in use, and once they are
@@ -24,7 +25,7 @@ fn claim_slots<D: Disk + Drop>(
     out: &[bool],
     all: &[Option<Found>],
     uberblock: &Uberblock,
-) -> Result<(), DiskError>
+) -> Result<(), DiskFailure>
     requires out { length out.now ≡ length disks.old.starts }
     requires all { length all.now ≡ length disks.old.starts }
     requires used { AreOn out.now all.now }
@@ -32,7 +33,7 @@ fn claim_slots<D: Disk + Drop>(
     requires fits { Fits uberblock.now }
     ensures makes { MakesOn (InUse out.now)
         (IsSlotWrite disks.old.starts uberblock.now (in_use out.now)) disks.old disks.new }
-    ensures fault { OnErr result (HasFailed disks.old disks.new) }
+    ensures fault { IfErr result (IsFailure disks.old disks.new) }
     ensures any_moment { SlotsKeep out.now disks.old uberblock.now all.now disks.new }
     ensures settled { OnOk result (AreSettled out.now disks.new.calls) }
     ensures claimed { OnOk result (SlotsGive out.now disks.old uberblock.now all.now disks.new) }
@@ -49,7 +50,7 @@ fn settle_labels<D: Disk + Drop>(
     out: &[bool],
     areas: &[Option<Area>],
     first: bool,
-) -> Result<(), DiskError>
+) -> Result<(), DiskFailure>
     requires out { length out.now ≡ length disks.old.starts }
     requires count { length areas.now ≡ length disks.old.starts }
     requires on { AreasOn out.now areas.now }
@@ -60,7 +61,7 @@ fn settle_labels<D: Disk + Drop>(
     ensures stand { OnOk result (AreasStand (content disks.new) disks.old.starts areas.now
         (InAreaTurn areas.now first)) }
     ensures settled { OnOk result (AreSettled out.now disks.new.calls) }
-    ensures fault { OnErr result (HasFailed disks.old disks.new) }
+    ensures fault { IfErr result (IsFailure disks.old disks.new) }
 {
     write_labels(disks, areas, first)?;
     flush_all(disks, out)
@@ -74,7 +75,7 @@ pub(crate) fn claim<D: Disk + Drop>(
     all: &[Option<Found>],
     areas: &[Option<Area>],
     uberblock: &Uberblock,
-) -> Result<(), DiskError>
+) -> Result<(), DiskFailure>
     requires out { length out.now ≡ length disks.old.starts }
     requires all { length all.now ≡ length disks.old.starts }
     requires used { AreOn out.now all.now }
@@ -85,7 +86,7 @@ pub(crate) fn claim<D: Disk + Drop>(
     requires areas { AreasFit uberblock.now areas.now }
     ensures makes { MakesOn (InUse out.now)
         (IsClaimWrite disks.old.starts out.now uberblock.now) disks.old disks.new }
-    ensures fault { OnErr result (HasFailed disks.old disks.new) }
+    ensures fault { IfErr result (IsFailure disks.old disks.new) }
     ensures any_moment { ClaimKeeps
         out.now disks.old uberblock.now all.now areas.now disks.new }
     ensures configured { ClaimConfigures out.now disks.old areas.now disks.new }

@@ -1,14 +1,15 @@
 //! A commit.
-ghost use Rattle.std.specs.Prelude.{◌≡◌, length, OnErr, OnOk};
-ghost use Rattle.model_disk.specs.Runs.{HasFailed};
+ghost use Rattle.std.specs.Prelude.{◌≡◌, length, IfErr, OnOk};
 ghost use Rattle.uberblock_ring.specs.Uberblock.{Fits};
+ghost use Rattle.pool_slots.specs.Failures.{IsFailure};
 ghost use Rattle.pool_slots.specs.Commits.{CommitGives, CommitKeeps};
 ghost use Rattle.pool_slots.specs.Slots.{HaveLabels, InUse, MakesOn};
 ghost use Rattle.pool_slots.specs.Writes.{AreApart, ArePlaced, IsCommitWrite};
 
 use crate::blocks::BlockWrite;
+use crate::refusal::DiskFailure;
 use crate::writes::{flush_all, write_all, write_blocks};
-use model_disk::{Disk, DiskArray, DiskError};
+use model_disk::{Disk, DiskArray};
 use uberblock_ring::Uberblock;
 
 /// Commits a group: its blocks, and once they are flushed on all disks in use the slots of its
@@ -18,7 +19,7 @@ pub fn commit<D: Disk + Drop>(
     out: &[bool],
     blocks: &[BlockWrite],
     uberblock: &Uberblock,
-) -> Result<(), DiskError>
+) -> Result<(), DiskFailure>
     requires out { length out.now ≡ length disks.old.starts }
     requires labels { HaveLabels disks.old.starts }
     requires placed { ArePlaced out.now disks.old.starts blocks.now }
@@ -36,8 +37,8 @@ pub fn commit<D: Disk + Drop>(
     ensures committed { OnOk result
         (CommitGives out.now disks.old blocks.now uberblock.now disks.new) }
 
-    // It fails only where a device call did.
-    ensures fault { OnErr result (HasFailed disks.old disks.new) }
+    // It fails only where a call did on the disk that it names.
+    ensures fault { IfErr result (IsFailure disks.old disks.new) }
 {
     write_blocks(disks, blocks)?;
     flush_all(disks, out)?;

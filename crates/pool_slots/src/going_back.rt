@@ -6,7 +6,7 @@ ghost use Rattle.uberblock_ring.specs.Uberblock.{Fits};
 ghost use Rattle.pool_slots.specs.Opens.{FindsRewound, FindsRewoundIfUsed, FindsRewoundOn, TakesFrom};
 ghost use Rattle.pool_slots.specs.Slots.{HaveLabels, InUse, MakesOn, is_disk};
 
-use crate::refusal::Refusal;
+use crate::refusal::{Refusal, slots_unread};
 use model_disk::{Disk, DiskArray};
 use std::alloc::Global;
 use uberblock_ring::{Uberblock, read_slots, rewound};
@@ -24,7 +24,10 @@ fn find_rewound_on<D: Disk + Drop>(
     ensures makes { MakesOn (is_disk which) no_write disks.old disks.new }
     ensures finds { FindsRewoundOn from.now groups disks.old disks.new which result }
 {
-    let slots = read_slots(alloc, disks, which)?;
+    let slots = match read_slots(alloc, disks, which) {
+        Ok(slots) => slots,
+        Err(cause) => return Err(slots_unread(which, cause)),
+    };
     Ok(rewound(&slots, from, groups))
 }
 

@@ -25,13 +25,13 @@ fn shown_of(alloc: Global, label: &Label) -> Result<Shown, AllocError>
     })
 }
 
-/// What a label shows that is not read for this cause: an invalid one shows nothing.
-fn unread(cause: vdev_label::Refusal) -> Result<Option<Shown>, Refusal>
-    ensures { result ≡ unread_as cause }
+/// What a label of a disk shows that is not read for this cause: an invalid one shows nothing.
+fn unread(which: usize, cause: vdev_label::Refusal) -> Result<Option<Shown>, Refusal>
+    ensures { result ≡ unread_as which cause }
 {
     match cause {
         vdev_label::Refusal::NoMemory => Err(Refusal::NoMemory),
-        vdev_label::Refusal::DiskFault => Err(Refusal::DiskFault),
+        vdev_label::Refusal::DiskFault => Err(Refusal::DiskFault { disk: which }),
         vdev_label::Refusal::BadLabel(_) => Ok(None),
     }
 }
@@ -51,7 +51,7 @@ fn read_shown<D: Disk + Drop>(
 {
     match read_label(alloc, disks, which, number) {
         Ok(label) => Ok(Some(shown_of(alloc, &label)?)),
-        Err(cause) => unread(cause),
+        Err(cause) => unread(which, cause),
     }
 }
 

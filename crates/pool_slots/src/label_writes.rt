@@ -1,14 +1,16 @@
 //! The writes of labels in a claim.
-ghost use Rattle.std.specs.Prelude.{◌≡◌, ◌↔◌, ◌<◌, ◌≤◌, ◌∷◌, length, slice_get, IsTrue, Some, OnErr, OnOk};
+ghost use Rattle.std.specs.Prelude.{◌≡◌, ◌↔◌, ◌<◌, ◌≤◌, ◌∷◌, length, slice_get, IsTrue, Some, IfErr, OnOk};
 ghost use Rattle.model_disk.specs.Call.{write_call};
 ghost use Rattle.model_disk.specs.Joint.{bytes_of, content, on};
-ghost use Rattle.model_disk.specs.Runs.{HasFailed};
+ghost use Rattle.pool_slots.specs.Failures.{IsFailure};
 ghost use Rattle.pool_slots.specs.Labels.{AreWhole, AreasStand, HasArea, InAreaTurn, IsAreaWrite, IsTurn, IsWhole, area_place, at_label};
 ghost use Rattle.pool_slots.specs.Slots.{HaveLabels, MakesOn, is_disk};
 ghost use Rattle.pool_slots.specs.Writes.{on_disk};
 
+use crate::calls::write_at;
 use crate::labeled::Area;
-use model_disk::{Disk, DiskArray, DiskError};
+use crate::refusal::DiskFailure;
+use model_disk::{Disk, DiskArray};
 use vdev_label::{LABELS, label_offset};
 
 /// Where the area of a label begins in it.
@@ -21,7 +23,7 @@ fn write_area<D: Disk + Drop>(
     which: usize,
     number: u64,
     area: &Area,
-) -> Result<(), DiskError>
+) -> Result<(), DiskFailure>
     requires which { which < length disks.old.starts }
     requires number { number < LABELS }
     requires whole { IsWhole area.now }
@@ -30,9 +32,10 @@ fn write_area<D: Disk + Drop>(
     ensures call { disks.new.calls
         ≡ on which (write_call result (area_place (length (bytes_of disks.old.starts which)) number)
         area.now.bytes.items) ∷ disks.old.calls }
+    ensures fault { IfErr result (IsFailure disks.old disks.new) }
 {
     let at = label_offset(disks.size(which), number) + AREA_START;
-    disks.write_at(which, at, &area.bytes)
+    write_at(disks, which, at, &area.bytes)
 }
 
 /// Whether it is a label's turn: in the first turn that of the claim label, else of another.
@@ -54,7 +57,7 @@ fn write_in_turn<D: Disk + Drop>(
     number: u64,
     area: &Area,
     first: bool,
-) -> Result<(), DiskError>
+) -> Result<(), DiskFailure>
     requires which { which < length disks.old.starts }
     requires number { number < LABELS }
     requires has { slice_get areas.now which ≡ Some (Some area.now) }
@@ -64,7 +67,7 @@ fn write_in_turn<D: Disk + Drop>(
         (at_label which number (InAreaTurn areas.now first))) disks.old disks.new }
     ensures stand { OnOk result (AreasStand (content disks.new) disks.old.starts areas.now
         (at_label which number (InAreaTurn areas.now first))) }
-    ensures fault { OnErr result (HasFailed disks.old disks.new) }
+    ensures fault { IfErr result (IsFailure disks.old disks.new) }
 {
     if is_turn(area, number, first) {
         write_area(disks, which, number, area)
@@ -80,7 +83,7 @@ fn write_labels_of<D: Disk + Drop>(
     which: usize,
     area: &Area,
     first: bool,
-) -> Result<(), DiskError>
+) -> Result<(), DiskFailure>
     requires which { which < length disks.old.starts }
     requires count { length areas.now ≡ length disks.old.starts }
     requires all_whole { AreWhole areas.now }
@@ -90,7 +93,7 @@ fn write_labels_of<D: Disk + Drop>(
         (on_disk which (InAreaTurn areas.now first))) disks.old disks.new }
     ensures stand { OnOk result (AreasStand (content disks.new) disks.old.starts areas.now
         (on_disk which (InAreaTurn areas.now first))) }
-    ensures fault { OnErr result (HasFailed disks.old disks.new) }
+    ensures fault { IfErr result (IsFailure disks.old disks.new) }
 {
     for number in 0..LABELS {
         write_in_turn(disks, areas, which, number, area, first)?;
@@ -104,7 +107,7 @@ fn write_labels_on<D: Disk + Drop>(
     areas: &[Option<Area>],
     which: usize,
     first: bool,
-) -> Result<(), DiskError>
+) -> Result<(), DiskFailure>
     requires which { which < length disks.old.starts }
     requires count { length areas.now ≡ length disks.old.starts }
     requires whole { AreWhole areas.now }
@@ -113,7 +116,7 @@ fn write_labels_on<D: Disk + Drop>(
         (on_disk which (InAreaTurn areas.now first))) disks.old disks.new }
     ensures stand { OnOk result (AreasStand (content disks.new) disks.old.starts areas.now
         (on_disk which (InAreaTurn areas.now first))) }
-    ensures fault { OnErr result (HasFailed disks.old disks.new) }
+    ensures fault { IfErr result (IsFailure disks.old disks.new) }
 {
     match &areas[which] {
         Some(area) => write_labels_of(disks, areas, which, area, first),
@@ -127,7 +130,7 @@ pub(crate) fn write_labels<D: Disk + Drop>(
     disks: &mut DiskArray<D>,
     areas: &[Option<Area>],
     first: bool,
-) -> Result<(), DiskError>
+) -> Result<(), DiskFailure>
     requires count { length areas.now ≡ length disks.old.starts }
     requires whole { AreWhole areas.now }
     requires room { HaveLabels disks.old.starts }
@@ -135,7 +138,7 @@ pub(crate) fn write_labels<D: Disk + Drop>(
         (InAreaTurn areas.now first)) disks.old disks.new }
     ensures stand { OnOk result (AreasStand (content disks.new) disks.old.starts areas.now
         (InAreaTurn areas.now first)) }
-    ensures fault { OnErr result (HasFailed disks.old disks.new) }
+    ensures fault { IfErr result (IsFailure disks.old disks.new) }
 {
     for which in 0..disks.len() {
         write_labels_on(disks, areas, which, first)?;

@@ -3,6 +3,7 @@
 
 mod areas;
 mod blocks;
+mod calls;
 mod claiming;
 mod committing;
 mod found;
@@ -20,4 +21,4 @@ mod writes;
 pub use blocks::BlockWrite;
 pub use committing::commit;
 pub use opening::open;
-pub use refusal::Refusal;
+pub use refusal::{DiskFailure, Refusal};

@@ -66,7 +66,7 @@ pub fn open<D: Disk + Drop>(
     // And on each disk some label shows the configuration that is taken, where no disk showed four different ones before.
     ensures configured_any_moment { OpenConfigures out.now rewind disks.old disks.new }
 
-    // It is refused for want of memory, or where a device call failed, or where no claim is left, or where none is so many groups less:
+    // It is refused for want of memory, or where a call failed on the disk that it names, or where no claim is left, or where none is so many groups less:
     // there is a highest one. Or where a disk has no label with the configuration of the one that it takes.
     ensures refused { IfErr result (OpenRefuses out.now rewind disks.old disks.new) }
 {

@@ -1,16 +1,23 @@
 //! Why disks are not opened.
 ghost use Rattle.std.specs.Prelude.{◌≡◌};
+ghost use Rattle.pool_slots.specs.OpenRefusals.{of_label, of_ring};
 
-use model_disk::DiskError;
 use std::alloc::{AllocError, AllocFailed};
 use thiserror::Error;
+
+/// A call on the disk of this number failed.
+#[derive(Clone, Copy, Debug, PartialEq, Eq, Error)]
+#[error("disk {disk} failed")]
+pub struct DiskFailure {
+    pub disk: usize,
+}
 
 #[derive(Clone, Copy, Debug, PartialEq, Eq, Error)]
 pub enum Refusal {
     #[error("out of memory")]
     NoMemory,
-    #[error("a disk failed")]
-    DiskFault,
+    #[error("disk {disk} failed")]
+    DiskFault { disk: usize },
     /// Or none that is so many groups below the highest, under its claim.
     #[error("a disk has no uberblock")]
     NoUberblock,
@@ -22,13 +29,13 @@ pub enum Refusal {
     UsedUp,
 }
 
-impl From<DiskError> for Refusal {
+impl From<DiskFailure> for Refusal {
     ghost use Rattle.pool_slots.specs.declared.refusal.Refusal.TheVariants.{DiskFault};
 
-    ghost from_gives = { λ _ refusal. refusal ≡ DiskFault };
+    ghost from_gives = { λ failure refusal. refusal ≡ DiskFault failure.disk };
 
-    fn from(_error: DiskError) -> Refusal {
-        Refusal::DiskFault
+    fn from(failure: DiskFailure) -> Refusal {
+        Refusal::DiskFault { disk: failure.disk }
     }
 }
 
@@ -52,30 +59,24 @@ impl<T: Drop> From<AllocFailed<T>> for Refusal {
     }
 }
 
-impl From<uberblock_ring::Refusal> for Refusal {
-    ghost use Rattle.pool_slots.specs.OpenRefusals.{of_ring};
-
-    ghost from_gives = { λ cause refusal. refusal ≡ of_ring cause };
-
-    fn from(cause: uberblock_ring::Refusal) -> Refusal {
-        match cause {
-            uberblock_ring::Refusal::NoMemory => Refusal::NoMemory,
-            uberblock_ring::Refusal::DiskFault => Refusal::DiskFault,
-            uberblock_ring::Refusal::NoUberblock => Refusal::NoUberblock,
-        }
+/// Why slots of a disk are not read, as a refusal.
+pub(crate) fn slots_unread(which: usize, cause: uberblock_ring::Refusal) -> Refusal
+    ensures { result ≡ of_ring which cause }
+{
+    match cause {
+        uberblock_ring::Refusal::NoMemory => Refusal::NoMemory,
+        uberblock_ring::Refusal::DiskFault => Refusal::DiskFault { disk: which },
+        uberblock_ring::Refusal::NoUberblock => Refusal::NoUberblock,
     }
 }
 
-impl From<vdev_label::Refusal> for Refusal {
-    ghost use Rattle.pool_slots.specs.OpenRefusals.{of_label};
-
-    ghost from_gives = { λ cause refusal. refusal ≡ of_label cause };
-
-    fn from(cause: vdev_label::Refusal) -> Refusal {
-        match cause {
-            vdev_label::Refusal::NoMemory => Refusal::NoMemory,
-            vdev_label::Refusal::DiskFault => Refusal::DiskFault,
-            vdev_label::Refusal::BadLabel(_) => Refusal::NoLabel,
-        }
+/// Why a label of a disk is not read, as a refusal.
+pub(crate) fn label_unread(which: usize, cause: vdev_label::Refusal) -> Refusal
+    ensures { result ≡ of_label which cause }
+{
+    match cause {
+        vdev_label::Refusal::NoMemory => Refusal::NoMemory,
+        vdev_label::Refusal::DiskFault => Refusal::DiskFault { disk: which },
+        vdev_label::Refusal::BadLabel(_) => Refusal::NoLabel,
     }
 }

@@ -8,7 +8,7 @@ ghost use Rattle.pool_slots.specs.Slots.{HaveLabels, InUse, MakesOn, is_disk};
 ghost use Rattle.pool_slots.specs.Opens.{AreFitting, FindsAll, FindsHighest, FindsIfUsed, FindsOn, HasHighest, uberblock_of};
 
 use crate::found::Found;
-use crate::refusal::Refusal;
+use crate::refusal::{Refusal, slots_unread};
 use model_disk::{Disk, DiskArray};
 use std::alloc::{AllocError, Global};
 use uberblock_ring::{Uberblock, highest, read_slots};
@@ -37,7 +37,10 @@ fn find<D: Disk + Drop>(
     ensures makes { MakesOn (is_disk which) no_write disks.old disks.new }
     ensures finds { FindsOn disks.old disks.new which result }
 {
-    let slots = read_slots(alloc, disks, which)?;
+    let slots = match read_slots(alloc, disks, which) {
+        Ok(slots) => slots,
+        Err(cause) => return Err(slots_unread(which, cause)),
+    };
     match found_in(&slots) {
         Some(found) => Ok(found),
         None => Err(Refusal::NoUberblock),

@@ -1,16 +1,19 @@
 //! The writes of a phase over the disks in use, and its flush.
-ghost use Rattle.std.specs.Prelude.{◌≡◌, ◌<◌, ◌∷◌, length, OnErr, OnOk};
+ghost use Rattle.std.specs.Prelude.{◌≡◌, ◌<◌, ◌∷◌, length, IfErr, OnOk};
 ghost use Rattle.model_disk.specs.Call.{write_call};
 ghost use Rattle.model_disk.specs.Joint.{calls_on, content, on};
-ghost use Rattle.model_disk.specs.Runs.{HasFailed, IsSettled, no_write};
+ghost use Rattle.model_disk.specs.Runs.{IsSettled, no_write};
 ghost use Rattle.uberblock_ring.specs.Uberblock.{Fits};
+ghost use Rattle.pool_slots.specs.Failures.{IsFailure};
 ghost use Rattle.pool_slots.specs.Slots.{AreSettled, HaveLabels, InUse, MakesOn, is_disk};
 ghost use Rattle.pool_slots.specs.Writes.{AreApart, AreWithin, BlocksStand, HasBlock, HasFound, InTurn, IsBlockWrite, IsSlotWrite, IsWithin, SlotsStand, in_half_of, in_use, on_disk};
 
 use crate::blocks::BlockWrite;
+use crate::calls::{flush, write_at, write_slot};
 use crate::found::Found;
-use model_disk::{Disk, DiskArray, DiskError};
-use uberblock_ring::{Uberblock, write_slot};
+use crate::refusal::DiskFailure;
+use model_disk::{Disk, DiskArray};
+use uberblock_ring::Uberblock;
 
 // ---- flushes
 
@@ -19,29 +22,29 @@ fn flush_if_used<D: Disk + Drop>(
     disks: &mut DiskArray<D>,
     out: &[bool],
     which: usize,
-) -> Result<(), DiskError>
+) -> Result<(), DiskFailure>
     requires which { which < length disks.old.starts }
     requires out { length out.now ≡ length disks.old.starts }
     ensures makes { MakesOn (InUse out.now) no_write disks.old disks.new }
     ensures settles { OnOk result (InUse out.now which
         → IsSettled (calls_on which disks.new.calls)) }
-    ensures fault { OnErr result (HasFailed disks.old disks.new) }
+    ensures fault { IfErr result (IsFailure disks.old disks.new) }
 {
     if out[which] {
         return Ok(());
     }
-    disks.flush(which)
+    flush(disks, which)
 }
 
 /// Flushes each disk in use. The first fault ends it.
 pub(crate) fn flush_all<D: Disk + Drop>(
     disks: &mut DiskArray<D>,
     out: &[bool],
-) -> Result<(), DiskError>
+) -> Result<(), DiskFailure>
     requires out { length out.now ≡ length disks.old.starts }
     ensures makes { MakesOn (InUse out.now) no_write disks.old disks.new }
     ensures settled { OnOk result (AreSettled out.now disks.new.calls) }
-    ensures fault { OnErr result (HasFailed disks.old disks.new) }
+    ensures fault { IfErr result (IsFailure disks.old disks.new) }
 {
     for which in 0..disks.len() {
         flush_if_used(disks, out, which)?;
@@ -55,26 +58,26 @@ pub(crate) fn flush_all<D: Disk + Drop>(
 fn write_block<D: Disk + Drop>(
     disks: &mut DiskArray<D>,
     block: &BlockWrite,
-) -> Result<(), DiskError>
+) -> Result<(), DiskFailure>
     requires within { IsWithin disks.old.starts block.now }
     ensures starts { disks.new.starts ≡ disks.old.starts }
     ensures call { disks.new.calls
         ≡ on block.now.disk (write_call result block.now.at block.now.bytes.items) ∷ disks.old.calls }
-    ensures fault { OnErr result (HasFailed disks.old disks.new) }
+    ensures fault { IfErr result (IsFailure disks.old disks.new) }
 {
-    disks.write_at(block.disk, block.at, &block.bytes)
+    write_at(disks, block.disk, block.at, &block.bytes)
 }
 
 /// Writes the blocks. The first fault ends it.
 pub(crate) fn write_blocks<D: Disk + Drop>(
     disks: &mut DiskArray<D>,
     blocks: &[BlockWrite],
-) -> Result<(), DiskError>
+) -> Result<(), DiskFailure>
     requires within { AreWithin disks.old.starts blocks.now }
     requires apart { AreApart blocks.now }
     ensures makes { MakesOn (HasBlock blocks.now) (IsBlockWrite blocks.now) disks.old disks.new }
     ensures stand { OnOk result (BlocksStand (content disks.new) blocks.now (length blocks.now)) }
-    ensures fault { OnErr result (HasFailed disks.old disks.new) }
+    ensures fault { IfErr result (IsFailure disks.old disks.new) }
 {
     for block in blocks {
         write_block(disks, block)?;
@@ -90,7 +93,7 @@ fn write_half<D: Disk + Drop>(
     which: usize,
     half: u64,
     uberblock: &Uberblock,
-) -> Result<(), DiskError>
+) -> Result<(), DiskFailure>
     requires which { which < length disks.old.starts }
     requires half { half < 2 }
     requires labels { HaveLabels disks.old.starts }
@@ -99,7 +102,7 @@ fn write_half<D: Disk + Drop>(
         (IsSlotWrite disks.old.starts uberblock.now (in_half_of which half)) disks.old disks.new }
     ensures stand { OnOk result (SlotsStand (content disks.new) disks.old.starts uberblock.now
         (in_half_of which half) (length disks.old.starts)) }
-    ensures fault { OnErr result (HasFailed disks.old disks.new) }
+    ensures fault { IfErr result (IsFailure disks.old disks.new) }
 {
     write_slot(disks, which, half, uberblock)?;
     write_slot(disks, which, half + 2, uberblock)
@@ -111,7 +114,7 @@ fn write_if_used<D: Disk + Drop>(
     out: &[bool],
     which: usize,
     uberblock: &Uberblock,
-) -> Result<(), DiskError>
+) -> Result<(), DiskFailure>
     requires which { which < length disks.old.starts }
     requires out { length out.now ≡ length disks.old.starts }
     requires labels { HaveLabels disks.old.starts }
@@ -121,7 +124,7 @@ fn write_if_used<D: Disk + Drop>(
         disks.old disks.new }
     ensures stand { OnOk result (SlotsStand (content disks.new) disks.old.starts uberblock.now
         (on_disk which (in_use out.now)) (length disks.old.starts)) }
-    ensures fault { OnErr result (HasFailed disks.old disks.new) }
+    ensures fault { IfErr result (IsFailure disks.old disks.new) }
 {
     if out[which] {
         return Ok(());
@@ -135,7 +138,7 @@ pub(crate) fn write_all<D: Disk + Drop>(
     disks: &mut DiskArray<D>,
     out: &[bool],
     uberblock: &Uberblock,
-) -> Result<(), DiskError>
+) -> Result<(), DiskFailure>
     requires out { length out.now ≡ length disks.old.starts }
     requires labels { HaveLabels disks.old.starts }
     requires fits { Fits uberblock.now }
@@ -143,7 +146,7 @@ pub(crate) fn write_all<D: Disk + Drop>(
         (IsSlotWrite disks.old.starts uberblock.now (in_use out.now)) disks.old disks.new }
     ensures stand { OnOk result (SlotsStand (content disks.new) disks.old.starts uberblock.now
         (in_use out.now) (length disks.old.starts)) }
-    ensures fault { OnErr result (HasFailed disks.old disks.new) }
+    ensures fault { IfErr result (IsFailure disks.old disks.new) }
 {
     for which in 0..disks.len() {
         write_if_used(disks, out, which, uberblock)?;
@@ -158,7 +161,7 @@ fn write_turn_on<D: Disk + Drop>(
     turn: u64,
     which: usize,
     uberblock: &Uberblock,
-) -> Result<(), DiskError>
+) -> Result<(), DiskFailure>
     requires which { which < length disks.old.starts }
     requires all { length all.now ≡ length disks.old.starts }
     requires turn { turn < 2 }
@@ -169,7 +172,7 @@ fn write_turn_on<D: Disk + Drop>(
         disks.old disks.new }
     ensures stand { OnOk result (SlotsStand (content disks.new) disks.old.starts uberblock.now
         (on_disk which (InTurn all.now turn)) (length disks.old.starts)) }
-    ensures fault { OnErr result (HasFailed disks.old disks.new) }
+    ensures fault { IfErr result (IsFailure disks.old disks.new) }
 {
     let Some(found) = all[which] else {
         return Ok(());
@@ -183,7 +186,7 @@ pub(crate) fn write_turn<D: Disk + Drop>(
     all: &[Option<Found>],
     turn: u64,
     uberblock: &Uberblock,
-) -> Result<(), DiskError>
+) -> Result<(), DiskFailure>
     requires all { length all.now ≡ length disks.old.starts }
     requires turn { turn < 2 }
     requires labels { HaveLabels disks.old.starts }
@@ -192,7 +195,7 @@ pub(crate) fn write_turn<D: Disk + Drop>(
         (IsSlotWrite disks.old.starts uberblock.now (InTurn all.now turn)) disks.old disks.new }
     ensures stand { OnOk result (SlotsStand (content disks.new) disks.old.starts uberblock.now
         (InTurn all.now turn) (length disks.old.starts)) }
-    ensures fault { OnErr result (HasFailed disks.old disks.new) }
+    ensures fault { IfErr result (IsFailure disks.old disks.new) }
 {
     for which in 0..disks.len() {
         write_turn_on(disks, all, turn, which, uberblock)?;

@@ -1,7 +1,7 @@
 use Rattle.std.proofs.Common.{inr, ◌∙◌, ◌++◌, List, true, false, refl, sym, ap, subst, append_assoc, arith}
 use Rattle.model_disk.specs.Joint.{JointCall, content}
-use Rattle.model_disk.specs.Runs.{HasFailed}
-use Rattle.model_disk.proofs.FailureLemmas.{failed_in_second}
+use Rattle.pool_slots.specs.Failures.{IsFailure}
+use Rattle.pool_slots.proofs.Failing.{failure_later, fails_later}
 use Rattle.pool_slots.specs.Labels.{AreClaimed, AreasStand, InAreaTurn, IsAreaWrite, IsClaimWrite}
 use Rattle.pool_slots.specs.Configs.{LeavesConfigured}
 use Rattle.pool_slots.specs.Opens.{ClaimGives, ClaimsAt}
@@ -13,7 +13,7 @@ use Rattle.std.proofs.Common.{ℕ}
 use Rattle.pool_slots.proofs.LabelPhases.{FirstStands, all_claimed, all_stand, are_whole, areas_made, at_later, each_joined, first_claims, first_configured, first_stays, may_later, others_claim, others_configured, slots_claim, slots_configured, slots_made}
 use Rattle.pool_slots.proofs.Phases.{MakesOn-more}
 use Rattle.pool_slots.proofs.Reading.{longer}
-use Rattle.pool_slots.proofs.Results.{on_ok_is, on_ok_use, on_err_use, on_err_is}
+use Rattle.pool_slots.proofs.Results.{on_ok_is, on_ok_use, if_err_is}
 use Rattle.pool_slots.proofs.Used.{are_there}
 use Rattle.pool_slots.proofs.claiming.claim.Goals as goal
 
@@ -248,8 +248,8 @@ returns-in_err-claim_slots-clause-fault g c =
     let u = c.args.uberblock.now in
     let mid = c.settle_labels.new.disks in
     let wrote = c.claim_slots.new.disks in
-    on_err_is c.from_residual-in_err-claim_slots.result (HasFailed old wrote)
-    (failed_in_second (IsAreaWrite old.starts areas (InAreaTurn areas true)) old mid wrote c.settle_labels.ensures.makes.makes c.in_err-claim_slots.ensures.fault)
+    if_err_is c.from_residual-in_err-claim_slots.result c.in_err-claim_slots.field-0.0 (IsFailure old wrote) c.from_residual-in_err-claim_slots.ensures.1
+    (fails_later (IsAreaWrite old.starts areas (InAreaTurn areas true)) old mid wrote c.settle_labels.ensures.makes.makes c.in_err-claim_slots.field-0.0.disk c.in_err-claim_slots.ensures.fault)
 
 pub returns-clause-fault : goal.returns-clause-fault
 returns-clause-fault g c =
@@ -264,4 +264,4 @@ returns-clause-fault g c =
     let before = MakesOn-more (InUse out) (IsClaimWrite old.starts out u) old mid wrote
     (areas_made old mid old.starts out u areas (InAreaTurn areas true) c.requires.on c.requires.areas refl c.settle_labels.ensures.makes)
     (slots_made mid wrote old.starts out u c.settle_labels.ensures.makes.makes.starts c.claim_slots.ensures.makes) in
-    on_err_use c.settle_labels-2.result (HasFailed wrote new) (HasFailed old new) (failed_in_second (IsClaimWrite old.starts out u) old wrote new before.makes) c.settle_labels-2.ensures.fault
+    failure_later c.settle_labels-2.result (IsClaimWrite old.starts out u) old wrote new before.makes c.settle_labels-2.ensures.fault

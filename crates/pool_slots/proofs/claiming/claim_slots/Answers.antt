@@ -1,13 +1,13 @@
 use Rattle.std.proofs.Common.{length, refl}
-use Rattle.model_disk.specs.Runs.{HasFailed}
-use Rattle.model_disk.proofs.FailureLemmas.{failed_in_second}
+use Rattle.pool_slots.specs.Failures.{IsFailure}
+use Rattle.pool_slots.proofs.Failing.{failure_later, fails_later}
 use Rattle.pool_slots.specs.Opens.{SlotsGive}
 use Rattle.pool_slots.specs.Slots.{InUse, AreSettled}
 use Rattle.pool_slots.specs.Writes.{IsSlotWrite, in_use, InTurn}
 use Rattle.pool_slots.proofs.ClaimPhases.{first_always, between_halves, second_always, claim_done, second_leads, turn_writes}
 use Rattle.pool_slots.proofs.CommitPhases.{slots_flushed}
 use Rattle.pool_slots.proofs.Phases.{MakesOn-more, flushed_too, both_made}
-use Rattle.pool_slots.proofs.Results.{on_ok_use, on_err_use, on_err_is}
+use Rattle.pool_slots.proofs.Results.{on_ok_use, if_err_is}
 use Rattle.pool_slots.proofs.Used.{are_there}
 use Rattle.pool_slots.proofs.claiming.claim_slots.Goals as goal
 
@@ -100,16 +100,16 @@ returns-clause-claimed g c =
 
 pub returns-in_err-flush_all-clause-fault : goal.returns-in_err-flush_all-clause-fault
 returns-in_err-flush_all-clause-fault g c =
-    on_err_is c.from_residual-in_err-flush_all.result (HasFailed c.args.disks.now c.flush_all.new.disks)
-    (failed_in_second (IsSlotWrite c.args.disks.now.starts c.args.uberblock.now (InTurn c.args.all.now 0)) c.args.disks.now c.write_turn.new.disks c.flush_all.new.disks
-    c.write_turn.ensures.makes.makes c.in_err-flush_all.ensures.fault)
+    if_err_is c.from_residual-in_err-flush_all.result c.in_err-flush_all.field-0.0 (IsFailure c.args.disks.now c.flush_all.new.disks) c.from_residual-in_err-flush_all.ensures.1
+    (fails_later (IsSlotWrite c.args.disks.now.starts c.args.uberblock.now (InTurn c.args.all.now 0)) c.args.disks.now c.write_turn.new.disks c.flush_all.new.disks
+    c.write_turn.ensures.makes.makes c.in_err-flush_all.field-0.0.disk c.in_err-flush_all.ensures.fault)
 
 pub returns-in_err-write_turn-2-clause-fault : goal.returns-in_err-write_turn-2-clause-fault
 returns-in_err-write_turn-2-clause-fault g c =
-    on_err_is c.from_residual-in_err-write_turn-2.result (HasFailed c.args.disks.now c.write_turn-2.new.disks)
-    (failed_in_second (IsSlotWrite c.args.disks.now.starts c.args.uberblock.now (InTurn c.args.all.now 0)) c.args.disks.now c.flush_all.new.disks c.write_turn-2.new.disks
+    if_err_is c.from_residual-in_err-write_turn-2.result c.in_err-write_turn-2.field-0.0 (IsFailure c.args.disks.now c.write_turn-2.new.disks) c.from_residual-in_err-write_turn-2.ensures.1
+    (fails_later (IsSlotWrite c.args.disks.now.starts c.args.uberblock.now (InTurn c.args.all.now 0)) c.args.disks.now c.flush_all.new.disks c.write_turn-2.new.disks
     (both_made (IsSlotWrite c.args.disks.now.starts c.args.uberblock.now (InTurn c.args.all.now 0)) c.args.disks.now c.write_turn.new.disks c.flush_all.new.disks c.write_turn.ensures.makes.makes c.flush_all.ensures.makes.makes)
-    c.in_err-write_turn-2.ensures.fault)
+    c.in_err-write_turn-2.field-0.0.disk c.in_err-write_turn-2.ensures.fault)
 
 pub returns-clause-fault : goal.returns-clause-fault
 returns-clause-fault g c =
@@ -121,5 +121,4 @@ returns-clause-fault g c =
     (turn_writes c.args.out.now c.args.all.now 0 old.starts old c.write_turn.new.disks c.args.uberblock.now c.requires.used refl c.write_turn.ensures.makes) c.flush_all.ensures.makes in
     let all = MakesOn-more (InUse c.args.out.now) may old mid wrote first
     (turn_writes c.args.out.now c.args.all.now 1 old.starts mid wrote c.args.uberblock.now c.requires.used first.makes.starts c.write_turn-2.ensures.makes) in
-    on_err_use c.flush_all-2.result (HasFailed wrote c.flush_all-2.new.disks) (HasFailed old c.flush_all-2.new.disks)
-    (failed_in_second may old wrote c.flush_all-2.new.disks all.makes) c.flush_all-2.ensures.fault
+    failure_later c.flush_all-2.result may old wrote c.flush_all-2.new.disks all.makes c.flush_all-2.ensures.fault

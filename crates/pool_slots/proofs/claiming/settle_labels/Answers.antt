@@ -1,12 +1,11 @@
 use Rattle.model_disk.specs.Joint.{content}
-use Rattle.model_disk.specs.Runs.{HasFailed}
-use Rattle.model_disk.proofs.FailureLemmas.{failed_in_second}
+use Rattle.pool_slots.proofs.Failing.{failure_later}
 use Rattle.pool_slots.specs.Labels.{AreasStand, HasArea, InAreaTurn, IsAreaWrite}
 use Rattle.pool_slots.specs.Slots.{AreSettled, InUse}
 use Rattle.pool_slots.proofs.LabelPhases.{areas_flushed, areas_used}
 use Rattle.pool_slots.proofs.LabelWrites.{wider}
 use Rattle.pool_slots.proofs.Phases.{flushed_too}
-use Rattle.pool_slots.proofs.Results.{on_err_use, on_ok_use}
+use Rattle.pool_slots.proofs.Results.{on_ok_use}
 use Rattle.pool_slots.proofs.claiming.settle_labels.Goals as goal
 
 pub returns-in_err-write_labels-clause-makes : goal.returns-in_err-write_labels-clause-makes
@@ -32,6 +31,5 @@ returns-clause-stand g c =
 
 pub returns-clause-fault : goal.returns-clause-fault
 returns-clause-fault g c =
-    on_err_use c.flush_all.result (HasFailed c.write_labels.new.disks c.flush_all.new.disks) (HasFailed c.args.disks.now c.flush_all.new.disks)
-    (failed_in_second (IsAreaWrite c.args.disks.now.starts c.args.areas.now (InAreaTurn c.args.areas.now c.args.first)) c.args.disks.now c.write_labels.new.disks c.flush_all.new.disks
-    c.write_labels.ensures.makes.makes) c.flush_all.ensures.fault
+    failure_later c.flush_all.result (IsAreaWrite c.args.disks.now.starts c.args.areas.now (InAreaTurn c.args.areas.now c.args.first)) c.args.disks.now c.write_labels.new.disks c.flush_all.new.disks
+    c.write_labels.ensures.makes.makes c.flush_all.ensures.fault

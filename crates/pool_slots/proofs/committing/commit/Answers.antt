@@ -1,12 +1,12 @@
 use Rattle.std.proofs.Common.{length}
-use Rattle.model_disk.specs.Runs.{HasFailed}
-use Rattle.model_disk.proofs.FailureLemmas.{failed_in_second}
+use Rattle.pool_slots.specs.Failures.{IsFailure}
+use Rattle.pool_slots.proofs.Failing.{failure_later, fails_later}
 use Rattle.pool_slots.specs.Commits.{CommitGives}
 use Rattle.pool_slots.specs.Slots.{InUse, AreSettled}
 use Rattle.pool_slots.specs.Writes.{IsSlotWrite, in_use, IsBlockWrite, IsCommitWrite}
 use Rattle.pool_slots.proofs.CommitPhases.{block_writes, blocks_within, slot_writes, blocks_always, blocks_done, slots_always, commit_done, slots_flushed}
 use Rattle.pool_slots.proofs.Phases.{MakesOn-more, flushed_too, both_made}
-use Rattle.pool_slots.proofs.Results.{on_ok_use, on_err_use, on_err_is}
+use Rattle.pool_slots.proofs.Results.{on_ok_use, if_err_is}
 use Rattle.pool_slots.proofs.Used.{are_there}
 use Rattle.pool_slots.proofs.committing.commit.Goals as goal
 
@@ -90,15 +90,15 @@ returns-clause-committed g c =
 
 pub returns-in_err-flush_all-clause-fault : goal.returns-in_err-flush_all-clause-fault
 returns-in_err-flush_all-clause-fault g c =
-    on_err_is c.from_residual-in_err-flush_all.result (HasFailed c.args.disks.now c.flush_all.new.disks)
-    (failed_in_second (IsBlockWrite c.args.blocks.now) c.args.disks.now c.write_blocks.new.disks c.flush_all.new.disks c.write_blocks.ensures.makes.makes c.in_err-flush_all.ensures.fault)
+    if_err_is c.from_residual-in_err-flush_all.result c.in_err-flush_all.field-0.0 (IsFailure c.args.disks.now c.flush_all.new.disks) c.from_residual-in_err-flush_all.ensures.1
+    (fails_later (IsBlockWrite c.args.blocks.now) c.args.disks.now c.write_blocks.new.disks c.flush_all.new.disks c.write_blocks.ensures.makes.makes c.in_err-flush_all.field-0.0.disk c.in_err-flush_all.ensures.fault)
 
 pub returns-in_err-write_all-clause-fault : goal.returns-in_err-write_all-clause-fault
 returns-in_err-write_all-clause-fault g c =
-    on_err_is c.from_residual-in_err-write_all.result (HasFailed c.args.disks.now c.write_all.new.disks)
-    (failed_in_second (IsBlockWrite c.args.blocks.now) c.args.disks.now c.flush_all.new.disks c.write_all.new.disks
+    if_err_is c.from_residual-in_err-write_all.result c.in_err-write_all.field-0.0 (IsFailure c.args.disks.now c.write_all.new.disks) c.from_residual-in_err-write_all.ensures.1
+    (fails_later (IsBlockWrite c.args.blocks.now) c.args.disks.now c.flush_all.new.disks c.write_all.new.disks
     (both_made (IsBlockWrite c.args.blocks.now) c.args.disks.now c.write_blocks.new.disks c.flush_all.new.disks c.write_blocks.ensures.makes.makes c.flush_all.ensures.makes.makes)
-    c.in_err-write_all.ensures.fault)
+    c.in_err-write_all.field-0.0.disk c.in_err-write_all.ensures.fault)
 
 pub returns-clause-fault : goal.returns-clause-fault
 returns-clause-fault g c =
@@ -110,5 +110,4 @@ returns-clause-fault g c =
     (block_writes c.args.out.now old c.write_blocks.new.disks c.args.blocks.now c.args.uberblock.now c.requires.placed c.write_blocks.ensures.makes) c.flush_all.ensures.makes in
     let all = MakesOn-more (InUse c.args.out.now) may old mid wrote first
     (slot_writes c.args.out.now old.starts mid wrote c.args.blocks.now c.args.uberblock.now first.makes.starts c.write_all.ensures.makes) in
-    on_err_use c.flush_all-2.result (HasFailed wrote c.flush_all-2.new.disks) (HasFailed old c.flush_all-2.new.disks)
-    (failed_in_second may old wrote c.flush_all-2.new.disks all.makes) c.flush_all-2.ensures.fault
+    failure_later c.flush_all-2.result may old wrote c.flush_all-2.new.disks all.makes c.flush_all-2.ensures.fault

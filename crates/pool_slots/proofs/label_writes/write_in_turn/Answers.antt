@@ -1,7 +1,6 @@
 use Rattle.std.proofs.Common.{refl}
 use Rattle.pool_slots.specs.Labels.{InAreaTurn, at_label}
 use Rattle.pool_slots.proofs.LabelWrites.{makes_area}
-use Rattle.model_disk.proofs.FailureLemmas.{write_failed}
 use Rattle.pool_slots.proofs.label_writes.write_in_turn.Goals as goal
 
 pub returns-then-is_turn-clause-makes : goal.returns-then-is_turn-clause-makes
@@ -12,4 +11,4 @@ returns-then-is_turn-clause-makes g c =
     (refl, refl, record { area = c.args.area.now; has = c.requires.has; turn = c.is_turn.ensures.0 c.if-is_turn.true }) c.write_area.ensures.starts c.write_area.ensures.call
 
 pub returns-then-is_turn-clause-fault : goal.returns-then-is_turn-clause-fault
-returns-then-is_turn-clause-fault g c = write_failed c.write_area.result c.args.disks.now c.write_area.new.disks c.args.which _ _ c.write_area.ensures.call
+returns-then-is_turn-clause-fault g c = c.write_area.ensures.fault

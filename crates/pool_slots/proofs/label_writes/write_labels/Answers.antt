@@ -1,12 +1,12 @@
 use Rattle.std.proofs.Common.{length, ap, arith}
-use Rattle.model_disk.specs.Runs.{HasFailed}
 use Rattle.std.proofs.lemmas.Option.{slice_get_within}
 use Rattle.std.proofs.Common.{Some}
-use Rattle.model_disk.proofs.FailureLemmas.{failed_in_second}
+use Rattle.pool_slots.specs.Failures.{IsFailure}
+use Rattle.pool_slots.proofs.Failing.{fails_later}
 use Rattle.pool_slots.specs.Labels.{HasArea, InAreaTurn, IsAreaWrite}
 use Rattle.pool_slots.specs.Writes.{on_disk}
 use Rattle.pool_slots.proofs.LabelWrites.{disk_next, made_more, wider}
-use Rattle.pool_slots.proofs.Results.{on_err_is}
+use Rattle.pool_slots.proofs.Results.{if_err_is}
 use Rattle.pool_slots.proofs.label_writes.write_labels.Goals as goal
 
 pub returns-in_err-write_labels_on-clause-makes : goal.returns-in_err-write_labels_on-clause-makes
@@ -18,9 +18,9 @@ returns-in_err-write_labels_on-clause-makes g c =
 
 pub returns-in_err-write_labels_on-clause-fault : goal.returns-in_err-write_labels_on-clause-fault
 returns-in_err-write_labels_on-clause-fault g c =
-    on_err_is c.from_residual.result (HasFailed c.args.disks.now c.write_labels_on.new.disks)
-    (failed_in_second (IsAreaWrite c.args.disks.now.starts c.args.areas.now (InAreaTurn c.args.areas.now c.args.first)) c.args.disks.now c.loop-which.disks c.write_labels_on.new.disks
-    c.loop-which.invariant.makes.makes c.in_err-write_labels_on.ensures.fault)
+    if_err_is c.from_residual.result c.in_err-write_labels_on.field-0.0 (IsFailure c.args.disks.now c.write_labels_on.new.disks) c.from_residual.ensures.1
+    (fails_later (IsAreaWrite c.args.disks.now.starts c.args.areas.now (InAreaTurn c.args.areas.now c.args.first)) c.args.disks.now c.loop-which.disks c.write_labels_on.new.disks
+    c.loop-which.invariant.makes.makes c.in_err-write_labels_on.field-0.0.disk c.in_err-write_labels_on.ensures.fault)
 
 pub loop-which-preserved : goal.loop-which-preserved
 loop-which-preserved g c =

@@ -1,11 +1,11 @@
 use Rattle.std.proofs.Common.{arith}
-use Rattle.model_disk.specs.Runs.{HasFailed}
-use Rattle.model_disk.proofs.FailureLemmas.{failed_in_second}
+use Rattle.pool_slots.specs.Failures.{IsFailure}
+use Rattle.pool_slots.proofs.Failing.{fails_later}
 use Rattle.pool_slots.specs.Labels.{InAreaTurn, IsAreaWrite, at_label}
 use Rattle.pool_slots.specs.Slots.{is_disk}
 use Rattle.pool_slots.specs.Writes.{on_disk}
 use Rattle.pool_slots.proofs.LabelWrites.{label_next, made_more, wider}
-use Rattle.pool_slots.proofs.Results.{on_err_is}
+use Rattle.pool_slots.proofs.Results.{if_err_is}
 use Rattle.pool_slots.proofs.label_writes.write_labels_of.Goals as goal
 
 pub returns-in_err-write_in_turn-clause-makes : goal.returns-in_err-write_in_turn-clause-makes
@@ -17,9 +17,9 @@ returns-in_err-write_in_turn-clause-makes g c =
 
 pub returns-in_err-write_in_turn-clause-fault : goal.returns-in_err-write_in_turn-clause-fault
 returns-in_err-write_in_turn-clause-fault g c =
-    on_err_is c.from_residual.result (HasFailed c.args.disks.now c.write_in_turn.new.disks)
-    (failed_in_second (IsAreaWrite c.args.disks.now.starts c.args.areas.now (on_disk c.args.which (InAreaTurn c.args.areas.now c.args.first))) c.args.disks.now c.loop-number.disks c.write_in_turn.new.disks
-    c.loop-number.invariant.makes.makes c.in_err-write_in_turn.ensures.fault)
+    if_err_is c.from_residual.result c.in_err-write_in_turn.field-0.0 (IsFailure c.args.disks.now c.write_in_turn.new.disks) c.from_residual.ensures.1
+    (fails_later (IsAreaWrite c.args.disks.now.starts c.args.areas.now (on_disk c.args.which (InAreaTurn c.args.areas.now c.args.first))) c.args.disks.now c.loop-number.disks c.write_in_turn.new.disks
+    c.loop-number.invariant.makes.makes c.in_err-write_in_turn.field-0.0.disk c.in_err-write_in_turn.ensures.fault)
 
 pub loop-number-preserved : goal.loop-number-preserved
 loop-number-preserved g c =

@@ -1,7 +1,6 @@
 use Rattle.std.proofs.Common.{ℕ, ◌∙◌, List, Option, inl, inr, sym, subst}
 use Rattle.model_disk.specs.Joint.{content}
 use Rattle.model_disk.specs.Runs.{no_write}
-use Rattle.model_disk.proofs.FailureLemmas.{failed_in_second}
 use Rattle.pool_slots.specs.Labels.{AreasFit, AreasOn, AreasStand}
 use Rattle.pool_slots.specs.OpenRefusals.{OpenRefuses}
 use Rattle.pool_slots.specs.Opens.{AreFitting, AreOn, IsHighestOf}
@@ -10,6 +9,7 @@ use Rattle.pool_slots.specs.Slots.{InUse}
 use Rattle.pool_slots.specs.declared.found.Found.{Found}
 use Rattle.pool_slots.specs.declared.labeled.Area.{Area}
 use Rattle.pool_slots.specs.declared.refusal.Refusal.TheVariants.{DiskFault}
+use Rattle.pool_slots.proofs.Failing.{fails_later}
 use Rattle.pool_slots.proofs.ConfigLabels.{open_configures}
 use Rattle.pool_slots.proofs.OpenSteps.{leads_before, scan_cause, highest_cause, taken_cause}
 use Rattle.pool_slots.proofs.Opened.{claims_always, made_from, marked_by, marks_always, marks_before, opened_from, opened_is, plan_cause, reads_of, relabeled_by, scan_then_claim}
@@ -262,8 +262,8 @@ returns-in_err-claim-clause-refused g c =
     let back = c.taken_from.new.disks in
     let disks = c.plan_claim.new.disks in
     let new = c.claim.new.disks in
-    if_err_is c.from_residual-in_err-claim.result DiskFault (OpenRefuses out c.args.rewind old new) c.from_residual-in_err-claim.ensures.1
-    (λ trees p can honest. failed_in_second no_write old disks new (both_made no_write old back disks (both_made no_write old mid back c.find_all.ensures.makes.makes c.taken_from.ensures.makes.makes) c.plan_claim.ensures.makes.makes) c.in_err-claim.ensures.fault)
+    if_err_is c.from_residual-in_err-claim.result (DiskFault c.in_err-claim.field-0.0.disk) (OpenRefuses out c.args.rewind old new) c.from_residual-in_err-claim.ensures.1
+    (λ trees p can honest. fails_later no_write old disks new (both_made no_write old back disks (both_made no_write old mid back c.find_all.ensures.makes.makes c.taken_from.ensures.makes.makes) c.plan_claim.ensures.makes.makes) c.in_err-claim.field-0.0.disk c.in_err-claim.ensures.fault)
 
 pub returns-clause-opened : goal.returns-clause-opened
 returns-clause-opened g c = λ trees p can honest.

@@ -1,11 +1,11 @@
 use Rattle.std.proofs.Common.{◌≡◌, ◌∙◌, List, ℕ, ap, sym, subst, Some, arith}
 use Rattle.std.specs.List.{slice_get}
 use Rattle.std.proofs.lemmas.Option.{slice_get-get_or}
-use Rattle.model_disk.specs.Runs.{HasFailed}
-use Rattle.model_disk.proofs.FailureLemmas.{failed_in_second}
+use Rattle.pool_slots.specs.Failures.{IsFailure}
+use Rattle.pool_slots.proofs.Failing.{fails_later}
 use Rattle.pool_slots.specs.Writes.{HasBlock, IsBlockWrite, IsWithin}
 use Rattle.pool_slots.proofs.Phases.{MakesOn-none, MakesOn-more}
-use Rattle.pool_slots.proofs.Results.{on_err_is}
+use Rattle.pool_slots.proofs.Results.{if_err_is}
 use Rattle.pool_slots.proofs.Writing.{makes_block, blocks_next}
 use Rattle.pool_slots.proofs.writes.write_blocks.Goals as goal
 
@@ -33,8 +33,8 @@ returns-in_err-write_block-clause-makes g c =
 
 pub returns-in_err-write_block-clause-fault : goal.returns-in_err-write_block-clause-fault
 returns-in_err-write_block-clause-fault g c =
-    on_err_is c.from_residual.result (HasFailed c.args.disks.now c.write_block.new.disks)
-    (failed_in_second (IsBlockWrite c.args.blocks.now) c.args.disks.now c.loop-block.disks c.write_block.new.disks c.loop-block.invariant.makes.makes c.in_err-write_block.ensures.fault)
+    if_err_is c.from_residual.result c.in_err-write_block.field-0.0 (IsFailure c.args.disks.now c.write_block.new.disks) c.from_residual.ensures.1
+    (fails_later (IsBlockWrite c.args.blocks.now) c.args.disks.now c.loop-block.disks c.write_block.new.disks c.loop-block.invariant.makes.makes c.in_err-write_block.field-0.0.disk c.in_err-write_block.ensures.fault)
 
 pub loop-block-preserved : goal.loop-block-preserved
 loop-block-preserved g c =

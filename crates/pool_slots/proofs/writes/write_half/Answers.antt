@@ -1,13 +1,13 @@
 use Rattle.std.proofs.Common.{◌≡◌, ◌+◌, ℕ, List, ◌∷◌, length, inl, refl, subst, arith}
 use Rattle.model_disk.specs.Call.{write_call}
 use Rattle.model_disk.specs.Joint.{on, bytes_of}
-use Rattle.model_disk.specs.Runs.{HasFailed}
-use Rattle.model_disk.proofs.FailureLemmas.{failed_in_second, write_failed}
+use Rattle.pool_slots.proofs.Failing.{failure_later}
 use Rattle.uberblock_ring.specs.Slot.{slot_number}
+use Rattle.pool_slots.specs.Failures.{IsFailure}
+use Rattle.pool_slots.proofs.Results.{if_err_is}
 use Rattle.pool_slots.specs.Slots.{spelled, slot_at}
 use Rattle.pool_slots.specs.Writes.{IsSlotWrite, in_half_of}
-use Rattle.pool_slots.proofs.Results.{on_err_use, on_err_is}
-use Rattle.pool_slots.proofs.Same.{slot_call, slot_failed, slot_wrote}
+use Rattle.pool_slots.proofs.Same.{slot_call, slot_wrote}
 use Rattle.pool_slots.proofs.Writing.{makes_slot, half_makes, half_stands}
 use Rattle.pool_slots.proofs.writes.write_half.Goals as goal
 
@@ -24,8 +24,7 @@ returns-in_err-write_slot-clause-fault g c =
     let u = c.args.uberblock.now in
     let old = c.args.disks.now in
     let mid = c.write_slot.new.disks in
-    on_err_is c.from_residual.result (HasFailed old mid)
-    (slot_failed old mid c.args.which (length (bytes_of old.starts c.args.which)) c.args.half u c.in_err-write_slot.ensures.call)
+    if_err_is c.from_residual.result c.in_err-write_slot.field-0.0 (IsFailure old mid) c.from_residual.ensures.1 c.in_err-write_slot.ensures.fault
 
 pub returns-clause-makes : goal.returns-clause-makes
 returns-clause-makes g c =
@@ -57,8 +56,7 @@ returns-clause-fault g c =
     let old = c.args.disks.now in
     let mid = c.write_slot.new.disks in
     let new = c.write_slot-2.new.disks in
-    on_err_use c.write_slot-2.result (HasFailed mid new) (HasFailed old new)
-    (failed_in_second (IsSlotWrite old.starts u (in_half_of c.args.which c.args.half)) old mid new
+    failure_later c.write_slot-2.result (IsSlotWrite old.starts u (in_half_of c.args.which c.args.half)) old mid new
     (makes_slot c.write_slot.result old.starts u (in_half_of c.args.which c.args.half) old mid c.args.which c.args.half
-    (omega (arith, c.requires.half)) (refl, inl refl) c.write_slot.ensures.starts (slot_call c.write_slot.result old mid c.args.which (length (bytes_of old.starts c.args.which)) c.args.half u c.write_slot.ensures.call)).makes)
-    (write_failed c.write_slot-2.result mid new c.args.which _ _ c.write_slot-2.ensures.call)
+    (omega (arith, c.requires.half)) (refl, inl refl) c.write_slot.ensures.starts (slot_call c.write_slot.result old mid c.args.which (length (bytes_of old.starts c.args.which)) c.args.half u c.write_slot.ensures.call)).makes
+    c.write_slot-2.ensures.fault

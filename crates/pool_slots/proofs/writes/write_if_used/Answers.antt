@@ -1,8 +1,6 @@
 use Rattle.std.proofs.Common.{arith}
-use Rattle.model_disk.specs.Runs.{HasFailed}
-use Rattle.model_disk.proofs.FailureLemmas.{failed_in_second}
+use Rattle.pool_slots.proofs.Failing.{failure_later}
 use Rattle.pool_slots.specs.Writes.{IsSlotWrite, in_half_of}
-use Rattle.pool_slots.proofs.Results.{on_err_use}
 use Rattle.pool_slots.proofs.Used.{used_here}
 use Rattle.pool_slots.proofs.Writing.{first_half, both_halves, both_halves_stand}
 use Rattle.pool_slots.proofs.writes.write_if_used.Goals as goal
@@ -24,6 +22,5 @@ returns-clause-stand g c =
 
 pub returns-clause-fault : goal.returns-clause-fault
 returns-clause-fault g c =
-    on_err_use c.write_half-2.result (HasFailed c.write_half.new.disks c.write_half-2.new.disks) (HasFailed c.args.disks.now c.write_half-2.new.disks)
-    (failed_in_second (IsSlotWrite c.args.disks.now.starts c.args.uberblock.now (in_half_of c.args.which 0)) c.args.disks.now c.write_half.new.disks c.write_half-2.new.disks c.write_half.ensures.makes.makes)
+    failure_later c.write_half-2.result (IsSlotWrite c.args.disks.now.starts c.args.uberblock.now (in_half_of c.args.which 0)) c.args.disks.now c.write_half.new.disks c.write_half-2.new.disks c.write_half.ensures.makes.makes
     c.write_half-2.ensures.fault

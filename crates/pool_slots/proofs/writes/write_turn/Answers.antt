@@ -1,9 +1,9 @@
 use Rattle.std.proofs.Common.{length, ap, arith}
-use Rattle.model_disk.specs.Runs.{HasFailed}
-use Rattle.model_disk.proofs.FailureLemmas.{failed_in_second}
+use Rattle.pool_slots.specs.Failures.{IsFailure}
+use Rattle.pool_slots.proofs.Failing.{fails_later}
 use Rattle.pool_slots.specs.Writes.{IsSlotWrite, HasFound, InTurn}
 use Rattle.pool_slots.proofs.Phases.{MakesOn-none}
-use Rattle.pool_slots.proofs.Results.{on_err_is}
+use Rattle.pool_slots.proofs.Results.{if_err_is}
 use Rattle.pool_slots.proofs.Writing.{made_more, made_next}
 use Rattle.pool_slots.proofs.writes.write_turn.Goals as goal
 
@@ -19,8 +19,8 @@ returns-in_err-write_turn_on-clause-makes g c =
 
 pub returns-in_err-write_turn_on-clause-fault : goal.returns-in_err-write_turn_on-clause-fault
 returns-in_err-write_turn_on-clause-fault g c =
-    on_err_is c.from_residual.result (HasFailed c.args.disks.now c.write_turn_on.new.disks)
-    (failed_in_second (IsSlotWrite c.args.disks.now.starts c.args.uberblock.now (InTurn c.args.all.now c.args.turn)) c.args.disks.now c.loop-which.disks c.write_turn_on.new.disks c.loop-which.invariant.makes.makes c.in_err-write_turn_on.ensures.fault)
+    if_err_is c.from_residual.result c.in_err-write_turn_on.field-0.0 (IsFailure c.args.disks.now c.write_turn_on.new.disks) c.from_residual.ensures.1
+    (fails_later (IsSlotWrite c.args.disks.now.starts c.args.uberblock.now (InTurn c.args.all.now c.args.turn)) c.args.disks.now c.loop-which.disks c.write_turn_on.new.disks c.loop-which.invariant.makes.makes c.in_err-write_turn_on.field-0.0.disk c.in_err-write_turn_on.ensures.fault)
 
 pub loop-which-preserved : goal.loop-which-preserved
 loop-which-preserved g c =
