@@ -3,6 +3,8 @@
 #![tactic(auto)]
 
 #[cfg(test)]
+mod dead_lists;
+#[cfg(test)]
 mod groups;
 #[cfg(test)]
 mod losses;
