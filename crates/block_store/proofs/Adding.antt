@@ -17,6 +17,7 @@ use Rattle.raidz_io.proofs.Kept.{writes_on_disks}
 use Rattle.raidz_io.proofs.Placed.{extent_fits}
 use Rattle.raidz_io.proofs.Written.{same_some, slice_get_some}
 use Rattle.block_store.specs.Blocks.{Contents, Adds, IsWrittenAs}
+use Rattle.block_store.specs.Spaces.{VdevSpace}
 use Rattle.block_store.specs.Places.{shapes_of, IsTaken, IsPlaceIn, IsCopy, IsExtentAt, ArePlacesApart, AreChosen}
 use Rattle.block_store.specs.Places.{filled as filled_marks, planned as planned_marks}
 use Rattle.block_store.specs.Plans.{Plans, KeepsPlans, IsOnTheWay, IsDueFor, AreWritesAt}
@@ -26,7 +27,7 @@ use Rattle.block_store.proofs.Planning.{IsSameBut, keeps_by, marks_by_map, some_
 use Rattle.block_store.proofs.ReadingPlaces.{place_fits}
 use Rattle.block_store.proofs.SameBlock.{same_block, block_is, block_itself}
 use Rattle.block_store.proofs.Sizes.{asize_some}
-use Rattle.block_store.proofs.Taking.{AreTakenToo, are_taken, taken_too, placed_too, copy_too, turned}
+use Rattle.block_store.proofs.Taking.{AreTakenToo, are_taken, taken_some, taken_too, placed_too, copy_too, turned}
 use Rattle.block_store.proofs.Writing.{found_at}
 
 -- the contents with this block
@@ -75,7 +76,7 @@ is_fresh old new block bytes places writes planned is placed =
       | inl (known, is_known) ↦
           let was : IsTaken old.spaces planned_marks block.property.sectors first.0 = placed.places block known 0 first.0 is_known first.1 in
           let some : 0 < first.0.allocated = omega (arith, was.is_place.allocated, asize_some was.space.shape.vdev.geometry block.property.sectors is.written.fits.property.not_empty) in
-          absurd (not_apart first.0 some (taken.from_others 0 block.property.sectors first.0 first.0 at was))
+          absurd (not_apart first.0 some (taken.from_others is.written.fits.property.not_empty 0 block.property.sectors first.0 first.0 some at was))
     ]
 
 if_yes : {X : Type 0} (test : Bool) (x y : X) → test ≡ true → (if test then x else y) ≡ x
@@ -133,6 +134,7 @@ placed_with : (old new : Store) (block : Block) (bytes : List ℕ) (places : Lis
     → IsNewBlock old new block bytes places writes → ArePlaced old.spaces planned_marks planned → ArePlaced new.spaces planned_marks (with_block block bytes planned)
 placed_with old new block bytes places writes planned is placed =
     let taken : AreTakenToo old.spaces block.property.sectors places new.spaces = are_taken old.spaces [] block.property.sectors places new.spaces is.chosen in
+    let some : 0 < block.property.sectors = is.written.fits.property.not_empty in
     record {
       blocks = λ other known found. elim (this_or_known block other bytes known planned found) [
         | inl (this, same) ↦ subst (λ b. IsWrittenAs b known) (sym this) (subst (λ x. IsWrittenAs block x) (sym same) is.written)
@@ -151,13 +153,18 @@ placed_with old new block bytes places writes planned is placed =
                 elim (this_or_known block second bytes known' planned found') [
                   | inl (this', same') ↦
                       let here' : slice_get places k ≡ Some behind = ap (λ xs. slice_get xs k) (sym is.copies_at) ∙ ap (λ (b : Block). slice_get (dvas b.copies) k) (sym this') ∙ at' in
-                      elim (taken.apart i k place behind here here') [ inl one ↦ inl (this ∙ sym this', one) | inr apart ↦ inr apart ]
-                  | inr was ↦ inr (taken.from_others i second.property.sectors place behind here (placed.places second known' k behind was at'))
+                      elim (taken.apart some i k place behind here here') [ inl one ↦ inl (this ∙ sym this', one) | inr apart ↦ inr apart ]
+                  | inr was ↦
+                      let there = placed.places second known' k behind was at' in
+                      inr (taken.from_others some i second.property.sectors place behind
+                      (taken_some old.spaces planned_marks second.property.sectors behind (placed.blocks second known' was).fits.property.not_empty there) here there)
                 ]
             | inr was ↦ elim (this_or_known block second bytes known' planned found') [
               | inl (this', same') ↦
                   let here' : slice_get places k ≡ Some behind = ap (λ xs. slice_get xs k) (sym is.copies_at) ∙ ap (λ (b : Block). slice_get (dvas b.copies) k) (sym this') ∙ at' in
-                  inr (turned behind place (taken.from_others k first.property.sectors behind place here' (placed.places first known i place was at)))
+                  let there = placed.places first known i place was at in
+                  inr (turned behind place (taken.from_others some k first.property.sectors behind place
+                  (taken_some old.spaces planned_marks first.property.sectors place (placed.blocks first known was).fits.property.not_empty there) here' there))
               | inr was' ↦ placed.apart first second known known' i k place behind was was' at at'
             ]
           ];
@@ -312,6 +319,10 @@ chosen_keeps old new sectors places disks out spans chosen stored holds =
 
 pub took_keeps : (old new : Store) (sectors : ℕ) (places : List Dva) → OnlyTook old new sectors places → Keeps old new
 took_keeps old new sectors places took stored holds = keeps_by old new (took_same old new sectors places took) stored holds
+
+pub chosen_shapes : (spaces : List VdevSpace) (sectors : ℕ) (places : List Dva) (after : List VdevSpace) → AreChosen spaces [] sectors places after
+    → shapes_of after ≡ shapes_of spaces
+chosen_shapes spaces sectors places after chosen = (are_taken spaces [] sectors places after chosen).grows.shapes
 
 pub took_shapes : (old new : Store) (sectors : ℕ) (places : List Dva) → OnlyTook old new sectors places → shapes_of new.spaces ≡ shapes_of old.spaces
 took_shapes old new sectors places took = (took_same old new sectors places took).shapes

@@ -1,6 +1,6 @@
 -- The choice of places.
 use Rattle.std.proofs.Common.{ℕ, zero, suc, ◌≡◌, inl, inr, ◌+◌, ◌<◌, ◌≤◌, Some, None, Option, IfNone, List, [], ◌∷◌, ◌++◌, length, get_or, refl, sym, ap, subst, ◌∙◌, arith}
-use Rattle.std.specs.Prelude.{slice_index}
+use Rattle.std.specs.Prelude.{IsSomeAnd}
 use Rattle.std.specs.List.{slice_get}
 use Rattle.std.proofs.lemmas.Bool.{cases_lt}
 use Rattle.std.proofs.lemmas.List.{append-nil, append_assoc}
@@ -9,9 +9,11 @@ use Rattle.raidz_map.specs.Layout.{asize}
 use Rattle.raidz_io.proofs.Written.{same_some}
 use Rattle.block_store.specs.declared.choice.Spread.{Spread}
 use Rattle.block_store.specs.declared.choice.Spread.TheVariants.{Vdevs, Metaslabs, Anywhere}
-use Rattle.block_store.specs.declared.space.VdevSpace.{VdevSpace}
-use Rattle.block_store.specs.Places.{planned, HasRoomAt, MayTake, IsFound, IsChosen, IsTakenToo, AreChosen, NoPlaceIsLeft}
-use Rattle.block_store.specs.Shapes.{metaslab_sectors, metaslabs, metaslab_of}
+use Rattle.block_store.specs.Spaces.{VdevSpace}
+use Rattle.space_map.proofs.RunLemmas.{is_named}
+use Rattle.metaslab.specs.Calls.{HasFreeRun}
+use Rattle.block_store.specs.Places.{planned, run_at, HasRoomIn, HasRoomAt, IsInVdev, IsInMetaslab, MayTake, IsFound, NoneIsFound, GoesTo, IsTakenIn, IsChosen, IsTakenToo, AreChosen, NoPlaceIsLeft}
+use Rattle.block_store.specs.Shapes.{metaslabs, metaslab_of, sector_of}
 
 -- an item of a list
 pub at_item : {X : Type 0} (xs : List X) (i : ℕ) (x : X) → i < length xs → x ≡ get_or xs i x → slice_get xs i ≡ Some x
@@ -26,7 +28,7 @@ NoneBefore spaces taken sectors spread n =
 
 pub none_of_one_more : (spaces : List VdevSpace) (taken : List Dva) (sectors : ℕ) (spread : Spread) (n : ℕ) (space : VdevSpace)
     → NoneBefore spaces taken sectors spread n → slice_get spaces n ≡ Some space
-    → ((metaslab : ℕ) → metaslab < metaslabs space.shape → slice_index (planned space) metaslab + asize space.shape.vdev.geometry sectors ≤ metaslab_sectors space.shape
+    → ((metaslab : ℕ) → metaslab < metaslabs space.shape → HasRoomIn space metaslab sectors
     → ¬ MayTake space.shape taken n metaslab spread)
     → NoneBefore spaces taken sectors spread (n + 1)
 none_of_one_more spaces taken sectors spread n space before found here v metaslab below room may =
@@ -36,7 +38,7 @@ none_of_one_more spaces taken sectors spread n space before found here v metasla
           let same_v : v ≡ n = omega (arith, below, not_less) in
           let same : room.space ≡ space = same_some room.space space (sym room.found ∙ ap (λ k. slice_get spaces k) same_v ∙ found) in
           let P : VdevSpace → Type 0 = λ s. metaslab < metaslabs s.shape in
-          let Q : VdevSpace → Type 0 = λ s. slice_index (planned s) metaslab + asize s.shape.vdev.geometry sectors ≤ metaslab_sectors s.shape in
+          let Q : VdevSpace → Type 0 = λ s. HasRoomIn s metaslab sectors in
           let R : VdevSpace → Type 0 = λ s. MayTake s.shape taken v metaslab spread in
           let M : ℕ → Type 0 = λ k. MayTake space.shape taken k metaslab spread in
           here metaslab (subst P same room.is_there) (subst Q same room.room) (subst M same_v (subst R same may))
@@ -54,35 +56,50 @@ none_at_all spaces taken sectors spread n all before v metaslab room may =
     within (y ∷ ys) (suc k) x is = omega (arith, within ys k x is)
 
 -- what a pass finds is chosen where no pass before it found anything
-pub chosen_elsewhere : (spaces : List VdevSpace) (taken : List Dva) (sectors : ℕ) (place : Dva) → IsFound spaces taken sectors Vdevs place → IsChosen spaces taken sectors place
-chosen_elsewhere spaces taken sectors place found = record {
-  space = found.space;
-  found = found.found;
-  behind = found.behind;
-  other_vdev = λ v metaslab room free. found.may;
-  other_metaslab = λ v metaslab room free (other, held, at, slab). found.may (other, held, at);
+pub chosen_elsewhere : (spaces : List VdevSpace) (taken : List Dva) (sectors v metaslab : ℕ) → IsFound spaces taken sectors Vdevs v metaslab
+    → GoesTo spaces taken sectors v metaslab
+chosen_elsewhere spaces taken sectors v metaslab found = record {
+  room = found.room;
+  other_vdev = λ w other there free. found.may;
+  other_metaslab = λ w other there free (place, held, at, slab). found.may (place, held, at);
 }
 
-pub chosen_apart : (spaces : List VdevSpace) (taken : List Dva) (sectors : ℕ) (place : Dva) → IsFound spaces taken sectors Metaslabs place
-    → ((v metaslab : ℕ) → (room : HasRoomAt spaces sectors v metaslab) → ¬ MayTake room.space.shape taken v metaslab Vdevs) → IsChosen spaces taken sectors place
-chosen_apart spaces taken sectors place found none = record {
-  space = found.space;
-  found = found.found;
-  behind = found.behind;
-  other_vdev = λ v metaslab room free. absurd (none v metaslab room free);
-  other_metaslab = λ v metaslab room free. found.may;
+pub chosen_apart : (spaces : List VdevSpace) (taken : List Dva) (sectors v metaslab : ℕ) → IsFound spaces taken sectors Metaslabs v metaslab
+    → NoneIsFound spaces taken sectors Vdevs → GoesTo spaces taken sectors v metaslab
+chosen_apart spaces taken sectors v metaslab found none = record {
+  room = found.room;
+  other_vdev = λ w other there free. absurd (none w other there free);
+  other_metaslab = λ w other there free. found.may;
 }
 
-pub chosen_anywhere : (spaces : List VdevSpace) (taken : List Dva) (sectors : ℕ) (place : Dva) → IsFound spaces taken sectors Anywhere place
-    → ((v metaslab : ℕ) → (room : HasRoomAt spaces sectors v metaslab) → ¬ MayTake room.space.shape taken v metaslab Vdevs)
-    → ((v metaslab : ℕ) → (room : HasRoomAt spaces sectors v metaslab) → ¬ MayTake room.space.shape taken v metaslab Metaslabs) → IsChosen spaces taken sectors place
-chosen_anywhere spaces taken sectors place found none none' = record {
-  space = found.space;
-  found = found.found;
-  behind = found.behind;
-  other_vdev = λ v metaslab room free. absurd (none v metaslab room free);
-  other_metaslab = λ v metaslab room free. absurd (none' v metaslab room free);
+pub chosen_anywhere : (spaces : List VdevSpace) (taken : List Dva) (sectors v metaslab : ℕ) → IsFound spaces taken sectors Anywhere v metaslab
+    → NoneIsFound spaces taken sectors Vdevs → NoneIsFound spaces taken sectors Metaslabs → GoesTo spaces taken sectors v metaslab
+chosen_anywhere spaces taken sectors v metaslab found none none' = record {
+  room = found.room;
+  other_vdev = λ w other there free. absurd (none w other there free);
+  other_metaslab = λ w other there free. absurd (none' w other there free);
 }
+
+-- the place that is taken there is chosen
+pub is_chosen : (spaces : List VdevSpace) (taken : List Dva) (sectors v metaslab : ℕ) (place : Dva) (after : List VdevSpace)
+    → GoesTo spaces taken sectors v metaslab → IsTakenIn spaces sectors v metaslab place after → IsChosen spaces taken sectors place
+is_chosen spaces taken sectors v metaslab place after goes took =
+    let space : VdevSpace = took.taken.space in
+    let same : goes.room.space ≡ space = same_some goes.room.space space
+    (sym goes.room.found ∙ ap (λ n. slice_get spaces n) (sym took.vdev_is) ∙ took.taken.found) in
+    record {
+      space = space;
+      found = took.taken.found;
+      free = record {
+        is_place = took.is_place;
+        free = record { metaslab = took.taken.taken.space; found = took.taken.taken.found; each = took.taken.taken.was.each };
+      };
+      other_vdev = λ w other there free is. goes.other_vdev w other there free (subst (λ n. IsInVdev taken n) took.vdev_is is);
+      other_metaslab = λ w other there free is. goes.other_metaslab w other there free
+          (subst (λ (s : VdevSpace). IsInMetaslab s.shape taken v metaslab) (sym same)
+          (subst (λ n. IsInMetaslab space.shape taken v n) took.metaslab_is
+          (subst (λ n. IsInMetaslab space.shape taken n (metaslab_of space.shape place)) took.vdev_is is)));
+    }
 
 -- a place more
 pub AreChosen-push : (spaces : List VdevSpace) (taken : List Dva) (sectors : ℕ) (places : List Dva) (mid : List VdevSpace) (place : Dva) (after : List VdevSpace)
@@ -103,11 +120,16 @@ pub IfNone-map : {X : Type 0} (found : Option X) (P Q : Type 0) → (P → Q) �
 IfNone-map (Some x) P Q f is = tt
 IfNone-map None P Q f is = f is
 
--- where no metaslab has room behind what is planned, no free place is left
+some_and : {X : Type 0} (o : Option X) (x : X) (P : X → Type 0) → o ≡ Some x → P x → IsSomeAnd o P
+some_and o x P is holds = subst (λ p. IsSomeAnd p P) (sym is) holds
+
+-- where no metaslab has room beside what is planned, no free place is left
 pub no_place_left : (spaces : List VdevSpace) (sectors : ℕ) → ((v metaslab : ℕ) → ¬ HasRoomAt spaces sectors v metaslab) → NoPlaceIsLeft spaces sectors
-no_place_left spaces sectors none place free = none place.vdev (metaslab_of free.space.shape place) (record {
-  space = free.space;
-  found = free.found;
+no_place_left spaces sectors none place space found free = none place.vdev (metaslab_of space.shape place) (record {
+  space = space;
+  found = found;
   is_there = free.is_place.metaslab;
-  room = omega (arith, free.behind, free.is_place.one, free.is_place.allocated);
+  room = some_and (slice_get (planned space) (metaslab_of space.shape place)) free.free.metaslab
+      (λ metaslab. HasFreeRun metaslab (asize space.shape.vdev.geometry sectors)) free.free.found
+      (sector_of space.shape place, λ s from before. free.free.each s (is_named (run_at space.shape place) s from (omega (arith, before, free.is_place.allocated))));
 })

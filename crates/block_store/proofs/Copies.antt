@@ -10,7 +10,7 @@ use Rattle.raidz_io.specs.declared.vdev.Vdev.{Vdev}
 use Rattle.raidz_io.specs.declared.vdev.Extent.{Extent}
 use Rattle.raidz_io.specs.Elsewhere.{ApartExtentsShareNoByte, OtherVdevsShareNoByte, ShareNoByte}
 use Rattle.raidz_io.proofs.Written.{same_some}
-use Rattle.block_store.specs.declared.space.VdevSpace.{VdevSpace}
+use Rattle.block_store.specs.Spaces.{VdevSpace}
 use Rattle.block_store.specs.Blocks.{Contents}
 use Rattle.block_store.specs.Places.{Marks, IsLaidOut, IsTaken, IsCopy, IsExtentAt, ArePlacesApart}
 use Rattle.block_store.specs.Store.{ArePlaced}

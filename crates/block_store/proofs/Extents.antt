@@ -5,7 +5,7 @@ use Rattle.block_pointer.specs.declared.dva.Dva.{Dva}
 use Rattle.raidz_io.specs.declared.vdev.Vdev.{Vdev}
 use Rattle.raidz_io.specs.declared.vdev.Extent.{Extent}
 use Rattle.raidz_io.proofs.Written.{same_some}
-use Rattle.block_store.specs.declared.space.VdevSpace.{VdevSpace}
+use Rattle.block_store.specs.Spaces.{VdevSpace}
 use Rattle.block_store.specs.Places.{IsExtentAt}
 
 of_parts : Vdev → ℕ → (sectors : ℕ) → 0 < sectors → Extent

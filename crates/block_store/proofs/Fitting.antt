@@ -9,11 +9,9 @@ use Rattle.block_pointer.specs.declared.copies.Copies.{Copies}
 use Rattle.block_pointer.specs.declared.dva.Dva.{Dva}
 use Rattle.block_pointer.specs.Copies.{dvas, FitsCopies}
 use Rattle.block_pointer.specs.Dva.{FitsDva}
-use Rattle.block_store.specs.declared.refusal.Refusal.{Refusal}
-use Rattle.block_store.specs.declared.refusal.Refusal.TheVariants.{NoSpace}
 use Rattle.block_store.specs.declared.shape.VdevShape.{VdevShape}
-use Rattle.block_store.specs.declared.space.VdevSpace.{VdevSpace}
-use Rattle.block_store.specs.Places.{IsLaidOut, IsPlaceIn, RanOut}
+use Rattle.block_store.specs.Spaces.{VdevSpace}
+use Rattle.block_store.specs.Places.{IsLaidOut, IsPlaceIn, TookSome}
 use Rattle.block_store.specs.Shapes.{vdev_sectors, metaslab_sectors, metaslabs}
 use Rattle.block_store.specs.Store.{Store}
 use Rattle.block_store.proofs.Adding.{OnlyTook}
@@ -54,10 +52,10 @@ pub on_err : {T E : Type 0} (result : Result T E) (P : Type 0) → P → OnErr r
 on_err (Ok x) P is = tt
 on_err (Err e) P is = is
 
--- where no place was left, some were taken
-pub took_some : (old new : Store) (sectors copies : ℕ) (refusal : Refusal) → new.disks ≡ old.disks → new.out ≡ old.out → new.spans ≡ old.spans → new.due ≡ old.due
-    → (refusal ≡ NoSpace) × RanOut old.spaces sectors copies new.spaces → (places : List Dva) × OnlyTook old new sectors places
-took_some old new sectors copies refusal disks out spans due (cause, (places, few, chosen, full)) =
+-- some were taken
+pub took_some : (old new : Store) (sectors copies : ℕ) → new.disks ≡ old.disks → new.out ≡ old.out → new.spans ≡ old.spans → new.due ≡ old.due
+    → TookSome old.spaces sectors copies new.spaces → (places : List Dva) × OnlyTook old new sectors places
+took_some old new sectors copies disks out spans due (places, few, chosen) =
     (places, record { disks = disks; out = out; spans = spans; due = due; chosen = chosen })
 
 -- bytes are below 256

@@ -6,7 +6,7 @@ use Rattle.raidz_io.specs.declared.writes.ColumnWrite.{ColumnWrite}
 use Rattle.raidz_io.specs.Elsewhere.{StandsWhileKept, StandsWithMoreAbsent, IsOfExtent}
 use Rattle.raidz_io.specs.Stands.{IsDone, IsColumnWrite}
 use Rattle.block_pointer.specs.declared.block.Block.{Block}
-use Rattle.block_store.specs.declared.space.VdevSpace.{VdevSpace}
+use Rattle.block_store.specs.Spaces.{VdevSpace}
 use Rattle.block_store.specs.Blocks.{Contents}
 use Rattle.block_store.specs.Elsewhere.{IsForBlocks}
 use Rattle.block_store.specs.Places.{Marks, filled, IsCopy}

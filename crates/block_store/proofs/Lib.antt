@@ -24,6 +24,7 @@ pub mod ReadingWhole
 pub mod SameBlock
 pub mod Sectors
 pub mod Sizes
+pub mod Slots
 pub mod Steps
 pub mod Taking
 pub mod Writing

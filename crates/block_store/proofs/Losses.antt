@@ -8,7 +8,7 @@ use Rattle.raidz_io.specs.Reads.{OnlyReads, FewAreNotMore, MoreAreLost, absent_s
 use Rattle.raidz_io.proofs.Calls.{OnlyReads-none}
 use Rattle.block_store.specs.declared.refusal.Refusal.{Refusal}
 use Rattle.block_store.specs.declared.refusal.Refusal.TheVariants.{NoMemory, BadPointer, DiskFault}
-use Rattle.block_store.specs.declared.space.VdevSpace.{VdevSpace}
+use Rattle.block_store.specs.Spaces.{VdevSpace}
 use Rattle.block_store.specs.Losses.{IsBlockLost, LossesAreNotTolerable}
 use Rattle.block_store.specs.Reading.{IsFailedCopy, HaveFailed, IsLastFault}
 use Rattle.block_store.specs.Steps.{OnlyReadsBlocks, OnlyReadsAndPlans, LossIsTolerable}

@@ -12,12 +12,11 @@ use Rattle.raidz_io.specs.Places.{HasRoom, offset_of_sector}
 use Rattle.raidz_io.proofs.Written.{same_some}
 use Rattle.block_store.specs.declared.create.VdevConfig.{VdevConfig}
 use Rattle.block_store.specs.declared.shape.VdevShape.{VdevShape}
-use Rattle.block_store.specs.declared.space.VdevSpace.{VdevSpace}
+use Rattle.block_store.specs.Spaces.{VdevSpace}
 use Rattle.block_store.specs.Blocks.{nothing_stored}
 use Rattle.block_store.specs.Config.{IsAllowedSize, sectors_of, size_of, AreAllowedSizes, IsLeastOf, IsShapeOf, AreShapes}
-use Rattle.block_store.specs.Places.{filled, planned, shapes_of, IsEmpty, AreEmpty}
+use Rattle.block_store.specs.Places.{shapes_of, IsEmpty, AreEmpty}
 use Rattle.block_store.specs.Plans.{Plans}
-use Rattle.block_store.specs.Shapes.{metaslabs}
 use Rattle.block_store.specs.Store.{Store, IsStore, Holds}
 
 -- the disks from the first on and before the end are of allowed sizes, and so many sectors are the fewest of one of them
@@ -233,11 +232,8 @@ plans_nothing store due = record {
 }
 
 -- an empty vdev more
-pub empty_more : (spaces : List VdevSpace) (space : VdevSpace) (shape : VdevShape) → AreEmpty spaces → space.shape ≡ shape → filled space ≡ replicate (metaslabs shape) 0
-    → planned space ≡ replicate (metaslabs shape) 0 → AreEmpty (spaces ++ space ∷ [])
-empty_more spaces space shape before same none_filled none_planned =
-    let marks : replicate (metaslabs shape) 0 ≡ replicate (metaslabs space.shape) 0 = ap (λ s. replicate (metaslabs s) 0) (sym same) in
-    All-push IsEmpty spaces space before (record { none_filled = none_filled ∙ marks; none_planned = none_planned ∙ marks })
+pub empty_more : (spaces : List VdevSpace) (space : VdevSpace) → AreEmpty spaces → IsEmpty space → AreEmpty (spaces ++ space ∷ [])
+empty_more spaces space before empty = All-push IsEmpty spaces space before empty
 
 -- no disk is out since a group above 0
 pub none_since : (n disk : ℕ) → slice_index (replicate n 0) disk ≤ 0

@@ -10,7 +10,7 @@ use Rattle.raidz_io.specs.declared.vdev.Extent.{Extent}
 use Rattle.raidz_io.specs.declared.writes.ColumnWrite.{ColumnWrite}
 use Rattle.raidz_io.specs.Stands.{ExtentStands, AreDone, IsDone}
 use Rattle.raidz_io.proofs.Written.{same_some}
-use Rattle.block_store.specs.declared.space.VdevSpace.{VdevSpace}
+use Rattle.block_store.specs.Spaces.{VdevSpace}
 use Rattle.block_store.specs.Blocks.{Contents}
 use Rattle.block_store.specs.Places.{Marks, shapes_of, HaveMarks, IsCopy}
 use Rattle.block_store.specs.Places.{filled as filled_marks, planned as planned_marks}
@@ -18,7 +18,7 @@ use Rattle.block_store.specs.Plans.{Plans, IsOnTheWay}
 use Rattle.block_store.specs.Store.{Store, outs, lost, ArePlaced, Holds}
 use Rattle.raidz_io.proofs.Kept.{more_absent}
 use Rattle.block_store.proofs.Lost.{LoseMore, lose_same, is_lost}
-use Rattle.block_store.proofs.Taking.{Grows, placed_too, copy_too, slice_get-set_same, slice_get-set_other}
+use Rattle.block_store.proofs.Taking.{Grows, MoreTaken, placed_too, copy_too, slice_get-set_same, slice_get-set_other}
 
 pub marks_by_map : (marks : Marks) (spaces after : List VdevSpace) → map marks after ≡ map marks spaces → HaveMarks spaces marks after marks
 marks_by_map marks [] after same v space new found found' = absurd (cc)
@@ -33,7 +33,8 @@ marks_by_map marks (s ∷ spaces) (a ∷ after) same (suc v) space new found fou
 grows_by : (spaces after : List VdevSpace) (marks later : Marks) → shapes_of after ≡ shapes_of spaces → HaveMarks spaces marks after later → Grows spaces after marks later
 grows_by spaces after marks later shapes are = record {
   shapes = shapes;
-  more = λ v space new metaslab found found'. omega (arith, ap (λ xs. slice_index xs metaslab) (are v space new found found'));
+  more = λ v space new found found'.
+      subst (λ xs. MoreTaken (marks space) xs) (sym (are v space new found found')) (λ m metaslab at. (metaslab, at, λ s is. is));
 }
 
 -- the marks are so of the first vdevs

@@ -16,7 +16,7 @@ use Rattle.raidz_io.specs.Reads.{OnlyReads, AreUntouched, IsHonestSince, absent_
 use Rattle.raidz_io.specs.Stands.{ExtentStands}
 use Rattle.block_store.specs.declared.refusal.Refusal.{Refusal}
 use Rattle.block_store.specs.declared.refusal.Refusal.TheVariants.{NoMemory, DiskFault, BadDigest}
-use Rattle.block_store.specs.declared.space.VdevSpace.{VdevSpace}
+use Rattle.block_store.specs.Spaces.{VdevSpace}
 use Rattle.block_store.specs.Places.{IsCopy, IsExtentAt}
 use Rattle.block_store.specs.Reading.{IsCopyRead}
 

@@ -6,7 +6,7 @@ use Rattle.block_pointer.specs.declared.dva.Dva.{Dva}
 use Rattle.raidz_io.specs.declared.vdev.Extent.{Extent}
 use Rattle.raidz_io.specs.Places.{HasRoom, CanHold, IsOnDisks, ExtentFits}
 use Rattle.raidz_io.proofs.Written.{same_some}
-use Rattle.block_store.specs.declared.space.VdevSpace.{VdevSpace}
+use Rattle.block_store.specs.Spaces.{VdevSpace}
 use Rattle.block_store.specs.Places.{IsPlaceIn, IsExtentAt}
 use Rattle.block_store.specs.Shapes.{vdev_sectors, metaslab_sectors, IsPlace}
 use Rattle.block_store.specs.Store.{Store, IsStore}

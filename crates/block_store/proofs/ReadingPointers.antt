@@ -9,7 +9,7 @@ use Rattle.block_pointer.specs.declared.dva.Dva.{Dva}
 use Rattle.block_pointer.specs.declared.property.Property.{Property}
 use Rattle.block_pointer.specs.Copies.{dvas}
 use Rattle.block_store.specs.declared.block.Asked.{Asked}
-use Rattle.block_store.specs.declared.space.VdevSpace.{VdevSpace}
+use Rattle.block_store.specs.Spaces.{VdevSpace}
 use Rattle.block_store.specs.Places.{IsPlaceIn}
 use Rattle.block_store.specs.Reading.{IsReadable}
 

@@ -6,7 +6,7 @@ use Rattle.raidz_io.specs.Reads.{AreReads, OnlyReads, AreUntouched}
 use Rattle.raidz_io.proofs.Calls.{OnlyReads-none}
 use Rattle.block_store.specs.declared.refusal.Refusal.{Refusal}
 use Rattle.block_store.specs.declared.refusal.Refusal.TheVariants.{NoMemory, DiskFault, BadDigest}
-use Rattle.block_store.specs.declared.space.VdevSpace.{VdevSpace}
+use Rattle.block_store.specs.Spaces.{VdevSpace}
 use Rattle.block_store.specs.Reading.{IsFault, IsFailedCopy, HaveFailed, IsCopyRead, IsReadUpTo}
 use Rattle.block_store.specs.Store.{Store}
 

@@ -8,7 +8,7 @@ use Rattle.raidz_io.specs.declared.vdev.Vdev.{Vdev}
 use Rattle.raidz_io.specs.Elsewhere.{IsOfExtent}
 use Rattle.raidz_io.specs.Places.{offset_of_sector}
 use Rattle.raidz_io.proofs.Written.{same_some}
-use Rattle.block_store.specs.declared.space.VdevSpace.{VdevSpace}
+use Rattle.block_store.specs.Spaces.{VdevSpace}
 use Rattle.block_store.specs.Elsewhere.{BlocksLieInSectors}
 use Rattle.block_store.specs.Shapes.{vdev_sectors, metaslab_sectors, IsPlace}
 use Rattle.block_store.proofs.Taking.{ends_before}

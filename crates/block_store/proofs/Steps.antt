@@ -18,9 +18,10 @@ use Rattle.raidz_io.proofs.Calls.{length-OnlyReads, OnlyReads-none, failed_since
 use Rattle.block_store.specs.declared.block.Asked.{Asked}
 use Rattle.block_store.specs.declared.refusal.Refusal.{Refusal}
 use Rattle.block_store.specs.declared.shape.VdevShape.{VdevShape}
-use Rattle.block_store.specs.declared.space.VdevSpace.{VdevSpace}
+use Rattle.block_store.specs.Spaces.{VdevSpace}
 use Rattle.block_store.specs.Blocks.{Contents, Adds}
 use Rattle.block_store.specs.Places.{shapes_of, AreChosen, TookSome, RanOut}
+use Rattle.block_store.proofs.Taking.{fills_nothing}
 use Rattle.block_store.specs.Places.{filled as filled_marks}
 use Rattle.block_store.specs.Plans.{Plans, KeepsPlans}
 use Rattle.block_store.specs.Reading.{FewAreAbsent, AreTolerable, IsReadable, IsReadAs}
@@ -62,7 +63,7 @@ pub chosen_fills_nothing : (spaces : List VdevSpace) (taken : List Dva) (sectors
     → map filled_marks after ≡ map filled_marks spaces
 chosen_fills_nothing spaces taken sectors [] after is = ap (map filled_marks) is
 chosen_fills_nothing spaces taken sectors (place ∷ places) after (chosen, mid, too, rest) =
-    chosen_fills_nothing mid (taken ++ place ∷ []) sectors places after rest ∙ too.filled_stays
+    chosen_fills_nothing mid (taken ++ place ∷ []) sectors places after rest ∙ fills_nothing spaces mid place too
 
 -- places were taken for one block
 placed_once : (spaces : List VdevSpace) (sectors birth : ℕ) (places : List Dva) (after : List VdevSpace) → AreChosen spaces [] sectors places after

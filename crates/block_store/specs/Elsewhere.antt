@@ -7,7 +7,7 @@ use Rattle.raidz_io.specs.Elsewhere.{IsOfExtent}
 use Rattle.raidz_io.specs.Places.{offset_of_sector}
 use Rattle.raidz_io.specs.Reads.{OnlyReads}
 use Rattle.block_store.specs.Blocks.{Contents}
-use Rattle.block_store.specs.declared.space.VdevSpace.{VdevSpace}
+use Rattle.block_store.specs.Spaces.{VdevSpace}
 use Rattle.block_store.specs.Places.{IsPlaceIn, IsExtentAt}
 use Rattle.block_store.specs.Plans.{KeepsPlans}
 use Rattle.block_store.specs.Store.{Store, Keeps, Spares}

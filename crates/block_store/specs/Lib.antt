@@ -9,5 +9,6 @@ pub mod Places
 pub mod Plans
 pub mod Reading
 pub mod Shapes
+pub mod Spaces
 pub mod Steps
 pub mod Store

@@ -1,29 +1,34 @@
 -- Where copies of blocks lie.
-use Rattle.std.specs.Prelude.{ℕ, ◌≡◌, ◌≢◌, ◌⊎◌, ◌+◌, ◌<◌, ◌≤◌, Some, List, [], ◌∷◌, ◌++◌, length, slice_get, slice_index, map, Contains, All, replicate}
+use Rattle.std.specs.Prelude.{ℕ, ◌≡◌, ◌≢◌, ◌⊎◌, ◌+◌, ◌<◌, ◌≤◌, Some, List, [], ◌∷◌, ◌++◌, length, slice_get, slice_set, map, Contains, All, IsTrue}
 use Rattle.block_pointer.specs.declared.block.Block.{Block}
 use Rattle.block_pointer.specs.declared.dva.Dva.{Dva}
 use Rattle.block_pointer.specs.Copies.{dvas}
 use Rattle.raidz_map.specs.Layout.{asize}
 use Rattle.raidz_io.specs.declared.vdev.Extent.{Extent}
 use Rattle.raidz_io.specs.Places.{HasRoom}
+use Rattle.space_map.specs.declared.entry.Run.{Run}
+use Rattle.space_map.specs.Sectors.{names}
+use Rattle.metaslab.specs.Space.{Space, state}
+use Rattle.metaslab.specs.State.{State, Free, InUse}
+use Rattle.metaslab_group.specs.Spaces.{AreWhollyFree, HasFreeRunIn, ChangesIn}
 use Rattle.block_store.specs.declared.choice.Spread.{Spread}
 use Rattle.block_store.specs.declared.choice.Spread.TheVariants.{Vdevs, Metaslabs, Anywhere}
 use Rattle.block_store.specs.declared.shape.VdevShape.{VdevShape}
-use Rattle.block_store.specs.declared.space.VdevSpace.{VdevSpace}
+use Rattle.block_store.specs.Spaces.{VdevSpace}
 use Rattle.block_store.specs.Shapes.{metaslab_sectors, metaslabs, metaslab_of, sector_of, IsPlace}
 
 abbrev pub shapes_of : List VdevSpace → List VdevShape
 shapes_of spaces = map (λ space. space.shape) spaces
 
--- How many sectors of each metaslab are in use, from its first on: by blocks, and with those of the plan.
+-- What the sectors of each metaslab are used for: by blocks that are stored, and with those of the plan.
 abbrev pub Marks : Type 0
-Marks = VdevSpace → List ℕ
+Marks = VdevSpace → List Space
 
 abbrev pub filled : Marks
-filled space = space.filled.items
+filled space = space.kept
 
 abbrev pub planned : Marks
-planned space = space.planned.items
+planned space = space.planned
 
 -- of each vdev these marks are those that it had
 abbrev pub HaveMarks : List VdevSpace → Marks → List VdevSpace → Marks → Type 0
@@ -31,8 +36,9 @@ HaveMarks spaces marks after later = (v : ℕ) (space new : VdevSpace) → slice
 
 -- no sector of the vdev is in use
 pub record IsEmpty (space : VdevSpace) : Type 0 where
-  pub none_filled : filled space ≡ replicate (metaslabs space.shape) 0
-  pub none_planned : planned space ≡ replicate (metaslabs space.shape) 0
+  pub count : length (filled space) ≡ metaslabs space.shape
+  pub none_filled : AreWhollyFree (filled space) (metaslab_sectors space.shape)
+  pub none_planned : planned space ≡ filled space
 
 abbrev pub AreEmpty : List VdevSpace → Type 0
 AreEmpty spaces = All IsEmpty spaces
@@ -54,12 +60,28 @@ pub record IsPlaceIn (spaces : List VdevSpace) (sectors : ℕ) (place : Dva) : T
 abbrev pub ArePlacesIn : List VdevSpace → ℕ → List Dva → Type 0
 ArePlacesIn spaces sectors places = (place : Dva) → Contains places place → IsPlaceIn spaces sectors place
 
--- and it is in use
+-- the sectors of a place in its metaslab
+abbrev pub run_at : VdevShape → Dva → Run
+run_at shape place = record { start = sector_of shape place; len = place.allocated }
+
+-- the metaslab of the place is there, and this holds of what each sector of the place is used for
+pub record EachSector (is : State → Type 0) (marks : List Space) (shape : VdevShape) (place : Dva) : Type 0 where
+  pub metaslab : Space
+  pub found : slice_get marks (metaslab_of shape place) ≡ Some metaslab
+  pub each : (s : ℕ) → IsTrue (names (run_at shape place) s) → is (state metaslab s)
+
+abbrev pub IsFree : State → Type 0
+IsFree state = state ≡ Free
+
+abbrev pub IsNotFree : State → Type 0
+IsNotFree state = state ≢ Free
+
+-- and no sector of it is free
 pub record IsTaken (spaces : List VdevSpace) (marks : Marks) (sectors : ℕ) (place : Dva) : Type 0 where
   pub space : VdevSpace
   pub found : slice_get spaces place.vdev ≡ Some space
   pub is_place : IsPlace space.shape sectors place
-  pub below : sector_of space.shape place + place.allocated ≤ slice_index (marks space) (metaslab_of space.shape place)
+  pub not_free : EachSector IsNotFree (marks space) space.shape place
 
 -- the extent of a copy of a block of so many sectors that lies there
 pub record IsExtentAt (spaces : List VdevSpace) (sectors : ℕ) (place : Dva) (extent : Extent) : Type 0 where
@@ -81,10 +103,9 @@ pub record IsCopy (spaces : List VdevSpace) (block : Block) (i : ℕ) (extent : 
 
 -- ---- the choice of a place
 
--- a metaslab of the vdev has room for a block of so many sectors behind those that are planned
+-- a metaslab of the vdev has room for a block of so many sectors beside what is planned: as many free sectors in a row as it takes up
 abbrev pub HasRoomIn : VdevSpace → ℕ → ℕ → Type 0
-HasRoomIn space metaslab sectors =
-    slice_index (planned space) metaslab + asize space.shape.vdev.geometry sectors ≤ metaslab_sectors space.shape
+HasRoomIn space metaslab sectors = HasFreeRunIn (planned space) metaslab (asize space.shape.vdev.geometry sectors)
 
 -- the same of a metaslab of the vdev with that number
 pub record HasRoomAt (spaces : List VdevSpace) (sectors v metaslab : ℕ) : Type 0 where
@@ -106,40 +127,53 @@ MayTake shape taken v metaslab Vdevs = ¬ IsInVdev taken v
 MayTake shape taken v metaslab Metaslabs = ¬ IsInMetaslab shape taken v metaslab
 MayTake shape taken v metaslab Anywhere = Unit {0}
 
--- the place is right behind what is planned in its metaslab
-pub record IsBehind (space : VdevSpace) (sectors : ℕ) (place : Dva) : Type 0 where
+-- a copy of a block of so many sectors may lie there, and no sector of the place is in use, by what is stored or planned
+pub record IsFreePlaceIn (space : VdevSpace) (sectors : ℕ) (place : Dva) : Type 0 where
   pub is_place : IsPlace space.shape sectors place
-  pub behind : sector_of space.shape place ≡ slice_index (planned space) (metaslab_of space.shape place)
+  pub free : EachSector IsFree (planned space) space.shape place
 
--- a place was found: it is behind what is planned, and may be taken
-pub record IsFound (spaces : List VdevSpace) (taken : List Dva) (sectors : ℕ) (spread : Spread) (place : Dva) : Type 0 where
-  pub space : VdevSpace
-  pub found : slice_get spaces place.vdev ≡ Some space
-  pub behind : IsBehind space sectors place
-  pub may : MayTake space.shape taken place.vdev (metaslab_of space.shape place) spread
+-- a metaslab was found: it has room, and may be taken
+pub record IsFound (spaces : List VdevSpace) (taken : List Dva) (sectors : ℕ) (spread : Spread) (v metaslab : ℕ) : Type 0 where
+  pub room : HasRoomAt spaces sectors v metaslab
+  pub may : MayTake room.space.shape taken v metaslab spread
 
 -- no metaslab that has room may be taken
 abbrev pub NoneIsFound : List VdevSpace → List Dva → ℕ → Spread → Type 0
 NoneIsFound spaces taken sectors spread =
     (v metaslab : ℕ) → (room : HasRoomAt spaces sectors v metaslab) → ¬ MayTake room.space.shape taken v metaslab spread
 
--- A further copy of a block of so many sectors goes there: behind what is planned in a metaslab. It goes to another vdev than
--- those that were taken where one has room, and to another metaslab where one has.
+-- A further copy of a block of so many sectors goes to this metaslab, which has room: to another vdev than those that were taken where
+-- one has room, and to another metaslab where one has.
+pub record GoesTo (spaces : List VdevSpace) (taken : List Dva) (sectors v metaslab : ℕ) : Type 0 where
+  pub room : HasRoomAt spaces sectors v metaslab
+  pub other_vdev : (w other : ℕ) → HasRoomAt spaces sectors w other → ¬ IsInVdev taken w → ¬ IsInVdev taken v
+  pub other_metaslab : (w other : ℕ) (there : HasRoomAt spaces sectors w other) → ¬ IsInMetaslab there.space.shape taken w other
+      → ¬ IsInMetaslab room.space.shape taken v metaslab
+
+-- A further copy of a block of so many sectors goes there: to a place that is free. It goes to another vdev than those that were
+-- taken where one has room, and to another metaslab where one has.
 pub record IsChosen (spaces : List VdevSpace) (taken : List Dva) (sectors : ℕ) (place : Dva) : Type 0 where
   pub space : VdevSpace
   pub found : slice_get spaces place.vdev ≡ Some space
-  pub behind : IsBehind space sectors place
+  pub free : IsFreePlaceIn space sectors place
   pub other_vdev : (v metaslab : ℕ) → HasRoomAt spaces sectors v metaslab → ¬ IsInVdev taken v → ¬ IsInVdev taken place.vdev
   pub other_metaslab : (v metaslab : ℕ) (room : HasRoomAt spaces sectors v metaslab) → ¬ IsInMetaslab room.space.shape taken v metaslab
       → ¬ IsInMetaslab space.shape taken place.vdev (metaslab_of space.shape place)
 
--- the plan takes the place too: the mark of its metaslab is behind it, and all else is as it was
+-- the plan takes the place too: its sectors were free and are in use, and all else is as it was
 pub record IsTakenToo (spaces : List VdevSpace) (place : Dva) (after : List VdevSpace) : Type 0 where
-  pub shapes : shapes_of after ≡ shapes_of spaces
-  pub filled_stays : map filled after ≡ map filled spaces
-  pub marks : (v : ℕ) (space new : VdevSpace) (metaslab : ℕ) → slice_get spaces v ≡ Some space → slice_get after v ≡ Some new
-      → ((v ≡ place.vdev) × (metaslab ≡ metaslab_of space.shape place) × (slice_index (planned new) metaslab ≡ slice_index (planned space) metaslab + place.allocated))
-      ⊎ (((v ≢ place.vdev) ⊎ (metaslab ≢ metaslab_of space.shape place)) × (slice_index (planned new) metaslab ≡ slice_index (planned space) metaslab))
+  pub space : VdevSpace
+  pub found : slice_get spaces place.vdev ≡ Some space
+  pub later : List Space
+  pub taken : ChangesIn (planned space) later (metaslab_of space.shape place) (run_at space.shape place) Free InUse
+  pub rest : after ≡ slice_set spaces place.vdev (record space { planned = later })
+
+-- a copy of a block of so many sectors may lie there, in this metaslab, and the plan takes the place
+pub record IsTakenIn (spaces : List VdevSpace) (sectors v metaslab : ℕ) (place : Dva) (after : List VdevSpace) : Type 0 where
+  pub vdev_is : place.vdev ≡ v
+  pub taken : IsTakenToo spaces place after
+  pub is_place : IsPlace taken.space.shape sectors place
+  pub metaslab_is : metaslab_of taken.space.shape place ≡ metaslab
 
 -- the places are chosen and taken one after the other
 abbrev pub AreChosen : List VdevSpace → List Dva → ℕ → List Dva → List VdevSpace → Type 0
@@ -151,16 +185,9 @@ AreChosen spaces taken sectors (place ∷ places) after =
 abbrev pub TookSome : List VdevSpace → ℕ → ℕ → List VdevSpace → Type 0
 TookSome spaces sectors copies after = (places : List Dva) × (length places ≤ copies) × AreChosen spaces [] sectors places after
 
--- a copy of a block of so many sectors may lie there, and no sector of the place is in use, by what is stored or planned
-pub record IsFreePlace (spaces : List VdevSpace) (sectors : ℕ) (place : Dva) : Type 0 where
-  pub space : VdevSpace
-  pub found : slice_get spaces place.vdev ≡ Some space
-  pub is_place : IsPlace space.shape sectors place
-  pub behind : slice_index (planned space) (metaslab_of space.shape place) ≤ sector_of space.shape place
-
 -- no vdev has a free place for a copy of such a block
 abbrev pub NoPlaceIsLeft : List VdevSpace → ℕ → Type 0
-NoPlaceIsLeft spaces sectors = (place : Dva) → ¬ IsFreePlace spaces sectors place
+NoPlaceIsLeft spaces sectors = (place : Dva) (space : VdevSpace) → slice_get spaces place.vdev ≡ Some space → ¬ IsFreePlaceIn space sectors place
 
 -- places for some of the copies were chosen, and then no free place was left for another
 abbrev pub RanOut : List VdevSpace → ℕ → ℕ → List VdevSpace → Type 0

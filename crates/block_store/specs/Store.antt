@@ -7,7 +7,7 @@ use Rattle.block_pointer.specs.Copies.{dvas}
 use Rattle.raidz_io.specs.declared.vdev.Extent.{Extent}
 use Rattle.raidz_io.specs.declared.writes.ColumnWrite.{ColumnWrite}
 use Rattle.raidz_io.specs.Stands.{ExtentStands, IsColumnWrite, IsWithin}
-use Rattle.block_store.specs.declared.space.VdevSpace.{VdevSpace}
+use Rattle.block_store.specs.Spaces.{VdevSpace}
 use Rattle.block_store.specs.Blocks.{Contents, IsWrittenAs}
 use Rattle.block_store.specs.Places.{Marks, filled, IsLaidOut, IsTaken, IsCopy, ArePlacesApart}
 

@@ -1,15 +1,16 @@
 //! The choice of places for the copies of a block.
 ghost use Rattle.std.specs.Prelude.{◌≡◌, ◌≤◌, ◌<◌, ◌^◌, ◌↔◌, ℕ, Some, IsTrue, IfSome, IfNone, IfOk, IfErr, length, slice_get};
-ghost use Rattle.block_store.specs.Places.{IsInVdev, IsInMetaslab, HasRoomIn, IsBehind, MayTake, IsChosen, IsTakenToo, AreChosen, NoPlaceIsLeft, RanOut};
-ghost use Rattle.block_store.specs.Shapes.{metaslab_of, metaslabs};
+ghost use Rattle.block_store.specs.Places.{IsInVdev, IsInMetaslab, HasRoomIn, MayTake, NoPlaceIsLeft};
+ghost use Rattle.block_store.specs.Shapes.{metaslabs};
 
 use crate::refusal::Refusal;
 use crate::shape::VdevShape;
-use crate::space::VdevSpace;
+use crate::space::VdevMetaslabs;
 use crate::store::BlockStore;
 use arrayvec::ArrayVec;
 use block_pointer::Dva;
 use model_disk::Disk;
+use std::alloc::AllocError;
 
 /// Where a further copy may not go.
 #[derive(Debug, Clone, Copy, PartialEq, Eq)]
@@ -45,24 +46,7 @@ fn may_take(shape: VdevShape, taken: &[Dva], vdev: usize, metaslab: usize, sprea
     }
 }
 
-impl VdevSpace {
-    /// The place behind what is planned in a metaslab.
-    fn place_in(&self, vdev: usize, metaslab: usize, sectors: u32) -> Dva
-        requires vdev { vdev < 2 ^ 32 }
-        requires some { 0 < sectors }
-        requires is_there { metaslab < metaslabs self.now.shape }
-        requires room { HasRoomIn self.now metaslab sectors }
-        ensures vdev { result.vdev ≡ vdev }
-        ensures metaslab { metaslab_of self.now.shape result ≡ metaslab }
-        ensures behind { IsBehind self.now sectors result }
-    {
-        Dva {
-            vdev: vdev as u32,
-            offset: metaslab as u64 * self.shape.metaslab_sectors() + self.planned[metaslab],
-            allocated: self.shape.vdev.geometry.asize(sectors) as u32,
-        }
-    }
-
+impl VdevMetaslabs {
     /// The first metaslab that has room and may be taken.
     fn find_metaslab(
         &self,
@@ -71,6 +55,7 @@ impl VdevSpace {
         taken: &[Dva],
         spread: Spread,
     ) -> Option<usize>
+        requires { 0 < sectors }
         ensures is_there { IfSome result (λ metaslab. metaslab < metaslabs self.now.shape) }
         ensures room { IfSome result (λ metaslab. HasRoomIn self.now metaslab sectors) }
         ensures may { IfSome result (λ metaslab.
@@ -79,10 +64,9 @@ impl VdevSpace {
             → HasRoomIn self.now metaslab sectors
             → ¬ MayTake self.now.shape taken.now vdev metaslab spread) }
     {
-        for metaslab in 0..self.planned.len() {
-            if self.has_room(metaslab, sectors)
-                && may_take(self.shape, taken, vdev, metaslab, spread)
-            {
+        let shape = self.shape();
+        for metaslab in 0..self.count() {
+            if self.has_room(metaslab, sectors) && may_take(shape, taken, vdev, metaslab, spread) {
                 return Some(metaslab);
             }
         }
@@ -91,31 +75,30 @@ impl VdevSpace {
 }
 
 impl<D: Disk + Drop> BlockStore<D> {
-    ghost use Rattle.std.specs.Prelude.{[], ◌+◌, slice_index};
-    ghost use Rattle.block_store.specs.declared.space.VdevSpace.{VdevSpace};
-    ghost use Rattle.block_store.specs.Places.{IsFound, NoneIsFound, planned};
+    ghost use Rattle.std.specs.Prelude.{[], ◌⊎◌, OnErr};
+    ghost use Rattle.block_store.specs.Places.{IsFound, NoneIsFound, GoesTo, HasRoomAt, IsTakenIn, AreChosen, TookSome, RanOut};
 
-    /// The first place that has room and may be taken.
-    fn find_place(&self, sectors: u32, taken: &[Dva], spread: Spread) -> Option<Dva>
+    /// The first vdev and metaslab of it that has room and may be taken.
+    fn find_place(&self, sectors: u32, taken: &[Dva], spread: Spread) -> Option<(usize, usize)>
         requires { 0 < sectors }
-        ensures some { IfSome result (λ place.
-            IsFound self.now.spaces taken.now sectors spread place) }
+        ensures some { IfSome result (λ at.
+            IsFound self.now.spaces taken.now sectors spread at.0 at.1) }
         ensures none { IfNone result (NoneIsFound self.now.spaces taken.now sectors spread) }
     {
         for (vdev, space) in self.spaces.iter().enumerate() {
             if let Some(metaslab) = space.find_metaslab(vdev, sectors, taken, spread) {
-                return Some(space.place_in(vdev, metaslab, sectors));
+                return Some((vdev, metaslab));
             }
         }
         None
     }
 
-    /// A place for a further copy of a block: in another vdev than those that were taken where one has room, else in
-    /// another metaslab where one has.
+    /// The vdev and the metaslab for a further copy of a block: another vdev than those that were taken where one has
+    /// room, else another metaslab where one has.
     #[tactic(auto, using(crate::proofs::Choosing::chosen_elsewhere, crate::proofs::Choosing::chosen_apart, crate::proofs::Choosing::chosen_anywhere))]
-    fn choose(&self, sectors: u32, taken: &[Dva]) -> Option<Dva>
+    fn choose(&self, sectors: u32, taken: &[Dva]) -> Option<(usize, usize)>
         requires { 0 < sectors }
-        ensures some { IfSome result (λ place. IsChosen self.now.spaces taken.now sectors place) }
+        ensures some { IfSome result (λ at. GoesTo self.now.spaces taken.now sectors at.0 at.1) }
         ensures none { IfNone result (NoPlaceIsLeft self.now.spaces sectors) }
     {
         if let Some(place) = self.find_place(sectors, taken, Spread::Vdevs) {
@@ -127,23 +110,19 @@ impl<D: Disk + Drop> BlockStore<D> {
         self.find_place(sectors, taken, Spread::Anywhere)
     }
 
-    /// The plan takes a place.
-    fn take(&mut self, place: Dva)
-        requires there { place.vdev < length self.old.spaces }
-        requires metaslab { (space : VdevSpace) → slice_get self.old.spaces place.vdev ≡ Some space
-            → metaslab_of space.shape place < metaslabs space.shape }
-        requires room { (space : VdevSpace) → slice_get self.old.spaces place.vdev ≡ Some space
-            → slice_index (planned space) (metaslab_of space.shape place) + place.allocated
-            < 2 ^ 64 }
+    /// The plan takes a place in a metaslab that has room. An error, that memory is short, changes nothing.
+    fn take(&mut self, vdev: usize, metaslab: usize, sectors: u32) -> Result<Dva, AllocError>
+        requires some { 0 < sectors }
+        requires room { HasRoomAt self.old.spaces sectors vdev metaslab }
         ensures disks { self.new.disks ≡ self.old.disks }
         ensures out { self.new.out ≡ self.old.out }
         ensures spans { self.new.spans ≡ self.old.spans }
         ensures due { self.new.due ≡ self.old.due }
-        ensures spaces { IsTakenToo self.old.spaces place self.new.spaces }
+        ensures taken { IfOk result (λ place.
+            IsTakenIn self.old.spaces sectors vdev metaslab place self.new.spaces) }
+        ensures err { OnErr result (self.new.spaces ≡ self.old.spaces) }
     {
-        let space = &mut self.spaces[place.vdev as usize];
-        let metaslab = space.shape.metaslab_of(place) as usize;
-        space.planned[metaslab] += u64::from(place.allocated);
+        self.spaces[vdev].take(vdev, metaslab, sectors)
     }
 
     /// Places for the copies of a block, which the plan then takes. After a refusal it has taken some of them.
@@ -161,15 +140,17 @@ impl<D: Disk + Drop> BlockStore<D> {
         ensures count { IfOk result (λ places. length places.items ≡ copies) }
         ensures chosen { IfOk result (λ places.
             AreChosen self.old.spaces [] sectors places.items self.new.spaces) }
-        ensures refused { IfErr result (λ refusal. (refusal ≡ Refusal.NoSpace)
-            × RanOut self.old.spaces sectors copies self.new.spaces) }
+        ensures some { OnErr result (TookSome self.old.spaces sectors copies self.new.spaces) }
+        ensures refused { IfErr result (λ refusal. (refusal ≡ Refusal.NoMemory)
+            ⊎ ((refusal ≡ Refusal.NoSpace)
+            × RanOut self.old.spaces sectors copies self.new.spaces)) }
     {
         let mut places = ArrayVec::new();
         for _copy in 0..copies {
-            let Some(place) = self.choose(sectors, places.as_slice()) else {
+            let Some((vdev, metaslab)) = self.choose(sectors, places.as_slice()) else {
                 return Err(Refusal::NoSpace);
             };
-            self.take(place);
+            let place = self.take(vdev, metaslab, sectors)?;
             places.push(place);
         }
         Ok(places)

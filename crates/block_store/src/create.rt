@@ -8,7 +8,7 @@ ghost use Rattle.block_store.specs.Places.{shapes_of, AreEmpty};
 
 use crate::refusal::Refusal;
 use crate::shape::VdevShape;
-use crate::space::VdevSpace;
+use crate::space::VdevMetaslabs;
 use crate::store::BlockStore;
 use model_disk::{Disk, DiskArray};
 use raidz_io::{DATA_START, Vdev};
@@ -117,7 +117,7 @@ fn spaces_of<D: Disk + Drop>(
     alloc: Global,
     disks: &DiskArray<D>,
     vdevs: &[VdevConfig],
-) -> Result<Vec<VdevSpace>, Refusal>
+) -> Result<Vec<VdevMetaslabs>, Refusal>
     ensures ok { IfOk result (λ spaces.
         AreShapes disks.now.starts 0 vdevs.now (shapes_of spaces.items)) }
     ensures empty { IfOk result (λ spaces. AreEmpty spaces.items) }
@@ -131,7 +131,7 @@ fn spaces_of<D: Disk + Drop>(
         let Some(shape) = shape_of(disks, first, *config) else {
             return Err(Refusal::BadConfig);
         };
-        let space = VdevSpace::new(alloc, shape)?;
+        let space = VdevMetaslabs::new(alloc, shape)?;
         spaces.push(space).map_err(AllocError::from)?;
         first += config.geometry.children as usize;
     }

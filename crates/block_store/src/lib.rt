@@ -23,5 +23,5 @@ pub use laws::{
 };
 pub use refusal::Refusal;
 pub use shape::VdevShape;
-pub use space::VdevSpace;
+pub use space::VdevMetaslabs;
 pub use store::BlockStore;

@@ -11,7 +11,7 @@ ghost use Rattle.block_store.specs.Store.{Holds, Keeps, is_out, in_group, reachi
 
 use crate::block::{CopyCount, NewBlock};
 use crate::refusal::Refusal;
-use crate::space::VdevSpace;
+use crate::space::VdevMetaslabs;
 use crate::store::BlockStore;
 use block_pointer::{Block, Copies, Dva};
 use model_disk::Disk;
@@ -49,7 +49,7 @@ fn copies_at(places: &[Dva]) -> Copies
 }
 
 /// Takes the blocks of the plan as blocks that are there, in each vdev.
-fn keep_plans(spaces: &mut Vec<VdevSpace>)
+fn keep_plans(spaces: &mut Vec<VdevMetaslabs>)
     ensures count { length spaces.new.items ≡ length spaces.old.items }
     ensures shapes { shapes_of spaces.new.items ≡ shapes_of spaces.old.items }
     ensures filled { HaveMarks spaces.old.items planned spaces.new.items filled }
@@ -61,7 +61,7 @@ fn keep_plans(spaces: &mut Vec<VdevSpace>)
 }
 
 /// Drops the blocks of the plan, in each vdev.
-fn drop_plans(spaces: &mut Vec<VdevSpace>)
+fn drop_plans(spaces: &mut Vec<VdevMetaslabs>)
     ensures count { length spaces.new.items ≡ length spaces.old.items }
     ensures shapes { shapes_of spaces.new.items ≡ shapes_of spaces.old.items }
     ensures filled { HaveMarks spaces.old.items filled spaces.new.items filled }
@@ -92,9 +92,9 @@ fn lower_all(since: &mut Vec<u64>, group: u64)
 }
 
 impl<D: Disk + Drop> BlockStore<D> {
-    /// Begins a plan of a transaction group, and drops the one before it. Nothing is due. A disk that fails from then on
+    /// Begins a plan of a transaction group, and drops the one before it. Nothing is due. It takes no memory. A disk that fails from then on
     /// may lack blocks that were born in that group or later.
-    pub fn begin_plan(&mut self, group: u64)
+    pub fn drop_plan(&mut self, group: u64)
         ensures disks { self.new.disks ≡ self.old.disks }
         ensures out { self.new.out ≡ self.old.out }
         ensures spans { self.new.spans ≡ in_group self.old.spans group }
@@ -110,11 +110,11 @@ impl<D: Disk + Drop> BlockStore<D> {
             → Holds self.old stored → Plans self.new stored stored }
     {
         self.enter(group);
-        self.drop_plan();
+        self.clear_plan();
     }
 
-    /// Drops a plan.
-    fn drop_plan(&mut self)
+    /// Drops what is planned and due.
+    fn clear_plan(&mut self)
         ensures disks { self.new.disks ≡ self.old.disks }
         ensures out { self.new.out ≡ self.old.out }
         ensures spans { self.new.spans ≡ self.old.spans }
@@ -277,7 +277,7 @@ impl<D: Disk + Drop> BlockStore<D> {
     {
         extent_fits();
         Extent {
-            vdev: self.spaces[place.vdev as usize].shape.vdev,
+            vdev: self.spaces[place.vdev as usize].shape().vdev,
             start: place.offset,
             sectors,
         }

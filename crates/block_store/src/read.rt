@@ -133,7 +133,7 @@ impl<D: Disk + Drop> BlockStore<D> {
         ensures { IsTrue result ↔ IsPlaceIn self.now.spaces sectors place }
     {
         match self.spaces.get(place.vdev as usize) {
-            Some(space) => space.shape.is_place(sectors, place),
+            Some(space) => space.shape().is_place(sectors, place),
             None => false,
         }
     }

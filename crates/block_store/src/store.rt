@@ -3,7 +3,7 @@ ghost use Rattle.std.specs.Prelude.{◌≡◌, ◌+◌, ◌<◌, ◌≤◌, leng
 ghost use Rattle.block_store.specs.Store.{is_out};
 
 use crate::shape::VdevShape;
-use crate::space::VdevSpace;
+use crate::space::VdevMetaslabs;
 use model_disk::{Disk, DiskArray};
 use raidz_io::ColumnWrite;
 use std::collections::VecDeque;
@@ -11,9 +11,9 @@ use std::marker::Model;
 
 /// Blocks on the vdevs of a pool, and a plan of those that are to be written.
 ///
-/// A plan begins with `begin_plan`, which is told its transaction group. Each `plan_write` places a block and names the
+/// A plan begins with `drop_plan`, which is told its transaction group. Each `plan_write` places a block and names the
 /// writes that store it, which are then due. `write_next` makes the next of them. Once none is due, `finish_plan` takes
-/// the blocks of the plan as stored. A plan is dropped by the next `begin_plan`: what it placed is free again.
+/// the blocks of the plan as stored. A plan is dropped by the next `drop_plan`: what it placed is free again.
 ///
 /// A disk that fails a write or a flush is out: no call is made on it when a block is read, and no write is planned for
 /// it. It is out since the group of that plan. Of blocks that were born before, it still has every column, whatever
@@ -21,7 +21,7 @@ use std::marker::Model;
 #[derive(Drop)]
 pub struct BlockStore<D: Disk + Drop> {
     pub(crate) disks: DiskArray<D>,
-    pub(crate) spaces: Vec<VdevSpace>,
+    pub(crate) spaces: Vec<VdevMetaslabs>,
     pub(crate) out: Vec<bool>,
     /// Of each disk that is out, the first transaction group whose blocks it may lack.
     pub(crate) since: Vec<u64>,
@@ -97,7 +97,7 @@ impl<D: Disk + Drop> BlockStore<D> {
         ensures disks { result.vdev.first + result.vdev.geometry.children
             ≤ length self.now.disks.starts }
     {
-        self.spaces[vdev].shape
+        self.spaces[vdev].shape()
     }
 
     /// How many writes of the plan are due.

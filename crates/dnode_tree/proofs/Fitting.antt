@@ -11,7 +11,7 @@ use Rattle.block_pointer.specs.Property.{FitsProperty}
 use Rattle.dnode.specs.declared.node.ObjectNode.{ObjectNode}
 use Rattle.dnode.specs.Node.{IsNode}
 use Rattle.block_store.specs.declared.shape.VdevShape.{VdevShape}
-use Rattle.block_store.specs.declared.space.VdevSpace.{VdevSpace}
+use Rattle.block_store.specs.Spaces.{VdevSpace}
 use Rattle.block_store.specs.Places.{AreChosen}
 use Rattle.dnode_tree.specs.Tree.{property_of}
 use Rattle.block_store.specs.Shapes.{vdev_sectors, metaslab_sectors, IsPlace}
@@ -45,7 +45,7 @@ pub chosen_fit : (spaces : List VdevSpace) (taken : List Dva) (sectors : ℕ) (p
     → AllByRecursion (λ place. place.vdev < 2 ^ 32) places → AreChosen spaces taken sectors places after → AllByRecursion FitsDva places
 chosen_fit spaces taken sectors [] after some short chosen = tt
 chosen_fit spaces taken sectors (place ∷ places) after some short chosen = (
-  place_fits chosen.0.space.shape sectors place some short.0 chosen.0.behind.is_place,
+  place_fits chosen.0.space.shape sectors place some short.0 chosen.0.free.is_place,
   chosen_fit chosen.1 (taken ++ place ∷ []) sectors places after some short.1 chosen.3,
 )
 

@@ -15,7 +15,7 @@ use Rattle.block_pointer.specs.declared.pointer.BlockPtr.TheVariants.{Hole, Bloc
 use Rattle.block_pointer.specs.declared.property.Property.{Property}
 use Rattle.block_store.specs.declared.block.Asked.{Asked}
 use Rattle.block_store.specs.declared.refusal.Refusal.{Refusal}
-use Rattle.block_store.specs.declared.space.VdevSpace.{VdevSpace}
+use Rattle.block_store.specs.Spaces.{VdevSpace}
 use Rattle.block_store.specs.Blocks.{Contents}
 use Rattle.block_store.specs.Reading.{IsReadAs}
 use Rattle.block_store.specs.Steps.{OnlyReadsBlocks, AnswersAreTrue}

@@ -11,7 +11,7 @@ use Rattle.block_pointer.specs.declared.property.Property.{Property}
 use Rattle.block_store.specs.declared.block.Asked.{Asked}
 use Rattle.block_store.specs.declared.refusal.Refusal.{Refusal}
 use Rattle.block_store.specs.declared.refusal.Refusal.TheVariants.{NoMemory, DiskFault, NoSpace, BadPointer, BadDigest, BadConfig}
-use Rattle.block_store.specs.declared.space.VdevSpace.{VdevSpace}
+use Rattle.block_store.specs.Spaces.{VdevSpace}
 use Rattle.block_store.specs.Places.{shapes_of}
 use Rattle.block_store.specs.Steps.{OnlyReadsBlocks, OnlyReadsAndPlans}
 use Rattle.block_store.specs.Store.{Store}

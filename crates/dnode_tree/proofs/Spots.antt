@@ -1,7 +1,7 @@
 -- Which blocks of a tree are planned anew.
 use Rattle.std.proofs.Common.{◌≡◌, ℕ, zero, suc, ◌+◌, ◌-◌, ◌*◌, ◌^◌, ◌<◌, ◌≤◌, true, false, if◌then◌else◌, List, [], ◌∷◌, ◌++◌, length, take, drop, All, refl, sym, ap, ◌∙◌, subst, arith, append-nil, append_assoc}
 use Rattle.block_pointer.specs.declared.dva.Dva.{Dva}
-use Rattle.block_store.specs.declared.space.VdevSpace.{VdevSpace}
+use Rattle.block_store.specs.Spaces.{VdevSpace}
 use Rattle.block_store.specs.Demands.{HavePlaces, LackPlaces}
 use Rattle.block_store.specs.Places.{AreChosen, RanOut}
 use Rattle.block_store.proofs.Demands.{have_both, have_one, lack_later, lack_one, lack_sooner}

@@ -12,7 +12,7 @@ use Rattle.dnode.specs.Levels.{levels_of}
 use Rattle.block_store.specs.declared.block.Asked.{Asked}
 use Rattle.block_store.specs.declared.refusal.Refusal.{Refusal}
 use Rattle.block_store.specs.declared.refusal.Refusal.TheVariants.{NoMemory, DiskFault, NoSpace, BadPointer, BadDigest, BadConfig}
-use Rattle.block_store.specs.declared.space.VdevSpace.{VdevSpace}
+use Rattle.block_store.specs.Spaces.{VdevSpace}
 use Rattle.block_store.specs.Reading.{Asks, IsReadable, IsReadAs, IsLastFault}
 use Rattle.block_store.specs.Store.{Store, outs}
 use Rattle.block_store.specs.Steps.{OnlyReadsBlocks}

@@ -2,7 +2,7 @@
 use Rattle.std.proofs.Common.{◌≡◌, inl, inr, ℕ, zero, suc, List, Option, Some, None}
 use Rattle.block_pointer.specs.declared.pointer.BlockPtr.{BlockPtr}
 use Rattle.block_pointer.specs.declared.property.Property.{Property}
-use Rattle.block_store.specs.declared.space.VdevSpace.{VdevSpace}
+use Rattle.block_store.specs.Spaces.{VdevSpace}
 use Rattle.block_store.specs.Places.{shapes_of}
 use Rattle.block_store.proofs.Steps.{read_in}
 use Rattle.dnode.specs.declared.dnode.Dnode.{Dnode}

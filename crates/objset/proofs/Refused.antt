@@ -6,7 +6,7 @@ use Rattle.block_pointer.specs.declared.pointer.BlockPtr.TheVariants.{Hole}
 use Rattle.block_pointer.specs.declared.property.Property.{Property}
 use Rattle.block_store.specs.declared.refusal.Refusal.{Refusal}
 use Rattle.block_store.specs.declared.refusal.Refusal.TheVariants.{NoMemory, DiskFault, NoSpace, BadPointer, BadDigest, BadConfig}
-use Rattle.block_store.specs.declared.space.VdevSpace.{VdevSpace}
+use Rattle.block_store.specs.Spaces.{VdevSpace}
 use Rattle.block_store.specs.Steps.{OnlyReadsAndPlans}
 use Rattle.block_store.specs.Store.{Store}
 use Rattle.block_store.specs.Demands.{Demand, LackPlaces}

@@ -2,7 +2,7 @@
 use Rattle.std.specs.List.{AllZip}
 use Rattle.std.specs.Prelude.{ℕ, ◌≡◌, List, Option, Contains, IsSomeAnd}
 use Rattle.block_store.specs.declared.refusal.Refusal.{Refusal}
-use Rattle.block_store.specs.declared.space.VdevSpace.{VdevSpace}
+use Rattle.block_store.specs.Spaces.{VdevSpace}
 use Rattle.block_store.specs.Store.{Store}
 use Rattle.dnode.specs.declared.object_set.ObjectSet.{ObjectSet}
 use Rattle.dnode_tree.specs.Many.{FoundBlocks}

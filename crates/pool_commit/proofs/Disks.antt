@@ -10,7 +10,7 @@ use Rattle.std.proofs.lemmas.List.Folds.{list_all-append}
 use Rattle.std.proofs.lemmas.Option.{slice_get-map}
 use Rattle.raidz_io.proofs.Calls.{Contains-front, Contains-later, Contains-cases}
 use Rattle.block_store.specs.declared.shape.VdevShape.{VdevShape}
-use Rattle.block_store.specs.declared.space.VdevSpace.{VdevSpace}
+use Rattle.block_store.specs.Spaces.{VdevSpace}
 use Rattle.block_store.specs.Places.{shapes_of}
 use Rattle.pool_model.specs.View.{Vdev, counted, disks_of, lost_in, is_tolerable}
 use Rattle.pool_commit.specs.Config.{shown, vdevs_of}

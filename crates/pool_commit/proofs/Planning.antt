@@ -11,7 +11,7 @@ use Rattle.raidz_io.specs.declared.writes.ColumnWrite.{ColumnWrite}
 use Rattle.raidz_io.proofs.Calls.{Contains-front, Contains-later, Contains-cases, Contains-none}
 use Rattle.raidz_io.proofs.Placed.{placed_at}
 use Rattle.block_store.specs.declared.shape.VdevShape.{VdevShape}
-use Rattle.block_store.specs.declared.space.VdevSpace.{VdevSpace}
+use Rattle.block_store.specs.Spaces.{VdevSpace}
 use Rattle.block_store.specs.Blocks.{Contents, Extends}
 use Rattle.block_store.specs.Places.{shapes_of, HaveMarks}
 use Rattle.block_store.specs.Places.{filled as filled_marks, planned as planned_marks}

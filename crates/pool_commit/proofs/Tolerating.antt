@@ -13,7 +13,7 @@ use Rattle.model_disk.specs.Joint.{Disks, JointCall, failed_since}
 use Rattle.raidz_io.specs.Reads.{IsRead, AreReads, OnlyReads}
 use Rattle.raidz_io.proofs.Calls.{Contains-front, Contains-cases, Contains-none}
 use Rattle.block_store.specs.declared.shape.VdevShape.{VdevShape}
-use Rattle.block_store.specs.declared.space.VdevSpace.{VdevSpace}
+use Rattle.block_store.specs.Spaces.{VdevSpace}
 use Rattle.block_store.specs.Places.{shapes_of}
 use Rattle.block_store.specs.Store.{Store, outs, is_out}
 use Rattle.block_store.proofs.Outs.{in_is_out}

@@ -13,7 +13,7 @@ use Rattle.raidz_io.proofs.Pigeons.{distinct_fit}
 use Rattle.raidz_io.proofs.Placed.{placed_at}
 use Rattle.block_store.specs.declared.refusal.Refusal.{Refusal as StoreRefusal}
 use Rattle.block_store.specs.declared.refusal.Refusal.TheVariants as store
-use Rattle.block_store.specs.declared.space.VdevSpace.{VdevSpace}
+use Rattle.block_store.specs.Spaces.{VdevSpace}
 use Rattle.block_store.specs.Losses.{IsBlockLost}
 use Rattle.block_store.specs.Places.{shapes_of}
 use Rattle.block_store.specs.Reading.{HaveFailed}

@@ -2,7 +2,7 @@
 use Rattle.std.specs.Prelude.{ℕ, ◌+◌, List, [], ◌∷◌, map}
 use Rattle.block_store.specs.declared.create.VdevConfig.{VdevConfig}
 use Rattle.raidz_io.specs.declared.vdev.Vdev.{Vdev as VdevOnDisks}
-use Rattle.block_store.specs.declared.space.VdevSpace.{VdevSpace}
+use Rattle.block_store.specs.Spaces.{VdevSpace}
 use Rattle.block_store.specs.Places.{shapes_of}
 use Rattle.pool_model.specs.View.{Vdev}
 

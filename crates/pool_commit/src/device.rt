@@ -139,7 +139,7 @@ impl<D: Disk + Drop> Commit<D> {
         ensures planned { self.new.planned ≡ self.old.planned }
     {
         self.store
-            .begin_plan(self.kept.committed().saturating_add(1));
+            .drop_plan(self.kept.committed().saturating_add(1));
         Progress::Dropped(failed.disk)
     }
 
@@ -156,7 +156,7 @@ impl<D: Disk + Drop> Commit<D> {
         self.store.finish_plan();
         self.kept.shift(planned.after);
         self.store
-            .begin_plan(self.kept.committed().saturating_add(1));
+            .drop_plan(self.kept.committed().saturating_add(1));
         Progress::Done
     }
 }

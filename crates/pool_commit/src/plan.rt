@@ -186,7 +186,7 @@ impl<D: Disk + Drop> Commit<D> {
             ⊎ (refusal ≡ Refusal.NoSpace))) }
     {
         let group = self.kept.committed().saturating_add(1);
-        self.store.begin_plan(group);
+        self.store.drop_plan(group);
         let flushes = self.disks_in_use(alloc)?;
         if !makes_good_volumes(items) {
             return Err(Refusal::BadConfig);

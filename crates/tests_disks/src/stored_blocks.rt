@@ -287,7 +287,7 @@ fn judge(store: &mut TestStore, alloc: Global, known: &[Known], step: Step) -> O
 fn make(store: &mut TestStore, alloc: Global, known: &mut Vec<Known>, step: Step) -> Outcome {
     match step {
         Step::Begin => {
-            store.begin_plan(BIRTH);
+            store.drop_plan(BIRTH);
             Outcome::Done
         }
         Step::Plan(seed, sectors, copies) => match plan(store, alloc, seed, sectors, copies) {

@@ -71,7 +71,7 @@ pub(crate) fn next_group(
 ) -> Result<NextRoot, Fail> {
     let group = root.birth.saturating_add(1);
     let pipeline = group_of(alloc, item)?;
-    store.begin_plan(group);
+    store.drop_plan(group);
     let next = after_group(root, store, alloc, group, pipeline.open_items())?;
     store_plan(store);
     Ok(next)

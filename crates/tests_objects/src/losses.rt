@@ -62,7 +62,7 @@ fn lose_disks(store: &mut LossyStore) {
 fn made(store: &mut LossyStore, alloc: Global) -> Result<VolumeSet, Refusal>
     ensures { IfOk result (λ volume. HasShape volume 2048 512) }
 {
-    store.begin_plan(1);
+    store.drop_plan(1);
     let volume = VolumeSet::create(store, alloc, SIZE, BLOCK_SIZE, 1)?;
     store_plan(store);
     Ok(volume)
@@ -95,7 +95,7 @@ fn with_front(
         name: &name,
         items: items.open_items(),
     };
-    store.begin_plan(group);
+    store.drop_plan(group);
     let done = volume.written(store, alloc, &changes, 2, group)?;
     store_plan(store);
     Ok(done.volume)

@@ -46,7 +46,7 @@ pub(crate) fn with(
         number,
         change: made,
     }];
-    store.begin_plan(birth);
+    store.drop_plan(birth);
     let done = change(set, store, alloc, &changes, birth, &[])?;
     store_plan(store);
     Ok(done.set)
@@ -196,7 +196,7 @@ pub(crate) fn record_of(object_set: Block, created: u64) -> DatasetRecord
 pub(crate) fn block_of_set(store: &mut Store, alloc: Global) -> Result<Block, Refusal>
     ensures { IfOk result FitsBlock }
 {
-    store.begin_plan(1);
+    store.drop_plan(1);
     plan_set(&EMPTY, store, alloc, 1)
 }
 

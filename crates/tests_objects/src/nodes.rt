@@ -49,7 +49,7 @@ fn put(
     requires born { 0 < birth }
     ensures { IfOk result (λ done. FitsObjectSet done.set) }
 {
-    store.begin_plan(birth);
+    store.drop_plan(birth);
     let done = put_many(set, store, alloc, writes, birth, COPIES, &[])?;
     store_plan(store);
     Ok(done)
@@ -223,7 +223,7 @@ fn the_set_before_stays(rt: HostRuntime) -> Result<(), Fail> {
 /// answered.
 fn set_block(store: &mut Store, alloc: Global) -> Result<(u8, bool, bool), Refusal> {
     let set = put(&EMPTY, store, alloc, &first_writes(), 1)?.set;
-    store.begin_plan(2);
+    store.drop_plan(2);
     let block = plan_set(&set, store, alloc, 2, CopyCount::Three)?;
     store_plan(store);
     let found = read_set(store, alloc, &block, 2, &[])? == set;
@@ -263,7 +263,7 @@ fn with_ones(store: &mut Store, alloc: Global, id: u64) -> Result<ObjectNode, Re
         id,
         bytes: ones(alloc, 16_384)?,
     }];
-    store.begin_plan(1);
+    store.drop_plan(1);
     let dnodes = dnode_tree::put_many(&EMPTY.dnodes, store, alloc, &writes, 1, COPIES, &[])?.node;
     store_plan(store);
     Ok(dnodes)

@@ -99,7 +99,7 @@ fn change_both(
     ensures { IfOk result (λ done. FitsObjectSet done.set) }
 {
     let changes = [first, second];
-    store.begin_plan(birth);
+    store.drop_plan(birth);
     let done = change(set, store, alloc, &changes, birth, &[])?;
     store_plan(store);
     Ok(done)

@@ -106,7 +106,7 @@ fn directory_of(alloc: Global, letters: &[u8]) -> Result<Directory, Fail>
 fn volume_block(store: &mut Store, alloc: Global) -> Result<Block, Refusal>
     ensures { IfOk result FitsBlock }
 {
-    store.begin_plan(1);
+    store.drop_plan(1);
     let volume = VolumeSet::create(store, alloc, 1 << 20, 4096, 1)?;
     store_plan(store);
     Ok(volume.block())
@@ -119,7 +119,7 @@ fn root_of(store: &mut Store, alloc: Global, letters: &[u8]) -> Result<Block, Fa
     let set = with(&EMPTY, store, alloc, 5, made, 1)?;
     let made = directory_of(alloc, letters)?.creation(alloc)?;
     let set = with(&set, store, alloc, 1, made, 2)?;
-    store.begin_plan(3);
+    store.drop_plan(3);
     let root = plan_set(&set, store, alloc, 3)?;
     store_plan(store);
     Ok(root)

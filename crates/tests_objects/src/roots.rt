@@ -59,7 +59,7 @@ fn root_with(store: &mut Store, alloc: Global, one: &DatasetRecord) -> Result<Bl
     requires { FitsRecord one.now }
 {
     let set = set_with(store, alloc, one)?;
-    store.begin_plan(3);
+    store.drop_plan(3);
     let root = plan_set(&set, store, alloc, 3)?;
     store_plan(store);
     Ok(root)
@@ -109,7 +109,7 @@ pub(crate) fn first_root(
     let config = Config {
         vdevs: Vec::new(alloc),
     };
-    store.begin_plan(1);
+    store.drop_plan(1);
     let root = first_group(store, alloc, &config, 1, pipeline.open_items())?;
     store_plan(store);
     Ok(root)

@@ -79,7 +79,7 @@ fn put_writes(
     ensures node { IfOk result (λ done. FitsNode done.node) }
     ensures sectors { IfOk result (λ done. done.node.data_sectors ≡ 1) }
 {
-    store.begin_plan(birth);
+    store.drop_plan(birth);
     let done = put_many(node, store, alloc, writes, birth, COPIES, &[])?;
     store_plan(store);
     Ok(done)

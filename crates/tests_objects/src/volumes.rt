@@ -65,7 +65,7 @@ pub(crate) fn accepted(alloc: Global, writes: Vec<Write>) -> Result<Pipeline, Re
 fn made(store: &mut Store, alloc: Global) -> Result<VolumeSet, Refusal>
     ensures { IfOk result (λ volume. HasShape volume 153600 512) }
 {
-    store.begin_plan(1);
+    store.drop_plan(1);
     let volume = VolumeSet::create(store, alloc, SIZE, BLOCK_SIZE, 1)?;
     store_plan(store);
     Ok(volume)
@@ -82,7 +82,7 @@ fn rewritten(volume: &VolumeSet, store: &mut Store, alloc: Global) -> Result<Rew
         name: &name,
         items: group.open_items(),
     };
-    store.begin_plan(2);
+    store.drop_plan(2);
     let blocks = volume.changed_blocks(store, alloc, 1, &changes)?;
     let done = volume.placed(store, alloc, blocks, 2)?;
     store_plan(store);
@@ -143,7 +143,7 @@ fn is_written_at_once(store: &mut Store, alloc: Global) -> Result<bool, Refusal>
         name: &name,
         items: group.open_items(),
     };
-    store.begin_plan(2);
+    store.drop_plan(2);
     let done = before.written(store, alloc, &changes, 1, 2)?;
     store_plan(store);
     let near = bytes_at(&done.volume, store, alloc, 256, 2)?;

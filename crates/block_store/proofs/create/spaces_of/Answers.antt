@@ -18,5 +18,5 @@ loop-config-preserved g c =
       subst (AreSpacesBefore c.args.disks.now.starts c.args.vdevs.now _ _) (sym items)
           (before_more _ _ _ _ _ c.config-item.result c.in_ok-space.space c.loop-config.invariant.0 c.loop-config-test.true c.config-item.is
           (subst (IsShapeOf _ _ _) (sym c.in_ok-space.ensures.shape) c.in-Some.ensures.some)),
-      subst AreEmpty (sym items) (empty_more _ c.in_ok-space.space c.in-Some.shape c.loop-config.invariant.1 c.in_ok-space.ensures.shape c.in_ok-space.ensures.filled c.in_ok-space.ensures.planned),
+      subst AreEmpty (sym items) (empty_more _ c.in_ok-space.space c.loop-config.invariant.1 c.in_ok-space.ensures.empty),
     )

@@ -1,5 +1,6 @@
-use Rattle.std.proofs.Common.{rules, ◌≡◌, Some, refl, ◌∙◌, arith}
+use Rattle.std.proofs.Common.{rules, ◌≡◌, Some, refl, ap, ◌∙◌, arith}
 use Rattle.std.specs.List.{slice_get}
+use Rattle.block_store.specs.Spaces.{VdevSpace}
 use Rattle.block_store.specs.Places.{filled, planned}
 use Rattle.block_store.proofs.Choosing.{at_item}
 use Rattle.block_store.proofs.Planning.{one_more, all_below, same_marks}
@@ -15,9 +16,9 @@ loop-vdev-preserved c =
     at_item c.loop-vdev.spaces.items c.loop-vdev.vdev c.index_mut.result.now (search rules) c.index_mut.ensures.value in
     let before = c.loop-vdev.invariant in
     let more = one_more c.args.spaces.now.items c.loop-vdev.spaces.items filled planned c.loop-vdev.vdev c.index_mut.result.now c.drop_planned.new.self at
-    before.2 before.3 c.drop_planned.ensures.filled c.drop_planned.ensures.planned in (
+    before.2 before.3 (ap filled c.drop_planned.ensures) (ap planned c.drop_planned.ensures) in (
       search rules,
-      map-set_same (λ s. s.shape) c.loop-vdev.spaces.items c.loop-vdev.vdev c.index_mut.result.now c.drop_planned.new.self at c.drop_planned.ensures.shape ∙ before.1,
+      map-set_same (λ s. s.shape) c.loop-vdev.spaces.items c.loop-vdev.vdev c.index_mut.result.now c.drop_planned.new.self at (ap (λ (s : VdevSpace). s.shape) c.drop_planned.ensures) ∙ before.1,
       more.0,
       more.1,
     )

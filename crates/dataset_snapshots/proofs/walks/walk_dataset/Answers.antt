@@ -1,7 +1,7 @@
 use Rattle.std.proofs.Common.{◌≡◌, ◌≤◌, List, inl, inr, ⊎_elim, ap, subst, length, arith}
 use Rattle.std.proofs.lemmas.Result.{IfOk-weaker, IfErr-weaker}
 use Rattle.block_store.proofs.Steps.{reads_on}
-use Rattle.block_store.specs.declared.space.VdevSpace.{VdevSpace}
+use Rattle.block_store.specs.Spaces.{VdevSpace}
 use Rattle.block_store.specs.Losses.{IsForLoss}
 use Rattle.block_store.specs.Store.{Store}
 use Rattle.dnode_tree.proofs.FurtherReads.{true_before, true_after}

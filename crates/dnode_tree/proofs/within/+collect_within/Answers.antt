@@ -13,7 +13,7 @@ use Rattle.block_pointer.specs.declared.block.Block.{Block}
 use Rattle.block_pointer.specs.declared.pointer.BlockPtr.{BlockPtr}
 use Rattle.block_store.specs.declared.block.Asked.{Asked}
 use Rattle.block_store.specs.declared.refusal.Refusal.TheVariants.{BadPointer}
-use Rattle.block_store.specs.declared.space.VdevSpace.{VdevSpace}
+use Rattle.block_store.specs.Spaces.{VdevSpace}
 use Rattle.dnode_tree.proofs.WayLemmas.{refused_data, refused_indirect}
 use Rattle.dnode_tree.proofs.Walks.{HaveWalked, walked_hole, walked_data, none_walked, one_more_walked, all_walked, refused_here, refused_for_memory, refused_in_child}
 use Rattle.dnode_tree.proofs.Counts.{data_counted, indirect_counted}

@@ -1,4 +1,5 @@
 use Rattle.std.proofs.Common.{refl, ap, subst}
+use Rattle.block_store.specs.declared.shape.VdevShape.{VdevShape}
 use Rattle.block_store.specs.Store.{Store, IsStore}
 use Rattle.block_store.proofs.ReadingPlaces.{place_fits, extent_found}
 use Rattle.block_store.proofs.store.BlockStore.extent_at.Goals as goal
@@ -6,18 +7,18 @@ use Rattle.block_store.proofs.store.BlockStore.extent_at.Goals as goal
 pub returns-clause-extent : goal.returns-clause-extent
 returns-clause-extent g c =
     extent_found c.args.self.now c.self.inside.spaces.items c.args.sectors c.args.place _ c.index.result.now (ap (λ (s : Store). s.spaces) c.self.view_is)
-    c.index.ensures c.requires.place refl refl refl
+    c.index.ensures c.requires.place (ap (λ (s : VdevShape). s.vdev) c.shape.ensures) refl refl
 
 pub returns-clause-fits : goal.returns-clause-fits
 returns-clause-fits g c =
     let is : IsStore c.args.self.now = subst IsStore c.self.view_is c.self.invariant in
     (place_fits c.extent_fits.ensures c.args.self.now c.args.sectors c.args.place _ is c.requires.place
     (extent_found c.args.self.now c.self.inside.spaces.items c.args.sectors c.args.place _ c.index.result.now (ap (λ (s : Store). s.spaces) c.self.view_is)
-    c.index.ensures c.requires.place refl refl refl)).0
+    c.index.ensures c.requires.place (ap (λ (s : VdevShape). s.vdev) c.shape.ensures) refl refl)).0
 
 pub returns-clause-on_disks : goal.returns-clause-on_disks
 returns-clause-on_disks g c =
     let is : IsStore c.args.self.now = subst IsStore c.self.view_is c.self.invariant in
     (place_fits c.extent_fits.ensures c.args.self.now c.args.sectors c.args.place _ is c.requires.place
     (extent_found c.args.self.now c.self.inside.spaces.items c.args.sectors c.args.place _ c.index.result.now (ap (λ (s : Store). s.spaces) c.self.view_is)
-    c.index.ensures c.requires.place refl refl refl)).1
+    c.index.ensures c.requires.place (ap (λ (s : VdevShape). s.vdev) c.shape.ensures) refl refl)).1

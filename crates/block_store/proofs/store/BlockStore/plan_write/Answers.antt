@@ -5,7 +5,7 @@ use Rattle.raidz_io.specs.Stands.{IsWithin}
 use Rattle.block_store.specs.Places.{shapes_of}
 use Rattle.block_store.specs.Plans.{AreWritesAt}
 use Rattle.block_store.specs.Store.{Store, IsStore}
-use Rattle.block_store.proofs.Adding.{OnlyTook, added, chosen_keeps, took_keeps, took_keeps_plans, took_shapes, places_in, writes_within}
+use Rattle.block_store.proofs.Adding.{chosen_shapes, OnlyTook, added, chosen_keeps, took_keeps, took_keeps_plans, took_shapes, places_in, writes_within}
 use Rattle.block_store.proofs.Entering.{keeps_through, plans_through}
 use Rattle.block_store.proofs.Fitting.{bytes_fit, fits_copies, on_err, took_some}
 use Rattle.block_store.proofs.Writing.{found_at}
@@ -13,20 +13,20 @@ use Rattle.block_store.proofs.store.BlockStore.plan_write.Goals as goal
 
 pub returns-in_err-places-clause-shapes : goal.returns-in_err-places-clause-shapes
 returns-in_err-places-clause-shapes g c =
-    let took = took_some c.reach.new.self c.choose_places.new.self c.args.new.property.sectors c.count.result c.in_err-places.field-0.0
-    c.in_err-places.ensures.disks c.in_err-places.ensures.out c.in_err-places.ensures.spans c.in_err-places.ensures.due c.in_err-places.ensures.refused in
+    let took = took_some c.reach.new.self c.choose_places.new.self c.args.new.property.sectors c.count.result
+    c.in_err-places.ensures.disks c.in_err-places.ensures.out c.in_err-places.ensures.spans c.in_err-places.ensures.due c.in_err-places.ensures.some in
     took_shapes c.reach.new.self c.choose_places.new.self c.args.new.property.sectors took.0 took.1 ∙ ap shapes_of c.reach.ensures.spaces
 
 pub returns-in_err-places-clause-keeps : goal.returns-in_err-places-clause-keeps
 returns-in_err-places-clause-keeps g c =
-    let took = took_some c.reach.new.self c.choose_places.new.self c.args.new.property.sectors c.count.result c.in_err-places.field-0.0
-    c.in_err-places.ensures.disks c.in_err-places.ensures.out c.in_err-places.ensures.spans c.in_err-places.ensures.due c.in_err-places.ensures.refused in
+    let took = took_some c.reach.new.self c.choose_places.new.self c.args.new.property.sectors c.count.result
+    c.in_err-places.ensures.disks c.in_err-places.ensures.out c.in_err-places.ensures.spans c.in_err-places.ensures.due c.in_err-places.ensures.some in
     keeps_through _ _ _ c.reach.ensures.keeps (took_keeps c.reach.new.self c.choose_places.new.self c.args.new.property.sectors took.0 took.1)
 
 pub returns-in_err-places-clause-err : goal.returns-in_err-places-clause-err
 returns-in_err-places-clause-err g c =
-    let took = took_some c.reach.new.self c.choose_places.new.self c.args.new.property.sectors c.count.result c.in_err-places.field-0.0
-    c.in_err-places.ensures.disks c.in_err-places.ensures.out c.in_err-places.ensures.spans c.in_err-places.ensures.due c.in_err-places.ensures.refused in
+    let took = took_some c.reach.new.self c.choose_places.new.self c.args.new.property.sectors c.count.result
+    c.in_err-places.ensures.disks c.in_err-places.ensures.out c.in_err-places.ensures.spans c.in_err-places.ensures.due c.in_err-places.ensures.some in
     on_err _ _ (plans_through _ _ _ c.reach.ensures.plans (took_keeps_plans c.reach.new.self c.choose_places.new.self c.args.new.property.sectors took.0 took.1))
 
 pub writes_at-requires-clause-places : goal.writes_at-requires-clause-places
@@ -191,3 +191,17 @@ returns-clause-planned g c stored planned plans =
       mid_out = ap (λ (s : Store). s.out) (sym c.self.view_is);
       writes_at = at;
     }) (c.reach.ensures.plans stored planned plans)
+
+pub returns-in_err-writes-clause-shapes : goal.returns-in_err-writes-clause-shapes
+returns-in_err-writes-clause-shapes g c =
+    chosen_shapes _ c.args.new.property.sectors c.in_ok-places.places.items _ c.in_ok-places.ensures.chosen ∙ ap shapes_of c.reach.ensures.spaces
+
+pub returns-in_err-append-clause-shapes : goal.returns-in_err-append-clause-shapes
+returns-in_err-append-clause-shapes g c =
+    ap (λ (s : Store). shapes_of s.spaces) c.self.view_is
+    ∙ chosen_shapes _ c.args.new.property.sectors c.in_ok-places.places.items _ c.in_ok-places.ensures.chosen ∙ ap shapes_of c.reach.ensures.spaces
+
+pub returns-clause-shapes : goal.returns-clause-shapes
+returns-clause-shapes g c =
+    ap (λ (s : Store). shapes_of s.spaces) c.self.view_is
+    ∙ chosen_shapes _ c.args.new.property.sectors c.in_ok-places.places.items _ c.in_ok-places.ensures.chosen ∙ ap shapes_of c.reach.ensures.spaces

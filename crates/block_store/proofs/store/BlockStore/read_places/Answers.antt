@@ -1,6 +1,6 @@
 use Rattle.std.proofs.Common.{◌≡◌, List, Contains, IsTrue, false, refl, sym, ap, subst}
 use Rattle.block_pointer.specs.declared.dva.Dva.{Dva}
-use Rattle.block_store.specs.declared.space.VdevSpace.{VdevSpace}
+use Rattle.block_store.specs.Spaces.{VdevSpace}
 use Rattle.block_store.specs.Places.{IsPlaceIn}
 use Rattle.block_store.specs.Reading.{IsCopyRead}
 use Rattle.block_store.specs.Store.{Store}

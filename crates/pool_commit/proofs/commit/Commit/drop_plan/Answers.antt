@@ -6,6 +6,6 @@ use Rattle.pool_commit.proofs.commit.Commit.drop_plan.Goals as goal
 
 pub invariant_of-self : goal.invariant_of-self
 invariant_of-self g c = record {
-  disks = subst (λ (d : Disks). HasDisks (length d.starts) c.args.self.now.planned) (sym c.begin_plan.ensures.disks) c.args.self.now.disks;
-  suspension = c.args.self.now.suspension ∙ still c.args.self.now.store c.begin_plan.new.self c.begin_plan.ensures.out c.begin_plan.ensures.shapes;
+  disks = subst (λ (d : Disks). HasDisks (length d.starts) c.args.self.now.planned) (sym c.drop_plan.ensures.disks) c.args.self.now.disks;
+  suspension = c.args.self.now.suspension ∙ still c.args.self.now.store c.drop_plan.new.self c.drop_plan.ensures.out c.drop_plan.ensures.shapes;
 }

@@ -28,59 +28,59 @@ invariant_of-self-in-Ok g c = record {
       omega arith;
   suspension =
       c.args.self.now.suspension
-      ∙ still c.args.self.now.store c.begin_plan.new.self c.begin_plan.ensures.out c.begin_plan.ensures.shapes
-      ∙ still c.begin_plan.new.self c.group_after.new.store c.in-Ok.ensures.steps.out c.in-Ok.ensures.steps.shapes;
+      ∙ still c.args.self.now.store c.drop_plan.new.self c.drop_plan.ensures.out c.drop_plan.ensures.shapes
+      ∙ still c.drop_plan.new.self c.group_after.new.store c.in-Ok.ensures.steps.out c.in-Ok.ensures.steps.shapes;
 }
 
 pub returns-in-Ok-clause-planned : goal.returns-in-Ok-clause-planned
 returns-in-Ok-clause-planned g c = λ v backs none few items honest.
-    let begun = backs_begun (state_of c.args.self.now) c.begin_plan.new.self v c.begin_plan.ensures.out c.begin_plan.ensures.shapes c.begin_plan.ensures.plans v.sync none backs in
-    let s : State = record { store = c.begin_plan.new.self; kept = c.args.self.now.kept; planned = None } in
+    let begun = backs_begun (state_of c.args.self.now) c.drop_plan.new.self v c.drop_plan.ensures.out c.drop_plan.ensures.shapes c.drop_plan.ensures.plans v.sync none backs in
+    let s : State = record { store = c.drop_plan.new.self; kept = c.args.self.now.kept; planned = None } in
     let next : c.saturating_add-group.result ≡ suc v.committed = let same = c.committed.ensures ∙ backs.committed in omega arith in
     plan_is_backed s c.group_after.new.store c.saturating_add-group.result c.last-last.result.now (record { after = c.in-Ok.after; flushes = c.in_ok-flushes.flushes })
-    c.args.items.now v begun c.begin_plan.ensures.due next c.last-last.ensures items c.in_ok-flushes.ensures.disks c.in-Ok.ensures.steps
-    (subst (λ (disks : Disks). IsHonestSince disks c.group_after.new.store.disks) (sym c.begin_plan.ensures.disks) honest)
-    (begun_plans (state_of c.args.self.now) c.begin_plan.new.self v c.begin_plan.ensures.out c.begin_plan.ensures.shapes c.begin_plan.ensures.plans v.sync none backs) c.in-Ok.ensures.value
+    c.args.items.now v begun c.drop_plan.ensures.due next c.last-last.ensures items c.in_ok-flushes.ensures.disks c.in-Ok.ensures.steps
+    (subst (λ (disks : Disks). IsHonestSince disks c.group_after.new.store.disks) (sym c.drop_plan.ensures.disks) honest)
+    (begun_plans (state_of c.args.self.now) c.drop_plan.new.self v c.drop_plan.ensures.out c.drop_plan.ensures.shapes c.drop_plan.ensures.plans v.sync none backs) c.in-Ok.ensures.value
 
 pub returns-in_err-flushes-clause-unplanned : goal.returns-in_err-flushes-clause-unplanned
 returns-in_err-flushes-clause-unplanned g c = at_error c.from_residual.result _ (λ v backs none.
-    unplanned_still (record { store = c.begin_plan.new.self; kept = c.args.self.now.kept; planned = None }) c.args.self.now.planned v c.requires.unplanned
-    (backs_begun (state_of c.args.self.now) c.begin_plan.new.self v c.begin_plan.ensures.out c.begin_plan.ensures.shapes c.begin_plan.ensures.plans v.sync none backs))
+    unplanned_still (record { store = c.drop_plan.new.self; kept = c.args.self.now.kept; planned = None }) c.args.self.now.planned v c.requires.unplanned
+    (backs_begun (state_of c.args.self.now) c.drop_plan.new.self v c.drop_plan.ensures.out c.drop_plan.ensures.shapes c.drop_plan.ensures.plans v.sync none backs))
 
 pub returns-in-Err-clause-unplanned : goal.returns-in-Err-clause-unplanned
 returns-in-Err-clause-unplanned g c = λ v backs none.
-    let begun = backs_begun (state_of c.args.self.now) c.begin_plan.new.self v c.begin_plan.ensures.out c.begin_plan.ensures.shapes c.begin_plan.ensures.plans v.sync none backs in
-    let s : State = record { store = c.begin_plan.new.self; kept = c.args.self.now.kept; planned = None } in
+    let begun = backs_begun (state_of c.args.self.now) c.drop_plan.new.self v c.drop_plan.ensures.out c.drop_plan.ensures.shapes c.drop_plan.ensures.plans v.sync none backs in
+    let s : State = record { store = c.drop_plan.new.self; kept = c.args.self.now.kept; planned = None } in
     unplanned_still (record s { store = c.group_after.new.store }) c.args.self.now.planned v c.requires.unplanned (backs_still s c.group_after.new.store v refl c.in-Err.ensures.steps begun)
 
 pub returns-in_err-flushes-clause-dropped : goal.returns-in_err-flushes-clause-dropped
 returns-in_err-flushes-clause-dropped g c = at_error c.from_residual.result _ (λ v backs.
-    unplanned_still (record { store = c.begin_plan.new.self; kept = c.args.self.now.kept; planned = None }) c.args.self.now.planned (record v { sync = Unplanned }) c.requires.unplanned
-    (backs_begun (state_of c.args.self.now) c.begin_plan.new.self v c.begin_plan.ensures.out c.begin_plan.ensures.shapes c.begin_plan.ensures.plans Unplanned refl backs))
+    unplanned_still (record { store = c.drop_plan.new.self; kept = c.args.self.now.kept; planned = None }) c.args.self.now.planned (record v { sync = Unplanned }) c.requires.unplanned
+    (backs_begun (state_of c.args.self.now) c.drop_plan.new.self v c.drop_plan.ensures.out c.drop_plan.ensures.shapes c.drop_plan.ensures.plans Unplanned refl backs))
 
 pub returns-in-Err-clause-dropped : goal.returns-in-Err-clause-dropped
 returns-in-Err-clause-dropped g c = λ v backs.
-    let begun = backs_begun (state_of c.args.self.now) c.begin_plan.new.self v c.begin_plan.ensures.out c.begin_plan.ensures.shapes c.begin_plan.ensures.plans Unplanned refl backs in
-    let s : State = record { store = c.begin_plan.new.self; kept = c.args.self.now.kept; planned = None } in
+    let begun = backs_begun (state_of c.args.self.now) c.drop_plan.new.self v c.drop_plan.ensures.out c.drop_plan.ensures.shapes c.drop_plan.ensures.plans Unplanned refl backs in
+    let s : State = record { store = c.drop_plan.new.self; kept = c.args.self.now.kept; planned = None } in
     unplanned_still (record s { store = c.group_after.new.store }) c.args.self.now.planned (record v { sync = Unplanned }) c.requires.unplanned
     (backs_still s c.group_after.new.store (record v { sync = Unplanned }) refl c.in-Err.ensures.steps begun)
 
 pub returns-in-Ok-clause-untouched : goal.returns-in-Ok-clause-untouched
 returns-in-Ok-clause-untouched g c =
-    untouched_since c.args.self.now.store c.begin_plan.new.self c.group_after.new.store c.begin_plan.ensures.disks c.begin_plan.ensures.out c.in-Ok.ensures.steps.untouched
+    untouched_since c.args.self.now.store c.drop_plan.new.self c.group_after.new.store c.drop_plan.ensures.disks c.drop_plan.ensures.out c.in-Ok.ensures.steps.untouched
 
 pub returns-in-Err-clause-untouched : goal.returns-in-Err-clause-untouched
 returns-in-Err-clause-untouched g c =
-    untouched_since c.args.self.now.store c.begin_plan.new.self c.group_after.new.store c.begin_plan.ensures.disks c.begin_plan.ensures.out c.in-Err.ensures.steps.untouched
+    untouched_since c.args.self.now.store c.drop_plan.new.self c.group_after.new.store c.drop_plan.ensures.disks c.drop_plan.ensures.out c.in-Err.ensures.steps.untouched
 
 -- what the plan was refused for
 refused : (g : given.Over) (c : goal.After-drop-flushes-in-Err-1 g) → IsPlanRefused (state_of c.args.self.now) c.group_after.new.store c.args.items.now c.in-Err.refusal
 refused g c = record {
-  begun = c.begin_plan.new.self;
-  is_begun = is_begun c.args.self.now.store c.begin_plan.new.self c.begin_plan.ensures.disks c.begin_plan.ensures.out c.begin_plan.ensures.shapes c.begin_plan.ensures.filled c.begin_plan.ensures.free;
+  begun = c.drop_plan.new.self;
+  is_begun = is_begun c.args.self.now.store c.drop_plan.new.self c.drop_plan.ensures.disks c.drop_plan.ensures.out c.drop_plan.ensures.shapes c.drop_plan.ensures.filled c.drop_plan.ensures.free;
   group = c.saturating_add-group.result;
   is_next = λ few. let same = c.committed.ensures in omega arith;
-  why = subst (λ (kept : KeptGroup). IsNextRefused c.begin_plan.new.self c.group_after.new.store kept.root c.saturating_add-group.result c.args.items.now c.in-Err.refusal)
+  why = subst (λ (kept : KeptGroup). IsNextRefused c.drop_plan.new.self c.group_after.new.store kept.root c.saturating_add-group.result c.args.items.now c.in-Err.refusal)
       c.last-last.ensures c.in-Err.ensures.refused;
 }
 
@@ -96,8 +96,8 @@ returns-in-Err-clause-unread g c = λ fault. record { cause = c.in-Err.refusal; 
 pub returns-in-Err-clause-refused : goal.returns-in-Err-clause-refused
 unfolding refused
 returns-in-Err-clause-refused g c = λ v backs none few items good.
-    let begun = backs_begun (state_of c.args.self.now) c.begin_plan.new.self v c.begin_plan.ensures.out c.begin_plan.ensures.shapes c.begin_plan.ensures.plans v.sync none backs in
-    let s : State = record { store = c.begin_plan.new.self; kept = c.args.self.now.kept; planned = None } in
+    let begun = backs_begun (state_of c.args.self.now) c.drop_plan.new.self v c.drop_plan.ensures.out c.drop_plan.ensures.shapes c.drop_plan.ensures.plans v.sync none backs in
+    let s : State = record { store = c.drop_plan.new.self; kept = c.args.self.now.kept; planned = None } in
     let new : State = record { store = c.group_after.new.store; kept = c.args.self.now.kept; planned = c.args.self.now.planned } in
     let before : c.saturating_add-group.result - 1 ≡ v.committed = let same = c.committed.ensures ∙ backs.committed in omega arith in
     let spelled : SpellsGroup begun.blocks.stored (c.saturating_add-group.result - 1) c.last-last.result.now (v.pools v.committed) =
@@ -108,8 +108,8 @@ returns-in-Err-clause-refused g c = λ v backs none few items good.
     (λ space. inr (c.from.ensures ∙ space))
     (λ fault. inl (lost_for_plan v (state_of c.args.self.now) new c.args.items.now c.from.result
     (record { cause = c.in-Err.refusal; refused = refused g c; answered = c.from.ensures }) begun c.in-Err.ensures.steps.reads
-    (subst (IsFaultIn c.begin_plan.new.self c.group_after.new.store) (sym c.from.ensures) fault))) other))
-    (plan_faults c.begin_plan.new.self c.group_after.new.store c.in-Err.refusal
+    (subst (IsFaultIn c.drop_plan.new.self c.group_after.new.store) (sym c.from.ensures) fault))) other))
+    (plan_faults c.drop_plan.new.self c.group_after.new.store c.in-Err.refusal
     (λ honest. c.in-Err.ensures.known begun.blocks.stored begun.blocks.planned (v.pools v.committed) begun.blocks.plans spelled honest good))
 
 pub returns-in-Err-clause-bad : goal.returns-in-Err-clause-bad

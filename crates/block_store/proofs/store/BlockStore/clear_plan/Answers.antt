@@ -2,7 +2,7 @@ use Rattle.std.proofs.Common.{Contains, refl, sym, subst}
 use Rattle.block_store.specs.Store.{Store, Holds}
 use Rattle.block_store.proofs.Planning.{same_but, begun, nothing}
 use Rattle.block_store.proofs.Taking.{laid_out_too}
-use Rattle.block_store.proofs.store.BlockStore.drop_plan.Goals as goal
+use Rattle.block_store.proofs.store.BlockStore.clear_plan.Goals as goal
 
 pub invariant_of-self : goal.invariant_of-self
 invariant_of-self g c = record {

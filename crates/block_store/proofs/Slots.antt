@@ -1,0 +1,74 @@
+-- A place that is taken in a metaslab.
+use Rattle.std.proofs.Common.{ℕ, suc, ◌≡◌, ◌+◌, ◌*◌, ◌^◌, ◌<◌, ◌≤◌, Some, List, length, All, Result, Ok, Err, sym, ap, subst, ◌∙◌, arith, mul-le-mul_right, mul-le-mul}
+use Rattle.std.specs.Prelude.{slice_set, IfOk}
+use Rattle.std.specs.List.{slice_get}
+use Rattle.std.proofs.lemmas.List.{length-set}
+use Rattle.std.proofs.lemmas.List.Elements.{All-set}
+use Rattle.std.proofs.lemmas.Option.{slice_get_within, get_or_from_slice_get}
+use Rattle.std.proofs.Math.Nat.{div-mul-le_self}
+use Rattle.block_pointer.specs.declared.dva.Dva.{Dva}
+use Rattle.space_map.specs.declared.entry.Run.{Run}
+use Rattle.metaslab.specs.Space.{Space, sectors_of}
+use Rattle.metaslab.specs.State.{Free, InUse}
+use Rattle.metaslab_group.specs.Spaces.{ChangesIn}
+use Rattle.block_store.specs.declared.shape.VdevShape.{VdevShape}
+use Rattle.block_store.specs.Spaces.{VdevSpace, AreMetaslabsOf}
+use Rattle.block_store.specs.Places.{run_at, IsTakenIn}
+use Rattle.block_store.specs.Shapes.{vdev_sectors, metaslab_sectors, metaslabs, metaslab_of, sector_of, IsPlace}
+
+sized_at : (spaces : List Space) (size m : ℕ) (space : Space) → All (λ s. sectors_of s ≡ size) spaces → slice_get spaces m ≡ Some space → sectors_of space ≡ size
+sized_at spaces size m space all found =
+    subst (λ s. sectors_of s ≡ size) (get_or_from_slice_get spaces m space space found) (all m space (slice_get_within spaces m space found))
+
+-- metaslabs of which a run changes are as many, and as large
+pub still_metaslabs : (shape : VdevShape) (old new : List Space) (m : ℕ) (run : Run) → ChangesIn old new m run Free InUse → AreMetaslabsOf shape old → AreMetaslabsOf shape new
+still_metaslabs shape old new m run change is =
+    let size : ℕ = metaslab_sectors shape in (
+      ap length change.rest ∙ length-set old m change.later ∙ is.0,
+      subst (λ xs. All (λ s. sectors_of s ≡ size) xs) (sym change.rest)
+          (All-set (λ s. sectors_of s ≡ size) old m change.later (change.changes.sectors ∙ sized_at old size m change.space is.1 change.found) is.1),
+    )
+
+-- the run lies in the metaslab
+pub within : (shape : VdevShape) (old new : List Space) (m start allocated : ℕ) → ChangesIn old new m (record { start = start; len = allocated }) Free InUse
+    → AreMetaslabsOf shape old → start + allocated ≤ metaslab_sectors shape
+within shape old new m start allocated change is = omega (arith, change.was.within, sized_at old (metaslab_sectors shape) m change.space is.1 change.found)
+
+-- a vdev has few sectors
+pub below_end : (shape : VdevShape) (metaslab start : ℕ) → metaslab < metaslabs shape → start ≤ metaslab_sectors shape
+    → metaslab * metaslab_sectors shape + start < 2 ^ 64
+below_end shape metaslab start there fits =
+    let size : ℕ = metaslab_sectors shape in
+    let next : suc metaslab * size ≤ metaslabs shape * size = mul-le-mul_right size there in
+    let all : metaslabs shape * size ≤ vdev_sectors shape = div-mul-le_self (vdev_sectors shape) size in
+    let small : shape.child_sectors ≤ 2 ^ 34 = omega (arith, shape.most_sectors) in
+    let few : vdev_sectors shape ≤ 32 * 2 ^ 34 = mul-le-mul shape.vdev.geometry.most_children small in
+    omega (arith, next, all, few, fits)
+
+-- the run is that of the place
+pub changes_at : (shape : VdevShape) (old new : List Space) (metaslab start : ℕ) (place : Dva) → metaslab_of shape place ≡ metaslab → sector_of shape place ≡ start
+    → ChangesIn old new metaslab (record { start = start; len = place.allocated }) Free InUse
+    → ChangesIn old new (metaslab_of shape place) (run_at shape place) Free InUse
+changes_at shape old new metaslab start place which where_in change =
+    subst (λ n. ChangesIn old new n (run_at shape place) Free InUse) (sym which)
+    (subst (λ n. ChangesIn old new metaslab (record { start = n; len = place.allocated }) Free InUse) (sym where_in) change)
+
+-- a place that is taken in a vdev's space
+pub took : {E : Type 0} (spaces : List VdevSpace) (sectors v metaslab : ℕ) (space new : VdevSpace) (result : Result Dva E) → slice_get spaces v ≡ Some space
+    → IfOk result (λ place. place.vdev ≡ v) → IfOk result (λ place. IsPlace space.shape sectors place)
+    → IfOk result (λ place. metaslab_of space.shape place ≡ metaslab)
+    → IfOk result (λ place. ChangesIn space.planned new.planned (metaslab_of space.shape place) (run_at space.shape place) Free InUse)
+    → new ≡ record space { planned = new.planned } → IfOk result (λ place. IsTakenIn spaces sectors v metaslab place (slice_set spaces v new))
+took spaces sectors v metaslab space new (Ok place) found vdev is_place slab taken rest = record {
+  vdev_is = vdev;
+  taken = record {
+    space = space;
+    found = ap (λ n. slice_get spaces n) vdev ∙ found;
+    later = new.planned;
+    taken = taken;
+    rest = ap (λ s. slice_set spaces v s) rest ∙ ap (λ n. slice_set spaces n (record space { planned = new.planned })) (sym vdev);
+  };
+  is_place = is_place;
+  metaslab_is = slab;
+}
+took spaces sectors v metaslab space new (Err e) found vdev is_place slab taken rest = tt
