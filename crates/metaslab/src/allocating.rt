@@ -3,6 +3,7 @@ ghost use Rattle.std.specs.Prelude.{◌≡◌, ◌<◌, [], ◌↔◌, IsTrue, O
 
 use crate::refusal::Refusal;
 use crate::settling::{Release, change, drop_due, give_all, give_due};
+use crate::sharing::{shares_released, shares_sector};
 use space_map::{FreeSet, Kind, Run};
 use std::alloc::{AllocError, Global};
 use std::marker::Model;
@@ -64,6 +65,18 @@ impl Metaslab {
         ensures { IsTrue result ↔ HasFreeRun self.now sectors }
     {
         self.free.find(sectors).is_some()
+    }
+
+    /// Whether all sectors of a run are in use: it lies in the metaslab, and none of them is free or released.
+    pub fn is_in_use(&self, run: Run) -> bool
+        requires { 0 < run.len }
+        ensures { IsTrue result ↔ IsRunOf self.now run InUse }
+    {
+        let sectors = self.free.sectors();
+        if run.len > sectors || run.start > sectors - run.len {
+            return false;
+        }
+        !shares_sector(self.free.runs(), run) && !shares_released(&self.released, run)
     }
 
     /// Takes so many free sectors in a row, any, and hands them out. `NoSpace` comes only where no so many

@@ -7,6 +7,7 @@ mod allocating;
 mod laws;
 mod refusal;
 mod settling;
+mod sharing;
 
 pub use allocating::Metaslab;
 pub use laws::{dropped_plans_change_nothing, space_is_accounted, steps_follow_runs};

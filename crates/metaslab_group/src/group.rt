@@ -73,6 +73,15 @@ impl MetaslabGroup {
         self.metaslabs[metaslab].has_room(sectors)
     }
 
+    /// Whether all sectors of a run of a metaslab are in use beside what is planned.
+    pub fn is_in_use(&self, metaslab: usize, run: Run) -> bool
+        requires is_there { metaslab < length self.now.planned }
+        requires some { 0 < run.len }
+        ensures { IsTrue result ↔ IsInUseIn self.now.planned metaslab run }
+    {
+        self.metaslabs[metaslab].is_in_use(run)
+    }
+
     /// Takes so many free sectors in a row of a metaslab, any, for the plan, and gives the first one's number.
     /// `NoSpace` comes only where no so many are free in a row, and `NoMemory` may come in its place. An error
     /// changes nothing.

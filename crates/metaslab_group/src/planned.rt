@@ -54,6 +54,17 @@ impl PlannedMetaslab {
         }
     }
 
+    /// Whether all sectors of a run are in use beside what is planned.
+    pub fn is_in_use(&self, run: Run) -> bool
+        requires { 0 < run.len }
+        ensures { IsTrue result ↔ IsRunOf self.now.planned run InUse }
+    {
+        match &self.copy {
+            Some(copy) => copy.is_in_use(run),
+            None => self.kept.is_in_use(run),
+        }
+    }
+
     /// Takes so many free sectors in a row, any, for the plan. `NoSpace` comes only where no so many are free
     /// in a row, and `NoMemory` may come in its place. An error leaves both spaces as they were.
     pub fn allocate(&mut self, sectors: u64) -> Result<Run, Refusal>
