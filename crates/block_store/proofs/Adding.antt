@@ -28,6 +28,8 @@ use Rattle.block_store.proofs.ReadingPlaces.{place_fits}
 use Rattle.block_store.proofs.SameBlock.{same_block, block_is, block_itself}
 use Rattle.block_store.proofs.Sizes.{asize_some}
 use Rattle.block_store.proofs.Taking.{AreTakenToo, are_taken, taken_some, taken_too, placed_too, copy_too, turned}
+use Rattle.block_store.specs.Uses.{LiesOn, IsInUse}
+use Rattle.block_store.proofs.Uses.{lies_chosen, chosen_in_use}
 use Rattle.block_store.proofs.Writing.{found_at}
 
 -- the contents with this block
@@ -226,6 +228,15 @@ added old new block bytes places writes stored planned is plans =
           | inl (this, same) ↦ omega (arith, is.born, ap (λ (b : Block). b.birth) this, ap (λ (s : Spans). s.group) is.spans)
           | inr was ↦ omega (arith, plans.born other known was unknown, ap (λ (s : Spans). s.group) is.spans)
         ];
+        in_use = λ other known found unknown i place at. elim (this_or_known block other bytes known planned found) [
+          | inl (this, same) ↦
+              let here : slice_get places i ≡ Some place = ap (λ xs. slice_get xs i) (sym is.copies_at) ∙ ap (λ (b : Block). slice_get (dvas b.copies) i) (sym this) ∙ at in
+              subst (λ (b : Block). LiesOn IsInUse new.spaces planned_marks b.property.sectors place) (sym this)
+              (chosen_in_use old.spaces [] block.property.sectors places new.spaces is.written.fits.property.not_empty is.chosen i place here)
+          | inr was ↦
+              lies_chosen IsInUse old.spaces [] block.property.sectors places new.spaces is.chosen refl other.property.sectors place
+              (plans.in_use other known was unknown i place at)
+        ];
         writes_of = of_copies;
         on_the_way = λ other known i extent found unknown copy. elim (this_or_known block other bytes known planned found) [
           | inl (this, same) ↦
@@ -335,6 +346,8 @@ took_keeps_plans old new sectors places took stored planned plans =
       kept = plans.kept;
       placed = placed_too old.spaces new.spaces planned_marks planned_marks planned taken.grows plans.placed;
       born = λ block bytes known fresh. omega (arith, plans.born block bytes known fresh, ap (λ (s : Spans). s.group) took.spans);
+      in_use = λ block bytes known fresh i place at.
+          lies_chosen IsInUse old.spaces [] sectors places new.spaces took.chosen refl block.property.sectors place (plans.in_use block bytes known fresh i place at);
       writes_of = plans.writes_of;
       on_the_way = λ block bytes i extent known fresh copy.
           let way = plans.on_the_way block bytes i extent known fresh (copy_too new.spaces old.spaces block i extent (sym taken.grows.shapes) copy) in

@@ -49,6 +49,8 @@ fewer_planned store stored planned fewer left forgets plans = record {
   placed = fewer_placed store.spaces _ planned left forgets.of_planned plans.placed;
   born = λ block bytes known fresh.
       plans.born block bytes (forgets.of_planned block bytes known) (left_is_new store stored planned fewer left forgets plans.kept block bytes known fresh);
+  in_use = λ block bytes known fresh.
+      plans.in_use block bytes (forgets.of_planned block bytes known) (left_is_new store stored planned fewer left forgets plans.kept block bytes known fresh);
   writes_of = plans.writes_of;
   on_the_way = λ block bytes i extent known fresh copy.
       plans.on_the_way block bytes i extent (forgets.of_planned block bytes known) (left_is_new store stored planned fewer left forgets plans.kept block bytes known fresh) copy;

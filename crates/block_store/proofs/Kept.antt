@@ -82,6 +82,7 @@ keeps_plans kept more old new is stored planned plans = record {
   kept = plans.kept;
   placed = rw is.spaces plans.placed;
   born = λ block bytes known fresh. omega (arith, plans.born block bytes known fresh, is.group);
+  in_use = λ block bytes known fresh. rw is.spaces (plans.in_use block bytes known fresh);
   writes_of = plans.writes_of;
   on_the_way = λ block bytes i extent known fresh copy.
       let copy_was : IsCopy old.spaces block i extent = rw (sym is.spaces) copy in

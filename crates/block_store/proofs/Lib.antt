@@ -27,4 +27,7 @@ pub mod Sizes
 pub mod Slots
 pub mod Steps
 pub mod Taking
+pub mod Uses
+pub mod GivenBack
+pub mod Settled
 pub mod Writing

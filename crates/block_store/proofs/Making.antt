@@ -226,6 +226,7 @@ plans_nothing store due = record {
   kept = λ block bytes is. is;
   placed = record { blocks = λ block bytes is. absurd (cc); places = λ block bytes i place is copy. absurd (cc); apart = λ block other bytes others i k place behind is is'. absurd (cc) };
   born = λ block bytes is new. absurd (cc);
+  in_use = λ block bytes is new. absurd (cc);
   writes_of = λ block i. [];
   on_the_way = λ block bytes i extent is new copy. absurd (cc);
   due = λ write among. let P : List ColumnWrite → Type 0 = λ xs. Contains xs write in absurd (omega (arith, (subst P due among).1));

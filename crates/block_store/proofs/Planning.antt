@@ -30,7 +30,7 @@ marks_by_map marks (s ∷ spaces) (a ∷ after) same (suc v) space new found fou
     let rest : map marks after ≡ map marks spaces = cc in
     marks_by_map marks spaces after rest v space new found found'
 
-grows_by : (spaces after : List VdevSpace) (marks later : Marks) → shapes_of after ≡ shapes_of spaces → HaveMarks spaces marks after later → Grows spaces after marks later
+pub grows_by : (spaces after : List VdevSpace) (marks later : Marks) → shapes_of after ≡ shapes_of spaces → HaveMarks spaces marks after later → Grows spaces after marks later
 grows_by spaces after marks later shapes are = record {
   shapes = shapes;
   more = λ v space new found found'.
@@ -68,7 +68,7 @@ pub same_marks : (spaces : List VdevSpace) (marks : Marks) → HaveMarks spaces 
 same_marks spaces marks v space new found found' = ap marks (same_some new space (sym found' ∙ found))
 
 -- a store with the same disks and the same marks holds what it held
-held_by : (old new : Store) (marks : Marks) (stored : Contents) → new.disks ≡ old.disks → LoseMore old new → shapes_of new.spaces ≡ shapes_of old.spaces
+pub held_by : (old new : Store) (marks : Marks) (stored : Contents) → new.disks ≡ old.disks → LoseMore old new → shapes_of new.spaces ≡ shapes_of old.spaces
     → ArePlaced new.spaces filled_marks stored
     → ((block : Block) (bytes : List ℕ) (i : ℕ) (extent : Extent) → stored block ≡ Some bytes → IsCopy old.spaces block i extent
     → ExtentStands (content old.disks) (lost old block.birth) extent bytes)
@@ -81,7 +81,7 @@ held_by old new marks stored disks more_lost shapes placed stand = record {
       more_absent (content new.disks) (lost old block.birth) (lost new block.birth) extent bytes (more_lost block.birth) (subst P (sym disks) stood);
 }
 
-no_contents : {X : Type 0} (x : X) (found : Option X) → found ≡ Some x → ¬ (found ≡ None)
+pub no_contents : {X : Type 0} (x : X) (found : Option X) → found ≡ Some x → ¬ (found ≡ None)
 no_contents x found is none = absurd (let e : Some x ≡ None = sym is ∙ none in cc)
 
 -- what a store keeps: its disks, the vdevs and their marks
@@ -114,6 +114,7 @@ begun old new same planned none stored holds = record {
   kept = λ block bytes known. known;
   placed = placed_too old.spaces new.spaces filled_marks planned_marks stored (grows_by old.spaces new.spaces filled_marks planned_marks same.shapes planned) holds.placed;
   born = λ block bytes known fresh. absurd (no_contents bytes (stored block) known fresh);
+  in_use = λ block bytes known fresh. absurd (no_contents bytes (stored block) known fresh);
   writes_of = λ block i. [];
   on_the_way = λ block bytes i extent known fresh copy. absurd (no_contents bytes (stored block) known fresh);
   due = λ write held. absurd (nothing write (subst (λ xs. Contains xs write) none held));

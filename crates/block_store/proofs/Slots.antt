@@ -1,16 +1,17 @@
 -- A place that is taken in a metaslab.
-use Rattle.std.proofs.Common.{ℕ, suc, ◌≡◌, ◌+◌, ◌*◌, ◌^◌, ◌<◌, ◌≤◌, Some, List, length, All, Result, Ok, Err, sym, ap, subst, ◌∙◌, arith, mul-le-mul_right, mul-le-mul}
-use Rattle.std.specs.Prelude.{slice_set, IfOk}
+use Rattle.std.proofs.Common.{ℕ, suc, ◌≡◌, ◌⊎◌, inl, inr, ◌+◌, ◌*◌, ◌^◌, ◌<◌, ◌≤◌, Some, List, length, All, Result, Ok, Err, sym, ap, subst, ◌∙◌, arith, mul-le-mul_right, mul-le-mul}
+use Rattle.std.specs.Prelude.{slice_set, IfOk, OnOk, OnErr}
 use Rattle.std.specs.List.{slice_get}
 use Rattle.std.proofs.lemmas.List.{length-set}
 use Rattle.std.proofs.lemmas.List.Elements.{All-set}
 use Rattle.std.proofs.lemmas.Option.{slice_get_within, get_or_from_slice_get}
 use Rattle.std.proofs.Math.Nat.{div-mul-le_self}
 use Rattle.block_pointer.specs.declared.dva.Dva.{Dva}
+use Rattle.raidz_io.proofs.Written.{slice_get_some}
 use Rattle.space_map.specs.declared.entry.Run.{Run}
 use Rattle.metaslab.specs.Space.{Space, sectors_of}
 use Rattle.metaslab.specs.State.{Free, InUse}
-use Rattle.metaslab_group.specs.Spaces.{ChangesIn}
+use Rattle.metaslab_group.specs.Spaces.{ChangesIn, AreSettled, AreSettledInPart}
 use Rattle.block_store.specs.declared.shape.VdevShape.{VdevShape}
 use Rattle.block_store.specs.Spaces.{VdevSpace, AreMetaslabsOf}
 use Rattle.block_store.specs.Places.{run_at, IsTakenIn}
@@ -72,3 +73,27 @@ took spaces sectors v metaslab space new (Ok place) found vdev is_place slab tak
   metaslab_is = slab;
 }
 took spaces sectors v metaslab space new (Err e) found vdev is_place slab taken rest = tt
+
+-- ---- metaslabs that settle
+
+-- metaslabs that settle are as many, and as large
+pub still_settled : (shape : VdevShape) (pins : List ℕ) (group : ℕ) (old new : List Space) → AreSettledInPart pins group old new → AreMetaslabsOf shape old
+    → AreMetaslabsOf shape new
+still_settled shape pins group old new part is = (
+  part.count ∙ is.0,
+  λ i d within.
+      let later = slice_get_some new i within in
+      let before = slice_get_some old i (omega (arith, within, part.count)) in
+      let size : sectors_of before.0 ≡ metaslab_sectors shape = sized_at old (metaslab_sectors shape) i before.0 is.1 before.1 in
+      let sized : sectors_of later.0 ≡ metaslab_sectors shape = elim (part.each i before.0 later.0 before.1 later.1) [
+        | inl same ↦ ap sectors_of same ∙ size
+        | inr settles ↦ settles.sectors ∙ size
+      ] in
+      subst (λ s. sectors_of s ≡ metaslab_sectors shape) (sym (get_or_from_slice_get new i later.0 d later.1)) sized,
+)
+
+-- whether or not memory was short
+pub settled_in_part : {E : Type 0} (result : Result (Unit {0}) E) (pins : List ℕ) (group : ℕ) (old new : List Space) → OnOk result (AreSettled pins group old new)
+    → OnErr result (AreSettledInPart pins group old new) → AreSettledInPart pins group old new
+settled_in_part (Ok unit) pins group old new ok err = record { count = ok.count; each = λ m space later found found'. inr (ok.each m space later found found') }
+settled_in_part (Err e) pins group old new ok err = err

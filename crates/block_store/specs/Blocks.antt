@@ -1,5 +1,5 @@
 -- Blocks, and the bytes that they were written with.
-use Rattle.std.specs.Prelude.{ℕ, ◌≡◌, ◌*◌, ◌<◌, ◌⊎◌, Option, Some, None, List, length, All}
+use Rattle.std.specs.Prelude.{ℕ, ◌≡◌, ◌≢◌, ◌*◌, ◌<◌, ◌⊎◌, Option, Some, None, List, length, All, AllPairs, Contains}
 use Rattle.sha2.specs.Sha256.{sha256}
 use Rattle.block_pointer.specs.declared.block.Block.{Block}
 use Rattle.block_pointer.specs.Block.{FitsBlock}
@@ -19,6 +19,14 @@ nothing_stored block = None
 -- each block that was known is known, with the same bytes
 abbrev pub Extends : Contents → Contents → Type 0
 Extends old new = (block : Block) (bytes : List ℕ) → old block ≡ Some bytes → new block ≡ Some bytes
+
+-- these blocks are known
+abbrev pub AreStored : Contents → List Block → Type 0
+AreStored stored blocks = (block : Block) → Contains blocks block → (bytes : List ℕ) × (stored block ≡ Some bytes)
+
+-- no block is there twice
+abbrev pub AreDistinct : List Block → Type 0
+AreDistinct blocks = AllPairs (λ block later. block ≢ later) blocks
 
 -- this block is known too, and no other
 pub record Adds (old new : Contents) (block : Block) (bytes : List ℕ) : Type 0 where

@@ -8,7 +8,9 @@ pub mod Losses
 pub mod Places
 pub mod Plans
 pub mod Reading
+pub mod Releases
 pub mod Shapes
 pub mod Spaces
 pub mod Steps
 pub mod Store
+pub mod Uses

@@ -10,6 +10,7 @@ use Rattle.block_store.specs.Blocks.{Contents, Extends, Adds}
 use Rattle.block_store.specs.Places.{IsCopy, IsExtentAt}
 use Rattle.block_store.specs.Places.{planned as planned_marks}
 use Rattle.block_store.specs.Store.{Store, outs, is_out, ArePlaced, Holds, Spares, SparesBut}
+use Rattle.block_store.specs.Uses.{CopiesLieOn, IsInUse}
 
 -- the writes would store a copy of the block, and each of them is done, is due, or is to a disk that is out
 pub record IsOnTheWay (store : Store) (writes : List ColumnWrite) (extent : Extent) (bytes : List ℕ) : Type 0 where
@@ -47,6 +48,8 @@ pub record Plans (store : Store) (stored planned : Contents) : Type 0 where
   pub kept : Extends stored planned
   pub placed : ArePlaced store.spaces planned_marks planned
   pub born : (block : Block) (bytes : List ℕ) → planned block ≡ Some bytes → stored block ≡ None → store.spans.group ≤ block.birth
+  -- each sector of what is new is in use
+  pub in_use : (block : Block) (bytes : List ℕ) → planned block ≡ Some bytes → stored block ≡ None → CopiesLieOn IsInUse store.spaces planned_marks block
   -- the writes of each copy that is new
   pub writes_of : Block → ℕ → List ColumnWrite
   pub on_the_way : (block : Block) (bytes : List ℕ) (i : ℕ) (extent : Extent) → planned block ≡ Some bytes → stored block ≡ None

@@ -2,6 +2,7 @@
 ghost use Rattle.block_store.specs.Elsewhere.{BlocksLieInSectors, ReadsSpare, WritesElsewhereKeep};
 ghost use Rattle.block_store.specs.Forgetting.{FewerAreHeld, FewerArePlanned};
 ghost use Rattle.block_store.specs.Losses.{LossesAreNotTolerable};
+ghost use Rattle.block_store.specs.Releases.{PlacesSpare};
 
 use raidz_io::{few_are_not_more, reads_keep_contents, stands_while_kept, stands_with_more_absent};
 
@@ -18,6 +19,11 @@ pub fn fewer_are_planned()
 /// The bytes of a block lie in those sectors of its vdev's disks that are for blocks.
 pub fn blocks_lie_in_sectors()
     ensures { BlocksLieInSectors }
+{}
+
+/// As further blocks are placed, sectors that aren't free stay as they were.
+pub fn places_spare()
+    ensures { PlacesSpare }
 {}
 
 /// Reads spare all that stood.

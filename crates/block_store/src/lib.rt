@@ -10,6 +10,7 @@ mod laws;
 mod plan;
 mod read;
 mod refusal;
+mod releasing;
 mod shape;
 mod space;
 mod store;
@@ -19,7 +20,7 @@ pub use create::{MAX_METASLAB_SHIFT, MIN_METASLAB_SHIFT, VdevConfig, sectors_for
 pub use device::FailedDisk;
 pub use laws::{
     blocks_lie_in_sectors, fewer_are_held, fewer_are_planned, losses_are_not_tolerable,
-    reads_spare, writes_elsewhere_keep,
+    places_spare, reads_spare, writes_elsewhere_keep,
 };
 pub use refusal::Refusal;
 pub use shape::VdevShape;

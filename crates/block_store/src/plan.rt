@@ -130,7 +130,7 @@ impl<D: Disk + Drop> BlockStore<D> {
     }
 
     /// The plan's group is that one.
-    fn enter(&mut self, group: u64)
+    pub(crate) fn enter(&mut self, group: u64)
         ensures disks { self.new.disks ≡ self.old.disks }
         ensures out { self.new.out ≡ self.old.out }
         ensures spaces { self.new.spaces ≡ self.old.spaces }

@@ -76,7 +76,7 @@ impl<D: Disk + Drop> BlockStore<D> {
 }
 
 /// The places of the copies.
-fn places_of(copies: Copies) -> ArrayVec<Dva, 3>
+pub(crate) fn places_of(copies: Copies) -> ArrayVec<Dva, 3>
     ensures { result.items ≡ dvas copies }
 {
     let mut places = ArrayVec::new();
@@ -129,7 +129,7 @@ impl<D: Disk + Drop> BlockStore<D> {
     }
 
     /// Whether the place is in a vdev that is there, and a copy of a block of so many data sectors may lie there.
-    fn is_place(&self, place: Dva, sectors: u32) -> bool
+    pub(crate) fn is_place(&self, place: Dva, sectors: u32) -> bool
         ensures { IsTrue result ↔ IsPlaceIn self.now.spaces sectors place }
     {
         match self.spaces.get(place.vdev as usize) {

@@ -1,11 +1,12 @@
 //! The space of a vdev.
-ghost use Rattle.std.specs.Prelude.{◌≡◌, ◌<◌, ◌^◌, ◌↔◌, IsTrue, OnErr, IfOk};
+ghost use Rattle.std.specs.Prelude.{◌≡◌, ◌<◌, ◌^◌, ◌↔◌, IsTrue, OnOk, OnErr, IfOk};
 ghost use Rattle.block_store.specs.Shapes.{metaslabs};
 
 use crate::shape::VdevShape;
 use block_pointer::Dva;
 use metaslab::Refusal;
 use metaslab_group::MetaslabGroup;
+use space_map::Run;
 use std::alloc::{AllocError, Global};
 use std::marker::Model;
 
@@ -38,9 +39,10 @@ impl Model for VdevMetaslabs {
 }
 
 impl VdevMetaslabs {
-    ghost use Rattle.metaslab.specs.State.{Free, InUse};
-    ghost use Rattle.metaslab_group.specs.Spaces.{ChangesIn};
-    ghost use Rattle.block_store.specs.Places.{IsEmpty, HasRoomIn, run_at};
+    ghost use Rattle.metaslab.specs.State.{Free, InUse, Released};
+    ghost use Rattle.metaslab_group.specs.Spaces.{ChangesIn, AreSettled, AreSettledInPart};
+    ghost use Rattle.block_store.specs.Places.{IsEmpty, HasRoomIn, EachSector, run_at};
+    ghost use Rattle.block_store.specs.Uses.{IsInUse};
     ghost use Rattle.block_store.specs.Shapes.{metaslab_of, IsPlace};
 
     /// The space of a vdev without blocks.
@@ -114,6 +116,57 @@ impl VdevMetaslabs {
             offset: metaslab as u64 * size + start,
             allocated: allocated as u32,
         })
+    }
+
+    /// Whether all sectors of a place are in use, beside what is planned.
+    pub(crate) fn is_in_use(&self, sectors: u32, place: Dva) -> bool
+        requires some { 0 < sectors }
+        requires is_place { IsPlace self.now.shape sectors place }
+        ensures { IsTrue result ↔ EachSector IsInUse self.now.planned self.now.shape place }
+    {
+        let run = self.run_at(place);
+        self.metaslabs
+            .is_in_use(self.shape.metaslab_of(place) as usize, run)
+    }
+
+    /// The sectors of a place in its metaslab.
+    fn run_at(&self, place: Dva) -> Run
+        ensures { result ≡ run_at self.now.shape place }
+    {
+        let _ = &self.metaslabs;
+        Run {
+            start: place.offset % self.shape.metaslab_sectors(),
+            len: u64::from(place.allocated),
+        }
+    }
+
+    /// Gives the sectors of a place back with the planned group. An error, that memory is short, changes nothing.
+    pub(crate) fn release(&mut self, sectors: u32, place: Dva, group: u64) -> Result<(), AllocError>
+        requires some { 0 < sectors }
+        requires is_place { IsPlace self.old.shape sectors place }
+        requires in_use { EachSector IsInUse self.old.planned self.old.shape place }
+        ensures released { OnOk result (ChangesIn self.old.planned self.new.planned
+            (metaslab_of self.old.shape place) (run_at self.old.shape place)
+            InUse (Released group)) }
+        ensures rest { self.new ≡ record self.old { planned = self.new.planned } }
+        ensures err { OnErr result (self.new ≡ self.old) }
+    {
+        let run = self.run_at(place);
+        let metaslab = self.shape.metaslab_of(place) as usize;
+        self.metaslabs.release(metaslab, run, group)
+    }
+
+    /// Drops the blocks of the plan, and makes free what is due to a group. After an error, that memory is short, that was
+    /// done in some metaslabs and not in others.
+    pub(crate) fn settle(&mut self, group: u64) -> Result<(), AllocError>
+        ensures settled { OnOk result
+            (AreSettled self.old.pins group self.old.kept self.new.kept) }
+        ensures some { AreSettledInPart self.old.pins group self.old.kept self.new.kept }
+        ensures rest { self.new
+            ≡ record self.old { kept = self.new.kept; planned = self.new.kept } }
+    {
+        let _ = &self.shape;
+        self.metaslabs.settle(group)
     }
 
     /// Takes the blocks of the plan as blocks that are there.

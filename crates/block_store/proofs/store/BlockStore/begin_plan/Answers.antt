@@ -1,0 +1,53 @@
+use Rattle.std.proofs.Common.{◌≡◌, List, ap, subst, ◌∙◌}
+use Rattle.std.specs.Prelude.{OnOk, Contains}
+use Rattle.block_store.specs.Places.{shapes_of}
+use Rattle.block_store.specs.Releases.{AreSettledIn, AreSettledInSome}
+use Rattle.block_store.specs.Spaces.{VdevSpace}
+use Rattle.block_store.specs.Store.{Store}
+use Rattle.block_store.specs.Uses.{Passes}
+use Rattle.block_store.proofs.Lost.{lose_in}
+use Rattle.block_store.proofs.Planning.{nothing}
+use Rattle.block_store.proofs.Settled.{lies_settled, begun_settled}
+use Rattle.block_store.proofs.Taking.{laid_out_too}
+use Rattle.block_store.proofs.store.BlockStore.begin_plan.Goals as goal
+
+pub invariant_of-self : goal.invariant_of-self
+invariant_of-self g c = record {
+  laid_out = laid_out_too c.self.inside.disks.starts c.self.inside.spaces.items _ c.settle_each.ensures.shapes c.self.invariant.laid_out;
+  disks = c.self.invariant.disks;
+  spans = c.self.invariant.spans;
+  reached = c.self.invariant.reached;
+  due = λ write held. absurd (nothing write (subst (λ xs. Contains xs write) c.clear.ensures.items held));
+}
+
+pub returns-clause-settled : goal.returns-clause-settled
+returns-clause-settled g c =
+    let spaces : c.self.inside.spaces.items ≡ c.args.self.now.spaces = ap (λ (s : Store). s.spaces) c.self.view_is ∙ c.enter.ensures.spaces in
+    subst (λ xs. OnOk c.settle_each.result (AreSettledIn c.args.group xs c.settle_each.new.spaces.items)) spaces c.settle_each.ensures.settled
+
+pub returns-clause-some : goal.returns-clause-some
+returns-clause-some g c =
+    let spaces : c.self.inside.spaces.items ≡ c.args.self.now.spaces = ap (λ (s : Store). s.spaces) c.self.view_is ∙ c.enter.ensures.spaces in
+    subst (λ xs. AreSettledInSome c.args.group xs c.settle_each.new.spaces.items) spaces c.settle_each.ensures.some
+
+pub returns-clause-stays : goal.returns-clause-stays
+returns-clause-stays g c = λ test later block to lies i place at.
+    let spaces : c.self.inside.spaces.items ≡ c.args.self.now.spaces = ap (λ (s : Store). s.spaces) c.self.view_is ∙ c.enter.ensures.spaces in
+    let shapes : shapes_of c.settle_each.new.spaces.items ≡ shapes_of c.args.self.now.spaces = c.settle_each.ensures.shapes ∙ ap shapes_of spaces in
+    lies_settled c.args.group (Passes test) (Passes later) c.args.self.now.spaces c.settle_each.new.spaces.items block.property.sectors place to shapes
+    (returns-clause-some g c) (lies i place at)
+
+pub returns-clause-plans : goal.returns-clause-plans
+returns-clause-plans g c = λ stored holds spared.
+    let spaces : c.self.inside.spaces.items ≡ c.args.self.now.spaces = ap (λ (s : Store). s.spaces) c.self.view_is ∙ c.enter.ensures.spaces in
+    let shapes : shapes_of c.settle_each.new.spaces.items ≡ shapes_of c.args.self.now.spaces = c.settle_each.ensures.shapes ∙ ap shapes_of spaces in
+    let new : Store = record {
+      disks = c.self.inside.disks;
+      spaces = c.settle_each.new.spaces.items;
+      out = c.self.inside.out.items;
+      spans = record { since = c.self.inside.since.items; group = c.self.inside.group };
+      due = c.clear.new.self.items;
+    } in
+    begun_settled c.args.group c.args.self.now new (ap (λ (s : Store). s.disks) c.self.view_is ∙ c.enter.ensures.disks)
+    (lose_in c.args.self.now new c.args.group (ap (λ (s : Store). s.out) c.self.view_is ∙ c.enter.ensures.out) (ap (λ (s : Store). s.spans) c.self.view_is ∙ c.enter.ensures.spans))
+    shapes (returns-clause-some g c) c.settle_each.ensures.free c.clear.ensures.items stored holds spared
