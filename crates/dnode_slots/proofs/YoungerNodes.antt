@@ -1,7 +1,7 @@
 -- The blocks of the dnodes that were born after a group, and the objects that they have.
-use Rattle.std.proofs.Common.{All, ◌≡◌, ◌⊎◌, ℕ, zero, suc, ◌+◌, ◌*◌, ◌/◌, ◌^◌, ◌-◌, ◌<◌, ◌≤◌, Bool, true, false, cond, List, [], ◌∷◌, ◌++◌, length, get_or, Option, Some, None, Contains, inl, inr, refl, sym, ap, ◌∙◌, subst, arith}
-use Rattle.std.specs.Prelude.{filter, nat_lt}
-use Rattle.std.specs.List.{flat_map, range_with_len}
+use Rattle.std.proofs.Common.{◌≡◌, ℕ, zero, suc, ◌+◌, ◌*◌, ◌/◌, ◌^◌, ◌-◌, ◌<◌, ◌≤◌, Bool, true, false, cond, List, [], ◌∷◌, ◌++◌, length, get_or, Option, Some, None, Contains, inl, inr, refl, sym, ap, ◌∙◌, subst, arith}
+use Rattle.std.specs.Prelude.{nat_lt}
+use Rattle.std.specs.List.{flat_map}
 use Rattle.std.proofs.lemmas.List.Elements.{Contains-get_or, filter-append}
 use Rattle.block_pointer.specs.declared.block.Block.{Block}
 use Rattle.block_store.specs.Blocks.{Contents}
@@ -17,13 +17,12 @@ use Rattle.dnode.specs.ObjectSet.{FitsObjectSet}
 use Rattle.dnode_tree.proofs.Ages.{height_has}
 use Rattle.dnode_tree.proofs.AllPicked.{born_after, sees_born, all_walked, within_refused, tree_born, all_younger}
 use Rattle.dnode_tree.proofs.Ids.{HaveIds, HasId, at_id, part_ids}
-use Rattle.dnode_tree.proofs.Picking.{picked_first, passed_over}
 use Rattle.dnode_tree.specs.Younger.{is_younger, younger, AreWalkedWhere}
 use Rattle.dnode_slots.proofs.Objects.{none_there, as_many_objects}
 use Rattle.dnode_slots.specs.declared.within.FoundNode.{FoundNode}
 use Rattle.dnode_slots.specs.Nodes.{HasNodes, birth_of}
-use Rattle.dnode_slots.specs.Within.{used, objects_from, objects_in, objects_of, IsBlockRefused, IsOneRefused, AreNodesRefused}
-use Rattle.dnode_slots.specs.Younger.{younger_nodes, IsOneYoungerRefused, AreYoungerRefused}
+use Rattle.dnode_slots.specs.Within.{used, objects_from, objects_in, objects_of, IsBlockRefused, AreNodesRefused}
+use Rattle.dnode_slots.specs.Younger.{younger_nodes, AreYoungerRefused}
 
 -- ---- the objects of one block
 

@@ -1,5 +1,5 @@
 -- Walks that pick each block that has a spelling: they are walks over all blocks.
-use Rattle.std.proofs.Common.{◌≡◌, ◌⊎◌, ℕ, zero, suc, ◌-◌, ◌/◌, ◌%◌, ◌*◌, ◌+◌, ◌^◌, ◌<◌, Bool, true, cond, List, [], ◌∷◌, get_or, Option, None, Contains, inl, inr, refl, ap, sym, ◌∙◌, subst, arith}
+use Rattle.std.proofs.Common.{◌≡◌, ℕ, zero, suc, ◌-◌, ◌/◌, ◌%◌, ◌*◌, ◌+◌, ◌^◌, ◌<◌, Bool, true, cond, List, [], ◌∷◌, get_or, Option, None, Contains, inl, inr, refl, ap, subst, arith}
 use Rattle.std.specs.Prelude.{nat_lt}
 use Rattle.std.specs.List.{AllByRecursion}
 use Rattle.std.proofs.lemmas.Bool.Decides.{nat_tests}

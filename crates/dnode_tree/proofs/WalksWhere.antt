@@ -17,7 +17,7 @@ use Rattle.block_store.specs.Reading.{Asks, IsReadable}
 use Rattle.block_store.specs.Steps.{OnlyReadsBlocks}
 use Rattle.block_store.specs.Store.{Store}
 use Rattle.dnode_tree.specs.Subtree.{asked_of, joined}
-use Rattle.dnode_tree.specs.Ways.{AreReadAs, Reached, reached, asked_there, IsBlockFault, IsCause}
+use Rattle.dnode_tree.specs.Ways.{AreReadAs, Reached, reached, IsBlockFault, IsCause}
 use Rattle.dnode_tree.specs.Younger.{seen, IsWalkedWhere, ComesWhere, IsRefusedWhere}
 use Rattle.dnode_tree.proofs.Spans.{span_positive, span_up}
 use Rattle.dnode_tree.proofs.WayLemmas.{fault_of, fault_on}

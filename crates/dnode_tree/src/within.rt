@@ -57,12 +57,12 @@ pub fn walk_within<D: Disk + Drop>(
         → indirect_count blocks ≤ left.old → AnswersAreTrue store.old store.new
         → IsForLoss refusal) }
 {
-    let walk = TreeWalk {
+    TreeWalk {
         node,
         since: None,
         missing,
-    };
-    walk.walk(store, alloc, birth, left)
+    }
+    .walk(store, alloc, birth, left)
 }
 
 /// All blocks of an object that were born after the transaction group `since`, in the order of `walk`, of an object that may
@@ -107,12 +107,12 @@ pub fn walk_younger<D: Disk + Drop>(
         → indirect_count (younger since blocks) ≤ left.old → AnswersAreTrue store.old store.new
         → IsForLoss refusal) }
 {
-    let walk = TreeWalk {
+    TreeWalk {
         node,
         since: Some(since),
         missing,
-    };
-    walk.walk(store, alloc, birth, left)
+    }
+    .walk(store, alloc, birth, left)
 }
 
 /// What a walk carries through a tree.

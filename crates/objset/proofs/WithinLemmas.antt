@@ -1,31 +1,17 @@
 -- The objects of a set, and the trees of their nodes.
-use Rattle.std.proofs.Common.{All, ◌≡◌, ℕ, zero, suc, ◌+◌, ◌<◌, ◌≤◌, List, [], ◌∷◌, ◌++◌, length, take, get_or, Option, Some, None, Contains, refl, sym, ap, ◌∙◌, subst, arith, inl, inr}
+use Rattle.std.proofs.Common.{◌≡◌, ℕ, zero, suc, ◌+◌, ◌<◌, ◌≤◌, List, [], ◌∷◌, ◌++◌, length, get_or, Option, Contains, refl, sym, ap, subst, arith, inl, inr}
 use Rattle.std.specs.List.{flat_map, range_with_len}
-use Rattle.std.proofs.lemmas.List.{take_all}
 use Rattle.std.proofs.lemmas.List.Elements.{Contains-append_cases}
 use Rattle.block_pointer.specs.declared.block.Block.{Block}
 use Rattle.block_store.specs.Blocks.{Contents}
-use Rattle.dnode.specs.declared.dnode.Dnode.{Dnode}
-use Rattle.dnode.specs.declared.dnode.Dnode.TheVariants.{Free, Object as Node}
 use Rattle.dnode.specs.declared.object_set.ObjectSet.{ObjectSet}
 use Rattle.dnode_slots.specs.declared.within.FoundNode.{FoundNode}
-use Rattle.dnode_slots.specs.Nodes.{birth_of}
-use Rattle.block_store.specs.declared.refusal.Refusal.{Refusal}
-use Rattle.block_store.specs.Steps.{OnlyReadsBlocks}
-use Rattle.block_store.specs.Store.{Store}
-use Rattle.dnode_slots.specs.Within.{used, objects_from, objects_of, IsNodeOfOne}
-use Rattle.dnode_tree.proofs.Collecting.{joined-take_more}
-use Rattle.dnode_tree.proofs.Enough.{counted_within}
 use Rattle.dnode_tree.proofs.Exchanging.{both_once}
 use Rattle.dnode_tree.proofs.SameBlocks.{once_counted, distinct_counted}
 use Rattle.dnode_tree.specs.Rewriting.{AreDistinct}
-use Rattle.dnode_tree.specs.Subtree.{joined}
 use Rattle.dnode_tree.specs.Tree.{IsTree}
-use Rattle.dnode_tree.specs.Ways.{AreWalked}
-use Rattle.dnode_tree.specs.Within.{indirect_count, IsWithinRefused}
 use Rattle.objset.specs.Laws.{HasEachOnce}
-use Rattle.objset.specs.Objects.{Object, IsObject, AreObjects}
-use Rattle.objset.specs.Within.{blocks_of_objects, blocks_of_set, reads_of, IsObjectWithinRefused}
+use Rattle.objset.specs.Within.{blocks_of_set}
 
 -- each node has a tree of these blocks
 abbrev pub HaveTrees : Contents → List FoundNode → List (List Block) → Type 0

@@ -1,13 +1,12 @@
 -- The objects of a set, and the younger blocks of the trees of their nodes.
 use Rattle.std.proofs.Common.{All, ◌≡◌, ◌≢◌, ℕ, zero, suc, ◌+◌, ◌/◌, ◌%◌, ◌<◌, ◌≤◌, Bool, true, false, cond, List, [], ◌∷◌, ◌++◌, length, take, get_or, Option, Some, None, Contains, refl, sym, ap, ◌∙◌, subst, arith, inl, inr}
-use Rattle.std.specs.Prelude.{filter, map, nat_lt}
+use Rattle.std.specs.Prelude.{filter, nat_lt}
 use Rattle.std.specs.List.{flat_map, range_with_len}
 use Rattle.std.proofs.lemmas.Bool.Decides.{nat_tests}
 use Rattle.std.proofs.lemmas.List.{take_all, length-map, get_or-map}
-use Rattle.std.proofs.lemmas.List.Elements.{filter-append, Contains-append_cases}
+use Rattle.std.proofs.lemmas.List.Elements.{filter-append}
 use Rattle.std.proofs.lemmas.List.Kept.{AllPairs-filter}
 use Rattle.block_pointer.specs.declared.block.Block.{Block}
-use Rattle.block_pointer.specs.Pointer.{Fits}
 use Rattle.block_store.specs.Blocks.{Contents}
 use Rattle.block_store.specs.declared.refusal.Refusal.{Refusal}
 use Rattle.block_store.specs.declared.space.VdevSpace.{VdevSpace}
@@ -20,7 +19,7 @@ use Rattle.dnode.specs.declared.object_set.ObjectSet.{ObjectSet}
 use Rattle.dnode.specs.Node.{FitsNode}
 use Rattle.dnode.specs.ObjectSet.{FitsObjectSet}
 use Rattle.dnode_slots.specs.declared.within.FoundNode.{FoundNode}
-use Rattle.dnode_slots.specs.Nodes.{IsNodeIn, AreNodesOf, birth_of}
+use Rattle.dnode_slots.specs.Nodes.{IsNodeIn, birth_of}
 use Rattle.dnode_slots.specs.Within.{used, objects_from, objects_of, IsNodeOfOne}
 use Rattle.dnode_slots.specs.Younger.{younger_nodes}
 use Rattle.dnode_slots.proofs.Objects.{node_fits}

@@ -1,4 +1,4 @@
-use Rattle.std.proofs.Common.{◌≡◌, ◌≤◌, ◌∙◌, List, ap, sym, subst}
+use Rattle.std.proofs.Common.{◌≡◌, ◌≤◌, ◌∙◌, ap, sym, subst}
 use Rattle.std.proofs.lemmas.Result.{IfOk-weaker, IfErr-weaker}
 use Rattle.dnode_tree.specs.Younger.{younger}
 use Rattle.objset.proofs.YoungerLemmas.{own_younger, objects_younger, set_younger, all_set_walked, all_set_refused}

@@ -1,11 +1,9 @@
-use Rattle.std.proofs.Common.{◌≡◌, ◌++◌, ℕ, true, false, ap, [], ◌∷◌, List, inl, inr, IsTrue, append-nil, suc, ◌-◌, refl, subst, sym, ◌∙◌, arith}
+use Rattle.std.proofs.Common.{◌≡◌, ◌++◌, true, false, ap, [], ◌∷◌, List, inl, inr, IsTrue, append-nil, suc, ◌-◌, refl, subst, sym, ◌∙◌, arith}
 use Rattle.block_store.specs.Reading.{Asks}
 use Rattle.block_store.proofs.Steps.{reads_on}
 use Rattle.block_pointer.specs.declared.block.Block.{Block}
 use Rattle.block_pointer.specs.declared.pointer.BlockPtr.{BlockPtr}
-use Rattle.block_pointer.specs.declared.pointer.BlockPtr.TheVariants.{Hole, Block as At}
 use Rattle.block_store.specs.declared.block.Asked.{Asked}
-use Rattle.block_store.specs.declared.refusal.Refusal.TheVariants.{BadPointer}
 use Rattle.block_store.specs.declared.space.VdevSpace.{VdevSpace}
 use Rattle.dnode_tree.proofs.Collecting.{parts_below, part_at}
 use Rattle.dnode_tree.proofs.Counts.{data_counted, indirect_counted}
