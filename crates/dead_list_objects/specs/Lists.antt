@@ -3,7 +3,7 @@ use Rattle.std.specs.Prelude.{ℕ, ◌≡◌, ◌⊎◌, List, Option}
 use Rattle.block_pointer.specs.declared.block.Block.{Block}
 use Rattle.block_store.specs.Losses.{IsForLoss}
 use Rattle.block_store.specs.declared.refusal.Refusal.{Refusal as StoreRefusal}
-use Rattle.block_store.specs.declared.space.VdevSpace.{VdevSpace}
+use Rattle.block_store.specs.Spaces.{VdevSpace}
 use Rattle.block_store.specs.Store.{Store}
 use Rattle.dead_list.specs.Rows.{SpellsList, SpellsNoList}
 use Rattle.dnode.specs.declared.object_set.ObjectSet.{ObjectSet}

@@ -9,6 +9,7 @@ mod Refusing
 mod SlotBytes
 pub mod Objects
 pub mod WithinLemmas
+pub mod YoungerNodes
 pub mod Spellings
 pub mod Readings
 pub mod ReadRefusals

@@ -1,5 +1,5 @@
 -- The blocks of the dnodes, one after the other.
-use Rattle.std.proofs.Common.{All, ◌≡◌, ◌≢◌, ℕ, ◌+◌, ◌*◌, ◌<◌, ◌≤◌, List, [], ◌∷◌, ◌++◌, length, take, drop, get_or, Option, Some, None, Contains, refl, sym, ap, ◌∙◌, subst, arith, append-nil, inr, true, false}
+use Rattle.std.proofs.Common.{All, ◌≡◌, ◌≢◌, ℕ, ◌+◌, ◌*◌, ◌<◌, ◌≤◌, List, [], ◌∷◌, ◌++◌, length, take, drop, get_or, Option, Some, None, Contains, refl, sym, ap, ◌∙◌, subst, arith, append-nil, true, false}
 use Rattle.std.specs.Prelude.{not, ◌==◌}
 use Rattle.std.specs.List.{flat_map}
 use Rattle.std.proofs.lemmas.Bool.{ne_eqb, eq-eqb}
@@ -10,20 +10,15 @@ use Rattle.std.proofs.lemmas.List.Sums.{count_by_more_no, count_by_more_yes, cou
 use Rattle.block_pointer.specs.declared.block.Block.{Block}
 use Rattle.block_store.specs.Blocks.{Contents}
 use Rattle.block_store.specs.Spaces.{VdevSpace}
-use Rattle.block_store.specs.declared.refusal.Refusal.{Refusal}
-use Rattle.block_store.specs.Steps.{OnlyReadsBlocks}
-use Rattle.block_store.specs.Store.{Store}
 use Rattle.dnode.specs.declared.dnode.Dnode.{Dnode}
 use Rattle.dnode.specs.declared.node.ObjectNode.{ObjectNode}
-use Rattle.dnode.specs.declared.object_set.ObjectSet.{ObjectSet}
 use Rattle.dnode_tree.proofs.Ids.{HaveIds, HasId, IsDataOf, at_id, id_at}
-use Rattle.dnode_tree.specs.Ways.{AreWalked}
 use Rattle.dnode_tree.specs.Within.{indirect_count}
 use Rattle.dnode_slots.proofs.BlockLists.{slots_of_block}
 use Rattle.dnode_slots.specs.declared.within.FoundNode.{FoundNode}
 use Rattle.dnode_slots.specs.Nodes.{IsNodeIn, AreNodesOf}
 use Rattle.dnode_slots.specs.Slots.{HasSlots}
-use Rattle.dnode_slots.specs.Within.{IsNodeFrom, IsNodeOfOne, IsBlockRefused, AreNodesRefused}
+use Rattle.dnode_slots.specs.Within.{IsNodeFrom, IsNodeOfOne}
 
 -- ---- counts
 
@@ -99,22 +94,6 @@ module _ (stored : Contents) (node : ObjectNode) (array : ℕ → Option (List �
 
 pub slots_there : (array : ℕ → Option (List ℕ)) (nodes : ℕ → Dnode) (id : ℕ) (bytes : List ℕ) → array id ≡ Some bytes → AreNodesOf array nodes → HasSlots bytes id nodes
 slots_there array nodes id bytes is are place low = subst (λ found. IsNodeIn found place (nodes (32 * id + place))) is (slots_of_block array nodes id place low are)
-
--- ---- refusals
-
-pub one_refused : (old mid new : Store) (missing : List ℕ) (set : ObjectSet) (birth left : ℕ) (refusal : Refusal) (blocks items : List Block) (k : ℕ) (block other : Block)
-    → items ≡ blocks → AreWalked old.spaces set.dnodes birth blocks → k < length items → block ≡ get_or items k other → block.property.level ≡ 0
-    → OnlyReadsBlocks old mid missing → IsBlockRefused mid new missing block left refusal → AreNodesRefused old new missing set birth left refusal
-one_refused old mid new missing set birth left refusal blocks items k block other same walked low is data_level before why = inr (record {
-  blocks = blocks;
-  walked = walked;
-  block = block;
-  is_one = subst (λ bs. Contains bs block) same (subst (λ b. Contains items b) (sym is) (Contains-get_or items k other low));
-  data_level = data_level;
-  mid = mid;
-  before = before;
-  why = why;
-})
 
 -- ---- where the objects are from
 

@@ -5,3 +5,4 @@ pub mod Sets
 pub mod Slots
 pub mod Writes
 pub mod Within
+pub mod Younger

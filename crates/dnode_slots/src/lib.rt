@@ -14,5 +14,5 @@ pub use block_store::Refusal;
 pub use putting::put_many;
 pub use reading::{FoundDnode, get};
 pub use set_blocks::{plan_set, read_set};
-pub use within::{FoundNode, FoundNodes, nodes_within};
+pub use within::{FoundNode, FoundNodes, nodes_within, nodes_younger};
 pub use writes::{NodeWrite, SetRewrite};

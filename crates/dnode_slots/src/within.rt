@@ -10,9 +10,11 @@ ghost use Rattle.block_store.specs.Store.{Holds};
 ghost use Rattle.block_store.specs.Steps.{OnlyReadsBlocks, AnswersAreTrue};
 ghost use Rattle.dnode_tree.specs.Rewriting.{AreDistinct};
 ghost use Rattle.dnode_tree.specs.Ways.{AreWalked};
+ghost use Rattle.dnode_tree.specs.Younger.{is_younger, younger, AreWalkedWhere};
 ghost use Rattle.dnode_slots.specs.Nodes.{HasNodes, IsNodeIn};
 ghost use Rattle.dnode_slots.specs.Slots.{HasSlots};
 ghost use Rattle.dnode_slots.specs.Within.{asked_of_nodes, objects_of, objects_in, IsNodeAt, IsNodeFrom, IsNodeOfOne, IsBlockRefused, AreNodesRefused};
+ghost use Rattle.dnode_slots.specs.Younger.{younger_nodes, AreYoungerRefused};
 
 use crate::slots::{NODES_A_BLOCK, node_at};
 use block_pointer::{Block, Property};
@@ -84,7 +86,54 @@ pub fn nodes_within<D: Disk + Drop>(
         → HasNodes stored birth set.now nodes blocks → AreDistinct blocks
         → length blocks ≤ left.old → AnswersAreTrue store.old store.new → IsForLoss refusal) }
 {
-    let blocks = dnode_tree::walk_within(&set.dnodes, store, alloc, birth, left, missing)?;
+    nodes_younger(set, store, alloc, birth, 0, left, missing)
+}
+
+/// The blocks of the dnodes that were born after the transaction group `since`, as `dnode_tree::walk_younger` finds them, and
+/// the objects that have their dnodes in them, by their numbers: the others have no younger blocks. At most as many blocks are
+/// read as are left to be read, and each that is read is counted off: each of the blocks that are found. What else is asked is
+/// what `nodes_within` asks.
+pub fn nodes_younger<D: Disk + Drop>(
+    set: &ObjectSet,
+    store: &mut BlockStore<D>,
+    alloc: Global,
+    birth: u64,
+    since: u64,
+    left: &mut u64,
+    missing: &[usize],
+) -> Result<FoundNodes, Refusal>
+    requires { FitsObjectSet set.now }
+    ensures reads { OnlyReadsBlocks store.old store.new missing.now }
+    ensures fewer { left.new ≤ left.old }
+    ensures fits { IfOk result (λ found. All (λ it. FitsNode it.node) found.nodes.items) }
+    ensures value { IfOk result (λ found. (stored : Contents) (nodes : ℕ → Dnode)
+        (blocks : List Block) → Holds store.old stored
+        → (has : HasNodes stored birth set.now nodes blocks) → AnswersAreTrue store.old store.new
+        → (found.blocks.items ≡ younger since blocks)
+        × (found.nodes.items ≡ younger_nodes since (objects_of set.now nodes has.births))) }
+
+    // Whatever the set is: each of these blocks was read once, and on a refusal its cause.
+    ensures found { IfOk result (λ found. AreWalkedWhere (is_younger since)
+        store.old.spaces set.now.dnodes birth found.blocks.items) }
+    ensures younger { IfOk result (λ found.
+        All (λ block. since < block.birth) found.blocks.items) }
+    ensures once { IfOk result (λ found. AreDistinct found.blocks.items) }
+    ensures from { IfOk result (λ found.
+        All (IsNodeOfOne store.old.spaces found.blocks.items) found.nodes.items) }
+    ensures count { IfOk result (λ found. left.old ≡ left.new + length found.blocks.items) }
+    ensures refused { IfErr result
+        (AreYoungerRefused since store.old store.new missing.now set.now birth left.new) }
+    ensures cause { IfErr result (λ refusal. refusal ≢ Refusal.NoSpace) }
+
+    // And a whole set that has each younger block once is read, over disks that answer truly, where
+    // as many are left, unless too many disks miss of a block.
+    ensures known { IfErr result (λ refusal. (stored : Contents) (nodes : ℕ → Dnode)
+        (blocks : List Block) → Holds store.old stored
+        → HasNodes stored birth set.now nodes blocks → AreDistinct (younger since blocks)
+        → length (younger since blocks) ≤ left.old → AnswersAreTrue store.old store.new
+        → IsForLoss refusal) }
+{
+    let blocks = dnode_tree::walk_younger(&set.dnodes, store, alloc, birth, since, left, missing)?;
     let mut nodes = Vec::new(alloc);
     for block in &blocks {
         if block.property.level == 0 {

@@ -25,6 +25,10 @@ pub mod WholeTree
 pub mod Raised
 pub mod WayLemmas
 pub mod Walks
+pub mod WalksWhere
+pub mod Picking
+pub mod PickedWalks
+pub mod AllPicked
 pub mod Standing
 pub mod Leaving
 pub mod Losses

@@ -17,7 +17,7 @@ in_joined [] k block low held = absurd (omega (arith, low))
 in_joined (part ∷ parts) zero block low held = Contains-append_left part (joined parts) block held
 in_joined (part ∷ parts) (suc k) block low held = Contains-append_right part (joined parts) block (in_joined parts k block (omega (arith, low)) held)
 
-out_of_joined : (parts : List (List Block)) (block : Block) → Contains (joined parts) block → (k : ℕ) × (k < length parts) × Contains (get_or parts k []) block
+pub out_of_joined : (parts : List (List Block)) (block : Block) → Contains (joined parts) block → (k : ℕ) × (k < length parts) × Contains (get_or parts k []) block
 out_of_joined [] block held = absurd (omega (arith, held.1))
 out_of_joined (part ∷ parts) block held =
     elim (Contains-append_cases part (joined parts) block held) [
@@ -28,7 +28,7 @@ out_of_joined (part ∷ parts) block held =
 pub first_in : (block : Block) (rest : List Block) → Contains (block ∷ rest) block
 first_in block rest = (0, omega arith, refl)
 
-only_one : (x y : Block) → Contains (x ∷ []) y → x ≡ y
+pub only_one : (x y : Block) → Contains (x ∷ []) y → x ≡ y
 only_one x y (zero, low, is) = is
 only_one x y (suc k, low, is) = absurd (omega (arith, low))
 
@@ -63,7 +63,7 @@ pub trees_stand : TreesStandOnTheirBlocks
 trees_stand old new birth node array blocks keeps tree =
     record { root = subtree_stands old new (property_of node) _ 0 birth node.pointer array blocks keeps tree.root; behind = tree.behind }
 
-blocks_known : (stored : Contents) (property : ℕ → Property) (level first birth : ℕ) (pointer : BlockPtr) (array : ℕ → Option (List ℕ)) (blocks : List Block)
+pub blocks_known : (stored : Contents) (property : ℕ → Property) (level first birth : ℕ) (pointer : BlockPtr) (array : ℕ → Option (List ℕ)) (blocks : List Block)
     → IsSubtree stored property level first birth pointer array blocks → (block : Block) → Contains blocks block → (block.birth ≤ birth) × (bytes : List ℕ) × (stored block ≡ Some bytes)
 blocks_known stored property zero first birth Hole array blocks part other held =
     let none : Contains [] other = subst (λ all. Contains all other) part.1 held in absurd (omega (arith, none.1))

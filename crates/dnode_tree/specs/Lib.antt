@@ -12,4 +12,5 @@ pub mod Tree
 pub mod Writes
 pub mod Ways
 pub mod Within
+pub mod Younger
 pub mod Many

@@ -25,5 +25,5 @@ pub use many::get_many;
 pub use putting::put_many;
 pub use reading::{DataBlock, get, get_block};
 pub use walking::walk;
-pub use within::{are_distinct, walk_within};
+pub use within::{are_distinct, walk_within, walk_younger};
 pub use writes::{BlockWrite, CopyCounts, Rewrite};

@@ -14,5 +14,6 @@ pub mod Shapes
 pub mod Trees
 pub mod Underway
 pub mod WithinLemmas
+pub mod YoungerLemmas
 pub mod Readings
 pub mod ReadRefusals

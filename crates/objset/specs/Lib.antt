@@ -8,3 +8,4 @@ pub mod Objects
 pub mod Refused
 pub mod Shapes
 pub mod Within
+pub mod Younger

@@ -22,4 +22,4 @@ pub use many::get_many;
 pub use reading::{get, walk};
 pub use set_blocks::plan_set;
 pub use shape::ObjectShape;
-pub use within::walk_within;
+pub use within::{walk_within, walk_younger};

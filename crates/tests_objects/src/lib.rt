@@ -30,3 +30,5 @@ mod tables;
 mod trees;
 #[cfg(test)]
 mod volumes;
+#[cfg(test)]
+mod younger;

@@ -431,7 +431,7 @@ fn changes_that_cannot_be_made_are_refused(rt: HostRuntime) -> Result<(), Fail> 
 }
 
 /// Three objects: 3 with two blocks 200 apart, 40 with one block, and 70 with its second block alone.
-fn three_objects(store: &mut Store, alloc: Global) -> Result<SetRewrite, Refusal>
+pub(crate) fn three_objects(store: &mut Store, alloc: Global) -> Result<SetRewrite, Refusal>
     ensures { IfOk result (λ done. FitsObjectSet done.set) }
 {
     let two = two_objects(store, alloc)?;

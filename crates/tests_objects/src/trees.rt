@@ -22,7 +22,7 @@ const COPIES: CopyCounts = CopyCounts {
 };
 
 /// An object with one place for a block of 512 bytes, which is a hole.
-const ONE_PLACE: ObjectNode = ObjectNode {
+pub(crate) const ONE_PLACE: ObjectNode = ObjectNode {
     object_type: 23,
     data_sectors: 1,
     highest: 0,
@@ -38,7 +38,7 @@ fn value(id: u64, birth: u64) -> u8 {
 }
 
 /// Blocks by the first id, how far each is behind the one before, and their number.
-type Places = (u64, u64, u64);
+pub(crate) type Places = (u64, u64, u64);
 
 /// The blocks that a group writes at these places.
 fn blocks_at(alloc: Global, places: Places, birth: u64) -> Result<Vec<BlockWrite>, AllocError>
@@ -86,7 +86,7 @@ fn put_writes(
 }
 
 /// The object with the blocks that a group writes at these places, once they are stored.
-fn put(
+pub(crate) fn put(
     node: &ObjectNode,
     store: &mut Store,
     alloc: Global,

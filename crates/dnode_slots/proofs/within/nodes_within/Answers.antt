@@ -1,121 +1,37 @@
-use Rattle.std.proofs.Common.{◌≡◌, ◌≤◌, ◌^◌, ◌-◌, length, refl, ap, sym, ◌∙◌, subst, arith}
-use Rattle.std.specs.List.{All, flat_map}
-use Rattle.std.proofs.lemmas.List.{take_all}
-use Rattle.block_store.proofs.Steps.{reads_on}
-use Rattle.block_store.specs.Steps.{OnlyReadsBlocks, AnswersAreTrue}
-use Rattle.dnode.specs.Levels.{levels_of}
-use Rattle.dnode.specs.Node.{FitsNode}
-use Rattle.dnode_tree.proofs.Ages.{height_has}
-use Rattle.dnode_tree.proofs.FurtherReads.{true_before, true_after}
-use Rattle.dnode_tree.proofs.Ids.{HaveIds, at_id, as_many, part_ids}
-use Rattle.dnode_tree.proofs.Refusing.{passed_on}
-use Rattle.dnode_tree.specs.Within.{indirect_count}
-use Rattle.dnode_slots.specs.declared.within.FoundNode.{FoundNode}
-use Rattle.dnode_slots.specs.Within.{objects_in, IsNodeOfOne}
-use Rattle.dnode_slots.proofs.Objects.{none_there, as_many_objects}
-use Rattle.dnode_slots.proofs.WithinLemmas.{no_more, more, within_all, still_one, data_at, next_data, next_above, slots_there, one_refused, from_more}
-use Rattle.dnode_slots.proofs.within.nodes_within.Goals.{then-block-eq0+in_ok-read_nodes, else-block-eq0}
+use Rattle.std.proofs.Common.{◌≡◌, ◌≤◌, ◌∙◌, length, sym, subst}
+use Rattle.std.proofs.lemmas.Result.{IfOk-weaker, IfErr-weaker}
+use Rattle.dnode_tree.proofs.AllPicked.{sees_born, all_walked}
+use Rattle.dnode_tree.specs.Rewriting.{AreDistinct}
+use Rattle.dnode_tree.specs.Younger.{is_younger, younger}
+use Rattle.dnode_slots.proofs.YoungerNodes.{blocks_born, nodes_born, all_refused}
 use Rattle.dnode_slots.proofs.within.nodes_within.Goals as goal
 
-pub returns-in_err-blocks-clause-known : goal.returns-in_err-blocks-clause-known
-returns-in_err-blocks-clause-known g c =
-    passed_on _ _ _ c.from_residual.ensures.1
-    (λ stored nodes blocks held has once enough honest.
-    c.in_err-blocks.ensures.known stored has.array blocks held has.tree once (omega (arith, enough, within_all blocks)) honest)
-
-pub returns-in_err-read_nodes-clause-reads : goal.returns-in_err-read_nodes-clause-reads
-returns-in_err-read_nodes-clause-reads g c =
-    reads_on _ _ _ _ c.in_ok-blocks.ensures.reads (reads_on _ _ _ _ c.loop-block.invariant.reads c.in_err-read_nodes.ensures.reads)
-
-pub returns-in_err-read_nodes-clause-refused : goal.returns-in_err-read_nodes-clause-refused
-returns-in_err-read_nodes-clause-refused g c =
-    passed_on _ _ _ c.from_residual-in_err-read_nodes.ensures.1
-    (one_refused c.args.store.now c.loop-block.store c.read_nodes.new.store c.args.missing.now c.args.set.now c.args.birth c.read_nodes.new.left _ c.in_ok-blocks.blocks.items c.deref-block-items.result.now
-    c.loop-block.block-index _ _ c.deref-block-items.ensures.value c.in_ok-blocks.ensures.found c.loop-block-test.true refl c.if-block-eq0.true
-    (reads_on _ _ _ _ c.in_ok-blocks.ensures.reads c.loop-block.invariant.reads) c.in_err-read_nodes.ensures.refused)
-
-pub returns-in_err-read_nodes-clause-known : goal.returns-in_err-read_nodes-clause-known
-returns-in_err-read_nodes-clause-known g c =
-    let sooner = reads_on _ _ _ _ c.in_ok-blocks.ensures.reads c.loop-block.invariant.reads in
-    let later = reads_on _ _ _ _ c.loop-block.invariant.reads c.in_err-read_nodes.ensures.reads in
-    passed_on _ _ _ c.from_residual-in_err-read_nodes.ensures.1
-    (λ stored nodes blocks held has once enough honest.
-    let walked = c.in_ok-blocks.ensures.blocks stored has.array blocks held has.tree (true_before _ _ _ _ c.in_ok-blocks.ensures.reads later honest) in
-    let items_are = c.deref-block-items.ensures.value ∙ walked in
-    let all = part_ids stored c.args.set.now.dnodes has.array has.births (objects_in nodes has.births) _ 0 c.args.birth c.args.set.now.dnodes.pointer blocks
-    (λ id none. none_there has.array nodes has.births id has.each none) has.tree.root has.born in
-    let have = subst (λ bs. HaveIds stored c.args.set.now.dnodes has.array has.births bs all.ids) (sym items_are) all.have in
-    let (id, at, there) = data_at stored c.args.set.now.dnodes has.array has.births c.deref-block-items.result.now all.ids c.loop-block.block-index _ _ have c.loop-block-test.true refl c.if-block-eq0.true in
-    let some = still_one c.deref-block-items.result.now c.loop-block.block-index _ _ c.loop-block-test.true refl c.if-block-eq0.true in
-    let as_long : length c.deref-block-items.result.now ≡ length blocks = ap length items_are in
-    let counted = ap indirect_count c.deref-block-items.ensures.value in
-    c.in_err-read_nodes.ensures.known stored id there.bytes nodes (sooner.keeps stored held) there.known (slots_there has.array nodes id there.bytes there.there has.each)
-    (there.property ∙ ap (λ t. record { level = 0; object_type = t; sectors = c.args.set.now.dnodes.data_sectors }) c.requires.1.object_type
-    ∙ ap (λ s. record { level = 0; object_type = 10; sectors = s }) c.requires.1.sectors)
-    (omega (arith, some, as_long, counted, enough, c.loop-block.invariant.count, c.in_ok-blocks.ensures.count))
-    (true_after _ _ _ _ sooner c.in_err-read_nodes.ensures.reads honest))
-
-pub loop-block-preserved : goal.loop-block-preserved
-loop-block-preserved g c = elim c.if-block-eq0.branch [
-  | then-block-eq0+in_ok-read_nodes w ↦ record {
-    reads = subst (λ s. OnlyReadsBlocks c.walk_within.new.store s c.args.missing.now) (sym w.store-is) (reads_on _ _ _ _ c.loop-block.invariant.reads w.in_ok-read_nodes.ensures.reads);
-    fewer = omega (arith, w.left-is, c.loop-block.invariant.fewer, w.in_ok-read_nodes.ensures.fewer);
-    count = omega (
-      arith,
-      no_more c.deref-block-items.result.now c.loop-block.block-index _ _ c.loop-block-test.true refl w.if-block-eq0.true,
-      w.left-is,
-      c.loop-block.invariant.count,
-      w.in_ok-read_nodes.ensures.count,
-    );
-    fits = subst (λ (n : _). All (λ (it : FoundNode). FitsNode it.node) n.items) (sym w.nodes-is) (w.in_ok-read_nodes.ensures.fits c.loop-block.invariant.fits);
-    from = from_more c.walk_within.new.store.spaces c.loop-block.store.spaces c.deref-block-items.result.now c.loop-block.block-index _ _ c.loop-block.nodes.items c.if-block-eq0.nodes.items w.in_ok-read_nodes.ensures.from.0
-        (ap (λ s. s.spaces) c.loop-block.invariant.reads.rest) c.loop-block-test.true refl c.loop-block.invariant.from (ap (λ n. n.items) w.nodes-is ∙ w.in_ok-read_nodes.ensures.from.1) w.in_ok-read_nodes.ensures.from.2;
-    value = λ stored array nodes births ids held are have honest.
-        let all_true : AnswersAreTrue c.walk_within.new.store w.read_nodes.new.store = subst (λ s. AnswersAreTrue c.walk_within.new.store s) w.store-is honest in
-        let (id, at, there) = data_at stored c.args.set.now.dnodes array births c.deref-block-items.result.now ids c.loop-block.block-index _ _ have c.loop-block-test.true refl w.if-block-eq0.true in
-        ap (λ n. n.items) w.nodes-is
-        ∙ next_data stored c.args.set.now.dnodes array births c.deref-block-items.result.now ids c.loop-block.block-index _ _ have c.loop-block-test.true refl (objects_in nodes births) w.if-block-eq0.true
-        c.loop-block.nodes.items w.read_nodes.new.nodes.items
-        (c.loop-block.invariant.value stored array nodes births ids held are have (true_before _ _ _ _ c.loop-block.invariant.reads w.in_ok-read_nodes.ensures.reads all_true))
-        (w.in_ok-read_nodes.ensures.value stored id there.bytes nodes births (c.loop-block.invariant.reads.keeps stored held) there.known (slots_there array nodes id there.bytes there.there are) there.born
-        (true_after _ _ _ _ c.loop-block.invariant.reads w.in_ok-read_nodes.ensures.reads all_true));
-  }
-  | else-block-eq0 w ↦ record {
-    reads = subst (λ s. OnlyReadsBlocks c.walk_within.new.store s c.args.missing.now) (sym w.store-is) c.loop-block.invariant.reads;
-    fewer = omega (arith, w.left-is, c.loop-block.invariant.fewer);
-    count = omega (arith, more c.deref-block-items.result.now c.loop-block.block-index _ _ c.loop-block-test.true refl w.if-block-eq0.false, w.left-is, c.loop-block.invariant.count);
-    fits = subst (λ (n : _). All (λ (it : FoundNode). FitsNode it.node) n.items) (sym w.nodes-is) c.loop-block.invariant.fits;
-    from = subst (λ (n : _). All (IsNodeOfOne c.walk_within.new.store.spaces c.deref-block-items.result.now) n.items) (sym w.nodes-is) c.loop-block.invariant.from;
-    value = λ stored array nodes births ids held are have honest.
-        let all_true : AnswersAreTrue c.walk_within.new.store c.loop-block.store = subst (λ s. AnswersAreTrue c.walk_within.new.store s) w.store-is honest in
-        ap (λ n. n.items) w.nodes-is
-        ∙ next_above stored c.args.set.now.dnodes array births c.deref-block-items.result.now ids c.loop-block.block-index _ _ have c.loop-block-test.true refl (objects_in nodes births) w.if-block-eq0.false
-        c.loop-block.nodes.items (c.loop-block.invariant.value stored array nodes births ids held are have all_true);
-  }
-]
-
-pub returns-clause-reads : goal.returns-clause-reads
-returns-clause-reads g c = reads_on _ _ _ _ c.in_ok-blocks.ensures.reads c.loop-block.invariant.reads
-
 pub returns-clause-value : goal.returns-clause-value
-returns-clause-value g c = λ stored nodes blocks held has honest.
-    let walked = c.in_ok-blocks.ensures.blocks stored has.array blocks held has.tree (true_before _ _ _ _ c.in_ok-blocks.ensures.reads c.loop-block.invariant.reads honest) in
-    let items_are = c.deref-block-items.ensures.value ∙ walked in
-    let all = part_ids stored c.args.set.now.dnodes has.array has.births (objects_in nodes has.births) _ 0 c.args.birth c.args.set.now.dnodes.pointer blocks
-    (λ id none. none_there has.array nodes has.births id has.each none) has.tree.root has.born in
-    let have = subst (λ bs. HaveIds stored c.args.set.now.dnodes has.array has.births bs all.ids) (sym items_are) all.have in
-    let past : length all.ids ≤ c.loop-block.block-index =
-    omega (arith, as_many stored c.args.set.now.dnodes has.array has.births c.deref-block-items.result.now all.ids have, c.loop-block-test.false) in (
-      walked,
-      c.loop-block.invariant.value stored has.array nodes has.births all.ids (c.in_ok-blocks.ensures.reads.keeps stored held) has.each have
-          (true_after _ _ _ _ c.in_ok-blocks.ensures.reads c.loop-block.invariant.reads honest)
-          ∙ ap (flat_map (at_id (objects_in nodes has.births))) (take_all c.loop-block.block-index all.ids past)
-          ∙ all.all
-          ∙ as_many_objects nodes has.births (128 ^ (levels_of c.args.set.now.dnodes.highest - 1)) c.args.set.now.objects
-          (omega (arith, c.requires.1.within, height_has c.args.set.now.dnodes.highest c.requires.0.0.highest)) has.behind,
-    )
+returns-clause-value g c =
+    IfOk-weaker c.nodes_younger.result _ _
+    (λ found told stored nodes blocks held has honest.
+    let there = told stored nodes blocks held has honest in (
+      there.0 ∙ blocks_born stored c.args.birth c.args.set.now nodes blocks c.requires has,
+      there.1 ∙ nodes_born stored c.args.birth c.args.set.now nodes blocks c.requires has,
+    ))
+    c.nodes_younger.ensures.value
 
-pub returns-clause-from : goal.returns-clause-from
-returns-clause-from g c =
-    subst (λ (bs : _). All (IsNodeOfOne c.args.store.now.spaces bs) c.loop-block.nodes.items) c.deref-block-items.ensures.value
-    (subst (λ (spaces : _). All (IsNodeOfOne spaces c.deref-block-items.result.now) c.loop-block.nodes.items) (ap (λ s. s.spaces) c.in_ok-blocks.ensures.reads.rest) c.loop-block.invariant.from)
+pub returns-clause-found : goal.returns-clause-found
+returns-clause-found g c =
+    IfOk-weaker c.nodes_younger.result _ _
+    (λ found walked. all_walked (is_younger 0) sees_born c.args.store.now.spaces c.args.set.now.dnodes c.args.birth found.blocks.items (sees_born c.args.set.now.dnodes.pointer c.requires.0.1) walked)
+    c.nodes_younger.ensures.found
+
+pub returns-clause-refused : goal.returns-clause-refused
+returns-clause-refused g c =
+    IfErr-weaker c.nodes_younger.result _ _
+    (λ refusal why. all_refused c.args.store.now c.nodes_younger.new.store c.args.missing.now c.args.set.now c.args.birth c.nodes_younger.new.left refusal c.requires why)
+    c.nodes_younger.ensures.refused
+
+pub returns-clause-known : goal.returns-clause-known
+returns-clause-known g c =
+    IfErr-weaker c.nodes_younger.result _ _
+    (λ refusal told stored nodes blocks held has once enough honest.
+    let same : blocks ≡ younger 0 blocks = sym (blocks_born stored c.args.birth c.args.set.now nodes blocks c.requires has) in
+    told stored nodes blocks held has (subst (λ bs. AreDistinct bs) same once) (subst (λ bs. length bs ≤ c.args.left.now) same enough) honest)
+    c.nodes_younger.ensures.known

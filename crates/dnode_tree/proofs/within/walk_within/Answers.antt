@@ -1,74 +1,35 @@
-use Rattle.std.proofs.Common.{◌≡◌, ◌-◌, ◌++◌, inl, inr, refl, subst, sym, ap, ◌∙◌, arith}
-use Rattle.std.proofs.Common.{IsTrue}
-use Rattle.dnode_tree.proofs.Refusing.{passed_on}
-use Rattle.dnode_tree.proofs.Walks.{refused_for_memory}
+use Rattle.std.proofs.Common.{◌≡◌, ◌∙◌, ◌≤◌, refl, sym, subst, None}
+use Rattle.std.specs.Prelude.{filter}
+use Rattle.std.proofs.lemmas.Result.{IfOk-weaker, IfErr-weaker}
+use Rattle.dnode_tree.proofs.AllPicked.{sees_all, seen_as_it_is, all_walked, within_refused}
+use Rattle.dnode_tree.proofs.Picking.{all_picked}
 use Rattle.dnode_tree.specs.Rewriting.{AreDistinct}
-use Rattle.dnode_tree.specs.Subtree.{IsSubtree}
-use Rattle.dnode_tree.specs.Tree.{property_of}
-use Rattle.dnode.specs.Levels.{levels_of}
-use Rattle.dnode_tree.specs.Ways.{reached, IsWalked, IsWalkRefused}
 use Rattle.dnode_tree.specs.Within.{indirect_count}
+use Rattle.dnode_tree.specs.Younger.{is_picked}
 use Rattle.dnode_tree.proofs.within.walk_within.Goals as goal
-
-pub returns-in_err-collect_within-clause-refused : goal.returns-in_err-collect_within-clause-refused
-returns-in_err-collect_within-clause-refused g c =
-    passed_on _ _ _ c.from_residual.ensures.1
-    (elim c.in_err-collect_within.ensures.refused [
-      | inl why ↦ inl
-          (subst (λ n. IsWalkRefused c.args.store.now c.collect_within.new.store c.args.missing.now (property_of c.args.node.now) (reached (n - 1) c.args.node.now.pointer c.args.birth) c.in_err-collect_within.field-0.0)
-          c.levels.ensures why)
-      | inr none ↦ inr (none.0, inl none.1)
-    ])
-
-pub returns-clause-found : goal.returns-clause-found
-returns-clause-found g c =
-    let (blocks, added, are) = c.in_ok-collect_within.ensures.found in
-    subst (λ found. IsWalked c.args.store.now.spaces (property_of c.args.node.now) (levels_of c.args.node.now.highest - 1) c.args.birth c.args.node.now.pointer found)
-    (sym (added ∙ ap (λ earlier. earlier ++ blocks) c.new-found.ensures.items))
-    (subst (λ n. IsWalked c.args.store.now.spaces (property_of c.args.node.now) (n - 1) c.args.birth c.args.node.now.pointer blocks) c.levels.ensures are)
-
-pub returns-clause-count : goal.returns-clause-count
-returns-clause-count g c =
-    omega (arith, c.in_ok-collect_within.ensures.count, ap indirect_count c.new-found.ensures.items)
-
-pub returns-in_err-is_once-clause-refused : goal.returns-in_err-is_once-clause-refused
-returns-in_err-is_once-clause-refused g c =
-    passed_on _ _ _ c.from_residual-in_err-is_once.ensures.1
-    (inl (refused_for_memory c.args.store.now c.collect_within.new.store c.args.missing.now (property_of c.args.node.now) (levels_of c.args.node.now.highest - 1) c.args.birth c.args.node.now.pointer))
-
-pub returns-then-not-is_once-clause-refused : goal.returns-then-not-is_once-clause-refused
-returns-then-not-is_once-clause-refused g c =
-    let (blocks, added, are) = c.in_ok-collect_within.ensures.found in
-    inr (
-      refl,
-      inr (
-        blocks,
-        subst (λ n. IsWalked c.args.store.now.spaces (property_of c.args.node.now) (n - 1) c.args.birth c.args.node.now.pointer blocks) c.levels.ensures are,
-        λ distinct.
-            let same : blocks ≡ c.deref.result.now = sym (c.deref.ensures.value ∙ added ∙ ap (λ earlier. earlier ++ blocks) c.new-found.ensures.items) in
-            let told : IsTrue c.in_ok-is_once.is_once = c.in_ok-is_once.ensures.1 (subst (λ bs. AreDistinct bs) same distinct) in
-            absurd cc,
-      ),
-    )
 
 pub returns-clause-blocks : goal.returns-clause-blocks
 returns-clause-blocks g c =
-    λ stored array blocks held tree honest.
-    c.in_ok-collect_within.ensures.blocks stored 0 array blocks held
-    (subst (λ n. IsSubtree stored (property_of c.args.node.now) (n - 1) 0 c.args.birth c.args.node.now.pointer array blocks) (sym c.levels.ensures) tree.root) honest
-    ∙ ap (λ earlier. earlier ++ blocks) c.new-found.ensures.items
+    IfOk-weaker c.walk.result _ _
+    (λ found told stored array blocks held tree honest. told stored array blocks held tree honest ∙ all_picked (is_picked None) blocks (λ block is. refl))
+    c.walk.ensures.blocks
 
-pub returns-in_err-collect_within-clause-known : goal.returns-in_err-collect_within-clause-known
-returns-in_err-collect_within-clause-known g c =
-    passed_on _ _ _ c.from_residual.ensures.1
-    (λ stored array blocks held tree once enough honest. c.in_err-collect_within.ensures.known stored 0 array blocks held
-    (subst (λ n. IsSubtree stored (property_of c.args.node.now) (n - 1) 0 c.args.birth c.args.node.now.pointer array blocks) (sym c.levels.ensures) tree.root) enough honest)
+pub returns-clause-found : goal.returns-clause-found
+returns-clause-found g c =
+    IfOk-weaker c.walk.result _ _
+    (λ found walked. all_walked (is_picked None) sees_all c.args.store.now.spaces c.args.node.now c.args.birth found.items (seen_as_it_is c.args.node.now.pointer) walked)
+    c.walk.ensures.found
 
-pub returns-then-not-is_once-clause-known : goal.returns-then-not-is_once-clause-known
-returns-then-not-is_once-clause-known g c =
-    λ stored array blocks held tree once enough honest.
-    let found_is = c.in_ok-collect_within.ensures.blocks stored 0 array blocks held
-    (subst (λ n. IsSubtree stored (property_of c.args.node.now) (n - 1) 0 c.args.birth c.args.node.now.pointer array blocks) (sym c.levels.ensures) tree.root) honest
-    ∙ ap (λ earlier. earlier ++ blocks) c.new-found.ensures.items in
-    let told : IsTrue c.in_ok-is_once.is_once = c.in_ok-is_once.ensures.1 (subst (λ bs. AreDistinct bs) (sym (c.deref.ensures.value ∙ found_is)) once) in
-    absurd cc
+pub returns-clause-refused : goal.returns-clause-refused
+returns-clause-refused g c =
+    IfErr-weaker c.walk.result _ _
+    (λ refusal why. within_refused (is_picked None) sees_all c.args.store.now c.walk.new.store c.args.missing.now c.args.node.now c.args.birth c.walk.new.left refusal (seen_as_it_is c.args.node.now.pointer) why)
+    c.walk.ensures.refused
+
+pub returns-clause-known : goal.returns-clause-known
+returns-clause-known g c =
+    IfErr-weaker c.walk.result _ _
+    (λ refusal told stored array blocks held tree once enough honest.
+    let same : blocks ≡ filter (is_picked None) blocks = sym (all_picked (is_picked None) blocks (λ block is. refl)) in
+    told stored array blocks held tree (subst (λ bs. AreDistinct bs) same once) (subst (λ bs. indirect_count bs ≤ c.args.left.now) same enough) honest)
+    c.walk.ensures.known

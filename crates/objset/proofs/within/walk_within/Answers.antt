@@ -1,113 +1,36 @@
-use Rattle.std.proofs.Common.{◌++◌, inl, inr, refl, ap, sym, ◌∙◌, subst, arith, append_assoc, IsTrue}
-use Rattle.std.specs.Prelude.{not, ◌==◌}
-use Rattle.block_store.proofs.Steps.{reads_on}
-use Rattle.dnode_tree.proofs.Exchanging.{count_by-append}
-use Rattle.dnode_tree.proofs.FurtherReads.{true_before, true_after}
-use Rattle.dnode_tree.proofs.Refusing.{passed_on}
-use Rattle.dnode_tree.specs.Rewriting.{AreDistinct}
-use Rattle.objset.proofs.WithinLemmas.{parts_there, found_all, next_part, next_refused, whole_once, object_refused}
+use Rattle.std.proofs.Common.{◌≡◌, ◌≤◌, ◌∙◌, ap, sym, subst}
+use Rattle.std.proofs.lemmas.Result.{IfOk-weaker, IfErr-weaker}
+use Rattle.dnode_tree.specs.Younger.{younger}
+use Rattle.objset.proofs.YoungerLemmas.{own_younger, objects_younger, set_younger, all_set_walked, all_set_refused}
+use Rattle.objset.specs.Within.{blocks_of_objects, reads_of}
 use Rattle.objset.proofs.within.walk_within.Goals as goal
 
-pub returns-in_err-blocks-clause-refused : goal.returns-in_err-blocks-clause-refused
-returns-in_err-blocks-clause-refused g c = passed_on _ _ _ c.from_residual.ensures.1 (inr (inl c.in_err-blocks.ensures.refused))
-
-pub returns-in_err-blocks-clause-known : goal.returns-in_err-blocks-clause-known
-returns-in_err-blocks-clause-known g c =
-    passed_on _ _ _ c.from_residual.ensures.1
-    (λ stored objects own blocks held are once enough honest.
-    c.in_err-blocks.ensures.known stored are.nodes own held are.dnodes once.own_once (omega (arith, enough)) honest)
-
-pub returns-in_err-more-clause-reads : goal.returns-in_err-more-clause-reads
-returns-in_err-more-clause-reads g c =
-    reads_on _ _ _ _ c.in_ok-blocks.ensures.reads (reads_on _ _ _ _ c.loop-it.invariant.reads c.in_err-more.ensures.reads)
-
-pub returns-in_err-more-clause-refused : goal.returns-in_err-more-clause-refused
-returns-in_err-more-clause-refused g c =
-    passed_on _ _ _ c.from_residual-in_err-more.ensures.1
-    (inr (inr (inl (object_refused c.args.store.now c.loop-it.store c.walk_within.new.store c.args.missing.now c.args.set.now c.args.birth c.walk_within.new.left _ c.in_ok-blocks.field-0.blocks.items
-    c.in_ok-blocks.field-0.nodes.items c.deref-it-items.result.now c.loop-it.it-index _ _ c.deref-it-items.ensures.value c.in_ok-blocks.ensures.found c.in_ok-blocks.ensures.from c.loop-it-test.true refl
-    (reads_on _ _ _ _ c.in_ok-blocks.ensures.reads c.loop-it.invariant.reads) c.in_err-more.ensures.refused))))
-
-pub returns-in_err-more-clause-known : goal.returns-in_err-more-clause-known
-returns-in_err-more-clause-known g c =
-    let sooner = reads_on _ _ _ _ c.in_ok-blocks.ensures.reads c.loop-it.invariant.reads in
-    let later = reads_on _ _ _ _ c.loop-it.invariant.reads c.in_err-more.ensures.reads in
-    passed_on _ _ _ c.from_residual-in_err-more.ensures.1
-    (λ stored objects own blocks held are once enough honest.
-    let there = c.in_ok-blocks.ensures.value stored are.nodes own held are.dnodes (true_before _ _ _ _ c.in_ok-blocks.ensures.reads later honest) in
-    let parts = parts_there stored c.args.birth c.args.set.now objects own blocks c.deref-it-items.result.now are (c.deref-it-items.ensures.value ∙ there.1) in
-    next_refused stored c.args.set.now own c.in_ok-blocks.field-0.blocks.items blocks c.deref-it-items.result.now c.loop-it.it-index _ _ c.loop-it.invariant.below
-    c.args.left.now c.nodes_within.new.left c.loop-it.left _ c.loop-it-test.true refl parts
-    (c.loop-it.invariant.value stored parts.parts (c.in_ok-blocks.ensures.reads.keeps stored held) parts.trees
-    (true_before _ _ _ _ c.loop-it.invariant.reads c.in_err-more.ensures.reads (true_after _ _ _ _ c.in_ok-blocks.ensures.reads later honest)))
-    once there.0 c.in_ok-blocks.ensures.count c.loop-it.invariant.count enough
-    (λ array part tree distinct left. c.in_err-more.ensures.known stored array part (sooner.keeps stored held) tree distinct left
-    (true_after _ _ _ _ sooner c.in_err-more.ensures.reads honest)))
-
-pub returns-in_err-add-clause-reads : goal.returns-in_err-add-clause-reads
-returns-in_err-add-clause-reads g c =
-    reads_on _ _ _ _ c.in_ok-blocks.ensures.reads (reads_on _ _ _ _ c.loop-it.invariant.reads c.in_ok-more.ensures.reads)
-
-pub loop-it-preserved : goal.loop-it-preserved
-loop-it-preserved g c = record {
-  reads = reads_on _ _ _ _ c.loop-it.invariant.reads c.in_ok-more.ensures.reads;
-  fewer = omega (arith, c.loop-it.invariant.fewer, c.in_ok-more.ensures.fewer);
-  below = c.loop-it.invariant.below ++ c.in_ok-more.more.items;
-  are = c.in_ok-add.ensures ∙ ap (λ back. c.loop-it.found.items ++ back) c.deref.ensures.value ∙ ap (λ front. front ++ c.in_ok-more.more.items) c.loop-it.invariant.are
-      ∙ append_assoc c.in_ok-blocks.field-0.blocks.items c.loop-it.invariant.below c.in_ok-more.more.items;
-  count = omega (
-    arith,
-    c.loop-it.invariant.count,
-    c.in_ok-more.ensures.count,
-    count_by-append (λ b. not (b.property.level == 0)) c.loop-it.invariant.below c.in_ok-more.more.items,
-  );
-  value = λ stored parts held have honest.
-      next_part stored c.deref-it-items.result.now parts c.loop-it.it-index _ _ c.loop-it.invariant.below c.in_ok-more.more.items c.loop-it-test.true refl have
-      (c.loop-it.invariant.value stored parts held have (true_before _ _ _ _ c.loop-it.invariant.reads c.in_ok-more.ensures.reads honest))
-      (λ array part tree. c.in_ok-more.ensures.blocks stored array part (c.loop-it.invariant.reads.keeps stored held) tree
-      (true_after _ _ _ _ c.loop-it.invariant.reads c.in_ok-more.ensures.reads honest));
-}
-
-pub returns-in_err-is_once-clause-reads : goal.returns-in_err-is_once-clause-reads
-returns-in_err-is_once-clause-reads g c = reads_on _ _ _ _ c.in_ok-blocks.ensures.reads c.loop-it.invariant.reads
-
-pub returns-then-not-is_once-clause-reads : goal.returns-then-not-is_once-clause-reads
-returns-then-not-is_once-clause-reads g c = reads_on _ _ _ _ c.in_ok-blocks.ensures.reads c.loop-it.invariant.reads
-
-pub returns-then-not-is_once-clause-refused : goal.returns-then-not-is_once-clause-refused
-returns-then-not-is_once-clause-refused g c =
-    inr (inr (inr (
-      refl,
-      record {
-        found = c.loop-it.found.items;
-        walked = record {
-          own = c.in_ok-blocks.field-0.blocks.items;
-          below = c.loop-it.invariant.below;
-          are = c.loop-it.invariant.are;
-          walked = c.in_ok-blocks.ensures.found;
-          count = omega (arith, c.loop-it.invariant.count, c.in_ok-blocks.ensures.count);
-        };
-        twice = λ distinct.
-            let told : IsTrue c.in_ok-is_once.is_once = c.in_ok-is_once.ensures.1 (subst (λ bs. AreDistinct bs) (sym c.deref-2.ensures.value) distinct) in
-            absurd cc;
-      },
-    )))
-
-pub returns-then-not-is_once-clause-known : goal.returns-then-not-is_once-clause-known
-returns-then-not-is_once-clause-known g c = λ stored objects own blocks held are once enough honest.
-    let there = c.in_ok-blocks.ensures.value stored are.nodes own held are.dnodes (true_before _ _ _ _ c.in_ok-blocks.ensures.reads c.loop-it.invariant.reads honest) in
-    let all = found_all stored c.args.birth c.args.set.now objects own blocks c.in_ok-blocks.field-0.blocks.items c.loop-it.invariant.below c.loop-it.found.items c.deref-it-items.result.now c.loop-it.it-index
-    are c.loop-it.invariant.are there.0 (c.deref-it-items.ensures.value ∙ there.1) c.loop-it-test.false
-    (λ parts have. c.loop-it.invariant.value stored parts (c.in_ok-blocks.ensures.reads.keeps stored held) have (true_after _ _ _ _ c.in_ok-blocks.ensures.reads c.loop-it.invariant.reads honest)) in
-    let told : IsTrue c.in_ok-is_once.is_once = c.in_ok-is_once.ensures.1 (subst (λ bs. AreDistinct bs) (sym (c.deref-2.ensures.value ∙ all)) (whole_once c.args.set.now own blocks once)) in
-    absurd cc
-
-pub returns-clause-reads : goal.returns-clause-reads
-returns-clause-reads g c = reads_on _ _ _ _ c.in_ok-blocks.ensures.reads c.loop-it.invariant.reads
-
 pub returns-clause-blocks : goal.returns-clause-blocks
-returns-clause-blocks g c = λ stored objects own blocks held are honest.
-    let there = c.in_ok-blocks.ensures.value stored are.nodes own held are.dnodes (true_before _ _ _ _ c.in_ok-blocks.ensures.reads c.loop-it.invariant.reads honest) in
-    found_all stored c.args.birth c.args.set.now objects own blocks c.in_ok-blocks.field-0.blocks.items c.loop-it.invariant.below c.loop-it.found.items c.deref-it-items.result.now c.loop-it.it-index
-    are c.loop-it.invariant.are there.0 (c.deref-it-items.ensures.value ∙ there.1) c.loop-it-test.false
-    (λ parts have. c.loop-it.invariant.value stored parts (c.in_ok-blocks.ensures.reads.keeps stored held) have (true_after _ _ _ _ c.in_ok-blocks.ensures.reads c.loop-it.invariant.reads honest))
+returns-clause-blocks g c =
+    IfOk-weaker c.walk_younger.result _ _
+    (λ found told stored objects own blocks held are honest.
+    told stored objects own blocks held are honest ∙ set_younger stored c.args.birth c.args.set.now objects own blocks c.requires are)
+    c.walk_younger.ensures.blocks
+
+pub returns-clause-count : goal.returns-clause-count
+returns-clause-count g c =
+    IfOk-weaker c.walk_younger.result _ _
+    (λ found there. all_set_walked c.args.store.now.spaces c.args.set.now c.args.birth c.args.left.now c.walk_younger.new.left found.items c.requires there)
+    c.walk_younger.ensures.count
+
+pub returns-clause-refused : goal.returns-clause-refused
+returns-clause-refused g c =
+    IfErr-weaker c.walk_younger.result _ _
+    (λ refusal why. all_set_refused c.args.store.now c.walk_younger.new.store c.args.missing.now c.args.set.now c.args.birth c.args.left.now c.walk_younger.new.left refusal c.requires why)
+    c.walk_younger.ensures.refused
+
+pub returns-clause-known : goal.returns-clause-known
+returns-clause-known g c =
+    IfErr-weaker c.walk_younger.result _ _
+    (λ refusal told stored objects own blocks held are once enough honest.
+    let first = own_younger stored c.args.birth c.args.set.now objects own blocks c.requires are in
+    let below = objects_younger stored c.args.birth c.args.set.now objects own blocks c.requires are in
+    let same : reads_of own (blocks_of_objects c.args.set.now blocks) ≡ reads_of (younger 0 own) (younger 0 (blocks_of_objects c.args.set.now blocks)) =
+    sym (ap (λ more. reads_of more (younger 0 (blocks_of_objects c.args.set.now blocks))) first ∙ ap (reads_of own) below) in
+    told stored objects own blocks held are once (subst (λ n. n ≤ c.args.left.now) same enough) honest)
+    c.walk_younger.ensures.known

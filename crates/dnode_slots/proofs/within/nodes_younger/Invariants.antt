@@ -9,7 +9,7 @@ use Rattle.dnode_tree.proofs.Ids.{HaveIds, at_id}
 use Rattle.dnode_tree.specs.Within.{indirect_count}
 use Rattle.dnode_slots.specs.Nodes.{AreNodesOf}
 use Rattle.dnode_slots.specs.Within.{objects_in, IsNodeOfOne}
-use Rattle.dnode_slots.proofs.within.nodes_within.Given as goal
+use Rattle.dnode_slots.proofs.within.nodes_younger.Given as goal
 
 abbrev pub invariant-loop-block : goal.invariant-loop-block
 invariant-loop-block g l = record {
