@@ -15,7 +15,7 @@ use Rattle.pool_model.specs.declared.volume.PlainVolume.{PlainVolume}
 use Rattle.pool_model.specs.Pools.{PlainPool, volume_at}
 use Rattle.volume.specs.Volume.{IsVolume}
 use Rattle.dataset_snapshots.specs.declared.finding.Dataset.{Dataset}
-use Rattle.dataset_snapshots.specs.Finding.{AreRowsFound, HasDataset, IsFound, IsMetaFound, IsNumberIn, IsRowOf, IsVolumeOf}
+use Rattle.dataset_snapshots.specs.Finding.{AreRowsFound, HasDataset, IsFound, IsFoundIn, IsMetaFound, IsNumberIn, IsRowOf, IsVolumeOf}
 use Rattle.dataset_snapshots.specs.Pools.{IsRecordOf, SpellsPool}
 use Rattle.dataset_snapshots.proofs.Rows.{no_row, row_leads}
 
@@ -82,3 +82,16 @@ dataset_found old later missing birth root name set rows object dataset read row
   is_number = row;
   dataset = (dataset, refl, object_is, of, subst (λ spaces. IsRecordFound spaces set root.birth object dataset.record) (spaces_stay old later missing reads) found);
 }
+
+-- and by the rows of a directory that is kept, behind the root
+pub dataset_found_in : (old mid : Store) (missing : List ℕ) (birth : ℕ) (root : Block) (name : List ℕ) (set : ObjectSet) (rows : List DirectoryRow) (object : ℕ) (dataset : Dataset)
+    → IsRowOf rows name object → IsMetaFound old.spaces birth root set → OnlyReadsBlocks old mid missing → dataset.object ≡ object → IsVolumeOf dataset
+    → IsRecordFound mid.spaces set root.birth object dataset.record → IsFoundIn old.spaces birth root rows name (Some dataset)
+dataset_found_in old mid missing birth root name set rows object dataset row meta reads object_is of found =
+    let here = subst (λ spaces. IsRecordFound spaces set root.birth object dataset.record) (spaces_stay old mid missing reads) found in (
+      subst (λ n. IsRowOf rows name n) (sym object_is) row,
+      of,
+      set,
+      meta,
+      subst (λ n. IsRecordFound old.spaces set root.birth n dataset.record) (sym object_is) here,
+    )

@@ -10,12 +10,13 @@ use Rattle.block_store.specs.Spaces.{VdevSpace}
 use Rattle.block_store.specs.Steps.{OnlyReadsBlocks}
 use Rattle.block_store.specs.Store.{Store}
 use Rattle.dnode.specs.declared.object_set.ObjectSet.{ObjectSet}
+use Rattle.meta_objset.specs.declared.directory.DirectoryRow.{DirectoryRow}
 use Rattle.pool_model.specs.declared.volume.PlainVolume.{PlainVolume}
 use Rattle.volume.specs.Reading.{IsReadRefused, LiesIn}
 use Rattle.volume.specs.Volume.{size_of}
 use Rattle.dataset_snapshots.specs.declared.finding.Dataset.{Dataset}
-use Rattle.dataset_snapshots.specs.Finding.{HasDataset, IsDatasetRead, IsFound, IsVolumeOf}
-use Rattle.dataset_snapshots.specs.Ranges.{IsRangeRefused}
+use Rattle.dataset_snapshots.specs.Finding.{HasDataset, IsDatasetRead, IsFound, IsFoundIn, IsVolumeOf}
+use Rattle.dataset_snapshots.specs.Ranges.{IsRangeRefused, IsRangeRefusedIn}
 
 -- ---- of which volume
 
@@ -23,12 +24,15 @@ read_volume : (spaces : List VdevSpace) (root : Block) (set : ObjectSet) (number
 read_volume spaces root set None dataset none = absurd (cc)
 read_volume spaces root set (Some object) dataset (read, same, object_is, of, record_is) = subst IsVolumeOf (sym (same_Some dataset read same)) of
 
--- a range that ends within the record's size ends within the volume
-pub range_within : (spaces : List VdevSpace) (birth : ℕ) (root : Block) (name : List ℕ) (found : Option Dataset) (dataset : Dataset) (end : ℕ) → IsFound spaces birth root name found
-    → found ≡ Some dataset → end ≤ dataset.record.size → end ≤ size_of dataset.volume
-range_within spaces birth root name found dataset end is some within =
+pub found_volume : (spaces : List VdevSpace) (birth : ℕ) (root : Block) (name : List ℕ) (found : Option Dataset) (dataset : Dataset) → IsFound spaces birth root name found
+    → found ≡ Some dataset → IsVolumeOf dataset
+found_volume spaces birth root name found dataset is some =
     let read = subst (λ (other : Option Dataset). IsDatasetRead spaces root is.set is.number other) some is.dataset in
-    subst (λ n. end ≤ n) (sym (read_volume spaces root is.set is.number dataset read).0.0) within
+    read_volume spaces root is.set is.number dataset read
+
+-- a range that ends within the record's size ends within the volume
+pub range_within : (dataset : Dataset) (end : ℕ) → IsVolumeOf dataset → end ≤ dataset.record.size → end ≤ size_of dataset.volume
+range_within dataset end of within = subst (λ n. end ≤ n) (sym of.0.0) within
 
 -- one that isn't within ends behind it
 pub is_past : (result : Bool) (end size : ℕ) → (end ≤ size → IsTrue result) → result ≡ false → size < end
@@ -52,13 +56,21 @@ is_not_none stored birth there found volume is none has =
 
 -- ---- refusals
 
+-- why the bytes of a range of a dataset were not read
+abbrev pub IsUnreadOf : Store → Store → List ℕ → ℕ → Dataset → ℕ → ℕ → Refusal → Type 0
+IsUnreadOf old new missing birth dataset offset len refusal =
+    (refusal ≡ NoMemory)
+    ⊎ (((refusal ≡ BadPointer) × (dataset.record.size < offset + len))
+    ⊎ IsReadRefused old new missing dataset.volume birth (LiesIn dataset.volume offset (offset + len)) refusal)
+
 -- the volume's bytes were not read, behind the way to its name
 pub data_refused : (old mid new : Store) (missing : List ℕ) (birth : ℕ) (root : Block) (name : List ℕ) (found : Option Dataset) (dataset : Dataset) (offset len : ℕ) (refusal : Refusal)
     → OnlyReadsBlocks old mid missing → IsFound old.spaces birth root name found → found ≡ Some dataset
-    → (refusal ≡ NoMemory) ⊎ IsReadRefused mid new missing dataset.volume root.birth (LiesIn dataset.volume offset (offset + len)) refusal
-    → (refusal ≡ NoMemory) ⊎ IsRangeRefused old new missing birth root name offset len refusal
+    → IsUnreadOf mid new missing root.birth dataset offset len refusal → (refusal ≡ NoMemory) ⊎ IsRangeRefused old new missing birth root name offset len refusal
 data_refused old mid new missing birth root name found dataset offset len refusal before is some (inl memory) = inl memory
-data_refused old mid new missing birth root name found dataset offset len refusal before is some (inr why) = inr (inr (inr (record {
+data_refused old mid new missing birth root name found dataset offset len refusal before is some (inr (inl (bad, less))) =
+    inr (inr (inl (bad, inr (dataset, subst (λ (other : Option Dataset). IsFound old.spaces birth root name other) some is, less))))
+data_refused old mid new missing birth root name found dataset offset len refusal before is some (inr (inr why)) = inr (inr (inr (record {
   dataset = dataset;
   found = subst (λ (other : Option Dataset). IsFound old.spaces birth root name other) some is;
   mid = mid;
@@ -72,8 +84,28 @@ pub not_there : (old new : Store) (missing : List ℕ) (birth : ℕ) (root : Blo
 not_there old new missing birth root name found offset len is none =
     inr (inl (refl, inl (subst (λ (other : Option Dataset). IsFound old.spaces birth root name other) none is)))
 
--- or its volume doesn't reach so far
-pub too_small : (old new : Store) (missing : List ℕ) (birth : ℕ) (root : Block) (name : List ℕ) (found : Option Dataset) (dataset : Dataset) (offset len : ℕ) → IsFound old.spaces birth root name found
-    → found ≡ Some dataset → dataset.record.size < offset + len → IsRangeRefused old new missing birth root name offset len BadPointer
-too_small old new missing birth root name found dataset offset len is some less =
-    inr (inl (refl, inr (dataset, subst (λ (other : Option Dataset). IsFound old.spaces birth root name other) some is, less)))
+-- ---- by the rows of a directory
+
+pub found_volume_in : (spaces : List VdevSpace) (birth : ℕ) (root : Block) (rows : List DirectoryRow) (name : List ℕ) (found : Option Dataset) (dataset : Dataset)
+    → IsFoundIn spaces birth root rows name found → found ≡ Some dataset → IsVolumeOf dataset
+found_volume_in spaces birth root rows name found dataset is some = (subst (λ (other : Option Dataset). IsFoundIn spaces birth root rows name other) some is).1
+
+pub data_refused_in : (old mid new : Store) (missing : List ℕ) (birth : ℕ) (root : Block) (rows : List DirectoryRow) (name : List ℕ) (found : Option Dataset) (dataset : Dataset) (offset len : ℕ)
+    (refusal : Refusal) → OnlyReadsBlocks old mid missing → IsFoundIn old.spaces birth root rows name found → found ≡ Some dataset
+    → IsUnreadOf mid new missing root.birth dataset offset len refusal → (refusal ≡ NoMemory) ⊎ IsRangeRefusedIn old new missing birth root rows name offset len refusal
+data_refused_in old mid new missing birth root rows name found dataset offset len refusal before is some (inl memory) = inl memory
+data_refused_in old mid new missing birth root rows name found dataset offset len refusal before is some (inr (inl (bad, less))) =
+    inr (inr (inl (bad, inr (dataset, subst (λ (other : Option Dataset). IsFoundIn old.spaces birth root rows name other) some is, less))))
+data_refused_in old mid new missing birth root rows name found dataset offset len refusal before is some (inr (inr why)) = inr (inr (inr (record {
+  dataset = dataset;
+  found = subst (λ (other : Option Dataset). IsFoundIn old.spaces birth root rows name other) some is;
+  mid = mid;
+  before = before;
+  why = why;
+})))
+
+-- the rows haven't got the name
+pub not_there_in : (old new : Store) (missing : List ℕ) (birth : ℕ) (root : Block) (rows : List DirectoryRow) (name : List ℕ) (found : Option Dataset) (offset len : ℕ)
+    → IsFoundIn old.spaces birth root rows name found → found ≡ None → IsRangeRefusedIn old new missing birth root rows name offset len BadPointer
+not_there_in old new missing birth root rows name found offset len is none =
+    inr (inl (refl, inl (subst (λ (other : Option Dataset). IsFoundIn old.spaces birth root rows name other) none is)))

@@ -5,6 +5,7 @@ use Rattle.block_pointer.specs.declared.block.Block.{Block}
 use Rattle.block_store.specs.Blocks.{Contents, Extends}
 use Rattle.dnode.specs.declared.object_set.ObjectSetKind.{ObjectSetKind}
 use Rattle.dnode_tree.proofs.Exchanging.{count_by-append}
+use Rattle.meta_objset.specs.declared.directory.DirectoryRow.{DirectoryRow}
 use Rattle.objset.specs.declared.changes.ObjectChange.{ObjectChange}
 use Rattle.objset.specs.Objects.{Object}
 use Rattle.objset.specs.Within.{blocks_of_set}
@@ -21,10 +22,10 @@ abbrev pub IsRootGiven : Contents → Contents → ℕ → Block → ObjectSetKi
 IsRootGiven planned later group root kind objects before gone =
     (then : IsSetOf later group root kind objects) × IsReachExchanged group planned later before (root ∷ blocks_of_set then.set then.own then.blocks) gone
 
--- volumes were planned for those that had these blocks
-abbrev pub AreVolumesGiven : Contents → Contents → ℕ → (ℕ → Option Object) → List ObjectChange → (ℕ → List Block) → PlainPool → List Block → List Block → Type 0
-AreVolumesGiven planned later group objects changes lists pool before gone =
-    (then : SpellsAfter later group objects lists changes pool) × IsReachExchanged group planned later before (blocks_listed lists then.rows) gone
+-- volumes were planned for those that had these blocks, and the directory has these rows
+abbrev pub AreVolumesGiven : Contents → Contents → ℕ → (ℕ → Option Object) → List ObjectChange → (ℕ → List Block) → PlainPool → List Block → List Block → List DirectoryRow → Type 0
+AreVolumesGiven planned later group objects changes lists pool before gone rows =
+    (then : SpellsAfter later group objects lists changes pool) × IsReachExchanged group planned later before (blocks_listed lists then.rows) gone × (then.rows ≡ rows)
 
 -- the volumes' blocks first, then those of the set, and the root's
 pub group_given : (planned mid later : Contents) (group : ℕ) (old root : Block) (volumes new_volumes set new_set gone gone_too replaced : List Block) → Extends planned mid → Extends mid later

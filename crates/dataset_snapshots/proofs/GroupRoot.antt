@@ -217,7 +217,7 @@ tables_stay objects now vdevs same tables = record {
 pub spells_root : (stored later : Contents) (group : ℕ) (root : Block) (objects : ℕ → Option Object) (lists : ℕ → List Block) (changes : List ObjectChange) (pool : PlainPool)
     → (after : SpellsAfter stored group objects lists changes pool) → Extends stored later → (set : IsSetOf later group root sets.Meta (changed changes objects)) → root.birth ≡ group
     → (then : SpellsPool later group root pool) × ((vdevs : List PlainVdev) → HasFirstTables objects vdevs → HasFirstTables then.objects vdevs)
-    × (reach_of then ≡ root ∷ blocks_of_set set.set set.own set.blocks ++ blocks_listed lists after.rows)
+    × (reach_of then ≡ root ∷ blocks_of_set set.set set.own set.blocks ++ blocks_listed lists after.rows) × (then.rows ≡ after.rows)
 spells_root stored later group root objects lists changes pool after more set born =
     let listed = subst (λ n. AllZip (HasBlocksOf later n (changed changes objects) lists) after.rows pool.volumes) (sym born)
     (datasets_listed_stay stored later group (changed changes objects) lists after.rows pool.volumes more after.volumes) in
@@ -237,4 +237,5 @@ spells_root stored later group root objects lists changes pool after more set bo
       },
       λ vdevs tables. tables_stay objects (changed changes objects) vdevs after.tables tables,
       ap (λ below. root ∷ blocks_of_set set.set set.own set.blocks ++ below) spelled.1,
+      refl,
     )

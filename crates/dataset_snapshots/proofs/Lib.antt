@@ -3,7 +3,7 @@ pub mod BlocksOnce
 pub mod ChangedRows
 pub mod Datasets
 pub mod Exchanges
-pub mod FirstRoot
+pub mod FirstRoots
 pub mod FoundRanges
 pub mod GoodNames
 pub mod GroupDemands

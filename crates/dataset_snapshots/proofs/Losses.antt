@@ -1,5 +1,5 @@
 -- Refusals for lack of disks: a block is lost.
-use Rattle.std.proofs.Common.{ℕ, ◌≡◌, inl, inr, List, []}
+use Rattle.std.proofs.Common.{ℕ, ◌≡◌, ◌⊎◌, inl, inr, List, []}
 use Rattle.block_pointer.specs.declared.block.Block.{Block}
 use Rattle.block_store.proofs.Losses.{lost_behind_reads, lost_later}
 use Rattle.block_store.specs.declared.refusal.Refusal.{Refusal}
@@ -21,10 +21,11 @@ use Rattle.volume.proofs.Losses.{placing_lost, plan_lost, read_lost}
 use Rattle.volume.specs.Demands.{empty_set}
 use Rattle.dataset_snapshots.specs.declared.groups.Opened.{Opened}
 use Rattle.dataset_snapshots.specs.Demands.{AreVolumesRefused, IsActionRefused, IsMakingRefused, IsRootRefused}
-use Rattle.dataset_snapshots.specs.Finding.{IsDirectoryRefused, IsMetaRefused}
+use Rattle.dataset_snapshots.specs.Finding.{IsDirectoryRefused, IsMetaRefused, IsRefusedIn}
 use Rattle.dataset_snapshots.specs.FirstGroup.{empty_meta}
-use Rattle.dataset_snapshots.specs.Laws.{LossesOfDatasets, LossesOfFirstGroups, LossesOfGroups, LossesOfRanges}
+use Rattle.dataset_snapshots.specs.Laws.{LossesByRows, LossesOfDatasets, LossesOfFirstGroups, LossesOfGroups, LossesOfRanges}
 use Rattle.dataset_snapshots.specs.Opening.{IsGroupUnread, IsWrittenRefused}
+use Rattle.dataset_snapshots.specs.Ranges.{IsRangeRefusedIn}
 
 pub meta_lost : (old new : Store) (missing : List ℕ) (birth : ℕ) (root : Block) (refusal : Refusal) → IsMetaRefused old new missing birth root refusal → refusal ≡ DiskFault → IsBlockLost old new missing
 meta_lost old new missing birth root refusal (inl unread) is = set_lost old new missing birth root refusal unread is
@@ -109,3 +110,26 @@ losses_of_ranges old new missing birth root name offset len refusal (inl unfound
 losses_of_ranges old new missing birth root name offset len refusal (inr (inl (bad, nowhere))) is = absurd (cc)
 losses_of_ranges old new missing birth root name offset len refusal (inr (inr unread)) is =
     lost_behind_reads old unread.mid new missing unread.before (read_lost unread.mid new missing unread.dataset.volume root.birth _ refusal unread.why is)
+
+-- ---- by the rows of a directory
+
+under_lost : (old new : Store) (missing : List ℕ) (birth : ℕ) (root : Block) (refusal : Refusal) → IsMetaRefused old new missing birth root refusal ⊎ IsDirectoryRefused old new missing birth root refusal
+    → refusal ≡ DiskFault → IsBlockLost old new missing
+under_lost old new missing birth root refusal (inl refused) is = meta_lost old new missing birth root refusal refused is
+under_lost old new missing birth root refusal (inr directory) is = directory_lost old new missing birth root refusal directory is
+
+name_lost : (old new : Store) (missing : List ℕ) (birth : ℕ) (root : Block) (rows : List DirectoryRow) (name : List ℕ) (refusal : Refusal) → IsRefusedIn old new missing birth root rows name refusal
+    → refusal ≡ DiskFault → IsBlockLost old new missing
+name_lost old new missing birth root rows name refusal (object, row, inl refused) is = meta_lost old new missing birth root refusal refused is
+name_lost old new missing birth root rows name refusal (object, row, inr unread) is =
+    lost_behind_reads old unread.mid new missing unread.before (record_lost unread.mid new missing unread.set root.birth object refusal unread.why is)
+
+range_lost : (old new : Store) (missing : List ℕ) (birth : ℕ) (root : Block) (rows : List DirectoryRow) (name : List ℕ) (offset len : ℕ) (refusal : Refusal)
+    → IsRangeRefusedIn old new missing birth root rows name offset len refusal → refusal ≡ DiskFault → IsBlockLost old new missing
+range_lost old new missing birth root rows name offset len refusal (inl unfound) is = name_lost old new missing birth root rows name refusal unfound is
+range_lost old new missing birth root rows name offset len refusal (inr (inl (bad, nowhere))) is = absurd (cc)
+range_lost old new missing birth root rows name offset len refusal (inr (inr unread)) is =
+    lost_behind_reads old unread.mid new missing unread.before (read_lost unread.mid new missing unread.dataset.volume root.birth _ refusal unread.why is)
+
+pub losses_by_rows : LossesByRows
+losses_by_rows = record { directories = under_lost; names = name_lost; ranges = range_lost }

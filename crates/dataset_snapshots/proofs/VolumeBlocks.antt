@@ -1,5 +1,5 @@
 -- The blocks of volumes that stay, that are placed and that are made.
-use Rattle.std.proofs.Common.{◌≡◌, ◌≢◌, ℕ, ◌*◌, ◌+◌, ◌/◌, ◌<◌, ◌≤◌, List, [], ◌∷◌, ◌++◌, length, replicate, Option, None, AllPairs, refl, sym, ap, subst, ◌∙◌, arith}
+use Rattle.std.proofs.Common.{◌≡◌, ℕ, ◌*◌, ◌+◌, ◌/◌, ◌<◌, ◌≤◌, List, [], ◌∷◌, ◌++◌, length, replicate, Option, None, AllPairs, refl, sym, ap, subst, ◌∙◌, arith}
 use Rattle.std.specs.Prelude.{Vec}
 use Rattle.std.specs.List.{count_by}
 use Rattle.std.specs.declared.alloc.Global.{Global}
@@ -21,7 +21,7 @@ use Rattle.volume.proofs.Putting.{data_with}
 use Rattle.volume.specs.declared.placing.Rewritten.{Rewritten}
 use Rattle.volume.specs.declared.volume.VolumeSet.{VolumeSet}
 use Rattle.volume.specs.Placing.{IsMade, IsPlaced, IsSetPlanned, data_change}
-use Rattle.volume.specs.Volume.{HasBytes, IsData, IsVolume, Spells, block_of}
+use Rattle.volume.specs.Volume.{HasBytes, IsData, IsVolume, Spells}
 use Rattle.volume.specs.Walking.{blocks_of_volume}
 use Rattle.volume.specs.Writing.{AreBlocksOf, IsArrayWith}
 use Rattle.dataset_snapshots.proofs.KeptVolumes.{HasVolumeBlocks, volume_blocks, volume_kept}

@@ -110,3 +110,33 @@ IsRefused old new missing birth root name refusal =
     IsMetaRefused old new missing birth root refusal
     ⊎ (IsDirectoryRefused old new missing birth root refusal
     ⊎ IsRecordUnread old new missing birth root name refusal)
+
+-- ---- by the rows of a directory that is kept in memory: nothing of the directory's blocks is read
+
+-- what was found of a name: nothing where the rows haven't got it; else the root was read, and then
+-- the record of the row's object
+abbrev pub IsFoundIn :
+    List VdevSpace → ℕ → Block → List DirectoryRow → List ℕ → Option Dataset → Type 0
+IsFoundIn spaces birth root rows name None = HasNoRow rows name
+IsFoundIn spaces birth root rows name (Some dataset) =
+    IsRowOf rows name dataset.object × IsVolumeOf dataset × (set : ObjectSet)
+    × IsMetaFound spaces birth root set
+    × IsRecordFound spaces set root.birth dataset.object dataset.record
+
+-- the root was read, and the record of this object was not
+pub record IsObjectUnread (old new : Store) (missing : List ℕ) (birth : ℕ) (root : Block)
+    (object : ℕ) (refusal : Refusal) : Type 0 where
+  pub set : ObjectSet
+  pub meta : IsMetaFound old.spaces birth root set
+  pub mid : Store
+  pub before : OnlyReadsBlocks old mid missing
+  pub why : IsRecordRefused mid new missing set root.birth object refusal
+
+-- why nothing was found of a name that the rows have: the root was not read, or the record of the
+-- row's object
+abbrev pub IsRefusedIn :
+    Store → Store → List ℕ → ℕ → Block → List DirectoryRow → List ℕ → Refusal → Type 0
+IsRefusedIn old new missing birth root rows name refusal =
+    (object : ℕ) × IsRowOf rows name object
+    × (IsMetaRefused old new missing birth root refusal
+    ⊎ IsObjectUnread old new missing birth root object refusal)

@@ -12,16 +12,17 @@ use Rattle.block_store.specs.Store.{Holds, Store}
 use Rattle.dnode_tree.specs.Freeing.{AreOnlyIn}
 use Rattle.dnode_tree.specs.ReadRefusals.{IsForRead}
 use Rattle.dnode_tree.specs.Rewriting.{AreDistinct}
+use Rattle.meta_objset.specs.declared.directory.DirectoryRow.{DirectoryRow}
 use Rattle.pool_model.specs.Pools.{Entry, PlainPool}
 use Rattle.volume_rules.specs.GoodChanges.{MakesGoodVolumes}
 use Rattle.vdev_label.specs.Plain.{PlainVdev}
 use Rattle.dataset_snapshots.specs.Demands.{IsGroupRefused}
-use Rattle.dataset_snapshots.specs.Finding.{IsRefused}
+use Rattle.dataset_snapshots.specs.Finding.{IsDirectoryRefused, IsMetaRefused, IsRefused, IsRefusedIn}
 use Rattle.dataset_snapshots.specs.FirstGroup.{IsFirstRefused}
 use Rattle.dataset_snapshots.specs.Making.{AreGoodCreations}
 use Rattle.dataset_snapshots.specs.Leaving.{IsReachExchanged}
 use Rattle.dataset_snapshots.specs.Pools.{SpellsPool}
-use Rattle.dataset_snapshots.specs.Ranges.{IsRangeRefused}
+use Rattle.dataset_snapshots.specs.Ranges.{IsRangeRefused, IsRangeRefusedIn}
 use Rattle.dataset_snapshots.specs.Reach.{reach_of, IsReachRefused}
 
 -- A root spells its pool still where more blocks are known, and for a later group.
@@ -89,14 +90,41 @@ LossesOfRanges =
     → IsRangeRefused old new missing birth root name offset len refusal
     → refusal ≡ DiskFault → IsBlockLost old new missing
 
--- What the search for a name, the read of a range, or the walk of all blocks under a root is refused
--- for: memory, a fault of disks, or a block that is not what its pointer says, and so never room.
+-- And where the directory under a root is not read, or by the rows of one that is kept in memory a
+-- name is not found, or a range is refused.
+pub record LossesByRows : Type 0 where
+  pub directories : (old new : Store) (missing : List ℕ) (birth : ℕ) (root : Block)
+      (refusal : Refusal) → IsMetaRefused old new missing birth root refusal
+      ⊎ IsDirectoryRefused old new missing birth root refusal
+      → refusal ≡ DiskFault → IsBlockLost old new missing
+  pub names : (old new : Store) (missing : List ℕ) (birth : ℕ) (root : Block)
+      (rows : List DirectoryRow) (name : List ℕ) (refusal : Refusal)
+      → IsRefusedIn old new missing birth root rows name refusal
+      → refusal ≡ DiskFault → IsBlockLost old new missing
+  pub ranges : (old new : Store) (missing : List ℕ) (birth : ℕ) (root : Block)
+      (rows : List DirectoryRow) (name : List ℕ) (offset len : ℕ) (refusal : Refusal)
+      → IsRangeRefusedIn old new missing birth root rows name offset len refusal
+      → refusal ≡ DiskFault → IsBlockLost old new missing
+
+-- What the search for a name, the read of a range (also by the rows of a directory that is kept), the
+-- read of a directory, or the walk of all blocks under a root is refused for: memory, a fault of
+-- disks, or a block that is not what its pointer says, and so never room.
 pub record ReadsNeedNoRoom : Type 0 where
   pub names : (old new : Store) (missing : List ℕ) (birth : ℕ) (root : Block) (name : List ℕ)
       (refusal : Refusal) → IsRefused old new missing birth root name refusal → IsForRead refusal
   pub ranges : (old new : Store) (missing : List ℕ) (birth : ℕ) (root : Block) (name : List ℕ)
       (offset len : ℕ) (refusal : Refusal)
       → IsRangeRefused old new missing birth root name offset len refusal → IsForRead refusal
+  pub directories : (old new : Store) (missing : List ℕ) (birth : ℕ) (root : Block)
+      (refusal : Refusal) → IsMetaRefused old new missing birth root refusal
+      ⊎ IsDirectoryRefused old new missing birth root refusal → IsForRead refusal
+  pub names_in : (old new : Store) (missing : List ℕ) (birth : ℕ) (root : Block)
+      (rows : List DirectoryRow) (name : List ℕ) (refusal : Refusal)
+      → IsRefusedIn old new missing birth root rows name refusal → IsForRead refusal
+  pub ranges_in : (old new : Store) (missing : List ℕ) (birth : ℕ) (root : Block)
+      (rows : List DirectoryRow) (name : List ℕ) (offset len : ℕ) (refusal : Refusal)
+      → IsRangeRefusedIn old new missing birth root rows name offset len refusal
+      → IsForRead refusal
   pub reaches : (old new : Store) (missing : List ℕ) (birth : ℕ) (root : Block)
       (before after : ℕ) (refusal : Refusal)
       → IsReachRefused old new missing birth root before after refusal → IsForRead refusal

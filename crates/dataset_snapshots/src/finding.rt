@@ -1,5 +1,5 @@
 //! What a root has of a name.
-ghost use Rattle.std.specs.Prelude.{◌≡◌, ◌≢◌, ◌⊎◌, ℕ, List, Option, Some, IfOk, IfErr};
+ghost use Rattle.std.specs.Prelude.{◌≡◌, ◌≢◌, ◌⊎◌, ℕ, List, Option, Some, None, IfOk, IfErr};
 ghost use Rattle.block_pointer.specs.declared.block.Block.{Block};
 ghost use Rattle.block_store.specs.Blocks.{Contents};
 ghost use Rattle.block_store.specs.Losses.{IsForLoss};
@@ -18,8 +18,8 @@ ghost use Rattle.meta_objset.specs.Record.{IsRecord};
 ghost use Rattle.objset.specs.Objects.{Object, AreObjects};
 ghost use Rattle.pool_model.specs.Pools.{PlainPool, volume_at};
 ghost use Rattle.volume.specs.Volume.{HasShape, block_of};
-ghost use Rattle.dataset_snapshots.specs.Finding.{HasDataset, IsVolumeOf, IsMetaFound, IsMetaRefused};
-ghost use Rattle.dataset_snapshots.specs.Finding.{IsNumberIn, IsFound, IsRefused};
+ghost use Rattle.dataset_snapshots.specs.Finding.{AreRowsFound, HasDataset, IsVolumeOf, IsMetaFound, IsMetaRefused};
+ghost use Rattle.dataset_snapshots.specs.Finding.{IsDirectoryRefused, IsNumberIn, IsFound, IsFoundIn, IsRefused, IsRefusedIn};
 ghost use Rattle.dataset_snapshots.specs.Pools.{SpellsPool};
 
 use block_pointer::Block;
@@ -77,6 +77,81 @@ pub fn find<D: Disk + Drop>(
     let Some(object) = number else {
         return Ok(None);
     };
+    let dataset = read_dataset(&set, store, alloc, root.birth, object, missing)?;
+    Ok(Some(dataset))
+}
+
+/// The directory under a root. It reads the root and the directory, and nothing else. A caller who keeps it beside the root spares
+/// later reads the directory's blocks: `find_in` and `read_range_in` take it. The root was born in the transaction group `birth` or
+/// before. The disks that are named are taken as missing. `BadPointer` where the block is no root of a pool, or its object 1 no
+/// directory.
+pub fn directory_under<D: Disk + Drop>(
+    root: &Block,
+    store: &mut BlockStore<D>,
+    alloc: Global,
+    birth: u64,
+    missing: &[usize],
+) -> Result<Directory, Refusal>
+    ensures reads { OnlyReadsBlocks store.old store.new missing.now }
+
+    // It is that of the pool: the very rows that the root spells it by.
+    ensures value { IfOk result (λ directory. (stored : Contents) (pool : PlainPool)
+        → Holds store.old stored → (is : SpellsPool stored birth root.now pool)
+        → AnswersAreTrue store.old store.new → directory ≡ is.rows) }
+
+    // Whatever the root is: what was read, and on a refusal its cause.
+    ensures found { IfOk result (λ directory. (set : ObjectSet)
+        × AreRowsFound store.old.spaces birth root.now set directory) }
+    ensures refused { IfErr result (λ refusal. (refusal ≡ Refusal.NoMemory)
+        ⊎ (IsMetaRefused store.old store.new missing.now birth root.now refusal
+        ⊎ IsDirectoryRefused store.old store.new missing.now birth root.now refusal)) }
+
+    // And it is read, over disks that answer truly, unless too many disks miss of a block.
+    ensures known { IfErr result (λ refusal. (stored : Contents) (pool : PlainPool)
+        → Holds store.old stored → SpellsPool stored birth root.now pool
+        → AnswersAreTrue store.old store.new → IsForLoss refusal) }
+{
+    let set = read_meta(root, store, alloc, birth, missing)?;
+    read_directory(&set, store, alloc, root.birth, missing)
+}
+
+/// The dataset of that name under a root whose directory is kept in memory: nothing where the directory hasn't got the name, and then
+/// nothing is read. Else it reads the root and the dataset's record, and nothing of the directory's blocks. `BadPointer` where the
+/// block is no root of a pool, or the object that the directory has for the name no record of a dataset. All else is as in `find`.
+pub fn find_in<D: Disk + Drop>(
+    root: &Block,
+    store: &mut BlockStore<D>,
+    alloc: Global,
+    birth: u64,
+    directory: &Directory,
+    name: &Name,
+    missing: &[usize],
+) -> Result<Option<Dataset>, Refusal>
+    ensures reads { OnlyReadsBlocks store.old store.new missing.now }
+    ensures idle { IfOk result (λ found. found ≡ None → store.new ≡ store.old) }
+
+    // Where the directory is the root's, it has the record and the bytes of the volume that the pool has there.
+    ensures value { IfOk result (λ found. (stored : Contents) (pool : PlainPool)
+        → Holds store.old stored → (is : SpellsPool stored birth root.now pool)
+        → directory.now ≡ is.rows → AnswersAreTrue store.old store.new
+        → HasDataset stored (root.now).birth (volume_at name.now pool) found) }
+
+    // Whatever the root and the directory are: what was read, and on a refusal its cause.
+    ensures found { IfOk result
+        (IsFoundIn store.old.spaces birth root.now directory.now name.now) }
+    ensures refused { IfErr result (λ refusal. (refusal ≡ Refusal.NoMemory)
+        ⊎ IsRefusedIn store.old store.new missing.now birth root.now directory.now name.now
+        refusal) }
+
+    // And it is found, over disks that answer truly, unless too many disks miss of a block.
+    ensures known { IfErr result (λ refusal. (stored : Contents) (pool : PlainPool)
+        → Holds store.old stored → (is : SpellsPool stored birth root.now pool)
+        → directory.now ≡ is.rows → AnswersAreTrue store.old store.new → IsForLoss refusal) }
+{
+    let Some(object) = number_in(directory, name) else {
+        return Ok(None);
+    };
+    let set = read_meta(root, store, alloc, birth, missing)?;
     let dataset = read_dataset(&set, store, alloc, root.birth, object, missing)?;
     Ok(Some(dataset))
 }

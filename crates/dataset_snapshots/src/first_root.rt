@@ -20,7 +20,7 @@ ghost use Rattle.dataset_snapshots.specs.Pools.{SpellsPool};
 ghost use Rattle.dataset_snapshots.specs.Reach.{blocks_listed, reach_of};
 
 use crate::groups::{FIRST_OBJECT, MOST_NAMES, plan_root};
-use crate::making::Making;
+use crate::making::{Made, Making};
 use block_pointer::{Block, BlockPtr};
 use block_store::{BlockStore, Refusal};
 use dnode::{ObjectNode, ObjectSet, ObjectSetKind};
@@ -44,6 +44,14 @@ const EMPTY: ObjectSet = ObjectSet {
     objects: 1,
 };
 
+/// The first root of a pool.
+#[derive(Debug, Drop)]
+pub struct FirstRoot {
+    pub root: Block,
+    /// The directory under it.
+    pub directory: Directory,
+}
+
 /// Plans the first root of a pool, which had no volumes so far, after the items of the transaction group `group`: the volumes that it
 /// makes, and then the tables of the meta object set: the directory, the configuration, and tables of stale spans and of space
 /// maps with no rows. Writes do nothing where there are no volumes. `BadConfig` where a volume can't have its name or its sizes;
@@ -56,23 +64,24 @@ pub fn first_group<D: Disk + Drop>(
     config: &Config,
     group: u64,
     items: &Pending,
-) -> Result<Block, Refusal>
+) -> Result<FirstRoot, Refusal>
     requires fits { FitsConfig (config_view config.now) }
     requires few { length (config_bytes (config_view config.now)) < 2 ^ 46 }
     requires born { 0 < group }
     ensures steps { OnlyReadsAndPlans store.old store.new [] }
-    ensures fits { IfOk result FitsBlock }
-    ensures born { IfOk result (λ root. root.birth ≡ group) }
-    ensures copies { IfOk result (λ root. length (dvas root.copies) ≡ 3) }
+    ensures fits { IfOk result (λ first. FitsBlock first.root) }
+    ensures born { IfOk result (λ first. first.root.birth ≡ group) }
+    ensures copies { IfOk result (λ first. length (dvas first.root.copies) ≡ 3) }
 
     // It spells the pool after the group, once the plan is stored, and has the tables of a new pool. What is planned is what it
-    // leads to, and nothing else.
-    ensures value { IfOk result (λ root. (stored planned : Contents)
+    // leads to, and nothing else. The directory is the one that it spells the pool by.
+    ensures value { IfOk result (λ first. (stored planned : Contents)
         → Plans store.old stored planned → AnswersAreTrue store.old store.new
         → (later : Contents) × Plans store.new stored later × Extends planned later
-        × (is : SpellsPool later group root (applied group no_volumes items.now))
+        × (is : SpellsPool later group first.root (applied group no_volumes items.now))
         × HasFirstTables is.objects (config_view config.now)
-        × IsReachExchanged group planned later [] (reach_of is) []) }
+        × IsReachExchanged group planned later [] (reach_of is) []
+        × (first.directory ≡ is.rows)) }
 
     // Over disks that answer truly, and where all may be made, only room is wanting.
     ensures known { IfErr result (λ refusal. (stored planned : Contents)
@@ -87,9 +96,13 @@ pub fn first_group<D: Disk + Drop>(
         (IsFirstRefused store.old store.new group (config_view config.now) items.now) }
 {
     let making = first_volumes(store, alloc, group, items.actions())?;
-    let changes = with_tables(making, alloc, config)?;
+    let made = with_tables(making, alloc, config)?;
     let mut replaced = Vec::new(alloc);
-    plan_root(&EMPTY, store, alloc, &changes, group, &mut replaced)
+    let root = plan_root(&EMPTY, store, alloc, &made.changes, group, &mut replaced)?;
+    Ok(FirstRoot {
+        root,
+        directory: made.directory,
+    })
 }
 
 /// Makes the volumes of these actions where there are none, in order, and plans their sets.
@@ -125,20 +138,21 @@ fn first_volumes<D: Disk + Drop>(
     Ok(making)
 }
 
-/// The changes that make the tables, with a row for each volume, and then the objects of the volumes. `NoMemory` is the only error,
-/// also where the directory would have 2^40 names.
-fn with_tables(making: Making, alloc: Global, config: &Config) -> Result<Vec<ObjectChange>, Refusal>
+/// What was made, with the changes that make the tables in front of those of the volumes' objects; the directory has a row for each
+/// volume. `NoMemory` is the only error, also where the directory would have 2^40 names.
+fn with_tables(making: Making, alloc: Global, config: &Config) -> Result<Made, Refusal>
     requires fits { FitsConfig (config_view config.now) }
     requires few { length (config_bytes (config_view config.now)) < 2 ^ 46 }
     requires ready { IsReady making }
-    ensures numbers { IfOk result (λ changes. All (λ change. (0 < change.number)
-        × (change.number < 32 * 128 ^ 5)) changes.items) }
-    ensures order { IfOk result (λ changes.
-        AllPairs (λ change later. change.number < later.number) changes.items) }
-    ensures good { IfOk result (λ changes. All (λ change. IsGoodChange change.change)
-        changes.items) }
-    ensures tables { IfOk result (λ changes.
-        IsWithTables (config_view config.now) making changes.items) }
+    ensures numbers { IfOk result (λ made. All (λ change. (0 < change.number)
+        × (change.number < 32 * 128 ^ 5)) made.changes.items) }
+    ensures order { IfOk result (λ made.
+        AllPairs (λ change later. change.number < later.number) made.changes.items) }
+    ensures good { IfOk result (λ made. All (λ change. IsGoodChange change.change)
+        made.changes.items) }
+    ensures tables { IfOk result (λ made.
+        IsWithTables (config_view config.now) making made.changes.items) }
+    ensures directory { IfOk result (λ made. made.directory ≡ making.directory) }
     ensures refused { IfErr result (λ refusal. refusal ≡ Refusal.NoMemory) }
 {
     let Making {
@@ -149,8 +163,8 @@ fn with_tables(making: Making, alloc: Global, config: &Config) -> Result<Vec<Obj
     let Ok(tables) = table_changes(&directory, alloc, config) else {
         return Err(Refusal::NoMemory);
     };
-    let all = put_behind(alloc, tables, changes)?;
-    Ok(all)
+    let changes = put_behind(alloc, tables, changes)?;
+    Ok(Made { directory, changes })
 }
 
 /// The first changes and then the others.

@@ -33,7 +33,7 @@ ghost use Rattle.dataset_snapshots.specs.Reach.{blocks_listed, parts_of, reach_o
 ghost use Rattle.objset.specs.Changes.{copies_of};
 
 use crate::finding::read_meta;
-use crate::making::Making;
+use crate::making::{Made, Making};
 use crate::writing::{WrittenVolume, place_written, read_written, written_objects};
 use block_pointer::Block;
 use block_store::{BlockStore, Refusal};
@@ -45,11 +45,14 @@ use pool_model::Action;
 use std::alloc::{AllocError, Global};
 use txg_pipeline::Pending;
 
-/// The root of a pool after a group, and the blocks that the root before led to and this one doesn't.
+/// The root of a pool after a group.
 #[derive(Debug, Drop)]
 pub struct NextRoot {
     pub root: Block,
+    /// The blocks that the root before led to and this one doesn't.
     pub replaced: Vec<Block>,
+    /// The directory under this root.
+    pub directory: Directory,
 }
 
 /// What a group is planned from: the meta object set, its directory, and the volumes that the group writes to.
@@ -90,7 +93,8 @@ pub fn after_group<D: Disk + Drop>(
     ensures copies { IfOk result (λ after. length (dvas after.root.copies) ≡ 3) }
 
     // It spells the pool after the group, once the plan is stored, and has the other tables that there were. The blocks that
-    // gave way are those that the root before leads to and this one doesn't; what is planned is what it leads to besides.
+    // gave way are those that the root before leads to and this one doesn't; what is planned is what it leads to besides. The
+    // directory is the one that it spells the pool by.
     ensures value { IfOk result (λ after. (stored planned : Contents) (pool : PlainPool)
         → Plans store.old stored planned → (is : SpellsPool stored (group - 1) root.now pool)
         → AnswersAreTrue store.old store.new
@@ -99,7 +103,8 @@ pub fn after_group<D: Disk + Drop>(
         × ((vdevs : List PlainVdev) → HasFirstTables is.objects vdevs
         → HasFirstTables then.objects vdevs)
         × IsReachExchanged group planned later (reach_of is) (reach_of then)
-        after.replaced.items) }
+        after.replaced.items
+        × (after.directory ≡ then.rows)) }
 
     // Over disks that answer truly, and where all may be made, only room is wanting, or disks.
     ensures known { IfErr result (λ refusal. (stored planned : Contents) (pool : PlainPool)
@@ -115,11 +120,12 @@ pub fn after_group<D: Disk + Drop>(
     let opened = open_group(root, store, alloc, group - 1, items)?;
     let set = opened.set;
     let mut replaced = only(root, alloc)?;
-    let changes = changes_of(opened, store, alloc, group, items.actions(), &mut replaced)?;
-    let next = plan_root(&set, store, alloc, &changes, group, &mut replaced)?;
+    let made = changes_of(opened, store, alloc, group, items.actions(), &mut replaced)?;
+    let next = plan_root(&set, store, alloc, &made.changes, group, &mut replaced)?;
     Ok(NextRoot {
         root: next,
         replaced,
+        directory: made.directory,
     })
 }
 
@@ -166,8 +172,8 @@ fn open_group<D: Disk + Drop>(
     })
 }
 
-/// Plans the volumes after the group: the changes of the meta object set, in the order of their objects' numbers. The volumes'
-/// blocks that gave way to others come behind those in `replaced`.
+/// Plans the volumes after the group: the directory then, and the changes of the meta object set. The volumes' blocks that gave way
+/// to others come behind those in `replaced`.
 fn changes_of<D: Disk + Drop>(
     opened: Opened,
     store: &mut BlockStore<D>,
@@ -175,29 +181,31 @@ fn changes_of<D: Disk + Drop>(
     group: u64,
     actions: &[Action],
     replaced: &mut Vec<Block>,
-) -> Result<Vec<ObjectChange>, Refusal>
+) -> Result<Made, Refusal>
     requires born { 0 < group }
     requires opened { (writes : List Write) × IsOpened writes opened }
     ensures steps { OnlyReadsAndPlans store.old store.new [] }
-    ensures numbers { IfOk result (λ changes. All (λ change. (0 < change.number)
-        × (change.number < 32 * 128 ^ 5)) changes.items) }
-    ensures order { IfOk result (λ changes.
-        AllPairs (λ change later. change.number < later.number) changes.items) }
-    ensures good { IfOk result (λ changes. All (λ change. IsGoodChange change.change)
-        changes.items) }
-    ensures value { IfOk result (λ changes. (stored planned : Contents) (birth : ℕ)
+    ensures numbers { IfOk result (λ made. All (λ change. (0 < change.number)
+        × (change.number < 32 * 128 ^ 5)) made.changes.items) }
+    ensures order { IfOk result (λ made.
+        AllPairs (λ change later. change.number < later.number) made.changes.items) }
+    ensures good { IfOk result (λ made. All (λ change. IsGoodChange change.change)
+        made.changes.items) }
+    ensures value { IfOk result (λ made. (stored planned : Contents) (birth : ℕ)
         (root : Block) (pool : PlainPool) (writes : List Write)
         → Plans store.old stored planned → (is : SpellsPool stored birth root pool)
         → root.birth ≤ group → IsOpened writes opened
         → IsOpenedFrom stored birth root pool is writes opened
         → AnswersAreTrue store.old store.new
         → (later : Contents) × Plans store.new stored later × Extends planned later
-        × (lists : ℕ → List Block) × (then : SpellsAfter later group is.objects lists changes.items
+        × (lists : ℕ → List Block)
+        × (then : SpellsAfter later group is.objects lists made.changes.items
         (fold (λ p a. pool_changed group p a.change) (fold written pool writes) actions.now))
         × (gone : List Block) × (replaced.new.items ≡ replaced.old.items ++ gone)
         × IsReachExchanged group planned later
         (joined (parts_of stored root.birth is.objects is.rows pool.volumes is.volumes))
-        (blocks_listed lists then.rows) gone) }
+        (blocks_listed lists then.rows) gone
+        × (then.rows ≡ made.directory)) }
     ensures known { IfErr result (λ refusal. (stored planned : Contents) (birth : ℕ)
         (root : Block) (pool : PlainPool) (writes : List Write)
         → Plans store.old stored planned → (is : SpellsPool stored birth root pool)
@@ -205,8 +213,8 @@ fn changes_of<D: Disk + Drop>(
         → IsOpenedFrom stored birth root pool is writes opened
         → AnswersAreTrue store.old store.new → AreGoodCreations actions.now
         → IsForRoom refusal ⊎ (refusal ≡ Refusal.DiskFault)) }
-    ensures places { IfOk result (λ changes.
-        HasVolumePlaces store.old store.new group opened actions.now changes.items) }
+    ensures places { IfOk result (λ made.
+        HasVolumePlaces store.old store.new group opened actions.now made.changes.items) }
     ensures refused { IfErr result
         (AreVolumesRefused store.old store.new group opened actions.now) }
 {
@@ -229,27 +237,28 @@ fn changes_of<D: Disk + Drop>(
     with_directory(making, alloc, count)
 }
 
-/// The changes, and in front of them that of the directory where there are more of them than so many: where a volume was made.
+/// What was made, with the change of the directory in front where there are more changes than so many: where a volume was made.
 /// `NoMemory` is the only error, also where the directory would have 2^40 names.
-fn with_directory(making: Making, alloc: Global, count: usize) -> Result<Vec<ObjectChange>, Refusal>
+fn with_directory(making: Making, alloc: Global, count: usize) -> Result<Made, Refusal>
     requires ready { IsReady making }
-    ensures numbers { IfOk result (λ changes. All (λ change. (0 < change.number)
-        × (change.number < 32 * 128 ^ 5)) changes.items) }
-    ensures order { IfOk result (λ changes.
-        AllPairs (λ change later. change.number < later.number) changes.items) }
-    ensures good { IfOk result (λ changes. All (λ change. IsGoodChange change.change)
-        changes.items) }
-    ensures value { IfOk result (λ changes. (stored : Contents) (birth : ℕ)
+    ensures numbers { IfOk result (λ made. All (λ change. (0 < change.number)
+        × (change.number < 32 * 128 ^ 5)) made.changes.items) }
+    ensures order { IfOk result (λ made.
+        AllPairs (λ change later. change.number < later.number) made.changes.items) }
+    ensures good { IfOk result (λ made. All (λ change. IsGoodChange change.change)
+        made.changes.items) }
+    ensures value { IfOk result (λ made. (stored : Contents) (birth : ℕ)
         (objects : ℕ → Option Object) (lists : ℕ → List Block) (pool : PlainPool)
         (rows : List DirectoryRow)
         → HasDirectory (objects 1) rows → SpellsMaking stored birth objects lists making pool
         → (length making.changes.items ≡ count → making.directory ≡ rows)
-        → (then : SpellsAfter stored birth objects lists changes.items pool)
+        → (then : SpellsAfter stored birth objects lists made.changes.items pool)
         × (then.rows ≡ making.directory)) }
-    ensures same { IfOk result (λ changes. length making.changes.items ≡ count
-        → changes.items ≡ making.changes.items) }
-    ensures more { IfOk result (λ changes. length making.changes.items ≢ count
-        → IsWithDirectory making changes.items) }
+    ensures directory { IfOk result (λ made. made.directory ≡ making.directory) }
+    ensures same { IfOk result (λ made. length making.changes.items ≡ count
+        → made.changes.items ≡ making.changes.items) }
+    ensures more { IfOk result (λ made. length making.changes.items ≢ count
+        → IsWithDirectory making made.changes.items) }
     ensures refused { IfErr result (λ refusal. refusal ≡ Refusal.NoMemory) }
 {
     let Making {
@@ -258,11 +267,11 @@ fn with_directory(making: Making, alloc: Global, count: usize) -> Result<Vec<Obj
         ..
     } = making;
     if changes.len() == count {
-        return Ok(changes);
+        return Ok(Made { directory, changes });
     }
-    let directory = directory_change(&directory, alloc)?;
-    put_first(&mut changes, directory)?;
-    Ok(changes)
+    let change = directory_change(&directory, alloc)?;
+    put_first(&mut changes, change)?;
+    Ok(Made { directory, changes })
 }
 
 /// Puts a change in front of others.

@@ -1,5 +1,5 @@
 //! What follows from the definitions, as functions with no body.
-ghost use Rattle.dataset_snapshots.specs.Laws.{GoodChangesMayBeMade, LossesOfDatasets, LossesOfFirstGroups, LossesOfGroups, LossesOfRanges, ReachesLieApart, ReachIsKnown, ReadsNeedNoRoom, ReplacedOfGroupsLeave, RootsSpellOnePool, RootsStandOnTheirReach, RootsStay};
+ghost use Rattle.dataset_snapshots.specs.Laws.{GoodChangesMayBeMade, LossesByRows, LossesOfDatasets, LossesOfFirstGroups, LossesOfGroups, LossesOfRanges, ReachesLieApart, ReachIsKnown, ReadsNeedNoRoom, ReplacedOfGroupsLeave, RootsSpellOnePool, RootsStandOnTheirReach, RootsStay};
 
 /// A root spells its pool where more blocks are known, and for a later group.
 pub fn roots_stay()
@@ -39,6 +39,12 @@ pub fn losses_of_first_groups()
 /// Where a range of a volume is refused for a fault of disks, a block is lost.
 pub fn losses_of_ranges()
     ensures { LossesOfRanges }
+{}
+
+/// Where the directory under a root is not read for a fault of disks, or by the rows of a directory a name is not found or a range of
+/// a volume is refused, a block is lost.
+pub fn losses_by_rows()
+    ensures { LossesByRows }
 {}
 
 /// No read under a root is refused for lack of room.

@@ -12,12 +12,12 @@ mod walks;
 mod writing;
 
 pub use block_store::Refusal;
-pub use finding::{Dataset, find};
-pub use first_root::first_group;
+pub use finding::{Dataset, directory_under, find, find_in};
+pub use first_root::{FirstRoot, first_group};
 pub use groups::{NextRoot, after_group};
 pub use laws::{
-    good_changes_may_be_made, losses_of_datasets, losses_of_first_groups, losses_of_groups,
-    losses_of_ranges, reaches_lie_apart, replaced_of_groups_leave, roots_stay,
+    good_changes_may_be_made, losses_by_rows, losses_of_datasets, losses_of_first_groups,
+    losses_of_groups, losses_of_ranges, reaches_lie_apart, replaced_of_groups_leave, roots_stay,
 };
-pub use ranges::{VolumeRange, read_range};
+pub use ranges::{VolumeRange, read_range, read_range_in};
 pub use walks::reach;

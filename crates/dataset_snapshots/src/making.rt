@@ -51,6 +51,15 @@ pub(crate) struct Making {
     pub next: u64,
 }
 
+/// What a group made of the meta object set.
+#[derive(Debug, Drop)]
+pub(crate) struct Made {
+    /// The directory after the group.
+    pub directory: Directory,
+    /// The changes of all objects, in the order of their numbers; that of the directory is among them where it changed.
+    pub changes: Vec<ObjectChange>,
+}
+
 impl Making {
     /// Makes the volumes of these actions, in order. A name that is there already is passed over. Each volume takes two objects: its
     /// record, and an empty dead list. `BadConfig` where a volume can't have its name or its sizes; `NoSpace` also where no

@@ -56,7 +56,8 @@ fn first_root<D: Disk + Drop>(
         (IsNextRefused store.old store.new None group items.now) }
 {
     let config = config_of(alloc, store)?;
-    first_group(store, alloc, &config, group, items)
+    let first = first_group(store, alloc, &config, group, items)?;
+    Ok(first.root)
 }
 
 /// Plans the root of the transaction group `group` after its items, behind the last one; or the first root of a pool.

@@ -4,7 +4,7 @@ use Rattle.pool_model.specs.Pools.{no_volumes}
 use Rattle.meta_objset.specs.declared.directory.DirectoryRow.{DirectoryRow}
 use Rattle.dataset_snapshots.specs.Leaving.{IsReachExchanged}
 use Rattle.dataset_snapshots.specs.Reach.{blocks_listed}
-use Rattle.dataset_snapshots.proofs.FirstRoot.{begins_first, nothing}
+use Rattle.dataset_snapshots.proofs.FirstRoots.{begins_first, nothing}
 use Rattle.dataset_snapshots.proofs.first_root.first_volumes.Goals as goal
 
 pub returns-in_err-make_all-clause-known : goal.returns-in_err-make_all-clause-known

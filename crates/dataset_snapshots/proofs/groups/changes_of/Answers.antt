@@ -59,7 +59,7 @@ returns-clause-steps g c = steps_on _ _ _ _ c.in_ok-changes.ensures.steps c.make
 pub returns-clause-value : goal.returns-clause-value
 returns-clause-value g c =
     let making : Making = record { directory = c.args.opened.directory; changes = c.in_ok-changes.changes; next = c.max-next.result } in
-    IfOk-weaker c.with_directory.result _ _ (λ changes after stored planned birth root pool writes plans is le opens from honest.
+    IfOk-weaker c.with_directory.result _ _ (λ all both stored planned birth root pool writes plans is le opens from honest.
     let looked = looked_listed stored root.birth is.objects is.rows pool.volumes is.apart is.volumes in
     let placed = c.in_ok-changes.ensures.value stored planned root.birth is.objects writes is.rows (look is.rows pool.volumes) (blocks_at stored root.birth is.objects is.rows pool.volumes is.volumes) plans le
     (true_before c.args.store.now c.place_written.new.store c.make_all.new.store c.make_all.ensures.steps.reads honest) from.read looked in
@@ -69,7 +69,7 @@ returns-clause-value g c =
     from looked placed.4 c.in_ok-changes.ensures.numbers refl (omega (arith, c.max-next.ensures)) in
     let made = c.in_ok-make_all.ensures.value stored placed.0 is.objects changed_lists (fold written pool writes) placed.1 begins
     (true_after c.args.store.now c.place_written.new.store c.make_all.new.store c.in_ok-changes.ensures.steps.reads honest) in
-    let then = after made.0 c.args.group is.objects made.3 (fold (λ p a. pool_changed c.args.group p a.change) (fold written pool writes) c.args.actions.now) is.rows is.directory made.4
+    let then = both.0 made.0 c.args.group is.objects made.3 (fold (λ p a. pool_changed c.args.group p a.change) (fold written pool writes) c.args.actions.now) is.rows is.directory made.4
     (λ same. idle making c.make_all.new.self c.len-count.result c.in_ok-make_all.ensures.goes_on (omega (arith, c.len-count.ensures, c.in_ok-changes.changes.ok.0)) same ∙ from.directory) in
     let first = rows_given c.args.group planned placed.0 lists is.rows c.in_ok-changes.changes.items placed.3 _ placed.5 is.apart placed.4
     (changes_once writes c.args.opened c.in_ok-changes.changes.items opens c.in_ok-changes.ensures.numbers)
@@ -88,7 +88,8 @@ returns-clause-value g c =
       placed.6,
       given_then c.args.group planned placed.0 made.0 (joined (parts_of stored root.birth is.objects is.rows pool.volumes is.volumes)) (blocks_listed changed_lists is.rows)
           (blocks_listed made.3 then.0.rows) placed.5 placed.2 made.2 from_parts to_rows,
-    )) c.with_directory.ensures.value
+      then.1 ∙ sym both.1,
+    )) (ok_both c.with_directory.result _ _ c.with_directory.ensures.value c.with_directory.ensures.directory)
 
 pub returns-in_err-changes-clause-refused : goal.returns-in_err-changes-clause-refused
 returns-in_err-changes-clause-refused g c =
@@ -107,9 +108,9 @@ returns-clause-places g c =
     let last : Making = c.make_all.new.self in
     let made = c.in_ok-make_all.ensures.places in
     IfOk-weaker c.with_directory.result _ _
-    (λ changes both.
-    volumes_have c.args.store.now c.place_written.new.store c.make_all.new.store c.args.group c.args.opened making c.args.actions.now last changes.items c.in_ok-changes.ensures.steps.shapes
+    (λ all both.
+    volumes_have c.args.store.now c.place_written.new.store c.make_all.new.store c.args.group c.args.opened making c.args.actions.now last all.changes.items c.in_ok-changes.ensures.steps.shapes
     c.in_ok-changes.ensures.places refl made
-    (group_changes c.args.opened making last c.args.actions.now made.made c.len-count.result changes.items c.in_ok-changes.ensures.numbers c.in_ok-changes.ensures.writes refl c.max-next.ensures
+    (group_changes c.args.opened making last c.args.actions.now made.made c.len-count.result all.changes.items c.in_ok-changes.ensures.numbers c.in_ok-changes.ensures.writes refl c.max-next.ensures
     (omega (arith, c.len-count.ensures, c.in_ok-changes.changes.ok.0)) made.objects both.0 both.1))
     (ok_both c.with_directory.result _ _ c.with_directory.ensures.same c.with_directory.ensures.more)

@@ -13,8 +13,8 @@ returns-then-len-count-clause-value c = λ stored birth objects lists pool rows 
 pub returns-clause-value : goal.returns-clause-value
 returns-clause-value c = λ stored birth objects lists pool rows directory spells same.
     subst (λ (changes : List ObjectChange). (then : SpellsAfter stored birth objects lists changes pool) × (then.rows ≡ c.args.making.directory)) (sym c.in_ok-put_first.ensures)
-    (after_made stored birth objects lists c.args.making pool rows c.requires.ready directory spells c.in_ok-directory.directory c.in_ok-directory.ensures.number c.in_ok-directory.ensures.may
-    c.in_ok-directory.ensures.made)
+    (after_made stored birth objects lists c.args.making pool rows c.requires.ready directory spells c.in_ok-change.change c.in_ok-change.ensures.number c.in_ok-change.ensures.may
+    c.in_ok-change.ensures.made)
 
 pub returns-then-len-count-clause-more : goal.returns-then-len-count-clause-more
 returns-then-len-count-clause-more c = λ other. absurd (other (omega (arith, c.len.ensures, c.if-len-count.true, c.args.making.changes.ok.0)))
@@ -29,6 +29,6 @@ first_is names changes all first is number writes =
 
 pub returns-clause-more : goal.returns-clause-more
 returns-clause-more c = λ other.
-    let directory = c.in_ok-directory.ensures in
-    first_is (length c.args.making.directory) c.args.making.changes.items _ c.in_ok-directory.directory c.in_ok-put_first.ensures directory.number
+    let directory = c.in_ok-change.ensures in
+    first_is (length c.args.making.directory) c.args.making.changes.items _ c.in_ok-change.change c.in_ok-put_first.ensures directory.number
     (c.args.making.directory, refl, λ object is. (directory.may object is, directory.made object is))

@@ -1,10 +1,9 @@
-use Rattle.std.proofs.Common.{◌+◌, ◌<◌, inl, inr, ⊎_elim, arith}
+use Rattle.std.proofs.Common.{◌+◌, ◌≤◌, inl, inr, ⊎_elim, sym, subst}
 use Rattle.std.proofs.lemmas.Result.{IfOk-weaker, IfErr-weaker}
 use Rattle.block_store.proofs.Steps.{reads_on}
 use Rattle.dnode_tree.proofs.FurtherReads.{true_before, true_after}
 use Rattle.dnode_tree.proofs.Refusing.{passed_on}
-use Rattle.raidz_io.proofs.Found.{false_not_true}
-use Rattle.dataset_snapshots.proofs.FoundRanges.{data_refused, is_not_none, is_past, not_there, range_within, too_small, volume_found}
+use Rattle.dataset_snapshots.proofs.FoundRanges.{data_refused, found_volume, is_not_none, not_there, volume_found}
 use Rattle.dataset_snapshots.proofs.ranges.read_range.Goals as goal
 
 pub returns-in_err-found-clause-refused : goal.returns-in_err-found-clause-refused
@@ -21,44 +20,34 @@ pub returns-in_default-clause-known : goal.returns-in_default-clause-known
 returns-in_default-clause-known g c = λ stored pool volume held is honest there within.
     absurd (is_not_none stored _ _ _ volume there c.in_default.is (c.in_ok-found.ensures.value stored pool held is honest))
 
-pub returns-then-not-is_within-clause-refused : goal.returns-then-not-is_within-clause-refused
-returns-then-not-is_within-clause-refused g c =
-    let past : c.in-Some.dataset.record.size < c.args.range.now.offset + c.args.range.now.len = is_past c.is_within.result _ _ c.is_within.ensures.1 c.if-not-is_within.true in
-    inr (too_small _ _ _ _ _ _ _ c.in-Some.dataset _ _ c.in_ok-found.ensures.found c.in-Some.is past)
-
-pub returns-then-not-is_within-clause-known : goal.returns-then-not-is_within-clause-known
-returns-then-not-is_within-clause-known g c = λ stored pool volume held is honest there within.
-    let has = volume_found stored _ _ _ volume c.in-Some.dataset there c.in-Some.is (c.in_ok-found.ensures.value stored pool held is honest) in
-    absurd (false_not_true c.is_within.result c.if-not-is_within.true (c.is_within.ensures.1 (omega (arith, has.0.size, within))))
-
-pub read-requires-clause-within : goal.read-requires-clause-within
-read-requires-clause-within g c = range_within _ _ _ _ _ c.in-Some.dataset _ c.in_ok-found.ensures.found c.in-Some.is (c.is_within.ensures.0 c.if-not-is_within.false)
+pub read_of-requires-clause-volume : goal.read_of-requires-clause-volume
+read_of-requires-clause-volume g c = found_volume _ _ _ _ _ c.in-Some.dataset c.in_ok-found.ensures.found c.in-Some.is
 
 pub returns-clause-reads : goal.returns-clause-reads
-returns-clause-reads g c = reads_on _ _ _ _ c.in_ok-found.ensures.reads c.read.ensures.reads
+returns-clause-reads g c = reads_on _ _ _ _ c.in_ok-found.ensures.reads c.read_of.ensures.reads
 
 pub returns-clause-value : goal.returns-clause-value
 returns-clause-value g c =
     let first = c.in_ok-found.ensures.reads in
-    let rest = c.read.ensures.reads in
-    IfOk-weaker c.read.result _ _
+    let rest = c.read_of.ensures.reads in
+    IfOk-weaker c.read_of.result _ _
     (λ bytes value stored pool volume held is honest there.
     let has = volume_found stored _ _ _ volume c.in-Some.dataset there c.in-Some.is (c.in_ok-found.ensures.value stored pool held is (true_before _ _ _ _ first rest honest)) in
     value stored volume.bytes (first.keeps stored held) has.1 (true_after _ _ _ _ first rest honest))
-    c.read.ensures.value
+    c.read_of.ensures.value
 
 pub returns-clause-refused : goal.returns-clause-refused
 returns-clause-refused g c =
-    IfErr-weaker c.read.result _ _
+    IfErr-weaker c.read_of.result _ _
     (λ refusal why. data_refused _ _ _ _ _ _ _ _ c.in-Some.dataset _ _ refusal c.in_ok-found.ensures.reads c.in_ok-found.ensures.found c.in-Some.is why)
-    c.read.ensures.refused
+    c.read_of.ensures.refused
 
 pub returns-clause-known : goal.returns-clause-known
 returns-clause-known g c =
     let first = c.in_ok-found.ensures.reads in
-    let rest = c.read.ensures.reads in
-    IfErr-weaker c.read.result _ _
+    let rest = c.read_of.ensures.reads in
+    IfErr-weaker c.read_of.result _ _
     (λ refusal known stored pool volume held is honest there within.
     let has = volume_found stored _ _ _ volume c.in-Some.dataset there c.in-Some.is (c.in_ok-found.ensures.value stored pool held is (true_before _ _ _ _ first rest honest)) in
-    known stored volume.bytes (first.keeps stored held) has.1 (true_after _ _ _ _ first rest honest))
-    c.read.ensures.known
+    known stored volume.bytes (first.keeps stored held) has.1 (true_after _ _ _ _ first rest honest) (subst (λ n. c.args.range.now.offset + c.args.range.now.len ≤ n) (sym has.0.size) within))
+    c.read_of.ensures.known

@@ -1,8 +1,9 @@
 -- The first root of a pool, from the volumes that are made and the tables.
-use Rattle.std.proofs.Common.{◌≡◌, ◌≢◌, ◌⊎◌, inl, inr, ℕ, ◌<◌, ◌≤◌, List, [], ◌∷◌, ◌++◌, Option, Some, None, All, ⊎_elim, refl, sym, ap, ◌∙◌, subst, arith}
+use Rattle.std.proofs.Common.{◌≡◌, ◌≢◌, ◌⊎◌, inl, inr, ℕ, ◌<◌, ◌≤◌, List, [], ◌∷◌, ◌++◌, Option, Some, None, All, AllPairs, ⊎_elim, refl, sym, ap, ◌∙◌, subst, arith}
 use Rattle.std.specs.Prelude.{fold}
 use Rattle.std.specs.List.{AllZip}
 use Rattle.std.proofs.lemmas.Bool.{cases_lt}
+use Rattle.std.proofs.lemmas.List.Kept.{AllPairs-cons}
 use Rattle.std.proofs.lemmas.List.Elements.{All-append, All-cons, All-weaker}
 use Rattle.block_pointer.specs.declared.block.Block.{Block}
 use Rattle.block_store.proofs.Demands.{have_both}
@@ -76,6 +77,9 @@ module _ (start : Making) (no_rows : start.directory ≡ []) (no_changes : start
 
 -- ---- the tables
 
+abbrev Comes : ObjectChange → ObjectChange → Type 0
+Comes change later = change.number < later.number
+
 abbrev one : ℕ → Change → ObjectChange
 one number change = record { number = number; change = change }
 
@@ -98,6 +102,27 @@ module _ (vdevs : List PlainVdev) (rows : List DirectoryRow) (tables : List Obje
 
   tables_low : All (λ change. (0 < change.number) × (change.number ≤ 4)) tables
   tables_low = each_table (λ change. (0 < change.number) × (change.number ≤ 4)) (omega arith, omega arith) (omega arith, omega arith) (omega arith, omega arith) (omega arith, omega arith)
+
+  -- they stand in order in front of others
+  pub in_front : (others : List ObjectChange) → All (λ change. (4 < change.number)) others → AllPairs (λ change later. change.number < later.number) others
+      → AllPairs (λ change later. change.number < later.number) (tables ++ others)
+  in_front others high order =
+      let first = one 1 are.directory in
+      let second = one 2 are.config in
+      let third = one 3 are.spans in
+      let fourth = one 4 are.maps in
+      let behind : (n : ℕ) → n ≤ 4 → All (λ (later : ObjectChange). n < later.number) others = λ n low.
+      All-weaker (λ (change : ObjectChange). 4 < change.number) (λ change. n < change.number) (λ change high. omega (arith, high, low)) others high in
+      let four = AllPairs-cons Comes fourth others (behind 4 (omega arith)) order in
+      let three = AllPairs-cons Comes third (fourth ∷ others) (All-cons (λ (later : ObjectChange). 3 < later.number) fourth others (omega arith) (behind 3 (omega arith))) four in
+      let two = AllPairs-cons Comes second (third ∷ fourth ∷ others)
+      (All-cons (λ (later : ObjectChange). 2 < later.number) third (fourth ∷ others) (omega arith)
+      (All-cons (λ (later : ObjectChange). 2 < later.number) fourth others (omega arith) (behind 2 (omega arith)))) three in
+      let all = AllPairs-cons Comes first (second ∷ third ∷ fourth ∷ others)
+      (All-cons (λ (later : ObjectChange). 1 < later.number) second (third ∷ fourth ∷ others) (omega arith)
+      (All-cons (λ (later : ObjectChange). 1 < later.number) third (fourth ∷ others) (omega arith)
+      (All-cons (λ (later : ObjectChange). 1 < later.number) fourth others (omega arith) (behind 1 (omega arith))))) two in
+      subst (λ (front : List ObjectChange). AllPairs Comes (front ++ others)) (sym are.are) all
 
 -- ---- the tables and the objects of the volumes
 
@@ -155,7 +180,7 @@ module _ (vdevs : List PlainVdev) (making : Making) (changes : List ObjectChange
   pub spells_first : (stored later : Contents) (group : ℕ) (root : Block) (lists : ℕ → List Block) (pool : PlainPool) → SpellsMaking stored group nothing lists making pool → Extends stored later
       → (set : IsSetOf later group root sets.Meta (changed changes nothing)) → root.birth ≡ group
       → (is : SpellsPool later group root pool) × HasFirstTables is.objects vdevs
-      × (reach_of is ≡ root ∷ blocks_of_set set.set set.own set.blocks ++ blocks_listed lists making.directory)
+      × (reach_of is ≡ root ∷ blocks_of_set set.set set.own set.blocks ++ blocks_listed lists making.directory) × (is.rows ≡ making.directory)
   spells_first stored later group root lists pool spells more set born =
       let listed = subst (λ n. AllZip (HasBlocksOf later n (changed changes nothing) lists) making.directory pool.volumes) (sym born)
       (datasets_listed_stay stored later group (changed changes nothing) lists making.directory pool.volumes more (first_volumes stored group lists pool spells)) in
@@ -179,6 +204,7 @@ module _ (vdevs : List PlainVdev) (making : Making) (changes : List ObjectChange
           maps = table_has (λ o. HasTable maps_kind o []) 4 (omega arith) all.1.has_maps;
         },
         ap (λ below. root ∷ blocks_of_set set.set set.own set.blocks ++ below) spelled.1,
+        refl,
       )
 
 -- ---- what is planned
