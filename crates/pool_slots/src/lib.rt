@@ -16,9 +16,13 @@ pub mod laws;
 mod opening;
 mod refusal;
 mod scan;
+mod surveyed;
+mod surveying;
 mod writes;
 
 pub use blocks::BlockWrite;
 pub use committing::commit;
-pub use opening::open;
+pub use opening::{claim, open};
 pub use refusal::{DiskFailure, Refusal};
+pub use surveyed::Survey;
+pub use surveying::survey;
