@@ -31,7 +31,7 @@ now old new which call calls failed =
     let P : List JointCall → Type 0 = λ them. Contains (failed_since (length old.calls) them) which in
     (which, subst P (sym calls) (failed_first (length old.calls) which call old.calls (omega arith) failed))
 
-kept_through : (n : ℕ) (newer calls : List JointCall) (disk : ℕ) → Contains (failed_since n calls) disk → Contains (failed_since n (newer ++ calls)) disk
+pub kept_through : (n : ℕ) (newer calls : List JointCall) (disk : ℕ) → Contains (failed_since n calls) disk → Contains (failed_since n (newer ++ calls)) disk
 kept_through n [] calls disk has = has
 kept_through n (made ∷ newer) calls disk has =
     kept_if (nat_le n (length (newer ++ calls)) && is_failed made.call) made.which (failed_since n (newer ++ calls)) disk (kept_through n newer calls disk has)

@@ -26,4 +26,5 @@ mod LabelPlans
 mod LabelPhases
 mod ConfigLabels
 mod ClaimSteps
+mod Absence
 pub mod LifeClaims

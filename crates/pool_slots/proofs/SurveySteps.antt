@@ -75,10 +75,10 @@ taken_read out rewind old mid back new all highest taken scan go_back planning f
     read_earlier out old mid taken scan
     (takes.2 (known_later out old mid scan known) (honest_since (length old.calls) (length mid.calls) back (longer old mid no_write scan) honest_back) (read_later out old mid highest scan top.shown))
 
-lacks_earlier : (out : List Bool) (old new : Disks) (digest : List ℕ) → Makes no_write old new → LacksLabel out new digest → LacksLabel out old digest
+pub lacks_earlier : (out : List Bool) (old new : Disks) (digest : List ℕ) → Makes no_write old new → LacksLabel out new digest → LacksLabel out old digest
 lacks_earlier out old new digest makes it = record { which = it.which; used = it.used; without = λ number l shown. it.without number l (label_later old new it.which number l makes shown) }
 
-used_up_earlier : (out : List Bool) (old new : Disks) (highest : Uberblock) → Makes no_write old new → IsUsedUp out new highest → IsUsedUp out old highest
+pub used_up_earlier : (out : List Bool) (old new : Disks) (highest : Uberblock) → Makes no_write old new → IsUsedUp out new highest → IsUsedUp out old highest
 used_up_earlier out old new highest makes (inl past) = inl past
 used_up_earlier out old new highest makes (inr it) = inr (it.0, in_use_earlier out old new it.0 makes it.1, it.2)
 

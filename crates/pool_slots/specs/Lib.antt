@@ -15,3 +15,4 @@ pub mod Surveys
 pub mod OpenRefusals
 pub mod Lives
 pub mod Claims
+pub mod Present
