@@ -18,7 +18,7 @@ kept_if : (test : Bool) (which : ℕ) (disks : List ℕ) (disk : ℕ) → Contai
 kept_if true which disks disk has = Contains-append_right (which ∷ []) disks disk has
 kept_if false which disks disk has = has
 
-failed_first : (n : ℕ) (which : ℕ) (call : Call) (calls : List JointCall) → n ≤ length calls → is_failed call ≡ true
+pub failed_first : (n : ℕ) (which : ℕ) (call : Call) (calls : List JointCall) → n ≤ length calls → is_failed call ≡ true
     → Contains (failed_since n (on which call ∷ calls)) which
 failed_first n which call calls le failed =
     let P : Bool → Type 0 = λ b. Contains (if b && is_failed call then which ∷ failed_since n calls else failed_since n calls) which in
@@ -31,7 +31,7 @@ now old new which call calls failed =
     let P : List JointCall → Type 0 = λ them. Contains (failed_since (length old.calls) them) which in
     (which, subst P (sym calls) (failed_first (length old.calls) which call old.calls (omega arith) failed))
 
-kept_through : (n : ℕ) (newer calls : List JointCall) (disk : ℕ) → Contains (failed_since n calls) disk → Contains (failed_since n (newer ++ calls)) disk
+pub kept_through : (n : ℕ) (newer calls : List JointCall) (disk : ℕ) → Contains (failed_since n calls) disk → Contains (failed_since n (newer ++ calls)) disk
 kept_through n [] calls disk has = has
 kept_through n (made ∷ newer) calls disk has =
     kept_if (nat_le n (length (newer ++ calls)) && is_failed made.call) made.which (failed_since n (newer ++ calls)) disk (kept_through n newer calls disk has)
@@ -52,7 +52,7 @@ more_if true false failed which xs ys disk more rest has = kept_if (true && fail
 more_if false true failed which xs ys disk more rest has = let e : false ≡ true = more refl in absurd cc
 more_if false false failed which xs ys disk more rest has = rest has
 
-failed_earlier : (first later : ℕ) (calls : List JointCall) (disk : ℕ) → first ≤ later → Contains (failed_since later calls) disk
+pub failed_earlier : (first later : ℕ) (calls : List JointCall) (disk : ℕ) → first ≤ later → Contains (failed_since later calls) disk
     → Contains (failed_since first calls) disk
 failed_earlier first later [] disk le has = has
 failed_earlier first later (made ∷ earlier) disk le has =

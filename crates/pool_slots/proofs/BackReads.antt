@@ -70,9 +70,6 @@ AreWithout out from groups first now count =
     (which : ℕ) → which < count → InUse out which → AreKnown out first → AreHonestSince (length first.calls) now.starts now.calls → (v : Uberblock)
     → IsShownOn (length (bytes_of first.starts which)) (content first which) v → ¬ IsRewound from groups v
 
-pub none_yet : (out : List Bool) (from : Uberblock) (groups : ℕ) (first : Disks) → AreWithout out from groups first first 0
-none_yet out from groups first which below used known honest v shown = absurd (omega (arith, below))
-
 pub none_next : (out : List Bool) (from : Uberblock) (groups : ℕ) (first loop new : Disks) (which : ℕ) → Makes no_write first loop → Makes no_write loop new
     → AreWithout out from groups first loop which → FindsRewoundIfUsed out from groups loop new which (Ok None) → AreWithout out from groups first new (which + 1)
 none_next out from groups first loop new which before makes without it w below used known honest v shown =

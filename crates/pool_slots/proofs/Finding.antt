@@ -71,7 +71,7 @@ scanned_later out first loop new which None makes it = it
 scanned_later out first loop new which (Some found) makes it =
     (it.0, it.1, λ known honest. it.2 known (honest_before (length first.calls) no_write loop new makes honest))
 
-highest_at_first : (first loop : Disks) (which : ℕ) (found : Found) → Makes no_write first loop → IsHighest (length (bytes_of loop.starts which)) (content loop which) found
+pub highest_at_first : (first loop : Disks) (which : ℕ) (found : Found) → Makes no_write first loop → IsHighest (length (bytes_of loop.starts which)) (content loop which) found
     → IsHighest (length (bytes_of first.starts which)) (content first which) found
 highest_at_first first loop which found before it =
     let P : List (List ℕ) → Type 0 = λ starts. IsHighest (length (bytes_of starts which)) (content first which) found in

@@ -8,10 +8,8 @@ use Rattle.nvlist.proofs.Fronts.{front_read}
 use Rattle.words.specs.Seal.{sealed, seal_word}
 use Rattle.words.proofs.SealLemmas.{seal_parts}
 use Rattle.model_disk.specs.Call.{Call, Read, FailedRead}
-use Rattle.model_disk.specs.Joint.{JointCall, Disks, on, bytes_of, calls_on, content, AreHonestSince}
-use Rattle.model_disk.specs.Runs.{WritesOnly, no_write}
+use Rattle.model_disk.specs.Joint.{JointCall, Disks, on, bytes_of, content, AreHonestSince}
 use Rattle.pool_slots.proofs.Failing.{fails_now}
-use Rattle.model_disk.proofs.JointLemmas.{calls_on-other}
 use Rattle.model_disk.proofs.LawLemmas.{same_bytes}
 use Rattle.vdev_label.specs.Area.{HasRoom, Spells, IsBreach, front_of, area_of}
 use Rattle.vdev_label.specs.Pairs.{label_pairs}
@@ -28,7 +26,10 @@ use Rattle.vdev_label.proofs.Unique.{label_same}
 use Rattle.pool_slots.specs.LabelReads.{ReadsShown, unread_as}
 use Rattle.pool_slots.specs.Labels.{IsLabelShown, IsValid, Keeps, area_place, inscribed}
 use Rattle.pool_slots.specs.Opens.{IsKnown}
-use Rattle.pool_slots.specs.Slots.{MakesOn, is_disk}
+use Rattle.pool_slots.specs.OpenRefusals.{of_label}
+use Rattle.pool_slots.specs.Reads.{IsReadCall, IsReadOf, OnlyReads, nowhere, is_fault, IsFaultOf}
+use Rattle.pool_slots.specs.Slots.{is_disk}
+use Rattle.pool_slots.specs.declared.refusal.Refusal.TheVariants.{DiskFault}
 use Rattle.pool_slots.specs.declared.labeled.Shown.{Shown}
 use Rattle.pool_slots.proofs.Places.{label_within}
 
@@ -85,27 +86,32 @@ no_label area it l bad valid len e = breach_case area it l bad valid len e
 
 -- ---- one read
 
-one_made : (old new : Disks) (which : ℕ) (call : Call) → new.starts ≡ old.starts → new.calls ≡ on which call ∷ old.calls → WritesOnly (no_write which) call → MakesOn (is_disk which) no_write old new
-one_made old new which call starts calls writes =
-    let P : JointCall → Type 0 = λ made. WritesOnly (no_write made.which) made.call in
-    record {
-      makes = record { starts = starts; newer = on which call ∷ []; calls = calls; writes = All-cons P (on which call) [] writes (All-nil P) };
-      alone = λ other apart. ap (calls_on other) calls ∙ calls_on-other which other call old.calls apart;
-    }
+one_read : (faulty : ℕ → Type 0) (old new : Disks) (which : ℕ) (call : Call) → new.starts ≡ old.starts → new.calls ≡ on which call ∷ old.calls → IsReadCall (faulty which) call
+    → OnlyReads (is_disk which) faulty old new
+one_read faulty old new which call starts calls read =
+    let P : JointCall → Type 0 = IsReadOf (is_disk which) faulty in
+    record { starts = starts; newer = on which call ∷ []; calls = calls; reads = All-cons P (on which call) [] (refl, read) (All-nil P) }
 
-none_made : (old new : Disks) (which : ℕ) → new.starts ≡ old.starts → new.calls ≡ old.calls → MakesOn (is_disk which) no_write old new
-none_made old new which starts calls =
-    let P : JointCall → Type 0 = λ made. WritesOnly (no_write made.which) made.call in
-    record { makes = record { starts = starts; newer = []; calls = calls; writes = All-nil P }; alone = λ other apart. ap (calls_on other) calls }
+none_read : (faulty : ℕ → Type 0) (old new : Disks) (which : ℕ) → new.starts ≡ old.starts → new.calls ≡ old.calls → OnlyReads (is_disk which) faulty old new
+none_read faulty old new which starts calls = record { starts = starts; newer = []; calls = calls; reads = All-nil (IsReadOf (is_disk which) faulty) }
 
-pub label_made : (old new : Disks) (which number : ℕ) (found : Label) → new.starts ≡ old.starts → ReadsLabel old new which number (Ok found) → MakesOn (is_disk which) no_write old new
-label_made old new which number found starts it = one_made old new which (Read (area_at (length (bytes_of old.starts which)) number) it.0) starts it.1.1 tt
+pub label_read : (old new : Disks) (which number : ℕ) (found : Label) → new.starts ≡ old.starts → ReadsLabel old new which number (Ok found) → OnlyReads (is_disk which) nowhere old new
+label_read old new which number found starts it = one_read nowhere old new which (Read (area_at (length (bytes_of old.starts which)) number) it.0) starts it.1.1 tt
 
-pub label_unmade : (old new : Disks) (which number : ℕ) (cause : LabelRefusal) → new.starts ≡ old.starts → ReadsLabel old new which number (Err cause) → MakesOn (is_disk which) no_write old new
-label_unmade old new which number label.NoMemory starts (inl none) = none_made old new which starts none
-label_unmade old new which number label.NoMemory starts (inr it) = one_made old new which (Read (area_at (length (bytes_of old.starts which)) number) it.0) starts it.1.1 tt
-label_unmade old new which number label.DiskFault starts it = one_made old new which (FailedRead (area_at (length (bytes_of old.starts which)) number) 114688) starts it tt
-label_unmade old new which number (label.BadLabel b) starts it = one_made old new which (Read (area_at (length (bytes_of old.starts which)) number) it.0) starts it.1.1 tt
+-- where none was
+pub label_not_read : (old new : Disks) (which number : ℕ) (cause : LabelRefusal) → new.starts ≡ old.starts → ReadsLabel old new which number (Err cause)
+    → OnlyReads (is_disk which) (is_fault (of_label which cause)) old new
+label_not_read old new which number label.NoMemory starts (inl none) = none_read nowhere old new which starts none
+label_not_read old new which number label.NoMemory starts (inr it) = one_read nowhere old new which (Read (area_at (length (bytes_of old.starts which)) number) it.0) starts it.1.1 tt
+label_not_read old new which number label.DiskFault starts it =
+    one_read (is_fault (DiskFault which)) old new which (FailedRead (area_at (length (bytes_of old.starts which)) number) 114688) starts it refl
+label_not_read old new which number (label.BadLabel b) starts it = one_read nowhere old new which (Read (area_at (length (bytes_of old.starts which)) number) it.0) starts it.1.1 tt
+
+pub shown_not_read : (old new : Disks) (which number : ℕ) (cause : LabelRefusal) → new.starts ≡ old.starts → ReadsLabel old new which number (Err cause)
+    → OnlyReads (is_disk which) (IsFaultOf (unread_as which cause)) old new
+shown_not_read old new which number label.NoMemory starts it = label_not_read old new which number label.NoMemory starts it
+shown_not_read old new which number label.DiskFault starts it = label_not_read old new which number label.DiskFault starts it
+shown_not_read old new which number (label.BadLabel b) starts it = label_not_read old new which number (label.BadLabel b) starts it
 
 -- the bytes that were read
 read_same : (old new : Disks) (which number : ℕ) (area : List ℕ) → 1048576 ≤ length (bytes_of old.starts which) → number < 4 → new.starts ≡ old.starts → ReadsArea old new which number area

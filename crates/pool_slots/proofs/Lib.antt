@@ -6,6 +6,7 @@ pub mod Phases
 pub mod Used
 pub mod Results
 pub mod Failing
+mod ReadRuns
 pub mod Writing
 pub mod SlotPhases
 pub mod CommitPhases
@@ -15,6 +16,7 @@ pub mod Finding
 pub mod BackReads
 pub mod OpenSteps
 pub mod Opened
+mod SurveySteps
 pub mod LifeSteps
 mod Choices
 mod LabelAreas
@@ -23,4 +25,6 @@ mod LabelWrites
 mod LabelPlans
 mod LabelPhases
 mod ConfigLabels
+mod ClaimSteps
+mod Absence
 pub mod LifeClaims

@@ -1,28 +1,25 @@
 -- From what was read to what may be claimed.
-use Rattle.std.proofs.Common.{◌≡◌, ◌⊎◌, inl, inr, ◌<◌, ◌≤◌, ◌∙◌, ℕ, ◌+◌, ◌-◌, ◌%◌, Bool, List, length, slice_get, Option, Some, None, Contains, Ok, Err, refl, sym, subst, arith}
+use Rattle.std.proofs.Common.{◌≡◌, ◌⊎◌, inl, inr, ◌<◌, ◌≤◌, ◌∙◌, ℕ, ◌+◌, ◌-◌, ◌%◌, Bool, List, length, slice_get, Option, Some, None, Contains, refl, sym, subst, arith}
 use Rattle.uberblock_ring.specs.declared.uberblock.Uberblock.{Uberblock}
 use Rattle.uberblock_ring.specs.Ranking.{RanksUpTo, IsRewound}
 use Rattle.uberblock_ring.proofs.Ranks.{ranks_through}
 use Rattle.model_disk.specs.Joint.{Disks, bytes_of, content, AreHonestSince}
 use Rattle.model_disk.specs.Runs.{Makes, no_write}
 use Rattle.pool_slots.specs.OpenRefusals.{IsCause}
-use Rattle.pool_slots.specs.Opens.{AreKnown, IsHighest, IsBare, IsFoundOn, AreFound, AreOn, IsHighestOf, IsRead, IsHighestShown, FindsAll, FindsHighest, TakesFrom, CanOpen, IsClaimOf, IsTakenFrom, also_begun, MayClaim}
+use Rattle.pool_slots.specs.Opens.{IsShown, IsHighest, IsBare, IsFoundOn, AreFound, AreOn, IsHighestOf, IsRead, IsHighestShown, CanOpen, IsClaimOf, IsTakenFrom, also_begun, MayClaim}
 use Rattle.pool_slots.specs.Commits.{AreOffLabels, LeadAlways}
 use Rattle.pool_slots.specs.Possible.{Possible, IsBefore, all_of, Trees, TreeStands, IsPossible, Leads}
 use Rattle.pool_slots.specs.Slots.{AreThere, InUse, AreSettled, IsOutOfReach}
 use Rattle.pool_slots.specs.Writes.{InHalf}
-use Rattle.pool_slots.specs.LabelReads.{IsPlanned}
+use Rattle.pool_slots.specs.Surveys.{Surveyed, IsSurveyOf, SurveyRefuses}
 use Rattle.pool_slots.specs.declared.found.Found.{Found}
-use Rattle.pool_slots.specs.declared.labeled.Area.{Area}
-use Rattle.pool_slots.proofs.Failing.{fails_later}
 use Rattle.pool_slots.specs.declared.refusal.Refusal.{Refusal}
 use Rattle.pool_slots.specs.declared.refusal.Refusal.TheVariants.{NoMemory, DiskFault, NoUberblock, NoLabel, UsedUp}
 use Rattle.pool_slots.proofs.ClaimPhases.{also_leads}
-use Rattle.pool_slots.proofs.Finding.{known_later, highest_same, honest_before, honest_since}
-use Rattle.pool_slots.proofs.BackReads.{shown_later, read_later, read_earlier}
-use Rattle.pool_slots.proofs.Reading.{longer}
+use Rattle.pool_slots.proofs.Finding.{known_later, highest_same}
+use Rattle.pool_slots.proofs.BackReads.{read_later}
 use Rattle.pool_slots.proofs.OneDisk.{leads_kept_on}
-use Rattle.pool_slots.proofs.Phases.{IsPhase, phase_leaves, phases_leave, none_same, settled_later, both_made}
+use Rattle.pool_slots.proofs.Phases.{IsPhase, phase_leaves, phases_leave, none_same, settled_later}
 
 -- ---- calls that write nothing
 
@@ -213,50 +210,29 @@ may_claim trees out disks p all highest taken u can are on one top possible clai
           other_label mine.highest.label mine.found.other_half mine.highest.half half;
     }
 
--- ---- the reads of an open
+-- an uberblock that is shown, and below none that is, is a possible one
+highest_among : (trees : Trees) (out : List Bool) (disks : Disks) (p : Possible) (u : Uberblock) → CanOpen trees out disks p → IsHighestShown out disks u → Contains (all_of p) u
+highest_among trees out disks p u can top =
+    let it = (can.leads can.some.0 can.some.1).top in
+    let shown : IsShown out disks it.u = record { which = can.some.0; used = can.some.1; on = record { label = it.label; slot = it.slot; is_slot = it.is_slot; shows = it.shows } } in
+    let rank : RanksUpTo p.last u = ranks_through p.last it.u u it.rank (top.greatest it.u shown) in
+    elim (shown_allowed trees out disks p u can top.shown) [
+      | inl far ↦ absurd (higher_than_last p.last u u rank (refl, omega arith) far)
+      | inr possible ↦ elim possible.0 [ inl among ↦ among | inr earlier ↦ absurd (not_before p.last u p.before rank earlier) ]
+    ]
 
--- The reads of an open: of all disks, where it goes back once more, and of all labels; and what it has planned then.
-pub record Reads (out : List Bool) (rewind : ℕ) (old mid disks : Disks) (all : List (Option Found)) (highest taken u : Uberblock) (areas : List (Option Area)) : Type 0 where
-  pub scan : Makes no_write old mid
-  pub back : Makes no_write mid disks
-  pub found : AreKnown out old → AreHonestSince (length old.calls) mid.starts mid.calls → AreFound out old all
-  pub on : AreOn out all
-  pub one : IsHighestOf all highest
-  pub takes : TakesFrom out highest rewind mid disks (Ok taken)
-  pub claimed : IsClaimed highest taken u
-  pub planned : AreKnown out old → AreHonestSince (length old.calls) disks.starts disks.calls → IsPlanned out old highest u areas
+-- ---- what a survey says
 
-pub scanned : (out : List Bool) (rewind : ℕ) (old mid disks : Disks) (all : List (Option Found)) (highest taken u : Uberblock) (areas : List (Option Area)) → Reads out rewind old mid disks all highest taken u areas → Makes no_write old disks
-scanned out rewind old mid disks all highest taken u areas reads = both_made no_write old mid disks reads.scan reads.back
-
-found_first : (out : List Bool) (rewind : ℕ) (old mid disks : Disks) (all : List (Option Found)) (highest taken u : Uberblock) (areas : List (Option Area)) → Reads out rewind old mid disks all highest taken u areas → AreKnown out old
-    → AreHonestSince (length old.calls) disks.starts disks.calls → AreFound out old all
-found_first out rewind old mid disks all highest taken u areas reads known honest =
-    reads.found known (honest_before (length old.calls) no_write mid disks reads.back honest)
-
-honest_back : (old mid disks : Disks) → Makes no_write old mid → AreHonestSince (length old.calls) disks.starts disks.calls → AreHonestSince (length mid.calls) disks.starts disks.calls
-honest_back old mid disks scan honest = honest_since (length old.calls) (length mid.calls) disks (longer old mid no_write scan) honest
-
--- what is taken is shown
-taken_shown : (out : List Bool) (rewind : ℕ) (old mid disks : Disks) (all : List (Option Found)) (highest taken u : Uberblock) (areas : List (Option Area)) → Reads out rewind old mid disks all highest taken u areas → AreKnown out old
-    → AreHonestSince (length old.calls) disks.starts disks.calls → IsRead out old taken
-taken_shown out rewind old mid disks all highest taken u areas reads known honest =
-    let are = found_first out rewind old mid disks all highest taken u areas reads known honest in
-    let top = highest_shown out old all highest are reads.on reads.one in
-    read_earlier out old mid taken reads.scan
-    (reads.takes.2 (known_later out old mid reads.scan known) (honest_back old mid disks reads.scan honest) (read_later out old mid highest reads.scan top.shown))
-
-pub taken_from : (out : List Bool) (rewind : ℕ) (old mid disks : Disks) (all : List (Option Found)) (highest taken u : Uberblock) (areas : List (Option Area)) → Reads out rewind old mid disks all highest taken u areas → AreKnown out old
-    → AreHonestSince (length old.calls) disks.starts disks.calls → IsTakenFrom out old rewind u
-taken_from out rewind old mid disks all highest taken u areas reads known honest =
+pub takes_of : (out : List Bool) (rewind : ℕ) (disks : Disks) (s : Surveyed) → AreOn out s.found → IsSurveyOf out rewind disks s → IsTakenFrom out disks rewind s.claimed
+takes_of out rewind disks s on says =
     record {
-      highest = highest;
-      top = highest_shown out old all highest (found_first out rewind old mid disks all highest taken u areas reads known honest) reads.on reads.one;
-      taken = taken;
-      shown = taken_shown out rewind old mid disks all highest taken u areas reads known honest;
-      rewound = reads.takes.0;
-      is = reads.claimed.is;
-      next = (reads.planned known honest).next;
+      highest = s.highest;
+      top = highest_shown out disks s.found s.highest says.found on says.highest;
+      taken = s.taken;
+      shown = says.taken;
+      rewound = says.rewound;
+      is = says.claimed;
+      next = says.planned.next;
     }
 
 -- what an open has chosen after its reads
@@ -264,16 +240,20 @@ pub record IsChosen (trees : Trees) (out : List Bool) (rewind : ℕ) (disks : Di
   pub claim : IsClaimOf p rewind u
   pub may : MayClaim trees out disks p u all
 
-pub chosen : (trees : Trees) (out : List Bool) (rewind : ℕ) (old mid disks : Disks) (p : Possible) (all : List (Option Found)) (highest taken u : Uberblock) (areas : List (Option Area)) → CanOpen trees out old p → rewind < 3
-    → Reads out rewind old mid disks all highest taken u areas → AreHonestSince (length old.calls) disks.starts disks.calls → IsChosen trees out rewind disks p u all
-chosen trees out rewind old mid disks p all highest taken u areas can few reads honest =
-    let makes = scanned out rewind old mid disks all highest taken u areas reads in
-    let can' = can_open_later trees out old disks p makes can in
-    let are = found_later out old disks all makes (found_first out rewind old mid disks all highest taken u areas reads can.known honest) in
-    let top = is_top trees out disks p all highest can' are reads.on reads.one in
-    let shown = read_later out old disks taken makes (taken_shown out rewind old mid disks all highest taken u areas reads can.known honest) in
-    let possible = is_taken trees out disks p highest taken rewind can' few top reads.takes.0 shown in
-    record { claim = claim_is trees out disks p highest taken u rewind top reads.takes.0 possible reads.claimed; may = may_claim trees out disks p all highest taken u can' are reads.on reads.one top possible reads.claimed }
+pub chosen : (trees : Trees) (out : List Bool) (rewind : ℕ) (first disks : Disks) (p : Possible) (s : Surveyed) → CanOpen trees out first p → rewind < 3 → Makes no_write first disks → AreOn out s.found
+    → IsSurveyOf out rewind first s → IsChosen trees out rewind disks p s.claimed s.found
+chosen trees out rewind first disks p s can few makes on says =
+    let can' = can_open_later trees out first disks p makes can in
+    let are = found_later out first disks s.found makes says.found in
+    let top = is_top trees out disks p s.found s.highest can' are on says.highest in
+    let possible = is_taken trees out disks p s.highest s.taken rewind can' few top says.rewound (read_later out first disks s.taken makes says.taken) in
+    let claimed : IsClaimed s.highest s.taken s.claimed = record { is = says.claimed; above = says.planned.next.above_slots } in
+    record {
+      claim = claim_is trees out disks p s.highest s.taken s.claimed rewind top says.rewound possible claimed;
+      may = may_claim trees out disks p s.found s.highest s.taken s.claimed can' are on says.highest top possible claimed;
+    }
+
+-- ---- refusals
 
 -- a scan that found a disk bare wasn't of disks that lead somewhere
 not_bare : (trees : Trees) (out : List Bool) (disks : Disks) (p : Possible) → CanOpen trees out disks p → IsBare out disks → ⊥
@@ -281,36 +261,18 @@ not_bare trees out disks p can bare =
     let top = (can.leads bare.which bare.used).top in
     bare.none top.label top.slot top.is_slot top.u top.shows
 
--- something was found on some disk
-pub found_some : (trees : Trees) (out : List Bool) (disks : Disks) (p : Possible) (all : List (Option Found)) → CanOpen trees out disks p → AreOn out all
-    → ((which : ℕ) (found : Found) → ¬ (slice_get all which ≡ Some (Some found))) → ⊥
-found_some trees out disks p all can on none = let it = (on can.some.0).0 can.some.1 in none can.some.0 it.0 it.1
-
--- why a scan refused
-pub scan_cause : (trees : Trees) (out : List Bool) (rewind : ℕ) (old new : Disks) (p : Possible) (refusal : Refusal) → CanOpen trees out old p → AreHonestSince (length old.calls) new.starts new.calls
-    → FindsAll out old new (Err refusal) → IsCause out rewind old new p refusal
-scan_cause trees out rewind old new p NoMemory can honest finds = tt
-scan_cause trees out rewind old new p (DiskFault d) can honest finds = finds
-scan_cause trees out rewind old new p NoUberblock can honest finds = absurd (not_bare trees out old p can (finds can.known honest))
-scan_cause trees out rewind old new p NoLabel can honest finds = absurd finds
-scan_cause trees out rewind old new p UsedUp can honest finds = absurd finds
-
--- why nothing was taken
-pub taken_cause : (trees : Trees) (out : List Bool) (rewind : ℕ) (old mid new : Disks) (p : Possible) (all : List (Option Found)) (highest : Uberblock) (refusal : Refusal) → CanOpen trees out old p
-    → Makes no_write old mid → Makes no_write mid new → (AreKnown out old → AreHonestSince (length old.calls) mid.starts mid.calls → AreFound out old all) → AreOn out all → IsHighestOf all highest
-    → AreHonestSince (length old.calls) new.starts new.calls → TakesFrom out highest rewind mid new (Err refusal) → IsCause out rewind old new p refusal
-taken_cause trees out rewind old mid new p all highest NoMemory can scan back found on one honest takes = tt
-taken_cause trees out rewind old mid new p all highest (DiskFault d) can scan back found on one honest takes = fails_later no_write old mid new scan d takes
-taken_cause trees out rewind old mid new p all highest NoUberblock can scan back found on one honest takes = (
-  takes.0,
-  record {
-    highest = highest;
-    top = highest_shown out old all highest (found can.known (honest_before (length old.calls) no_write mid new back honest)) on one;
-    none = λ v shown. takes.1 (known_later out old mid scan can.known) (honest_back old mid new scan honest) v (shown_later out old mid v scan shown);
-  },
-)
-taken_cause trees out rewind old mid new p all highest NoLabel can scan back found on one honest takes = absurd takes
-taken_cause trees out rewind old mid new p all highest UsedUp can scan back found on one honest takes = absurd takes
+-- why a survey refused, of disks that lead somewhere
+pub cause_of : (trees : Trees) (out : List Bool) (rewind : ℕ) (old new : Disks) (p : Possible) (refusal : Refusal) → CanOpen trees out old p → AreHonestSince (length old.calls) new.starts new.calls
+    → SurveyRefuses out rewind old new refusal → IsCause out rewind old new p refusal
+cause_of trees out rewind old new p NoMemory can honest refuses = tt
+cause_of trees out rewind old new p (DiskFault d) can honest refuses = refuses.1
+cause_of trees out rewind old new p NoUberblock can honest refuses =
+    elim (refuses can.known honest) [
+      | inl none ↦ absurd (none can.some.0 can.some.1)
+      | inr some ↦ elim some [ inl bare ↦ absurd (not_bare trees out old p can bare) | inr it ↦ it ]
+    ]
+cause_of trees out rewind old new p NoLabel can honest refuses = let it = refuses can.known honest in (it.0, it.1.shown, it.2)
+cause_of trees out rewind old new p UsedUp can honest refuses = let it = refuses can.known honest in (it.0, highest_among trees out old p it.0 can it.1, it.2)
 
 -- ---- the whole open
 
@@ -319,14 +281,3 @@ pub claim_always : (trees : Trees) (out : List Bool) (old mid new : Disks) (p : 
 claim_always trees out old mid new p u there can scan may makes later =
     phases_leave trees out old mid new (also_begun u p) (sym scan.starts) makes.newer makes.calls
     (also_leads trees out old mid p u (leads_before trees out old mid p there can scan)) later
-
--- why no highest was found
-pub highest_cause : (trees : Trees) (out : List Bool) (rewind : ℕ) (old new : Disks) (p : Possible) (all seen : List (Option Found)) (refusal : Refusal) → CanOpen trees out old p → AreOn out all
-    → seen ≡ all → FindsHighest seen (Err refusal) → IsCause out rewind old new p refusal
-highest_cause trees out rewind old new p all seen NoMemory can on same finds = tt
-highest_cause trees out rewind old new p all seen (DiskFault d) can on same finds = absurd finds
-highest_cause trees out rewind old new p all seen NoUberblock can on same finds =
-    let P : List (Option Found) → Type 0 = λ xs. (which : ℕ) (found : Found) → ¬ (slice_get xs which ≡ Some (Some found)) in
-    absurd (found_some trees out old p all can on (subst P same finds))
-highest_cause trees out rewind old new p all seen NoLabel can on same finds = absurd finds
-highest_cause trees out rewind old new p all seen UsedUp can on same finds = absurd finds

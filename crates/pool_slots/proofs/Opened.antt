@@ -1,112 +1,39 @@
 -- A whole open.
-use Rattle.std.proofs.Common.{◌≡◌, inl, inr, ◌<◌, ◌≤◌, ◌∙◌, ℕ, Bool, true, List, [], ◌∷◌, length, slice_get, Option, Ok, Err, refl, sym, ap, subst, arith}
-use Rattle.std.specs.Prelude.{Vec}
-use Rattle.std.specs.declared.alloc.Global.{Global}
+use Rattle.std.proofs.Common.{◌≡◌, inl, inr, ◌<◌, ◌≤◌, ◌∙◌, ℕ, Bool, true, List, [], ◌∷◌, length, slice_get, Option, refl, sym, ap, subst, arith}
 use Rattle.uberblock_ring.specs.declared.uberblock.Uberblock.{Uberblock}
 use Rattle.model_disk.specs.Joint.{JointCall, Disks, bytes_of, content, AreHonestSince}
 use Rattle.model_disk.specs.Runs.{EachSince, Makes, no_write}
 use Rattle.model_disk.proofs.RunLemmas.{Makes-more, Makes-wider, each_weaker}
 use Rattle.uberblock_ring.specs.Uberblock.{Fits}
-use Rattle.vdev_label.specs.Plain.{PlainLabel}
 use Rattle.vdev_label.specs.Room.{relabeled}
 use Rattle.vdev_label.specs.declared.label.State.TheVariants.{Active}
 use Rattle.pool_slots.specs.Commits.{AreAt, LeadAlways}
-use Rattle.pool_slots.specs.LabelReads.{IsPlanned, LacksLabel, PlansClaim}
-use Rattle.pool_slots.specs.Labels.{AreasOn, AreasStand, InAreaTurn, IsAreaWrite, IsClaimWrite, IsLabelShown, IsShownInUse, area_place}
-use Rattle.pool_slots.specs.Marks.{AreMarked, IsUsedUp, LeavesMarked, SparesMark}
-use Rattle.pool_slots.specs.OpenRefusals.{IsCause}
-use Rattle.pool_slots.specs.Opens.{AreFound, AreKnown, AreOn, AreSpared, CanOpen, ClaimGives, ClaimKeeps, ClaimsAt, FindsAll, IsClaimOf, IsHighestOf, IsRead, MarksAt, MayClaim, OpenTakes, TakesFrom, also_begun}
+use Rattle.pool_slots.specs.Surveys.{Surveyed, IsSurveyed}
+use Rattle.pool_slots.specs.Labels.{AreasOn, AreasStand, InAreaTurn, IsAreaWrite, IsClaimWrite, IsLabelShown, area_place}
+use Rattle.pool_slots.specs.Marks.{AreMarked, LeavesMarked, SparesMark}
+use Rattle.pool_slots.specs.Opens.{AreKnown, AreOn, AreSpared, CanOpen, ClaimGives, ClaimKeeps, ClaimsAt, IsClaimOf, MarksAt, MayClaim, OpenTakes, also_begun}
 use Rattle.pool_slots.specs.Possible.{Possible, Trees, LeavesLeading}
 use Rattle.pool_slots.specs.Relabels.{AreFirst, AreMadeOf, AreMarkedFirst, IsClaimLabelWrite, IsRelabeled, all_labels}
-use Rattle.pool_slots.specs.Slots.{AreThere, InUse, MakesOn}
-use Rattle.pool_slots.specs.declared.areas.Plan.{Plan}
+use Rattle.pool_slots.specs.Slots.{AreThere, InUse}
 use Rattle.pool_slots.specs.declared.found.Found.{Found}
 use Rattle.pool_slots.specs.declared.labeled.Area.{Area}
-use Rattle.pool_slots.proofs.Failing.{fails_later}
-use Rattle.pool_slots.specs.declared.refusal.Refusal.{Refusal}
-use Rattle.pool_slots.specs.declared.refusal.Refusal.TheVariants.{NoMemory, DiskFault, NoUberblock, NoLabel, UsedUp}
-use Rattle.pool_slots.proofs.BackReads.{read_earlier, read_later}
 use Rattle.pool_slots.proofs.ClaimPhases.{also}
-use Rattle.pool_slots.proofs.Finding.{honest_before, honest_since, known_later}
+use Rattle.pool_slots.proofs.Finding.{honest_before}
 use Rattle.pool_slots.proofs.LabelPhases.{each_joined, marked_always, same_area}
 use Rattle.pool_slots.proofs.LabelPlans.{claim_label_small, relabeled_valid}
-use Rattle.pool_slots.proofs.LabelScans.{label_earlier, label_later, labeled_earlier}
-use Rattle.pool_slots.proofs.OpenSteps.{Reads, scanned, chosen, taken_from, claim_always, highest_shown, is_top, leads_before}
-use Rattle.pool_slots.proofs.Phases.{MakesOn-more, both_made, leads_more, none_wider}
+use Rattle.pool_slots.proofs.LabelScans.{label_later}
+use Rattle.pool_slots.proofs.OpenSteps.{chosen, claim_always, leads_before, takes_of}
+use Rattle.pool_slots.proofs.Phases.{leads_more}
 use Rattle.pool_slots.proofs.Reading.{longer}
 
-pub scan_then_claim : (out : List Bool) (old mid new : Disks) (u : Uberblock) → MakesOn (InUse out) no_write old mid → MakesOn (InUse out) (IsClaimWrite mid.starts out u) mid new
-    → MakesOn (InUse out) (IsClaimWrite old.starts out u) old new
-scan_then_claim out old mid new u scan makes =
-    let P : List (List ℕ) → Type 0 = λ s. MakesOn (InUse out) (IsClaimWrite s out u) mid new in
-    MakesOn-more (InUse out) (IsClaimWrite old.starts out u) old mid new (none_wider (InUse out) (IsClaimWrite old.starts out u) old mid scan) (subst P scan.makes.starts makes)
-
--- ---- labels of disks on which nothing was written since
-
-in_use_later : (out : List Bool) (old new : Disks) (l : PlainLabel) → Makes no_write old new → IsShownInUse out old l → IsShownInUse out new l
-in_use_later out old new l makes it = record { which = it.which; used = it.used; number = it.number; shown = label_later old new it.which it.number l makes it.shown }
-
-in_use_earlier : (out : List Bool) (old new : Disks) (l : PlainLabel) → Makes no_write old new → IsShownInUse out new l → IsShownInUse out old l
-in_use_earlier out old new l makes it = record { which = it.which; used = it.used; number = it.number; shown = label_earlier old new it.which it.number l makes it.shown }
-
-planned_earlier : (out : List Bool) (old new : Disks) (highest u : Uberblock) (areas : List (Option Area)) → Makes no_write old new → IsPlanned out new highest u areas
-    → IsPlanned out old highest u areas
-planned_earlier out old new highest u areas makes it =
-    record {
-      next = record {
-        above_slots = it.next.above_slots;
-        above_labels = λ l shown. it.next.above_labels l (in_use_later out old new l makes shown);
-        least = elim it.next.least [ inl least ↦ inl least | inr some ↦ inr (some.0, in_use_earlier out old new some.0 makes some.1, some.2) ];
-      };
-      spared = λ which number area l at shown.
-          let other = it.spared which number area l at (label_later old new which number l makes shown) in
-          record {
-            number = other.number;
-            other = other.other;
-            label = other.label;
-            shown = label_earlier old new which other.number other.label makes other.shown;
-            no_less = other.no_less;
-          };
-      made = λ which area at.
-          let made = it.made which area at in
-          record {
-            it = made.it;
-            read = labeled_earlier old new which u.config_digest made.it makes made.read;
-            first = made.first;
-            label = made.label;
-            source = label_earlier old new which made.it.source made.label makes made.source;
-            spells = made.spells;
-          };
-    }
-
--- ---- the reads of an open
-
-pub reads_of : (out : List Bool) (rewind : ℕ) (old mid back disks : Disks) (all : Vec (Option Found) Global) (seen : List (Option Found)) (highest taken : Uberblock) (plan : Plan) → Makes no_write old mid
-    → Makes no_write mid back → Makes no_write back disks → FindsAll out old mid (Ok all) → seen ≡ all.items → IsHighestOf seen highest → TakesFrom out highest rewind mid back (Ok taken)
-    → PlansClaim out taken highest back disks (Ok plan) → Reads out rewind old mid disks all.items highest taken plan.claimed plan.areas.items
-reads_of out rewind old mid back disks all seen highest taken plan scan go_back planning finds same one takes plans =
-    let P : List (Option Found) → Type 0 = λ xs. IsHighestOf xs highest in
-    let first = both_made no_write old mid back scan go_back in
-    record {
-      scan = scan;
-      back = both_made no_write mid back disks go_back planning;
-      found = finds.3;
-      on = finds.1;
-      one = subst P same one;
-      takes = (takes.0, takes.1, λ known honest shown. takes.2 known (honest_before (length mid.calls) no_write back disks planning honest) shown);
-      claimed = record { is = plans.0; above = plans.1 };
-      planned = λ known honest.
-          planned_earlier out old back highest plan.claimed plan.areas.items first
-          (plans.6 (known_later out old back first known) (honest_since (length old.calls) (length back.calls) disks (longer old back no_write first) honest));
-    }
-
 -- what was chosen, as the claim saw it
-seen_by_claim : (trees : Trees) (out : List Bool) (rewind : ℕ) (old mid disks new : Disks) (p : Possible) (all given : List (Option Found)) (highest taken u : Uberblock) (areas : List (Option Area))
-    → CanOpen trees out old p → rewind < 3 → Reads out rewind old mid disks all highest taken u areas → Makes (IsClaimWrite disks.starts out u) disks new
-    → AreHonestSince (length old.calls) new.starts new.calls → given ≡ all → IsClaimOf p rewind u × MayClaim trees out disks p u given
-seen_by_claim trees out rewind old mid disks new p all given highest taken u areas can few reads makes honest same =
-    let it = chosen trees out rewind old mid disks p all highest taken u areas can few reads (honest_before (length old.calls) (IsClaimWrite disks.starts out u) disks new makes honest) in
-    let P : List (Option Found) → Type 0 = λ xs. MayClaim trees out disks p u xs in
+seen_by_claim : (trees : Trees) (out : List Bool) (rewind : ℕ) (first disks new : Disks) (p : Possible) (s : Surveyed) (given : List (Option Found)) → CanOpen trees out first p → rewind < 3
+    → AreOn out s.found → IsSurveyed out rewind first disks s → Makes (IsClaimWrite disks.starts out s.claimed) disks new → AreHonestSince (length first.calls) new.starts new.calls → given ≡ s.found
+    → IsClaimOf p rewind s.claimed × MayClaim trees out disks p s.claimed given
+seen_by_claim trees out rewind first disks new p s given can few on surveyed makes honest same =
+    let says = surveyed.says can.known (honest_before (length first.calls) (IsClaimWrite disks.starts out s.claimed) disks new makes honest) in
+    let it = chosen trees out rewind first disks p s can few surveyed.unwritten on says in
+    let P : List (Option Found) → Type 0 = λ xs. MayClaim trees out disks p s.claimed xs in
     (it.claim, subst P (sym same) it.may)
 
 -- ---- at each moment
@@ -117,15 +44,16 @@ leads_also trees out disks p u areas calls (inl before) = λ images left untorn.
     leads_more trees out images _ p.last p.begun (u ∷ p.begun) p.before (also p.last u p.begun) (before.0 images left untorn)
 leads_also trees out disks p u areas calls (inr after) = after.0
 
-pub claims_always : (trees : Trees) (out : List Bool) (rewind : ℕ) (old mid disks new : Disks) (p : Possible) (all given : List (Option Found)) (highest taken u : Uberblock) (areas : List (Option Area))
-    → AreThere out old.starts → CanOpen trees out old p → rewind < 3 → Reads out rewind old mid disks all highest taken u areas → Makes (IsClaimWrite disks.starts out u) disks new
-    → AreHonestSince (length old.calls) new.starts new.calls → given ≡ all → (seen : List (Option Area))
-    → ClaimKeeps out disks u given seen new → (w : Uberblock) × IsClaimOf p rewind w × LeadAlways trees out old new (also_begun w p)
-claims_always trees out rewind old mid disks new p all given highest taken u areas there can few reads makes honest same seen keeps =
-    let it = seen_by_claim trees out rewind old mid disks new p all given highest taken u areas can few reads makes honest same in
+pub claims_always : (trees : Trees) (out : List Bool) (rewind : ℕ) (first disks new : Disks) (p : Possible) (s : Surveyed) (given : List (Option Found)) (seen : List (Option Area)) → AreThere out first.starts
+    → CanOpen trees out first p → rewind < 3 → AreOn out s.found → IsSurveyed out rewind first disks s → Makes (IsClaimWrite disks.starts out s.claimed) disks new
+    → AreHonestSince (length first.calls) new.starts new.calls → given ≡ s.found → ClaimKeeps out disks s.claimed given seen new
+    → (w : Uberblock) × IsClaimOf p rewind w × LeadAlways trees out first new (also_begun w p)
+claims_always trees out rewind first disks new p s given seen there can few on surveyed makes honest same keeps =
+    let u = s.claimed in
+    let it = seen_by_claim trees out rewind first disks new p s given can few on surveyed makes honest same in
     let always : LeadAlways trees out disks new (also_begun u p) =
     each_weaker (ClaimsAt trees out disks p u seen) (LeavesLeading trees out disks.starts (also_begun u p)) (length disks.calls) new.calls (leads_also trees out disks p u seen) (keeps trees p it.1) in
-    (u, it.0, claim_always trees out old disks new p u there can (scanned out rewind old mid disks all highest taken u areas reads) (IsClaimWrite disks.starts out u) makes always)
+    (u, it.0, claim_always trees out first disks new p u there can surveyed.unwritten (IsClaimWrite disks.starts out u) makes always)
 
 -- nothing is written yet
 pub marks_before : (trees : Trees) (out : List Bool) (rewind : ℕ) (old new : Disks) (p : Possible) (claim : ℕ) → AreThere out old.starts → CanOpen trees out old p
@@ -158,44 +86,44 @@ marks_case trees out rewind old disks p u areas claim calls same is above spared
     let it = subst P same after in
     inr (u, is, above, it.0, it.1)
 
-pub marks_always : (trees : Trees) (out : List Bool) (rewind : ℕ) (old mid disks new : Disks) (p : Possible) (claim : ℕ) (all given : List (Option Found)) (highest taken u : Uberblock) (areas seen : List (Option Area))
-    → AreThere out old.starts → CanOpen trees out old p → AreMarked out old.starts (content old) claim → rewind < 3 → Reads out rewind old mid disks all highest taken u areas
-    → Makes (IsClaimWrite disks.starts out u) disks new → AreHonestSince (length old.calls) new.starts new.calls → given ≡ all → seen ≡ areas
-    → ClaimKeeps out disks u given seen new → EachSince (length old.calls) (MarksAt trees out rewind old p claim) new.calls
-marks_always trees out rewind old mid disks new p claim all given highest taken u areas seen there can marked few reads makes honest same also_same keeps =
-    let it = seen_by_claim trees out rewind old mid disks new p all given highest taken u areas can few reads makes honest same in
-    let scan = scanned out rewind old mid disks all highest taken u areas reads in
-    let planned = reads.planned can.known (honest_before (length old.calls) (IsClaimWrite disks.starts out u) disks new makes honest) in
+pub marks_always : (trees : Trees) (out : List Bool) (rewind : ℕ) (first disks new : Disks) (p : Possible) (claim : ℕ) (s : Surveyed) (given : List (Option Found)) (seen : List (Option Area))
+    → AreThere out first.starts → CanOpen trees out first p → AreMarked out first.starts (content first) claim → rewind < 3 → AreOn out s.found → IsSurveyed out rewind first disks s
+    → Makes (IsClaimWrite disks.starts out s.claimed) disks new → AreHonestSince (length first.calls) new.starts new.calls → given ≡ s.found → seen ≡ s.areas
+    → ClaimKeeps out disks s.claimed given seen new → EachSince (length first.calls) (MarksAt trees out rewind first p claim) new.calls
+marks_always trees out rewind first disks new p claim s given seen there can marked few on surveyed makes honest same also_same keeps =
+    let u = s.claimed in
+    let it = seen_by_claim trees out rewind first disks new p s given can few on surveyed makes honest same in
+    let scan = surveyed.unwritten in
+    let planned = (surveyed.says can.known (honest_before (length first.calls) (IsClaimWrite disks.starts out u) disks new makes honest)).planned in
     let S : List (Option Area) → Type 0 = λ xs. AreSpared out disks xs claim in
-    let spared : AreSpared out disks seen claim = subst S (sym also_same) (spared_by out old disks areas claim scan planned.spared marked) in
+    let spared : AreSpared out disks seen claim = subst S (sym also_same) (spared_by out first disks s.areas claim scan planned.spared marked) in
     let mark = marked can.some.0 can.some.1 in
     let above : claim < u.claim = omega (arith, mark.no_less, planned.next.above_labels mark.label (record { which = can.some.0; used = can.some.1; number = mark.number; shown = mark.shown })) in
-    each_joined (MarksAt trees out rewind old p claim) (IsClaimWrite disks.starts out u) old disks new makes (marks_before trees out rewind old disks p claim there can marked scan)
-    (each_weaker (ClaimsAt trees out disks p u seen) (MarksAt trees out rewind old p claim) (length disks.calls) new.calls
-    (λ calls at. marks_case trees out rewind old disks p u seen claim calls scan.starts it.0 above spared at) (keeps trees p it.1))
+    each_joined (MarksAt trees out rewind first p claim) (IsClaimWrite disks.starts out u) first disks new makes (marks_before trees out rewind first disks p claim there can marked scan)
+    (each_weaker (ClaimsAt trees out disks p u seen) (MarksAt trees out rewind first p claim) (length disks.calls) new.calls
+    (λ calls at. marks_case trees out rewind first disks p u seen claim calls scan.starts it.0 above spared at) (keeps trees p it.1))
 
 -- ---- once it is done
 
-pub opened_is : (trees : Trees) (out : List Bool) (rewind : ℕ) (old mid disks new : Disks) (p : Possible) (all given : List (Option Found)) (highest taken u : Uberblock) (areas : List (Option Area))
-    → CanOpen trees out old p → rewind < 3 → Reads out rewind old mid disks all highest taken u areas → Makes (IsClaimWrite disks.starts out u) disks new
-    → AreHonestSince (length old.calls) new.starts new.calls → given ≡ all → ClaimGives out disks u given new → IsClaimOf p rewind u × AreAt trees out new u []
-opened_is trees out rewind old mid disks new p all given highest taken u areas can few reads makes honest same gives =
-    let it = seen_by_claim trees out rewind old mid disks new p all given highest taken u areas can few reads makes honest same in
+pub opened_is : (trees : Trees) (out : List Bool) (rewind : ℕ) (first disks new : Disks) (p : Possible) (s : Surveyed) (given : List (Option Found)) → CanOpen trees out first p → rewind < 3 → AreOn out s.found
+    → IsSurveyed out rewind first disks s → Makes (IsClaimWrite disks.starts out s.claimed) disks new → AreHonestSince (length first.calls) new.starts new.calls → given ≡ s.found
+    → ClaimGives out disks s.claimed given new → IsClaimOf p rewind s.claimed × AreAt trees out new s.claimed []
+opened_is trees out rewind first disks new p s given can few on surveyed makes honest same gives =
+    let it = seen_by_claim trees out rewind first disks new p s given can few on surveyed makes honest same in
     (it.0, gives trees p it.1)
 
-pub opened_from : (out : List Bool) (rewind : ℕ) (old mid disks new : Disks) (all : List (Option Found)) (highest taken u : Uberblock) (areas : List (Option Area))
-    → Reads out rewind old mid disks all highest taken u areas → Makes (IsClaimWrite disks.starts out u) disks new → OpenTakes out rewind old u new
-opened_from out rewind old mid disks new all highest taken u areas reads makes known honest =
-    taken_from out rewind old mid disks all highest taken u areas reads known (honest_before (length old.calls) (IsClaimWrite disks.starts out u) disks new makes honest)
+pub opened_from : (out : List Bool) (rewind : ℕ) (first disks new : Disks) (s : Surveyed) → AreOn out s.found → IsSurveyed out rewind first disks s → Makes (IsClaimWrite disks.starts out s.claimed) disks new
+    → OpenTakes out rewind first s.claimed new
+opened_from out rewind first disks new s on surveyed makes known honest =
+    takes_of out rewind first s on (surveyed.says known (honest_before (length first.calls) (IsClaimWrite disks.starts out s.claimed) disks new makes honest))
 
 -- ---- what is made of labels
 
 -- the areas that were planned are those of the disks' labels
-pub made_from : (out : List Bool) (rewind : ℕ) (old mid disks new : Disks) (all : List (Option Found)) (highest taken u : Uberblock) (areas : List (Option Area))
-    → Reads out rewind old mid disks all highest taken u areas → Makes (IsClaimWrite disks.starts out u) disks new → AreKnown out old → AreHonestSince (length old.calls) new.starts new.calls
-    → AreMadeOf old u areas
-made_from out rewind old mid disks new all highest taken u areas reads makes known honest =
-    (reads.planned known (honest_before (length old.calls) (IsClaimWrite disks.starts out u) disks new makes honest)).made
+pub made_from : (out : List Bool) (rewind : ℕ) (first disks new : Disks) (s : Surveyed) → IsSurveyed out rewind first disks s → Makes (IsClaimWrite disks.starts out s.claimed) disks new → AreKnown out first
+    → AreHonestSince (length first.calls) new.starts new.calls → AreMadeOf first s.claimed s.areas
+made_from out rewind first disks new s surveyed makes known honest =
+    (surveyed.says known (honest_before (length first.calls) (IsClaimWrite disks.starts out s.claimed) disks new makes honest)).planned.made
 
 -- so each disk's labels are
 pub relabeled_by : (out : List Bool) (old new : Disks) (u : Uberblock) (areas : List (Option Area)) → AreMadeOf old u areas → AreasOn out areas → Fits u → new.starts ≡ old.starts
@@ -261,49 +189,3 @@ marked_by out old disks new u areas scan made on fits first =
             claim = refl;
           };
     }
-
--- ---- why nothing was planned
-
--- what was taken is shown
-taken_read : (out : List Bool) (rewind : ℕ) (old mid back new : Disks) (all : List (Option Found)) (highest taken : Uberblock) → Makes no_write old mid → Makes no_write mid back → Makes no_write back new
-    → (AreKnown out old → AreHonestSince (length old.calls) mid.starts mid.calls → AreFound out old all) → AreOn out all → IsHighestOf all highest → TakesFrom out highest rewind mid back (Ok taken)
-    → AreKnown out old → AreHonestSince (length old.calls) new.starts new.calls → IsRead out old taken
-taken_read out rewind old mid back new all highest taken scan go_back planning found on one takes known honest =
-    let honest_back = honest_before (length old.calls) no_write back new planning honest in
-    let are = found known (honest_before (length old.calls) no_write mid back go_back honest_back) in
-    let top = highest_shown out old all highest are on one in
-    read_earlier out old mid taken scan
-    (takes.2 (known_later out old mid scan known) (honest_since (length old.calls) (length mid.calls) back (longer old mid no_write scan) honest_back) (read_later out old mid highest scan top.shown))
-
-lacks_earlier : (out : List Bool) (old new : Disks) (digest : List ℕ) → Makes no_write old new → LacksLabel out new digest → LacksLabel out old digest
-lacks_earlier out old new digest makes it = record { which = it.which; used = it.used; without = λ number l shown. it.without number l (label_later old new it.which number l makes shown) }
-
-used_up_earlier : (out : List Bool) (old new : Disks) (highest : Uberblock) → Makes no_write old new → IsUsedUp out new highest → IsUsedUp out old highest
-used_up_earlier out old new highest makes (inl past) = inl past
-used_up_earlier out old new highest makes (inr it) = inr (it.0, in_use_earlier out old new it.0 makes it.1, it.2)
-
-pub plan_cause : (trees : Trees) (out : List Bool) (rewind : ℕ) (old mid back new : Disks) (p : Possible) (all seen : List (Option Found)) (highest taken : Uberblock) (refusal : Refusal)
-    → CanOpen trees out old p → Makes no_write old mid → Makes no_write mid back → Makes no_write back new
-    → (AreKnown out old → AreHonestSince (length old.calls) mid.starts mid.calls → AreFound out old all) → AreOn out all → seen ≡ all → IsHighestOf seen highest
-    → TakesFrom out highest rewind mid back (Ok taken) → AreHonestSince (length old.calls) new.starts new.calls → PlansClaim out taken highest back new (Err refusal) → IsCause out rewind old new p refusal
-plan_cause trees out rewind old mid back new p all seen highest taken NoMemory can scan go_back planning found on same one takes honest plans = tt
-plan_cause trees out rewind old mid back new p all seen highest taken (DiskFault d) can scan go_back planning found on same one takes honest plans =
-    fails_later no_write old back new (both_made no_write old mid back scan go_back) d plans
-plan_cause trees out rewind old mid back new p all seen highest taken NoUberblock can scan go_back planning found on same one takes honest plans = absurd plans
-plan_cause trees out rewind old mid back new p all seen highest taken NoLabel can scan go_back planning found on same one takes honest plans =
-    let P : List (Option Found) → Type 0 = λ xs. IsHighestOf xs highest in
-    let first = both_made no_write old mid back scan go_back in (
-      taken,
-      taken_read out rewind old mid back new all highest taken scan go_back planning found on (subst P same one) takes can.known honest,
-      lacks_earlier out old back taken.config_digest first
-          (plans (known_later out old back first can.known) (honest_since (length old.calls) (length back.calls) new (longer old back no_write first) honest)),
-    )
-plan_cause trees out rewind old mid back new p all seen highest taken UsedUp can scan go_back planning found on same one takes honest plans =
-    let P : List (Option Found) → Type 0 = λ xs. IsHighestOf xs highest in
-    let first = both_made no_write old mid back scan go_back in
-    let are = found can.known (honest_before (length old.calls) no_write mid new (both_made no_write mid back new go_back planning) honest) in (
-      highest,
-      (is_top trees out old p all highest can are on (subst P same one)).among,
-      used_up_earlier out old back highest first
-          (plans (known_later out old back first can.known) (honest_since (length old.calls) (length back.calls) new (longer old back no_write first) honest)),
-    )

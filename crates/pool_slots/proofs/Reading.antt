@@ -1,5 +1,5 @@
 -- What reads of slots tell.
-use Rattle.std.proofs.Common.{◌≡◌, inl, inr, ◌<◌, ◌≤◌, ◌∙◌, ℕ, zero, suc, ◌+◌, ◌*◌, ◌/◌, ◌%◌, List, [], ◌∷◌, ◌++◌, length, slice_get, get_or, Option, Some, None, All, Result, Ok, Err, IfSome, IfNone, refl, sym, ap, subst, arith}
+use Rattle.std.proofs.Common.{◌≡◌, inl, inr, ◌<◌, ◌≤◌, ◌∙◌, ℕ, zero, suc, ◌+◌, ◌*◌, ◌/◌, ◌%◌, List, [], ◌∷◌, ◌++◌, length, slice_get, get_or, Option, Some, None, All, Ok, Err, IfSome, IfNone, refl, sym, ap, subst, arith}
 use Rattle.std.specs.Prelude.{Vec}
 use Rattle.std.specs.declared.alloc.Global.{Global}
 use Rattle.std.proofs.lemmas.Bool.{cases_lt}
@@ -14,69 +14,60 @@ use Rattle.uberblock_ring.specs.declared.refusal.Refusal.{Refusal as RingRefusal
 use Rattle.uberblock_ring.specs.declared.refusal.Refusal.TheVariants as ring
 use Rattle.uberblock_ring.specs.declared.uberblock.Uberblock.{Uberblock}
 use Rattle.model_disk.specs.Call.{Read, FailedRead}
-use Rattle.model_disk.specs.Joint.{JointCall, Disks, on, calls_on, content, AreHonestSince}
-use Rattle.model_disk.specs.Runs.{Makes, WritesOnly, no_write}
+use Rattle.model_disk.specs.Joint.{JointCall, Disks, on, content, AreHonestSince}
+use Rattle.model_disk.specs.Runs.{Makes, no_write}
 use Rattle.pool_slots.proofs.Failing.{fails_now, fails_later}
 use Rattle.pool_slots.specs.Failures.{HasFailedOn}
-use Rattle.model_disk.proofs.JointLemmas.{calls_on-other}
 use Rattle.model_disk.proofs.LawLemmas.{same_bytes}
 use Rattle.pool_slots.specs.OpenRefusals.{of_ring}
 use Rattle.pool_slots.specs.Opens.{IsKnown, HasHighest, IsHighest, IsReadOn, IsBareOn, FindsOn, FindsRewoundOn}
-use Rattle.pool_slots.specs.Slots.{MakesOn, is_disk, spelled, slot_at, IsSlot, Shows}
+use Rattle.pool_slots.specs.Reads.{IsReadOf, OnlyReads, nowhere, is_fault}
+use Rattle.pool_slots.specs.Slots.{is_disk, spelled, slot_at, IsSlot, Shows}
 use Rattle.pool_slots.specs.declared.found.Found.{Found}
-use Rattle.pool_slots.proofs.Phases.{MakesOn-more, none_same}
+use Rattle.pool_slots.specs.declared.refusal.Refusal.TheVariants.{DiskFault}
+use Rattle.pool_slots.proofs.Phases.{none_same}
+use Rattle.pool_slots.proofs.ReadRuns.{reads_made}
 use Rattle.pool_slots.proofs.Places.{length-spelled, slot_within}
 use Rattle.pool_slots.proofs.Same.{spelled_is, slot_at_is}
 
--- ---- reads make no writes
+-- ---- what was read
 
-reads_write_none : (which size : ℕ) (bytes : ℕ → List ℕ) (n : ℕ) → All (λ made. WritesOnly (no_write made.which) made.call) (slot_reads which size bytes n)
-reads_write_none which size bytes zero = All-nil (λ made. WritesOnly (no_write made.which) made.call)
-reads_write_none which size bytes (suc n) =
-    All-cons (λ made. WritesOnly (no_write made.which) made.call) (on which (Read (nth_slot_at size n) (bytes n))) (slot_reads which size bytes n) tt (reads_write_none which size bytes n)
+slots_are_read : (faulty : ℕ → Type 0) (which size : ℕ) (bytes : ℕ → List ℕ) (n : ℕ) → All (IsReadOf (is_disk which) faulty) (slot_reads which size bytes n)
+slots_are_read faulty which size bytes zero = All-nil (IsReadOf (is_disk which) faulty)
+slots_are_read faulty which size bytes (suc n) =
+    All-cons (IsReadOf (is_disk which) faulty) (on which (Read (nth_slot_at size n) (bytes n))) (slot_reads which size bytes n) (refl, tt) (slots_are_read faulty which size bytes n)
 
-reads_elsewhere : (which size : ℕ) (bytes : ℕ → List ℕ) (n : ℕ) (calls : List JointCall) (other : ℕ) → ¬ is_disk which other
-    → calls_on other (slot_reads which size bytes n ++ calls) ≡ calls_on other calls
-reads_elsewhere which size bytes zero calls other apart = refl
-reads_elsewhere which size bytes (suc n) calls other apart =
-    calls_on-other which other (Read (nth_slot_at size n) (bytes n)) (slot_reads which size bytes n ++ calls) apart ∙ reads_elsewhere which size bytes n calls other apart
+reads_run : (faulty : ℕ → Type 0) (old new : Disks) (which : ℕ) (bytes : ℕ → List ℕ) (n : ℕ) → new.starts ≡ old.starts → new.calls ≡ slot_reads which (size_of old which) bytes n ++ old.calls
+    → OnlyReads (is_disk which) faulty old new
+reads_run faulty old new which bytes n starts calls =
+    record { starts = starts; newer = slot_reads which (size_of old which) bytes n; calls = calls; reads = slots_are_read faulty which (size_of old which) bytes n }
 
-reads_make : (old new : Disks) (which : ℕ) (bytes : ℕ → List ℕ) (n : ℕ) → new.starts ≡ old.starts → new.calls ≡ slot_reads which (size_of old which) bytes n ++ old.calls
-    → MakesOn (is_disk which) no_write old new
-reads_make old new which bytes n starts calls =
-    record {
-      makes = record { starts = starts; newer = slot_reads which (size_of old which) bytes n; calls = calls; writes = reads_write_none which (size_of old which) bytes n };
-      alone = λ other apart. ap (calls_on other) calls ∙ reads_elsewhere which (size_of old which) bytes n old.calls other apart;
-    }
-
--- the disks after these reads
-after_reads : Disks → ℕ → (ℕ → List ℕ) → ℕ → Disks
-after_reads old which bytes n = record { starts = old.starts; calls = slot_reads which (size_of old which) bytes n ++ old.calls }
-
-failed_makes : (old new : Disks) (which n : ℕ) → new.starts ≡ old.starts → HasFailedAt old new which n → MakesOn (is_disk which) no_write old new
-failed_makes old new which n starts failed =
+failed_run : (old new : Disks) (which n : ℕ) → new.starts ≡ old.starts → HasFailedAt old new which n → OnlyReads (is_disk which) (is_fault (DiskFault which)) old new
+failed_run old new which n starts failed =
     let size = size_of old which in
     let call = FailedRead (nth_slot_at size n) 1024 in
-    let mid : Disks = record { starts = old.starts; calls = slot_reads which size failed.bytes n ++ old.calls } in
-    let P : JointCall → Type 0 = λ made. WritesOnly (no_write made.which) made.call in
-    let last : MakesOn (is_disk which) no_write mid new = record {
-      makes = record { starts = starts; newer = on which call ∷ []; calls = failed.calls; writes = All-cons P (on which call) [] tt (All-nil P) };
-      alone = λ other apart. ap (calls_on other) failed.calls ∙ calls_on-other which other call mid.calls apart;
-    } in
-    MakesOn-more (is_disk which) no_write old mid new (reads_make old mid which failed.bytes n refl refl) last
+    let P : JointCall → Type 0 = IsReadOf (is_disk which) (is_fault (DiskFault which)) in
+    record {
+      starts = starts;
+      newer = on which call ∷ slot_reads which size failed.bytes n;
+      calls = failed.calls;
+      reads = All-cons P (on which call) (slot_reads which size failed.bytes n) (refl, refl) (slots_are_read (is_fault (DiskFault which)) which size failed.bytes n);
+    }
 
-pub slots_make : (old new : Disks) (which : ℕ) (r : Result (Vec (Option Uberblock) Global) RingRefusal) → new.starts ≡ old.starts → ReadsSlots old new which r
-    → MakesOn (is_disk which) no_write old new
-slots_make old new which (Ok found) starts it = reads_make old new which it.1.bytes 512 starts it.1.calls
-slots_make old new which (Err ring.DiskFault) starts it = failed_makes old new which it.0 starts it.2
-slots_make old new which (Err ring.NoMemory) starts it = reads_make old new which (λ i. []) 0 starts it
-slots_make old new which (Err ring.NoUberblock) starts it = absurd it
+pub slots_read : (old new : Disks) (which : ℕ) (found : Vec (Option Uberblock) Global) → new.starts ≡ old.starts → ReadsSlots old new which (Ok found) → OnlyReads (is_disk which) nowhere old new
+slots_read old new which found starts it = reads_run nowhere old new which it.1.bytes 512 starts it.1.calls
+
+pub slots_not_read : (old new : Disks) (which : ℕ) (cause : RingRefusal) → new.starts ≡ old.starts → ReadsSlots old new which (Err cause)
+    → OnlyReads (is_disk which) (is_fault (of_ring which cause)) old new
+slots_not_read old new which ring.DiskFault starts it = failed_run old new which it.0 starts it.2
+slots_not_read old new which ring.NoMemory starts it = reads_run nowhere old new which (λ i. []) 0 starts it
+slots_not_read old new which ring.NoUberblock starts it = absurd it
 
 fault_seen : (old new : Disks) (which n : ℕ) → HasFailedAt old new which n → HasFailedOn old new which
 fault_seen old new which n failed =
     let size = size_of old which in
     let mid : Disks = record { starts = old.starts; calls = slot_reads which size failed.bytes n ++ old.calls } in
-    fails_later no_write old mid new (reads_make old mid which failed.bytes n refl refl).makes which
+    fails_later no_write old mid new (reads_made (reads_run nowhere old mid which failed.bytes n refl refl)) which
     (fails_now mid new which (FailedRead (nth_slot_at size n) 1024) failed.calls refl)
 
 -- why the slots of a disk are not read
@@ -95,7 +86,7 @@ read_agrees : (old : Disks) (which : ℕ) (bytes : ℕ → List ℕ) (n : ℕ) �
 read_agrees old which bytes n honest i value below known =
     let size = size_of old which in
     let mid : Disks = record { starts = old.starts; calls = slot_reads which size bytes n ++ old.calls } in
-    let makes = (reads_make old mid which bytes n refl refl).makes in
+    let makes = reads_made (reads_run nowhere old mid which bytes n refl refl) in
     honest.0 (longer old mid no_write makes) i value below (none_same old mid which (nth_slot_at size n + i) makes ∙ known)
 
 reads_agree : (old : Disks) (which : ℕ) (bytes : ℕ → List ℕ) (n : ℕ) → AreHonestSince (length old.calls) old.starts (slot_reads which (size_of old which) bytes n ++ old.calls)

@@ -1,18 +1,10 @@
 -- What holds of a result's answer or error.
-use Rattle.std.proofs.Common.{◌≡◌, Result, Ok, Err, OnOk, OnErr, IfErr, sym, subst}
+use Rattle.std.proofs.Common.{◌≡◌, Result, Ok, Err, OnOk, IfErr, sym, subst}
 use Rattle.std.specs.Prelude.{IsErrAnd}
 
 pub on_ok_use : {T E : Type 0} (r : Result T E) (P Q : Type 0) → (P → Q) → OnOk r P → OnOk r Q
 on_ok_use (Ok x) P Q use_it p = use_it p
 on_ok_use (Err e) P Q use_it p = tt
-
-pub on_err_use : {T E : Type 0} (r : Result T E) (P Q : Type 0) → (P → Q) → OnErr r P → OnErr r Q
-on_err_use (Ok x) P Q use_it p = tt
-on_err_use (Err e) P Q use_it p = use_it p
-
-pub on_err_is : {T E : Type 0} (r : Result T E) (P : Type 0) → P → OnErr r P
-on_err_is (Ok x) P p = tt
-on_err_is (Err e) P p = p
 
 pub on_ok_is : {T E : Type 0} (r : Result T E) (P : Type 0) → P → OnOk r P
 on_ok_is (Ok x) P p = p

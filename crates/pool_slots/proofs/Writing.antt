@@ -11,7 +11,7 @@ use Rattle.model_disk.proofs.JointLemmas.{calls_on-same, calls_on-other}
 use Rattle.model_disk.proofs.LawLemmas.{written_bytes_stand}
 use Rattle.model_disk.proofs.RunLemmas.{off_content, Makes-write, Makes-flush}
 use Rattle.pool_slots.specs.Slots.{InUse, HaveLabels, MakesOn, is_disk, spelled, slot_at, IsSlot}
-use Rattle.pool_slots.specs.Writes.{IsSlotWrite, HasFound, InTurn, InHalf, in_use, in_half_of, on_disk, SlotStands, SlotsStand, HasBlock, IsBlockWrite, AreApart, BlocksStand}
+use Rattle.pool_slots.specs.Writes.{IsSlotWrite, InTurn, InHalf, in_use, in_half_of, on_disk, SlotStands, SlotsStand, HasBlock, IsBlockWrite, AreApart, BlocksStand}
 use Rattle.pool_slots.specs.declared.blocks.BlockWrite.{BlockWrite}
 use Rattle.pool_slots.specs.declared.found.Found.{Found}
 use Rattle.pool_slots.proofs.Places.{slots_apart, apart_covers, length-spelled, same_or_not}
@@ -284,19 +284,6 @@ of_turn all turn which half found at is_half d label it =
     let Q : Found → Type 0 = λ f. InHalf ((f.other_half % 2 + turn) % 2) label in
     let I : ℕ → Type 0 = λ h. InHalf h label in
     (it.0, subst I (sym is_half) (subst Q same it.1.half))
-
-pub turn_makes : (all : List (Option Found)) (old new : Disks) (u : Uberblock) (turn which half : ℕ) (found : Found) → slice_get all which ≡ Some (Some found) → half ≡ (found.other_half % 2 + turn) % 2
-    → MakesOn (is_disk which) (IsSlotWrite old.starts u (in_half_of which half)) old new → MakesOn (HasFound all) (IsSlotWrite old.starts u (on_disk which (InTurn all turn))) old new
-turn_makes all old new u turn which half found at is_half makes =
-    more_picked (is_disk which) (HasFound all) old.starts u (in_half_of which half) (on_disk which (InTurn all turn)) old new
-    (λ w same. let P : ℕ → Type 0 = HasFound all in subst P (sym same) (found, at)) (in_turn all turn which half found at is_half) makes
-
-pub turn_stands : {T E : Type 0} (r : Result T E) (all : List (Option Found)) (disks : Disks) (starts : List (List ℕ)) (u : Uberblock) (turn which half : ℕ) (found : Found) → slice_get all which ≡ Some (Some found)
-    → half ≡ (found.other_half % 2 + turn) % 2 → OnOk r (SlotsStand (content disks) starts u (in_half_of which half) (length starts))
-    → OnOk r (SlotsStand (content disks) starts u (on_disk which (InTurn all turn)) (length starts))
-turn_stands (Err e) all disks starts u turn which half found at is_half stand = tt
-turn_stands (Ok x) all disks starts u turn which half found at is_half stand =
-    λ d label below is picked. stand d label below is (of_turn all turn which half found at is_half d label picked)
 
 -- ---- blocks
 

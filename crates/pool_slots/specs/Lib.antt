@@ -1,5 +1,6 @@
 pub mod Slots
 pub mod Failures
+pub mod Reads
 pub mod Possible
 pub mod Writes
 pub mod Shown
@@ -10,6 +11,8 @@ pub mod Opens
 pub mod Relabels
 pub mod Configs
 pub mod LabelReads
+pub mod Surveys
 pub mod OpenRefusals
 pub mod Lives
 pub mod Claims
+pub mod Present

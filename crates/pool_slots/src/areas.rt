@@ -1,10 +1,10 @@
 //! What a claim is to write: the claimed uberblock, and the areas of the labels.
 ghost use Rattle.std.specs.Prelude.{◌≡◌, ◌≤◌, ◌<◌, length};
 ghost use Rattle.model_disk.specs.Joint.{bytes_of};
-ghost use Rattle.model_disk.specs.Runs.{no_write};
 ghost use Rattle.uberblock_ring.specs.Uberblock.{Fits};
 ghost use Rattle.pool_slots.specs.LabelReads.{AreSmall, HasLabeled, IsGreater, IsGreatestIn, MakesArea, MakesAreaIfRead, MakesAreas, PlansClaim};
-ghost use Rattle.pool_slots.specs.Slots.{HaveLabels, InUse, MakesOn, is_disk};
+ghost use Rattle.pool_slots.specs.Reads.{IsFaultOf, OnlyReads};
+ghost use Rattle.pool_slots.specs.Slots.{HaveLabels, InUse, is_disk};
 
 use crate::label_scan::read_labels;
 use crate::labeled::{Area, Labeled};
@@ -36,7 +36,7 @@ fn area_of<D: Disk + Drop>(
     requires first { labeled.now.first < 4 }
     requires source { labeled.now.source < 4 }
     requires fits { Fits uberblock.now }
-    ensures makes { MakesOn (is_disk which) no_write disks.old disks.new }
+    ensures only { OnlyReads (is_disk which) (IsFaultOf result) disks.old disks.new }
     ensures area { MakesArea labeled.now uberblock.now disks.old disks.new which result }
 {
     let label = match read_label(alloc, disks, which, labeled.source) {
@@ -69,7 +69,7 @@ fn area_if_read<D: Disk + Drop>(
     requires small { AreSmall labels.now }
     requires room { HaveLabels disks.old.starts }
     requires fits { Fits uberblock.now }
-    ensures makes { MakesOn (HasLabeled labels.now) no_write disks.old disks.new }
+    ensures only { OnlyReads (HasLabeled labels.now) (IsFaultOf result) disks.old disks.new }
     ensures area { MakesAreaIfRead labels.now uberblock.now disks.old disks.new which result }
 {
     match labels[which] {
@@ -89,7 +89,7 @@ fn areas_of<D: Disk + Drop>(
     requires small { AreSmall labels.now }
     requires room { HaveLabels disks.old.starts }
     requires fits { Fits uberblock.now }
-    ensures makes { MakesOn (HasLabeled labels.now) no_write disks.old disks.new }
+    ensures only { OnlyReads (HasLabeled labels.now) (IsFaultOf result) disks.old disks.new }
     ensures areas { MakesAreas labels.now uberblock.now disks.old disks.new result }
 {
     let mut all = Vec::new(alloc);
@@ -132,7 +132,7 @@ pub(crate) fn plan_claim<D: Disk + Drop>(
     requires out { length out.now ≡ length disks.old.starts }
     requires labels { HaveLabels disks.old.starts }
     requires fits { Fits taken.now }
-    ensures makes { MakesOn (InUse out.now) no_write disks.old disks.new }
+    ensures only { OnlyReads (InUse out.now) (IsFaultOf result) disks.old disks.new }
     ensures plans { PlansClaim out.now taken.now highest.now disks.old disks.new result }
 {
     let labels = read_labels(alloc, disks, out, &taken.config_digest)?;

@@ -69,7 +69,7 @@ fn settle_labels<D: Disk + Drop>(
 
 /// Writes the claim label of each disk in use, then the slots, then the other labels, each flushed
 /// before the next begins. The first fault ends it.
-pub(crate) fn claim<D: Disk + Drop>(
+pub(crate) fn write_claim<D: Disk + Drop>(
     disks: &mut DiskArray<D>,
     out: &[bool],
     all: &[Option<Found>],

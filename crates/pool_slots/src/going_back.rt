@@ -1,10 +1,10 @@
 //! Going back from the highest uberblock to one of the groups before it.
 ghost use Rattle.std.specs.Prelude.{◌≡◌, ◌≤◌, ◌<◌, length};
 ghost use Rattle.model_disk.specs.Joint.{bytes_of};
-ghost use Rattle.model_disk.specs.Runs.{no_write};
 ghost use Rattle.uberblock_ring.specs.Uberblock.{Fits};
 ghost use Rattle.pool_slots.specs.Opens.{FindsRewound, FindsRewoundIfUsed, FindsRewoundOn, TakesFrom};
-ghost use Rattle.pool_slots.specs.Slots.{HaveLabels, InUse, MakesOn, is_disk};
+ghost use Rattle.pool_slots.specs.Reads.{IsFaultOf, OnlyReads};
+ghost use Rattle.pool_slots.specs.Slots.{HaveLabels, InUse, is_disk};
 
 use crate::refusal::{Refusal, slots_unread};
 use model_disk::{Disk, DiskArray};
@@ -21,7 +21,7 @@ fn find_rewound_on<D: Disk + Drop>(
 ) -> Result<Option<Uberblock>, Refusal>
     requires which { which < length disks.old.starts }
     requires room { 1048576 ≤ length (bytes_of disks.old.starts which) }
-    ensures makes { MakesOn (is_disk which) no_write disks.old disks.new }
+    ensures only { OnlyReads (is_disk which) (IsFaultOf result) disks.old disks.new }
     ensures finds { FindsRewoundOn from.now groups disks.old disks.new which result }
 {
     let slots = match read_slots(alloc, disks, which) {
@@ -43,7 +43,7 @@ fn find_rewound_if_used<D: Disk + Drop>(
     requires which { which < length disks.old.starts }
     requires out { length out.now ≡ length disks.old.starts }
     requires labels { HaveLabels disks.old.starts }
-    ensures makes { MakesOn (InUse out.now) no_write disks.old disks.new }
+    ensures only { OnlyReads (InUse out.now) (IsFaultOf result) disks.old disks.new }
     ensures finds { FindsRewoundIfUsed out.now from.now groups disks.old disks.new which result }
 {
     if out[which] {
@@ -63,7 +63,7 @@ fn find_rewound<D: Disk + Drop>(
 ) -> Result<Uberblock, Refusal>
     requires out { length out.now ≡ length disks.old.starts }
     requires labels { HaveLabels disks.old.starts }
-    ensures makes { MakesOn (InUse out.now) no_write disks.old disks.new }
+    ensures only { OnlyReads (InUse out.now) (IsFaultOf result) disks.old disks.new }
     ensures finds { FindsRewound out.now from.now groups disks.old disks.new result }
 {
     for which in 0..disks.len() {
@@ -86,7 +86,7 @@ pub(crate) fn taken_from<D: Disk + Drop>(
     requires out { length out.now ≡ length disks.old.starts }
     requires labels { HaveLabels disks.old.starts }
     requires fits { Fits highest.now }
-    ensures makes { MakesOn (InUse out.now) no_write disks.old disks.new }
+    ensures only { OnlyReads (InUse out.now) (IsFaultOf result) disks.old disks.new }
     ensures takes { TakesFrom out.now highest.now rewind disks.old disks.new result }
 {
     if rewind == 0 {

@@ -1,11 +1,11 @@
 //! Reading the labels of disks.
 ghost use Rattle.std.specs.Prelude.{◌≡◌, ◌≤◌, ◌<◌, length, IfOk};
 ghost use Rattle.model_disk.specs.Joint.{bytes_of};
-ghost use Rattle.model_disk.specs.Runs.{no_write};
 ghost use Rattle.vdev_label.specs.Plain.{label_view};
 ghost use Rattle.pool_slots.specs.LabelReads.{ReadsAll, ReadsFour, ReadsIfUsed, ReadsLabeled, ReadsShown, unread_as};
 ghost use Rattle.pool_slots.specs.Labels.{IsValid, Keeps};
-ghost use Rattle.pool_slots.specs.Slots.{HaveLabels, InUse, MakesOn, is_disk};
+ghost use Rattle.pool_slots.specs.Reads.{IsFaultOf, OnlyReads};
+ghost use Rattle.pool_slots.specs.Slots.{HaveLabels, InUse, is_disk};
 
 use crate::label_choice::summary;
 use crate::labeled::{Labeled, Shown};
@@ -46,7 +46,7 @@ fn read_shown<D: Disk + Drop>(
     requires which { which < length disks.old.starts }
     requires number { number < LABELS }
     requires room { 1048576 ≤ length (bytes_of disks.old.starts which) }
-    ensures makes { MakesOn (is_disk which) no_write disks.old disks.new }
+    ensures only { OnlyReads (is_disk which) (IsFaultOf result) disks.old disks.new }
     ensures reads { ReadsShown disks.old disks.new which number result }
 {
     match read_label(alloc, disks, which, number) {
@@ -63,7 +63,7 @@ fn read_four<D: Disk + Drop>(
 ) -> Result<Vec<Option<Shown>>, Refusal>
     requires which { which < length disks.old.starts }
     requires room { 1048576 ≤ length (bytes_of disks.old.starts which) }
-    ensures makes { MakesOn (is_disk which) no_write disks.old disks.new }
+    ensures only { OnlyReads (is_disk which) (IsFaultOf result) disks.old disks.new }
     ensures reads { ReadsFour disks.old disks.new which result }
 {
     let mut all = Vec::new(alloc);
@@ -84,7 +84,7 @@ fn read_labeled<D: Disk + Drop>(
 ) -> Result<Labeled, Refusal>
     requires which { which < length disks.old.starts }
     requires room { 1048576 ≤ length (bytes_of disks.old.starts which) }
-    ensures makes { MakesOn (is_disk which) no_write disks.old disks.new }
+    ensures only { OnlyReads (is_disk which) (IsFaultOf result) disks.old disks.new }
     ensures reads { ReadsLabeled digest.now disks.old disks.new which result }
 {
     let shown = read_four(alloc, disks, which)?;
@@ -105,7 +105,7 @@ fn read_if_used<D: Disk + Drop>(
     requires which { which < length disks.old.starts }
     requires out { length out.now ≡ length disks.old.starts }
     requires labels { HaveLabels disks.old.starts }
-    ensures makes { MakesOn (InUse out.now) no_write disks.old disks.new }
+    ensures only { OnlyReads (InUse out.now) (IsFaultOf result) disks.old disks.new }
     ensures reads { ReadsIfUsed out.now digest.now disks.old disks.new which result }
 {
     if out[which] {
@@ -123,7 +123,7 @@ pub(crate) fn read_labels<D: Disk + Drop>(
 ) -> Result<Vec<Option<Labeled>>, Refusal>
     requires out { length out.now ≡ length disks.old.starts }
     requires labels { HaveLabels disks.old.starts }
-    ensures makes { MakesOn (InUse out.now) no_write disks.old disks.new }
+    ensures only { OnlyReads (InUse out.now) (IsFaultOf result) disks.old disks.new }
     ensures reads { ReadsAll out.now digest.now disks.old disks.new result }
 {
     let mut all = Vec::new(alloc);

@@ -14,11 +14,17 @@ mod label_writes;
 mod labeled;
 pub mod laws;
 mod opening;
+mod present;
 mod refusal;
 mod scan;
+mod surveyed;
+mod surveying;
 mod writes;
 
 pub use blocks::BlockWrite;
 pub use committing::commit;
-pub use opening::open;
+pub use opening::{claim, open};
+pub use present::{open_present, survey_present};
 pub use refusal::{DiskFailure, Refusal};
+pub use surveyed::Survey;
+pub use surveying::survey;

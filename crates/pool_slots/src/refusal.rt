@@ -29,6 +29,22 @@ pub enum Refusal {
     UsedUp,
 }
 
+impl Refusal {
+    ghost use Rattle.std.specs.Prelude.{ℕ, IfNone, IfSome};
+    ghost use Rattle.pool_slots.specs.Reads.{is_fault};
+
+    /// The disk that failed, where one did.
+    pub fn disk(&self) -> Option<usize>
+        ensures some { IfSome result (is_fault self.now) }
+        ensures none { IfNone result ((disk : ℕ) → ¬ is_fault self.now disk) }
+    {
+        match self {
+            Refusal::DiskFault { disk } => Some(*disk),
+            Refusal::NoMemory | Refusal::NoUberblock | Refusal::NoLabel | Refusal::UsedUp => None,
+        }
+    }
+}
+
 impl From<DiskFailure> for Refusal {
     ghost use Rattle.pool_slots.specs.declared.refusal.Refusal.TheVariants.{DiskFault};
 

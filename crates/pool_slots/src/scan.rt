@@ -1,10 +1,10 @@
 //! Reading the slots of disks.
 ghost use Rattle.std.specs.Prelude.{◌≡◌, ◌≤◌, ◌<◌, ℕ, length, map, IfOk, IfSome, IfNone};
 ghost use Rattle.model_disk.specs.Joint.{bytes_of};
-ghost use Rattle.model_disk.specs.Runs.{no_write};
 ghost use Rattle.uberblock_ring.specs.Ranking.{Has};
 ghost use Rattle.uberblock_ring.specs.declared.uberblock.Uberblock.{Uberblock};
-ghost use Rattle.pool_slots.specs.Slots.{HaveLabels, InUse, MakesOn, is_disk};
+ghost use Rattle.pool_slots.specs.Reads.{IsFaultOf, OnlyReads};
+ghost use Rattle.pool_slots.specs.Slots.{HaveLabels, InUse, is_disk};
 ghost use Rattle.pool_slots.specs.Opens.{AreFitting, FindsAll, FindsHighest, FindsIfUsed, FindsOn, HasHighest, uberblock_of};
 
 use crate::found::Found;
@@ -34,7 +34,7 @@ fn find<D: Disk + Drop>(
 ) -> Result<Found, Refusal>
     requires which { which < length disks.old.starts }
     requires room { 1048576 ≤ length (bytes_of disks.old.starts which) }
-    ensures makes { MakesOn (is_disk which) no_write disks.old disks.new }
+    ensures only { OnlyReads (is_disk which) (IsFaultOf result) disks.old disks.new }
     ensures finds { FindsOn disks.old disks.new which result }
 {
     let slots = match read_slots(alloc, disks, which) {
@@ -57,7 +57,7 @@ fn find_if_used<D: Disk + Drop>(
     requires which { which < length disks.old.starts }
     requires out { length out.now ≡ length disks.old.starts }
     requires labels { HaveLabels disks.old.starts }
-    ensures makes { MakesOn (InUse out.now) no_write disks.old disks.new }
+    ensures only { OnlyReads (InUse out.now) (IsFaultOf result) disks.old disks.new }
     ensures finds { FindsIfUsed out.now disks.old disks.new which result }
 {
     if out[which] {
@@ -74,7 +74,7 @@ pub(crate) fn find_all<D: Disk + Drop>(
 ) -> Result<Vec<Option<Found>>, Refusal>
     requires out { length out.now ≡ length disks.old.starts }
     requires labels { HaveLabels disks.old.starts }
-    ensures makes { MakesOn (InUse out.now) no_write disks.old disks.new }
+    ensures only { OnlyReads (InUse out.now) (IsFaultOf result) disks.old disks.new }
     ensures finds { FindsAll out.now disks.old disks.new result }
 {
     let mut all = Vec::new(alloc);

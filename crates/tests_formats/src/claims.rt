@@ -5,7 +5,7 @@ ghost use Rattle.pool_slots.specs.Slots.{HaveLabels};
 use crate::configs::DIGEST;
 use crate::labels::{LIST, area_with};
 use crate::slots::{NEXT, UBERBLOCK};
-use model_disk::{DiskArray, MemDisk};
+use model_disk::{Disk, DiskArray, MemDisk};
 use pool_slots::{Refusal, commit, open};
 use std::alloc::Global;
 use std::test::*;
@@ -13,20 +13,20 @@ use uberblock_ring::Uberblock;
 use vdev_label::label_offset;
 
 /// Uberblocks of the configuration that the labels have.
-const FIRST: Uberblock = Uberblock {
+pub(crate) const FIRST: Uberblock = Uberblock {
     config_digest: DIGEST,
     ..UBERBLOCK
 };
 
-const SECOND: Uberblock = Uberblock {
+pub(crate) const SECOND: Uberblock = Uberblock {
     config_digest: DIGEST,
     ..NEXT
 };
 
 /// Writes a label with this claim. Under claim 0 it is no label.
-fn write_label(
+pub(crate) fn write_label<D: Disk + Drop>(
     alloc: Global,
-    disks: &mut DiskArray<MemDisk>,
+    disks: &mut DiskArray<D>,
     which: usize,
     number: u64,
     claim: u8,
@@ -43,9 +43,9 @@ fn write_label(
 }
 
 /// Writes the four labels of a disk, with one claim.
-fn write_labels(
+pub(crate) fn write_labels<D: Disk + Drop>(
     alloc: Global,
-    disks: &mut DiskArray<MemDisk>,
+    disks: &mut DiskArray<D>,
     which: usize,
     claim: u8,
 ) -> Result<(), Fail>
@@ -60,7 +60,7 @@ fn write_labels(
 }
 
 /// Three disks of four labels each, with claim 1.
-fn pool(alloc: Global) -> Result<DiskArray<MemDisk>, Fail>
+pub(crate) fn pool(alloc: Global) -> Result<DiskArray<MemDisk>, Fail>
     ensures count { IfOk result (λ disks. length disks.starts ≡ 3) }
     ensures labels { IfOk result (λ disks. HaveLabels disks.starts) }
 {
@@ -116,7 +116,7 @@ fn an_open_goes_back_and_never_below_what_was_claimed(rt: HostRuntime) -> Result
     Ok(())
 }
 
-fn claim_of(opened: Result<Uberblock, Refusal>) -> Result<u64, Refusal> {
+pub(crate) fn claim_of(opened: Result<Uberblock, Refusal>) -> Result<u64, Refusal> {
     Ok(opened?.claim)
 }
 

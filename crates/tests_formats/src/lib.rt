@@ -2,6 +2,8 @@
 #![tactic(auto)]
 
 #[cfg(test)]
+mod absent_disks;
+#[cfg(test)]
 mod claims;
 #[cfg(test)]
 mod configs;
@@ -19,3 +21,5 @@ mod seals;
 mod slots;
 #[cfg(test)]
 mod space_maps;
+#[cfg(test)]
+mod surveys;

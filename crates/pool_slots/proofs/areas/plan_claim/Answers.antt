@@ -1,13 +1,13 @@
-use Rattle.std.proofs.Common.{◌+◌, List, Option, Result, Ok, Err, length, refl, subst, arith}
-use Rattle.model_disk.specs.Runs.{no_write}
+use Rattle.std.proofs.Common.{ℕ, ◌+◌, List, Option, Result, Ok, Err, length, refl, subst, arith}
 use Rattle.uberblock_ring.specs.declared.uberblock.Uberblock.{Uberblock}
 use Rattle.pool_slots.specs.LabelReads.{HasLabeled, IsGreatestIn, MakesAreas, PlansClaim}
+use Rattle.pool_slots.specs.Reads.{is_fault, nowhere}
 use Rattle.pool_slots.specs.Slots.{InUse}
 use Rattle.pool_slots.specs.declared.areas.Plan.{Plan}
 use Rattle.pool_slots.specs.declared.labeled.Labeled.{Labeled}
 use Rattle.pool_slots.specs.declared.refusal.Refusal.{Refusal}
 use Rattle.pool_slots.proofs.LabelPlans.{areas_refused, labeled_used, plan_made, plan_used_up}
-use Rattle.pool_slots.proofs.Phases.{MakesOn-more, MakesOn-wider}
+use Rattle.pool_slots.proofs.ReadRuns.{reads_any, reads_err, reads_made, reads_then, reads_wider}
 use Rattle.pool_slots.proofs.Results.{err_use}
 use Rattle.pool_slots.proofs.areas.plan_claim.Goals as goal
 
@@ -18,12 +18,12 @@ returns-then-greatest-ge-LAST_COUNT-clause-plans g c =
     plan_used_up c.args.out.now c.args.taken.now c.args.highest.now c.args.disks.now c.read_labels.new.disks c.in_ok-labels.labels.items c.greatest_of-greatest.result c.in_ok-labels.ensures.reads.1
     c.in_ok-labels.ensures.reads.3 (subst P c.deref.ensures.value c.greatest_of-greatest.ensures) (omega (arith, c.if-greatest-ge-LAST_COUNT.true))
 
-pub returns-in_err-areas-clause-makes : goal.returns-in_err-areas-clause-makes
-returns-in_err-areas-clause-makes g c =
-    let out = c.args.out.now in
-    MakesOn-more (InUse out) no_write c.args.disks.now c.read_labels.new.disks c.areas_of.new.disks c.read_labels.ensures.makes
-    (MakesOn-wider (HasLabeled c.deref-2.result.now) (InUse out) no_write no_write c.read_labels.new.disks c.areas_of.new.disks
-    (labeled_used out c.deref-2.result.now c.in_ok-labels.labels.items c.deref-2.ensures.value c.in_ok-labels.ensures.reads.1) (λ which at bytes it. it) c.areas_of.ensures.makes)
+pub returns-in_err-areas-clause-only : goal.returns-in_err-areas-clause-only
+returns-in_err-areas-clause-only g c =
+    let faulty : ℕ → Type 0 = is_fault c.in_err-areas.field-0.0 in
+    reads_err c.from_residual-in_err-areas.result c.in_err-areas.field-0.0 c.from_residual-in_err-areas.ensures.1
+    (reads_then c.in_ok-labels.ensures.only (reads_wider (HasLabeled c.deref-2.result.now) (InUse c.args.out.now) faulty faulty c.read_labels.new.disks c.areas_of.new.disks
+    (labeled_used c.args.out.now c.deref-2.result.now c.in_ok-labels.labels.items c.deref-2.ensures.value c.in_ok-labels.ensures.reads.1) (λ which it. it) c.in_err-areas.ensures.only))
 
 pub returns-in_err-areas-clause-plans : goal.returns-in_err-areas-clause-plans
 returns-in_err-areas-clause-plans g c =
@@ -35,15 +35,14 @@ returns-in_err-areas-clause-plans g c =
     let P : Result Plan Refusal → Type 0 = PlansClaim out c.args.taken.now c.args.highest.now c.args.disks.now new in
     let Q : List (Option Labeled) → Type 0 = λ xs. MakesAreas xs u mid new (Err cause) in
     err_use c.from_residual-in_err-areas.result cause P c.from_residual-in_err-areas.ensures.1
-    (areas_refused out c.args.taken.now c.args.highest.now u c.args.disks.now mid new c.in_ok-labels.labels.items cause c.read_labels.ensures.makes.makes c.areas_of.ensures.makes.makes
+    (areas_refused out c.args.taken.now c.args.highest.now u c.args.disks.now mid new c.in_ok-labels.labels.items cause (reads_made c.read_labels.ensures.only) (reads_made c.areas_of.ensures.only)
     c.in_ok-labels.ensures.reads.1 c.in_ok-labels.ensures.reads.3 (subst Q c.deref-2.ensures.value c.in_err-areas.ensures.areas))
 
-pub returns-clause-makes : goal.returns-clause-makes
-returns-clause-makes g c =
-    let out = c.args.out.now in
-    MakesOn-more (InUse out) no_write c.args.disks.now c.read_labels.new.disks c.areas_of.new.disks c.read_labels.ensures.makes
-    (MakesOn-wider (HasLabeled c.deref-2.result.now) (InUse out) no_write no_write c.read_labels.new.disks c.areas_of.new.disks
-    (labeled_used out c.deref-2.result.now c.in_ok-labels.labels.items c.deref-2.ensures.value c.in_ok-labels.ensures.reads.1) (λ which at bytes it. it) c.areas_of.ensures.makes)
+pub returns-clause-only : goal.returns-clause-only
+returns-clause-only g c =
+    reads_then c.in_ok-labels.ensures.only
+    (reads_wider (HasLabeled c.deref-2.result.now) (InUse c.args.out.now) nowhere nowhere c.read_labels.new.disks c.areas_of.new.disks
+    (labeled_used c.args.out.now c.deref-2.result.now c.in_ok-labels.labels.items c.deref-2.ensures.value c.in_ok-labels.ensures.reads.1) (λ which it. it) c.in_ok-areas.ensures.only)
 
 pub returns-clause-plans : goal.returns-clause-plans
 returns-clause-plans g c =
@@ -55,5 +54,11 @@ returns-clause-plans g c =
     let P : List (Option Labeled) → Type 0 = λ xs. IsGreatestIn xs least (length xs) c.greatest_of-greatest.result in
     let Q : List (Option Labeled) → Type 0 = λ xs. MakesAreas xs u mid new (Ok c.in_ok-areas.areas) in
     plan_made out c.args.taken.now c.args.highest.now c.args.disks.now mid new c.in_ok-labels.labels.items c.greatest_of-greatest.result (record { claimed = u; areas = c.in_ok-areas.areas }) refl
-    c.requires.fits (omega (arith, c.if-greatest-ge-LAST_COUNT.false)) c.read_labels.ensures.makes.makes c.areas_of.ensures.makes.makes c.in_ok-labels.ensures.reads.0 c.in_ok-labels.ensures.reads.1 c.in_ok-labels.ensures.reads.3
+    c.requires.fits (omega (arith, c.if-greatest-ge-LAST_COUNT.false)) (reads_made c.read_labels.ensures.only) (reads_made c.areas_of.ensures.only) c.in_ok-labels.ensures.reads.0 c.in_ok-labels.ensures.reads.1 c.in_ok-labels.ensures.reads.3
     (subst P c.deref.ensures.value c.greatest_of-greatest.ensures) (subst Q c.deref-2.ensures.value c.in_ok-areas.ensures.areas)
+
+pub returns-then-greatest-ge-LAST_COUNT-clause-only : goal.returns-then-greatest-ge-LAST_COUNT-clause-only
+returns-then-greatest-ge-LAST_COUNT-clause-only g c = reads_any c.in_ok-labels.ensures.only
+
+pub returns-in_err-labels-clause-only : goal.returns-in_err-labels-clause-only
+returns-in_err-labels-clause-only g c = reads_err c.from_residual.result c.in_err-labels.field-0.0 c.from_residual.ensures.1 c.in_err-labels.ensures.only

@@ -2,12 +2,19 @@ use Rattle.std.proofs.Common.{ℕ, List, Option, Err, sym, subst}
 use Rattle.uberblock_ring.specs.Ranking.{Has}
 use Rattle.uberblock_ring.specs.declared.uberblock.Uberblock.{Uberblock}
 use Rattle.pool_slots.specs.Opens.{FindsOn, HasHighest}
+use Rattle.pool_slots.specs.Reads.{OnlyReads, is_fault}
+use Rattle.pool_slots.specs.Slots.{is_disk}
 use Rattle.pool_slots.specs.declared.refusal.Refusal.{Refusal}
-use Rattle.pool_slots.proofs.Reading.{slots_make, slots_refused, finds_highest, finds_none}
+use Rattle.pool_slots.proofs.Reading.{slots_read, slots_not_read, slots_refused, finds_highest, finds_none}
+use Rattle.pool_slots.proofs.ReadRuns.{reads_any}
 use Rattle.pool_slots.proofs.scan.find.Goals as goal
 
-pub returns-in-Err-clause-makes : goal.returns-in-Err-clause-makes
-returns-in-Err-clause-makes g c = slots_make c.args.disks.now c.read_slots.new.disks c.args.which c.read_slots.result c.read_slots.ensures.starts c.read_slots.ensures.calls
+pub returns-in-Err-clause-only : goal.returns-in-Err-clause-only
+returns-in-Err-clause-only g c =
+    let old = c.args.disks.now in
+    let new = c.read_slots.new.disks in
+    let P : Refusal → Type 0 = λ refusal. OnlyReads (is_disk c.args.which) (is_fault refusal) old new in
+    subst P (sym c.slots_unread.ensures) (slots_not_read old new c.args.which c.in-Err.cause c.read_slots.ensures.starts c.in-Err.ensures.calls)
 
 pub returns-in-Err-clause-finds : goal.returns-in-Err-clause-finds
 returns-in-Err-clause-finds g c =
@@ -16,11 +23,11 @@ returns-in-Err-clause-finds g c =
     let P : Refusal → Type 0 = λ refusal. FindsOn old new c.args.which (Err refusal) in
     subst P (sym c.slots_unread.ensures) (slots_refused old new c.args.which c.in-Err.cause c.in-Err.ensures.calls)
 
-pub returns-in-Some-clause-makes : goal.returns-in-Some-clause-makes
-returns-in-Some-clause-makes g c = slots_make c.args.disks.now c.read_slots.new.disks c.args.which c.read_slots.result c.read_slots.ensures.starts c.read_slots.ensures.calls
+pub returns-in-Some-clause-only : goal.returns-in-Some-clause-only
+returns-in-Some-clause-only g c = slots_read c.args.disks.now c.read_slots.new.disks c.args.which c.in-Ok.slots c.read_slots.ensures.starts c.in-Ok.ensures.calls
 
-pub returns-clause-makes : goal.returns-clause-makes
-returns-clause-makes g c = slots_make c.args.disks.now c.read_slots.new.disks c.args.which c.read_slots.result c.read_slots.ensures.starts c.read_slots.ensures.calls
+pub returns-clause-only : goal.returns-clause-only
+returns-clause-only g c = reads_any (slots_read c.args.disks.now c.read_slots.new.disks c.args.which c.in-Ok.slots c.read_slots.ensures.starts c.in-Ok.ensures.calls)
 
 pub returns-in-Some-clause-finds : goal.returns-in-Some-clause-finds
 returns-in-Some-clause-finds g c =

@@ -15,7 +15,7 @@ use Rattle.pool_slots.proofs.Phases.{MakesOn-more}
 use Rattle.pool_slots.proofs.Reading.{longer}
 use Rattle.pool_slots.proofs.Results.{on_ok_is, on_ok_use, if_err_is}
 use Rattle.pool_slots.proofs.Used.{are_there}
-use Rattle.pool_slots.proofs.claiming.claim.Goals as goal
+use Rattle.pool_slots.proofs.claiming.write_claim.Goals as goal
 
 pub settle_labels-requires-clause-whole : goal.settle_labels-requires-clause-whole
 settle_labels-requires-clause-whole g c = are_whole c.args.uberblock.now c.args.areas.now c.requires.areas
