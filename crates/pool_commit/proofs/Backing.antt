@@ -9,6 +9,9 @@ use Rattle.std.proofs.lemmas.Bool.{eq-eqb}
 use Rattle.raidz_io.specs.declared.writes.ColumnWrite.{ColumnWrite}
 use Rattle.block_pointer.specs.declared.block.Block.{Block}
 use Rattle.block_store.specs.Blocks.{Contents}
+use Rattle.block_store.specs.Places.{shapes_of}
+use Rattle.block_store.specs.Places.{filled as filled_marks}
+use Rattle.block_store.specs.Spaces.{VdevSpace}
 use Rattle.block_store.specs.Steps.{OnlyReadsBlocks}
 use Rattle.block_store.specs.Store.{Store, is_out}
 use Rattle.pool_commit.specs.declared.kept.KeptGroup.{KeptGroup}
@@ -17,11 +20,12 @@ use Rattle.pool_model.specs.Pools.{PlainPool}
 use Rattle.pool_model.specs.View.{View, DueCall, Due, is_kept}
 use Rattle.pool_commit.specs.declared.kept.Kept.{Kept}
 use Rattle.pool_commit.specs.declared.kept.Planned.{Planned}
-use Rattle.pool_commit.specs.Backs.{Backs, SpellsKept, IsPlanOf, left_calls, SpellsGroup, SpellsRoot}
+use Rattle.pool_commit.specs.Backs.{Backs, IsReachOfPlan, SpellsKept, IsPlanOf, kept_pool, left_calls, SpellsGroup, SpellsRoot}
 use Rattle.pool_commit.specs.Calls.{IsWrite, IsFlushed}
 use Rattle.pool_commit.specs.Config.{vdevs_of}
 use Rattle.pool_commit.specs.Reading.{OnlyReadsPool}
 use Rattle.pool_commit.specs.State.{State, group_at}
+use Rattle.pool_commit.proofs.Reaching.{reached_over, same_spaces}
 
 -- ---- kept groups
 
@@ -106,20 +110,22 @@ plan_stays s store planned (Some plan) v due out reads is = record {
 }
 
 backs_after : (s : State) (store : Store) (missing : List ℕ) (v : View) → OnlyReadsBlocks s.store store missing → Backs s v → Backs (record s { store = store }) v
-backs_after s store missing v reads backs = record {
-  vdevs = backs.vdevs ∙ sym (ap (λ (t : Store). vdevs_of t.spaces) reads.rest);
-  out = λ disk. backs.out disk ∙ sym (ap (λ (t : Store). is_out t.out disk) reads.rest);
-  committed = backs.committed;
-  blocks = record {
-    stored = backs.blocks.stored;
-    planned = backs.blocks.planned;
-    plans = reads.plans backs.blocks.stored backs.blocks.planned backs.blocks.plans;
-    kept = backs.blocks.kept;
-    plan = plan_stays s store backs.blocks.planned s.planned v (ap (λ (t : Store). t.due) reads.rest) (ap (λ (t : Store). t.out) reads.rest) reads.reads backs.blocks.plan;
-    reached = backs.blocks.reached;
-    plan_reached = backs.blocks.plan_reached;
-  };
-}
+backs_after s store missing v reads backs =
+    let same : store.spaces ≡ s.store.spaces = ap (λ (t : Store). t.spaces) reads.rest in record {
+      vdevs = backs.vdevs ∙ sym (ap (λ (t : Store). vdevs_of t.spaces) reads.rest);
+      out = λ disk. backs.out disk ∙ sym (ap (λ (t : Store). is_out t.out disk) reads.rest);
+      committed = backs.committed;
+      blocks = record {
+        stored = backs.blocks.stored;
+        planned = backs.blocks.planned;
+        plans = reads.plans backs.blocks.stored backs.blocks.planned backs.blocks.plans;
+        kept = backs.blocks.kept;
+        plan = plan_stays s store backs.blocks.planned s.planned v (ap (λ (t : Store). t.due) reads.rest) (ap (λ (t : Store). t.out) reads.rest) reads.reads backs.blocks.plan;
+        reached = reached_over s.store.spaces store.spaces backs.blocks.stored s.kept (kept_pool v) (ap shapes_of same)
+            (same_spaces s.store.spaces store.spaces filled_marks same) backs.blocks.reached;
+        plan_reached = subst (λ (spaces : List VdevSpace). IsReachOfPlan spaces backs.blocks.reached.reach backs.blocks.stored backs.blocks.planned s.planned v) (sym same) backs.blocks.plan_reached;
+      };
+    }
 
 pub only_reads : (s : State) (store : Store) (missing : List ℕ) → OnlyReadsBlocks s.store store missing → OnlyReadsPool s (record s { store = store }) missing
 only_reads s store missing reads = record {

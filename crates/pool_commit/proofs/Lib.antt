@@ -4,6 +4,7 @@ pub mod Keeping
 pub mod Made
 pub mod Planning
 pub mod Progressing
+pub mod Holding
 pub mod Reaching
 pub mod ReadCauses
 pub mod ReadingBase

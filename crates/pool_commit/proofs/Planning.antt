@@ -1,7 +1,7 @@
 -- A plan that is begun, and what it has once it is made.
-use Rattle.std.proofs.Common.{ℕ, zero, suc, ◌≡◌, ◌⊎◌, ⊎_elim, ◌+◌, ◌-◌, ◌<◌, if◌then◌else◌, Bool, true, false, List, [], ◌∷◌, ◌++◌, map, Option, Some, None, Result, Ok, Err, OnErr, Contains, refl, sym, ap, ◌∙◌, subst, inl, inr, arith}
+use Rattle.std.proofs.Common.{ℕ, zero, suc, ◌≡◌, ◌⊎◌, ⊎_elim, ◌+◌, ◌-◌, ◌<◌, ◌≤◌, if◌then◌else◌, Bool, true, false, List, [], ◌∷◌, ◌++◌, map, Option, Some, None, Result, Ok, Err, OnErr, Contains, refl, sym, ap, ◌∙◌, subst, inl, inr, arith}
 use Rattle.std.specs.Prelude.{not, filter, slice_get}
-use Rattle.std.specs.List.{AllByRecursion}
+use Rattle.std.specs.List.{AllByRecursion, count_by}
 use Rattle.std.proofs.lemmas.Bool.{cases_lt}
 use Rattle.std.proofs.lemmas.List.Elements.{All-contains, Contains-append_left, Contains-append_right}
 use Rattle.model_disk.specs.Joint.{Disks, calls_on}
@@ -12,12 +12,16 @@ use Rattle.raidz_io.proofs.Calls.{Contains-front, Contains-later, Contains-cases
 use Rattle.raidz_io.proofs.Placed.{placed_at}
 use Rattle.block_store.specs.declared.shape.VdevShape.{VdevShape}
 use Rattle.block_store.specs.Spaces.{VdevSpace}
-use Rattle.block_store.specs.Blocks.{Contents, Extends}
+use Rattle.block_store.specs.Blocks.{Contents, Extends, AreStored}
 use Rattle.block_store.specs.Places.{shapes_of, HaveMarks}
 use Rattle.block_store.specs.Places.{filled as filled_marks, planned as planned_marks}
 use Rattle.block_store.specs.Plans.{Plans}
 use Rattle.block_store.specs.Steps.{OnlyReadsAndPlans, AnswersAreTrue}
+use Rattle.block_store.specs.Releases.{AreSettledIn, AreSpared}
 use Rattle.block_store.specs.Store.{Store, Holds, outs, outs_from, is_out}
+use Rattle.block_store.specs.Uses.{CopiesLieOn, Passes, IsInUse, IsSpared, SettlesTo}
+use Rattle.block_store.proofs.Planning.{marks_by_map}
+use Rattle.block_store.proofs.Uses.{places_spare}
 use Rattle.block_store.proofs.Writing.{found_at}
 use Rattle.pool_commit.specs.declared.kept.KeptGroup.{KeptGroup}
 use Rattle.pool_model.specs.Flow.{counted_on}
@@ -27,14 +31,23 @@ use Rattle.pool_model.specs.Pools.{PlainPool, Entry, applied}
 use Rattle.pool_model.specs.View.{View, Vdev, DueCall, Sync, Due, is_planned, counted, disks_of, disks_in_use}
 use Rattle.pool_commit.specs.declared.kept.Planned.{Planned}
 use Rattle.block_pointer.specs.declared.block.Block.{Block}
+use Rattle.metaslab.specs.State.{is_in_use}
+use Rattle.metaslab.specs.State.{State as State'}
 use Rattle.dataset_snapshots.specs.Leaving.{IsReachExchanged}
-use Rattle.pool_commit.specs.Backs.{Backs, IsPlanOf, LeadsTo, left_calls, SpellsGroup}
+use Rattle.dataset_snapshots.proofs.Exchanges.{gone_are}
+use Rattle.dnode_tree.specs.Freeing.{AreOnlyIn}
+use Rattle.dnode_tree.specs.Rewriting.{AreDistinct}
+use Rattle.dnode_tree.proofs.SameBlocks.{same_as, found}
+use Rattle.dnode_tree.proofs.SameBlocks.{counted as counted_in}
+use Rattle.pool_commit.specs.Backs.{Backs, IsPlanOf, LeadsTo, kept_pool, left_calls, SpellsGroup}
 use Rattle.pool_commit.specs.Making.{writes_left}
 use Rattle.pool_commit.specs.Config.{shown, vdevs_of}
 use Rattle.pool_commit.specs.Room.{IsBegun}
+use Rattle.pool_commit.specs.Space.{is_held_for, AreHeld, AreInUse, GivesBack}
 use Rattle.pool_commit.specs.State.{State, group_at}
 use Rattle.pool_commit.proofs.Backing.{last_at, last_spelled}
-use Rattle.pool_commit.proofs.Reaching.{kept_leads, plan_reaches}
+use Rattle.pool_commit.proofs.Reaching.{kept_leads, led_known, plan_reaches, reached_over}
+use Rattle.pool_commit.proofs.Holding.{weaker, by_marks, held_on, held_is_in_use, held_settles, held_is_spared, near, released_is_held, used_is}
 use Rattle.pool_commit.proofs.Reaching.{no_plan as no_reach}
 use Rattle.pool_commit.proofs.Tolerating.{vdev_at}
 
@@ -153,31 +166,62 @@ pub at_error : {T E : Type 0} (result : Result T E) (P : Type 0) → P → OnErr
 at_error (Ok x) P h = tt
 at_error (Err e) P h = h
 
+-- a plan of a group begins, and what is due to it becomes free
+pub record Begins (old new : Store) (group : ℕ) : Type 0 where
+  pub free : HaveMarks new.spaces filled_marks new.spaces planned_marks
+  pub stays : (test later : State' → Bool) (block : Block) → SettlesTo group (Passes test) (Passes later) → CopiesLieOn (Passes test) old.spaces filled_marks block
+      → CopiesLieOn (Passes later) new.spaces filled_marks block
+  pub plans : (stored : Contents) → Holds old stored → AreSpared group old.spaces stored → Plans new stored stored
+
+-- what the kept groups lead to is held still
+begun_held : (s : State) (store : Store) (group : ℕ) (v : View) → Begins s.store store group → group ≤ suc s.kept.committed → (backs : Backs s v)
+    → AreHeld store.spaces filled_marks s.kept.committed backs.blocks.reached.reach
+begun_held s store group v begins next backs g block among =
+    let last : ℕ = s.kept.committed in
+    let close = near backs.blocks.stored s.kept (kept_pool v g) g (backs.blocks.reached.reach g) block (backs.blocks.reached.leads g) among in
+    begins.stays (is_held_for g last) (is_held_for g last) block (held_settles g last group close.1 next)
+    (backs.blocks.reached.held g block among)
+
+-- and none of what is stored is due
+begun_spares : (s : State) (group : ℕ) (v : View) → group ≤ suc s.kept.committed → (backs : Backs s v) → AreSpared group s.store.spaces backs.blocks.stored
+begun_spares s group v next backs block bytes known =
+    let last : ℕ = s.kept.committed in
+    let (g, among) = backs.blocks.reached.only block bytes known in
+    let close = near backs.blocks.stored s.kept (kept_pool v g) g (backs.blocks.reached.reach g) block (backs.blocks.reached.leads g) among in
+    weaker (Passes (is_held_for g last)) (IsSpared group) s.store.spaces filled_marks block (held_is_spared g last group close.1 next) (backs.blocks.reached.held g block among)
+
 -- where a plan was begun, the one before it is dropped
-pub backs_begun : (s : State) (store : Store) (v : View) → store.out ≡ s.store.out → shapes_of store.spaces ≡ shapes_of s.store.spaces
-    → ((stored : Contents) → Holds s.store stored → Plans store stored stored) → (sync : Sync) → is_planned sync ≡ false → Backs s v
+pub backs_begun : (s : State) (store : Store) (group : ℕ) (v : View) → store.out ≡ s.store.out → shapes_of store.spaces ≡ shapes_of s.store.spaces
+    → Begins s.store store group → group ≤ suc s.kept.committed → (sync : Sync) → is_planned sync ≡ false → Backs s v
     → Backs (record { store = store; kept = s.kept; planned = None }) (record v { sync = sync })
-backs_begun s store v out shapes plans sync none backs = record {
-  vdevs = backs.vdevs ∙ sym (same_vdevs s.store.spaces store.spaces shapes);
-  out = λ disk. backs.out disk ∙ sym (ap (λ (list : List Bool). is_out list disk) out);
-  committed = backs.committed;
-  blocks = record {
-    stored = backs.blocks.stored;
-    planned = backs.blocks.stored;
-    plans = plans backs.blocks.stored backs.blocks.plans.held;
-    kept = backs.blocks.kept;
-    plan = none;
-    reached = backs.blocks.reached;
-    plan_reached = tt;
-  };
-}
+backs_begun s store group v out shapes begins next sync none backs =
+    let held : AreHeld store.spaces filled_marks s.kept.committed backs.blocks.reached.reach = begun_held s store group v begins next backs in record {
+      vdevs = backs.vdevs ∙ sym (same_vdevs s.store.spaces store.spaces shapes);
+      out = λ disk. backs.out disk ∙ sym (ap (λ (list : List Bool). is_out list disk) out);
+      committed = backs.committed;
+      blocks = record {
+        stored = backs.blocks.stored;
+        planned = backs.blocks.stored;
+        plans = begins.plans backs.blocks.stored backs.blocks.plans.held (begun_spares s group v next backs);
+        kept = backs.blocks.kept;
+        plan = none;
+        reached = record {
+          reach = backs.blocks.reached.reach;
+          leads = backs.blocks.reached.leads;
+          once = backs.blocks.reached.once;
+          only = backs.blocks.reached.only;
+          held = held;
+        };
+        plan_reached = tt;
+      };
+    }
 
 -- nothing but what is stored is planned then
-pub begun_plans : (s : State) (store : Store) (v : View) (out : store.out ≡ s.store.out) (shapes : shapes_of store.spaces ≡ shapes_of s.store.spaces)
-    (plans : (stored : Contents) → Holds s.store stored → Plans store stored stored) (sync : Sync) (none : is_planned sync ≡ false) (backs : Backs s v)
-    → Plans store (backs_begun s store v out shapes plans sync none backs).blocks.stored (backs_begun s store v out shapes plans sync none backs).blocks.stored
+pub begun_plans : (s : State) (store : Store) (group : ℕ) (v : View) (out : store.out ≡ s.store.out) (shapes : shapes_of store.spaces ≡ shapes_of s.store.spaces)
+    (begins : Begins s.store store group) (next : group ≤ suc s.kept.committed) (sync : Sync) (none : is_planned sync ≡ false) (backs : Backs s v)
+    → Plans store (backs_begun s store group v out shapes begins next sync none backs).blocks.stored (backs_begun s store group v out shapes begins next sync none backs).blocks.stored
 unfolding backs_begun
-begun_plans s store v out shapes plans sync none backs = plans backs.blocks.stored backs.blocks.plans.held
+begun_plans s store group v out shapes begins next sync none backs = begins.plans backs.blocks.stored backs.blocks.plans.held (begun_spares s group v next backs)
 
 -- and where more was planned since, but no plan was made
 pub backs_still : (s : State) (new : Store) (v : View) → s.planned ≡ None → OnlyReadsAndPlans s.store new [] → Backs s v
@@ -194,8 +238,9 @@ backs_still s new v no_plan kept backs =
         plans = there.1;
         kept = backs.blocks.kept;
         plan = none_is_left s new backs.blocks.planned there.0 s.planned v no_plan backs.blocks.plan;
-        reached = backs.blocks.reached;
-        plan_reached = no_reach backs.blocks.stored there.0 s.planned v no_plan;
+        reached = reached_over s.store.spaces new.spaces backs.blocks.stored s.kept (kept_pool v) kept.shapes (marks_by_map filled_marks s.store.spaces new.spaces kept.filled)
+            backs.blocks.reached;
+        plan_reached = no_reach new.spaces _ backs.blocks.stored there.0 s.planned v no_plan;
       };
     }
   where
@@ -215,68 +260,159 @@ last_leads s v backs =
     (ap (group_at s.kept) (sym backs.committed) ∙ last_at s.kept) (backs.blocks.reached.leads v.committed)
 
 -- the next group, once it was planned
-abbrev pub IsAfter : Store → Store → ℕ → KeptGroup → Entry → KeptGroup → Type 0
-IsAfter old new group last items after =
+abbrev pub IsAfter : Store → Store → ℕ → KeptGroup → Entry → KeptGroup → List Block → Type 0
+IsAfter old new group last items after gone =
     (stored planned : Contents) (pool : PlainPool) (before : List Block) → Plans old stored planned → SpellsGroup stored (group - 1) last pool
     → LeadsTo stored (group - 1) last.root pool before → AnswersAreTrue old new
     → (later : Contents) × Plans new stored later × Extends planned later × SpellsGroup later group after (applied group pool items)
-    × (reach : List Block) × LeadsTo later group after.root (applied group pool items) reach × (gone : List Block) × IsReachExchanged group planned later before reach gone
+    × (reach : List Block) × LeadsTo later group after.root (applied group pool items) reach × IsReachExchanged group planned later before reach gone
 
 -- and its blocks are what its root leads to, for those of the group before
-abbrev LeadsOn : Contents → Contents → ℕ → KeptGroup → PlainPool → List Block → Type 0
-LeadsOn stored later group after pool before =
-    (reach : List Block) × LeadsTo later group after.root pool reach × (gone : List Block) × IsReachExchanged group stored later before reach gone
+abbrev LeadsOn : Contents → Contents → ℕ → KeptGroup → PlainPool → List Block → List Block → Type 0
+LeadsOn stored later group after pool before gone =
+    (reach : List Block) × LeadsTo later group after.root pool reach × IsReachExchanged group stored later before reach gone
 
-pub plan_is_backed : (s : State) (new : Store) (group : ℕ) (last : KeptGroup) (plan : Planned) (items : Entry) (v : View) → (backs : Backs s v) → s.store.due ≡ []
+-- what was planned before blocks were given back, for what was stored
+module _ (begun made new : Store) (last : ℕ) (earlier : ℕ → List Block) (stored later : Contents) (reach gone : List Block)
+    (free : HaveMarks begun.spaces filled_marks begun.spaces planned_marks) (steps : OnlyReadsAndPlans begun made []) (gives : GivesBack made new gone (suc last))
+    (held : AreHeld begun.spaces filled_marks last earlier) (low : (g : ℕ) (block : Block) → Contains (earlier g) block → g ≤ last)
+    (known : (block : Block) → Contains (earlier last) block → (bytes : List ℕ) × (stored block ≡ Some bytes)) (distinct : AreDistinct (earlier last))
+    (plans : Plans made stored later) (exchanged : IsReachExchanged (suc last) stored later (earlier last) reach gone) where
+  -- before blocks are given back
+  held_made : AreHeld made.spaces planned_marks last earlier
+  held_made g block among =
+      places_spare (is_held_for g last) begun.spaces made.spaces steps.placed block refl steps.were_placed
+      (by_marks (Passes (is_held_for g last)) begun.spaces begun.spaces filled_marks planned_marks block refl free (held g block among))
+
+  pub held_then : AreHeld new.spaces planned_marks (suc last) earlier
+  held_then g block among =
+      gives.stays (is_held_for g (suc last)) block (released_is_held g last (low g block among))
+      (weaker (Passes (is_held_for g last)) (Passes (is_held_for g (suc last))) made.spaces planned_marks block (held_on g last) (held_made g block among))
+
+  only_gone : AreOnlyIn (earlier last) reach gone
+  only_gone = gone_are (suc last) stored later (earlier last) reach gone known distinct exchanged
+
+  pub gone_stored : AreStored stored gone
+  gone_stored block among = known block ((only_gone.which block).0 among).0
+
+  -- what the new root leads to is in use before blocks are given back
+  in_use_made : (block : Block) → Contains reach block → ((bytes : List ℕ) × (later block ≡ Some bytes)) × CopiesLieOn (Passes is_in_use) made.spaces planned_marks block
+  in_use_made block among =
+      let all : 0 < count_by (same_as block) reach = counted_in block reach among in
+      elim (cases_lt 0 (count_by (same_as block) exchanged.added)) [
+        | inl some ↦
+            let added = found block exchanged.added some in
+            let there = exchanged.known block added in
+            (there, weaker IsInUse (Passes is_in_use) made.spaces planned_marks block used_is (plans.in_use block there.0 there.1 (exchanged.fresh block added)))
+        | inr none ↦
+            let stayed : 0 < count_by (same_as block) exchanged.stayed = omega (arith, all, none, exchanged.after_are (same_as block)) in
+            let before : Contains (earlier last) block = found block (earlier last) (omega (arith, stayed, exchanged.before_are (same_as block))) in
+            let there = known block before in
+            ((there.0, plans.kept block there.0 there.1), weaker (Passes (is_held_for last last)) (Passes is_in_use) made.spaces planned_marks block (held_is_in_use last) (held_made last block before))
+      ]
+
+  pub in_use_then : AreInUse new.spaces planned_marks reach
+  in_use_then block among =
+      let (there, lies) = in_use_made block among in
+      gives.spares is_in_use stored later block there.0 plans gone_stored there.1 (λ left. ((only_gone.which block).0 left).1 among) lies
+
+pub plan_is_backed : (s : State) (made new : Store) (group : ℕ) (last : KeptGroup) (plan : Planned) (gone : List Block) (items : Entry) (v : View) → (backs : Backs s v) → s.store.due ≡ []
     → group ≡ suc v.committed → last ≡ s.kept.last → items ≡ v.ledger (suc v.committed)
     → plan.flushes.items ≡ filter (λ disk. not (is_out s.store.out disk)) (disks_of (vdevs_of s.store.spaces))
-    → OnlyReadsAndPlans s.store new [] → AnswersAreTrue s.store new → Plans s.store backs.blocks.stored backs.blocks.stored → IsAfter s.store new group last items plan.after
+    → OnlyReadsAndPlans s.store made [] → GivesBack made new gone group → HaveMarks s.store.spaces filled_marks s.store.spaces planned_marks
+    → AnswersAreTrue s.store made → Plans s.store backs.blocks.stored backs.blocks.stored → IsAfter s.store made group last items plan.after gone
     → (calls : List DueCall) × IsPlan v calls × Backs (record { store = new; kept = s.kept; planned = Some plan }) (record v { sync = Due calls })
-plan_is_backed s new group last plan items v backs none next is_last are flushes kept honest begun after =
+plan_is_backed s made new group last plan gone items v backs none next is_last are flushes kept gives free honest begun after =
     let before : group - 1 ≡ v.committed = omega arith in
     let pool : PlainPool = v.pools v.committed in
-    let spelled : SpellsGroup backs.blocks.stored (group - 1) last pool =
-    subst (λ (n : ℕ). SpellsGroup backs.blocks.stored n last pool) (sym before)
-    (subst (λ (kept : KeptGroup). SpellsGroup backs.blocks.stored v.committed kept pool) (sym is_last) (last_spelled s v backs)) in
-    let led_last : LeadsTo backs.blocks.stored v.committed last.root pool (backs.blocks.reached.reach v.committed) =
-    subst (λ (kept : KeptGroup). LeadsTo backs.blocks.stored v.committed kept.root pool (backs.blocks.reached.reach v.committed)) (sym is_last) (last_leads s v backs) in
-    let led : LeadsTo backs.blocks.stored (group - 1) last.root pool (backs.blocks.reached.reach v.committed) =
-    subst (λ (n : ℕ). LeadsTo backs.blocks.stored n last.root pool (backs.blocks.reached.reach v.committed)) (sym before) led_last in
-    let there = after backs.blocks.stored backs.blocks.stored pool (backs.blocks.reached.reach v.committed) begun spelled led honest in
-    let on : LeadsOn backs.blocks.stored there.0 (suc v.committed) plan.after (applied (suc v.committed) pool (v.ledger (suc v.committed))) (backs.blocks.reached.reach v.committed) =
-    subst (λ (entry : Entry). LeadsOn backs.blocks.stored there.0 (suc v.committed) plan.after (applied (suc v.committed) pool entry) (backs.blocks.reached.reach v.committed)) are
-    (subst (λ (n : ℕ). LeadsOn backs.blocks.stored there.0 n plan.after (applied n pool items) (backs.blocks.reached.reach v.committed)) next (there.4, there.5, there.6, there.7)) in
+    let stored : Contents = backs.blocks.stored in
+    let earlier : ℕ → List Block = backs.blocks.reached.reach in
+    let spelled : SpellsGroup stored (group - 1) last pool =
+    subst (λ (n : ℕ). SpellsGroup stored n last pool) (sym before)
+    (subst (λ (kept : KeptGroup). SpellsGroup stored v.committed kept pool) (sym is_last) (last_spelled s v backs)) in
+    let led_last : LeadsTo stored v.committed last.root pool (earlier v.committed) =
+    subst (λ (kept : KeptGroup). LeadsTo stored v.committed kept.root pool (earlier v.committed)) (sym is_last) (last_leads s v backs) in
+    let led : LeadsTo stored (group - 1) last.root pool (earlier v.committed) =
+    subst (λ (n : ℕ). LeadsTo stored n last.root pool (earlier v.committed)) (sym before) led_last in
+    let there = after stored stored pool (earlier v.committed) begun spelled led honest in
+    let later : Contents = there.0 in
+    let on : LeadsOn stored later (suc v.committed) plan.after (applied (suc v.committed) pool (v.ledger (suc v.committed))) (earlier v.committed) gone =
+    subst (λ (entry : Entry). LeadsOn stored later (suc v.committed) plan.after (applied (suc v.committed) pool entry) (earlier v.committed) gone) are
+    (subst (λ (n : ℕ). LeadsOn stored later n plan.after (applied n pool items) (earlier v.committed) gone) next (there.4, there.5, there.6)) in
     let all : plan.flushes.items ≡ disks_in_use v =
     flushes ∙ (λ i. filter (λ disk. not (sym (backs.out disk) i)) (disks_of (sym backs.vdevs i))) in
+    let due : new.due ≡ made.due = gives.due in
     let plan_is : IsPlan v (left_calls none_before new.due plan.flushes.items) =
-    is_plan s.store new v plan.flushes.items backs.blocks.stored there.0 backs.vdevs backs.out none kept there.1 all in
-    let spells : SpellsGroup there.0 (suc v.committed) plan.after (applied (suc v.committed) pool (v.ledger (suc v.committed))) =
-    subst (λ (entry : Entry). SpellsGroup there.0 (suc v.committed) plan.after (applied (suc v.committed) pool entry)) are
-    (subst (λ (n : ℕ). SpellsGroup there.0 n plan.after (applied n pool items)) next there.3) in (
+    subst (λ (writes : List ColumnWrite). IsPlan v (left_calls none_before writes plan.flushes.items)) (sym due)
+    (is_plan s.store made v plan.flushes.items stored later backs.vdevs backs.out none kept there.1 all) in
+    let spells : SpellsGroup later (suc v.committed) plan.after (applied (suc v.committed) pool (v.ledger (suc v.committed))) =
+    subst (λ (entry : Entry). SpellsGroup later (suc v.committed) plan.after (applied (suc v.committed) pool entry)) are
+    (subst (λ (n : ℕ). SpellsGroup later n plan.after (applied n pool items)) next there.3) in
+    let gives_next : GivesBack made new gone (suc v.committed) = subst (GivesBack made new gone) next gives in
+    let held : AreHeld s.store.spaces filled_marks v.committed earlier = subst (λ c. AreHeld s.store.spaces filled_marks c earlier) backs.committed backs.blocks.reached.held in
+    let low : (g : ℕ) (block : Block) → Contains (earlier g) block → g ≤ v.committed = λ g block among.
+    let close = near stored s.kept (kept_pool v g) g (earlier g) block (backs.blocks.reached.leads g) among in omega (arith, close.0, backs.committed) in
+    let known = led_known stored v.committed last.root pool (earlier v.committed) led_last in
+    let distinct = backs.blocks.reached.once v.committed in
+    let held_new : AreHeld new.spaces planned_marks (suc v.committed) earlier =
+    held_then s.store made new v.committed earlier stored later on.0 gone free kept gives_next held low known distinct there.1 on.2 in
+    let in_use_new : AreInUse new.spaces planned_marks on.0 =
+    in_use_then s.store made new v.committed earlier stored later on.0 gone free kept gives_next held low known distinct there.1 on.2 in
+    let stored_gone : AreStored stored gone =
+    gone_stored s.store made new v.committed earlier stored later on.0 gone free kept gives_next held low known distinct there.1 on.2 in
+    let shapes : shapes_of new.spaces ≡ shapes_of s.store.spaces = gives.shapes ∙ kept.shapes in (
       left_calls none_before new.due plan.flushes.items,
       plan_is,
       record {
-        vdevs = backs.vdevs ∙ sym (same_vdevs s.store.spaces new.spaces kept.shapes);
-        out = λ disk. backs.out disk ∙ sym (ap (λ (list : List Bool). is_out list disk) kept.out);
+        vdevs = backs.vdevs ∙ sym (same_vdevs s.store.spaces new.spaces shapes);
+        out = λ disk. backs.out disk ∙ sym (ap (λ (list : List Bool). is_out list disk) (gives.out ∙ kept.out));
         committed = backs.committed;
         blocks = record {
-          stored = backs.blocks.stored;
-          planned = there.0;
-          plans = there.1;
+          stored = stored;
+          planned = later;
+          plans = gives.plans stored later there.1 stored_gone;
           kept = backs.blocks.kept;
           plan = record {
             counts = none_before;
             sync = refl;
             spells = spells;
             to_flush = λ disk in_use. inl (subst (λ (xs : List ℕ). Contains xs disk) (sym all) in_use);
-            in_use = subst (λ (out : List Bool). AllByRecursion (λ (call : DueCall). is_out out call.disk ≡ false) (left_calls none_before new.due plan.flushes.items)) (sym kept.out)
+            in_use = subst (λ (out : List Bool). AllByRecursion (λ (call : DueCall). is_out out call.disk ≡ false) (left_calls none_before new.due plan.flushes.items)) (sym (gives.out ∙ kept.out))
                 (calls_in_use s.store v (left_calls none_before new.due plan.flushes.items) backs.out plan_is.in_use);
           };
-          reached = backs.blocks.reached;
-          plan_reached = plan_reaches backs.blocks.stored there.0 plan.after v last.root pool (backs.blocks.reached.reach v.committed) on.0 on.2 led_last (backs.blocks.reached.once v.committed) on.1 on.3;
+          reached = reached_over made.spaces new.spaces stored s.kept (kept_pool v) gives.shapes gives.filled_stays
+              (reached_over s.store.spaces made.spaces stored s.kept (kept_pool v) kept.shapes (marks_by_map filled_marks s.store.spaces made.spaces kept.filled) backs.blocks.reached);
+          plan_reached = plan_reaches new.spaces earlier stored later plan.after v last.root pool (earlier v.committed) on.0 gone led_last distinct on.1 on.2 held_new in_use_new;
         };
       },
     )
+
+-- where blocks could not be given back the plan is dropped
+pub backs_dropped : (s : State) (made mid new : Store) (gone : List Block) (group : ℕ) (v : View) → s.planned ≡ None → OnlyReadsAndPlans s.store made []
+    → GivesBack made mid gone group → new.out ≡ mid.out → shapes_of new.spaces ≡ shapes_of mid.spaces → HaveMarks mid.spaces filled_marks new.spaces filled_marks
+    → ((stored : Contents) → Holds mid stored → Plans new stored stored) → Backs s v → Backs (record s { store = new }) v
+backs_dropped s made mid new gone group v no_plan kept gives out shapes filled plans backs =
+    let there = kept.plans backs.blocks.stored backs.blocks.planned backs.blocks.plans in
+    record {
+      vdevs = backs.vdevs ∙ sym (same_vdevs s.store.spaces new.spaces (shapes ∙ gives.shapes ∙ kept.shapes));
+      out = λ disk. backs.out disk ∙ sym (ap (λ (list : List Bool). is_out list disk) (out ∙ gives.out ∙ kept.out));
+      committed = backs.committed;
+      blocks = record {
+        stored = backs.blocks.stored;
+        planned = backs.blocks.stored;
+        plans = plans backs.blocks.stored (gives.keeps backs.blocks.stored there.1.held);
+        kept = backs.blocks.kept;
+        plan = none_is_left s.planned no_plan backs.blocks.plan;
+        reached = reached_over mid.spaces new.spaces backs.blocks.stored s.kept (kept_pool v) shapes filled
+            (reached_over made.spaces mid.spaces backs.blocks.stored s.kept (kept_pool v) gives.shapes gives.filled_stays
+            (reached_over s.store.spaces made.spaces backs.blocks.stored s.kept (kept_pool v) kept.shapes (marks_by_map filled_marks s.store.spaces made.spaces kept.filled) backs.blocks.reached));
+        plan_reached = no_reach new.spaces _ backs.blocks.stored backs.blocks.stored s.planned v no_plan;
+      };
+    }
+  where
+    none_is_left : (plan : Option Planned) → plan ≡ None → IsPlanOf s backs.blocks.planned plan v → IsPlanOf (record s { store = new }) backs.blocks.stored plan v
+    none_is_left None no_plan is = is
+    none_is_left (Some plan) no_plan is = absurd (cc)
 
 -- disks that were out as the plan was begun are untouched since
 pub untouched_since : (old begun new : Store) → begun.disks ≡ old.disks → begun.out ≡ old.out → AreUntouched (outs begun ++ []) begun.disks new.disks
@@ -285,6 +421,6 @@ untouched_since old begun new disks out untouched disk held =
     untouched disk (Contains-append_left (outs begun) [] disk (subst (λ (flags : List Bool). Contains (outs_from 0 flags) disk) (sym out) held))
     ∙ ap (λ (d : Disks). calls_on disk d.calls) disks
 
-pub is_begun : (old begun : Store) → begun.disks ≡ old.disks → begun.out ≡ old.out → shapes_of begun.spaces ≡ shapes_of old.spaces
-    → HaveMarks old.spaces filled_marks begun.spaces filled_marks → HaveMarks old.spaces filled_marks begun.spaces planned_marks → IsBegun old begun
-is_begun old begun disks out shapes filled_stays free = record { disks = disks; out = out; shapes = shapes; filled_stays = filled_stays; free = free }
+pub is_begun : (old begun : Store) (group : ℕ) → begun.disks ≡ old.disks → begun.out ≡ old.out → shapes_of begun.spaces ≡ shapes_of old.spaces
+    → AreSettledIn group old.spaces begun.spaces → HaveMarks begun.spaces filled_marks begun.spaces planned_marks → IsBegun group old begun
+is_begun old begun group disks out shapes settled free = record { disks = disks; out = out; shapes = shapes; settled = settled; free = free }

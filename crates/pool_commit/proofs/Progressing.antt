@@ -6,6 +6,7 @@ use Rattle.std.proofs.lemmas.Bool.Decides.{nat_tests}
 use Rattle.std.proofs.lemmas.List.{append-nil, length-append, length-map}
 use Rattle.model_disk.specs.Joint.{Disks}
 use Rattle.block_store.specs.Places.{shapes_of}
+use Rattle.block_store.specs.Places.{filled as filled_marks}
 use Rattle.block_store.specs.declared.shape.VdevShape.{VdevShape}
 use Rattle.block_store.specs.Spaces.{VdevSpace}
 use Rattle.block_store.specs.Store.{Store, is_out}
@@ -32,7 +33,7 @@ use Rattle.pool_commit.specs.State.{State, group_at}
 use Rattle.block_store.proofs.Fewer.{fewer_planned}
 use Rattle.block_store.specs.Blocks.{Contents}
 use Rattle.pool_commit.proofs.Keeping.{first_low, kept_next, last_kept}
-use Rattle.pool_commit.proofs.Reaching.{among, forgets, kept_blocks, no_plan, reached_next, spells_next}
+use Rattle.pool_commit.proofs.Reaching.{among, forgets, kept_blocks, no_plan, reached_next, reached_over, same_spaces, spells_next}
 use Rattle.pool_commit.proofs.Made.{writes_count}
 
 -- only the shapes of the vdevs matter
@@ -178,8 +179,11 @@ goes_on old mid plan later v phase n (Moved moved) new after_made backs low some
                 (subst (AllByRecursion (λ (call : DueCall). is_out mid.out call.disk ≡ false)) so.order
                 (subst (λ (out : List Bool). AllByRecursion (λ (call : DueCall). is_out out call.disk ≡ false) left) (sym so.out) has.in_use));
           };
-          reached = backs.blocks.reached;
-          plan_reached = subst (λ (g : KeptGroup). PlansReach backs.blocks.stored backs.blocks.planned (suc v.committed) g (pool_after v)) (sym same) backs.blocks.plan_reached;
+          reached = reached_over old.store.spaces mid.spaces backs.blocks.stored old.kept (kept_pool v) (ap shapes_of so.same.spaces)
+              (same_spaces old.store.spaces mid.spaces filled_marks so.same.spaces) backs.blocks.reached;
+          plan_reached = subst (λ spaces. PlansReach spaces backs.blocks.reached.reach backs.blocks.stored backs.blocks.planned (suc v.committed) later.after (pool_after v)) (sym so.same.spaces)
+              (subst (λ (g : KeptGroup). PlansReach old.store.spaces backs.blocks.reached.reach backs.blocks.stored backs.blocks.planned (suc v.committed) g (pool_after v)) (sym same)
+              backs.blocks.plan_reached);
         };
       },
     )
@@ -191,9 +195,14 @@ goes_on old mid plan later v phase n Done new after_made backs low some few so n
     let has = backs.blocks.plan in
     let left : List DueCall = left_calls has.counts old.store.due plan.flushes.items in
     let next_group = goes.3.committed (subst (λ c. c < 2 ^ 62) (sym backs.committed) low) ∙ ap suc backs.committed in
-    let reaches : PlansReach backs.blocks.stored backs.blocks.planned (suc v.committed) new.kept.last (pool_after v) =
-    subst (λ (g : KeptGroup). PlansReach backs.blocks.stored backs.blocks.planned (suc v.committed) g (pool_after v)) (sym (goes.3.last ∙ same)) backs.blocks.plan_reached in
-    let left_over : Contents = among (kept_blocks v.committed backs.blocks.reached.reach reaches.reach) backs.blocks.planned in
+    let reached : StoresReach mid.spaces backs.blocks.stored old.kept (kept_pool v) =
+    reached_over old.store.spaces mid.spaces backs.blocks.stored old.kept (kept_pool v) (ap shapes_of so.same.spaces)
+    (same_spaces old.store.spaces mid.spaces filled_marks so.same.spaces) backs.blocks.reached in
+    let reaches : PlansReach mid.spaces reached.reach backs.blocks.stored backs.blocks.planned (suc v.committed) new.kept.last (pool_after v) =
+    subst (λ spaces. PlansReach spaces reached.reach backs.blocks.stored backs.blocks.planned (suc v.committed) new.kept.last (pool_after v)) (sym so.same.spaces)
+    (subst (λ (g : KeptGroup). PlansReach old.store.spaces reached.reach backs.blocks.stored backs.blocks.planned (suc v.committed) g (pool_after v)) (sym (goes.3.last ∙ same))
+    backs.blocks.plan_reached) in
+    let left_over : Contents = among (kept_blocks v.committed reached.reach reaches.reach) backs.blocks.planned in
     let low_first = first_low v (last_kept backs.blocks.stored old.kept v backs.committed (backs.blocks.kept v.committed)).0 in (
       record {
         left = left;
@@ -213,17 +222,17 @@ goes_on old mid plan later v phase n Done new after_made backs low some few so n
           stored = left_over;
           planned = left_over;
           plans = fewer_planned new.store backs.blocks.planned backs.blocks.planned left_over left_over
-              (forgets new.store (kept_blocks v.committed backs.blocks.reached.reach reaches.reach) backs.blocks.planned)
+              (forgets new.store (kept_blocks v.committed reached.reach reaches.reach) backs.blocks.planned)
               (goes.2.plans backs.blocks.stored backs.blocks.planned (so.same.plans backs.blocks.stored backs.blocks.planned backs.blocks.plans));
-          kept = spells_next v old.kept new.kept backs.blocks.stored backs.blocks.planned backs.blocks.reached reaches low_first backs.committed
+          kept = spells_next v old.kept new.kept mid.spaces new.store.spaces backs.blocks.stored backs.blocks.planned reached reaches goes.2.shapes goes.2.filled_by low_first backs.committed
               next_group goes.3.before goes.3.earliest backs.blocks.plans.kept
               (kept_next v old.kept new.kept backs.blocks.stored backs.blocks.planned backs.committed
               next_group goes.3.before goes.3.earliest backs.blocks.plans.kept
               (subst (λ (g : KeptGroup). SpellsGroup backs.blocks.planned (suc v.committed) g (pool_after v)) (sym (goes.3.last ∙ same)) has.spells) backs.blocks.kept);
           plan = subst (λ (o : Option Planned). IsPlanOf new left_over o (committed_next v)) (sym goes.4) refl;
-          reached = reached_next v old.kept new.kept backs.blocks.stored backs.blocks.planned backs.blocks.reached reaches low_first backs.committed
+          reached = reached_next v old.kept new.kept mid.spaces new.store.spaces backs.blocks.stored backs.blocks.planned reached reaches goes.2.shapes goes.2.filled_by low_first backs.committed
               next_group goes.3.before goes.3.earliest backs.blocks.plans.kept;
-          plan_reached = no_plan left_over left_over new.planned (committed_next v) goes.4;
+          plan_reached = no_plan new.store.spaces _ left_over left_over new.planned (committed_next v) goes.4;
         };
       },
     )
@@ -274,8 +283,11 @@ drops old mid plan v phase disk new backs failed next drop kept none =
           plans = drop.plans backs.blocks.stored backs.blocks.planned (failed.same.plans backs.blocks.stored backs.blocks.planned backs.blocks.plans);
           kept = subst (λ (k : Kept). (group : ℕ) → SpellsKept backs.blocks.stored group (group_at k group) (kept_pool v group)) (sym kept) backs.blocks.kept;
           plan = subst (λ (o : Option Planned). IsPlanOf new backs.blocks.stored o (dropped v disk)) (sym none) (none_planned v.sync);
-          reached = subst (λ (k : Kept). StoresReach backs.blocks.stored k (kept_pool v)) (sym kept) backs.blocks.reached;
-          plan_reached = no_plan backs.blocks.stored backs.blocks.stored new.planned (dropped v disk) none;
+          reached = subst (λ (k : Kept). StoresReach new.store.spaces backs.blocks.stored k (kept_pool v)) (sym kept)
+              (reached_over mid.spaces new.store.spaces backs.blocks.stored old.kept (kept_pool v) drop.shapes drop.filled_by
+              (reached_over old.store.spaces mid.spaces backs.blocks.stored old.kept (kept_pool v) (ap shapes_of failed.same.spaces)
+              (same_spaces old.store.spaces mid.spaces filled_marks failed.same.spaces) backs.blocks.reached));
+          plan_reached = no_plan new.store.spaces _ backs.blocks.stored backs.blocks.stored new.planned (dropped v disk) none;
         };
       },
     )

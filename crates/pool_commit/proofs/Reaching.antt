@@ -1,5 +1,5 @@
 -- What kept groups lead to, before and after one more is committed.
-use Rattle.std.proofs.Common.{◌≡◌, ◌≢◌, ◌⊎◌, ⊎_elim, ℕ, zero, suc, ◌+◌, ◌-◌, ◌<◌, ◌≤◌, ◌||◌, ◌==◌, Bool, true, false, List, [], ◌∷◌, ◌++◌, Option, Some, None, Contains, refl, sym, ap, ◌∙◌, subst, arith, inl, inr}
+use Rattle.std.proofs.Common.{◌≡◌, ◌≢◌, ◌⊎◌, ⊎_elim, ℕ, suc, ◌-◌, ◌<◌, ◌≤◌, ◌||◌, ◌==◌, Bool, true, false, List, [], ◌++◌, Option, Some, None, Contains, refl, sym, ap, ◌∙◌, subst, arith, inl, inr}
 use Rattle.std.specs.Prelude.{if◌then◌else◌, nat_lt}
 use Rattle.std.specs.List.{count_by}
 use Rattle.std.proofs.lemmas.Bool.{cases_eq}
@@ -8,14 +8,19 @@ use Rattle.std.proofs.lemmas.List.Elements.{Contains-append_left, Contains-appen
 use Rattle.block_pointer.specs.declared.block.Block.{Block}
 use Rattle.block_store.specs.Blocks.{Contents, Extends}
 use Rattle.block_store.specs.Forgetting.{Forgets}
+use Rattle.block_store.specs.Places.{Marks, shapes_of, HaveMarks}
+use Rattle.block_store.specs.Places.{filled as filled_marks, planned as planned_marks}
+use Rattle.block_store.specs.Spaces.{VdevSpace}
 use Rattle.block_store.specs.Store.{Store}
+use Rattle.block_store.specs.Uses.{CopiesLieOn, Passes}
+use Rattle.block_store.proofs.Planning.{same_marks}
+use Rattle.metaslab.specs.State.{is_in_use}
 use Rattle.dataset_snapshots.proofs.ChangedRows.{nothing_in}
 use Rattle.dataset_snapshots.proofs.Exchanges.{after_once}
 use Rattle.dataset_snapshots.proofs.Reaching.{reach_known}
 use Rattle.dataset_snapshots.proofs.Standing.{roots_stand}
 use Rattle.dataset_snapshots.specs.Laws.{KeepsEach}
 use Rattle.dataset_snapshots.specs.Leaving.{IsReachExchanged}
-use Rattle.dataset_snapshots.specs.Reach.{reach_of}
 use Rattle.dnode_tree.proofs.SameBlocks.{same_as, counted, found}
 use Rattle.dnode_tree.specs.Rewriting.{AreDistinct}
 use Rattle.pool_commit.specs.declared.kept.Kept.{Kept}
@@ -23,7 +28,9 @@ use Rattle.pool_commit.specs.declared.kept.KeptGroup.{KeptGroup}
 use Rattle.pool_commit.specs.declared.kept.Planned.{Planned}
 use Rattle.pool_commit.specs.Backs.{IsReachOfPlan, KeptLeadsTo, LeadsTo, PlansReach, SpellsKept, SpellsRoot, StoresReach, kept_pool, pool_after}
 use Rattle.pool_commit.specs.State.{group_at}
-use Rattle.pool_commit.proofs.Keeping.{first_low, gone_group, gone_pool, last_kept, new_group, new_pool, old_group, old_pool}
+use Rattle.pool_commit.specs.Space.{is_held_for, AreHeld, AreInUse}
+use Rattle.pool_commit.proofs.Holding.{weaker, held_by_marks, in_use_is_held}
+use Rattle.pool_commit.proofs.Keeping.{gone_group, gone_pool, new_group, new_pool, old_group, old_pool}
 use Rattle.pool_model.specs.Machine.{committed_next}
 use Rattle.pool_model.specs.Pools.{PlainPool}
 use Rattle.pool_model.specs.View.{View}
@@ -84,10 +91,14 @@ kept_leads stored v group found kept blocks is leads =
 -- ---- a plan
 
 -- what is planned is what the next group leads to, beside what is stored
-pub plan_reaches : (stored later : Contents) (after : KeptGroup) (v : View) (root : Option Block) (pool : PlainPool) (before reach gone : List Block) → LeadsTo stored v.committed root pool before
+pub plan_reaches : (spaces : List VdevSpace) (earlier : ℕ → List Block) (stored later : Contents) (after : KeptGroup) (v : View) (root : Option Block) (pool : PlainPool)
+    (before reach gone : List Block) → LeadsTo stored v.committed root pool before
     → AreDistinct before → LeadsTo later (suc v.committed) after.root (pool_after v) reach → IsReachExchanged (suc v.committed) stored later before reach gone
-    → PlansReach stored later (suc v.committed) after (pool_after v)
-plan_reaches stored later after v root pool before reach gone was distinct leads exchanged = record {
+    → AreHeld spaces planned_marks (suc v.committed) earlier → AreInUse spaces planned_marks reach
+    → PlansReach spaces earlier stored later (suc v.committed) after (pool_after v)
+plan_reaches spaces earlier stored later after v root pool before reach gone was distinct leads exchanged held in_use = record {
+  held = held;
+  in_use = in_use;
   reach = reach;
   leads = leads;
   once = after_once (suc v.committed) stored later before reach gone (led_known stored v.committed root pool before was) distinct exchanged;
@@ -98,9 +109,25 @@ plan_reaches stored later after v root pool before reach gone was distinct leads
       inr (exchanged.only block bytes known);
 }
 
-pub no_plan : (stored later : Contents) (plan : Option Planned) (v : View) → plan ≡ None → IsReachOfPlan stored later plan v
-no_plan stored later None v none = tt
-no_plan stored later (Some plan) v none = absurd (cc)
+pub no_plan : (spaces : List VdevSpace) (earlier : ℕ → List Block) (stored later : Contents) (plan : Option Planned) (v : View) → plan ≡ None
+    → IsReachOfPlan spaces earlier stored later plan v
+no_plan spaces earlier stored later None v none = tt
+no_plan spaces earlier stored later (Some plan) v none = absurd (cc)
+
+-- ---- the same blocks, where their sectors are used as before
+
+abbrev pub reached_over : (spaces after : List VdevSpace) (stored : Contents) (kept : Kept) (pools : ℕ → Option PlainPool) → shapes_of after ≡ shapes_of spaces
+    → HaveMarks spaces filled_marks after filled_marks → StoresReach spaces stored kept pools → StoresReach after stored kept pools
+reached_over spaces after stored kept pools shapes are reached = record {
+  reach = reached.reach;
+  leads = reached.leads;
+  once = reached.once;
+  only = reached.only;
+  held = held_by_marks spaces after filled_marks filled_marks kept.committed reached.reach shapes are reached.held;
+}
+
+pub same_spaces : (spaces after : List VdevSpace) (marks : Marks) → after ≡ spaces → HaveMarks spaces marks after marks
+same_spaces spaces after marks same = subst (λ them. HaveMarks spaces marks them marks) (sym same) (same_marks spaces marks)
 
 -- ---- fewer blocks
 
@@ -218,6 +245,18 @@ module _ (c : ℕ) (reach : ℕ → List Block) (new : List Block) where
       by_cases (IsGone a b d) = subst AreDistinct (sym (next_gone c reach new group a b d)) none_distinct
 
 -- each of the three leads to its blocks, where more is known than before
+-- what the three of them lead to is held
+next_held : (c : ℕ) (reach : ℕ → List Block) (new : List Block) (spaces : List VdevSpace) (marks : Marks) → AreHeld spaces marks (suc c) reach → AreInUse spaces marks new
+    → AreHeld spaces marks (suc c) (next_reach c reach new)
+next_held c reach new spaces marks held in_use group block among = by_cases (which c group)
+  where
+    by_cases : Which c group → CopiesLieOn (Passes (is_held_for group (suc c))) spaces marks block
+    by_cases (IsNew at) =
+        weaker (Passes is_in_use) (Passes (is_held_for group (suc c))) spaces marks block (in_use_is_held group (suc c))
+        (in_use block (subst (λ (list : List Block). Contains list block) (next_new c reach new group at) among))
+    by_cases (IsOld at) = held group block (subst (λ (list : List Block). Contains list block) (next_old c reach new group at) among)
+    by_cases (IsGone a b d) = absurd (nothing_in block (subst (λ (list : List Block). Contains list block) (next_gone c reach new group a b d) among))
+
 next_leads : (v : View) (kept new : Kept) (stored planned : Contents) (reach : ℕ → List Block) (blocks : List Block) → v.first ≤ v.committed → kept.committed ≡ v.committed → new.committed ≡ suc v.committed
     → new.before ≡ Some kept.last → new.earliest ≡ kept.before → Extends stored planned → LeadsTo planned (suc v.committed) new.last.root (pool_after v) blocks
     → ((group : ℕ) → KeptLeadsTo stored group (group_at kept group) (kept_pool v group) (reach group))
@@ -240,7 +279,9 @@ next_leads v kept new stored planned reach blocks low k n b e more leads old gro
         (subst (λ (pool : Option PlainPool). KeptLeadsTo planned group None pool (next_reach v.committed reach blocks group)) (sym (gone_pool v group far other another))
         (next_gone v.committed reach blocks group far other another))
 
-module _ (v : View) (kept new : Kept) (stored planned : Contents) (reached : StoresReach stored kept (kept_pool v)) (plan : PlansReach stored planned (suc v.committed) new.last (pool_after v)) (low : v.first ≤ v.committed)
+module _ (v : View) (kept new : Kept) (spaces after : List VdevSpace) (stored planned : Contents) (reached : StoresReach spaces stored kept (kept_pool v))
+    (plan : PlansReach spaces reached.reach stored planned (suc v.committed) new.last (pool_after v)) (shapes : shapes_of after ≡ shapes_of spaces)
+    (filled_by : HaveMarks spaces planned_marks after filled_marks) (low : v.first ≤ v.committed)
     (k : kept.committed ≡ v.committed) (n : new.committed ≡ suc v.committed) (b : new.before ≡ Some kept.last) (e : new.earliest ≡ kept.before) (more : Extends stored planned) where
   -- what is stored from then on
   abbrev pub left : Contents
@@ -260,8 +301,14 @@ module _ (v : View) (kept new : Kept) (stored planned : Contents) (reached : Sto
   spells_next spells group =
       kept_spells_stand planned left group (group_at new group) (kept_pool (committed_next v) group) (next_reach v.committed reached.reach plan.reach group) (leads_next group) (spells group)
 
-  pub reached_next : StoresReach left new (kept_pool (committed_next v))
+  held_next : AreHeld after filled_marks (suc v.committed) (next_reach v.committed reached.reach plan.reach)
+  held_next =
+      held_by_marks spaces after planned_marks filled_marks (suc v.committed) (next_reach v.committed reached.reach plan.reach) shapes filled_by
+      (next_held v.committed reached.reach plan.reach spaces planned_marks plan.held plan.in_use)
+
+  pub reached_next : StoresReach after left new (kept_pool (committed_next v))
   reached_next = record {
+    held = subst (λ last. AreHeld after filled_marks last (next_reach v.committed reached.reach plan.reach)) (sym n) held_next;
     reach = next_reach v.committed reached.reach plan.reach;
     leads = leads_next;
     once = next_once v.committed reached.reach plan.reach reached.once plan.once;

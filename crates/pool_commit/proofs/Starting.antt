@@ -20,6 +20,7 @@ use Rattle.pool_commit.specs.declared.kept.Kept.{Kept}
 use Rattle.pool_commit.specs.Backs.{Backs, KeptLeadsTo, LeadsTo, SpellsKept, kept_pool, SpellsGroup, SpellsRoot}
 use Rattle.pool_commit.specs.Config.{shown, vdevs_from}
 use Rattle.pool_commit.specs.State.{IsFirst, group_at}
+use Rattle.dataset_snapshots.proofs.ChangedRows.{nothing_in}
 use Rattle.pool_commit.proofs.Reaching.{none_distinct}
 
 vdev_is : (first : ℕ) (config : Geometry) (vdev : VdevOnDisks) → vdev.first ≡ first → vdev.geometry ≡ config
@@ -109,6 +110,7 @@ starts store kept configs shapes out plans first = record {
       leads = leads_first kept (vdevs_from 0 configs) first;
       once = λ group. none_distinct;
       only = λ block bytes known. absurd (let clash : None ≡ Some bytes = known in cc);
+      held = λ group block among. absurd (nothing_in block among);
     };
     plan_reached = tt;
   };

@@ -3,7 +3,10 @@ use Rattle.std.specs.Prelude.{ℕ, suc, ◌≡◌, ◌⊎◌, ◌++◌, Contains
 use Rattle.std.specs.List.{AllByRecursion}
 use Rattle.raidz_io.specs.declared.writes.ColumnWrite.{ColumnWrite}
 use Rattle.block_store.specs.Blocks.{Contents}
+use Rattle.block_store.specs.Places.{filled}
+use Rattle.block_store.specs.Places.{planned as planned_marks}
 use Rattle.block_store.specs.Plans.{Plans}
+use Rattle.block_store.specs.Spaces.{VdevSpace}
 use Rattle.block_store.specs.Store.{Store, is_out}
 use Rattle.block_pointer.specs.declared.block.Block.{Block}
 use Rattle.dataset_snapshots.specs.Pools.{SpellsPool}
@@ -18,6 +21,7 @@ use Rattle.pool_commit.specs.declared.kept.Planned.{Planned}
 use Rattle.pool_commit.specs.Calls.{IsFlushed}
 use Rattle.pool_commit.specs.Config.{vdevs_of}
 use Rattle.pool_commit.specs.Making.{writes_left, flushes_left}
+use Rattle.pool_commit.specs.Space.{AreHeld, AreInUse}
 use Rattle.pool_commit.specs.State.{State, group_at}
 
 -- the root spells the pool; with no root there are no volumes
@@ -80,23 +84,29 @@ KeptLeadsTo stored group None None blocks = blocks ≡ []
 KeptLeadsTo stored group (Some kept) None blocks = ⊥
 KeptLeadsTo stored group None (Some pool) blocks = ⊥
 
--- each kept group leads to blocks, to none of them twice, and no other block is stored
-pub record StoresReach (stored : Contents) (kept : Kept) (pools : ℕ → Option PlainPool) : Type 0 where
+-- Each kept group leads to blocks, to none of them twice, and no other block is stored. Each of their sectors is in use, or was
+-- released by a later group.
+pub record StoresReach (spaces : List VdevSpace) (stored : Contents) (kept : Kept) (pools : ℕ → Option PlainPool) : Type 0 where
   pub reach : ℕ → List Block
   pub leads : (group : ℕ) → KeptLeadsTo stored group (group_at kept group) (pools group) (reach group)
   pub once : (group : ℕ) → AreDistinct (reach group)
   pub only : (block : Block) (bytes : List ℕ) → stored block ≡ Some bytes → (group : ℕ) × Contains (reach group) block
+  pub held : AreHeld spaces filled kept.committed reach
 
--- a group that is planned leads to blocks, to none of them twice, and beside what is stored no other block is planned
-pub record PlansReach (stored planned : Contents) (group : ℕ) (after : KeptGroup) (pool : PlainPool) : Type 0 where
+-- A group that is planned leads to blocks, to none of them twice, and beside what is stored no other block is planned. All their
+-- sectors are in use, and those of what the groups before lead to are held for these.
+pub record PlansReach (spaces : List VdevSpace) (before : ℕ → List Block) (stored planned : Contents) (group : ℕ) (after : KeptGroup) (pool : PlainPool)
+    : Type 0 where
   pub reach : List Block
   pub leads : LeadsTo planned group after.root pool reach
   pub once : AreDistinct reach
   pub only : (block : Block) (bytes : List ℕ) → planned block ≡ Some bytes → Contains reach block ⊎ (stored block ≡ Some bytes)
+  pub held : AreHeld spaces planned_marks group before
+  pub in_use : AreInUse spaces planned_marks reach
 
-abbrev pub IsReachOfPlan : Contents → Contents → Option Planned → View → Type 0
-IsReachOfPlan stored planned None v = Unit {0}
-IsReachOfPlan stored planned (Some plan) v = PlansReach stored planned (suc v.committed) plan.after (pool_after v)
+abbrev pub IsReachOfPlan : List VdevSpace → (ℕ → List Block) → Contents → Contents → Option Planned → View → Type 0
+IsReachOfPlan spaces before stored planned None v = Unit {0}
+IsReachOfPlan spaces before stored planned (Some plan) v = PlansReach spaces before stored planned (suc v.committed) plan.after (pool_after v)
 
 -- each block taken with the bytes that it was written with
 pub record HasBlocks (s : State) (v : View) : Type 0 where
@@ -105,8 +115,8 @@ pub record HasBlocks (s : State) (v : View) : Type 0 where
   pub plans : Plans s.store stored planned
   pub kept : (group : ℕ) → SpellsKept stored group (group_at s.kept group) (kept_pool v group)
   pub plan : IsPlanOf s planned s.planned v
-  pub reached : StoresReach stored s.kept (kept_pool v)
-  pub plan_reached : IsReachOfPlan stored planned s.planned v
+  pub reached : StoresReach s.store.spaces stored s.kept (kept_pool v)
+  pub plan_reached : IsReachOfPlan s.store.spaces reached.reach stored planned s.planned v
 
 pub record Backs (s : State) (v : View) : Type 0 where
   pub vdevs : v.vdevs ≡ vdevs_of s.store.spaces

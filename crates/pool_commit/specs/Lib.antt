@@ -10,4 +10,5 @@ pub mod Progress
 pub mod Reading
 pub mod Causes
 pub mod Room
+pub mod Space
 pub mod Suspension

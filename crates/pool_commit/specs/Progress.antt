@@ -3,7 +3,8 @@ use Rattle.std.specs.Prelude.{ℕ, suc, ◌≡◌, ◌+◌, ◌<◌, ◌^◌, Co
 use Rattle.std.specs.List.{AllByRecursion}
 use Rattle.model_disk.specs.Joint.{Disks}
 use Rattle.block_store.specs.Blocks.{Contents}
-use Rattle.block_store.specs.Places.{shapes_of}
+use Rattle.block_store.specs.Places.{Marks, shapes_of, filled, HaveMarks}
+use Rattle.block_store.specs.Places.{planned as planned_marks}
 use Rattle.block_store.specs.Plans.{Plans}
 use Rattle.block_store.specs.Store.{Store}
 use Rattle.pool_model.specs.declared.step.Phase.{Phase}
@@ -73,19 +74,20 @@ with_plan s plan = record s { planned = Some plan }
 
 -- ---- what ends a step of device calls
 
--- no device was called, and of each plan this became of its blocks
-pub record EndsPlan (old new : Store) (of_blocks : Contents → Contents → Contents) : Type 0 where
+-- no device was called, and of each plan this became of its blocks, and of the sectors that they fill
+pub record EndsPlan (old new : Store) (marks : Marks) (of_blocks : Contents → Contents → Contents) : Type 0 where
   pub disks : new.disks ≡ old.disks
   pub out : new.out ≡ old.out
   pub shapes : shapes_of new.spaces ≡ shapes_of old.spaces
+  pub filled_by : HaveMarks old.spaces marks new.spaces filled
   pub plans : (stored planned : Contents) → Plans old stored planned → Plans new (of_blocks stored planned) (of_blocks stored planned)
 
 -- the blocks of the plan are stored; or they are dropped
 abbrev pub StoresPlan : Store → Store → Type 0
-StoresPlan old new = EndsPlan old new (λ stored planned. planned)
+StoresPlan old new = EndsPlan old new planned_marks (λ stored planned. planned)
 
 abbrev pub DropsPlan : Store → Store → Type 0
-DropsPlan old new = EndsPlan old new (λ stored planned. stored)
+DropsPlan old new = EndsPlan old new filled (λ stored planned. stored)
 
 -- one more group is committed
 pub record IsShifted (old : Kept) (after : KeptGroup) (new : Kept) : Type 0 where

@@ -4,6 +4,7 @@ use Rattle.block_pointer.specs.declared.block.Block.{Block}
 use Rattle.block_store.specs.declared.refusal.Refusal.{Refusal as StoreRefusal}
 use Rattle.block_store.specs.declared.refusal.Refusal.TheVariants as store
 use Rattle.block_store.specs.Places.{shapes_of, filled, planned, HaveMarks}
+use Rattle.block_store.specs.Releases.{AreSettledIn}
 use Rattle.block_store.specs.Store.{Store}
 use Rattle.dataset_snapshots.specs.Demands.{IsGroupRefused}
 use Rattle.dataset_snapshots.specs.FirstGroup.{IsFirstRefused}
@@ -11,13 +12,13 @@ use Rattle.pool_model.specs.Pools.{Entry}
 use Rattle.pool_commit.specs.Configs.{configs_from}
 use Rattle.pool_commit.specs.State.{State}
 
--- the store as a plan begins: the same disks, of which nothing is in use but what is stored
-pub record IsBegun (old begun : Store) : Type 0 where
+-- the store as a plan of that group begins: the same disks, of which nothing is in use but what is stored and what is not due yet
+pub record IsBegun (group : ℕ) (old begun : Store) : Type 0 where
   pub disks : begun.disks ≡ old.disks
   pub out : begun.out ≡ old.out
   pub shapes : shapes_of begun.spaces ≡ shapes_of old.spaces
-  pub filled_stays : HaveMarks old.spaces filled begun.spaces filled
-  pub free : HaveMarks old.spaces filled begun.spaces planned
+  pub settled : AreSettledIn group old.spaces begun.spaces
+  pub free : HaveMarks begun.spaces filled begun.spaces planned
 
 -- why the root after a group is not planned: behind the last one, or as the first of a pool of these vdevs
 abbrev pub IsNextRefused : Store → Store → Option Block → ℕ → Entry → StoreRefusal → Type 0
@@ -28,8 +29,8 @@ IsNextRefused old new None group items refusal =
 -- from where a plan was begun, the root after the items was refused
 pub record IsPlanRefused (old : State) (new : Store) (items : Entry) (refusal : StoreRefusal) : Type 0 where
   pub begun : Store
-  pub is_begun : IsBegun old.store begun
   pub group : ℕ
+  pub is_begun : IsBegun group old.store begun
   pub is_next : old.kept.committed < 2 ^ 62 → group ≡ suc old.kept.committed
   pub why : IsNextRefused begun new old.kept.last.root group items refusal
 

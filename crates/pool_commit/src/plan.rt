@@ -1,8 +1,9 @@
 //! The plan of a group.
-ghost use Rattle.std.specs.Prelude.{◌≡◌, ◌⊎◌, ◌<◌, ◌-◌, ◌^◌, ℕ, suc, List, [], Some, None, false, OnOk, OnErr, IfOk, IfErr};
+ghost use Rattle.std.specs.Prelude.{◌≡◌, ◌⊎◌, ◌↔◌, ◌<◌, ◌-◌, ◌^◌, ℕ, suc, List, [], Some, None, Err, false, IsTrue, OnOk, OnErr, IfOk, IfErr};
 ghost use Rattle.block_pointer.specs.declared.block.Block.{Block};
-ghost use Rattle.block_store.specs.Blocks.{Contents, Extends};
+ghost use Rattle.block_store.specs.Blocks.{Contents, Extends, AreDistinct, AreStored};
 ghost use Rattle.block_store.specs.Plans.{Plans};
+ghost use Rattle.block_store.specs.Releases.{copies_of_all, AreReleased, AreAllInUse};
 ghost use Rattle.block_store.specs.Steps.{OnlyReadsAndPlans, AnswersAreTrue};
 ghost use Rattle.dnode_tree.specs.Writes.{IsForRoom};
 ghost use Rattle.raidz_io.specs.Reads.{OnlyReads, AreUntouched};
@@ -17,6 +18,7 @@ ghost use Rattle.pool_commit.specs.Backs.{Backs, LeadsTo, SpellsGroup, SpellsRoo
 ghost use Rattle.pool_commit.specs.Reading.{PoolAnswersTruly, IsReadFault};
 ghost use Rattle.pool_commit.specs.Reading.{IsUnreadForPlan, IsLostForPlan};
 ghost use Rattle.pool_commit.specs.Room.{LacksRoom, IsNextRefused};
+ghost use Rattle.pool_commit.specs.Space.{GivesBack};
 ghost use Rattle.pool_commit.specs.State.{HasNoPlan};
 ghost use Rattle.pool_commit.specs.StateOf.{state_of, disks_in, outs_in};
 
@@ -60,6 +62,13 @@ fn first_root<D: Disk + Drop>(
     Ok(first.root)
 }
 
+/// A root that is planned, and the blocks that the one before led to and this one doesn't.
+#[derive(Drop)]
+struct PlannedRoot {
+    root: RootBlock,
+    replaced: Vec<RootBlock>,
+}
+
 /// Plans the root of the transaction group `group` after its items, behind the last one; or the first root of a pool.
 fn root_after<D: Disk + Drop>(
     last: &KeptGroup,
@@ -67,19 +76,19 @@ fn root_after<D: Disk + Drop>(
     alloc: Global,
     group: u64,
     items: &Pending,
-) -> Result<RootBlock, block_store::Refusal>
+) -> Result<PlannedRoot, block_store::Refusal>
     requires born { 0 < group }
     ensures steps { OnlyReadsAndPlans store.old store.new [] }
-    ensures value { IfOk result (λ root. (stored planned : Contents) (pool : PlainPool)
+    ensures value { IfOk result (λ next. (stored planned : Contents) (pool : PlainPool)
         (before : List Block)
         → Plans store.old stored planned → SpellsRoot stored (group - 1) last.now.root pool
         → LeadsTo stored (group - 1) last.now.root pool before
         → AnswersAreTrue store.old store.new
         → (later : Contents) × Plans store.new stored later × Extends planned later
-        × SpellsRoot later group (Some root) (applied group pool items.now)
-        × (reach : List Block) × LeadsTo later group (Some root)
+        × SpellsRoot later group (Some next.root) (applied group pool items.now)
+        × (reach : List Block) × LeadsTo later group (Some next.root)
         (applied group pool items.now) reach
-        × (gone : List Block) × IsReachExchanged group planned later before reach gone) }
+        × IsReachExchanged group planned later before reach next.replaced.items) }
     ensures known { IfErr result (λ refusal. (stored planned : Contents) (pool : PlainPool)
         → Plans store.old stored planned → SpellsRoot stored (group - 1) last.now.root pool
         → AnswersAreTrue store.old store.new → MakesGoodVolumes items.now
@@ -90,9 +99,18 @@ fn root_after<D: Disk + Drop>(
     match &last.root {
         Some(root) => {
             let next = after_group(root, store, alloc, group, items)?;
-            Ok(next.root)
+            Ok(PlannedRoot {
+                root: next.root,
+                replaced: next.replaced,
+            })
         }
-        None => first_root(store, alloc, group, items),
+        None => {
+            let root = first_root(store, alloc, group, items)?;
+            Ok(PlannedRoot {
+                root,
+                replaced: Vec::new(alloc),
+            })
+        }
     }
 }
 
@@ -113,26 +131,33 @@ fn names_after(
     Ok(Arc::new(alloc, after)?)
 }
 
-/// The group after the last one: its root, which is planned, and its names.
+/// The next group, and the blocks that its root no longer leads to.
+#[derive(Drop)]
+struct NextGroup {
+    after: KeptGroup,
+    replaced: Vec<RootBlock>,
+}
+
+/// The group after the last one: its root, which is planned, and its names; and the blocks that it replaced.
 fn group_after<D: Disk + Drop>(
     last: &KeptGroup,
     store: &mut BlockStore<D>,
     alloc: Global,
     group: u64,
     items: &Pending,
-) -> Result<KeptGroup, block_store::Refusal>
+) -> Result<NextGroup, block_store::Refusal>
     requires born { 0 < group }
     ensures steps { OnlyReadsAndPlans store.old store.new [] }
-    ensures value { IfOk result (λ after. (stored planned : Contents) (pool : PlainPool)
+    ensures value { IfOk result (λ next. (stored planned : Contents) (pool : PlainPool)
         (before : List Block)
         → Plans store.old stored planned → SpellsGroup stored (group - 1) last.now pool
         → LeadsTo stored (group - 1) last.now.root pool before
         → AnswersAreTrue store.old store.new
         → (later : Contents) × Plans store.new stored later × Extends planned later
-        × SpellsGroup later group after (applied group pool items.now)
-        × (reach : List Block) × LeadsTo later group after.root
+        × SpellsGroup later group next.after (applied group pool items.now)
+        × (reach : List Block) × LeadsTo later group next.after.root
         (applied group pool items.now) reach
-        × (gone : List Block) × IsReachExchanged group planned later before reach gone) }
+        × IsReachExchanged group planned later before reach next.replaced.items) }
     ensures known { IfErr result (λ refusal. (stored planned : Contents) (pool : PlainPool)
         → Plans store.old stored planned → SpellsGroup stored (group - 1) last.now pool
         → AnswersAreTrue store.old store.new → MakesGoodVolumes items.now
@@ -141,16 +166,47 @@ fn group_after<D: Disk + Drop>(
         (IsNextRefused store.old store.new last.now.root group items.now) }
 {
     let names = names_after(&last.names, alloc, group, items)?;
-    let root = root_after(last, store, alloc, group, items)?;
-    Ok(KeptGroup {
-        root: Some(root),
+    let next = root_after(last, store, alloc, group, items)?;
+    let after = KeptGroup {
+        root: Some(next.root),
         names,
+    };
+    Ok(NextGroup {
+        after,
+        replaced: next.replaced,
     })
 }
 
+/// Gives the blocks that a group replaced back. Where one of them is not in use, it stays as it is, and so do those behind it: disks
+/// that answer truly name no such block.
+fn give_back<D: Disk + Drop>(
+    store: &mut BlockStore<D>,
+    blocks: &[RootBlock],
+    group: u64,
+) -> Result<(), AllocError>
+    ensures gives { GivesBack store.old store.new blocks.now group }
+    ensures released { OnOk result ((stored planned : Contents)
+        → Plans store.old stored planned → AreStored stored blocks.now
+        → AreDistinct blocks.now → AreAllInUse store.old.spaces blocks.now
+        → AreReleased store.old.spaces (copies_of_all blocks.now) group store.new.spaces) }
+{
+    let given = store.release(blocks, group);
+    if lacks_memory(&given) {
+        return Err(AllocError);
+    }
+    Ok(())
+}
+
+/// Whether memory was short.
+fn lacks_memory(given: &Result<(), block_store::Refusal>) -> bool
+    ensures { IsTrue result ↔ (given.now ≡ Err lost_blocks.NoMemory) }
+{
+    matches!(given, Err(block_store::Refusal::NoMemory))
+}
+
 impl<D: Disk + Drop> Commit<D> {
-    /// Plans the group after the committed one, which accepted these items. It reads what it must of the committed
-    /// volumes, and then names the writes of the new blocks, none of them in place of a block that is kept. `BadConfig` where a
+    /// Plans the group after the committed one, which accepted these items. What earlier groups released and is due to it may be
+    /// handed out again; what it replaces is released with it. It reads what it must of the committed volumes, and names the writes of the new blocks, none of them in place of a block that is kept. `BadConfig` where a
     /// volume can't be made as it is asked; a pool accepts no such change.
     pub fn plan(&mut self, alloc: Global, items: &Pending) -> Result<(), Refusal>
         requires unplanned { HasNoPlan (state_of self.old) }
@@ -187,14 +243,19 @@ impl<D: Disk + Drop> Commit<D> {
             ⊎ (refusal ≡ Refusal.NoSpace))) }
     {
         let group = self.kept.committed().saturating_add(1);
-        self.store.drop_plan(group);
+        self.store.begin_plan(group)?;
         let flushes = self.disks_in_use(alloc)?;
         if !makes_good_volumes(items) {
             return Err(Refusal::BadConfig);
         }
         let last = self.kept.last();
         match group_after(last, &mut self.store, alloc, group, items) {
-            Ok(after) => {
+            Ok(next) => {
+                if give_back(&mut self.store, &next.replaced, group).is_err() {
+                    self.store.drop_plan(group);
+                    return Err(Refusal::NoMemory);
+                }
+                let after = next.after;
                 self.planned = Some(Planned { after, flushes });
                 Ok(())
             }

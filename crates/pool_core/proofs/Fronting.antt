@@ -48,12 +48,14 @@ plan_kept s planned (Some plan) v w k is = record {
   in_use = is.in_use;
 }
 
-reach_kept : (s : State) (stored planned : Contents) (plan : Option Planned) (v w : View) → KeepsCommitted v w → IsPlanOf s planned plan v → IsReachOfPlan stored planned plan v
-    → IsReachOfPlan stored planned plan w
-reach_kept s stored planned None v w k is reach = tt
-reach_kept s stored planned (Some plan) v w k is reach =
-    subst (λ (p : PlainPool). PlansReach stored planned (suc w.committed) plan.after p) (sym (made_kept v w k (ap is_syncing is.sync)))
-    (subst (λ c. PlansReach stored planned (suc c) plan.after (pool_after v)) (sym k.committed) reach)
+reach_kept : (s : State) (v w : View) (backs : Backs s v) (plan : Option Planned) → KeepsCommitted v w → IsPlanOf s backs.blocks.planned plan v
+    → IsReachOfPlan s.store.spaces backs.blocks.reached.reach backs.blocks.stored backs.blocks.planned plan v
+    → IsReachOfPlan s.store.spaces backs.blocks.reached.reach backs.blocks.stored backs.blocks.planned plan w
+reach_kept s v w backs None k is reach = tt
+reach_kept s v w backs (Some plan) k is reach =
+    let blocks = backs.blocks in
+    subst (λ (p : PlainPool). PlansReach s.store.spaces blocks.reached.reach blocks.stored blocks.planned (suc w.committed) plan.after p) (sym (made_kept v w k (ap is_syncing is.sync)))
+    (subst (λ c. PlansReach s.store.spaces blocks.reached.reach blocks.stored blocks.planned (suc c) plan.after (pool_after v)) (sym k.committed) reach)
 
 pub backs_kept : (s : State) (v w : View) → KeepsCommitted v w → Backs s v → Backs s w
 backs_kept s v w k backs = record {
@@ -73,8 +75,9 @@ backs_kept s v w k backs = record {
           (backs.blocks.reached.leads group);
       once = backs.blocks.reached.once;
       only = backs.blocks.reached.only;
+      held = backs.blocks.reached.held;
     };
-    plan_reached = reach_kept s backs.blocks.stored backs.blocks.planned s.planned v w k backs.blocks.plan backs.blocks.plan_reached;
+    plan_reached = reach_kept s v w backs s.planned k backs.blocks.plan backs.blocks.plan_reached;
   };
 }
 

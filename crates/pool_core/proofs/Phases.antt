@@ -348,7 +348,8 @@ backs_taken s v backs none = record {
     still None is = refl
     still (Some plan) is = absurd (true≢false (sym (ap is_planned is.sync) ∙ none))
 
-    same_reach : (plan : Option PlannedGroup) → IsReachOfPlan backs.blocks.stored backs.blocks.planned plan v → IsReachOfPlan backs.blocks.stored backs.blocks.planned plan (taken v Unplanned)
+    same_reach : (plan : Option PlannedGroup) → IsReachOfPlan s.store.spaces backs.blocks.reached.reach backs.blocks.stored backs.blocks.planned plan v
+        → IsReachOfPlan s.store.spaces backs.blocks.reached.reach backs.blocks.stored backs.blocks.planned plan (taken v Unplanned)
     same_reach None is = tt
     same_reach (Some plan) is = is
 

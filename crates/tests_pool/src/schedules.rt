@@ -364,6 +364,73 @@ under 5 v 1572352 512 -> aax512
 under 6 v 0 512 -> refused 17 GroupGone
 ";
 
+/// Two blocks of a volume of 12 are written again in each of 12 groups. Its metaslabs have room for 21, so what groups replace
+/// is used again three groups later.
+const ROOM_GIVEN_BACK: &str = "pool 1 2 8388608 12 2
+hold 1 -> held 4
+create 1 1 v 1572864 131072 -> receipt 4
+release 1 -> released
+sync -> committed 4
+hold 1 -> held 5
+write 1 2 v 0 1048576 aa -> receipt 5
+write 1 3 v 1048576 524288 aa -> receipt 5
+release 1 -> released
+sync -> committed 5
+hold 1 -> held 6
+write 1 4 v 131072 262144 06 -> receipt 6
+release 1 -> released
+sync -> committed 6
+hold 1 -> held 7
+write 1 5 v 131072 262144 07 -> receipt 7
+release 1 -> released
+sync -> committed 7
+hold 1 -> held 8
+write 1 6 v 131072 262144 08 -> receipt 8
+release 1 -> released
+sync -> committed 8
+hold 1 -> held 9
+write 1 7 v 131072 262144 09 -> receipt 9
+release 1 -> released
+sync -> committed 9
+hold 1 -> held 10
+write 1 8 v 131072 262144 0a -> receipt 10
+release 1 -> released
+sync -> committed 10
+hold 1 -> held 11
+write 1 9 v 131072 262144 0b -> receipt 11
+release 1 -> released
+sync -> committed 11
+hold 1 -> held 12
+write 1 10 v 131072 262144 0c -> receipt 12
+release 1 -> released
+sync -> committed 12
+hold 1 -> held 13
+write 1 11 v 131072 262144 0d -> receipt 13
+release 1 -> released
+sync -> committed 13
+hold 1 -> held 14
+write 1 12 v 131072 262144 0e -> receipt 14
+release 1 -> released
+sync -> committed 14
+hold 1 -> held 15
+write 1 13 v 131072 262144 0f -> receipt 15
+release 1 -> released
+sync -> committed 15
+hold 1 -> held 16
+write 1 14 v 131072 262144 10 -> receipt 16
+release 1 -> released
+sync -> committed 16
+hold 1 -> held 17
+write 1 15 v 131072 262144 11 -> receipt 17
+release 1 -> released
+sync -> committed 17
+under 17 v 131071 2 -> aax1 11x1
+under 16 v 393215 2 -> 10x1 aax1
+under 15 v 131072 512 -> 0fx512
+under 14 v 131072 512 -> refused 17 GroupGone
+read v 1572352 512 -> aax512
+";
+
 /// The schedules that have other replies than these, or nothing.
 fn changed_in(alloc: Global, texts: &[&str]) -> Result<String, Fail> {
     let mut changed = String::new(alloc);
@@ -412,6 +479,12 @@ fn a_pool_with_just_room_has_its_replies(rt: HostRuntime) -> Result<(), Fail> {
 #[test]
 fn a_volume_that_is_written_twice_has_its_replies(rt: HostRuntime) -> Result<(), Fail> {
     assert_eq!(rt; changed_in(rt.alloc(), &[WRITTEN_TWICE])?.as_str(), "");
+    Ok(())
+}
+
+#[test]
+fn room_is_given_back(rt: HostRuntime) -> Result<(), Fail> {
+    assert_eq!(rt; changed_in(rt.alloc(), &[ROOM_GIVEN_BACK])?.as_str(), "");
     Ok(())
 }
 

@@ -6,11 +6,11 @@ use Rattle.pool_commit.proofs.plan.group_after.Goals as goal
 pub returns-in_err-names-clause-steps : goal.returns-in_err-names-clause-steps
 returns-in_err-names-clause-steps g c = steps_none c.args.store.now []
 
-pub returns-in_err-root-clause-known : goal.returns-in_err-root-clause-known
-returns-in_err-root-clause-known g c =
-    passed_on _ _ _ c.from_residual-in_err-root.ensures.1 (λ stored planned pool plans spells honest good. c.in_err-root.ensures.known stored planned pool plans spells.root honest good)
+pub returns-in_err-next-clause-known : goal.returns-in_err-next-clause-known
+returns-in_err-next-clause-known g c =
+    passed_on _ _ _ c.from_residual-in_err-next.ensures.1 (λ stored planned pool plans spells honest good. c.in_err-next.ensures.known stored planned pool plans spells.root honest good)
 
 pub returns-clause-value : goal.returns-clause-value
 returns-clause-value g c = λ stored planned pool before plans spells leads honest.
-    let there = c.in_ok-root.ensures.value stored planned pool before plans spells.root leads honest in
-    (there.0, there.1, there.2, record { root = there.3; names = c.in_ok-names.ensures pool spells.names }, there.4, there.5, there.6, there.7)
+    let there = c.in_ok-next.ensures.value stored planned pool before plans spells.root leads honest in
+    (there.0, there.1, there.2, record { root = there.3; names = c.in_ok-names.ensures pool spells.names }, there.4, there.5, there.6)

@@ -2,7 +2,7 @@ use Rattle.std.proofs.Common.{◌≡◌, List, [], ◌∷◌, length, true, fold
 use Rattle.std.specs.Prelude.{◌==◌}
 use Rattle.std.proofs.lemmas.Bool.{eqb-true}
 use Rattle.pool_model.specs.declared.item.Action.{Action}
-use Rattle.pool_model.specs.Pools.{PlainPool, applied, written, changed}
+use Rattle.pool_model.specs.Pools.{PlainPool, applied, written}
 use Rattle.volume_rules.specs.Index.{Knows}
 use Rattle.volume_rules.proofs.NowMoves.{knows_along}
 use Rattle.volume_rules.proofs.Volumes.{shapes_of_writes}

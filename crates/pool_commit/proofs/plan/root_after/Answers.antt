@@ -1,5 +1,4 @@
 use Rattle.std.proofs.Common.{ℕ, ◌≡◌, ◌-◌, List, [], Option, Some, refl, sym, subst}
-use Rattle.std.proofs.lemmas.Result.{IfOk-weaker, IfErr-weaker}
 use Rattle.block_pointer.specs.declared.block.Block.{Block}
 use Rattle.dataset_snapshots.proofs.GoodNames.{good_changes_may_be_made}
 use Rattle.dnode_tree.proofs.Refusing.{passed_on}
@@ -20,7 +19,6 @@ returns-in_ok-next-in-Some-clause-value g c = λ stored planned pool before plan
       there.3,
       reach_of there.3,
       (there.3, refl),
-      c.in_ok-next-in-Some.next.replaced.items,
       subst (λ (blocks : List Block). IsReachExchanged c.args.group planned there.0 blocks (reach_of there.3) c.in_ok-next-in-Some.next.replaced.items) led.1 there.5,
     )
 
@@ -37,13 +35,12 @@ IsFirst planned later group root items pool =
     SpellsRoot later group (Some root) (applied group pool items)
     × (reach : List Block) × LeadsTo later group (Some root) (applied group pool items) reach × IsReachExchanged group planned later [] reach []
 
-pub returns-in-None-clause-value : goal.returns-in-None-clause-value
-returns-in-None-clause-value g c =
-    IfOk-weaker c.first_root.result _ _
-    (λ root known stored planned pool before plans spells leads honest.
+pub returns-in_ok-root-in-None-clause-value : goal.returns-in_ok-root-in-None-clause-value
+returns-in_ok-root-in-None-clause-value g c = λ stored planned pool before plans spells leads honest.
+    let root : Block = c.in_ok-root-in-None.root in
     let empty : pool ≡ no_volumes = subst (λ (o : Option Block). SpellsRoot stored (c.args.group - 1) o pool) c.in-None.is spells in
     let nothing : before ≡ [] = subst (λ (o : Option Block). LeadsTo stored (c.args.group - 1) o pool before) c.in-None.is leads in
-    let there = known stored planned plans honest in
+    let there = c.in_ok-root-in-None.ensures.value stored planned plans honest in
     let first : IsFirst planned there.0 c.args.group root c.args.items.now pool = subst (IsFirst planned there.0 c.args.group root c.args.items.now) (sym empty) (there.3, there.4, there.5, there.6) in (
       there.0,
       there.1,
@@ -51,11 +48,10 @@ returns-in-None-clause-value g c =
       first.0,
       first.1,
       first.2,
-      [],
-      subst (λ (blocks : List Block). IsReachExchanged c.args.group planned there.0 blocks first.1 []) (sym nothing) first.3,
-    ))
-    c.first_root.ensures.value
+      subst (λ (gone : List Block). IsReachExchanged c.args.group planned there.0 before first.1 gone) (sym c.new.ensures.items)
+          (subst (λ (blocks : List Block). IsReachExchanged c.args.group planned there.0 blocks first.1 []) (sym nothing) first.3),
+    )
 
-pub returns-in-None-clause-known : goal.returns-in-None-clause-known
-returns-in-None-clause-known g c =
-    IfErr-weaker c.first_root.result _ _ (λ refusal known stored planned pool plans spells honest good. known stored planned plans honest good) c.first_root.ensures.known
+pub returns-in_err-root-in-None-clause-known : goal.returns-in_err-root-in-None-clause-known
+returns-in_err-root-in-None-clause-known g c =
+    passed_on _ _ _ c.from_residual-in_err-root-in-None.ensures.1 (λ stored planned pool plans spells honest good. c.in_err-root-in-None.ensures.known stored planned plans honest good)

@@ -1,86 +1,160 @@
-use Rattle.std.proofs.Common.{ℕ, suc, ◌≡◌, ⊎_elim, inl, inr, ◌-◌, List, length, None, Contains, refl, sym, ap, ◌∙◌, subst, arith}
+use Rattle.std.proofs.Common.{ℕ, suc, ◌≡◌, ◌≤◌, ⊎_elim, inl, inr, ◌-◌, ◌++◌, List, [], length, None, Contains, refl, sym, ap, ◌∙◌, subst, arith}
 use Rattle.model_disk.specs.Joint.{Disks}
-use Rattle.raidz_io.specs.Reads.{IsHonestSince}
+use Rattle.raidz_io.specs.Reads.{AreUntouched, IsHonestSince}
 use Rattle.block_store.specs.declared.refusal.Refusal.{Refusal as StoreRefusal}
+use Rattle.block_store.specs.Store.{outs}
 use Rattle.pool_model.specs.View.{Unplanned}
 use Rattle.pool_commit.specs.declared.kept.KeptGroup.{KeptGroup}
 use Rattle.pool_commit.specs.declared.kept.Planned.{Planned}
 use Rattle.pool_commit.specs.Backs.{SpellsGroup}
 use Rattle.pool_commit.specs.Reading.{IsFaultIn}
 use Rattle.pool_commit.specs.Room.{IsNextRefused, IsPlanRefused}
+use Rattle.pool_commit.specs.Space.{GivesBack}
 use Rattle.pool_commit.specs.State.{State}
 use Rattle.pool_commit.specs.StateOf.{state_of}
 use Rattle.pool_commit.proofs.Backing.{last_spelled}
-use Rattle.pool_commit.proofs.Planning.{is_begun, untouched_since, at_error, backs_begun, backs_still, begun_plans, unplanned_still, plan_is_backed}
+use Rattle.pool_commit.proofs.Planning.{Begins, is_begun, untouched_since, at_error, backs_begun, backs_dropped, backs_still, begun_plans, unplanned_still, plan_is_backed}
 use Rattle.pool_commit.proofs.Refusing.{no_config, only_room, plan_faults}
 use Rattle.pool_commit.proofs.Suspending.{still}
 use Rattle.pool_commit.proofs.Unread.{lost_for_plan}
 use Rattle.pool_commit.proofs.commit.Commit.plan.Given as given
 use Rattle.pool_commit.proofs.commit.Commit.plan.Goals as goal
 
+pub returns-in_err-begin_plan-clause-unplanned : goal.returns-in_err-begin_plan-clause-unplanned
+returns-in_err-begin_plan-clause-unplanned g c = at_error c.from_residual.result _ (λ v backs none.
+    unplanned_still (record { store = c.begin_plan.new.self; kept = c.args.self.now.kept; planned = None }) c.args.self.now.planned v c.requires.unplanned
+    (backs_begun (state_of c.args.self.now) c.begin_plan.new.self c.saturating_add-group.result v c.begin_plan.ensures.out c.begin_plan.ensures.shapes
+    (record { free = c.begin_plan.ensures.free; stays = c.begin_plan.ensures.stays; plans = c.begin_plan.ensures.plans })
+    (let same = c.committed.ensures in omega arith) v.sync none backs))
+
+pub returns-in_err-begin_plan-clause-dropped : goal.returns-in_err-begin_plan-clause-dropped
+returns-in_err-begin_plan-clause-dropped g c = at_error c.from_residual.result _ (λ v backs.
+    unplanned_still (record { store = c.begin_plan.new.self; kept = c.args.self.now.kept; planned = None }) c.args.self.now.planned (record v { sync = Unplanned }) c.requires.unplanned
+    (backs_begun (state_of c.args.self.now) c.begin_plan.new.self c.saturating_add-group.result v c.begin_plan.ensures.out c.begin_plan.ensures.shapes
+    (record { free = c.begin_plan.ensures.free; stays = c.begin_plan.ensures.stays; plans = c.begin_plan.ensures.plans })
+    (let same = c.committed.ensures in omega arith) Unplanned refl backs))
+
+pub returns-in_err-flushes-clause-unplanned : goal.returns-in_err-flushes-clause-unplanned
+returns-in_err-flushes-clause-unplanned g c = at_error c.from_residual-in_err-flushes.result _ (λ v backs none.
+    unplanned_still (record { store = c.begin_plan.new.self; kept = c.args.self.now.kept; planned = None }) c.args.self.now.planned v c.requires.unplanned
+    (backs_begun (state_of c.args.self.now) c.begin_plan.new.self c.saturating_add-group.result v c.begin_plan.ensures.out c.begin_plan.ensures.shapes
+    (record { free = c.begin_plan.ensures.free; stays = c.begin_plan.ensures.stays; plans = c.begin_plan.ensures.plans })
+    (let same = c.committed.ensures in omega arith) v.sync none backs))
+
+pub returns-in_err-flushes-clause-dropped : goal.returns-in_err-flushes-clause-dropped
+returns-in_err-flushes-clause-dropped g c = at_error c.from_residual-in_err-flushes.result _ (λ v backs.
+    unplanned_still (record { store = c.begin_plan.new.self; kept = c.args.self.now.kept; planned = None }) c.args.self.now.planned (record v { sync = Unplanned }) c.requires.unplanned
+    (backs_begun (state_of c.args.self.now) c.begin_plan.new.self c.saturating_add-group.result v c.begin_plan.ensures.out c.begin_plan.ensures.shapes
+    (record { free = c.begin_plan.ensures.free; stays = c.begin_plan.ensures.stays; plans = c.begin_plan.ensures.plans })
+    (let same = c.committed.ensures in omega arith) Unplanned refl backs))
+
+pub returns-then-not-makes_good_volumes-clause-unplanned : goal.returns-then-not-makes_good_volumes-clause-unplanned
+returns-then-not-makes_good_volumes-clause-unplanned g c = λ v backs none.
+    unplanned_still (record { store = c.begin_plan.new.self; kept = c.args.self.now.kept; planned = None }) c.args.self.now.planned v c.requires.unplanned
+    (backs_begun (state_of c.args.self.now) c.begin_plan.new.self c.saturating_add-group.result v c.begin_plan.ensures.out c.begin_plan.ensures.shapes
+    (record { free = c.begin_plan.ensures.free; stays = c.begin_plan.ensures.stays; plans = c.begin_plan.ensures.plans })
+    (let same = c.committed.ensures in omega arith) v.sync none backs)
+
+pub returns-then-not-makes_good_volumes-clause-dropped : goal.returns-then-not-makes_good_volumes-clause-dropped
+returns-then-not-makes_good_volumes-clause-dropped g c = λ v backs.
+    unplanned_still (record { store = c.begin_plan.new.self; kept = c.args.self.now.kept; planned = None }) c.args.self.now.planned (record v { sync = Unplanned }) c.requires.unplanned
+    (backs_begun (state_of c.args.self.now) c.begin_plan.new.self c.saturating_add-group.result v c.begin_plan.ensures.out c.begin_plan.ensures.shapes
+    (record { free = c.begin_plan.ensures.free; stays = c.begin_plan.ensures.stays; plans = c.begin_plan.ensures.plans })
+    (let same = c.committed.ensures in omega arith) Unplanned refl backs)
+
+pub returns-then-is_err-clause-untouched : goal.returns-then-is_err-clause-untouched
+returns-then-is_err-clause-untouched g c =
+    untouched_since c.args.self.now.store c.begin_plan.new.self c.drop_plan.new.self c.begin_plan.ensures.disks c.begin_plan.ensures.out
+    (subst (AreUntouched (outs c.begin_plan.new.self ++ []) c.begin_plan.new.self.disks) (sym (c.drop_plan.ensures.disks ∙ c.give_back.ensures.gives.disks)) c.in-Ok.ensures.steps.untouched)
+
+pub returns-then-is_err-clause-unplanned : goal.returns-then-is_err-clause-unplanned
+returns-then-is_err-clause-unplanned g c = λ v backs none.
+    let begun = backs_begun (state_of c.args.self.now) c.begin_plan.new.self c.saturating_add-group.result v c.begin_plan.ensures.out c.begin_plan.ensures.shapes
+    (record { free = c.begin_plan.ensures.free; stays = c.begin_plan.ensures.stays; plans = c.begin_plan.ensures.plans })
+    (let same = c.committed.ensures in omega arith) v.sync none backs in
+    unplanned_still (record { store = c.drop_plan.new.self; kept = c.args.self.now.kept; planned = None }) c.args.self.now.planned v c.requires.unplanned
+    (backs_dropped (record { store = c.begin_plan.new.self; kept = c.args.self.now.kept; planned = None }) c.group_after.new.store c.give_back.new.store c.drop_plan.new.self c.deref.result.now c.saturating_add-group.result v refl c.in-Ok.ensures.steps
+    c.give_back.ensures.gives c.drop_plan.ensures.out c.drop_plan.ensures.shapes c.drop_plan.ensures.filled c.drop_plan.ensures.plans begun)
+
+pub returns-then-is_err-clause-dropped : goal.returns-then-is_err-clause-dropped
+returns-then-is_err-clause-dropped g c = λ v backs.
+    let begun = backs_begun (state_of c.args.self.now) c.begin_plan.new.self c.saturating_add-group.result v c.begin_plan.ensures.out c.begin_plan.ensures.shapes
+    (record { free = c.begin_plan.ensures.free; stays = c.begin_plan.ensures.stays; plans = c.begin_plan.ensures.plans })
+    (let same = c.committed.ensures in omega arith) Unplanned refl backs in
+    unplanned_still (record { store = c.drop_plan.new.self; kept = c.args.self.now.kept; planned = None }) c.args.self.now.planned (record v { sync = Unplanned }) c.requires.unplanned
+    (backs_dropped (record { store = c.begin_plan.new.self; kept = c.args.self.now.kept; planned = None }) c.group_after.new.store c.give_back.new.store c.drop_plan.new.self c.deref.result.now c.saturating_add-group.result (record v { sync = Unplanned }) refl
+    c.in-Ok.ensures.steps c.give_back.ensures.gives c.drop_plan.ensures.out c.drop_plan.ensures.shapes c.drop_plan.ensures.filled c.drop_plan.ensures.plans begun)
+
 pub invariant_of-self-in-Ok : goal.invariant_of-self-in-Ok
 invariant_of-self-in-Ok g c = record {
   disks = λ plan is disk held.
-      let planned : Planned = record { after = c.in-Ok.after; flushes = c.in_ok-flushes.flushes } in
+      let planned : Planned = record { after = c.in-Ok.next.after; flushes = c.in_ok-flushes.flushes } in
       let same : planned ≡ plan = cc in
       let below = c.in_ok-flushes.ensures.there disk (subst (λ (p : Planned). Contains p.flushes.items disk) (sym same) held) in
       let starts = ap (λ (starts : List (List ℕ)). length starts) c.in-Ok.ensures.steps.reads.starts in
+      let given = ap (λ (d : Disks). length d.starts) c.give_back.ensures.gives.disks in
+      let begun = ap (λ (d : Disks). length d.starts) c.begin_plan.ensures.disks in
       omega arith;
   suspension =
       c.args.self.now.suspension
-      ∙ still c.args.self.now.store c.drop_plan.new.self c.drop_plan.ensures.out c.drop_plan.ensures.shapes
-      ∙ still c.drop_plan.new.self c.group_after.new.store c.in-Ok.ensures.steps.out c.in-Ok.ensures.steps.shapes;
+      ∙ still c.args.self.now.store c.begin_plan.new.self c.begin_plan.ensures.out c.begin_plan.ensures.shapes
+      ∙ still c.begin_plan.new.self c.group_after.new.store c.in-Ok.ensures.steps.out c.in-Ok.ensures.steps.shapes
+      ∙ still c.group_after.new.store c.give_back.new.store c.give_back.ensures.gives.out c.give_back.ensures.gives.shapes;
 }
 
-pub returns-in-Ok-clause-planned : goal.returns-in-Ok-clause-planned
-returns-in-Ok-clause-planned g c = λ v backs none few items honest.
-    let begun = backs_begun (state_of c.args.self.now) c.drop_plan.new.self v c.drop_plan.ensures.out c.drop_plan.ensures.shapes c.drop_plan.ensures.plans v.sync none backs in
-    let s : State = record { store = c.drop_plan.new.self; kept = c.args.self.now.kept; planned = None } in
-    let next : c.saturating_add-group.result ≡ suc v.committed = let same = c.committed.ensures ∙ backs.committed in omega arith in
-    plan_is_backed s c.group_after.new.store c.saturating_add-group.result c.last-last.result.now (record { after = c.in-Ok.after; flushes = c.in_ok-flushes.flushes })
-    c.args.items.now v begun c.drop_plan.ensures.due next c.last-last.ensures items c.in_ok-flushes.ensures.disks c.in-Ok.ensures.steps
-    (subst (λ (disks : Disks). IsHonestSince disks c.group_after.new.store.disks) (sym c.drop_plan.ensures.disks) honest)
-    (begun_plans (state_of c.args.self.now) c.drop_plan.new.self v c.drop_plan.ensures.out c.drop_plan.ensures.shapes c.drop_plan.ensures.plans v.sync none backs) c.in-Ok.ensures.value
+pub returns-else-is_err-clause-untouched : goal.returns-else-is_err-clause-untouched
+returns-else-is_err-clause-untouched g c =
+    untouched_since c.args.self.now.store c.begin_plan.new.self c.give_back.new.store c.begin_plan.ensures.disks c.begin_plan.ensures.out
+    (subst (AreUntouched (outs c.begin_plan.new.self ++ []) c.begin_plan.new.self.disks) (sym c.give_back.ensures.gives.disks) c.in-Ok.ensures.steps.untouched)
 
-pub returns-in_err-flushes-clause-unplanned : goal.returns-in_err-flushes-clause-unplanned
-returns-in_err-flushes-clause-unplanned g c = at_error c.from_residual.result _ (λ v backs none.
-    unplanned_still (record { store = c.drop_plan.new.self; kept = c.args.self.now.kept; planned = None }) c.args.self.now.planned v c.requires.unplanned
-    (backs_begun (state_of c.args.self.now) c.drop_plan.new.self v c.drop_plan.ensures.out c.drop_plan.ensures.shapes c.drop_plan.ensures.plans v.sync none backs))
+pub returns-else-is_err-clause-planned : goal.returns-else-is_err-clause-planned
+returns-else-is_err-clause-planned g c = λ v backs none few items honest.
+    let begins : Begins c.args.self.now.store c.begin_plan.new.self c.saturating_add-group.result =
+    record { free = c.begin_plan.ensures.free; stays = c.begin_plan.ensures.stays; plans = c.begin_plan.ensures.plans } in
+    let below : c.saturating_add-group.result ≤ suc c.args.self.now.kept.committed = let same = c.committed.ensures in omega arith in
+    let begun = backs_begun (state_of c.args.self.now) c.begin_plan.new.self c.saturating_add-group.result v c.begin_plan.ensures.out c.begin_plan.ensures.shapes begins below v.sync none backs in
+    let s : State = record { store = c.begin_plan.new.self; kept = c.args.self.now.kept; planned = None } in
+    let next : c.saturating_add-group.result ≡ suc v.committed = let same = c.committed.ensures ∙ backs.committed in omega arith in
+    let honest_since : IsHonestSince c.begin_plan.new.self.disks c.group_after.new.store.disks =
+    subst (λ (disks : Disks). IsHonestSince disks c.group_after.new.store.disks) (sym c.begin_plan.ensures.disks)
+    (subst (λ (disks : Disks). IsHonestSince c.args.self.now.store.disks disks) c.give_back.ensures.gives.disks honest) in
+    plan_is_backed s c.group_after.new.store c.give_back.new.store c.saturating_add-group.result c.last-last.result.now
+    (record { after = c.in-Ok.next.after; flushes = c.in_ok-flushes.flushes }) c.in-Ok.next.replaced.items
+    c.args.items.now v begun c.begin_plan.ensures.due next c.last-last.ensures items c.in_ok-flushes.ensures.disks c.in-Ok.ensures.steps
+    (subst (λ gone. GivesBack c.group_after.new.store c.give_back.new.store gone c.saturating_add-group.result) c.deref.ensures.value c.give_back.ensures.gives)
+    c.begin_plan.ensures.free honest_since
+    (begun_plans (state_of c.args.self.now) c.begin_plan.new.self c.saturating_add-group.result v c.begin_plan.ensures.out c.begin_plan.ensures.shapes begins below v.sync none backs) c.in-Ok.ensures.value
 
 pub returns-in-Err-clause-unplanned : goal.returns-in-Err-clause-unplanned
 returns-in-Err-clause-unplanned g c = λ v backs none.
-    let begun = backs_begun (state_of c.args.self.now) c.drop_plan.new.self v c.drop_plan.ensures.out c.drop_plan.ensures.shapes c.drop_plan.ensures.plans v.sync none backs in
-    let s : State = record { store = c.drop_plan.new.self; kept = c.args.self.now.kept; planned = None } in
+    let begun = backs_begun (state_of c.args.self.now) c.begin_plan.new.self c.saturating_add-group.result v c.begin_plan.ensures.out c.begin_plan.ensures.shapes
+    (record { free = c.begin_plan.ensures.free; stays = c.begin_plan.ensures.stays; plans = c.begin_plan.ensures.plans })
+    (let same = c.committed.ensures in omega arith) v.sync none backs in
+    let s : State = record { store = c.begin_plan.new.self; kept = c.args.self.now.kept; planned = None } in
     unplanned_still (record s { store = c.group_after.new.store }) c.args.self.now.planned v c.requires.unplanned (backs_still s c.group_after.new.store v refl c.in-Err.ensures.steps begun)
-
-pub returns-in_err-flushes-clause-dropped : goal.returns-in_err-flushes-clause-dropped
-returns-in_err-flushes-clause-dropped g c = at_error c.from_residual.result _ (λ v backs.
-    unplanned_still (record { store = c.drop_plan.new.self; kept = c.args.self.now.kept; planned = None }) c.args.self.now.planned (record v { sync = Unplanned }) c.requires.unplanned
-    (backs_begun (state_of c.args.self.now) c.drop_plan.new.self v c.drop_plan.ensures.out c.drop_plan.ensures.shapes c.drop_plan.ensures.plans Unplanned refl backs))
 
 pub returns-in-Err-clause-dropped : goal.returns-in-Err-clause-dropped
 returns-in-Err-clause-dropped g c = λ v backs.
-    let begun = backs_begun (state_of c.args.self.now) c.drop_plan.new.self v c.drop_plan.ensures.out c.drop_plan.ensures.shapes c.drop_plan.ensures.plans Unplanned refl backs in
-    let s : State = record { store = c.drop_plan.new.self; kept = c.args.self.now.kept; planned = None } in
+    let begun = backs_begun (state_of c.args.self.now) c.begin_plan.new.self c.saturating_add-group.result v c.begin_plan.ensures.out c.begin_plan.ensures.shapes
+    (record { free = c.begin_plan.ensures.free; stays = c.begin_plan.ensures.stays; plans = c.begin_plan.ensures.plans })
+    (let same = c.committed.ensures in omega arith) Unplanned refl backs in
+    let s : State = record { store = c.begin_plan.new.self; kept = c.args.self.now.kept; planned = None } in
     unplanned_still (record s { store = c.group_after.new.store }) c.args.self.now.planned (record v { sync = Unplanned }) c.requires.unplanned
     (backs_still s c.group_after.new.store (record v { sync = Unplanned }) refl c.in-Err.ensures.steps begun)
 
-pub returns-in-Ok-clause-untouched : goal.returns-in-Ok-clause-untouched
-returns-in-Ok-clause-untouched g c =
-    untouched_since c.args.self.now.store c.drop_plan.new.self c.group_after.new.store c.drop_plan.ensures.disks c.drop_plan.ensures.out c.in-Ok.ensures.steps.untouched
-
 pub returns-in-Err-clause-untouched : goal.returns-in-Err-clause-untouched
 returns-in-Err-clause-untouched g c =
-    untouched_since c.args.self.now.store c.drop_plan.new.self c.group_after.new.store c.drop_plan.ensures.disks c.drop_plan.ensures.out c.in-Err.ensures.steps.untouched
+    untouched_since c.args.self.now.store c.begin_plan.new.self c.group_after.new.store c.begin_plan.ensures.disks c.begin_plan.ensures.out c.in-Err.ensures.steps.untouched
 
 -- what the plan was refused for
 refused : (g : given.Over) (c : goal.After-drop-flushes-in-Err-1 g) → IsPlanRefused (state_of c.args.self.now) c.group_after.new.store c.args.items.now c.in-Err.refusal
 refused g c = record {
-  begun = c.drop_plan.new.self;
-  is_begun = is_begun c.args.self.now.store c.drop_plan.new.self c.drop_plan.ensures.disks c.drop_plan.ensures.out c.drop_plan.ensures.shapes c.drop_plan.ensures.filled c.drop_plan.ensures.free;
+  begun = c.begin_plan.new.self;
+  is_begun = is_begun c.args.self.now.store c.begin_plan.new.self c.saturating_add-group.result c.begin_plan.ensures.disks c.begin_plan.ensures.out c.begin_plan.ensures.shapes
+      c.in_ok-begin_plan.ensures.settled c.begin_plan.ensures.free;
   group = c.saturating_add-group.result;
   is_next = λ few. let same = c.committed.ensures in omega arith;
-  why = subst (λ (kept : KeptGroup). IsNextRefused c.drop_plan.new.self c.group_after.new.store kept.root c.saturating_add-group.result c.args.items.now c.in-Err.refusal)
+  why = subst (λ (kept : KeptGroup). IsNextRefused c.begin_plan.new.self c.group_after.new.store kept.root c.saturating_add-group.result c.args.items.now c.in-Err.refusal)
       c.last-last.ensures c.in-Err.ensures.refused;
 }
 
@@ -96,8 +170,10 @@ returns-in-Err-clause-unread g c = λ fault. record { cause = c.in-Err.refusal; 
 pub returns-in-Err-clause-refused : goal.returns-in-Err-clause-refused
 unfolding refused
 returns-in-Err-clause-refused g c = λ v backs none few items good.
-    let begun = backs_begun (state_of c.args.self.now) c.drop_plan.new.self v c.drop_plan.ensures.out c.drop_plan.ensures.shapes c.drop_plan.ensures.plans v.sync none backs in
-    let s : State = record { store = c.drop_plan.new.self; kept = c.args.self.now.kept; planned = None } in
+    let begun = backs_begun (state_of c.args.self.now) c.begin_plan.new.self c.saturating_add-group.result v c.begin_plan.ensures.out c.begin_plan.ensures.shapes
+    (record { free = c.begin_plan.ensures.free; stays = c.begin_plan.ensures.stays; plans = c.begin_plan.ensures.plans })
+    (let same = c.committed.ensures in omega arith) v.sync none backs in
+    let s : State = record { store = c.begin_plan.new.self; kept = c.args.self.now.kept; planned = None } in
     let new : State = record { store = c.group_after.new.store; kept = c.args.self.now.kept; planned = c.args.self.now.planned } in
     let before : c.saturating_add-group.result - 1 ≡ v.committed = let same = c.committed.ensures ∙ backs.committed in omega arith in
     let spelled : SpellsGroup begun.blocks.stored (c.saturating_add-group.result - 1) c.last-last.result.now (v.pools v.committed) =
@@ -108,8 +184,8 @@ returns-in-Err-clause-refused g c = λ v backs none few items good.
     (λ space. inr (c.from.ensures ∙ space))
     (λ fault. inl (lost_for_plan v (state_of c.args.self.now) new c.args.items.now c.from.result
     (record { cause = c.in-Err.refusal; refused = refused g c; answered = c.from.ensures }) begun c.in-Err.ensures.steps.reads
-    (subst (IsFaultIn c.drop_plan.new.self c.group_after.new.store) (sym c.from.ensures) fault))) other))
-    (plan_faults c.drop_plan.new.self c.group_after.new.store c.in-Err.refusal
+    (subst (IsFaultIn c.begin_plan.new.self c.group_after.new.store) (sym c.from.ensures) fault))) other))
+    (plan_faults c.begin_plan.new.self c.group_after.new.store c.in-Err.refusal
     (λ honest. c.in-Err.ensures.known begun.blocks.stored begun.blocks.planned (v.pools v.committed) begun.blocks.plans spelled honest good))
 
 pub returns-in-Err-clause-bad : goal.returns-in-Err-clause-bad
