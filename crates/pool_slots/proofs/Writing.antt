@@ -1,5 +1,5 @@
 -- What writes and flushes leave.
-use Rattle.std.proofs.Common.{◌≡◌, ◌⊎◌, inl, inr, ◌<◌, ◌≤◌, ◌∙◌, ℕ, ◌+◌, ◌%◌, Bool, List, ◌∷◌, length, slice_get, Option, Some, Result, Ok, Err, OnOk, false, refl, sym, ap, subst, arith}
+use Rattle.std.proofs.Common.{◌≡◌, ◌⊎◌, inl, inr, ◌<◌, ◌≤◌, ◌∙◌, ℕ, ◌+◌, Bool, List, ◌∷◌, length, slice_get, Some, Result, Ok, Err, OnOk, false, refl, sym, ap, subst, arith}
 use Rattle.uberblock_ring.specs.declared.uberblock.Uberblock.{Uberblock}
 use Rattle.uberblock_ring.specs.Uberblock.{Fits}
 use Rattle.uberblock_ring.specs.Slot.{slot_number}
@@ -11,7 +11,7 @@ use Rattle.model_disk.proofs.JointLemmas.{calls_on-same, calls_on-other}
 use Rattle.model_disk.proofs.LawLemmas.{written_bytes_stand}
 use Rattle.model_disk.proofs.RunLemmas.{off_content, Makes-write, Makes-flush}
 use Rattle.pool_slots.specs.Slots.{InUse, HaveLabels, MakesOn, is_disk, spelled, slot_at, IsSlot}
-use Rattle.pool_slots.specs.Writes.{IsSlotWrite, InTurn, InHalf, in_use, in_half_of, on_disk, SlotStands, SlotsStand, HasBlock, IsBlockWrite, AreApart, BlocksStand}
+use Rattle.pool_slots.specs.Writes.{IsSlotWrite, InHalf, in_use, in_half_of, on_disk, SlotStands, SlotsStand, HasBlock, IsBlockWrite, AreApart, BlocksStand}
 use Rattle.pool_slots.specs.declared.blocks.BlockWrite.{BlockWrite}
 use Rattle.pool_slots.specs.declared.found.Found.{Found}
 use Rattle.pool_slots.proofs.Places.{slots_apart, apart_covers, length-spelled, same_or_not}
@@ -256,34 +256,10 @@ made_next first loop new used u picks which room fits inside before makes stand 
           ];
     }
 
--- nothing is picked on this disk
-pub none_made : (disks : Disks) (used : ℕ → Type 0) (u : Uberblock) (picks : ℕ → ℕ → Type 0) (which : ℕ) → ((label : ℕ) → ¬ picks which label)
-    → SlotsStand (content disks) disks.starts u (on_disk which picks) (length disks.starts)
-none_made disks used u picks which none d label below is picked =
-    let P : ℕ → Type 0 = λ w. picks w label in
-    absurd (none label (subst P picked.0 picked.1))
-
 -- ---- the half whose turn it is
 
 same_found : (a b : Found) → Some (Some a) ≡ Some (Some b) → a ≡ b
 same_found a b e = cc
-
-in_turn : (all : List (Option Found)) (turn which half : ℕ) (found : Found) → slice_get all which ≡ Some (Some found) → half ≡ (found.other_half % 2 + turn) % 2
-    → (d label : ℕ) → in_half_of which half d label → on_disk which (InTurn all turn) d label
-in_turn all turn which half found at is_half d label it =
-    let P : ℕ → Type 0 = λ w. InTurn all turn w label in
-    let I : ℕ → Type 0 = λ h. InHalf h label in
-    let here : InTurn all turn which label = record { found = found; at = at; half = subst I is_half it.1 } in
-    (it.0, subst P (sym it.0) here)
-
-of_turn : (all : List (Option Found)) (turn which half : ℕ) (found : Found) → slice_get all which ≡ Some (Some found) → half ≡ (found.other_half % 2 + turn) % 2
-    → (d label : ℕ) → on_disk which (InTurn all turn) d label → in_half_of which half d label
-of_turn all turn which half found at is_half d label it =
-    let P : ℕ → Type 0 = λ w. slice_get all w ≡ Some (Some it.1.found) in
-    let same : it.1.found ≡ found = same_found it.1.found found (sym (subst P it.0 it.1.at) ∙ at) in
-    let Q : Found → Type 0 = λ f. InHalf ((f.other_half % 2 + turn) % 2) label in
-    let I : ℕ → Type 0 = λ h. InHalf h label in
-    (it.0, subst I (sym is_half) (subst Q same it.1.half))
 
 -- ---- blocks
 

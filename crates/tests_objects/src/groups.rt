@@ -9,19 +9,19 @@ use std::test::Fail;
 use txg_pipeline::Pipeline;
 
 /// Four blocks.
-const SIZE: u64 = 2048;
+pub(crate) const SIZE: u64 = 2048;
 
 /// A range that begins and ends amid blocks.
-const FROM: u64 = 256;
+pub(crate) const FROM: u64 = 256;
 
-const LEN: u64 = 1536;
+pub(crate) const LEN: u64 = 1536;
 
 fn letter(alloc: Global, letter: u8) -> Result<Name, Fail> {
     Ok(Name::new(vec![in alloc; letter; 1]?))
 }
 
 /// Makes the volume of this letter and size.
-fn creation(alloc: Global, number: u64, name: u8, size: u64) -> Result<Item, Fail> {
+pub(crate) fn creation(alloc: Global, number: u64, name: u8, size: u64) -> Result<Item, Fail> {
     Ok(Item::Action(Action {
         writer: 1,
         number,
@@ -62,7 +62,7 @@ pub(crate) fn next_root(
     Ok(next_group(root, store, alloc, item)?.root)
 }
 
-/// And the blocks that it replaced.
+/// And the blocks that it replaced, and its directory.
 pub(crate) fn next_group(
     root: &Block,
     store: &mut Store,
@@ -94,7 +94,7 @@ fn bytes_from(
 }
 
 /// Whether these are the bytes from `FROM` on: those after the write, whose bytes stand at 244 among them, or all zeros.
-fn is_after(bytes: &[u8], written: bool) -> bool {
+pub(crate) fn is_after(bytes: &[u8], written: bool) -> bool {
     let mut right = bytes.len() as u64 == LEN;
     for (i, byte) in bytes.iter().enumerate() {
         let seven = written && i >= 244 && i < 844;
@@ -103,7 +103,7 @@ fn is_after(bytes: &[u8], written: bool) -> bool {
     right
 }
 
-fn is_bad(read: Result<Vec<u8>, Refusal>) -> bool {
+pub(crate) fn is_bad(read: Result<Vec<u8>, Refusal>) -> bool {
     matches!(read, Err(Refusal::BadPointer))
 }
 

@@ -7,6 +7,8 @@ mod dead_lists;
 #[cfg(test)]
 mod groups;
 #[cfg(test)]
+mod kept;
+#[cfg(test)]
 mod losses;
 #[cfg(test)]
 mod maps;

@@ -6,9 +6,11 @@ ghost use Rattle.meta_objset.specs.Record.{FitsRecord};
 use crate::meta::{block_of_set, name_of, record_of, with};
 use crate::stores::{Store, new_store, store_plan};
 use block_pointer::{Block, BlockPtr};
-use dataset_snapshots::{Dataset, find, first_group};
+use block_store::BlockStore;
+use dataset_snapshots::{Dataset, FirstRoot, find, first_group};
 use dnode::{ObjectNode, ObjectSet, ObjectSetKind};
 use meta_objset::{DatasetRecord, Directory, is_name, record_creation};
+use model_disk::Disk;
 use objset::plan_set;
 use pool_model::Name;
 use std::alloc::Global;
@@ -106,13 +108,22 @@ pub(crate) fn first_root(
     alloc: Global,
     pipeline: &Pipeline,
 ) -> Result<Block, Fail> {
+    Ok(first_with(store, alloc, pipeline)?.root)
+}
+
+/// And its directory.
+pub(crate) fn first_with<D: Disk + Drop>(
+    store: &mut BlockStore<D>,
+    alloc: Global,
+    pipeline: &Pipeline,
+) -> Result<FirstRoot, Fail> {
     let config = Config {
         vdevs: Vec::new(alloc),
     };
     store.drop_plan(1);
-    let root = first_group(store, alloc, &config, 1, pipeline.open_items())?;
+    let first = first_group(store, alloc, &config, 1, pipeline.open_items())?;
     store_plan(store);
-    Ok(root)
+    Ok(first)
 }
 
 /// That of a pool with no volumes.

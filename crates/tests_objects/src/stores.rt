@@ -17,8 +17,15 @@ fn three_disks() -> Result<VdevConfig, Fail> {
 }
 
 pub(crate) fn new_store(alloc: Global) -> Result<Store, Fail> {
+    store_of(alloc, MemDisk::several(alloc, 3, DISK_BYTES)?)
+}
+
+/// A store of one vdev over three disks.
+pub(crate) fn store_of<D: Disk + Drop>(
+    alloc: Global,
+    disks: Vec<D>,
+) -> Result<BlockStore<D>, Fail> {
     let vdev = three_disks()?;
-    let disks = MemDisk::several(alloc, 3, DISK_BYTES)?;
     Ok(BlockStore::new(alloc, disks, &[vdev])?)
 }
 
