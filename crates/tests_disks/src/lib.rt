@@ -17,4 +17,6 @@ mod layouts;
 #[cfg(test)]
 mod parities;
 #[cfg(test)]
+mod released_blocks;
+#[cfg(test)]
 mod stored_blocks;

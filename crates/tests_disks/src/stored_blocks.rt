@@ -8,12 +8,12 @@ use raidz_map::Geometry;
 use std::alloc::{AllocError, Global};
 use std::test::Fail;
 
-type TestDisk = FaultDisk<MemDisk>;
+pub(crate) type TestDisk = FaultDisk<MemDisk>;
 
-type TestStore = BlockStore<TestDisk>;
+pub(crate) type TestStore = BlockStore<TestDisk>;
 
 /// The smallest disk.
-const SMALL_DISK: usize = 0x800000;
+pub(crate) const SMALL_DISK: usize = 0x800000;
 
 /// The transaction group of all blocks.
 const BIRTH: u64 = 7;
@@ -22,7 +22,7 @@ const BIRTH: u64 = 7;
 const LARGE: u32 = 256;
 
 /// Fails at no call.
-const NEVER: Fault = Fault::At(u64::MAX);
+pub(crate) const NEVER: Fault = Fault::At(u64::MAX);
 
 /// What a test does with its store. Blocks are named by their number in the order of their plans.
 #[derive(Clone, Copy)]
@@ -85,7 +85,7 @@ struct Known {
 }
 
 /// So many bytes that the seed tells.
-fn pattern(alloc: Global, seed: u8, sectors: u32) -> Result<Vec<u8>, AllocError>
+pub(crate) fn pattern(alloc: Global, seed: u8, sectors: u32) -> Result<Vec<u8>, AllocError>
     requires { sectors ≤ 256 }
     ensures { IfOk result (λ block. length block.items ≡ sectors * 512) }
 {
@@ -96,7 +96,7 @@ fn pattern(alloc: Global, seed: u8, sectors: u32) -> Result<Vec<u8>, AllocError>
     Ok(block)
 }
 
-fn property(sectors: u32) -> Property
+pub(crate) fn property(sectors: u32) -> Property
     ensures level { result.level ≡ 0 }
     ensures object_type { result.object_type ≡ 19 }
     ensures sectors { result.sectors ≡ sectors }
@@ -161,7 +161,7 @@ fn write_next(store: &mut TestStore) -> usize {
 }
 
 /// Makes the writes that are due, and says how many failed.
-fn write_due(store: &mut TestStore) -> usize {
+pub(crate) fn write_due(store: &mut TestStore) -> usize {
     let mut failed = 0usize;
     for _ in 0..store.due_count() {
         failed = failed.saturating_add(write_next(store));
@@ -326,7 +326,7 @@ fn first_wrong(
     None
 }
 
-fn vdev(children: u32, parity: u32, metaslab_shift: u32) -> Result<VdevConfig, Fail> {
+pub(crate) fn vdev(children: u32, parity: u32, metaslab_shift: u32) -> Result<VdevConfig, Fail> {
     Ok(VdevConfig {
         geometry: Geometry::new(children, parity, 9)?,
         metaslab_shift,
@@ -334,7 +334,7 @@ fn vdev(children: u32, parity: u32, metaslab_shift: u32) -> Result<VdevConfig, F
 }
 
 /// Disks of these sizes, the second with this fault.
-fn disks(alloc: Global, sizes: &[usize], fault: Fault) -> Result<Vec<TestDisk>, Fail> {
+pub(crate) fn disks(alloc: Global, sizes: &[usize], fault: Fault) -> Result<Vec<TestDisk>, Fail> {
     let mut disks = Vec::new(alloc);
     for (which, size) in sizes.iter().enumerate() {
         let fault = if which == 1 { fault } else { NEVER };

@@ -110,3 +110,40 @@ fn planned(alloc: Global) -> Result<(bool, bool, bool), Refusal> {
 fn plans_are_dropped_and_kept(rt: HostRuntime) {
     assert_eq!(rt; planned(rt.alloc()), Ok((true, false, false)));
 }
+
+/// Whether a run of a metaslab is in use, beside what is planned, where there is such a metaslab and a run.
+fn is_used(group: &MetaslabGroup, metaslab: usize, start: u64, len: u64) -> bool {
+    metaslab < group.count() && len > 0 && group.is_in_use(metaslab, Run { start, len })
+}
+
+/// Whether a run is in use of four metaslabs of 64 sectors, after a plan released the first 2 of the last one and took the 6
+/// behind them, and after that plan is dropped.
+fn in_use(alloc: Global, metaslab: usize, start: u64, len: u64) -> Result<(bool, bool), Refusal> {
+    let mut group = MetaslabGroup::new(alloc, 4, 64)?;
+    take_and_release(&mut group, 3, 2, 4)?;
+    take(&mut group, 3, 6)?;
+    let planned = is_used(&group, metaslab, start, len);
+    group.drop_planned();
+    Ok((planned, is_used(&group, metaslab, start, len)))
+}
+
+/// A metaslab, the first sector of a run of it, how many it has, and whether all of them are in use beside the plan.
+const USES: [(usize, u64, u64, bool, &str); 8] = [
+    (3, 2, 6, true, "all that is in use"),
+    (3, 4, 1, true, "a part of it"),
+    (2, 2, 6, false, "another metaslab"),
+    (3, 0, 2, false, "released"),
+    (3, 1, 7, false, "partly released"),
+    (3, 2, 7, false, "partly free"),
+    (3, 63, 2, false, "past the end"),
+    (3, u64::MAX, 1, false, "far past the end"),
+];
+
+#[test]
+fn runs_are_in_use(rt: HostRuntime) -> Result<(), Fail> {
+    for (metaslab, start, len, expected, why) in USES {
+        let found = in_use(rt.alloc(), metaslab, start, len)?;
+        assert_eq!(rt; found, (expected, false), "{why}");
+    }
+    Ok(())
+}

@@ -100,3 +100,35 @@ fn worn(alloc: Global) -> Result<(bool, bool, bool), Refusal> {
 fn nothing_is_lost_over_many_groups(rt: HostRuntime) {
     assert_eq!(rt; worn(rt.alloc()), Ok((true, false, true)));
 }
+
+/// Whether a run is in use of a metaslab of 16 sectors, of which 2 were released and the 6 behind them are in use.
+fn is_in_use(alloc: Global, start: u64, len: u64) -> Result<bool, Refusal> {
+    let mut metaslab = Metaslab::new(alloc, FreeSet::new(alloc, 16)?);
+    let released = metaslab.allocate(2)?;
+    metaslab.release(released, 4)?;
+    metaslab.allocate(6)?;
+    Ok(len > 0 && metaslab.is_in_use(Run { start, len }))
+}
+
+/// The first sector of a run, how many it has, and whether all of them are in use.
+const USES: [(u64, u64, bool, &str); 10] = [
+    (2, 6, true, "all that is in use"),
+    (3, 4, true, "a part of it"),
+    (7, 1, true, "its last sector"),
+    (0, 2, false, "released"),
+    (1, 7, false, "partly released"),
+    (2, 7, false, "partly free"),
+    (8, 8, false, "free"),
+    (15, 2, false, "past the end"),
+    (2, 17, false, "longer than the metaslab"),
+    (u64::MAX, 1, false, "far past the end"),
+];
+
+#[test]
+fn runs_are_in_use(rt: HostRuntime) -> Result<(), Fail> {
+    for (start, len, expected, why) in USES {
+        let found = is_in_use(rt.alloc(), start, len)?;
+        assert_eq!(rt; found, expected, "{why}");
+    }
+    Ok(())
+}
