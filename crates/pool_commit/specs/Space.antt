@@ -24,8 +24,8 @@ AreHeld spaces marks last reach =
 abbrev pub AreInUse : List VdevSpace → Marks → List Block → Type 0
 AreInUse spaces marks blocks = (block : Block) → Contains blocks block → CopiesLieOn (Passes is_in_use) spaces marks block
 
--- Blocks were given back with that group, or as many of them as memory allowed: what is planned stays so, where they are stored, and no
--- sector changes but theirs.
+-- Blocks were given back with that group, or the first of them: where they are stored, what is planned stays so, and what held of the
+-- sectors of any other block that is planned holds still.
 pub record GivesBack (old new : Store) (blocks : List Block) (group : ℕ) : Type 0 where
   pub disks : new.disks ≡ old.disks
   pub out : new.out ≡ old.out

@@ -206,8 +206,9 @@ fn lacks_memory(given: &Result<(), block_store::Refusal>) -> bool
 
 impl<D: Disk + Drop> Commit<D> {
     /// Plans the group after the committed one, which accepted these items. What earlier groups released and is due to it may be
-    /// handed out again; what it replaces is released with it. It reads what it must of the committed volumes, and names the writes of the new blocks, none of them in place of a block that is kept. `BadConfig` where a
-    /// volume can't be made as it is asked; a pool accepts no such change.
+    /// handed out again; what it replaces is released with it. It reads what it must of the committed volumes, and then names
+    /// the writes of the new blocks, none of them in place of a block that is kept. `BadConfig` where a volume can't be made as
+    /// it is asked; a pool accepts no such change.
     pub fn plan(&mut self, alloc: Global, items: &Pending) -> Result<(), Refusal>
         requires unplanned { HasNoPlan (state_of self.old) }
         ensures reads { OnlyReads (disks_in self.old) (disks_in self.new) }
