@@ -22,6 +22,7 @@ use Rattle.block_store.specs.Places.{shapes_of, IsTaken, IsPlaceIn, IsCopy, IsEx
 use Rattle.block_store.specs.Places.{filled as filled_marks, planned as planned_marks}
 use Rattle.block_store.specs.Plans.{Plans, KeepsPlans, IsOnTheWay, IsDueFor, AreWritesAt}
 use Rattle.block_store.specs.Store.{Store, Spans, Keeps, IsStore, outs, outs_from, ArePlaced}
+use Rattle.block_store.proofs.Accounting.{chosen_uses, used_after, has_too, has_sector, on_place_too}
 use Rattle.block_store.proofs.Lost.{lose_same}
 use Rattle.block_store.proofs.Planning.{IsSameBut, keeps_by, marks_by_map, some_or_none}
 use Rattle.block_store.proofs.ReadingPlaces.{place_fits}
@@ -45,6 +46,7 @@ pub record IsNewBlock (old new : Store) (block : Block) (bytes : List ℕ) (plac
   pub disks : new.disks ≡ old.disks
   pub out : new.out ≡ old.out
   pub spans : new.spans ≡ old.spans
+  pub stray : new.stray ≡ old.stray
   pub born : old.spans.group ≤ block.birth
   pub due : new.due ≡ old.due ++ writes
   pub chosen : AreChosen old.spaces [] block.property.sectors places new.spaces
@@ -237,6 +239,27 @@ added old new block bytes places writes stored planned is plans =
               lies_chosen IsInUse old.spaces [] block.property.sectors places new.spaces is.chosen refl other.property.sectors place
               (plans.in_use other known was unknown i place at)
         ];
+        accounted = λ none at used. elim (chosen_uses IsInUse old.spaces [] block.property.sectors places new.spaces is.chosen at used) [
+          | inl before ↦ elim (plans.accounted (sym is.stray ∙ none) at before) [
+            | inl there ↦ inl (used_after IsInUse old.spaces new.spaces filled_marks filled_marks at taken.grows.shapes
+                (marks_by_map filled_marks old.spaces new.spaces taken.filled_stays) there)
+            | inr of ↦ inr (record {
+              block = of.block;
+              bytes = of.bytes;
+              is_planned = still_known block of.block bytes of.bytes planned fresh of.is_planned;
+              is_new = of.is_new;
+              has = has_too old.spaces new.spaces of.block at taken.grows.shapes of.has;
+            })
+          ]
+          | inr (holds, one) ↦ inr (record {
+            block = block;
+            bytes = bytes;
+            is_planned = now_known block bytes planned;
+            is_new = not_stored (stored block) refl;
+            has = has_sector new.spaces block one.i one.place at (ap (λ xs. slice_get xs one.i) is.copies_at ∙ one.is)
+                (on_place_too old.spaces new.spaces one.place at taken.grows.shapes one.on);
+          })
+        ];
         writes_of = of_copies;
         on_the_way = λ other known i extent found unknown copy. elim (this_or_known block other bytes known planned found) [
           | inl (this, same) ↦
@@ -338,8 +361,8 @@ chosen_shapes spaces sectors places after chosen = (are_taken spaces [] sectors 
 pub took_shapes : (old new : Store) (sectors : ℕ) (places : List Dva) → OnlyTook old new sectors places → shapes_of new.spaces ≡ shapes_of old.spaces
 took_shapes old new sectors places took = (took_same old new sectors places took).shapes
 
-pub took_keeps_plans : (old new : Store) (sectors : ℕ) (places : List Dva) → OnlyTook old new sectors places → KeepsPlans old new
-took_keeps_plans old new sectors places took stored planned plans =
+pub took_keeps_plans : (old new : Store) (sectors : ℕ) (places : List Dva) → OnlyTook old new sectors places → new.stray ≡ true → KeepsPlans old new
+took_keeps_plans old new sectors places took stray stored planned plans =
     let taken : AreTakenToo old.spaces sectors places new.spaces = are_taken old.spaces [] sectors places new.spaces took.chosen in
     record {
       held = took_keeps old new sectors places took stored plans.held;
@@ -348,6 +371,7 @@ took_keeps_plans old new sectors places took stored planned plans =
       born = λ block bytes known fresh. omega (arith, plans.born block bytes known fresh, ap (λ (s : Spans). s.group) took.spans);
       in_use = λ block bytes known fresh i place at.
           lies_chosen IsInUse old.spaces [] sectors places new.spaces took.chosen refl block.property.sectors place (plans.in_use block bytes known fresh i place at);
+      accounted = λ none. absurd (let e : true ≡ false = sym stray ∙ none in cc);
       writes_of = plans.writes_of;
       on_the_way = λ block bytes i extent known fresh copy.
           let way = plans.on_the_way block bytes i extent known fresh (copy_too new.spaces old.spaces block i extent (sym taken.grows.shapes) copy) in

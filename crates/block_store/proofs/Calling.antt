@@ -75,8 +75,9 @@ group_after old new (Err e) disk spans gone = same_group old new disk gone
 pub made : (old new : Store) (write : ColumnWrite) (result : Result (Unit {0}) FailedDisk) → new.disks.starts ≡ old.disks.starts → new.spaces ≡ old.spaces
     → old.due ≡ write ∷ new.due → new.disks.calls ≡ on write.disk (write_call result write.offset write.bytes.value.items) ∷ old.disks.calls
     → OnOk result (new.out ≡ old.out) → IfErr result (λ failed. IsOutToo old.out write.disk new.out)
-    → OnOk result (new.spans ≡ old.spans) → IfErr result (λ failed. GoesOut old write.disk new) → Makes old new write
-made old new write result starts spaces due calls ok err spans gone = record {
+    → OnOk result (new.spans ≡ old.spans) → IfErr result (λ failed. GoesOut old write.disk new) → new.stray ≡ old.stray → Makes old new write
+made old new write result starts spaces due calls ok err spans gone stray = record {
+  stray = stray;
   starts = starts;
   spaces = spaces;
   due = due;
@@ -95,8 +96,9 @@ untouched_by_flush (Err e) i = refl
 pub flushed : (old new : Store) (disk : ℕ) (result : Result (Unit {0}) FailedDisk) → new.disks.starts ≡ old.disks.starts → new.spaces ≡ old.spaces
     → new.due ≡ old.due → new.disks.calls ≡ on disk (flush_call result) ∷ old.disks.calls
     → OnOk result (new.out ≡ old.out) → IfErr result (λ failed. IsOutToo old.out disk new.out)
-    → OnOk result (new.spans ≡ old.spans) → IfErr result (λ failed. GoesOut old disk new) → IsKept old new
-flushed old new disk result starts spaces due calls ok err spans gone = record {
+    → OnOk result (new.spans ≡ old.spans) → IfErr result (λ failed. GoesOut old disk new) → new.stray ≡ old.stray → IsKept old new
+flushed old new disk result starts spaces due calls ok err spans gone stray = record {
+  stray = stray;
   spaces = spaces;
   due = due;
   contents = λ other i for. other_bytes_stay old.disks new.disks disk (flush_call result) starts calls other i (inr (untouched_by_flush result i));

@@ -21,11 +21,12 @@ entered old new group disks out spaces spans stored holds = keeps_by old new (re
 }) stored holds
 
 pub entered_plans : (old new : Store) (group : ℕ) → new.disks ≡ old.disks → new.out ≡ old.out → new.spaces ≡ old.spaces → new.due ≡ old.due
-    → new.spans ≡ in_group old.spans group → new.spans.group ≤ old.spans.group → KeepsPlans old new
-entered_plans old new group disks out spaces due spans le =
+    → new.stray ≡ old.stray → new.spans ≡ in_group old.spans group → new.spans.group ≤ old.spans.group → KeepsPlans old new
+entered_plans old new group disks out spaces due stray spans le =
     let kept : IsKept old new = record {
       spaces = spaces;
       due = due;
+      stray = stray;
       contents = λ disk i for. ap (λ (d : Disks). content d disk i) disks;
       more_out = λ disk held. subst (λ flags. Contains (outs_from 0 flags) disk) (sym out) held;
       more_lost = lose_in old new group out spans;

@@ -51,6 +51,16 @@ fewer_planned store stored planned fewer left forgets plans = record {
       plans.born block bytes (forgets.of_planned block bytes known) (left_is_new store stored planned fewer left forgets plans.kept block bytes known fresh);
   in_use = λ block bytes known fresh.
       plans.in_use block bytes (forgets.of_planned block bytes known) (left_is_new store stored planned fewer left forgets plans.kept block bytes known fresh);
+  accounted = λ none at used. elim (plans.accounted none at used) [
+    | inl there ↦ inl there
+    | inr of ↦ inr (record {
+      block = of.block;
+      bytes = of.bytes;
+      is_planned = forgets.of_new of.block of.bytes of.is_planned of.is_new;
+      is_new = not_fewer stored fewer forgets.of_stored of.block of.is_new;
+      has = of.has;
+    })
+  ];
   writes_of = plans.writes_of;
   on_the_way = λ block bytes i extent known fresh copy.
       plans.on_the_way block bytes i extent (forgets.of_planned block bytes known) (left_is_new store stored planned fewer left forgets plans.kept block bytes known fresh) copy;
@@ -61,10 +71,7 @@ fewer_planned store stored planned fewer left forgets plans = record {
         bytes = was.bytes;
         i = was.i;
         extent = was.extent;
-        is_planned = elim (forgets.none_due was.block was.bytes was.is_planned was.is_new) [
-          | inl there ↦ there
-          | inr none ↦ absurd (nothing write (subst (λ (writes : List ColumnWrite). Contains writes write) none held))
-        ];
+        is_planned = forgets.of_new was.block was.bytes was.is_planned was.is_new;
         is_new = not_fewer stored fewer forgets.of_stored was.block was.is_new;
         is_copy = was.is_copy;
         is_of_copy = was.is_of_copy;

@@ -19,13 +19,14 @@ use Rattle.block_store.specs.declared.refusal.Refusal.{Refusal}
 use Rattle.block_store.specs.declared.refusal.Refusal.TheVariants.{NoMemory, BadPointer}
 use Rattle.block_store.specs.Blocks.{Contents, AreStored, AreDistinct}
 use Rattle.block_store.specs.Spaces.{VdevSpace}
-use Rattle.block_store.specs.Places.{Marks, shapes_of, run_at, EachSector, IsNotFree, IsTaken, ArePlacesApart}
+use Rattle.block_store.specs.Places.{Marks, shapes_of, HaveMarks, run_at, EachSector, IsNotFree, IsTaken, ArePlacesApart}
 use Rattle.block_store.specs.Places.{filled as filled_marks, planned as planned_marks}
 use Rattle.block_store.specs.Plans.{Plans, IsOnTheWay}
 use Rattle.block_store.specs.Releases.{CopyAt, copies_at, copies_of, copies_of_all, IsReleased, AreReleased, AreReleasedInPart, IsNotReleasable, AreAllInUse}
 use Rattle.block_store.specs.Shapes.{metaslab_of, IsPlace}
 use Rattle.block_store.specs.Store.{Store, Spans, outs, outs_from, ArePlaced}
 use Rattle.block_store.specs.Uses.{LiesOn, CopiesLieOn, Passes, IsInUse}
+use Rattle.block_store.proofs.Accounting.{in_use_before, used_after, has_too}
 use Rattle.block_store.proofs.Planning.{IsSameBut, same_but, keeps_by, marks_by_map, some_or_none, no_contents}
 use Rattle.block_store.proofs.Taking.{map-set_same, copy_too}
 use Rattle.block_store.proofs.Uses.{lies_released}
@@ -97,6 +98,7 @@ pub record OnlyReleased (old new : Store) (copies : List CopyAt) (group : ℕ) :
   pub out : new.out ≡ old.out
   pub spans : new.spans ≡ old.spans
   pub due : new.due ≡ old.due
+  pub stray : new.stray ≡ old.stray
   pub released : AreReleased old.spaces copies group new.spaces
 
 pub released_same : (old new : Store) (copies : List CopyAt) (group : ℕ) → OnlyReleased old new copies group → IsSameBut old new filled_marks filled_marks
@@ -138,6 +140,19 @@ released_plans old new blocks copies group stored planned is of stored_are plans
           (λ copy held. inr (spared old.spaces stored planned blocks copy block bytes i place plans.placed plans.kept (of copy held) known
           (λ among. let there = stored_are block among in no_contents there.0 (stored block) there.1 fresh) at))
           (plans.in_use block bytes known fresh i place at);
+      accounted = λ none at used.
+          let fills : HaveMarks old.spaces filled_marks new.spaces filled_marks =
+          marks_by_map filled_marks old.spaces new.spaces (released_fills old.spaces copies group new.spaces is.released) in
+          elim (plans.accounted (sym is.stray ∙ none) at (in_use_before old.spaces copies group new.spaces is.released at used)) [
+            | inl there ↦ inl (used_after IsInUse old.spaces new.spaces filled_marks filled_marks at shapes fills there)
+            | inr of ↦ inr (record {
+              block = of.block;
+              bytes = of.bytes;
+              is_planned = of.is_planned;
+              is_new = of.is_new;
+              has = has_too old.spaces new.spaces of.block at shapes of.has;
+            })
+          ];
       writes_of = plans.writes_of;
       on_the_way = λ block bytes i extent known fresh copy.
           let way = plans.on_the_way block bytes i extent known fresh (copy_too new.spaces old.spaces block i extent (sym shapes) copy) in
@@ -333,12 +348,14 @@ all_in_part spaces after copies group (Ok unit) ok err = record { done = copies;
 all_in_part spaces after copies group (Err e) ok err = err
 
 only_released : (old new : Store) (copies : List CopyAt) (group : ℕ) → new.disks ≡ old.disks → new.out ≡ old.out → new.spans ≡ old.spans → new.due ≡ old.due
+    → new.stray ≡ old.stray
     → (part : AreReleasedInPart old.spaces copies group new.spaces) → OnlyReleased old new part.done group
-only_released old new copies group disks out spans due part = record { disks = disks; out = out; spans = spans; due = due; released = part.released }
+only_released old new copies group disks out spans due stray part = record { disks = disks; out = out; spans = spans; due = due; stray = stray; released = part.released }
 
 pub part_same : (old new : Store) (copies : List CopyAt) (group : ℕ) → new.disks ≡ old.disks → new.out ≡ old.out → new.spans ≡ old.spans → new.due ≡ old.due
+    → new.stray ≡ old.stray
     → AreReleasedInPart old.spaces copies group new.spaces → IsSameBut old new filled_marks filled_marks
-part_same old new copies group disks out spans due part = released_same old new part.done group (only_released old new copies group disks out spans due part)
+part_same old new copies group disks out spans due stray part = released_same old new part.done group (only_released old new copies group disks out spans due stray part)
 
 -- a copy that was given back is one of them
 was_one : (spaces after : List VdevSpace) (copies : List CopyAt) (group : ℕ) → (part : AreReleasedInPart spaces copies group after) → (copy : CopyAt)
@@ -346,10 +363,11 @@ was_one : (spaces after : List VdevSpace) (copies : List CopyAt) (group : ℕ) �
 was_one spaces after copies group part copy held = subst (λ them. Contains them copy) (sym part.are) (Contains-append_left part.done part.left copy held)
 
 pub part_plans : (old new : Store) (blocks : List Block) (group : ℕ) → new.disks ≡ old.disks → new.out ≡ old.out → new.spans ≡ old.spans → new.due ≡ old.due
+    → new.stray ≡ old.stray
     → AreReleasedInPart old.spaces (copies_of_all blocks) group new.spaces → (stored planned : Contents) → Plans old stored planned → AreStored stored blocks
     → Plans new stored planned
-part_plans old new blocks group disks out spans due part stored planned plans are =
-    released_plans old new blocks part.done group stored planned (only_released old new (copies_of_all blocks) group disks out spans due part)
+part_plans old new blocks group disks out spans due stray part stored planned plans are =
+    released_plans old new blocks part.done group stored planned (only_released old new (copies_of_all blocks) group disks out spans due stray part)
     (λ copy held. of_blocks stored blocks are copy (was_one old.spaces new.spaces (copies_of_all blocks) group part copy held)) are plans
 
 pub part_stays : (test : State → Bool) (spaces after : List VdevSpace) (copies : List CopyAt) (group : ℕ) (block : Block)

@@ -21,6 +21,7 @@ use Rattle.block_store.proofs.Writing.{found_at}
 pub record IsKept (old new : Store) : Type 0 where
   pub spaces : new.spaces ≡ old.spaces
   pub due : new.due ≡ old.due
+  pub stray : new.stray ≡ old.stray
   pub contents : (disk i : ℕ) → IsForBlocks old.spaces disk i → content new.disks disk i ≡ content old.disks disk i
   pub more_out : (disk : ℕ) → Contains (outs old) disk → Contains (outs new) disk
   pub more_lost : LoseMore old new
@@ -83,6 +84,7 @@ keeps_plans kept more old new is stored planned plans = record {
   placed = rw is.spaces plans.placed;
   born = λ block bytes known fresh. omega (arith, plans.born block bytes known fresh, is.group);
   in_use = λ block bytes known fresh. rw is.spaces (plans.in_use block bytes known fresh);
+  accounted = λ none. rw is.spaces (plans.accounted (sym is.stray ∙ none));
   writes_of = plans.writes_of;
   on_the_way = λ block bytes i extent known fresh copy.
       let copy_was : IsCopy old.spaces block i extent = rw (sym is.spaces) copy in

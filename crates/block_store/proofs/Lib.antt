@@ -1,3 +1,4 @@
+pub mod Accounting
 pub mod Adding
 pub mod Calling
 pub mod Choosing

@@ -4,6 +4,7 @@ use Rattle.std.proofs.lemmas.Bool.{cases_lt}
 use Rattle.std.proofs.lemmas.List.{drop_all, append-nil}
 use Rattle.std.proofs.lemmas.List.Elements.{All-push}
 use Rattle.std.specs.List.{slice_get, Contains}
+use Rattle.std.proofs.lemmas.Option.{slice_get_within, get_or_from_slice_get}
 use Rattle.std.specs.Prelude.{replicate, slice_index}
 use Rattle.model_disk.specs.Joint.{bytes_of}
 use Rattle.raidz_map.specs.declared.geometry.Geometry.{Geometry}
@@ -15,9 +16,11 @@ use Rattle.block_store.specs.declared.shape.VdevShape.{VdevShape}
 use Rattle.block_store.specs.Spaces.{VdevSpace}
 use Rattle.block_store.specs.Blocks.{nothing_stored}
 use Rattle.block_store.specs.Config.{IsAllowedSize, sectors_of, size_of, AreAllowedSizes, IsLeastOf, IsShapeOf, AreShapes}
-use Rattle.block_store.specs.Places.{shapes_of, IsEmpty, AreEmpty}
+use Rattle.block_store.specs.Places.{shapes_of, IsEmpty, AreEmpty, HaveMarks}
+use Rattle.block_store.specs.Places.{filled as filled_marks, planned as planned_marks}
 use Rattle.block_store.specs.Plans.{Plans}
 use Rattle.block_store.specs.Store.{Store, IsStore, Holds}
+use Rattle.block_store.proofs.Accounting.{none_new}
 
 -- the disks from the first on and before the end are of allowed sizes, and so many sectors are the fewest of one of them
 pub record AreMeasured (starts : List (List ℕ)) (first end sectors : ℕ) : Type 0 where
@@ -220,13 +223,20 @@ holds_nothing store = record {
   stand = λ block bytes i extent is copy. absurd (cc);
 }
 
-pub plans_nothing : (store : Store) → store.due ≡ [] → Plans store nothing_stored nothing_stored
-plans_nothing store due = record {
+-- what an empty vdev has without a plan it has with it
+same_marks : (spaces : List VdevSpace) → AreEmpty spaces → HaveMarks spaces filled_marks spaces planned_marks
+same_marks spaces empty v space later found found' =
+    let same : later ≡ space = same_some later space (sym found' ∙ found) in
+    ap planned_marks same ∙ (subst IsEmpty (get_or_from_slice_get spaces v space space found) (empty v space (slice_get_within spaces v space found))).none_planned
+
+pub plans_nothing : (store : Store) → store.due ≡ [] → AreEmpty store.spaces → Plans store nothing_stored nothing_stored
+plans_nothing store due empty = record {
   held = holds_nothing store;
   kept = λ block bytes is. is;
   placed = record { blocks = λ block bytes is. absurd (cc); places = λ block bytes i place is copy. absurd (cc); apart = λ block other bytes others i k place behind is is'. absurd (cc) };
   born = λ block bytes is new. absurd (cc);
   in_use = λ block bytes is new. absurd (cc);
+  accounted = λ none. none_new store.spaces nothing_stored nothing_stored (same_marks store.spaces empty);
   writes_of = λ block i. [];
   on_the_way = λ block bytes i extent is new copy. absurd (cc);
   due = λ write among. let P : List ColumnWrite → Type 0 = λ xs. Contains xs write in absurd (omega (arith, (subst P due among).1));

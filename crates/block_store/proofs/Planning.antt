@@ -18,7 +18,8 @@ use Rattle.block_store.specs.Plans.{Plans, IsOnTheWay}
 use Rattle.block_store.specs.Store.{Store, outs, lost, ArePlaced, Holds}
 use Rattle.raidz_io.proofs.Kept.{more_absent}
 use Rattle.block_store.proofs.Lost.{LoseMore, lose_same, is_lost}
-use Rattle.block_store.proofs.Taking.{Grows, MoreTaken, placed_too, copy_too, slice_get-set_same, slice_get-set_other}
+use Rattle.block_store.proofs.Accounting.{none_new}
+use Rattle.block_store.proofs.Taking.{Grows, MoreTaken, placed_too, copy_too, found_too, slice_get-set_same, slice_get-set_other}
 
 pub marks_by_map : (marks : Marks) (spaces after : List VdevSpace) → map marks after ≡ map marks spaces → HaveMarks spaces marks after marks
 marks_by_map marks [] after same v space new found found' = absurd (cc)
@@ -115,6 +116,9 @@ begun old new same planned none stored holds = record {
   placed = placed_too old.spaces new.spaces filled_marks planned_marks stored (grows_by old.spaces new.spaces filled_marks planned_marks same.shapes planned) holds.placed;
   born = λ block bytes known fresh. absurd (no_contents bytes (stored block) known fresh);
   in_use = λ block bytes known fresh. absurd (no_contents bytes (stored block) known fresh);
+  accounted = λ none. none_new new.spaces stored stored (λ v space later found found'.
+      let there = found_too new.spaces old.spaces v space (sym same.shapes) found in
+      planned v there.0 later there.1 found' ∙ sym (same.are v there.0 space there.1 found));
   writes_of = λ block i. [];
   on_the_way = λ block bytes i extent known fresh copy. absurd (no_contents bytes (stored block) known fresh);
   due = λ write held. absurd (nothing write (subst (λ xs. Contains xs write) none held));

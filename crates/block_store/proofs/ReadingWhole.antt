@@ -59,6 +59,7 @@ pub is_kept : Laws → (old new : Store) (missing : List ℕ) (block : Block) (r
 is_kept laws old new missing block result is = record {
   spaces = ap (λ (s : Store). s.spaces) is.rest;
   due = ap (λ (s : Store). s.due) is.rest;
+  stray = ap (λ (s : Store). s.stray) is.rest;
   contents = λ disk i for. laws.reads_keep old.disks new.disks (reads old new missing block result is) disk i;
   more_out = λ disk held.
       let out : new.out ≡ old.out = ap (λ (s : Store). s.out) is.rest in

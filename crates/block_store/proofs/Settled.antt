@@ -21,6 +21,7 @@ use Rattle.block_store.specs.Plans.{Plans}
 use Rattle.block_store.specs.Releases.{AreSettledIn, AreSettledInSome, AreSpared}
 use Rattle.block_store.specs.Store.{Store, Holds, ArePlaced}
 use Rattle.block_store.specs.Uses.{LiesOn, CopiesLieOn, Passes, IsSpared, SettlesTo}
+use Rattle.block_store.proofs.Accounting.{none_new}
 use Rattle.block_store.proofs.GivenBack.{taken_of}
 use Rattle.block_store.proofs.Lost.{LoseMore}
 use Rattle.block_store.proofs.Planning.{held_by, grows_by, no_contents, nothing}
@@ -170,6 +171,7 @@ begun_settled group old new disks more_lost shapes some free none stored holds s
       placed = placed_too new.spaces new.spaces filled_marks planned_marks stored (grows_by new.spaces new.spaces filled_marks planned_marks refl free) placed;
       born = λ block bytes known fresh. absurd (no_contents bytes (stored block) known fresh);
       in_use = λ block bytes known fresh. absurd (no_contents bytes (stored block) known fresh);
+      accounted = λ strays. none_new new.spaces stored stored free;
       writes_of = λ block i. [];
       on_the_way = λ block bytes i extent known fresh copy. absurd (no_contents bytes (stored block) known fresh);
       due = λ write held. absurd (nothing write (subst (λ xs. Contains xs write) none held));

@@ -24,6 +24,7 @@ pub record Makes (old new : Store) (write : ColumnWrite) : Type 0 where
   pub starts : new.disks.starts ≡ old.disks.starts
   pub spaces : new.spaces ≡ old.spaces
   pub due : old.due ≡ write ∷ new.due
+  pub stray : new.stray ≡ old.stray
   pub others : ChangesOnlyWritten (content old.disks) (content new.disks) write
   pub done : ¬ Contains (outs new) write.disk → IsDone (content new.disks) write
   pub more_out : (disk : ℕ) → Contains (outs old) disk → Contains (outs new) disk
@@ -130,6 +131,7 @@ write_keeps laws old new write stored planned laid makes plans =
       placed = rw makes.spaces plans.placed;
       born = λ block bytes known fresh. omega (arith, plans.born block bytes known fresh, makes.group);
       in_use = λ block bytes known fresh. rw makes.spaces (plans.in_use block bytes known fresh);
+      accounted = λ none. rw makes.spaces (plans.accounted (sym makes.stray ∙ none));
       writes_of = plans.writes_of;
       on_the_way = λ block bytes i extent known fresh copy.
           still_on_the_way laws old new write stored planned laid makes plans due block bytes i extent known fresh (rw (sym makes.spaces) copy);

@@ -36,6 +36,6 @@ ReadsSpare = (old new : Store) (known : Contents) → OnlyReads old.disks new.di
 -- what changes none of them, such as a write of a label, keeps what the store holds and plans
 abbrev pub WritesElsewhereKeep : Type 0
 WritesElsewhereKeep =
-    (old new : Store) → new.spaces ≡ old.spaces → new.due ≡ old.due → new.out ≡ old.out → new.spans ≡ old.spans
+    (old new : Store) → new.spaces ≡ old.spaces → new.due ≡ old.due → new.out ≡ old.out → new.spans ≡ old.spans → new.stray ≡ old.stray
     → ((disk i : ℕ) → IsForBlocks old.spaces disk i → content new.disks disk i ≡ content old.disks disk i)
     → Keeps old new × KeepsPlans old new

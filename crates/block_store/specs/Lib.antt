@@ -1,3 +1,4 @@
+pub mod Accounts
 pub mod Blocks
 pub mod Config
 pub mod Demands

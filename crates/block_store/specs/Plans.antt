@@ -6,6 +6,7 @@ use Rattle.block_pointer.specs.declared.dva.Dva.{Dva}
 use Rattle.raidz_io.specs.declared.vdev.Extent.{Extent}
 use Rattle.raidz_io.specs.declared.writes.ColumnWrite.{ColumnWrite}
 use Rattle.raidz_io.specs.Stands.{WouldStore, AreColumnWrites, IsDone}
+use Rattle.block_store.specs.Accounts.{AreAccounted}
 use Rattle.block_store.specs.Blocks.{Contents, Extends, Adds}
 use Rattle.block_store.specs.Places.{IsCopy, IsExtentAt}
 use Rattle.block_store.specs.Places.{planned as planned_marks}
@@ -50,6 +51,8 @@ pub record Plans (store : Store) (stored planned : Contents) : Type 0 where
   pub born : (block : Block) (bytes : List ℕ) → planned block ≡ Some bytes → stored block ≡ None → store.spans.group ≤ block.birth
   -- each sector of what is new is in use
   pub in_use : (block : Block) (bytes : List ℕ) → planned block ≡ Some bytes → stored block ≡ None → CopiesLieOn IsInUse store.spaces planned_marks block
+  -- each sector that the plan takes into use is in a block that it adds, unless a block took places and was not planned
+  pub accounted : store.stray ≡ false → AreAccounted store.spaces stored planned
   -- the writes of each copy that is new
   pub writes_of : Block → ℕ → List ColumnWrite
   pub on_the_way : (block : Block) (bytes : List ℕ) (i : ℕ) (extent : Extent) → planned block ≡ Some bytes → stored block ≡ None

@@ -23,6 +23,7 @@ pub record Store : Type 0 where
   pub out : List Bool  -- for each disk, whether it is out
   pub spans : Spans
   pub due : List ColumnWrite  -- the writes of the plan that are to be made, in order
+  pub stray : Bool  -- whether a block may have taken places and then not have been planned
 
 -- whether that disk is out
 abbrev pub is_out : List Bool → ℕ → Bool

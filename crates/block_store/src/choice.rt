@@ -117,6 +117,7 @@ impl<D: Disk + Drop> BlockStore<D> {
         ensures disks { self.new.disks ≡ self.old.disks }
         ensures out { self.new.out ≡ self.old.out }
         ensures spans { self.new.spans ≡ self.old.spans }
+        ensures stray { self.new.stray ≡ self.old.stray }
         ensures due { self.new.due ≡ self.old.due }
         ensures taken { IfOk result (λ place.
             IsTakenIn self.old.spaces sectors vdev metaslab place self.new.spaces) }
@@ -136,6 +137,7 @@ impl<D: Disk + Drop> BlockStore<D> {
         ensures disks { self.new.disks ≡ self.old.disks }
         ensures out { self.new.out ≡ self.old.out }
         ensures spans { self.new.spans ≡ self.old.spans }
+        ensures stray { self.new.stray ≡ self.old.stray }
         ensures due { self.new.due ≡ self.old.due }
         ensures count { IfOk result (λ places. length places.items ≡ copies) }
         ensures chosen { IfOk result (λ places.

@@ -158,6 +158,7 @@ impl<D: Disk + Drop> BlockStore<D> {
         ensures out { IfOk result (λ store. (disk : ℕ) → is_out store.out disk ≡ false) }
         ensures group { IfOk result (λ store. store.spans.group ≡ 0) }
         ensures due { IfOk result (λ store. store.due ≡ []) }
+        ensures stray { IfOk result (λ store. store.stray ≡ false) }
 
         // It holds no block, and no plan is begun: no sector is in use.
         ensures empty { IfOk result (λ store. AreEmpty store.spaces) }
@@ -180,6 +181,7 @@ impl<D: Disk + Drop> BlockStore<D> {
             since,
             group: 0,
             due: VecDeque::new(alloc),
+            stray: false,
         })
     }
 

@@ -49,6 +49,7 @@ impl<D: Disk + Drop> BlockStore<D> {
             × IfErr result (λ failed. IsOutToo self.old.out write.disk self.new.out) }
         ensures out { OnOk result (self.new.out ≡ self.old.out) }
         ensures spans { OnOk result (self.new.spans ≡ self.old.spans) }
+        ensures stray { self.new.stray ≡ self.old.stray }
         ensures gone { IfErr result (λ failed. GoesOut self.old failed.disk self.new) }
 
         // Each plan goes on. A disk that goes out keeps each column that stood there, but for
@@ -76,6 +77,7 @@ impl<D: Disk + Drop> BlockStore<D> {
         ensures failed { IfErr result (λ failed. failed.disk ≡ disk) }
         ensures out_too { IfErr result (λ failed. IsOutToo self.old.out disk self.new.out) }
         ensures spans { OnOk result (self.new.spans ≡ self.old.spans) }
+        ensures stray { self.new.stray ≡ self.old.stray }
 
         // What it may lack is blocks from the plan's group on: no byte of a disk has changed.
         ensures gone { IfErr result (λ failed. GoesOut self.old disk self.new) }
@@ -100,6 +102,7 @@ impl<D: Disk + Drop> BlockStore<D> {
         ensures failed { IfErr result (λ failed. failed.disk ≡ disk) }
         ensures out_too { IfErr result (λ failed. IsOutToo self.old.out disk self.new.out) }
         ensures spans { OnOk result (self.new.spans ≡ self.old.spans) }
+        ensures stray { self.new.stray ≡ self.old.stray }
         ensures gone { IfErr result (λ failed. GoesOut self.old disk self.new) }
     {
         if answered {

@@ -1,5 +1,5 @@
 //! Plans of blocks that are to be written.
-ghost use Rattle.std.specs.Prelude.{◌≡◌, ◌≤◌, ◌<◌, ◌+◌, ◌*◌, ◌^◌, ◌⊎◌, filter, map, min, nat_lt, if◌then◌else◌, not, length, [], ◌++◌, OnOk, OnErr, IfOk, IfErr};
+ghost use Rattle.std.specs.Prelude.{◌≡◌, false, true, ◌≤◌, ◌<◌, ◌+◌, ◌*◌, ◌^◌, ◌⊎◌, filter, map, min, nat_lt, if◌then◌else◌, not, length, [], ◌++◌, OnOk, OnErr, IfOk, IfErr};
 ghost use Rattle.block_pointer.specs.Block.{FitsBlock};
 ghost use Rattle.block_pointer.specs.Copies.{dvas};
 ghost use Rattle.raidz_io.specs.Places.{CanHold, IsOnDisks};
@@ -100,6 +100,7 @@ impl<D: Disk + Drop> BlockStore<D> {
         ensures spans { self.new.spans ≡ in_group self.old.spans group }
         ensures shapes { shapes_of self.new.spaces ≡ shapes_of self.old.spaces }
         ensures due { self.new.due ≡ [] }
+        ensures stray { self.new.stray ≡ false }
 
         // The places of the plan that is dropped are free again.
         ensures filled { HaveMarks self.old.spaces filled self.new.spaces filled }
@@ -118,6 +119,7 @@ impl<D: Disk + Drop> BlockStore<D> {
         ensures disks { self.new.disks ≡ self.old.disks }
         ensures out { self.new.out ≡ self.old.out }
         ensures spans { self.new.spans ≡ self.old.spans }
+        ensures stray { self.new.stray ≡ false }
         ensures shapes { shapes_of self.new.spaces ≡ shapes_of self.old.spaces }
         ensures due { self.new.due ≡ [] }
         ensures filled { HaveMarks self.old.spaces filled self.new.spaces filled }
@@ -126,6 +128,7 @@ impl<D: Disk + Drop> BlockStore<D> {
             → Holds self.old stored → Plans self.new stored stored }
     {
         self.due.clear();
+        self.stray = false;
         drop_plans(&mut self.spaces);
     }
 
@@ -135,6 +138,7 @@ impl<D: Disk + Drop> BlockStore<D> {
         ensures out { self.new.out ≡ self.old.out }
         ensures spaces { self.new.spaces ≡ self.old.spaces }
         ensures due { self.new.due ≡ self.old.due }
+        ensures stray { self.new.stray ≡ self.old.stray }
         ensures spans { self.new.spans ≡ in_group self.old.spans group }
         ensures keeps { Keeps self.old self.new }
     {
@@ -148,6 +152,7 @@ impl<D: Disk + Drop> BlockStore<D> {
         ensures out { self.new.out ≡ self.old.out }
         ensures spaces { self.new.spaces ≡ self.old.spaces }
         ensures due { self.new.due ≡ self.old.due }
+        ensures stray { self.new.stray ≡ self.old.stray }
         ensures spans { self.new.spans ≡ reaching self.old.spans birth }
         ensures born { self.new.spans.group ≤ birth }
         ensures keeps { Keeps self.old self.new }
@@ -163,6 +168,7 @@ impl<D: Disk + Drop> BlockStore<D> {
         ensures disks { self.new.disks ≡ self.old.disks }
         ensures out { self.new.out ≡ self.old.out }
         ensures spans { self.new.spans ≡ self.old.spans }
+        ensures stray { self.new.stray ≡ self.old.stray }
         ensures shapes { shapes_of self.new.spaces ≡ shapes_of self.old.spaces }
         ensures due { self.new.due ≡ self.old.due }
         ensures filled { HaveMarks self.old.spaces planned self.new.spaces filled }
@@ -199,15 +205,68 @@ impl<D: Disk + Drop> BlockStore<D> {
         ensures places { IfOk result (λ block.
             AreChosen self.old.spaces [] new.property.sectors (dvas block.copies) self.new.spaces) }
         ensures due { OnOk result (MoreIsDue self.old self.new) }
+        ensures stray { OnOk result (self.new.stray ≡ self.old.stray) }
         ensures refused { IfErr result (λ refusal. (refusal ≡ Refusal.NoMemory)
             ⊎ ((refusal ≡ Refusal.NoSpace)
             × RanOut self.old.spaces new.property.sectors (count_of copies) self.new.spaces)) }
         ensures err_spaces { OnErr result
             (TookSome self.old.spaces new.property.sectors (count_of copies) self.new.spaces) }
         ensures err_due { OnErr result (self.new.due ≡ self.old.due) }
+        ensures err_stray { OnErr result (self.new.stray ≡ true) }
         ensures err { OnErr result (KeepsPlans self.old self.new) }
     {
         self.reach(new.birth);
+        match self.place_block(alloc, bytes, new, copies) {
+            Ok(block) => Ok(block),
+            Err(refusal) => Err(self.note_stray(refusal)),
+        }
+    }
+
+    /// Notes that a block may have taken places and was then not planned, for this cause.
+    fn note_stray(&mut self, refusal: Refusal) -> Refusal
+        ensures result { result ≡ refusal }
+        ensures disks { self.new.disks ≡ self.old.disks }
+        ensures out { self.new.out ≡ self.old.out }
+        ensures spaces { self.new.spaces ≡ self.old.spaces }
+        ensures spans { self.new.spans ≡ self.old.spans }
+        ensures due { self.new.due ≡ self.old.due }
+        ensures stray { self.new.stray ≡ true }
+    {
+        self.stray = true;
+        refusal
+    }
+
+    /// Places a block of the plan's group or a later one, and names the writes that store it. After a refusal some places are
+    /// taken.
+    fn place_block(
+        &mut self,
+        alloc: Global,
+        bytes: &[u8],
+        new: NewBlock,
+        copies: CopyCount,
+    ) -> Result<Block, Refusal>
+        requires fits { FitsNew new }
+        requires size { length bytes.now ≡ new.property.sectors * 512 }
+        requires born { self.old.spans.group ≤ new.birth }
+        ensures disks { self.new.disks ≡ self.old.disks }
+        ensures out { self.new.out ≡ self.old.out }
+        ensures spans { self.new.spans ≡ self.old.spans }
+        ensures stray { self.new.stray ≡ self.old.stray }
+        ensures shapes { shapes_of self.new.spaces ≡ shapes_of self.old.spaces }
+        ensures keeps { Keeps self.old self.new }
+        ensures block { IfOk result (λ block. IsBlockOf new bytes.now (count_of copies) block) }
+        ensures fits { IfOk result FitsBlock }
+        ensures planned { IfOk result (λ block. PlansToo self.old self.new block bytes.now) }
+        ensures places { IfOk result (λ block.
+            AreChosen self.old.spaces [] new.property.sectors (dvas block.copies) self.new.spaces) }
+        ensures due { OnOk result (MoreIsDue self.old self.new) }
+        ensures refused { IfErr result (λ refusal. (refusal ≡ Refusal.NoMemory)
+            ⊎ ((refusal ≡ Refusal.NoSpace)
+            × RanOut self.old.spaces new.property.sectors (count_of copies) self.new.spaces)) }
+        ensures err_spaces { OnErr result
+            (TookSome self.old.spaces new.property.sectors (count_of copies) self.new.spaces) }
+        ensures err_due { OnErr result (self.new.due ≡ self.old.due) }
+    {
         let places = self.choose_places(new.property.sectors, copies.count())?;
         let mut writes = self.writes_at(alloc, places.as_slice(), new.property.sectors, bytes)?;
         let block = Block {

@@ -1,5 +1,5 @@
 //! Blocks that are given back, and what is due as a plan begins.
-ghost use Rattle.std.specs.Prelude.{◌≡◌, ◌⊎◌, ◌↔◌, ◌<◌, [], ℕ, Bool, List, Some, length, OnOk, OnErr, IfErr, IsTrue, Contains};
+ghost use Rattle.std.specs.Prelude.{◌≡◌, false, ◌⊎◌, ◌↔◌, ◌<◌, [], ℕ, Bool, List, Some, length, OnOk, OnErr, IfErr, IsTrue, Contains};
 ghost use Rattle.block_pointer.specs.declared.block.Block.{Block};
 ghost use Rattle.metaslab.specs.State.{State, Released};
 ghost use Rattle.block_store.specs.Blocks.{Contents, AreDistinct, AreStored};
@@ -52,6 +52,7 @@ impl<D: Disk + Drop> BlockStore<D> {
         ensures spans { self.new.spans ≡ in_group self.old.spans group }
         ensures shapes { shapes_of self.new.spaces ≡ shapes_of self.old.spaces }
         ensures due { self.new.due ≡ [] }
+        ensures stray { self.new.stray ≡ false }
         ensures settled { OnOk result (AreSettledIn group self.old.spaces self.new.spaces) }
         ensures some { AreSettledInSome group self.old.spaces self.new.spaces }
 
@@ -70,6 +71,7 @@ impl<D: Disk + Drop> BlockStore<D> {
     {
         self.enter(group);
         self.due.clear();
+        self.stray = false;
         settle_each(&mut self.spaces, group)
     }
 
@@ -79,6 +81,7 @@ impl<D: Disk + Drop> BlockStore<D> {
         ensures disks { self.new.disks ≡ self.old.disks }
         ensures out { self.new.out ≡ self.old.out }
         ensures spans { self.new.spans ≡ self.old.spans }
+        ensures stray { self.new.stray ≡ self.old.stray }
         ensures due { self.new.due ≡ self.old.due }
         ensures shapes { shapes_of self.new.spaces ≡ shapes_of self.old.spaces }
         ensures filled { HaveMarks self.old.spaces filled self.new.spaces filled }
@@ -120,6 +123,7 @@ impl<D: Disk + Drop> BlockStore<D> {
         ensures disks { self.new.disks ≡ self.old.disks }
         ensures out { self.new.out ≡ self.old.out }
         ensures spans { self.new.spans ≡ self.old.spans }
+        ensures stray { self.new.stray ≡ self.old.stray }
         ensures due { self.new.due ≡ self.old.due }
         ensures released { OnOk result
             (AreReleased self.old.spaces (copies_of_all blocks.now) group self.new.spaces) }
@@ -140,6 +144,7 @@ impl<D: Disk + Drop> BlockStore<D> {
         ensures disks { self.new.disks ≡ self.old.disks }
         ensures out { self.new.out ≡ self.old.out }
         ensures spans { self.new.spans ≡ self.old.spans }
+        ensures stray { self.new.stray ≡ self.old.stray }
         ensures due { self.new.due ≡ self.old.due }
         ensures released { OnOk result
             (AreReleased self.old.spaces (copies_of block.now) group self.new.spaces) }
@@ -158,6 +163,7 @@ impl<D: Disk + Drop> BlockStore<D> {
         ensures disks { self.new.disks ≡ self.old.disks }
         ensures out { self.new.out ≡ self.old.out }
         ensures spans { self.new.spans ≡ self.old.spans }
+        ensures stray { self.new.stray ≡ self.old.stray }
         ensures due { self.new.due ≡ self.old.due }
         ensures released { OnOk result
             (AreReleased self.old.spaces (copies_at sectors places.now) group self.new.spaces) }
@@ -178,6 +184,7 @@ impl<D: Disk + Drop> BlockStore<D> {
         ensures disks { self.new.disks ≡ self.old.disks }
         ensures out { self.new.out ≡ self.old.out }
         ensures spans { self.new.spans ≡ self.old.spans }
+        ensures stray { self.new.stray ≡ self.old.stray }
         ensures due { self.new.due ≡ self.old.due }
         ensures released { OnOk result (IsReleased self.old.spaces
             (record { sectors = sectors; place = place }) group self.new.spaces) }
@@ -199,6 +206,7 @@ impl<D: Disk + Drop> BlockStore<D> {
         ensures disks { self.new.disks ≡ self.old.disks }
         ensures out { self.new.out ≡ self.old.out }
         ensures spans { self.new.spans ≡ self.old.spans }
+        ensures stray { self.new.stray ≡ self.old.stray }
         ensures due { self.new.due ≡ self.old.due }
         ensures released { OnOk result (IsReleased self.old.spaces
             (record { sectors = sectors; place = place }) group self.new.spaces) }

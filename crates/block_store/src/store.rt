@@ -28,6 +28,8 @@ pub struct BlockStore<D: Disk + Drop> {
     /// No block of the plan was born before that group.
     pub(crate) group: u64,
     pub(crate) due: VecDeque<ColumnWrite>,
+    /// Whether a block may have taken places and then not have been planned: these are in use until the plan is dropped.
+    pub(crate) stray: bool,
 }
 
 impl<D: Disk + Drop> Model for BlockStore<D> {
@@ -41,6 +43,7 @@ impl<D: Disk + Drop> Model for BlockStore<D> {
       out = s.out.items;
       spans = record { since = s.since.items; group = s.group };
       due = s.due.items;
+      stray = s.stray;
     } };
 
     ghost invariant = { λ s. IsStore (record {
@@ -49,6 +52,7 @@ impl<D: Disk + Drop> Model for BlockStore<D> {
       out = s.out.items;
       spans = record { since = s.since.items; group = s.group };
       due = s.due.items;
+      stray = s.stray;
     }) };
 }
 
@@ -98,6 +102,13 @@ impl<D: Disk + Drop> BlockStore<D> {
             ≤ length self.now.disks.starts }
     {
         self.spaces[vdev].shape()
+    }
+
+    /// Whether a block may have taken places that no block of the plan has: one was refused, and the plan was not dropped since.
+    pub fn has_strays(&self) -> bool
+        ensures { result ≡ self.now.stray }
+    {
+        self.stray
     }
 
     /// How many writes of the plan are due.

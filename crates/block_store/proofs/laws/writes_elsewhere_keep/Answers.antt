@@ -6,10 +6,11 @@ use Rattle.block_store.proofs.Lost.{lose_same}
 use Rattle.block_store.proofs.laws.writes_elsewhere_keep.Goals as goal
 
 pub returns : goal.returns
-returns c old new spaces due out spans contents =
+returns c old new spaces due out spans stray contents =
     let kept : IsKept old new = record {
       spaces = spaces;
       due = due;
+      stray = stray;
       contents = contents;
       more_out = λ disk held. subst (λ flags. Contains (outs_from 0 flags) disk) (sym out) held;
       more_lost = lose_same old new out spans;

@@ -1,4 +1,4 @@
-use Rattle.std.proofs.Common.{◌≡◌, List, ap, subst, ◌∙◌}
+use Rattle.std.proofs.Common.{◌≡◌, false, List, ap, subst, ◌∙◌}
 use Rattle.std.specs.Prelude.{OnOk, Contains}
 use Rattle.block_store.specs.Places.{shapes_of}
 use Rattle.block_store.specs.Releases.{AreSettledIn, AreSettledInSome}
@@ -47,6 +47,7 @@ returns-clause-plans g c = λ stored holds spared.
       out = c.self.inside.out.items;
       spans = record { since = c.self.inside.since.items; group = c.self.inside.group };
       due = c.clear.new.self.items;
+      stray = false;
     } in
     begun_settled c.args.group c.args.self.now new (ap (λ (s : Store). s.disks) c.self.view_is ∙ c.enter.ensures.disks)
     (lose_in c.args.self.now new c.args.group (ap (λ (s : Store). s.out) c.self.view_is ∙ c.enter.ensures.out) (ap (λ (s : Store). s.spans) c.self.view_is ∙ c.enter.ensures.spans))

@@ -17,7 +17,8 @@ loop-copy-preserved g c =
       c.take.ensures.out ∙ before.1,
       c.take.ensures.spans ∙ before.2,
       c.take.ensures.due ∙ before.3,
-      ap length c.push.ensures.items ∙ length-append c.loop-copy.places.items (c.in_ok-place.place ∷ []) ∙ ap (λ n. n + 1) before.4,
+      c.take.ensures.stray ∙ before.4,
+      ap length c.push.ensures.items ∙ length-append c.loop-copy.places.items (c.in_ok-place.place ∷ []) ∙ ap (λ n. n + 1) before.5,
       subst A (sym c.push.ensures.items)
-          (AreChosen-push c.args.self.now.spaces [] c.args.sectors c.loop-copy.places.items c.loop-copy.self.spaces c.in_ok-place.place c.take.new.self.spaces before.5 chosen took.taken),
+          (AreChosen-push c.args.self.now.spaces [] c.args.sectors c.loop-copy.places.items c.loop-copy.self.spaces c.in_ok-place.place c.take.new.self.spaces before.6 chosen took.taken),
     )

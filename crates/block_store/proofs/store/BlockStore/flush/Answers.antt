@@ -22,6 +22,7 @@ kept g c =
     (subst (λ (s : Store). IfErr c.note.result (λ failed. IsOutToo s.out c.args.disk c.note.new.self.out)) c.self.view_is c.note.ensures.out_too)
     (subst (λ (s : Store). OnOk c.note.result (c.note.new.self.spans ≡ s.spans)) c.self.view_is c.note.ensures.spans)
     (subst (λ (s : Store). IfErr c.note.result (λ failed. GoesOut s c.args.disk c.note.new.self)) c.self.view_is c.note.ensures.gone)
+    (c.note.ensures.stray ∙ ap (λ (s : Store). s.stray) c.self.view_is)
 
 pub returns-clause-keeps : goal.returns-clause-keeps
 returns-clause-keeps g c = keeps c.blocks_beside_others.ensures.kept c.blocks_beside_others.ensures.more_absent c.args.self.now c.note.new.self (kept g c)

@@ -15,4 +15,4 @@ invariant_of-result g c =
     (λ disk. subst (λ (them : List ℕ). slice_index them disk ≤ 0) (sym zeros) (none_since c.len-2.result disk)) c.new.ensures.items
 
 pub returns-clause-plans : goal.returns-clause-plans
-returns-clause-plans g c = plans_nothing _ c.new.ensures.items
+returns-clause-plans g c = plans_nothing _ c.new.ensures.items c.in_ok-spaces.ensures.empty

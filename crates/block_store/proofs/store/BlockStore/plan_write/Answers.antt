@@ -1,207 +1,29 @@
-use Rattle.std.proofs.Common.{rules, ◌≡◌, ◌++◌, Contains, sym, ap, ◌∙◌, subst, inl, inr}
-use Rattle.std.proofs.lemmas.List.Elements.{Contains-append_cases}
-use Rattle.block_pointer.specs.Copies.{dvas}
-use Rattle.raidz_io.specs.Stands.{IsWithin}
-use Rattle.block_store.specs.Places.{shapes_of}
-use Rattle.block_store.specs.Plans.{AreWritesAt}
-use Rattle.block_store.specs.Store.{Store, IsStore}
-use Rattle.block_store.proofs.Adding.{chosen_shapes, OnlyTook, added, chosen_keeps, took_keeps, took_keeps_plans, took_shapes, places_in, writes_within}
+use Rattle.std.proofs.Common.{◌≡◌, ◌∙◌, sym, subst, List}
+use Rattle.block_store.specs.Blocks.{count_of}
+use Rattle.block_store.specs.Places.{TookSome}
+use Rattle.block_store.specs.Spaces.{VdevSpace}
+use Rattle.block_store.proofs.Adding.{OnlyTook, took_keeps, took_keeps_plans}
 use Rattle.block_store.proofs.Entering.{keeps_through, plans_through}
-use Rattle.block_store.proofs.Fitting.{bytes_fit, fits_copies, on_err, took_some}
-use Rattle.block_store.proofs.Writing.{found_at}
+use Rattle.block_store.proofs.Fitting.{took_some}
 use Rattle.block_store.proofs.store.BlockStore.plan_write.Goals as goal
 
-pub returns-in_err-places-clause-shapes : goal.returns-in_err-places-clause-shapes
-returns-in_err-places-clause-shapes g c =
-    let took = took_some c.reach.new.self c.choose_places.new.self c.args.new.property.sectors c.count.result
-    c.in_err-places.ensures.disks c.in_err-places.ensures.out c.in_err-places.ensures.spans c.in_err-places.ensures.due c.in_err-places.ensures.some in
-    took_shapes c.reach.new.self c.choose_places.new.self c.args.new.property.sectors took.0 took.1 ∙ ap shapes_of c.reach.ensures.spaces
+pub returns-in-Ok-clause-planned : goal.returns-in-Ok-clause-planned
+returns-in-Ok-clause-planned g c stored planned plans = c.in-Ok.ensures.planned stored planned (c.reach.ensures.plans stored planned plans)
 
-pub returns-in_err-places-clause-keeps : goal.returns-in_err-places-clause-keeps
-returns-in_err-places-clause-keeps g c =
-    let took = took_some c.reach.new.self c.choose_places.new.self c.args.new.property.sectors c.count.result
-    c.in_err-places.ensures.disks c.in_err-places.ensures.out c.in_err-places.ensures.spans c.in_err-places.ensures.due c.in_err-places.ensures.some in
-    keeps_through _ _ _ c.reach.ensures.keeps (took_keeps c.reach.new.self c.choose_places.new.self c.args.new.property.sectors took.0 took.1)
+pub returns-in-Err-clause-keeps : goal.returns-in-Err-clause-keeps
+returns-in-Err-clause-keeps g c =
+    let sectors = c.args.new.property.sectors in
+    let some : TookSome c.reach.new.self.spaces sectors (count_of c.args.copies) c.note_stray.new.self.spaces =
+    subst (λ xs. TookSome c.reach.new.self.spaces sectors (count_of c.args.copies) xs) (sym c.note_stray.ensures.spaces) c.in-Err.ensures.err_spaces in
+    let took = took_some c.reach.new.self c.note_stray.new.self sectors (count_of c.args.copies) (c.note_stray.ensures.disks ∙ c.in-Err.ensures.disks)
+    (c.note_stray.ensures.out ∙ c.in-Err.ensures.out) (c.note_stray.ensures.spans ∙ c.in-Err.ensures.spans) (c.note_stray.ensures.due ∙ c.in-Err.ensures.err_due) some in
+    keeps_through _ _ _ c.reach.ensures.keeps (took_keeps c.reach.new.self c.note_stray.new.self sectors took.0 took.1)
 
-pub returns-in_err-places-clause-err : goal.returns-in_err-places-clause-err
-returns-in_err-places-clause-err g c =
-    let took = took_some c.reach.new.self c.choose_places.new.self c.args.new.property.sectors c.count.result
-    c.in_err-places.ensures.disks c.in_err-places.ensures.out c.in_err-places.ensures.spans c.in_err-places.ensures.due c.in_err-places.ensures.some in
-    on_err _ _ (plans_through _ _ _ c.reach.ensures.plans (took_keeps_plans c.reach.new.self c.choose_places.new.self c.args.new.property.sectors took.0 took.1))
-
-pub writes_at-requires-clause-places : goal.writes_at-requires-clause-places
-writes_at-requires-clause-places g c place held =
-    let took : OnlyTook c.reach.new.self c.choose_places.new.self c.args.new.property.sectors c.in_ok-places.places.items = record {
-      disks = c.in_ok-places.ensures.disks;
-      out = c.in_ok-places.ensures.out;
-      spans = c.in_ok-places.ensures.spans;
-      due = c.in_ok-places.ensures.due;
-      chosen = c.in_ok-places.ensures.chosen;
-    } in
-    let at = found_at c.in_ok-places.places.items place (subst (λ xs. Contains xs place) c.as_slice.ensures.value held) in
-    places_in c.reach.new.self c.choose_places.new.self c.args.new.property.sectors c.in_ok-places.places.items took at.0 place at.1
-
-pub returns-in_err-writes-clause-keeps : goal.returns-in_err-writes-clause-keeps
-returns-in_err-writes-clause-keeps g c =
-    keeps_through _ _ _ c.reach.ensures.keeps (took_keeps c.reach.new.self c.choose_places.new.self c.args.new.property.sectors c.in_ok-places.places.items (record {
-      disks = c.in_ok-places.ensures.disks;
-      out = c.in_ok-places.ensures.out;
-      spans = c.in_ok-places.ensures.spans;
-      due = c.in_ok-places.ensures.due;
-      chosen = c.in_ok-places.ensures.chosen;
-    }))
-
-pub returns-in_err-writes-clause-err : goal.returns-in_err-writes-clause-err
-returns-in_err-writes-clause-err g c =
-    on_err _ _ (plans_through _ _ _ c.reach.ensures.plans (took_keeps_plans c.reach.new.self c.choose_places.new.self c.args.new.property.sectors c.in_ok-places.places.items (record {
-      disks = c.in_ok-places.ensures.disks;
-      out = c.in_ok-places.ensures.out;
-      spans = c.in_ok-places.ensures.spans;
-      due = c.in_ok-places.ensures.due;
-      chosen = c.in_ok-places.ensures.chosen;
-    })))
-
-pub returns-in_err-append-clause-keeps : goal.returns-in_err-append-clause-keeps
-returns-in_err-append-clause-keeps g c =
-    let took : OnlyTook c.reach.new.self c.choose_places.new.self c.args.new.property.sectors c.in_ok-places.places.items = record {
-      disks = c.in_ok-places.ensures.disks;
-      out = c.in_ok-places.ensures.out;
-      spans = c.in_ok-places.ensures.spans;
-      due = c.in_ok-places.ensures.due;
-      chosen = c.in_ok-places.ensures.chosen;
-    } in
-    let inside = subst (λ (s : Store). OnlyTook c.reach.new.self s c.args.new.property.sectors c.in_ok-places.places.items) (sym c.self.view_is) took in
-    keeps_through _ _ _ c.reach.ensures.keeps (took_keeps c.reach.new.self _ c.args.new.property.sectors c.in_ok-places.places.items (record {
-      disks = inside.disks;
-      out = inside.out;
-      spans = inside.spans;
-      due = c.in_err-append.ensures.items ∙ inside.due;
-      chosen = inside.chosen;
-    }))
-
-pub returns-in_err-append-clause-err : goal.returns-in_err-append-clause-err
-returns-in_err-append-clause-err g c =
-    let took : OnlyTook c.reach.new.self c.choose_places.new.self c.args.new.property.sectors c.in_ok-places.places.items = record {
-      disks = c.in_ok-places.ensures.disks;
-      out = c.in_ok-places.ensures.out;
-      spans = c.in_ok-places.ensures.spans;
-      due = c.in_ok-places.ensures.due;
-      chosen = c.in_ok-places.ensures.chosen;
-    } in
-    let inside = subst (λ (s : Store). OnlyTook c.reach.new.self s c.args.new.property.sectors c.in_ok-places.places.items) (sym c.self.view_is) took in
-    on_err _ _ (plans_through _ _ _ c.reach.ensures.plans (took_keeps_plans c.reach.new.self _ c.args.new.property.sectors c.in_ok-places.places.items (record {
-      disks = inside.disks;
-      out = inside.out;
-      spans = inside.spans;
-      due = c.in_err-append.ensures.items ∙ inside.due;
-      chosen = inside.chosen;
-    })))
-
-pub invariant_of-self-2 : goal.invariant_of-self-2
-invariant_of-self-2 g c =
-    let took : OnlyTook c.reach.new.self c.choose_places.new.self c.args.new.property.sectors c.in_ok-places.places.items = record {
-      disks = c.in_ok-places.ensures.disks;
-      out = c.in_ok-places.ensures.out;
-      spans = c.in_ok-places.ensures.spans;
-      due = c.in_ok-places.ensures.due;
-      chosen = c.in_ok-places.ensures.chosen;
-    } in
-    let store : IsStore c.choose_places.new.self = subst IsStore c.self.view_is c.self.invariant in
-    let at : AreWritesAt c.choose_places.new.self c.args.new.property.sectors c.args.bytes.now c.in_ok-places.places.items c.in_ok-writes.writes.items =
-    subst (λ places. AreWritesAt c.choose_places.new.self c.args.new.property.sectors c.args.bytes.now places c.in_ok-writes.writes.items) c.as_slice.ensures.value c.in_ok-writes.ensures in
-    record {
-      laid_out = c.self.invariant.laid_out;
-      disks = c.self.invariant.disks;
-      spans = c.self.invariant.spans;
-      reached = c.self.invariant.reached;
-      due = λ write held. elim (Contains-append_cases c.self.inside.due.items c.in_ok-writes.writes.items write (subst (λ xs. Contains xs write) c.in_ok-append.ensures.items held)) [
-        | inl before ↦ c.self.invariant.due write before
-        | inr here ↦
-            subst (λ (s : Store). IsWithin s.disks.starts write) (sym c.self.view_is)
-            (writes_within c.choose_places.new.self c.args.new.property.sectors c.args.bytes.now c.in_ok-places.places.items c.in_ok-writes.writes.items store at
-            (places_in c.reach.new.self c.choose_places.new.self c.args.new.property.sectors c.in_ok-places.places.items took) write here)
-      ];
-    }
-
-pub returns-clause-keeps : goal.returns-clause-keeps
-returns-clause-keeps g c =
-    let took : OnlyTook c.reach.new.self c.choose_places.new.self c.args.new.property.sectors c.in_ok-places.places.items = record {
-      disks = c.in_ok-places.ensures.disks;
-      out = c.in_ok-places.ensures.out;
-      spans = c.in_ok-places.ensures.spans;
-      due = c.in_ok-places.ensures.due;
-      chosen = c.in_ok-places.ensures.chosen;
-    } in
-    let inside = subst (λ (s : Store). OnlyTook c.reach.new.self s c.args.new.property.sectors c.in_ok-places.places.items) (sym c.self.view_is) took in
-    keeps_through _ _ _ c.reach.ensures.keeps (chosen_keeps c.reach.new.self _ c.args.new.property.sectors c.in_ok-places.places.items inside.disks inside.out inside.spans inside.chosen)
-
-pub returns-clause-fits : goal.returns-clause-fits
-returns-clause-fits g c =
-    let took : OnlyTook c.reach.new.self c.choose_places.new.self c.args.new.property.sectors c.in_ok-places.places.items = record {
-      disks = c.in_ok-places.ensures.disks;
-      out = c.in_ok-places.ensures.out;
-      spans = c.in_ok-places.ensures.spans;
-      due = c.in_ok-places.ensures.due;
-      chosen = c.in_ok-places.ensures.chosen;
-    } in
-    let store : IsStore c.choose_places.new.self = subst IsStore c.self.view_is c.self.invariant in
-    let copies : dvas c.copies_at.result ≡ c.in_ok-places.places.items = c.copies_at.ensures ∙ c.as_slice-2.ensures.value in
-    record {
-      copies = fits_copies c.choose_places.new.self.spaces c.choose_places.new.self.disks.starts c.args.new.property.sectors c.in_ok-places.places.items c.copies_at.result
-          c.requires.fits.property.not_empty store.laid_out
-          (places_in c.reach.new.self c.choose_places.new.self c.args.new.property.sectors c.in_ok-places.places.items took) copies;
-      property = c.requires.fits.property;
-      born = c.requires.fits.born;
-      birth = search rules;
-      filled = c.requires.fits.filled;
-      fill = search rules;
-      fill_of_data = c.requires.fits.fill_of_data;
-    }
-
-pub returns-clause-planned : goal.returns-clause-planned
-returns-clause-planned g c stored planned plans =
-    let took : OnlyTook c.reach.new.self c.choose_places.new.self c.args.new.property.sectors c.in_ok-places.places.items = record {
-      disks = c.in_ok-places.ensures.disks;
-      out = c.in_ok-places.ensures.out;
-      spans = c.in_ok-places.ensures.spans;
-      due = c.in_ok-places.ensures.due;
-      chosen = c.in_ok-places.ensures.chosen;
-    } in
-    let inside = subst (λ (s : Store). OnlyTook c.reach.new.self s c.args.new.property.sectors c.in_ok-places.places.items) (sym c.self.view_is) took in
-    let store : IsStore c.choose_places.new.self = subst IsStore c.self.view_is c.self.invariant in
-    let at : AreWritesAt c.choose_places.new.self c.args.new.property.sectors c.args.bytes.now c.in_ok-places.places.items c.in_ok-writes.writes.items =
-    subst (λ places. AreWritesAt c.choose_places.new.self c.args.new.property.sectors c.args.bytes.now places c.in_ok-writes.writes.items) c.as_slice.ensures.value c.in_ok-writes.ensures in
-    let copies : dvas c.copies_at.result ≡ c.in_ok-places.places.items = c.copies_at.ensures ∙ c.as_slice-2.ensures.value in
-    added c.reach.new.self _ _ c.args.bytes.now c.in_ok-places.places.items c.in_ok-writes.writes.items stored planned (record {
-      disks = inside.disks;
-      out = inside.out;
-      spans = inside.spans;
-      born = c.reach.ensures.born;
-      due = c.in_ok-append.ensures.items ∙ ap (λ xs. xs ++ c.in_ok-writes.writes.items) inside.due;
-      chosen = inside.chosen;
-      copies_at = copies;
-      written = record {
-        fits = returns-clause-fits g c;
-        size = c.requires.size;
-        are_bytes = bytes_fit c.args.bytes.now c.type_inv.bytes;
-        digest = sym c.digest.ensures;
-      };
-      mid = c.choose_places.new.self;
-      mid_spaces = ap (λ (s : Store). s.spaces) (sym c.self.view_is);
-      mid_out = ap (λ (s : Store). s.out) (sym c.self.view_is);
-      writes_at = at;
-    }) (c.reach.ensures.plans stored planned plans)
-
-pub returns-in_err-writes-clause-shapes : goal.returns-in_err-writes-clause-shapes
-returns-in_err-writes-clause-shapes g c =
-    chosen_shapes _ c.args.new.property.sectors c.in_ok-places.places.items _ c.in_ok-places.ensures.chosen ∙ ap shapes_of c.reach.ensures.spaces
-
-pub returns-in_err-append-clause-shapes : goal.returns-in_err-append-clause-shapes
-returns-in_err-append-clause-shapes g c =
-    ap (λ (s : Store). shapes_of s.spaces) c.self.view_is
-    ∙ chosen_shapes _ c.args.new.property.sectors c.in_ok-places.places.items _ c.in_ok-places.ensures.chosen ∙ ap shapes_of c.reach.ensures.spaces
-
-pub returns-clause-shapes : goal.returns-clause-shapes
-returns-clause-shapes g c =
-    ap (λ (s : Store). shapes_of s.spaces) c.self.view_is
-    ∙ chosen_shapes _ c.args.new.property.sectors c.in_ok-places.places.items _ c.in_ok-places.ensures.chosen ∙ ap shapes_of c.reach.ensures.spaces
+pub returns-in-Err-clause-err : goal.returns-in-Err-clause-err
+returns-in-Err-clause-err g c =
+    let sectors = c.args.new.property.sectors in
+    let some : TookSome c.reach.new.self.spaces sectors (count_of c.args.copies) c.note_stray.new.self.spaces =
+    subst (λ xs. TookSome c.reach.new.self.spaces sectors (count_of c.args.copies) xs) (sym c.note_stray.ensures.spaces) c.in-Err.ensures.err_spaces in
+    let took = took_some c.reach.new.self c.note_stray.new.self sectors (count_of c.args.copies) (c.note_stray.ensures.disks ∙ c.in-Err.ensures.disks)
+    (c.note_stray.ensures.out ∙ c.in-Err.ensures.out) (c.note_stray.ensures.spans ∙ c.in-Err.ensures.spans) (c.note_stray.ensures.due ∙ c.in-Err.ensures.err_due) some in
+    plans_through _ _ _ c.reach.ensures.plans (took_keeps_plans c.reach.new.self c.note_stray.new.self sectors took.0 took.1 c.note_stray.ensures.stray)

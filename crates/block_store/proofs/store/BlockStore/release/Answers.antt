@@ -11,26 +11,26 @@ pub returns-clause-shapes : goal.returns-clause-shapes
 returns-clause-shapes g c =
     let is = c.release_each.ensures in
     let part = all_in_part c.args.self.now.spaces c.release_each.new.self.spaces (copies_of_all c.args.blocks.now) c.args.group c.release_each.result is.released is.some in
-    (part_same c.args.self.now c.release_each.new.self (copies_of_all c.args.blocks.now) c.args.group is.disks is.out is.spans is.due part).shapes
+    (part_same c.args.self.now c.release_each.new.self (copies_of_all c.args.blocks.now) c.args.group is.disks is.out is.spans is.due is.stray part).shapes
 
 pub returns-clause-filled : goal.returns-clause-filled
 returns-clause-filled g c =
     let is = c.release_each.ensures in
     let part = all_in_part c.args.self.now.spaces c.release_each.new.self.spaces (copies_of_all c.args.blocks.now) c.args.group c.release_each.result is.released is.some in
-    (part_same c.args.self.now c.release_each.new.self (copies_of_all c.args.blocks.now) c.args.group is.disks is.out is.spans is.due part).are
+    (part_same c.args.self.now c.release_each.new.self (copies_of_all c.args.blocks.now) c.args.group is.disks is.out is.spans is.due is.stray part).are
 
 pub returns-clause-keeps : goal.returns-clause-keeps
 returns-clause-keeps g c =
     let is = c.release_each.ensures in
     let part = all_in_part c.args.self.now.spaces c.release_each.new.self.spaces (copies_of_all c.args.blocks.now) c.args.group c.release_each.result is.released is.some in
     keeps_by c.args.self.now c.release_each.new.self
-    (part_same c.args.self.now c.release_each.new.self (copies_of_all c.args.blocks.now) c.args.group is.disks is.out is.spans is.due part)
+    (part_same c.args.self.now c.release_each.new.self (copies_of_all c.args.blocks.now) c.args.group is.disks is.out is.spans is.due is.stray part)
 
 pub returns-clause-plans : goal.returns-clause-plans
 returns-clause-plans g c =
     let is = c.release_each.ensures in
     let part = all_in_part c.args.self.now.spaces c.release_each.new.self.spaces (copies_of_all c.args.blocks.now) c.args.group c.release_each.result is.released is.some in
-    part_plans c.args.self.now c.release_each.new.self c.args.blocks.now c.args.group is.disks is.out is.spans is.due part
+    part_plans c.args.self.now c.release_each.new.self c.args.blocks.now c.args.group is.disks is.out is.spans is.due is.stray part
 
 pub returns-clause-stays : goal.returns-clause-stays
 returns-clause-stays g c = λ test block.

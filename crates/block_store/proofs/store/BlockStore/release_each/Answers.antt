@@ -7,7 +7,7 @@ use Rattle.block_store.proofs.GivenBack.{ReleasedUpTo, none_yet, more_are, part_
 use Rattle.block_store.proofs.store.BlockStore.release_each.Goals as goal
 
 pub loop-block-init : goal.loop-block-init
-loop-block-init g c = (refl, refl, refl, refl, none_yet c.args.self.now.spaces (copies_of_all c.args.blocks.now) c.args.group)
+loop-block-init g c = (refl, refl, refl, refl, refl, none_yet c.args.self.now.spaces (copies_of_all c.args.blocks.now) c.args.group)
 
 pub loop-block-preserved : goal.loop-block-preserved
 loop-block-preserved g c =
@@ -20,9 +20,10 @@ loop-block-preserved g c =
       is.out ∙ before.1,
       is.spans ∙ before.2,
       is.due ∙ before.3,
+      is.stray ∙ before.4,
       more_are c.args.self.now.spaces c.loop-block.self.spaces c.release_block.new.self.spaces (copies_of_all blocks) (copies_of (get_or blocks i some_block))
           (copies_of_all (drop (i + 1) blocks)) c.args.group
-          (subst (λ them. ReleasedUpTo c.args.self.now.spaces (copies_of_all blocks) (copies_of_all them) c.args.group c.loop-block.self.spaces) split before.4)
+          (subst (λ them. ReleasedUpTo c.args.self.now.spaces (copies_of_all blocks) (copies_of_all them) c.args.group c.loop-block.self.spaces) split before.5)
           c.in_ok-release_block.ensures.released,
     )
 
@@ -34,7 +35,7 @@ returns-in_err-release_block-clause-some g c =
     at_error c.from_residual.result _
     (part_of c.args.self.now.spaces c.loop-block.self.spaces c.release_block.new.self.spaces (copies_of_all blocks) (copies_of (get_or blocks i some_block))
     (copies_of_all (drop (i + 1) blocks)) c.args.group
-    (subst (λ them. ReleasedUpTo c.args.self.now.spaces (copies_of_all blocks) (copies_of_all them) c.args.group c.loop-block.self.spaces) split c.loop-block.invariant.4)
+    (subst (λ them. ReleasedUpTo c.args.self.now.spaces (copies_of_all blocks) (copies_of_all them) c.args.group c.loop-block.self.spaces) split c.loop-block.invariant.5)
     c.in_err-release_block.ensures.some)
 
 pub returns-in_err-release_block-clause-refused : goal.returns-in_err-release_block-clause-refused
@@ -48,7 +49,7 @@ returns-in_err-release_block-clause-refused g c =
         bad,
         stops_at c.args.self.now.spaces c.loop-block.self.spaces c.release_block.new.self.spaces (copies_of_all blocks)
             (copies_of (get_or blocks i some_block)) (copies_of_all (drop (i + 1) blocks)) c.args.group
-            (subst (λ them. ReleasedUpTo c.args.self.now.spaces (copies_of_all blocks) (copies_of_all them) c.args.group c.loop-block.self.spaces) split c.loop-block.invariant.4)
+            (subst (λ them. ReleasedUpTo c.args.self.now.spaces (copies_of_all blocks) (copies_of_all them) c.args.group c.loop-block.self.spaces) split c.loop-block.invariant.5)
             stop,
       )
     ])

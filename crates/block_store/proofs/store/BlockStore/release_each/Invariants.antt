@@ -6,5 +6,5 @@ use Rattle.block_store.proofs.store.BlockStore.release_each.Given as goal
 -- the copies of the blocks that are left are left, and the others were given back
 abbrev pub invariant-loop-block : goal.invariant-loop-block
 invariant-loop-block g l =
-    (l.self.disks ≡ l.fn.self.disks) × (l.self.out ≡ l.fn.self.out) × (l.self.spans ≡ l.fn.self.spans) × (l.self.due ≡ l.fn.self.due)
+    (l.self.disks ≡ l.fn.self.disks) × (l.self.out ≡ l.fn.self.out) × (l.self.spans ≡ l.fn.self.spans) × (l.self.due ≡ l.fn.self.due) × (l.self.stray ≡ l.fn.self.stray)
     × ReleasedUpTo l.fn.self.spaces (copies_of_all l.blocks) (copies_of_all (drop l.block-index l.blocks)) l.group l.self.spaces

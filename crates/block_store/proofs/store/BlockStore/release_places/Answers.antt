@@ -10,7 +10,7 @@ abbrev none : Dva
 none = record { vdev = 0; offset = 0; allocated = 0 }
 
 pub loop-place-init : goal.loop-place-init
-loop-place-init g c = (refl, refl, refl, refl, none_yet c.args.self.now.spaces (copies_at c.args.sectors c.args.places.now) c.args.group)
+loop-place-init g c = (refl, refl, refl, refl, refl, none_yet c.args.self.now.spaces (copies_at c.args.sectors c.args.places.now) c.args.group)
 
 pub loop-place-preserved : goal.loop-place-preserved
 loop-place-preserved g c =
@@ -24,8 +24,9 @@ loop-place-preserved g c =
       is.out ∙ before.1,
       is.spans ∙ before.2,
       is.due ∙ before.3,
+      is.stray ∙ before.4,
       more_are c.args.self.now.spaces c.loop-place.self.spaces c.release_place.new.self.spaces (copies_at c.args.sectors places) (copy ∷ [])
           (copies_at c.args.sectors (drop (i + 1) places)) c.args.group
-          (subst (λ them. ReleasedUpTo c.args.self.now.spaces (copies_at c.args.sectors places) (copies_at c.args.sectors them) c.args.group c.loop-place.self.spaces) split before.4)
+          (subst (λ them. ReleasedUpTo c.args.self.now.spaces (copies_at c.args.sectors places) (copies_at c.args.sectors them) c.args.group c.loop-place.self.spaces) split before.5)
           (c.release_place.new.self.spaces, c.in_ok-release_place.ensures.released, refl),
     )

@@ -6,5 +6,5 @@ use Rattle.block_store.proofs.store.BlockStore.release_places.Given as goal
 -- the copies at the places that are left are left, and the others were given back
 abbrev pub invariant-loop-place : goal.invariant-loop-place
 invariant-loop-place g l =
-    (l.self.disks ≡ l.fn.self.disks) × (l.self.out ≡ l.fn.self.out) × (l.self.spans ≡ l.fn.self.spans) × (l.self.due ≡ l.fn.self.due)
+    (l.self.disks ≡ l.fn.self.disks) × (l.self.out ≡ l.fn.self.out) × (l.self.spans ≡ l.fn.self.spans) × (l.self.due ≡ l.fn.self.due) × (l.self.stray ≡ l.fn.self.stray)
     × ReleasedUpTo l.fn.self.spaces (copies_at l.sectors l.places) (copies_at l.sectors (drop l.place-index l.places)) l.group l.self.spaces

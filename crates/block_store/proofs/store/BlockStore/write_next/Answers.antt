@@ -47,6 +47,7 @@ makes g c =
     (subst (λ (s : Store). IfErr c.note.result (λ failed. IsOutToo s.out c.in-Some.write.disk c.note.new.self.out)) c.self.view_is c.note.ensures.out_too)
     (subst (λ (s : Store). OnOk c.note.result (c.note.new.self.spans ≡ s.spans)) c.self.view_is c.note.ensures.spans)
     (subst (λ (s : Store). IfErr c.note.result (λ failed. GoesOut s c.in-Some.write.disk c.note.new.self)) c.self.view_is c.note.ensures.gone)
+    (c.note.ensures.stray ∙ ap (λ (s : Store). s.stray) c.self.view_is)
 
 pub returns-clause-call : goal.returns-clause-call
 returns-clause-call g c = (
