@@ -1,6 +1,6 @@
 -- Where nothing speaks against a step of groups, holds and items, it may be answered; and what a plan that is dropped leaves.
 use Rattle.std.proofs.Common.{◌≡◌, ◌⊎◌, ℕ, suc, [], Bool, true, false, true≢false, Option, Some, None, refl, sym, ap, inl, inr}
-use Rattle.std.specs.Prelude.{map, is_some, not, ◌&&◌, ◌||◌, if◌then◌else◌}
+use Rattle.std.specs.Prelude.{is_some, not, ◌&&◌, ◌||◌, if◌then◌else◌}
 use Rattle.pool_model.specs.declared.group.Stage.{Stage}
 use Rattle.pool_model.specs.declared.group.Stage.TheVariants.{Quiescing, Quiesced as QuiescedStage}
 use Rattle.pool_model.specs.declared.item.Action.{Action}
@@ -14,10 +14,10 @@ use Rattle.pool_model.specs.Pools.{PlainPool}
 use Rattle.pool_model.specs.Refusals.{write_refusal, act_refusal, refusal_of}
 use Rattle.pool_model.specs.Groups.{Counters, counters_of}
 use Rattle.pool_model.specs.Flow.{flow_of, with_hold, without_hold, with_accepted}
-use Rattle.pool_model.specs.Machine.{due_flush, with_flow, taken, without_plan, dropped, IsAnswered}
+use Rattle.pool_model.specs.Machine.{disks_with_slots, with_flow, taken, without_plan, dropped, IsAnswered}
 use Rattle.pool_model.proofs.Causes.{or_none, none_of, first_none, not_false, write_none, act_none, act_open, below_greatest, quiescing, quiesced}
 use Rattle.pool_model.proofs.Moves.{plan_none}
-use Rattle.pool_model.proofs.Plans.{is_plan, may_nothing}
+use Rattle.pool_model.proofs.Plans.{plan_calls, is_plan_of, may_nothing}
 
 pub hold_answered : (v : View) (writer : ℕ) → refusal_of v (Hold writer) ≡ None → (w : View) × IsAnswered v nothing_given (Hold writer) (Held (open_group v)) w
 hold_answered v writer n =
@@ -81,8 +81,8 @@ takes_due v timestamp n = cases (is_planned v.sync) (is_syncing v.sync) v.waitin
 
 pub plan_answered : (v : View) (timestamp : ℕ) → refusal_of v (Plan timestamp) ≡ None → (w : View) × IsAnswered v nothing_given (Plan timestamp) (Planned (suc v.committed)) w
 plan_answered v timestamp n = (
-  taken v (Due (map due_flush (disks_in_use v))),
-  record { none = n; answered = ((refl, (takes_due v timestamp n, refl)), map due_flush (disks_in_use v), is_plan v [] tt, refl); calls = may_nothing (Plan timestamp) },
+  taken v (Due (plan_calls [] (disks_in_use v) (disks_with_slots v))),
+  record { none = n; answered = ((refl, (takes_due v timestamp n, refl)), plan_calls [] (disks_in_use v) (disks_with_slots v), is_plan_of v [] tt, refl); calls = may_nothing (Plan timestamp) },
 )
 
 -- a group that is synced already, and has no plan, is taken as it is

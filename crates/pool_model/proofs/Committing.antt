@@ -50,7 +50,7 @@ pool_moves = record {
   again = λ v given t cause is ledger f s n. refl;
   failed = λ v given disk left e ledger f s n. refl;
   replanned = λ v given disk left e ledger f s n. refl;
-  moved = λ v given phase left rest e ledger f s n. refl;
+  moved = λ v given phase left rest out e ledger f s n. refl;
   read = λ v given name offset len bytes a ledger f s n. refl;
   read_under = λ v given g name offset len bytes k a ledger f s n. refl;
   held = λ v given by h ledger f s n. refl;
@@ -61,7 +61,7 @@ pool_moves = record {
   quiesced = λ v given e ledger f s n. refl;
   planned = λ v given t calls ledger f s n. refl;
   replanned_group = λ v given t calls ledger f s n. refl;
-  committed = λ v given left e ledger f s n. next_cases v ledger n (nat_le n v.committed) (nat_le n (suc v.committed)) refl refl (f (suc v.committed) (shut_next v left s));
+  committed = λ v given left out e ledger f s n. next_cases v ledger n (nat_le n v.committed) (nat_le n (suc v.committed)) refl refl (f (suc v.committed) (shut_next v left s));
 }
 
 pool_step : (v : View) (given : Given) (step : Step) (reply : Reply) (mid : View) (steps : List Step) (givens : List Given) (replies : List Reply) (w : View) → StepOf v given step reply mid → Run mid steps givens replies w → IsSound v → (n : ℕ) → pool_by mid w.ledger n ≡ pool_by v w.ledger n
@@ -97,7 +97,7 @@ read_moves = record {
   again = λ v given t cause is pool steps givens replies f h. h;
   failed = λ v given disk left e pool steps givens replies f h. h;
   replanned = λ v given disk left e pool steps givens replies f h. h;
-  moved = λ v given phase left rest e pool steps givens replies f h. h;
+  moved = λ v given phase left rest out e pool steps givens replies f h. h;
   read = λ v given name offset len bytes a pool steps givens replies f h. h;
   read_under = λ v given g name offset len bytes kept a pool steps givens replies f h.
       ((λ trusted. let b = a trusted in (b.0, ap (volume_at name) (f g (kept_below v g kept)) ∙ b.1, b.2)), h);
@@ -109,7 +109,7 @@ read_moves = record {
   quiesced = λ v given e pool steps givens replies f h. h;
   planned = λ v given t calls pool steps givens replies f h. h;
   replanned_group = λ v given t calls pool steps givens replies f h. h;
-  committed = λ v given left e pool steps givens replies f h. h;
+  committed = λ v given left out e pool steps givens replies f h. h;
 }
 
 pub told_reads : (v : View) (steps : List Step) (givens : List Given) (replies : List Reply) (w : View) → Run v steps givens replies w → IsSound v → (pool : ℕ → PlainPool) → ((n : ℕ) → pool n ≡ pool_by v w.ledger n) → ReadsUnder pool steps givens replies

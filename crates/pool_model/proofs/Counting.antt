@@ -44,7 +44,7 @@ move_moves = record {
   again = λ v given t cause is. plan_takes (counters_of (record v { sync = Unplanned })) t cause (counters_of (record v { sync = Unplanned })) is (record { quiesced = unplanned_low v; unplanned = refl; taken = refl });
   failed = λ v given disk left e. inr (refl, refl);
   replanned = λ v given disk left e. (refl, refl);
-  moved = λ v given phase left rest e. (refl, refl);
+  moved = λ v given phase left rest out e. (refl, refl);
   read = λ v given name offset len bytes a. refl;
   read_under = λ v given g name offset len bytes k a. refl;
   held = λ v given by n. (open_closed v, refl);
@@ -55,7 +55,7 @@ move_moves = record {
   quiesced = λ v given e. (waiting_taken v, waiting_taken v, ap (λ n. record (counters_of (record v { waiting = Some Quiescing })) { quiesced = n }) (sym (waiting_taken v)));
   planned = λ v given t calls. (refl, omega arith, refl, refl);
   replanned_group = λ v given t calls. (refl, unplanned_low v, refl, refl);
-  committed = λ v given left e. (refl, refl, refl, refl);
+  committed = λ v given left out e. (refl, refl, refl, refl);
 }
 
 pub group_step : (v : View) (given : Given) (step : Step) (reply : Reply) (w : View) → StepOf v given step reply w → MovesBy (counters_of v) step reply (counters_of w)
@@ -101,7 +101,7 @@ commit_moves = record {
   again = λ v given t cause is replies last h k. (h, k);
   failed = λ v given disk left e replies last h k. (h, k);
   replanned = λ v given disk left e replies last h k. (h, k);
-  moved = λ v given phase left rest e replies last h k. (h, k);
+  moved = λ v given phase left rest out e replies last h k. (h, k);
   read = λ v given name offset len bytes a replies last h k. (h, k);
   read_under = λ v given g name offset len bytes e a replies last h k. (h, k);
   held = λ v given by n replies last h k. (h, k);
@@ -112,7 +112,7 @@ commit_moves = record {
   quiesced = λ v given e replies last h k. (h, k);
   planned = λ v given t calls replies last h k. (h, k);
   replanned_group = λ v given t calls replies last h k. (h, k);
-  committed = λ v given left e replies last h k. ((refl, h), omega arith);
+  committed = λ v given left out e replies last h k. ((refl, h), omega arith);
 }
 
 pub told_commits : (v : View) (steps : List Step) (givens : List Given) (replies : List Reply) (w : View) → Run v steps givens replies w → CountsFrom (suc v.committed) (commits replies) × (w.committed ≡ v.committed + length (commits replies))

@@ -1,6 +1,6 @@
 -- The ways in which the machine may go on, each from a view that shows what it needs.
 use Rattle.std.proofs.Common.{◌≡◌, ◌⊎◌, ⊎_elim, inl, inr, ◌≤◌, ◌<◌, ℕ, suc, List, [], ◌∷◌, Bool, true, false, true≢false, Option, Some, None, refl, sym, ap, ◌∙◌, subst}
-use Rattle.std.specs.Prelude.{not, ◌&&◌, ◌||◌}
+use Rattle.std.specs.Prelude.{not, ◌==◌, ◌&&◌, ◌||◌}
 use Rattle.pool_model.specs.declared.group.Stage.{Stage}
 use Rattle.pool_model.specs.declared.group.Stage.TheVariants.{Quiescing, Quiesced as QuiescedStage}
 use Rattle.pool_model.specs.declared.item.Action.{Action}
@@ -13,10 +13,11 @@ use Rattle.pool_model.specs.declared.step.Reply.{Reply}
 use Rattle.pool_model.specs.declared.step.Reply.TheVariants.{Held, Receipt, Released, Closed, Quiesced, Planned, Moved, Replan, Committed, Bytes, Refused}
 use Rattle.pool_model.specs.declared.refusal.Refusal.{Refusal}
 use Rattle.pool_model.specs.declared.refusal.Refusal.TheVariants.{NoMemory, DiskFault, NoSpace, Suspended, NotNow, BadPointer, BadDigest, BadMap}
-use Rattle.pool_model.specs.View.{View, Given, DueCall, Sync, Idle, Unplanned, Due, is_syncing, is_planned, is_quiesced, is_suspended, waiting_group, open_group, is_kept, hold_group, is_held, now_of}
+use Rattle.pool_model.specs.View.{View, Given, DueCall, Sync, is_fault_on, Idle, Unplanned, Due, is_syncing, is_planned, is_quiesced, is_suspended, waiting_group, open_group, is_kept, hold_group, is_held, now_of}
 use Rattle.pool_model.specs.Refusals.{greatest, first_cause, may_plan, refusal_of}
 use Rattle.pool_model.specs.Flow.{Flow, flow_of, with_hold, without_hold, with_accepted}
-use Rattle.pool_model.specs.Machine.{with_flow, taken, dropped, committed_next, IsQuiet, IsUnreadable, MayLack, without_memory, AreBytesOf, MayAnswer, StepOf}
+use Rattle.pool_model.specs.Headline.{OutsBy}
+use Rattle.pool_model.specs.Machine.{with_flow, taken, without_disk, dropped, committed_next, FailsOn, GoesWell, GoesWithout, IsDone, IsQuiet, IsUnreadable, MayLack, without_memory, AreBytesOf, MayAnswer, StepOf}
 use Rattle.pool_model.proofs.Causes.{or_none, first_none, not_false}
 
 -- a Plan that is refused leaves its group taken, unless the pool is suspended or no group is due
@@ -39,6 +40,13 @@ NoFault step given = Unit {0}
 abbrev pub IsFaultOn : Given → ℕ → Type 0
 IsFaultOn given disk = (call : DueCall) × (given.fault ≡ Some call) × (call.disk ≡ disk)
 
+-- a Device step that fails on no disk takes none out; one that fails takes its disk out
+pub none_out : (out : ℕ → Bool) (given : Given) → given.fault ≡ None → OutsBy out Device given out
+none_out out given e = λ disk. ap (λ (fault : Option DueCall). is_fault_on fault disk || out disk) (sym e)
+
+pub goes_out : (out : ℕ → Bool) (given : Given) (disk : ℕ) → IsFaultOn given disk → OutsBy out Device given (λ d. (d == disk) || out d)
+goes_out out given disk e = λ d. sym (ap (λ (fault : Option DueCall). is_fault_on fault d || out d) e.1 ∙ ap (λ (on : ℕ). (d == on) || out d) e.2)
+
 -- a property of steps, proved of each way to go on
 pub record EachMove (P : View → Given → Step → Reply → View → Type 0) : Type 0 where
   pub stays : (v : View) (given : Given) (step : Step) (cause : Refusal) → MayStay step cause → NoFault step given → P v given step (Refused cause) v
@@ -46,7 +54,7 @@ pub record EachMove (P : View → Given → Step → Reply → View → Type 0) 
   pub again : (v : View) (given : Given) (timestamp : ℕ) (cause : Refusal) → IsPlanFault cause → P (record v { sync = Unplanned }) given (Plan timestamp) (Refused cause) (record v { sync = Unplanned })
   pub failed : (v : View) (given : Given) (disk : ℕ) (left : List DueCall) → IsFaultOn given disk → P (record v { sync = Due left }) given Device (Refused Suspended) (dropped (record v { sync = Due left }) disk)
   pub replanned : (v : View) (given : Given) (disk : ℕ) (left : List DueCall) → IsFaultOn given disk → P (record v { sync = Due left }) given Device (Replan disk) (dropped (record v { sync = Due left }) disk)
-  pub moved : (v : View) (given : Given) (phase : Phase) (left rest : List DueCall) → given.fault ≡ None → P (record v { sync = Due left }) given Device (Moved phase) (record v { sync = Due rest })
+  pub moved : (v : View) (given : Given) (phase : Phase) (left rest : List DueCall) (out : ℕ → Bool) → OutsBy v.out Device given out → P (record v { sync = Due left }) given Device (Moved phase) (record v { sync = Due rest; out = out })
   pub read : (v : View) (given : Given) (name : List ℕ) (offset len : ℕ) (bytes : List ℕ) → (given.trusted ≡ true → AreBytesOf (now_of v) name offset len bytes) → P v given (Read name offset len) (Bytes bytes) v
   pub read_under : (v : View) (given : Given) (group : ℕ) (name : List ℕ) (offset len : ℕ) (bytes : List ℕ) → is_kept v group ≡ true → (given.trusted ≡ true → AreBytesOf (v.pools group) name offset len bytes) → P v given (ReadUnder group name offset len) (Bytes bytes) v
   pub held : (v : View) (given : Given) (writer : ℕ) → hold_group writer v.holds ≡ None → P v given (Hold writer) (Held (open_group v)) (with_flow v (with_hold (flow_of v) writer (open_group v)))
@@ -57,7 +65,7 @@ pub record EachMove (P : View → Given → Step → Reply → View → Type 0) 
   pub quiesced : (v : View) (given : Given) → is_held (waiting_group v) v.holds ≡ false → P (record v { waiting = Some Quiescing }) given Quiesce (Quiesced (waiting_group v)) (record v { waiting = Some QuiescedStage })
   pub planned : (v : View) (given : Given) (timestamp : ℕ) (calls : List DueCall) → P (record v { sync = Idle; waiting = Some QuiescedStage }) given (Plan timestamp) (Planned (suc v.committed)) (record v { sync = Due calls; waiting = None })
   pub replanned_group : (v : View) (given : Given) (timestamp : ℕ) (calls : List DueCall) → P (record v { sync = Unplanned }) given (Plan timestamp) (Planned (suc v.committed)) (record v { sync = Due calls })
-  pub committed : (v : View) (given : Given) (left : List DueCall) → given.fault ≡ None → P (record v { sync = Due left }) given Device (Committed (suc v.committed)) (committed_next v)
+  pub committed : (v : View) (given : Given) (left : List DueCall) (out : ℕ → Bool) → OutsBy v.out Device given out → P (record v { sync = Due left }) given Device (Committed (suc v.committed)) (committed_next (record v { out = out }))
 
 -- where nothing speaks against planning, there is a group to be planned
 pub plan_none : (v : View) (timestamp : ℕ) → refusal_of v (Plan timestamp) ≡ None → may_plan v ≡ true
@@ -141,6 +149,32 @@ at_waiting P v given step reply w o e p = subst (λ (s : Option Stage). P (recor
 only_flows : (v w : View) (f : Flow) → flow_of w ≡ f → w ≡ with_flow v (flow_of w) → w ≡ with_flow v f
 only_flows v w f e only = only ∙ ap (with_flow v) e
 
+on_fault : (v : View) (given : Given) (disk : ℕ) → FailsOn v given disk → IsFaultOn given disk
+on_fault v given disk fails = (fails.call, fails.fault, fails.on)
+
+-- a commit goes on, or is done, with or without the disk of its last call
+moves_well : (P : View → Given → Step → Reply → View → Type 0) → EachMove P → (v : View) (given : Given) (phase : Phase) (rest : List DueCall) (w : View) → GoesWell v given phase rest w → P v given Device (Moved phase) w
+moves_well P m v given phase rest w g =
+    subst (P v given Device (Moved phase)) (sym g.after)
+    (at_left P v given Device (Moved phase) (record v { sync = Due rest }) g.left g.planned (m.moved v given phase g.left rest v.out (none_out v.out given g.fault)))
+
+moves_without : (P : View → Given → Step → Reply → View → Type 0) → EachMove P → (v : View) (given : Given) (phase : Phase) (rest : List DueCall) (w : View) → GoesWithout v given phase rest w → P v given Device (Moved phase) w
+moves_without P m v given phase rest w g =
+    subst (P v given Device (Moved phase)) (sym g.after)
+    (at_left P v given Device (Moved phase) (record (without_disk v g.disk) { sync = Due rest }) g.fails.left g.fails.planned
+    (m.moved v given phase g.fails.left rest (without_disk v g.disk).out (goes_out v.out given g.disk (on_fault v given g.disk g.fails))))
+
+commits_well : (P : View → Given → Step → Reply → View → Type 0) → EachMove P → (v : View) (given : Given) (done : View) → IsDone v given → done ≡ v → P v given Device (Committed (suc v.committed)) (committed_next done)
+commits_well P m v given done g same =
+    subst (λ (w : View). P v given Device (Committed (suc v.committed)) (committed_next w)) (sym same)
+    (at_left P v given Device (Committed (suc v.committed)) (committed_next v) g.left g.planned (m.committed v given g.left v.out (none_out v.out given g.fault)))
+
+commits_without : (P : View → Given → Step → Reply → View → Type 0) → EachMove P → (v : View) (given : Given) (phase : Phase) (done : View) → GoesWithout v given phase [] done → P v given Device (Committed (suc v.committed)) (committed_next done)
+commits_without P m v given phase done g =
+    subst (λ (w : View). P v given Device (Committed (suc v.committed)) (committed_next w)) (sym g.after)
+    (at_left P v given Device (Committed (suc v.committed)) (committed_next (without_disk v g.disk)) g.fails.left g.fails.planned
+    (m.committed v given g.fails.left (without_disk v g.disk).out (goes_out v.out given g.disk (on_fault v given g.disk g.fails))))
+
 answers_by : (P : View → Given → Step → Reply → View → Type 0) → EachMove P → (v : View) (given : Given) (step : Step) (reply : Reply) (w : View) → refusal_of v step ≡ None → MayAnswer v given step reply w → P v given step reply w
 answers_by P m v given (Hold writer) (Held group) w n g =
     subst (P v given (Hold writer) (Held group)) (sym (only_flows v w (with_hold (flow_of v) writer group) g.0.2 g.1))
@@ -162,15 +196,15 @@ answers_by P m v given (Plan timestamp) (Planned group) w n g =
     subst (P v given (Plan timestamp) (Planned group)) (sym g.3) (subst (λ k. P v given (Plan timestamp) (Planned k) (taken v (Due g.1))) (sym g.0.0) (plans P m v given timestamp g.1 (plan_none v timestamp n)))
 answers_by P m v given (Plan timestamp) (Refused cause) w n g =
     subst (P v given (Plan timestamp) (Refused cause)) (sym g.1) (begins P m v given timestamp cause (plan_fault v given cause g.0) (plan_none v timestamp n))
-answers_by P m v given Device (Moved phase) w n g =
-    subst (P v given Device (Moved phase)) (sym g.6) (at_left P v given Device (Moved phase) (record v { sync = Due g.1 }) g.0 g.2 (m.moved v given phase g.0 g.1 g.5))
+answers_by P m v given Device (Moved phase) w n g = ⊎_elim (moves_well P m v given phase g.0 w) (moves_without P m v given phase g.0 w) g.2
 answers_by P m v given Device (Committed group) w n g =
-    subst (P v given Device (Committed group)) (sym g.5) (subst (λ k. P v given Device (Committed k) (committed_next v)) (sym g.0.1) (at_left P v given Device (Committed (suc v.committed)) (committed_next v) g.1 g.2 (m.committed v given g.1 g.4)))
+    subst (P v given Device (Committed group)) (sym g.3) (subst (λ k. P v given Device (Committed k) (committed_next g.1)) (sym g.0.1)
+    (⊎_elim (λ done. commits_well P m v given g.1 done.0 done.1) (λ without. commits_without P m v given without.0 g.1 without.1) g.2))
 answers_by P m v given Device (Replan disk) w n g =
-    subst (P v given Device (Replan disk)) (sym g.2) (at_dropped P v given (Replan disk) disk g.0.left g.0.planned (m.replanned v given disk g.0.left (g.0.call, g.0.fault, g.0.on)))
+    subst (P v given Device (Replan disk)) (sym g.3) (at_dropped P v given (Replan disk) disk g.0.left g.0.planned (m.replanned v given disk g.0.left (on_fault v given disk g.0)))
 answers_by P m v given Device (Refused cause) w n g =
     subst (λ c. P v given Device (Refused c) w) (sym g.0)
-    (subst (P v given Device (Refused Suspended)) (sym g.4) (at_dropped P v given (Refused Suspended) g.1 g.2.left g.2.planned (m.failed v given g.1 g.2.left (g.2.call, g.2.fault, g.2.on))))
+    (subst (P v given Device (Refused Suspended)) (sym g.4) (at_dropped P v given (Refused Suspended) g.1 g.2.left g.2.planned (m.failed v given g.1 g.2.left (on_fault v given g.1 g.2))))
 answers_by P m v given (Read name offset len) (Bytes bytes) w n g = subst (P v given (Read name offset len) (Bytes bytes)) (sym g.1) (m.read v given name offset len bytes g.0)
 answers_by P m v given (Read name offset len) (Refused cause) w n g = subst (P v given (Read name offset len) (Refused cause)) (sym g.1) (m.stays v given (Read name offset len) cause tt tt)
 answers_by P m v given (ReadUnder group name offset len) (Bytes bytes) w n g =

@@ -80,7 +80,7 @@ now_moves = record {
   again = λ v given t cause is c pool ledger steps givens replies s b f. let d = based_on _ c pool ledger b in f (ledger_with ledger []) (record { below = d.below; same = d.same; made = d.made });
   failed = λ v given disk left e c pool ledger steps givens replies s b f. let d = based_on _ c pool ledger b in f (ledger_with ledger []) (record { below = d.below; same = d.same; made = d.made });
   replanned = λ v given disk left e c pool ledger steps givens replies s b f. let d = based_on _ c pool ledger b in f (ledger_with ledger []) (record { below = d.below; same = d.same; made = d.made });
-  moved = λ v given phase left rest e c pool ledger steps givens replies s b f. let d = based_on _ c pool ledger b in f (ledger_with ledger []) (record { below = d.below; same = d.same; made = d.made });
+  moved = λ v given phase left rest out e c pool ledger steps givens replies s b f. let d = based_on _ c pool ledger b in f (ledger_with ledger []) (record { below = d.below; same = d.same; made = d.made });
   read = λ v given name offset len bytes a c pool ledger steps givens replies s b f. ((λ trusted. let x = a trusted in (x.0, ap (volume_at name) (now_from v c pool ledger b) ∙ x.1, x.2)), f ledger b);
   read_under = λ v given g name offset len bytes k a c pool ledger steps givens replies s b f. f (ledger_with ledger []) (based_on v c pool ledger b);
   held = λ v given by n c pool ledger steps givens replies s b f. let d = based_on v c pool ledger b in f (ledger_with ledger []) (record { below = d.below; same = d.same; made = d.made });
@@ -91,7 +91,7 @@ now_moves = record {
   quiesced = λ v given e c pool ledger steps givens replies s b f. let d = based_on _ c pool ledger b in f (ledger_with ledger []) (record { below = d.below; same = d.same; made = d.made });
   planned = λ v given t calls c pool ledger steps givens replies s b f. let d = based_on _ c pool ledger b in f (ledger_with ledger []) (record { below = d.below; same = d.same; made = d.made });
   replanned_group = λ v given t calls c pool ledger steps givens replies s b f. let d = based_on _ c pool ledger b in f (ledger_with ledger []) (record { below = d.below; same = d.same; made = d.made });
-  committed = λ v given left e c pool ledger steps givens replies s k f. let d = based_on _ c pool ledger k in f (ledger_with ledger []) (based_next v c pool (ledger_with ledger []) (record { below = d.below; same = d.same; made = d.made }));
+  committed = λ v given left out e c pool ledger steps givens replies s k f. let d = based_on _ c pool ledger k in f (ledger_with ledger []) (based_next (record v { out = out }) c pool (ledger_with ledger []) (record { below = d.below; same = d.same; made = d.made }));
 }
 
 pub told_now : (v : View) (steps : List Step) (givens : List Given) (replies : List Reply) (w : View) → Run v steps givens replies w → IsSound v → (c : ℕ) (pool : PlainPool) (ledger : Ledger) → IsBased v c pool ledger → ReadsNow c pool ledger (open_group v) steps givens replies

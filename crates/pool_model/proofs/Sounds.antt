@@ -33,7 +33,7 @@ flow_moves = record {
   again = λ v given t cause is. plan_takes (flow_of (record v { sync = Unplanned })) t cause (flow_of (record v { sync = Unplanned })) is (inl refl, refl);
   failed = λ v given disk left e. refl;
   replanned = λ v given disk left e. refl;
-  moved = λ v given phase left rest e. refl;
+  moved = λ v given phase left rest out e. refl;
   read = λ v given name offset len bytes a. refl;
   read_under = λ v given g name offset len bytes k a. refl;
   held = λ v given by n. (n, refl, refl);
@@ -44,7 +44,7 @@ flow_moves = record {
   quiesced = λ v given e. (refl, e, refl, refl);
   planned = λ v given t calls. (refl, (inr refl, refl));
   replanned_group = λ v given t calls. (refl, (inl refl, refl));
-  committed = λ v given left e. (refl, refl, refl);
+  committed = λ v given left out e. (refl, refl, refl);
 }
 
 pub flow_step : (v : View) (given : Given) (step : Step) (reply : Reply) (w : View) → StepOf v given step reply w → FlowStep (flow_of v) step reply (flow_of w)
@@ -62,7 +62,7 @@ first_moves = record {
   again = λ v given t cause is s. s;
   failed = λ v given disk left e s. s;
   replanned = λ v given disk left e s. s;
-  moved = λ v given phase left rest e s. s;
+  moved = λ v given phase left rest out e s. s;
   read = λ v given name offset len bytes a s. s;
   read_under = λ v given g name offset len bytes k a s. s;
   held = λ v given by n s. s;
@@ -73,7 +73,7 @@ first_moves = record {
   quiesced = λ v given e s. s;
   planned = λ v given t calls s. s;
   replanned_group = λ v given t calls s. s;
-  committed = λ v given left e s. omega arith;
+  committed = λ v given left out e s. omega arith;
 }
 
 pub sound_step : (v : View) (given : Given) (step : Step) (reply : Reply) (w : View) → IsSound v → StepOf v given step reply w → IsSound w

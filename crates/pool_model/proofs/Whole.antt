@@ -13,7 +13,7 @@ use Rattle.pool_model.proofs.Uptos.{upto_base}
 use Rattle.pool_model.proofs.Committing.{told_pools, told_reads}
 use Rattle.pool_model.proofs.Nows.{told_now}
 use Rattle.pool_model.proofs.Counting.{told_moves, in_order, told_commits}
-use Rattle.pool_model.proofs.Answered.{told_refusals, told_outs}
+use Rattle.pool_model.proofs.Answered.{told_refusals, told_outs, told_slots}
 
 pub sound_run : (v : View) (steps : List Step) (givens : List Given) (replies : List Reply) (w : View) → Run v steps givens replies w → IsSound v → IsSound w
 sound_run v [] [] [] w r s = subst IsSound (sym r) s
@@ -32,6 +32,7 @@ headline v steps givens replies w s r = record {
   reads_now = told_now v steps givens replies w r s v.committed (v.pools v.committed) v.ledger (record { below = omega arith; same = λ group. refl; made = upto_base v.committed (v.pools v.committed) v.ledger });
   refusals = told_refusals v steps givens replies w r;
   outs = told_outs v steps givens replies w r;
+  slots = told_slots v steps givens replies w r;
   sound = sound_run v steps givens replies w r s;
 }
 

@@ -85,4 +85,6 @@ pub record Headline (v : View) (steps : List Step) (givens : List Given) (replie
   pub refusals : RightlyAnswered v steps givens replies w
   -- a disk goes out by a failed write or flush of a Device step, and by nothing else
   pub outs : OutsMove v.out steps givens w.out
+  -- whether commits end in slots never changes
+  pub slots : w.slots ≡ v.slots
   pub sound : IsSound w

@@ -1,8 +1,8 @@
 -- The machine: what each step is answered, and what it changes. What becomes of groups, holds and items is said in Flow.
-use Rattle.std.specs.Prelude.{◌≡◌, ◌⊎◌, ℕ, suc, ◌+◌, ◌≤◌, ◌<◌, List, [], ◌∷◌, ◌++◌, length, map, slice_range, Contains, Bool, true, false, IsTrue, Some, None, filter, not, IsPermutation, ◌==◌, ◌&&◌, ◌||◌, if◌then◌else◌}
+use Rattle.std.specs.Prelude.{◌≡◌, ◌⊎◌, ℕ, suc, ◌+◌, ◌≤◌, ◌<◌, List, [], ◌∷◌, ◌++◌, length, map, slice_range, Contains, Bool, true, false, IsTrue, Some, None, filter, flat_map, replicate, not, IsPermutation, nat_le, ◌==◌, ◌&&◌, ◌||◌, if◌then◌else◌}
 use Rattle.std.specs.List.{AllByRecursion}
 use Rattle.pool_model.specs.declared.step.Phase.{Phase}
-use Rattle.pool_model.specs.declared.step.Phase.TheVariants.{Blocks, BlocksFlush}
+use Rattle.pool_model.specs.declared.step.Phase.TheVariants.{Blocks, BlocksFlush, Slots, SlotsFlush}
 use Rattle.pool_model.specs.declared.step.Step.{Step}
 use Rattle.pool_model.specs.declared.step.Step.TheVariants.{Hold, Write as WriteStep, Act, Release, Close, Quiesce, Plan, Device, Read, ReadUnder}
 use Rattle.pool_model.specs.declared.step.Reply.{Reply}
@@ -35,9 +35,13 @@ without_plan Idle = Idle
 without_plan Unplanned = Unplanned
 without_plan (Due calls) = Unplanned
 
+-- a disk is out too
+abbrev pub without_disk : View → ℕ → View
+without_disk v disk = record v { out = λ d. (d == disk) || v.out d }
+
 -- a disk is out, and where there is a plan it is dropped
 abbrev pub dropped : View → ℕ → View
-dropped v disk = record v { out = λ d. (d == disk) || v.out d; sync = without_plan v.sync }
+dropped v disk = record (without_disk v disk) { sync = without_plan v.sync }
 
 -- the group after the committed one is committed: what it accepted has taken effect
 abbrev pub committed_next : View → View
@@ -58,19 +62,40 @@ due_flush disk = record { disk = disk; phase = BlocksFlush; number = 0 }
 abbrev pub rank : Phase → ℕ
 rank Blocks = 0
 rank BlocksFlush = 1
+rank Slots = 2
+rank SlotsFlush = 3
+
+-- from the slots on
+abbrev pub is_late : Phase → Bool
+is_late phase = nat_le (rank Slots) (rank phase)
+
+abbrev pub in_phase : Phase → DueCall → Bool
+in_phase phase call = rank call.phase == rank phase
 
 abbrev pub is_flush : DueCall → Bool
-is_flush call = rank call.phase == 1
+is_flush call = in_phase BlocksFlush call || in_phase SlotsFlush call
 
 -- the numbers of the writes to a disk
 abbrev pub numbers_on : ℕ → List DueCall → List ℕ
 numbers_on disk calls = map (λ call. call.number) (filter (λ call. not (is_flush call) && (call.disk == disk)) calls)
 
--- a plan: writes to disks in use, of each disk numbered from 0 on, and one flush of each disk in use
+-- the disks that are called in a phase, one for each call
+abbrev pub disks_called : Phase → List DueCall → List ℕ
+disks_called phase calls = map (λ call. call.disk) (filter (in_phase phase) calls)
+
+-- where commits end in slots a commit writes one in each of the four labels of each disk in use, and then flushes these disks
+abbrev pub disks_with_slots : View → List ℕ
+disks_with_slots v = if v.slots then disks_in_use v else []
+
+-- a plan: calls of disks in use, the writes to each disk numbered from 0 on, those of slots behind those of blocks
 pub record IsPlan (v : View) (calls : List DueCall) : Type 0 where
   pub in_use : AllByRecursion (λ call. Contains (disks_in_use v) call.disk) calls
   pub numbered : (disk : ℕ) → IsPermutation (numbers_on disk calls) (counted 0 (length (numbers_on disk calls)))
-  pub flushes : IsPermutation (map (λ call. call.disk) (filter is_flush calls)) (disks_in_use v)
+  pub behind : (block slot : DueCall) → Contains calls block → Contains calls slot → block.phase ≡ Blocks → slot.phase ≡ Slots → block.disk ≡ slot.disk → block.number < slot.number
+  -- one flush behind the blocks, and with slots four writes of slots and one flush behind these
+  pub flushes : IsPermutation (disks_called BlocksFlush calls) (disks_in_use v)
+  pub slots : IsPermutation (disks_called Slots calls) (flat_map (λ disk. replicate 4 disk) (disks_with_slots v))
+  pub slot_flushes : IsPermutation (disks_called SlotsFlush calls) (disks_with_slots v)
 
 -- one to four calls of those left, in one phase, and none of an earlier phase was left
 pub record Makes (left made rest : List DueCall) (phase : Phase) : Type 0 where
@@ -95,6 +120,40 @@ pub record FailsOn (v : View) (given : Given) (disk : ℕ) : Type 0 where
   pub last : given.made ≡ before ++ call ∷ []
   pub makes : Makes left given.made rest call.phase
   pub fault : given.fault ≡ Some call
+
+-- calls of a plan were made and none failed: these are left
+pub record GoesWell (v : View) (given : Given) (phase : Phase) (rest : List DueCall) (w : View) : Type 0 where
+  pub left : List DueCall
+  pub planned : v.sync ≡ Due left
+  pub makes : Makes left given.made rest phase
+  pub fault : given.fault ≡ None
+  pub after : w ≡ record v { sync = Due rest }
+
+-- From the slots on one failed: its disk is out, and what was left on it is left no more. No vdev has more disks out than
+-- it has parities.
+pub record GoesWithout (v : View) (given : Given) (phase : Phase) (rest : List DueCall) (w : View) : Type 0 where
+  pub disk : ℕ
+  pub fails : FailsOn v given disk
+  pub last : phase ≡ fails.call.phase
+  pub late : is_late phase ≡ true
+  pub others : rest ≡ filter (λ call. not (call.disk == disk)) fails.rest
+  pub after : w ≡ record (without_disk v disk) { sync = Due rest }
+  pub enough : is_suspended w ≡ false
+
+-- a commit goes on, with or without the disk of its last call: of its plan these calls are left
+abbrev pub GoesOn : View → Given → Phase → List DueCall → View → Type 0
+GoesOn v given phase rest w = GoesWell v given phase rest w ⊎ GoesWithout v given phase rest w
+
+-- all that was left of a plan was made, and none failed
+pub record IsDone (v : View) (given : Given) : Type 0 where
+  pub left : List DueCall
+  pub planned : v.sync ≡ Due left
+  pub makes : MakesAll left given.made
+  pub fault : given.fault ≡ None
+
+-- a commit is done, with or without the disk of its last call: of its plan no call is left
+abbrev pub Ends : View → Given → View → Type 0
+Ends v given w = (IsDone v given × (w ≡ v)) ⊎ ((phase : Phase) × GoesWithout v given phase [] w)
 
 -- nothing was written or flushed
 pub record IsQuiet (given : Given) : Type 0 where
@@ -143,9 +202,9 @@ MayAnswer v given Close (Closed group) w = OnlyFlows v Close (Closed group) w
 MayAnswer v given Quiesce (Quiesced group) w = OnlyFlows v Quiesce (Quiesced group) w
 MayAnswer v given (Plan timestamp) (Planned group) w = FlowStep (flow_of v) (Plan timestamp) (Planned group) (flow_of w) × (calls : List DueCall) × IsPlan v calls × (w ≡ taken v (Due calls))
 MayAnswer v given (Plan timestamp) (Refused cause) w = (IsUnreadable v given cause ⊎ ((cause ≡ NoSpace) × (given.full ≡ true))) × (w ≡ taken v Unplanned)
-MayAnswer v given Device (Moved phase) w = (left rest : List DueCall) × (v.sync ≡ Due left) × Makes left given.made rest phase × (0 < length rest) × (given.fault ≡ None) × (w ≡ record v { sync = Due rest })
-MayAnswer v given Device (Committed group) w = FlowStep (flow_of v) Device (Committed group) (flow_of w) × (left : List DueCall) × (v.sync ≡ Due left) × MakesAll left given.made × (given.fault ≡ None) × (w ≡ committed_next v)
-MayAnswer v given Device (Replan disk) w = FailsOn v given disk × (is_suspended (dropped v disk) ≡ false) × (w ≡ dropped v disk)
+MayAnswer v given Device (Moved phase) w = (rest : List DueCall) × (0 < length rest) × GoesOn v given phase rest w
+MayAnswer v given Device (Committed group) w = FlowStep (flow_of v) Device (Committed group) (flow_of w) × (done : View) × Ends v given done × (w ≡ committed_next done)
+MayAnswer v given Device (Replan disk) w = (fails : FailsOn v given disk) × (is_late fails.call.phase ≡ false) × (is_suspended (dropped v disk) ≡ false) × (w ≡ dropped v disk)
 MayAnswer v given Device (Refused cause) w = (cause ≡ Suspended) × (disk : ℕ) × FailsOn v given disk × (is_suspended (dropped v disk) ≡ true) × (w ≡ dropped v disk)
 MayAnswer v given (Read name offset len) (Bytes bytes) w = (given.trusted ≡ true → AreBytesOf (now_of v) name offset len bytes) × (w ≡ v)
 MayAnswer v given (Read name offset len) (Refused cause) w = IsUnreadable v given cause × (w ≡ v)

@@ -29,6 +29,7 @@ pub data Sync : Type 0 where
 
 pub record View : Type 0 where
   pub vdevs : List Vdev
+  pub slots : Bool  -- whether a commit ends in uberblock slots: a pool whose disks have no labels has none
   pub first : ℕ  -- the group that was committed as the machine started
   pub committed : ℕ  -- the group that was committed last
   pub sync : Sync
@@ -41,7 +42,7 @@ pub record View : Type 0 where
 
 -- an empty pool over these vdevs is committed as group 3
 abbrev pub started : List Vdev → View
-started vdevs = record { vdevs = vdevs; first = 3; committed = 3; sync = Idle; waiting = None; holds = []; next = λ writer. 1; ledger = λ group. no_items; pools = λ group. no_volumes; out = λ disk. false }
+started vdevs = record { vdevs = vdevs; slots = false; first = 3; committed = 3; sync = Idle; waiting = None; holds = []; next = λ writer. 1; ledger = λ group. no_items; pools = λ group. no_volumes; out = λ disk. false }
 
 -- ---- groups
 

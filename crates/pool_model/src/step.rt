@@ -42,8 +42,14 @@ pub enum Step {
 /// A phase of a commit. None begins before the one before it is done.
 #[derive(Clone, Copy, Debug, PartialEq, Eq)]
 pub enum Phase {
+    /// Writes of the group's blocks.
     Blocks,
+    /// A flush of each disk in use.
     BlocksFlush,
+    /// Where the disks have labels: the uberblock, in a slot of each of the four labels of each disk in use.
+    Slots,
+    /// A flush of each of these disks.
+    SlotsFlush,
 }
 
 #[derive(Debug, Drop)]
@@ -54,10 +60,12 @@ pub enum Reply {
     Closed(u64),
     Quiesced(u64),
     Planned(u64),
-    /// Device calls were made, the last of them in this phase, and some are left.
+    /// Device calls were made, the last of them in this phase, and some are left. Where that one failed, which it may from
+    /// the slots on, its disk is out and nothing is left on it.
     Moved(Phase),
-    /// This disk failed a write or a flush: it is out, and the plan is dropped.
+    /// This disk failed a write or a flush before the slots: it is out, and the plan is dropped.
     Replan(usize),
+    /// No device call is left. From the slots on the last one may have failed: its disk is out.
     Committed(u64),
     Bytes(Bytes),
     Refused(Refusal),
