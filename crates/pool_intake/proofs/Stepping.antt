@@ -51,7 +51,7 @@ Goes v step reply new = (w : View) × StepOf v nothing_given step reply w × Fol
 -- ---- nothing changes
 
 kept : (v : View) → KeepsCommitted v v
-kept v = record { vdevs = refl; first = refl; committed = refl; sync = refl; pools = refl; out = refl; synced = λ s. refl }
+kept v = record { vdevs = refl; slots = refl; first = refl; committed = refl; sync = refl; pools = refl; out = refl; synced = λ s. refl }
 
 -- the pipeline carries the same flow, and the index knows the same pool
 pub stays : (pipeline other : Pipeline) (index : NameIndex) (v : View) → Follows (record { pipeline = pipeline; index = index }) v → IsUnchanged pipeline other → Follows (record { pipeline = other; index = index }) v
@@ -129,7 +129,7 @@ goes old new v step reply waiting holds next ledger r s k n g same = (
     made = below_step v nothing_given step reply (moved v waiting holds next ledger) s r.made;
     good = g;
   },
-  record { vdevs = refl; first = refl; committed = refl; sync = refl; pools = refl; out = refl; synced = same },
+  record { vdevs = refl; slots = refl; first = refl; committed = refl; sync = refl; pools = refl; out = refl; synced = same },
 )
 
 -- one that takes no action: the index stays

@@ -24,6 +24,7 @@ pub record Follows (intake : Intake) (v : View) : Type 0 where
 -- what is committed, and what the group that is synced has accepted, stays
 pub record KeepsCommitted (v w : View) : Type 0 where
   pub vdevs : w.vdevs ≡ v.vdevs
+  pub slots : w.slots ≡ v.slots
   pub first : w.first ≡ v.first
   pub committed : w.committed ≡ v.committed
   pub sync : w.sync ≡ v.sync
