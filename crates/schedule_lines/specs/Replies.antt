@@ -2,7 +2,7 @@
 use Rattle.std.specs.Prelude.{◌≡◌, ℕ, List, [], ◌∷◌, ◌++◌, codes}
 use Rattle.std.specs.Fmt.{decimal}
 use Rattle.pool_model.specs.declared.step.Phase.{Phase}
-use Rattle.pool_model.specs.declared.step.Phase.TheVariants.{Blocks, BlocksFlush}
+use Rattle.pool_model.specs.declared.step.Phase.TheVariants.{Blocks, BlocksFlush, Slots, SlotsFlush}
 use Rattle.pool_model.specs.declared.step.Reply.{Reply}
 use Rattle.pool_model.specs.declared.step.Reply.TheVariants.{Held, Receipt, Released, Closed, Quiesced, Planned, Moved, Replan, Committed, Bytes, Refused}
 use Rattle.pool_model.specs.declared.refusal.Refusal.{Refusal}
@@ -14,6 +14,8 @@ use Rattle.schedule_lines.specs.Runs.{AreRuns, runs_text}
 abbrev pub phase_text : Phase → List ℕ
 phase_text Blocks = codes "Blocks"
 phase_text BlocksFlush = codes "BlocksFlush"
+phase_text Slots = codes "Slots"
+phase_text SlotsFlush = codes "SlotsFlush"
 
 -- a space and the argument, if there is one
 abbrev pub argument_text : Refusal → List ℕ

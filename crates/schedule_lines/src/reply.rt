@@ -12,6 +12,8 @@ fn phase_text(phase: Phase) -> &'static str
     match phase {
         Phase::Blocks => "Blocks",
         Phase::BlocksFlush => "BlocksFlush",
+        Phase::Slots => "Slots",
+        Phase::SlotsFlush => "SlotsFlush",
     }
 }
 

@@ -106,20 +106,22 @@ fn reply_of(alloc: Global, number: usize) -> Result<Reply, AllocError> {
         5 => Reply::Planned(4),
         6 => Reply::Moved(Phase::Blocks),
         7 => Reply::Moved(Phase::BlocksFlush),
-        8 => Reply::Replan(2),
-        9 => Reply::Committed(4),
-        10 => Reply::Refused(Cause::OutOfOrder { expected: 2 }),
-        11 => Reply::Refused(Cause::GroupGone),
+        8 => Reply::Moved(Phase::Slots),
+        9 => Reply::Moved(Phase::SlotsFlush),
+        10 => Reply::Replan(2),
+        11 => Reply::Committed(4),
+        12 => Reply::Refused(Cause::OutOfOrder { expected: 2 }),
+        13 => Reply::Refused(Cause::GroupGone),
         _ => Reply::Bytes(Bytes::new(Vec::from_slice(alloc, &[255; 3])?)),
     })
 }
 
 const TEXTS: &str =
-    "held 4, receipt 5, released, closed 4, quiesced 4, planned 4, moved Blocks, moved BlocksFlush, replan 2, committed 4, refused 7 OutOfOrder 2, refused 17 GroupGone, ffx3, ";
+    "held 4, receipt 5, released, closed 4, quiesced 4, planned 4, moved Blocks, moved BlocksFlush, moved Slots, moved SlotsFlush, replan 2, committed 4, refused 7 OutOfOrder 2, refused 17 GroupGone, ffx3, ";
 
 fn reply_texts(alloc: Global) -> Result<String, Fail> {
     let mut texts = String::new(alloc);
-    for number in 0..13 {
+    for number in 0..15 {
         let reply = reply_of(alloc, number)?;
         texts.push_str(reply_text(alloc, &reply)?.as_str())?;
         texts.push_str(", ")?;
