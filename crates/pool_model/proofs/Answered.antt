@@ -35,7 +35,7 @@ stays_out out Device given e = none_out out given e
 stays_out out (Hold writer) given e = λ disk. refl
 stays_out out step given e = λ disk. refl
 
-out_moves : EachMove (λ v given step reply w. OutsBy v.out step given w.out)
+pub out_moves : EachMove (λ v given step reply w. OutsBy v.out step given w.out)
 out_moves = record {
   stays = λ v given step cause may e. stays_out v.out step given e;
   begun = λ v given t cause is d. refl;

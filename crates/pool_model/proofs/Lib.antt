@@ -13,4 +13,6 @@ pub mod Nows
 pub mod Counting
 pub mod Answered
 pub mod Answering
+pub mod Leaving
+pub mod Finishing
 pub mod Whole

@@ -9,3 +9,4 @@ pub mod Sound
 pub mod Accepted
 pub mod Groups
 pub mod Headline
+pub mod Plans

@@ -1,10 +1,11 @@
 //! Laws of the machine, over every run: functions with no code, whose contracts are proved of the definitions.
-ghost use Rattle.std.specs.Prelude.{ℕ, suc, List, [], ◌∷◌, ◌++◌, ◌≡◌, false, Some, None, if◌then◌else◌};
+ghost use Rattle.std.specs.Prelude.{ℕ, suc, List, [], ◌∷◌, ◌++◌, Contains, ◌≡◌, ◌⊎◌, false, Some, None, if◌then◌else◌};
 ghost use Rattle.std.specs.Option.{option_map, option_or};
+ghost use Rattle.pool_model.specs.declared.step.Phase.{Phase};
 ghost use Rattle.pool_model.specs.declared.step.Step.{Step};
 ghost use Rattle.pool_model.specs.declared.step.Step.TheVariants as steps;
 ghost use Rattle.pool_model.specs.declared.step.Reply.{Reply};
-ghost use Rattle.pool_model.specs.declared.step.Reply.TheVariants.{Held, Receipt, Released, Closed, Quiesced, Planned};
+ghost use Rattle.pool_model.specs.declared.step.Reply.TheVariants.{Held, Receipt, Released, Closed, Quiesced, Planned, Moved, Committed};
 ghost use Rattle.pool_model.specs.declared.item.Action.{Action};
 ghost use Rattle.pool_model.specs.declared.item.Write.{Write};
 ghost use Rattle.pool_model.specs.declared.volume.PlainVolume.{PlainVolume};
@@ -18,6 +19,7 @@ ghost use Rattle.pool_model.specs.Groups.{counters_of, MovesBy};
 ghost use Rattle.pool_model.specs.Accepted.{OnceInOrder};
 ghost use Rattle.pool_model.specs.Sound.{IsSound};
 ghost use Rattle.pool_model.specs.Headline.{Headline};
+ghost use Rattle.pool_model.specs.Plans.{NonePlanned, IsWhollyMade};
 
 /// The headline: what any run of the machine from a sound view tells, whatever its steps.
 pub fn headline_of_runs()
@@ -60,6 +62,26 @@ pub fn steps_without_a_cause_may_be_answered()
     ensures plan { (v : View) (timestamp : ℕ) → refusal_of v (steps.Plan timestamp) ≡ None →
         (w : View)
         × IsAnswered v nothing_given (steps.Plan timestamp) (Planned (suc v.committed)) w }
+{}
+
+/// From the step that plans a group to the one that commits it each call of the plan is made, but on disks that go out:
+/// where commits end in slots, so are those of its slots. No other plan is made meanwhile.
+pub fn plans_are_made_by_their_commit()
+    ensures { (v : View) (given : Given) (timestamp group : ℕ) (mid : View) (more : List Step) (givens : List Given) (replies : List Reply) (w : View) →
+        StepOf v given (steps.Plan timestamp) (Planned group) mid → Run mid more givens replies w →
+        NonePlanned replies → w.committed ≡ group → IsWhollyMade mid givens w }
+{}
+
+/// A group is answered as committed only where each call of its plan that was left is made in that step, or its disk is
+/// out; and while the commit goes on such a call is made, or left. So is each call of a plan, up to its commit.
+pub fn commits_leave_no_call()
+    ensures moved { (v : View) (given : Given) (phase : Phase) (w : View) (left : List DueCall) (call : DueCall) →
+        StepOf v given steps.Device (Moved phase) w → v.sync ≡ Due left → Contains left call →
+        w.out call.disk ≡ false → (rest : List DueCall) × (w.sync ≡ Due rest)
+        × (Contains given.made call ⊎ Contains rest call) }
+    ensures committed { (v : View) (given : Given) (group : ℕ) (w : View) (left : List DueCall) (call : DueCall) →
+        StepOf v given steps.Device (Committed group) w → v.sync ≡ Due left → Contains left call →
+        w.out call.disk ≡ false → Contains given.made call }
 {}
 
 /// A disk that goes out drops the plan, where there is one: its group stays taken. Where there is none the sync stays, so
