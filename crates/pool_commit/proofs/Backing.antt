@@ -113,6 +113,7 @@ backs_after : (s : State) (store : Store) (missing : List ℕ) (v : View) → On
 backs_after s store missing v reads backs =
     let same : store.spaces ≡ s.store.spaces = ap (λ (t : Store). t.spaces) reads.rest in record {
       vdevs = backs.vdevs ∙ sym (ap (λ (t : Store). vdevs_of t.spaces) reads.rest);
+      slots = backs.slots;
       out = λ disk. backs.out disk ∙ sym (ap (λ (t : Store). is_out t.out disk) reads.rest);
       committed = backs.committed;
       blocks = record {

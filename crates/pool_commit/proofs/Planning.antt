@@ -124,13 +124,13 @@ pub same_vdevs : (spaces others : List VdevSpace) → shapes_of others ≡ shape
 same_vdevs spaces others same = ap (λ (shapes : List VdevShape). map (λ shape. shown shape.vdev) shapes) same
 
 -- writes to disks in use, and then their flushes
-is_plan : (old new : Store) (v : View) (flushes : List ℕ) (stored planned : Contents) → v.vdevs ≡ vdevs_of old.spaces → ((disk : ℕ) → v.out disk ≡ is_out old.out disk)
+is_plan : (old new : Store) (v : View) (flushes : List ℕ) (stored planned : Contents) → v.vdevs ≡ vdevs_of old.spaces → v.slots ≡ false → ((disk : ℕ) → v.out disk ≡ is_out old.out disk)
     → old.due ≡ [] → OnlyReadsAndPlans old new [] → Plans new stored planned → flushes ≡ disks_in_use v → IsPlan v (left_calls none_before new.due flushes)
-is_plan old new v flushes stored planned vdevs out none kept plans are =
+is_plan old new v flushes stored planned vdevs slots out none kept plans are =
     let only : new.due ≡ kept.added = kept.due ∙ ap (λ (writes : List ColumnWrite). writes ++ kept.added) none in
     subst (IsPlan v) (sym (ap (λ (calls : List DueCall). calls ++ map due_flush flushes) (calls_of_disks none_before new.due)
     ∙ ap (λ (disks : List ℕ). writes_on none_before (map (λ write. write.disk) new.due) ++ map due_flush disks) are))
-    (plan_of v (map (λ write. write.disk) new.due)
+    (plan_of v (map (λ write. write.disk) new.due) slots
     (all_disks (Contains (disks_in_use v)) new.due (λ write held.
     in_filter (λ disk. not (v.out disk)) (disks_of v.vdevs) write.disk
     (ap not (out write.disk ∙ All-contains (λ (w : ColumnWrite). is_out old.out w.disk ≡ false) kept.added write kept.in_use
@@ -197,6 +197,7 @@ pub backs_begun : (s : State) (store : Store) (group : ℕ) (v : View) → store
 backs_begun s store group v out shapes begins next sync none backs =
     let held : AreHeld store.spaces filled_marks s.kept.committed backs.blocks.reached.reach = begun_held s store group v begins next backs in record {
       vdevs = backs.vdevs ∙ sym (same_vdevs s.store.spaces store.spaces shapes);
+      slots = backs.slots;
       out = λ disk. backs.out disk ∙ sym (ap (λ (list : List Bool). is_out list disk) out);
       committed = backs.committed;
       blocks = record {
@@ -230,6 +231,7 @@ backs_still s new v no_plan kept backs =
     let there = kept.plans backs.blocks.stored backs.blocks.planned backs.blocks.plans in
     record {
       vdevs = backs.vdevs ∙ sym (same_vdevs s.store.spaces new.spaces kept.shapes);
+      slots = backs.slots;
       out = λ disk. backs.out disk ∙ sym (ap (λ (list : List Bool). is_out list disk) kept.out);
       committed = backs.committed;
       blocks = record {
@@ -344,7 +346,7 @@ plan_is_backed s made new group last plan gone items v backs none next is_last a
     let due : new.due ≡ made.due = gives.due in
     let plan_is : IsPlan v (left_calls none_before new.due plan.flushes.items) =
     subst (λ (writes : List ColumnWrite). IsPlan v (left_calls none_before writes plan.flushes.items)) (sym due)
-    (is_plan s.store made v plan.flushes.items stored later backs.vdevs backs.out none kept there.1 all) in
+    (is_plan s.store made v plan.flushes.items stored later backs.vdevs backs.slots backs.out none kept there.1 all) in
     let spells : SpellsGroup later (suc v.committed) plan.after (applied (suc v.committed) pool (v.ledger (suc v.committed))) =
     subst (λ (entry : Entry). SpellsGroup later (suc v.committed) plan.after (applied (suc v.committed) pool entry)) are
     (subst (λ (n : ℕ). SpellsGroup later n plan.after (applied n pool items)) next there.3) in
@@ -365,6 +367,7 @@ plan_is_backed s made new group last plan gone items v backs none next is_last a
       plan_is,
       record {
         vdevs = backs.vdevs ∙ sym (same_vdevs s.store.spaces new.spaces shapes);
+        slots = backs.slots;
         out = λ disk. backs.out disk ∙ sym (ap (λ (list : List Bool). is_out list disk) (gives.out ∙ kept.out));
         committed = backs.committed;
         blocks = record {
@@ -395,6 +398,7 @@ backs_dropped s made mid new gone group v no_plan kept gives out shapes filled p
     let there = kept.plans backs.blocks.stored backs.blocks.planned backs.blocks.plans in
     record {
       vdevs = backs.vdevs ∙ sym (same_vdevs s.store.spaces new.spaces (shapes ∙ gives.shapes ∙ kept.shapes));
+      slots = backs.slots;
       out = λ disk. backs.out disk ∙ sym (ap (λ (list : List Bool). is_out list disk) (out ∙ gives.out ∙ kept.out));
       committed = backs.committed;
       blocks = record {

@@ -16,7 +16,7 @@ use Rattle.pool_model.specs.declared.step.Phase.TheVariants.{Blocks, BlocksFlush
 use Rattle.raidz_io.proofs.Calls.{Contains-none}
 use Rattle.raidz_io.specs.declared.writes.ColumnWrite.{ColumnWrite}
 use Rattle.pool_model.specs.View.{View, DueCall}
-use Rattle.pool_model.specs.Machine.{due_flush, Makes, MakesAll, committed_next, dropped}
+use Rattle.pool_model.specs.Machine.{due_flush, is_late, Makes, MakesAll, committed_next, dropped}
 use Rattle.pool_model.proofs.Answering.{none_planned}
 use Rattle.pool_model.proofs.Plans.{makes_writes, makes_flushes}
 use Rattle.pool_commit.specs.declared.device.Progress.{Progress}
@@ -78,6 +78,7 @@ failed_tail old mid left tail phase disk failed = record {
 pub record MakesNext (left : List DueCall) (phase : Phase) : Type 0 where
   pub makes : (made rest : List DueCall) → left ≡ made ++ rest → 0 < length made → length made ≤ 4
       → AllByRecursion (λ (call : DueCall). call.phase ≡ phase) made → Makes left made rest phase
+  pub early : is_late phase ≡ false
 
 -- a disk that was flushed, or is to be, is so still
 abbrev pub StaysToFlush : State → Planned → Planned → Store → Type 0
@@ -87,13 +88,13 @@ not_empty : (writes : List ColumnWrite) → 0 < length writes → ¬ (writes ≡
 not_empty writes some none = let count = ap length none in absurd (omega arith)
 
 pub next_writes : (left : List DueCall) → MakesNext left Blocks
-next_writes left = record { makes = λ made rest order above few same. makes_writes left made rest order above few same }
+next_writes left = record { makes = λ made rest order above few same. makes_writes left made rest order above few same; early = refl }
 
 pub writes_stay : (old : State) (plan : Planned) (mid : Store) → 0 < length old.store.due → StaysToFlush old plan plan mid
 writes_stay old plan mid some disk before = ⊎_elim inl (λ flushed. absurd (not_empty old.store.due some flushed.0)) before
 
 pub next_flushes : (flushes : List ℕ) → MakesNext (flushes_left flushes) BlocksFlush
-next_flushes flushes = record { makes = λ made rest order above few same. makes_flushes (flushes_left flushes) made rest flushes refl order above few same }
+next_flushes flushes = record { makes = λ made rest order above few same. makes_flushes (flushes_left flushes) made rest flushes refl order above few same; early = refl }
 
 pub flushes_stay : (old : State) (plan later : Planned) (mid : Store) → mid.due ≡ [] → FlushesMove old.store mid plan.flushes.items later.flushes.items → StaysToFlush old plan later mid
 flushes_stay old plan later mid still move disk before = ⊎_elim
@@ -163,6 +164,7 @@ goes_on old mid plan later v phase n (Moved moved) new after_made backs low some
       },
       record {
         vdevs = backs.vdevs ∙ ap (λ (spaces : List VdevSpace). vdevs_of spaces) (sym so.same.spaces);
+        slots = backs.slots;
         out = λ disk. backs.out disk ∙ ap (λ (out : List Bool). is_out out disk) (sym so.out);
         committed = backs.committed;
         blocks = record {
@@ -216,6 +218,7 @@ goes_on old mid plan later v phase n Done new after_made backs low some few so n
       },
       record {
         vdevs = backs.vdevs ∙ ap (λ (spaces : List VdevSpace). vdevs_of spaces) (sym so.same.spaces) ∙ sym (vdevs_by_shapes mid.spaces new.store.spaces goes.2.shapes);
+        slots = backs.slots;
         out = λ disk. backs.out disk ∙ ap (λ (out : List Bool). is_out out disk) (sym (goes.2.out ∙ so.out));
         committed = next_group;
         blocks = record {
@@ -269,11 +272,13 @@ drops old mid plan v phase disk new backs failed next drop kept none =
         makes = subst (λ (p : Phase). Makes left failed.made failed.rest p)
             (sym (last_in_phase phase failed.before failed.call (subst (AllByRecursion (λ (c : DueCall). c.phase ≡ phase)) failed.last failed.in_phase)))
             (next.makes failed.made failed.rest failed.order (omega (arith, count)) failed.few failed.in_phase);
+        early = ap is_late (last_in_phase phase failed.before failed.call (subst (AllByRecursion (λ (c : DueCall). c.phase ≡ phase)) failed.last failed.in_phase)) ∙ next.early;
         fault = ap (λ (d : Disks). faults_between old.store.disks d) drop.disks ∙ failed.faults;
         are_made = are_made old.store mid.disks new.store.disks v left failed.made failed.rest backs.out drop.disks failed.order has.in_use failed.seen failed.unread failed.called;
       },
       record {
         vdevs = backs.vdevs ∙ ap (λ (spaces : List VdevSpace). vdevs_of spaces) (sym failed.same.spaces) ∙ sym (vdevs_by_shapes mid.spaces new.store.spaces drop.shapes);
+        slots = backs.slots;
         out = λ other. out_too (v.out other) (is_out old.store.out other) (is_out mid.out other) (other == disk) (is_out new.store.out other) (backs.out other) (failed.out.disks other)
             (ap (λ (out : List Bool). is_out out other) drop.out);
         committed = ap (λ (k : Kept). k.committed) kept ∙ backs.committed;

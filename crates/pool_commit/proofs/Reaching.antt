@@ -159,7 +159,7 @@ forgets store blocks stored = record {
   of_stored = λ block bytes known. (among_are blocks stored block bytes known).1;
   of_planned = λ block bytes known. (among_are blocks stored block bytes known).1;
   both = λ block bytes known left. left;
-  none_due = λ block bytes known none. absurd (let clash : None ≡ Some bytes = sym none ∙ known in cc);
+  of_new = λ block bytes known none. absurd (let clash : None ≡ Some bytes = sym none ∙ known in cc);
 }
 
 -- ---- one more group is committed

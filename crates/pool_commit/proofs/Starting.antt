@@ -97,6 +97,7 @@ pub starts : (store : Store) (kept : Kept) (configs : List VdevConfig) → AreSh
     → Backs (record { store = store; kept = kept; planned = None }) (started (vdevs_from 0 configs))
 starts store kept configs shapes out plans first = record {
   vdevs = vdevs_made store.disks.starts 0 configs (shapes_of store.spaces) shapes;
+  slots = refl;
   out = λ disk. sym (out disk);
   committed = first.committed;
   blocks = record {

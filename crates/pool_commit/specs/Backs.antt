@@ -120,6 +120,8 @@ pub record HasBlocks (s : State) (v : View) : Type 0 where
 
 pub record Backs (s : State) (v : View) : Type 0 where
   pub vdevs : v.vdevs ≡ vdevs_of s.store.spaces
+  -- its commits write no slots
+  pub slots : v.slots ≡ false
   pub out : (disk : ℕ) → v.out disk ≡ is_out s.store.out disk
   pub committed : s.kept.committed ≡ v.committed
   pub blocks : HasBlocks s v

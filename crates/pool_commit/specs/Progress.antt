@@ -9,7 +9,7 @@ use Rattle.block_store.specs.Plans.{Plans}
 use Rattle.block_store.specs.Store.{Store}
 use Rattle.pool_model.specs.declared.step.Phase.{Phase}
 use Rattle.pool_model.specs.View.{View, DueCall, Due, is_away, disks_in_use}
-use Rattle.pool_model.specs.Machine.{Makes, MakesAll, committed_next, dropped}
+use Rattle.pool_model.specs.Machine.{is_late, Makes, MakesAll, committed_next, dropped}
 use Rattle.pool_commit.specs.declared.device.Progress.{Progress}
 use Rattle.pool_commit.specs.declared.device.Progress.TheVariants.{Moved, Done, Dropped}
 use Rattle.pool_commit.specs.declared.kept.Kept.{Kept}
@@ -47,7 +47,7 @@ pub record EndsWell (old new : Disks) (v : View) : Type 0 where
   pub are_made : AreMade old new v made
   pub flushed : (disk : ℕ) → Contains (disks_in_use v) disk → IsFlushed new disk
 
--- the last of the calls that were made, a write or a flush of the plan, failed on this disk, and no other did
+-- the last of the calls that were made, a write or a flush of the plan before its slots, failed on this disk, and no other did
 pub record FailsAt (old new : Disks) (v : View) (disk : ℕ) : Type 0 where
   pub left : List DueCall
   pub made : List DueCall
@@ -58,6 +58,7 @@ pub record FailsAt (old new : Disks) (v : View) (disk : ℕ) : Type 0 where
   pub planned : v.sync ≡ Due left
   pub last : made ≡ before ++ call ∷ []
   pub makes : Makes left made rest call.phase
+  pub early : is_late call.phase ≡ false
   pub fault : faults_between old new ≡ disk_call call ∷ []
   pub are_made : AreMade old new v made
 
