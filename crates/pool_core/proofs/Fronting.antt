@@ -60,6 +60,7 @@ reach_kept s v w backs (Some plan) k is reach =
 pub backs_kept : (s : State) (v w : View) → KeepsCommitted v w → Backs s v → Backs s w
 backs_kept s v w k backs = record {
   vdevs = k.vdevs ∙ backs.vdevs;
+  slots = k.slots ∙ backs.slots;
   out = λ disk. ap (λ (o : ℕ → Bool). o disk) k.out ∙ backs.out disk;
   committed = backs.committed ∙ sym k.committed;
   blocks = record {

@@ -238,7 +238,7 @@ moves s commit v trusted phase r free p grew =
       after = record v { sync = Due on.rest };
       link = record {
         is_given = device_is_given s new v on.made None on.are_made on.faults;
-        is_step = inr (inr (record { none = device_free v free (ap is_planned on.planned); answered = (on.left, on.rest, on.planned, on.makes, on.some, refl, refl); calls = refl }));
+        is_step = inr (inr (record { none = device_free v free (ap is_planned on.planned); answered = (on.rest, on.some, inl (record { left = on.left; planned = on.planned; makes = on.makes; fault = refl; after = refl })); calls = refl }));
         represents = record { follows = follows_on s.intake v (Due on.rest) v.out r.follows (ap is_syncing on.planned) refl; backs = p.1 };
         flushed = tt;
         untouched = device_spares s new v on.made grew on.are_made;
@@ -257,7 +257,7 @@ commits s intake commit v trusted reply r free p grew is f =
       after = committed_next v;
       link = record {
         is_given = device_is_given s new v ends.made None ends.are_made ends.faults;
-        is_step = inr (inr (record { none = device_free v free (ap is_planned ends.planned); answered = ((ap is_syncing ends.planned, refl, refl), ends.left, ends.planned, ends.makes, refl, refl); calls = refl }));
+        is_step = inr (inr (record { none = device_free v free (ap is_planned ends.planned); answered = ((ap is_syncing ends.planned, refl, refl), v, inl (record { left = ends.left; planned = ends.planned; makes = ends.makes; fault = refl }, refl), refl); calls = refl }));
         represents = record { follows = f; backs = p.1 };
         flushed = ends.flushed;
         untouched = device_spares s new v ends.made grew ends.are_made;
@@ -315,7 +315,7 @@ drops s commit v trusted disk reply r free p grew is = go (is_suspended (dropped
         (goes (Refused causes.Suspended) (inr (inr (record { none = device_free v free (ap is_planned p.0.planned); answered = (refl, disk, fails, e, refl); calls = refl }))) tt)
     go false e x =
         subst (λ (y : Reply). Goes s v trusted Device y new) (sym (x ∙ ap (λ b. if b then Refused causes.Suspended else Replan disk) e))
-        (goes (Replan disk) (inr (inr (record { none = device_free v free (ap is_planned p.0.planned); answered = (fails, e, refl); calls = refl }))) tt)
+        (goes (Replan disk) (inr (inr (record { none = device_free v free (ap is_planned p.0.planned); answered = (fails, p.0.early, e, refl); calls = refl }))) tt)
 
 -- ---- plans
 
@@ -331,6 +331,7 @@ plan_planned v timestamp s p = both (is_suspended v) (is_planned v.sync) (is_syn
 pub backs_taken : (s : State) (v : View) → Backs s v → is_planned v.sync ≡ false → Backs s (taken v Unplanned)
 backs_taken s v backs none = record {
   vdevs = backs.vdevs;
+  slots = backs.slots;
   out = backs.out;
   committed = backs.committed;
   blocks = record {
@@ -366,7 +367,7 @@ plans s intake commit v trusted timestamp group calls none f is plan backs reads
       after = taken v (Due calls);
       link = record {
         is_given = reads_are_given s v (Plan timestamp) new None trusted false reads (none_lost _) (λ e. absurd (true≢false (sym e)));
-        is_step = inr (inr (record { none = none; answered = ((is, (takes_due v timestamp none, refl)), calls, record { in_use = plan.in_use; numbered = plan.numbered; flushes = plan.flushes }, refl); calls = reads_quiet s new None trusted false }));
+        is_step = inr (inr (record { none = none; answered = ((is, (takes_due v timestamp none, refl)), calls, record { in_use = plan.in_use; numbered = plan.numbered; behind = plan.behind; flushes = plan.flushes; slots = plan.slots; slot_flushes = plan.slot_flushes }, refl); calls = reads_quiet s new None trusted false }));
         represents = record { follows = follows_on intake (taken v Unplanned) (Due calls) v.out f refl refl; backs = backs };
         flushed = tt;
         untouched = spared;
