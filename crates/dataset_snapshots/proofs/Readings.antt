@@ -91,4 +91,4 @@ roots_spell_one_pool stored birth later root pool other one two =
     let datasets = datasets_alike stored root.birth one.objects two.objects one.rows two.rows pool.volumes other.volumes same.0 rows one.volumes two.volumes in
     let volumes = datasets.0 in
     let parts = datasets.1 in
-    (λ i. record { volumes = volumes i }, λ i. root ∷ blocks_of_set (set i) (own i) (blocks i) ++ joined (parts i))
+    (λ i. record { volumes = volumes i }, λ i. root ∷ blocks_of_set (set i) (own i) (blocks i) ++ joined (parts i), rows)

@@ -122,6 +122,7 @@ roots_stand old new bound birth root pool le is keeps =
         volumes = stand.0;
       },
       ap (λ parts. root ∷ own ++ joined parts) stand.1,
+      refl,
     )
 
 pub reach_is_known : ReachIsKnown

@@ -6,17 +6,17 @@ pub fn roots_stay()
     ensures { RootsStay }
 {}
 
-/// A root spells its pool, and leads to the same blocks, whatever becomes of blocks that it doesn't lead to.
+/// A root spells its pool, by the same rows, and leads to the same blocks, whatever becomes of blocks that it doesn't lead to.
 pub fn roots_stand_on_their_reach()
     ensures { RootsStandOnTheirReach }
 {}
 
-/// Each block that a root leads to is known, and it leads to the same blocks where more is known.
+/// Each block that a root leads to is known, and it leads to the same blocks, and spells its pool by the same rows, where more is known.
 pub fn reach_is_known()
     ensures { ReachIsKnown }
 {}
 
-/// A root spells one pool, and leads to one list of blocks.
+/// A root spells one pool, by one list of rows, and leads to one list of blocks.
 pub fn roots_spell_one_pool()
     ensures { RootsSpellOnePool }
 {}

@@ -13,6 +13,7 @@ use Rattle.pool_model.specs.Machine.{committed_next}
 use Rattle.pool_commit.specs.declared.kept.Kept.{Kept}
 use Rattle.pool_commit.specs.State.{group_at}
 use Rattle.pool_commit.specs.Backs.{SpellsKept, kept_pool, pool_after, SpellsGroup, SpellsRoot}
+use Rattle.pool_commit.proofs.Directories.{spells_by_stays}
 
 root_stays : (before later : Contents) (group : ℕ) (root : Option Block) (pool : PlainPool) → Extends before later → SpellsRoot before group root pool → SpellsRoot later group root pool
 root_stays before later group (Some root) pool more spells = roots_stay before later group group root pool (omega arith) more spells
@@ -20,7 +21,11 @@ root_stays before later group None pool more spells = spells
 
 pub kept_stays : (before later : Contents) (group : ℕ) (kept : Option KeptGroup) (pool : Option PlainPool) → Extends before later
     → SpellsKept before group kept pool → SpellsKept later group kept pool
-kept_stays before later group (Some kept) (Some pool) more spells = record { root = root_stays before later group kept.root pool more spells.root; names = spells.names }
+kept_stays before later group (Some kept) (Some pool) more spells = record {
+  root = root_stays before later group kept.root pool more spells.root;
+  directory = spells_by_stays before later group kept.root pool kept.directory.value more spells.directory;
+  names = spells.names;
+}
 kept_stays before later group None None more spells = tt
 kept_stays before later group (Some kept) None more spells = absurd spells
 kept_stays before later group None (Some pool) more spells = absurd spells

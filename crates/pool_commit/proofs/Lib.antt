@@ -1,4 +1,5 @@
 pub mod Backing
+pub mod Directories
 pub mod Disks
 pub mod Keeping
 pub mod Made

@@ -29,6 +29,7 @@ use Rattle.pool_commit.specs.declared.kept.Planned.{Planned}
 use Rattle.pool_commit.specs.Backs.{IsReachOfPlan, KeptLeadsTo, LeadsTo, PlansReach, SpellsKept, SpellsRoot, StoresReach, kept_pool, pool_after}
 use Rattle.pool_commit.specs.State.{group_at}
 use Rattle.pool_commit.specs.Space.{is_held_for, AreHeld, AreInUse}
+use Rattle.pool_commit.proofs.Directories.{spells_by_stands}
 use Rattle.pool_commit.proofs.Holding.{weaker, held_by_marks, in_use_is_held}
 use Rattle.pool_commit.proofs.Keeping.{gone_group, gone_pool, new_group, new_pool, old_group, old_pool}
 use Rattle.pool_model.specs.Machine.{committed_next}
@@ -67,15 +68,16 @@ kept_leads_stand old new group None None blocks keeps leads = leads
 kept_leads_stand old new group (Some kept) None blocks keeps leads = absurd leads
 kept_leads_stand old new group None (Some pool) blocks keeps leads = absurd leads
 
-pub kept_spells_stand : (old new : Contents) (group : ℕ) (kept : Option KeptGroup) (pool : Option PlainPool) (blocks : List Block) → KeptLeadsTo new group kept pool blocks
-    → SpellsKept old group kept pool → SpellsKept new group kept pool
-kept_spells_stand old new group (Some kept) (Some pool) blocks leads spells = record {
-  root = spells_stand old new group kept.root pool blocks leads spells.root;
+pub kept_spells_stand : (old new : Contents) (group : ℕ) (kept : Option KeptGroup) (pool : Option PlainPool) (blocks : List Block) → KeepsEach old new blocks
+    → KeptLeadsTo old group kept pool blocks → SpellsKept old group kept pool → SpellsKept new group kept pool
+kept_spells_stand old new group (Some kept) (Some pool) blocks keeps leads spells = record {
+  root = spells_stand old new group kept.root pool blocks (leads_stand old new group kept.root pool blocks keeps leads) spells.root;
+  directory = spells_by_stands old new group kept.root pool kept.directory.value blocks keeps leads spells.directory;
   names = spells.names;
 }
-kept_spells_stand old new group None None blocks leads spells = tt
-kept_spells_stand old new group (Some kept) None blocks leads spells = absurd spells
-kept_spells_stand old new group None (Some pool) blocks leads spells = absurd spells
+kept_spells_stand old new group None None blocks keeps leads spells = tt
+kept_spells_stand old new group (Some kept) None blocks keeps leads spells = absurd spells
+kept_spells_stand old new group None (Some pool) blocks keeps leads spells = absurd spells
 
 kept_cases : (stored : Contents) (group : ℕ) (there : KeptGroup) (kept : Bool) (pool : PlainPool) (blocks : List Block) → KeptLeadsTo stored group (Some there) (if kept then Some pool else None) blocks
     → LeadsTo stored group there.root pool blocks
@@ -299,7 +301,8 @@ module _ (v : View) (kept new : Kept) (spaces after : List VdevSpace) (stored pl
   pub spells_next : ((group : ℕ) → SpellsKept planned group (group_at new group) (kept_pool (committed_next v) group))
       → (group : ℕ) → SpellsKept left group (group_at new group) (kept_pool (committed_next v) group)
   spells_next spells group =
-      kept_spells_stand planned left group (group_at new group) (kept_pool (committed_next v) group) (next_reach v.committed reached.reach plan.reach group) (leads_next group) (spells group)
+      kept_spells_stand planned left group (group_at new group) (kept_pool (committed_next v) group) (next_reach v.committed reached.reach plan.reach group) (keeps_each group)
+      (next_leads v kept new stored planned reached.reach plan.reach low k n b e more plan.leads reached.leads group) (spells group)
 
   held_next : AreHeld after filled_marks (suc v.committed) (next_reach v.committed reached.reach plan.reach)
   held_next =

@@ -5,10 +5,11 @@ use Rattle.block_store.specs.declared.refusal.Refusal.TheVariants as store
 use Rattle.block_store.specs.Losses.{IsForLoss}
 use Rattle.block_store.specs.Steps.{AnswersAreTrue}
 use Rattle.block_store.specs.Store.{Store}
+use Rattle.dnode_tree.specs.ReadRefusals.{IsForRead}
 use Rattle.dnode_tree.specs.Writes.{IsForRoom}
 use Rattle.pool_commit.specs.declared.refusal.Refusal.{Refusal}
 use Rattle.pool_commit.specs.declared.refusal.Refusal.TheVariants.{NoMemory, DiskFault, NoSpace, BadConfig}
-use Rattle.pool_commit.specs.Causes.{of_read, of_store}
+use Rattle.pool_commit.specs.Causes.{of_store}
 use Rattle.pool_commit.specs.Reading.{IsFaultIn, IsReadFault}
 
 -- a fault of disks is one of the store
@@ -19,14 +20,6 @@ only_lost store.NoSpace is = absurd (cc)
 only_lost store.BadPointer is = absurd (cc)
 only_lost store.BadDigest is = absurd (cc)
 only_lost store.BadConfig is = absurd (cc)
-
-pub only_lost_read : (cause : StoreRefusal) → of_read cause ≡ DiskFault → cause ≡ store.DiskFault
-only_lost_read store.NoMemory is = absurd (cc)
-only_lost_read store.DiskFault is = refl
-only_lost_read store.NoSpace is = absurd (cc)
-only_lost_read store.BadPointer is = absurd (cc)
-only_lost_read store.BadDigest is = absurd (cc)
-only_lost_read store.BadConfig is = absurd (cc)
 
 pub only_room : (cause : StoreRefusal) → of_store cause ≡ NoSpace → cause ≡ store.NoSpace
 only_room store.NoMemory is = absurd (cc)
@@ -45,14 +38,20 @@ not_for_plan cause memory space lost (inl (inl is)) = memory is
 not_for_plan cause memory space lost (inl (inr is)) = space is
 not_for_plan cause memory space lost (inr is) = lost is
 
+no_room_for_reads : ¬ IsForRead store.NoSpace
+no_room_for_reads (inl is) = cc
+no_room_for_reads (inr (inl is)) = cc
+no_room_for_reads (inr (inr (inl is))) = cc
+no_room_for_reads (inr (inr (inr is))) = cc
+
 -- a read of a pool that is whole is refused for want of memory or for a fault
-pub read_faults : (old new : Store) (cause : StoreRefusal) → (AnswersAreTrue old new → IsForLoss cause) → (of_read cause ≡ NoMemory) ⊎ IsFaultIn old new (of_read cause)
-read_faults old new store.NoMemory known = inl refl
-read_faults old new store.DiskFault known = inr (inl refl)
-read_faults old new store.NoSpace known = inr (inr (inl refl, (λ true. not_for_loss store.NoSpace (λ e. cc) (λ e. cc) (known true))))
-read_faults old new store.BadPointer known = inr (inr (inl refl, (λ true. not_for_loss store.BadPointer (λ e. cc) (λ e. cc) (known true))))
-read_faults old new store.BadDigest known = inr (inr (inr refl, (λ true. not_for_loss store.BadDigest (λ e. cc) (λ e. cc) (known true))))
-read_faults old new store.BadConfig known = inr (inr (inl refl, (λ true. not_for_loss store.BadConfig (λ e. cc) (λ e. cc) (known true))))
+pub read_faults : (old new : Store) (cause : StoreRefusal) → IsForRead cause → (AnswersAreTrue old new → IsForLoss cause) → (of_store cause ≡ NoMemory) ⊎ IsFaultIn old new (of_store cause)
+read_faults old new store.NoMemory for known = inl refl
+read_faults old new store.DiskFault for known = inr (inl refl)
+read_faults old new store.NoSpace for known = absurd (no_room_for_reads for)
+read_faults old new store.BadPointer for known = inr (inr (inl refl, (λ true. not_for_loss store.BadPointer (λ e. cc) (λ e. cc) (known true))))
+read_faults old new store.BadDigest for known = inr (inr (inr refl, (λ true. not_for_loss store.BadDigest (λ e. cc) (λ e. cc) (known true))))
+read_faults old new store.BadConfig for known = inr (inr (inl refl, (λ true. not_for_loss store.BadConfig (λ e. cc) (λ e. cc) (known true))))
 
 -- and a plan, or for want of room
 pub plan_faults : (old new : Store) (cause : StoreRefusal) → (AnswersAreTrue old new → IsForRoom cause ⊎ (cause ≡ store.DiskFault))
@@ -70,18 +69,8 @@ memory_is_none (inl is) = cc
 memory_is_none (inr (inl is)) = cc
 memory_is_none (inr (inr is)) = cc
 
-pub no_fault_of_memory : (refusal : Refusal) (cause : StoreRefusal) → refusal ≡ of_read cause → IsReadFault refusal → ¬ (cause ≡ store.NoMemory)
-no_fault_of_memory refusal cause answered fault memory = memory_is_none (subst IsReadFault (answered ∙ ap of_read memory) fault)
-
-pub no_fault_of_memory_in_plan : (refusal : Refusal) (cause : StoreRefusal) → refusal ≡ of_store cause → IsReadFault refusal → ¬ (cause ≡ store.NoMemory)
-no_fault_of_memory_in_plan refusal cause answered fault memory = memory_is_none (subst IsReadFault (answered ∙ ap of_store memory) fault)
-
-fault_of : (old new : Store) (refusal : Refusal) → IsFaultIn old new refusal → IsReadFault refusal
-fault_of old new refusal (inl lost) = inl lost
-fault_of old new refusal (inr (bad, untrue)) = inr bad
-
-pub no_fault_in_memory : (old new : Store) (cause : StoreRefusal) → IsFaultIn old new (of_read cause) → ¬ (cause ≡ store.NoMemory)
-no_fault_in_memory old new cause fault memory = no_fault_of_memory (of_read cause) cause refl (fault_of old new (of_read cause) fault) memory
+pub no_fault_of_memory : (refusal : Refusal) (cause : StoreRefusal) → refusal ≡ of_store cause → IsReadFault refusal → ¬ (cause ≡ store.NoMemory)
+no_fault_of_memory refusal cause answered fault memory = memory_is_none (subst IsReadFault (answered ∙ ap of_store memory) fault)
 
 -- no refusal of the store is one of a configuration
 pub no_config : (cause : StoreRefusal) → ¬ (of_store cause ≡ BadConfig)

@@ -19,6 +19,7 @@ use Rattle.pool_model.specs.View.{Vdev, started}
 use Rattle.pool_commit.specs.declared.kept.Kept.{Kept}
 use Rattle.pool_commit.specs.Backs.{Backs, KeptLeadsTo, LeadsTo, SpellsKept, kept_pool, SpellsGroup, SpellsRoot}
 use Rattle.pool_commit.specs.Config.{shown, vdevs_from}
+use Rattle.pool_commit.specs.Directories.{SpellsBy}
 use Rattle.pool_commit.specs.State.{IsFirst, group_at}
 use Rattle.dataset_snapshots.proofs.ChangedRows.{nothing_in}
 use Rattle.pool_commit.proofs.Reaching.{none_distinct}
@@ -65,6 +66,7 @@ kept_first kept vdevs c b e empty group = elim (cases_eq group 3) [
 no_volumes_first : (kept : Kept) → IsFirst kept → (stored : Contents) (birth : ℕ) → SpellsGroup stored birth kept.last no_volumes
 no_volumes_first kept is stored birth = record {
   root = subst (λ (root : Option Block). SpellsRoot stored birth root no_volumes) (sym is.root) refl;
+  directory = subst (λ (root : Option Block). SpellsBy stored birth root no_volumes kept.last.directory.value) (sym is.root) is.directory;
   names = is.names;
 }
 

@@ -1,5 +1,5 @@
 -- Blocks that could not be read, and why.
-use Rattle.std.proofs.Common.{ℕ, zero, suc, ◌≡◌, ⊎_elim, ◌-◌, ◌<◌, ◌≤◌, Bool, true, List, [], ◌++◌, length, Option, Some, None, Contains, inl, inr, refl, sym, ap, ◌∙◌, subst, arith}
+use Rattle.std.proofs.Common.{ℕ, zero, suc, ◌≡◌, ◌⊎◌, ⊎_elim, ◌-◌, ◌<◌, ◌≤◌, Bool, true, List, [], ◌++◌, length, Option, Some, None, Contains, inl, inr, refl, sym, ap, ◌∙◌, subst, arith}
 use Rattle.std.specs.Prelude.{slice_get}
 use Rattle.std.proofs.lemmas.Option.{slice_get_within, get_or_from_slice_get}
 use Rattle.model_disk.specs.Joint.{Disks}
@@ -14,27 +14,33 @@ use Rattle.raidz_io.proofs.Placed.{placed_at}
 use Rattle.block_store.specs.declared.refusal.Refusal.{Refusal as StoreRefusal}
 use Rattle.block_store.specs.declared.refusal.Refusal.TheVariants as store
 use Rattle.block_store.specs.Spaces.{VdevSpace}
-use Rattle.block_store.specs.Losses.{IsBlockLost}
+use Rattle.block_store.specs.Losses.{IsBlockLost, IsForLoss}
 use Rattle.block_store.specs.Places.{shapes_of}
 use Rattle.block_store.specs.Reading.{HaveFailed}
+use Rattle.block_store.specs.Steps.{AnswersAreTrue}
 use Rattle.block_store.specs.Store.{Store, outs, outs_from, is_out}
 use Rattle.block_store.proofs.ReadingLost.{absent_earlier}
 use Rattle.block_store.proofs.ReadingSteps.{reads_on}
-use Rattle.pool_model.specs.Pools.{Entry}
+use Rattle.meta_objset.specs.declared.directory.DirectoryRow.{DirectoryRow}
+use Rattle.pool_model.specs.Pools.{Entry, PlainPool, volume_at}
+use Rattle.pool_model.specs.Refusals.{read_refusal}
 use Rattle.pool_model.specs.View.{View, Vdev, lost_in}
-use Rattle.dataset_snapshots.proofs.Losses.{losses_of_first_groups, losses_of_groups, losses_of_ranges}
+use Rattle.dataset_snapshots.proofs.Losses.{losses_by_rows, losses_of_first_groups, losses_of_groups}
+use Rattle.dataset_snapshots.proofs.ReadRefusals.{reads_need_no_room}
+use Rattle.dataset_snapshots.specs.Ranges.{IsRangeRefusedIn}
 use Rattle.pool_commit.specs.declared.kept.KeptGroup.{KeptGroup}
 use Rattle.pool_commit.specs.declared.refusal.Refusal.{Refusal}
-use Rattle.pool_commit.specs.declared.refusal.Refusal.TheVariants.{DiskFault}
+use Rattle.pool_commit.specs.declared.refusal.Refusal.TheVariants.{DiskFault, NoMemory}
 use Rattle.pool_commit.specs.Backs.{Backs}
 use Rattle.pool_commit.specs.Calls.{unread_between}
+use Rattle.pool_commit.specs.Causes.{of_store}
 use Rattle.pool_commit.specs.Config.{shown, vdevs_of}
 use Rattle.pool_commit.specs.Configs.{configs_from}
-use Rattle.pool_commit.specs.Reading.{IsFaultIn, IsLost, IsLostForPlan, IsLostUnder, IsUnreadForPlan, IsUnreadOf, LosesOn, is_lost}
+use Rattle.pool_commit.specs.Reading.{IsFaultIn, IsLost, IsLostForPlan, IsLostUnder, IsReadCause, IsUnreadForPlan, IsUnreadOf, LosesOn, is_lost}
 use Rattle.pool_commit.specs.Room.{IsNextRefused}
 use Rattle.pool_commit.specs.State.{State, group_at}
 use Rattle.pool_commit.proofs.Planning.{same_vdevs}
-use Rattle.pool_commit.proofs.Refusing.{only_lost, only_lost_read}
+use Rattle.pool_commit.proofs.Refusing.{only_lost, read_faults}
 use Rattle.pool_commit.proofs.Tolerating.{vdev_at, lost_disks, length_lost, among_lost, absent_is_lost}
 
 -- copies that failed were only read
@@ -127,6 +133,37 @@ lost_in_states v missing old new start refusal disks from loses (inr (inr is, un
 
 -- ---- reads and plans
 
+-- what a range was refused for by rows that are those that are kept
+pub by_kept_rows : (old new : Store) (missing : List ℕ) (birth : ℕ) (root : Block) (rows kept : List DirectoryRow) (name : List ℕ) (offset len : ℕ) (cause : StoreRefusal) → rows ≡ kept
+    → (cause ≡ store.NoMemory) ⊎ IsRangeRefusedIn old new missing birth root rows name offset len cause
+    → (cause ≡ store.NoMemory) ⊎ IsRangeRefusedIn old new missing birth root kept name offset len cause
+by_kept_rows old new missing birth root rows kept name offset len cause same =
+    subst (λ (list : List DirectoryRow). (cause ≡ store.NoMemory) ⊎ IsRangeRefusedIn old new missing birth root list name offset len cause) same
+
+-- a range was refused by the directory that is kept
+pub unread_of : (old new : Store) (kept : KeptGroup) (birth : ℕ) (root : Block) (name : List ℕ) (offset len : ℕ) (missing : List ℕ) (cause : StoreRefusal) (refusal : Refusal)
+    → kept.root ≡ Some root → refusal ≡ of_store cause → IsRangeRefusedIn old new missing birth root kept.directory.value name offset len cause
+    → IsUnreadOf old new kept birth name offset len missing refusal
+unread_of old new kept birth root name offset len missing cause refusal is answered why = record {
+  root = root;
+  is_root = is;
+  cause = cause;
+  unread = why;
+  for_read = reads_need_no_room.ranges_in old new missing birth root kept.directory.value name offset len cause why;
+  answered = answered;
+}
+
+-- and of a pool that is whole one that is there, for want of memory or for a fault
+pub read_refused : (old new : Store) (kept : KeptGroup) (birth : ℕ) (root : Block) (name : List ℕ) (offset len : ℕ) (missing : List ℕ) (pool : PlainPool) (cause : StoreRefusal)
+    (refusal : Refusal) → kept.root ≡ Some root → refusal ≡ of_store cause → read_refusal offset len (volume_at name pool) ≡ None
+    → IsRangeRefusedIn old new missing birth root kept.directory.value name offset len cause → (AnswersAreTrue old new → IsForLoss cause)
+    → (refusal ≡ NoMemory) ⊎ (IsReadCause (read_refusal offset len (volume_at name pool)) refusal
+    ⊎ ((read_refusal offset len (volume_at name pool) ≡ None) × IsUnreadOf old new kept birth name offset len missing refusal × IsFaultIn old new refusal))
+read_refused old new kept birth root name offset len missing pool cause refusal is answered none why known =
+    ⊎_elim (λ memory. inl (answered ∙ memory))
+    (λ fault. inr (inr (none, unread_of old new kept birth root name offset len missing cause refusal is answered why, subst (IsFaultIn old new) (sym answered) fault)))
+    (read_faults old new cause (reads_need_no_room.ranges_in old new missing birth root kept.directory.value name offset len cause why) known)
+
 pub lost_under : (v : View) (old : State) (new : Store) (group : ℕ) (kept : KeptGroup) (name : List ℕ) (offset len : ℕ) (missing : List ℕ) (refusal : Refusal)
     → Backs old v → group_at old.kept group ≡ Some kept → OnlyReads old.store.disks new.disks
     → IsUnreadOf old.store new kept group name offset len missing refusal → IsFaultIn old.store new refusal
@@ -134,7 +171,7 @@ pub lost_under : (v : View) (old : State) (new : Store) (group : ℕ) (kept : Ke
 lost_under v old new group kept name offset len missing refusal backs is_kept reads is fault = record {
   unread = record { under = kept; kept = is_kept; unread = is };
   lost = lost_in_states v missing old (record old { store = new }) old.store refusal refl (record { vdevs = backs.vdevs; out = backs.out; reads = reads })
-      (λ lost. losses_of_ranges old.store new missing group is.root name offset len is.cause is.unread (only_lost_read is.cause (sym is.answered ∙ lost))) fault;
+      (λ lost. losses_by_rows.ranges old.store new missing group is.root kept.directory.value name offset len is.cause is.unread (only_lost is.cause (sym is.answered ∙ lost))) fault;
 }
 
 next_lost : (old new : Store) (last : Option Block) (group : ℕ) (items : Entry) (refusal : StoreRefusal)

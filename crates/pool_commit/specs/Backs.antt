@@ -20,6 +20,7 @@ use Rattle.pool_commit.specs.declared.kept.KeptGroup.{KeptGroup}
 use Rattle.pool_commit.specs.declared.kept.Planned.{Planned}
 use Rattle.pool_commit.specs.Calls.{IsFlushed}
 use Rattle.pool_commit.specs.Config.{vdevs_of}
+use Rattle.pool_commit.specs.Directories.{SpellsBy}
 use Rattle.pool_commit.specs.Making.{writes_left, flushes_left}
 use Rattle.pool_commit.specs.Space.{AreHeld, AreInUse}
 use Rattle.pool_commit.specs.State.{State, group_at}
@@ -29,10 +30,11 @@ abbrev pub SpellsRoot : Contents → ℕ → Option Block → PlainPool → Type
 SpellsRoot stored group (Some root) pool = SpellsPool stored group root pool
 SpellsRoot stored group None pool = pool ≡ no_volumes
 
--- a group's root spells its pool, and its names are those of the pool
+-- a group's root spells its pool, by the directory that is kept, and its names are those of the pool
 pub record SpellsGroup (stored : Contents) (group : ℕ) (kept : KeptGroup) (pool : PlainPool)
     : Type 0 where
   pub root : SpellsRoot stored group kept.root pool
+  pub directory : SpellsBy stored group kept.root pool kept.directory.value
   pub names : Knows kept.names.value pool
 
 -- a kept group spells its pool; another isn't there

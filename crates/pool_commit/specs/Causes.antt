@@ -15,11 +15,6 @@ of_store store.BadPointer = BadPointer
 of_store store.BadDigest = BadDigest
 of_store store.BadConfig = BadPointer
 
--- a read wants no room
-abbrev pub of_read : StoreRefusal → Refusal
-of_read store.NoSpace = BadPointer
-of_read refusal = of_store refusal
-
 abbrev pub cause_of : Refusal → Cause
 cause_of NoMemory = causes.NoMemory
 cause_of DiskFault = causes.DiskFault

@@ -1,5 +1,6 @@
 pub mod Config
 pub mod Configs
+pub mod Directories
 pub mod HasDisks
 pub mod State
 pub mod StateOf

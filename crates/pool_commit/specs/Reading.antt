@@ -9,7 +9,8 @@ use Rattle.block_store.specs.declared.refusal.Refusal.{Refusal as StoreRefusal}
 use Rattle.block_store.specs.Store.{Store, outs}
 use Rattle.block_store.specs.Losses.{IsBlockLost}
 use Rattle.block_store.specs.Steps.{AnswersAreTrue}
-use Rattle.dataset_snapshots.specs.Ranges.{IsRangeRefused}
+use Rattle.dataset_snapshots.specs.Ranges.{IsRangeRefusedIn}
+use Rattle.dnode_tree.specs.ReadRefusals.{IsForRead}
 use Rattle.pool_model.specs.Pools.{Entry}
 use Rattle.pool_model.specs.View.{View, Vdev, is_away, lost_in}
 use Rattle.pool_model.specs.declared.refusal.Refusal.TheVariants as causes
@@ -21,7 +22,7 @@ use Rattle.pool_commit.specs.declared.refusal.Refusal.{Refusal}
 use Rattle.pool_commit.specs.declared.refusal.Refusal.TheVariants.{DiskFault, BadPointer, BadDigest, NoSuchName, OutOfRange, GroupGone}
 use Rattle.pool_commit.specs.Backs.{Backs}
 use Rattle.pool_commit.specs.Calls.{unread_between}
-use Rattle.pool_commit.specs.Causes.{of_read, of_store}
+use Rattle.pool_commit.specs.Causes.{of_store}
 use Rattle.pool_commit.specs.Room.{IsPlanRefused}
 use Rattle.pool_commit.specs.State.{State, group_at}
 
@@ -73,14 +74,16 @@ IsLost v missing old new since BadPointer = ¬ PoolAnswersTruly old new
 IsLost v missing old new since BadDigest = ¬ PoolAnswersTruly old new
 IsLost v missing old new since refusal = ⊥
 
--- a range of the volume of that name was refused, as the group's root is read: that is the answer
+-- a range of the volume of that name was refused, as it is read by the group's root and the directory that is kept: that is the answer,
+-- and neither room nor a block of the directory is the cause
 pub record IsUnreadOf (old new : Store) (kept : KeptGroup) (birth : ℕ) (name : List ℕ) (offset len : ℕ) (missing : List ℕ)
     (refusal : Refusal) : Type 0 where
   pub root : Block
   pub is_root : kept.root ≡ Some root
   pub cause : StoreRefusal
-  pub unread : IsRangeRefused old new missing birth root name offset len cause
-  pub answered : refusal ≡ of_read cause
+  pub unread : IsRangeRefusedIn old new missing birth root kept.directory.value name offset len cause
+  pub for_read : IsForRead cause
+  pub answered : refusal ≡ of_store cause
 
 -- so it is under a kept group
 pub record IsUnreadUnder (old new : State) (group : ℕ) (name : List ℕ) (offset len : ℕ) (missing : List ℕ) (refusal : Refusal) : Type 0 where

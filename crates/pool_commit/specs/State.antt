@@ -1,5 +1,5 @@
 -- What the committed half of a pool's core shows.
-use Rattle.std.specs.Prelude.{ℕ, suc, ◌≡◌, ◌==◌, Bool, List, Option, Some, None, is_some, if◌then◌else◌}
+use Rattle.std.specs.Prelude.{ℕ, suc, ◌≡◌, ◌==◌, Bool, List, [], Option, Some, None, is_some, if◌then◌else◌}
 use Rattle.model_disk.specs.Joint.{Disks}
 use Rattle.block_store.specs.Store.{Store, outs}
 use Rattle.pool_model.specs.Pools.{no_volumes}
@@ -33,10 +33,11 @@ group_at kept group =
     if group == kept.committed then Some kept.last
     else (if suc group == kept.committed then kept.before else (if suc (suc group) == kept.committed then kept.earliest else None))
 
--- group 3 is committed, with no volumes and no root, and none before it
+-- group 3 is committed, with no volumes, no root and no rows, and none before it
 pub record IsFirst (kept : Kept) : Type 0 where
   pub committed : kept.committed ≡ 3
   pub root : kept.last.root ≡ None
+  pub directory : kept.last.directory.value ≡ []
   pub names : Knows kept.last.names.value no_volumes
   pub before : kept.before ≡ None
   pub earliest : kept.earliest ≡ None

@@ -1,5 +1,5 @@
 //! The committed half of a core.
-ghost use Rattle.std.specs.Prelude.{ℕ, List, ◌≡◌, ◌⊎◌, ◌<◌, ◌≤◌, ◌+◌, ◌-◌, ◌^◌, ◌++◌, not, filter};
+ghost use Rattle.std.specs.Prelude.{ℕ, List, [], ◌≡◌, ◌⊎◌, ◌<◌, ◌≤◌, ◌+◌, ◌-◌, ◌^◌, ◌++◌, not, filter};
 ghost use Rattle.std.specs.Prelude.{length, map, slice_get, Some, false, OnOk, IfOk, IfErr};
 ghost use Rattle.model_disk.specs.Joint.{calls_on, log_of};
 ghost use Rattle.block_store.specs.declared.shape.VdevShape.{VdevShape as ShapeOf};
@@ -16,6 +16,7 @@ use crate::kept::{Kept, KeptGroup, Planned};
 use crate::refusal::Refusal;
 use crate::suspension::{lacks_disks, vdev_at};
 use block_store::{BlockStore, VdevConfig};
+use meta_objset::Directory;
 use model_disk::Disk;
 use raidz_io::Vdev;
 use std::alloc::{AllocError, Global};
@@ -36,6 +37,13 @@ pub struct Commit<D: Disk + Drop> {
     pub(crate) suspended: bool,
     ghost disks: { HasDisks (length store.disks.starts) planned },
     ghost suspension: { suspended ≡ lacks_disks store },
+}
+
+/// The directory of a pool with no root.
+fn no_directory(alloc: Global) -> Result<Arc<Directory, Global>, AllocError>
+    ensures { IfOk result (λ directory. directory.value ≡ []) }
+{
+    Ok(Arc::new(alloc, Directory::new(alloc))?)
 }
 
 /// The names of a pool with no volumes.
@@ -71,6 +79,7 @@ impl<D: Disk + Drop> Commit<D> {
         let first = KeptGroup {
             root: None,
             names: no_names(alloc)?,
+            directory: no_directory(alloc)?,
         };
         let suspended = lacks_disks(&store);
         Ok(Commit {

@@ -3,18 +3,21 @@ ghost use Rattle.std.specs.Prelude.{◌≡◌, None};
 ghost use Rattle.std.specs.Option.{option_copied};
 
 use block_pointer::Block;
+use meta_objset::Directory;
 use std::alloc::Global;
 use std::collections::VecDeque;
 use std::mem;
 use std::sync::Arc;
 use volume_rules::NameIndex;
 
-/// A group: its root, through which all else of it is read, and the names of its pool, which groups share that make no volume. A
-/// pool has no root before its first group is planned, and no volumes then.
+/// A group: its root, through which all else of it is read, and in memory the names of its pool and the directory under the root. Groups
+/// share the names that make no volume, and the directory whose rows are the same. A pool has no root before its first group is
+/// planned, and no volumes and no rows then.
 #[derive(Drop)]
 pub struct KeptGroup {
     pub(crate) root: Option<Block>,
     pub(crate) names: Arc<NameIndex, Global>,
+    pub(crate) directory: Arc<Directory, Global>,
 }
 
 /// The last three committed groups.
@@ -39,6 +42,13 @@ impl KeptGroup {
         ensures { result.now ≡ self.now.names.value }
     {
         self.names.as_ref()
+    }
+
+    /// The directory under its root.
+    pub(crate) fn directory(&self) -> &Directory
+        ensures { result.now ≡ self.now.directory.value }
+    {
+        self.directory.as_ref()
     }
 }
 

@@ -15,6 +15,7 @@ ghost use Rattle.volume_rules.specs.Index.{Knows};
 ghost use Rattle.block_store.specs.declared.refusal.Refusal.TheVariants as lost_blocks;
 ghost use Rattle.dataset_snapshots.specs.Leaving.{IsReachExchanged};
 ghost use Rattle.pool_commit.specs.Backs.{Backs, LeadsTo, SpellsGroup, SpellsRoot};
+ghost use Rattle.pool_commit.specs.Directories.{SpellsBy};
 ghost use Rattle.pool_commit.specs.Reading.{PoolAnswersTruly, IsReadFault};
 ghost use Rattle.pool_commit.specs.Reading.{IsUnreadForPlan, IsLostForPlan};
 ghost use Rattle.pool_commit.specs.Room.{LacksRoom, IsNextRefused};
@@ -28,7 +29,8 @@ use crate::kept::{KeptGroup, Planned};
 use crate::refusal::Refusal;
 use block_pointer::Block as RootBlock;
 use block_store::BlockStore;
-use dataset_snapshots::{after_group, first_group};
+use dataset_snapshots::{FirstRoot, after_group, first_group};
+use meta_objset::Directory;
 use model_disk::Disk;
 use std::alloc::{AllocError, Global};
 use std::sync::Arc;
@@ -41,16 +43,18 @@ fn first_root<D: Disk + Drop>(
     alloc: Global,
     group: u64,
     items: &Pending,
-) -> Result<RootBlock, block_store::Refusal>
+) -> Result<FirstRoot, block_store::Refusal>
     requires born { 0 < group }
     ensures steps { OnlyReadsAndPlans store.old store.new [] }
-    ensures value { IfOk result (λ root. (stored planned : Contents)
+    ensures value { IfOk result (λ first. (stored planned : Contents)
         → Plans store.old stored planned → AnswersAreTrue store.old store.new
         → (later : Contents) × Plans store.new stored later × Extends planned later
-        × SpellsRoot later group (Some root) (applied group no_volumes items.now)
-        × (reach : List Block) × LeadsTo later group (Some root)
+        × SpellsRoot later group (Some first.root) (applied group no_volumes items.now)
+        × (reach : List Block) × LeadsTo later group (Some first.root)
         (applied group no_volumes items.now) reach
-        × IsReachExchanged group planned later [] reach []) }
+        × IsReachExchanged group planned later [] reach []
+        × SpellsBy later group (Some first.root) (applied group no_volumes items.now)
+        first.directory) }
     ensures known { IfErr result (λ refusal. (stored planned : Contents)
         → Plans store.old stored planned → AnswersAreTrue store.old store.new
         → MakesGoodVolumes items.now → IsForRoom refusal ⊎ (refusal ≡ lost_blocks.DiskFault)) }
@@ -58,14 +62,14 @@ fn first_root<D: Disk + Drop>(
         (IsNextRefused store.old store.new None group items.now) }
 {
     let config = config_of(alloc, store)?;
-    let first = first_group(store, alloc, &config, group, items)?;
-    Ok(first.root)
+    first_group(store, alloc, &config, group, items)
 }
 
-/// A root that is planned, and the blocks that the one before led to and this one doesn't.
+/// A root that is planned, the directory under it, and the blocks that the one before led to and this one doesn't.
 #[derive(Drop)]
 struct PlannedRoot {
     root: RootBlock,
+    directory: Directory,
     replaced: Vec<RootBlock>,
 }
 
@@ -88,7 +92,9 @@ fn root_after<D: Disk + Drop>(
         × SpellsRoot later group (Some next.root) (applied group pool items.now)
         × (reach : List Block) × LeadsTo later group (Some next.root)
         (applied group pool items.now) reach
-        × IsReachExchanged group planned later before reach next.replaced.items) }
+        × IsReachExchanged group planned later before reach next.replaced.items
+        × SpellsBy later group (Some next.root) (applied group pool items.now)
+        next.directory) }
     ensures known { IfErr result (λ refusal. (stored planned : Contents) (pool : PlainPool)
         → Plans store.old stored planned → SpellsRoot stored (group - 1) last.now.root pool
         → AnswersAreTrue store.old store.new → MakesGoodVolumes items.now
@@ -101,13 +107,15 @@ fn root_after<D: Disk + Drop>(
             let next = after_group(root, store, alloc, group, items)?;
             Ok(PlannedRoot {
                 root: next.root,
+                directory: next.directory,
                 replaced: next.replaced,
             })
         }
         None => {
-            let root = first_root(store, alloc, group, items)?;
+            let first = first_root(store, alloc, group, items)?;
             Ok(PlannedRoot {
-                root,
+                root: first.root,
+                directory: first.directory,
                 replaced: Vec::new(alloc),
             })
         }
@@ -131,6 +139,20 @@ fn names_after(
     Ok(Arc::new(alloc, after)?)
 }
 
+/// A directory to be kept. Where it has the rows of the one before, that one is shared.
+fn directory_after(
+    last: &Arc<Directory, Global>,
+    alloc: Global,
+    directory: Directory,
+) -> Result<Arc<Directory, Global>, AllocError>
+    ensures { IfOk result (λ after. after.value ≡ directory) }
+{
+    if last.as_ref().rows() == directory.rows() {
+        return Arc::try_clone(last);
+    }
+    Ok(Arc::new(alloc, directory)?)
+}
+
 /// The next group, and the blocks that its root no longer leads to.
 #[derive(Drop)]
 struct NextGroup {
@@ -138,7 +160,7 @@ struct NextGroup {
     replaced: Vec<RootBlock>,
 }
 
-/// The group after the last one: its root, which is planned, and its names; and the blocks that it replaced.
+/// The group after the last one: its root, which is planned, its names and its directory; and the blocks that it replaced.
 fn group_after<D: Disk + Drop>(
     last: &KeptGroup,
     store: &mut BlockStore<D>,
@@ -167,9 +189,11 @@ fn group_after<D: Disk + Drop>(
 {
     let names = names_after(&last.names, alloc, group, items)?;
     let next = root_after(last, store, alloc, group, items)?;
+    let directory = directory_after(&last.directory, alloc, next.directory)?;
     let after = KeptGroup {
         root: Some(next.root),
         names,
+        directory,
     };
     Ok(NextGroup {
         after,

@@ -13,7 +13,6 @@ ghost use Rattle.block_store.specs.Store.{Holds};
 ghost use Rattle.pool_model.specs.Pools.{PlainPool};
 ghost use Rattle.pool_model.specs.Refusals.{read_refusal};
 ghost use Rattle.pool_commit.specs.Backs.{Backs, SpellsGroup};
-ghost use Rattle.pool_commit.specs.Causes.{of_read as of_read_cause};
 ghost use Rattle.pool_commit.specs.StateOf.{state_of};
 ghost use Rattle.pool_commit.specs.Reading.{PoolAnswersTruly, OnlyReadsPool, IsReadFault};
 ghost use Rattle.pool_commit.specs.Reading.{IsFaultIn, IsUnreadOf, IsUnreadUnder, IsLostUnder};
@@ -23,14 +22,14 @@ use crate::commit::Commit;
 use crate::kept::KeptGroup;
 use crate::refusal::Refusal;
 use block_store::BlockStore;
-use dataset_snapshots::{VolumeRange, read_range};
+use dataset_snapshots::{VolumeRange, read_range_in};
 use model_disk::Disk;
 use pool_model::Name;
 use std::alloc::Global;
 use volume_rules::{VolumeShape, against_read};
 
 /// A range of a volume under a kept group. One that the pool of the group hasn't got is refused by the names that the group has in
-/// memory, before any disk is read.
+/// memory, before any disk is read. Nor is a block of the directory read, which the group has in memory too.
 fn read_of<D: Disk + Drop>(
     kept: &KeptGroup,
     store: &mut BlockStore<D>,
@@ -66,19 +65,9 @@ fn read_of<D: Disk + Drop>(
     let Some(root) = &kept.root else {
         return Err(Refusal::NoSuchName);
     };
-    match read_range(root, store, alloc, birth, range, missing) {
+    match read_range_in(root, store, alloc, birth, kept.directory(), range, missing) {
         Ok(bytes) => Ok(bytes),
-        Err(refusal) => Err(of_read(refusal)),
-    }
-}
-
-/// The answer for what the store refuses a read for: a read wants no room and judges no configuration.
-fn of_read(refusal: block_store::Refusal) -> Refusal
-    ensures { result ≡ of_read_cause refusal }
-{
-    match refusal {
-        block_store::Refusal::NoSpace => Refusal::BadPointer,
-        _ => Refusal::from(refusal),
+        Err(refusal) => Err(Refusal::from(refusal)),
     }
 }
 

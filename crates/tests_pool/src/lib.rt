@@ -5,6 +5,8 @@
 #[cfg(test)]
 mod changed_disks;
 #[cfg(test)]
+mod counted_reads;
+#[cfg(test)]
 mod faulty_pool;
 #[cfg(test)]
 mod many_blocks;

@@ -1,6 +1,8 @@
-use Rattle.std.proofs.Common.{[]}
+use Rattle.std.proofs.Common.{[], Some, subst, sym}
 use Rattle.dnode_tree.proofs.Refusing.{passed_on}
 use Rattle.block_store.proofs.Steps.{steps_none}
+use Rattle.pool_model.specs.Pools.{applied}
+use Rattle.pool_commit.specs.Directories.{SpellsBy}
 use Rattle.pool_commit.proofs.plan.group_after.Goals as goal
 
 pub returns-in_err-names-clause-steps : goal.returns-in_err-names-clause-steps
@@ -12,5 +14,16 @@ returns-in_err-next-clause-known g c =
 
 pub returns-clause-value : goal.returns-clause-value
 returns-clause-value g c = λ stored planned pool before plans spells leads honest.
-    let there = c.in_ok-next.ensures.value stored planned pool before plans spells.root leads honest in
-    (there.0, there.1, there.2, record { root = there.3; names = c.in_ok-names.ensures pool spells.names }, there.4, there.5, there.6)
+    let there = c.in_ok-next.ensures.value stored planned pool before plans spells.root leads honest in (
+      there.0,
+      there.1,
+      there.2,
+      record {
+        root = there.3;
+        directory = subst (SpellsBy there.0 c.args.group (Some c.in_ok-next.next.root) (applied c.args.group pool c.args.items.now)) (sym c.in_ok-directory.ensures) there.7;
+        names = c.in_ok-names.ensures pool spells.names;
+      },
+      there.4,
+      there.5,
+      there.6,
+    )

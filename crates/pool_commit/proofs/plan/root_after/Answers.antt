@@ -6,7 +6,9 @@ use Rattle.pool_model.specs.Pools.{Entry, PlainPool, applied, no_volumes}
 use Rattle.block_store.specs.Blocks.{Contents}
 use Rattle.dataset_snapshots.specs.Leaving.{IsReachExchanged}
 use Rattle.dataset_snapshots.specs.Reach.{reach_of}
+use Rattle.meta_objset.specs.declared.directory.DirectoryRow.{DirectoryRow}
 use Rattle.pool_commit.specs.Backs.{LeadsTo, SpellsRoot}
+use Rattle.pool_commit.specs.Directories.{SpellsBy}
 use Rattle.pool_commit.proofs.plan.root_after.Goals as goal
 
 pub returns-in_ok-next-in-Some-clause-value : goal.returns-in_ok-next-in-Some-clause-value
@@ -20,6 +22,7 @@ returns-in_ok-next-in-Some-clause-value g c = λ stored planned pool before plan
       reach_of there.3,
       (there.3, refl),
       subst (λ (blocks : List Block). IsReachExchanged c.args.group planned there.0 blocks (reach_of there.3) c.in_ok-next-in-Some.next.replaced.items) led.1 there.5,
+      (there.3, there.6),
     )
 
 pub returns-in_err-next-in-Some-clause-known : goal.returns-in_err-next-in-Some-clause-known
@@ -30,18 +33,21 @@ returns-in_err-next-in-Some-clause-known g c =
     (good_changes_may_be_made c.args.items.now good))
 
 -- a root was planned where there was none
-abbrev IsFirst : Contents → Contents → ℕ → Block → Entry → PlainPool → Type 0
-IsFirst planned later group root items pool =
+abbrev IsFirst : Contents → Contents → ℕ → Block → List DirectoryRow → Entry → PlainPool → Type 0
+IsFirst planned later group root rows items pool =
     SpellsRoot later group (Some root) (applied group pool items)
     × (reach : List Block) × LeadsTo later group (Some root) (applied group pool items) reach × IsReachExchanged group planned later [] reach []
+    × SpellsBy later group (Some root) (applied group pool items) rows
 
-pub returns-in_ok-root-in-None-clause-value : goal.returns-in_ok-root-in-None-clause-value
-returns-in_ok-root-in-None-clause-value g c = λ stored planned pool before plans spells leads honest.
-    let root : Block = c.in_ok-root-in-None.root in
+pub returns-in_ok-first-in-None-clause-value : goal.returns-in_ok-first-in-None-clause-value
+returns-in_ok-first-in-None-clause-value g c = λ stored planned pool before plans spells leads honest.
+    let root : Block = c.in_ok-first-in-None.first.root in
+    let rows : List DirectoryRow = c.in_ok-first-in-None.first.directory in
     let empty : pool ≡ no_volumes = subst (λ (o : Option Block). SpellsRoot stored (c.args.group - 1) o pool) c.in-None.is spells in
     let nothing : before ≡ [] = subst (λ (o : Option Block). LeadsTo stored (c.args.group - 1) o pool before) c.in-None.is leads in
-    let there = c.in_ok-root-in-None.ensures.value stored planned plans honest in
-    let first : IsFirst planned there.0 c.args.group root c.args.items.now pool = subst (IsFirst planned there.0 c.args.group root c.args.items.now) (sym empty) (there.3, there.4, there.5, there.6) in (
+    let there = c.in_ok-first-in-None.ensures.value stored planned plans honest in
+    let first : IsFirst planned there.0 c.args.group root rows c.args.items.now pool =
+    subst (IsFirst planned there.0 c.args.group root rows c.args.items.now) (sym empty) (there.3, there.4, there.5, there.6, there.7) in (
       there.0,
       there.1,
       there.2,
@@ -50,8 +56,9 @@ returns-in_ok-root-in-None-clause-value g c = λ stored planned pool before plan
       first.2,
       subst (λ (gone : List Block). IsReachExchanged c.args.group planned there.0 before first.1 gone) (sym c.new.ensures.items)
           (subst (λ (blocks : List Block). IsReachExchanged c.args.group planned there.0 blocks first.1 []) (sym nothing) first.3),
+      first.4,
     )
 
-pub returns-in_err-root-in-None-clause-known : goal.returns-in_err-root-in-None-clause-known
-returns-in_err-root-in-None-clause-known g c =
-    passed_on _ _ _ c.from_residual-in_err-root-in-None.ensures.1 (λ stored planned pool plans spells honest good. c.in_err-root-in-None.ensures.known stored planned plans honest good)
+pub returns-in_err-first-in-None-clause-known : goal.returns-in_err-first-in-None-clause-known
+returns-in_err-first-in-None-clause-known g c =
+    passed_on _ _ _ c.from_residual-in_err-first-in-None.ensures.1 (λ stored planned pool plans spells honest good. c.in_err-first-in-None.ensures.known stored planned plans honest good)

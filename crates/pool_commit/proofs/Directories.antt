@@ -1,0 +1,39 @@
+-- Directories that are kept, where other blocks are known.
+use Rattle.std.proofs.Common.{◌≡◌, ℕ, List, Option, Some, None, sym, ◌∙◌, subst, arith}
+use Rattle.block_pointer.specs.declared.block.Block.{Block}
+use Rattle.block_store.specs.Blocks.{Contents, Extends}
+use Rattle.dataset_snapshots.proofs.Readings.{roots_spell_one_pool}
+use Rattle.dataset_snapshots.proofs.Standing.{roots_stand}
+use Rattle.dataset_snapshots.specs.Laws.{KeepsEach}
+use Rattle.dataset_snapshots.specs.Pools.{SpellsPool}
+use Rattle.dataset_snapshots.specs.Reach.{reach_of}
+use Rattle.meta_objset.specs.declared.directory.DirectoryRow.{DirectoryRow}
+use Rattle.pool_model.specs.Pools.{PlainPool}
+use Rattle.pool_commit.specs.declared.kept.KeptGroup.{KeptGroup}
+use Rattle.pool_commit.specs.Backs.{LeadsTo, SpellsGroup}
+use Rattle.pool_commit.specs.Directories.{SpellsBy}
+
+-- the rows are those of the root still where the blocks that it leads to stay known
+pub spells_by_stands : (old new : Contents) (group : ℕ) (root : Option Block) (pool : PlainPool) (rows : List DirectoryRow) (blocks : List Block) → KeepsEach old new blocks
+    → LeadsTo old group root pool blocks → SpellsBy old group root pool rows → SpellsBy new group root pool rows
+spells_by_stands old new group (Some root) pool rows blocks keeps leads by =
+    let one = roots_spell_one_pool old group group root pool pool leads.0 by.0 in
+    let reach : blocks ≡ reach_of by.0 = sym leads.1 ∙ one.1 in
+    let there = roots_stand old new group group root pool (omega arith) by.0 (subst (KeepsEach old new) reach keeps) in
+    (there.0, by.1 ∙ sym there.2)
+spells_by_stands old new group None pool rows blocks keeps leads by = by
+
+-- and where more is known
+pub spells_by_stays : (before later : Contents) (group : ℕ) (root : Option Block) (pool : PlainPool) (rows : List DirectoryRow) → Extends before later → SpellsBy before group root pool rows
+    → SpellsBy later group root pool rows
+spells_by_stays before later group (Some root) pool rows more by =
+    let there = roots_stand before later group group root pool (omega arith) by.0 (λ block bytes held known. more block bytes known) in
+    (there.0, by.1 ∙ sym there.2)
+spells_by_stays before later group None pool rows more by = by
+
+-- a root that spells its group has the rows of a directory that is equal to the kept one
+pub rows_spelled : (stored : Contents) (group : ℕ) (kept : KeptGroup) (pool : PlainPool) (root : Block) (rows : List DirectoryRow) → SpellsGroup stored group kept pool → kept.root ≡ Some root
+    → rows ≡ kept.directory.value → (is : SpellsPool stored group root pool) × (rows ≡ is.rows)
+rows_spelled stored group kept pool root rows spells is same =
+    let by = subst (λ (o : Option Block). SpellsBy stored group o pool kept.directory.value) is spells.directory in
+    (by.0, same ∙ by.1)
