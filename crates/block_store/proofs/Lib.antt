@@ -31,6 +31,7 @@ pub mod Taking
 pub mod TakenIn
 pub mod TakenBlocks
 pub mod TakenEach
+pub mod TakenPlans
 pub mod Uses
 pub mod GivenBack
 pub mod Settled

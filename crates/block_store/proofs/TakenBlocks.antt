@@ -23,7 +23,7 @@ use Rattle.block_store.proofs.Accounting.{on_place_too, has_sector, has_on_place
 use Rattle.block_store.proofs.Lost.{lose_same}
 use Rattle.block_store.proofs.Planning.{grows_by, held_by}
 use Rattle.block_store.proofs.Taking.{Grows, grows_on, taken_too, taken_some, placed_too, turned}
-use Rattle.block_store.proofs.TakenIn.{Picks, picks_filled, TakeAll, viewed, viewed_shapes, into_view, out_of_view, viewed_all, lies_by, first_or_later, all_grow, all_taken, all_apart, all_some, all_lie, all_in_use, all_stay, all_were_free, all_only}
+use Rattle.block_store.proofs.TakenIn.{OnCopy, Picks, picks_filled, TakeAll, viewed, viewed_shapes, into_view, out_of_view, viewed_all, lies_by, first_or_later, all_grow, all_taken, all_apart, all_some, all_lie, all_in_use, all_stay, all_were_free, all_only}
 
 -- ---- the copies of blocks
 
@@ -209,33 +209,54 @@ taken_in_use marks picks spaces blocks after taken block held i place at =
     (all_in_use (viewed marks spaces) (copies_of_all blocks) (viewed marks after) (viewed_all marks picks spaces (copies_of_all blocks) after taken)
     (copy_at block.property.sectors place) (is_of_all blocks block (copy_at block.property.sectors place) held (is_of block i place at)))
 
--- which sectors the blocks fill
+-- which sectors the copies fill
+pub filled_copies : (marks : Marks) → Picks marks → (spaces : List VdevSpace) (copies : List CopyAt) (after : List VdevSpace) → TakeIn spaces copies after
+    → (at : SectorAt) → OnCopy spaces copies at → IsUsed IsFree spaces marks at × IsUsed IsInUse after marks at
+filled_copies marks picks spaces copies after taken at of =
+    let both = all_were_free (viewed marks spaces) copies (viewed marks after) (viewed_all marks picks spaces copies after taken) at
+    (record { copy = of.copy; held = of.held; on = on_place_too spaces (viewed marks spaces) of.copy.place at (viewed_shapes marks spaces) of.on }) in (
+      used_before IsFree spaces (viewed marks spaces) marks planned_marks at (viewed_shapes marks spaces) (into_view marks spaces) both.0,
+      used_before IsInUse after (viewed marks after) marks planned_marks at (viewed_shapes marks after) (into_view marks after) both.1,
+    )
+
+pub only_copies : (marks : Marks) → Picks marks → (spaces : List VdevSpace) (copies : List CopyAt) (after : List VdevSpace) → TakeIn spaces copies after
+    → (at : SectorAt) → IsUsed IsInUse after marks at → IsUsed IsInUse spaces marks at ⊎ OnCopy spaces copies at
+only_copies marks picks spaces copies after taken at used =
+    elim (all_only (viewed marks spaces) copies (viewed marks after) (viewed_all marks picks spaces copies after taken) at
+    (used_after IsInUse after (viewed marks after) marks planned_marks at (viewed_shapes marks after) (into_view marks after) used)) [
+      | inl was ↦ inl (used_before IsInUse spaces (viewed marks spaces) marks planned_marks at (viewed_shapes marks spaces) (into_view marks spaces) was)
+      | inr of ↦ inr (record {
+        copy = of.copy;
+        held = of.held;
+        on = on_place_too (viewed marks spaces) spaces of.copy.place at (sym (viewed_shapes marks spaces)) of.on;
+      })
+    ]
+
+pub others_stay : (marks : Marks) → Picks marks → (spaces : List VdevSpace) (copies : List CopyAt) (after : List VdevSpace) → TakeIn spaces copies after
+    → (at : SectorAt) → IsUsed IsInUse spaces marks at → IsUsed IsInUse after marks at
+others_stay marks picks spaces copies after taken at used =
+    used_before IsInUse after (viewed marks after) marks planned_marks at (viewed_shapes marks after) (into_view marks after)
+    (all_stay (viewed marks spaces) copies (viewed marks after) (viewed_all marks picks spaces copies after taken) at
+    (used_after IsInUse spaces (viewed marks spaces) marks planned_marks at (viewed_shapes marks spaces) (into_view marks spaces) used))
+
+-- and the blocks
 pub taken_fills : (marks : Marks) → Picks marks → (spaces : List VdevSpace) (blocks : List Block) (after : List VdevSpace) → TakeIn spaces (copies_of_all blocks) after
     → Fills spaces marks blocks after
 taken_fills marks picks spaces blocks after taken =
-    let all = viewed_all marks picks spaces (copies_of_all blocks) after taken in
-    let shapes = viewed_shapes marks spaces in
-    let both : (at : SectorAt) → IsOfOne spaces blocks at → IsUsed IsFree (viewed marks spaces) planned_marks at × IsUsed IsInUse (viewed marks after) planned_marks at =
-    λ at (block, held, has). all_were_free (viewed marks spaces) (copies_of_all blocks) (viewed marks after) all at (record {
+    let both : (at : SectorAt) → IsOfOne spaces blocks at → IsUsed IsFree spaces marks at × IsUsed IsInUse after marks at =
+    λ at (block, held, has). filled_copies marks picks spaces (copies_of_all blocks) after taken at (record {
       copy = copy_at block.property.sectors has.place;
       held = is_of_all blocks block (copy_at block.property.sectors has.place) held (is_of block has.i has.place has.is_copy);
-      on = on_place_too spaces (viewed marks spaces) has.place at shapes (has_on_place spaces block at has);
+      on = has_on_place spaces block at has;
     }) in
     record {
-      were_free = λ at of. used_before IsFree spaces (viewed marks spaces) marks planned_marks at shapes (into_view marks spaces) (both at of).0;
-      are_in_use = λ at of. used_before IsInUse after (viewed marks after) marks planned_marks at (viewed_shapes marks after) (into_view marks after) (both at of).1;
-      only = λ at used.
-          elim (all_only (viewed marks spaces) (copies_of_all blocks) (viewed marks after) all at
-          (used_after IsInUse after (viewed marks after) marks planned_marks at (viewed_shapes marks after) (into_view marks after) used)) [
-            | inl was ↦ inl (used_before IsInUse spaces (viewed marks spaces) marks planned_marks at shapes (into_view marks spaces) was)
-            | inr of ↦
-                let is = block_of blocks of.copy of.held in
-                inr (is.block, is.held, has_sector spaces is.block is.i of.copy.place at is.at (on_place_too (viewed marks spaces) spaces of.copy.place at (sym shapes) of.on))
-          ];
-      stay = λ at used.
-          used_before IsInUse after (viewed marks after) marks planned_marks at (viewed_shapes marks after) (into_view marks after)
-          (all_stay (viewed marks spaces) (copies_of_all blocks) (viewed marks after) all at
-          (used_after IsInUse spaces (viewed marks spaces) marks planned_marks at shapes (into_view marks spaces) used));
+      were_free = λ at of. (both at of).0;
+      are_in_use = λ at of. (both at of).1;
+      only = λ at used. elim (only_copies marks picks spaces (copies_of_all blocks) after taken at used) [
+        | inl was ↦ inl was
+        | inr of ↦ let is = block_of blocks of.copy of.held in inr (is.block, is.held, has_sector spaces is.block is.i of.copy.place at is.at of.on)
+      ];
+      stay = others_stay marks picks spaces (copies_of_all blocks) after taken;
     }
 
 -- ---- what the store holds

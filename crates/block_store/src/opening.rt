@@ -7,6 +7,7 @@ ghost use Rattle.block_store.specs.Blocks.{Contents, AreDistinct};
 ghost use Rattle.block_store.specs.Opened.{AreFound, CannotTakeIn, Fills, HasFreePlace};
 ghost use Rattle.block_store.specs.Opened.{TakeIn, TakeInPart, TakesIn};
 ghost use Rattle.block_store.specs.Places.{shapes_of, filled, planned, IsPlaceIn};
+ghost use Rattle.block_store.specs.Plans.{KeepsPlans};
 ghost use Rattle.block_store.specs.Releases.{copies_at, copies_of, copies_of_all};
 ghost use Rattle.block_store.specs.Store.{Holds, Keeps};
 ghost use Rattle.block_store.specs.Uses.{CopiesLieOn, Passes, IsInUse};
@@ -52,6 +53,7 @@ impl<D: Disk + Drop> BlockStore<D> {
             → CopiesLieOn (Passes test) self.old.spaces filled block
             → CopiesLieOn (Passes test) self.new.spaces filled block }
         ensures keeps { Keeps self.old self.new }
+        ensures plans { KeepsPlans self.old self.new }
 
         // What was stored is so still, and so are these blocks, with the bytes that stand there.
         ensures holds { OnOk result ((before stored : Contents) → Holds self.old before

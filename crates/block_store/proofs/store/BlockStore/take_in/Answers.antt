@@ -4,6 +4,7 @@ use Rattle.block_store.specs.Releases.{copies_of_all}
 use Rattle.block_store.proofs.TakenIn.{picks_filled, picks_planned}
 use Rattle.block_store.proofs.TakenBlocks.{distinct_are, taken_in_use, taken_fills, taken_holds}
 use Rattle.block_store.proofs.TakenEach.{all_in_part, part_shapes, part_keeps, part_stays}
+use Rattle.block_store.proofs.TakenPlans.{part_plans}
 use Rattle.block_store.proofs.store.BlockStore.take_in.Goals as goal
 
 pub returns-clause-shapes : goal.returns-clause-shapes
@@ -43,6 +44,12 @@ pub returns-clause-keeps : goal.returns-clause-keeps
 returns-clause-keeps g c =
     let is = c.take_in_each.ensures in
     part_keeps c.args.self.now c.take_in_each.new.self (copies_of_all c.args.blocks.now) is.disks is.out is.spans
+    (all_in_part c.args.self.now.spaces c.take_in_each.new.self.spaces (copies_of_all c.args.blocks.now) c.take_in_each.result is.taken is.some)
+
+pub returns-clause-plans : goal.returns-clause-plans
+returns-clause-plans g c =
+    let is = c.take_in_each.ensures in
+    part_plans c.args.self.now c.take_in_each.new.self (copies_of_all c.args.blocks.now) is.disks is.out is.spans is.due is.stray
     (all_in_part c.args.self.now.spaces c.take_in_each.new.self.spaces (copies_of_all c.args.blocks.now) c.take_in_each.result is.taken is.some)
 
 pub returns-clause-holds : goal.returns-clause-holds
