@@ -28,6 +28,10 @@ pub mod Sizes
 pub mod Slots
 pub mod Steps
 pub mod Taking
+pub mod TakenIn
+pub mod TakenBlocks
+pub mod TakenEach
+pub mod TakenPlans
 pub mod Uses
 pub mod GivenBack
 pub mod Settled

@@ -1,6 +1,7 @@
 -- A place that is taken in a metaslab.
-use Rattle.std.proofs.Common.{ℕ, suc, ◌≡◌, ◌⊎◌, inl, inr, ◌+◌, ◌*◌, ◌^◌, ◌<◌, ◌≤◌, Some, List, length, All, Result, Ok, Err, sym, ap, subst, ◌∙◌, arith, mul-le-mul_right, mul-le-mul}
-use Rattle.std.specs.Prelude.{slice_set, IfOk, OnOk, OnErr}
+use Rattle.std.proofs.Common.{ℕ, suc, ◌≡◌, inl, inr, ◌+◌, ◌*◌, ◌^◌, ◌<◌, ◌≤◌, Bool, true, false, Option, Some, None, List, length, All, Result, Ok, Err, refl, sym, ap, subst, ◌∙◌, arith, mul-le-mul_right, mul-le-mul}
+use Rattle.std.specs.Prelude.{slice_set, IfOk, OnOk, OnErr, IsSomeAnd, ◌↔◌}
+use Rattle.std.specs.Bool.{OnTrue, OnFalse}
 use Rattle.std.specs.List.{slice_get}
 use Rattle.std.proofs.lemmas.List.{length-set}
 use Rattle.std.proofs.lemmas.List.Elements.{All-set}
@@ -11,10 +12,11 @@ use Rattle.raidz_io.proofs.Written.{slice_get_some}
 use Rattle.space_map.specs.declared.entry.Run.{Run}
 use Rattle.metaslab.specs.Space.{Space, sectors_of}
 use Rattle.metaslab.specs.State.{Free, InUse}
-use Rattle.metaslab_group.specs.Spaces.{ChangesIn, AreSettled, AreSettledInPart}
+use Rattle.metaslab.specs.Calls.{IsRunOf}
+use Rattle.metaslab_group.specs.Spaces.{GroupSpaces, IsFreeIn, ChangesIn, AreSettled, AreSettledInPart}
 use Rattle.block_store.specs.declared.shape.VdevShape.{VdevShape}
 use Rattle.block_store.specs.Spaces.{VdevSpace, AreMetaslabsOf}
-use Rattle.block_store.specs.Places.{run_at, IsTakenIn}
+use Rattle.block_store.specs.Places.{run_at, EachSector, IsFree, IsTakenIn}
 use Rattle.block_store.specs.Shapes.{vdev_sectors, metaslab_sectors, metaslabs, metaslab_of, sector_of, IsPlace}
 
 sized_at : (spaces : List Space) (size m : ℕ) (space : Space) → All (λ s. sectors_of s ≡ size) spaces → slice_get spaces m ≡ Some space → sectors_of space ≡ size
@@ -73,6 +75,46 @@ took spaces sectors v metaslab space new (Ok place) found vdev is_place slab tak
   metaslab_is = slab;
 }
 took spaces sectors v metaslab space new (Err e) found vdev is_place slab taken rest = tt
+
+-- ---- a place that is taken in
+
+-- so they are where a run was taken in, or nothing changed
+pub still_taken : {E : Type 0} (shape : VdevShape) (marks : GroupSpaces → List Space) (old new : GroupSpaces) (m : ℕ) (run : Run) (result : Result Bool E)
+    → IfOk result (λ is_free. OnTrue is_free (ChangesIn (marks old) (marks new) m run Free InUse)) → IfOk result (λ is_free. OnFalse is_free (new ≡ old))
+    → OnErr result (new ≡ old) → AreMetaslabsOf shape (marks old) → AreMetaslabsOf shape (marks new)
+still_taken shape marks old new m run (Ok true) taken left err is = still_metaslabs shape (marks old) (marks new) m run taken is
+still_taken shape marks old new m run (Ok false) taken left err is = subst (λ (g : GroupSpaces). AreMetaslabsOf shape (marks g)) (sym left) is
+still_taken shape marks old new m run (Err e) taken left err is = subst (λ (g : GroupSpaces). AreMetaslabsOf shape (marks g)) (sym err) is
+
+some_and : {X : Type 0} (o : Option X) (P : X → Type 0) → IsSomeAnd o P → (x : X) × (o ≡ Some x) × P x
+some_and None P h = elim h [ ]
+some_and (Some x) P h = (x, refl, h)
+
+-- the place's sectors in its metaslab are free
+free_place : (shape : VdevShape) (spaces : List Space) (place : Dva) → IsFreeIn spaces (metaslab_of shape place) (run_at shape place) → EachSector IsFree spaces shape place
+free_place shape spaces place free =
+    let there = some_and (slice_get spaces (metaslab_of shape place)) (λ space. IsRunOf space (run_at shape place) Free) free in
+    record { metaslab = there.0; found = there.1; each = there.2.each }
+
+of_free_place : (shape : VdevShape) (sectors : ℕ) (spaces : List Space) (place : Dva) → IsPlace shape sectors place → AreMetaslabsOf shape spaces
+    → EachSector IsFree spaces shape place → IsFreeIn spaces (metaslab_of shape place) (run_at shape place)
+of_free_place shape sectors spaces place is_place are free =
+    let size = sized_at spaces (metaslab_sectors shape) (metaslab_of shape place) free.metaslab are.1 free.found in
+    let fits = is_place.one in
+    let is : IsRunOf free.metaslab (run_at shape place) Free = record { within = omega (arith, fits, size); each = free.each } in
+    rw free.found is
+
+-- whether they are, without what is planned and with it
+pub free_places : {E : Type 0} (shape : VdevShape) (sectors : ℕ) (kept planned : List Space) (place : Dva) (result : Result Bool E) → IsPlace shape sectors place
+    → AreMetaslabsOf shape kept → AreMetaslabsOf shape planned
+    → IfOk result (λ is_free. (is_free ≡ true)
+    ↔ (IsFreeIn kept (metaslab_of shape place) (run_at shape place) × IsFreeIn planned (metaslab_of shape place) (run_at shape place)))
+    → IfOk result (λ is_free. (is_free ≡ true) ↔ (EachSector IsFree kept shape place × EachSector IsFree planned shape place))
+free_places shape sectors kept planned place (Ok is_free) is_place are are' both = (
+  λ yes. let free = both.0 yes in (free_place shape kept place free.0, free_place shape planned place free.1),
+  λ free. both.1 (of_free_place shape sectors kept place is_place are free.0, of_free_place shape sectors planned place is_place are' free.1),
+)
+free_places shape sectors kept planned place (Err e) is_place are are' both = tt
 
 -- ---- metaslabs that settle
 

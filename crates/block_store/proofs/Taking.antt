@@ -284,7 +284,7 @@ pub record AreTakenToo (spaces : List VdevSpace) (sectors : ℕ) (places : List 
       → IsTaken spaces planned sectors' other → ArePlacesApart place other
   pub apart : 0 < sectors → (i k : ℕ) (place other : Dva) → slice_get places i ≡ Some place → slice_get places k ≡ Some other → (i ≡ k) ⊎ ArePlacesApart place other
 
-same_grows : (spaces : List VdevSpace) (marks : Marks) → Grows spaces spaces marks marks
+pub same_grows : (spaces : List VdevSpace) (marks : Marks) → Grows spaces spaces marks marks
 same_grows spaces marks = record {
   shapes = refl;
   more = λ v space new found found'.

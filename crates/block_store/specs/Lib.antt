@@ -6,6 +6,7 @@ pub mod Elsewhere
 pub mod Forgetting
 pub mod Laws
 pub mod Losses
+pub mod Opened
 pub mod Places
 pub mod Plans
 pub mod Reading

@@ -34,11 +34,12 @@ planned space = space.planned
 abbrev pub HaveMarks : List VdevSpace → Marks → List VdevSpace → Marks → Type 0
 HaveMarks spaces marks after later = (v : ℕ) (space new : VdevSpace) → slice_get spaces v ≡ Some space → slice_get after v ≡ Some new → later new ≡ marks space
 
--- no sector of the vdev is in use
+-- no sector of the vdev is in use, and no group is pinned
 pub record IsEmpty (space : VdevSpace) : Type 0 where
   pub count : length (filled space) ≡ metaslabs space.shape
   pub none_filled : AreWhollyFree (filled space) (metaslab_sectors space.shape)
   pub none_planned : planned space ≡ filled space
+  pub none_pinned : space.pins ≡ []
 
 abbrev pub AreEmpty : List VdevSpace → Type 0
 AreEmpty spaces = All IsEmpty spaces

@@ -7,6 +7,7 @@ mod create;
 mod device;
 mod honest;
 mod laws;
+mod opening;
 mod plan;
 mod read;
 mod refusal;

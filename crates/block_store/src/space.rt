@@ -41,7 +41,8 @@ impl Model for VdevMetaslabs {
 impl VdevMetaslabs {
     ghost use Rattle.metaslab.specs.State.{Free, InUse, Released};
     ghost use Rattle.metaslab_group.specs.Spaces.{ChangesIn, AreSettled, AreSettledInPart};
-    ghost use Rattle.block_store.specs.Places.{IsEmpty, HasRoomIn, EachSector, run_at};
+    ghost use Rattle.std.specs.Bool.{OnTrue, OnFalse};
+    ghost use Rattle.block_store.specs.Places.{IsEmpty, HasRoomIn, EachSector, IsFree, run_at};
     ghost use Rattle.block_store.specs.Uses.{IsInUse};
     ghost use Rattle.block_store.specs.Shapes.{metaslab_of, IsPlace};
 
@@ -127,6 +128,31 @@ impl VdevMetaslabs {
         let run = self.run_at(place);
         self.metaslabs
             .is_in_use(self.shape.metaslab_of(place) as usize, run)
+    }
+
+    /// Takes in a place where a copy of a block of so many data sectors lies already: its sectors were free, without what is
+    /// planned and with it, and are in use from now on. `false` where they were not. Neither `false` nor an error, that memory
+    /// is short, changes anything.
+    pub(crate) fn take_in(&mut self, sectors: u32, place: Dva) -> Result<bool, AllocError>
+        requires some { 0 < sectors }
+        requires is_place { IsPlace self.old.shape sectors place }
+        ensures free { IfOk result (λ is_free. IsTrue is_free
+            ↔ (EachSector IsFree self.old.kept self.old.shape place
+            × EachSector IsFree self.old.planned self.old.shape place)) }
+        ensures kept { IfOk result (λ is_free. OnTrue is_free
+            (ChangesIn self.old.kept self.new.kept
+            (metaslab_of self.old.shape place) (run_at self.old.shape place) Free InUse)) }
+        ensures planned { IfOk result (λ is_free. OnTrue is_free
+            (ChangesIn self.old.planned self.new.planned
+            (metaslab_of self.old.shape place) (run_at self.old.shape place) Free InUse)) }
+        ensures left { IfOk result (λ is_free. OnFalse is_free (self.new ≡ self.old)) }
+        ensures rest { self.new
+            ≡ record self.old { kept = self.new.kept; planned = self.new.planned } }
+        ensures err { OnErr result (self.new ≡ self.old) }
+    {
+        let run = self.run_at(place);
+        let metaslab = self.shape.metaslab_of(place) as usize;
+        self.metaslabs.take_in(metaslab, run)
     }
 
     /// The sectors of a place in its metaslab.

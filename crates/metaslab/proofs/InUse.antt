@@ -1,9 +1,8 @@
 -- Runs all of whose sectors are in use.
 use Rattle.std.proofs.Common.{◌≡◌, ℕ, ◌+◌, ◌<◌, ◌≤◌, Bool, true, false, None, List, [], ◌∷◌, refl}
-use Rattle.std.specs.Prelude.{Option, All, IsTrue, not, ◌≢◌}
+use Rattle.std.specs.Prelude.{Option, All, not, ◌≢◌}
 use Rattle.std.specs.List.{AllByRecursion}
 use Rattle.std.proofs.lemmas.List.Elements.{All-from_recursion}
-use Rattle.space_map.specs.FreeRuns.{AreFree}
 use Rattle.space_map.specs.declared.entry.Run.{Run}
 use Rattle.space_map.specs.Sectors.{names, contains, AreBetween}
 use Rattle.metaslab.specs.declared.settling.Release.{Release}

@@ -1,5 +1,6 @@
 //! A metaslab.
 ghost use Rattle.std.specs.Prelude.{◌≡◌, ◌<◌, [], ◌↔◌, IsTrue, OnOk, OnErr, IfOk};
+ghost use Rattle.std.specs.Bool.{OnTrue, OnFalse};
 
 use crate::refusal::Refusal;
 use crate::settling::{Release, change, drop_due, give_all, give_due};
@@ -94,6 +95,28 @@ impl Metaslab {
         };
         change(&mut self.free, Kind::Allocated, run)?;
         Ok(run)
+    }
+
+    /// Takes in a run where a block lies already, as OpenZFS claims a block: its sectors were free and are in use from
+    /// now on. `false` where the run isn't in the metaslab, or not all its sectors are free. Neither `false` nor an
+    /// error, that memory is short, changes anything.
+    pub fn take_in(&mut self, run: Run) -> Result<bool, AllocError>
+        requires { 0 < run.len }
+        ensures free { IfOk result (λ is_free. IsTrue is_free ↔ IsRunOf self.old run Free) }
+        ensures taken { IfOk result (λ is_free.
+            OnTrue is_free (Changes self.old self.new run InUse)) }
+        ensures left { IfOk result (λ is_free. OnFalse is_free (self.new ≡ self.old)) }
+        ensures err { OnErr result (self.new ≡ self.old) }
+    {
+        let sectors = self.free.sectors();
+        if run.len > sectors || run.start > sectors - run.len {
+            return Ok(false);
+        }
+        match self.free.change(Kind::Allocated, run) {
+            Ok(()) => Ok(true),
+            Err(space_map::Refusal::BadMap) => Ok(false),
+            Err(space_map::Refusal::NoMemory) => Err(AllocError),
+        }
     }
 
     /// Releases a run that was handed out, with the group that gives it up: from that group on no block is

@@ -1,15 +1,16 @@
 -- The metaslabs of a vdev as their calls leave them.
-use Rattle.std.proofs.Common.{ℕ, ◌≡◌, inl, inr, ◌+◌, ◌<◌, ◌≤◌, Option, Some, None, List, length, get_or, refl, sym, ap, subst, ◌∙◌, arith}
-use Rattle.std.specs.Prelude.{slice_set, map, IsSomeAnd}
+use Rattle.std.proofs.Common.{ℕ, ◌≡◌, inl, inr, ◌+◌, ◌<◌, ◌≤◌, Bool, true, false, Option, Some, None, Result, Ok, Err, List, length, get_or, refl, sym, ap, subst, ◌∙◌, arith}
+use Rattle.std.specs.Prelude.{slice_set, map, IsSomeAnd, IfOk, ◌↔◌}
+use Rattle.std.specs.Bool.{OnTrue}
 use Rattle.std.specs.List.{slice_get}
 use Rattle.std.proofs.lemmas.Bool.{cases_lt}
 use Rattle.std.proofs.lemmas.List.{length-map}
 use Rattle.std.proofs.lemmas.Option.{slice_get_read, get_or_from_slice_get}
 use Rattle.space_map.specs.declared.entry.Run.{Run}
 use Rattle.metaslab.specs.Space.{Space}
-use Rattle.metaslab.specs.State.{State, InUse}
+use Rattle.metaslab.specs.State.{State, Free, InUse}
 use Rattle.metaslab.specs.Calls.{IsRunOf, Changes, HasFreeRun, SettlesUnder}
-use Rattle.metaslab_group.specs.Spaces.{GroupSpaces, HasFreeRunIn, IsInUseIn, ChangesIn, AreSettled, AreSettledInPart}
+use Rattle.metaslab_group.specs.Spaces.{GroupSpaces, HasFreeRunIn, IsFreeIn, IsInUseIn, ChangesIn, AreSettled, AreSettledInPart}
 use Rattle.metaslab_group.specs.declared.planned.PlannedMetaslab.{PlannedMetaslab}
 use Rattle.metaslab_group.proofs.Elements.{same_some, map_set, map_stays, map_found, found_in_map, maps_agree, HasBecome, all_done, set_found, length_set}
 
@@ -35,6 +36,43 @@ in_use_now metaslabs i x y run from found was changes =
       each = λ s named. changes.states s ∙ rw named refl;
     } in
     rw (map_found (λ m. m.planned) (slice_set metaslabs i y) i y (set_found metaslabs i x y found)) is
+
+-- whether a run of one metaslab is free
+is_free_in : (f : PlannedMetaslab → Space) (metaslabs : List PlannedMetaslab) (i : ℕ) (x : PlannedMetaslab) (run : Run) → slice_get metaslabs i ≡ Some x
+    → IsRunOf (f x) run Free → IsFreeIn (map f metaslabs) i run
+is_free_in f metaslabs i x run found is = rw (map_found f metaslabs i x found) is
+
+of_free_in : (f : PlannedMetaslab → Space) (metaslabs : List PlannedMetaslab) (i : ℕ) (x : PlannedMetaslab) (run : Run) → slice_get metaslabs i ≡ Some x
+    → IsFreeIn (map f metaslabs) i run → IsRunOf (f x) run Free
+of_free_in f metaslabs i x run found is = rw (map_found f metaslabs i x found) at is
+
+-- a run of it is free in both spaces, or not
+pub free_in : {E : Type 0} (metaslabs : List PlannedMetaslab) (i : ℕ) (x : PlannedMetaslab) (run : Run) (result : Result Bool E) → slice_get metaslabs i ≡ Some x
+    → IfOk result (λ is_free. (is_free ≡ true) ↔ (IsRunOf x.kept run Free × IsRunOf x.planned run Free))
+    → IfOk result (λ is_free. (is_free ≡ true) ↔ (IsFreeIn (map (λ m. m.kept) metaslabs) i run × IsFreeIn (map (λ m. m.planned) metaslabs) i run))
+free_in metaslabs i x run (Ok is_free) found both = (
+  λ yes. let free = both.0 yes in (is_free_in (λ m. m.kept) metaslabs i x run found free.0, is_free_in (λ m. m.planned) metaslabs i x run found free.1),
+  λ free. both.1 (of_free_in (λ m. m.kept) metaslabs i x run found free.0, of_free_in (λ m. m.planned) metaslabs i x run found free.1),
+)
+free_in metaslabs i x run (Err e) found both = tt
+
+-- and where it was, one of the spaces changes
+pub took_in : {E : Type 0} (f : PlannedMetaslab → Space) (metaslabs : List PlannedMetaslab) (i : ℕ) (x y : PlannedMetaslab) (run : Run) (result : Result Bool E)
+    → slice_get metaslabs i ≡ Some x
+    → IfOk result (λ is_free. (is_free ≡ true) ↔ (IsRunOf x.kept run Free × IsRunOf x.planned run Free))
+    → ((IsRunOf x.kept run Free × IsRunOf x.planned run Free) → IsRunOf (f x) run Free)
+    → IfOk result (λ is_free. OnTrue is_free (Changes (f x) (f y) run InUse))
+    → IfOk result (λ is_free. OnTrue is_free (ChangesIn (map f metaslabs) (map f (slice_set metaslabs i y)) i run Free InUse))
+took_in f metaslabs i x y run (Ok true) found both one changes = record {
+  space = f x;
+  later = f y;
+  found = map_found f metaslabs i x found;
+  was = one (both.0 refl);
+  changes = changes;
+  rest = map_set f metaslabs i y;
+}
+took_in f metaslabs i x y run (Ok false) found both one changes = tt
+took_in f metaslabs i x y run (Err e) found both one changes = tt
 
 abbrev pub group_of : List PlannedMetaslab → List ℕ → GroupSpaces
 group_of metaslabs pins = record { kept = map (λ m. m.kept) metaslabs; planned = map (λ m. m.planned) metaslabs; pins = pins }

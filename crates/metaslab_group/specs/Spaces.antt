@@ -28,6 +28,10 @@ AreWhollyFree spaces sectors = All (λ space. IsWhollyFree space sectors) spaces
 abbrev pub HasFreeRunIn : List Space → ℕ → ℕ → Type 0
 HasFreeRunIn spaces metaslab sectors = IsSomeAnd (slice_get spaces metaslab) (λ space. HasFreeRun space sectors)
 
+-- all sectors of a run of this metaslab are free
+abbrev pub IsFreeIn : List Space → ℕ → Run → Type 0
+IsFreeIn spaces metaslab run = IsSomeAnd (slice_get spaces metaslab) (λ space. IsRunOf space run Free)
+
 -- all sectors of a run of this metaslab are in use
 abbrev pub IsInUseIn : List Space → ℕ → Run → Type 0
 IsInUseIn spaces metaslab run = IsSomeAnd (slice_get spaces metaslab) (λ space. IsRunOf space run InUse)

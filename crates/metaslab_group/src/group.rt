@@ -34,7 +34,8 @@ impl Model for MetaslabGroup {
 impl MetaslabGroup {
     ghost use Rattle.std.specs.Prelude.{◌∷◌, ◌++◌, ◌↔◌, IsTrue};
     ghost use Rattle.metaslab.specs.State.{Free, InUse, Released};
-    ghost use Rattle.metaslab_group.specs.Spaces.{AreWhollyFree, HasFreeRunIn, IsInUseIn};
+    ghost use Rattle.std.specs.Bool.{OnTrue, OnFalse};
+    ghost use Rattle.metaslab_group.specs.Spaces.{AreWhollyFree, HasFreeRunIn, IsFreeIn, IsInUseIn};
     ghost use Rattle.metaslab_group.specs.Spaces.{ChangesIn, AreSettled, AreSettledInPart, without};
 
     /// So many metaslabs of so many sectors each, all of them free, with no plan and no pinned group.
@@ -99,6 +100,25 @@ impl MetaslabGroup {
     {
         let run = self.metaslabs[metaslab].allocate(sectors)?;
         Ok(run.start)
+    }
+
+    /// Takes in a run of a metaslab where a block lies already: its sectors were free, without what is planned and with
+    /// it, and are in use in both from now on. `false` where they were not. Neither `false` nor an error, that memory is
+    /// short, changes anything.
+    pub fn take_in(&mut self, metaslab: usize, run: Run) -> Result<bool, AllocError>
+        requires is_there { metaslab < length self.old.planned }
+        requires some { 0 < run.len }
+        ensures free { IfOk result (λ is_free. IsTrue is_free
+            ↔ (IsFreeIn self.old.kept metaslab run × IsFreeIn self.old.planned metaslab run)) }
+        ensures kept { IfOk result (λ is_free. OnTrue is_free
+            (ChangesIn self.old.kept self.new.kept metaslab run Free InUse)) }
+        ensures planned { IfOk result (λ is_free. OnTrue is_free
+            (ChangesIn self.old.planned self.new.planned metaslab run Free InUse)) }
+        ensures pins { self.new.pins ≡ self.old.pins }
+        ensures left { IfOk result (λ is_free. OnFalse is_free (self.new ≡ self.old)) }
+        ensures err { OnErr result (self.new ≡ self.old) }
+    {
+        self.metaslabs[metaslab].take_in(run)
     }
 
     /// Releases a run in use of a metaslab, with the group that is planned. An error, that memory is short,

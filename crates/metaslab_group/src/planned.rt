@@ -28,6 +28,7 @@ impl Model for PlannedMetaslab {
 
 impl PlannedMetaslab {
     ghost use Rattle.std.specs.Prelude.{[], ◌↔◌, IsTrue};
+    ghost use Rattle.std.specs.Bool.{OnTrue, OnFalse};
     ghost use Rattle.metaslab.specs.State.{Free, InUse, Released};
     ghost use Rattle.metaslab.specs.Calls.{IsRunOf, Changes, HasFreeRun, SettlesUnder, IsOf};
 
@@ -83,6 +84,30 @@ impl PlannedMetaslab {
         let run = copy.allocate(sectors)?;
         self.copy = Some(copy);
         Ok(run)
+    }
+
+    /// Takes in a run where a block lies already: its sectors were free in both spaces, and are in use in both from now
+    /// on. `false` where they were not. Neither `false` nor an error, that memory is short, changes anything.
+    pub fn take_in(&mut self, run: Run) -> Result<bool, AllocError>
+        requires { 0 < run.len }
+        ensures free { IfOk result (λ is_free. IsTrue is_free
+            ↔ (IsRunOf self.old.kept run Free × IsRunOf self.old.planned run Free)) }
+        ensures kept { IfOk result (λ is_free.
+            OnTrue is_free (Changes self.old.kept self.new.kept run InUse)) }
+        ensures planned { IfOk result (λ is_free.
+            OnTrue is_free (Changes self.old.planned self.new.planned run InUse)) }
+        ensures left { IfOk result (λ is_free. OnFalse is_free (self.new ≡ self.old)) }
+        ensures err { OnErr result (self.new ≡ self.old) }
+    {
+        let Some(copy) = &mut self.copy else {
+            return self.kept.take_in(run);
+        };
+        let mut kept = self.kept.clone()?;
+        let is_free = kept.take_in(run)? && copy.take_in(run)?;
+        if is_free {
+            self.kept = kept;
+        }
+        Ok(is_free)
     }
 
     /// Releases a run in use, with the group that is planned. An error, that memory is short, leaves both

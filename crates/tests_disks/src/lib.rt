@@ -15,6 +15,8 @@ mod lanes;
 #[cfg(test)]
 mod layouts;
 #[cfg(test)]
+mod opened_blocks;
+#[cfg(test)]
 mod parities;
 #[cfg(test)]
 mod released_blocks;

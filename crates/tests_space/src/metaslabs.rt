@@ -132,3 +132,29 @@ fn runs_are_in_use(rt: HostRuntime) -> Result<(), Fail> {
     }
     Ok(())
 }
+
+/// Whether a run is taken in by a metaslab of 16 sectors, of which the first 4 are in use; whether it is in use then, and
+/// whether it is taken in once more.
+fn taken_in(alloc: Global, start: u64, len: u64) -> Result<[bool; 3], Refusal>
+    requires { 0 < len }
+{
+    let mut metaslab = Metaslab::new(alloc, FreeSet::new(alloc, 16)?);
+    metaslab.allocate(4)?;
+    let run = Run { start, len };
+    let first = metaslab.take_in(run)?;
+    let in_use = metaslab.is_in_use(run);
+    Ok([first, in_use, metaslab.take_in(run)?])
+}
+
+#[test]
+fn free_runs_are_taken_in(rt: HostRuntime) {
+    assert_eq!(rt; taken_in(rt.alloc(), 4, 12), Ok([true, true, false]));
+    assert_eq!(rt; taken_in(rt.alloc(), 9, 1), Ok([true, true, false]));
+    assert_eq!(rt; taken_in(rt.alloc(), 3, 2), Ok([false, false, false]));
+    assert_eq!(rt; taken_in(rt.alloc(), 0, 4), Ok([false, true, false]));
+    assert_eq!(rt; taken_in(rt.alloc(), 15, 2), Ok([false, false, false]));
+    assert_eq!(rt;
+        taken_in(rt.alloc(), u64::MAX, 1),
+        Ok([false, false, false])
+    );
+}

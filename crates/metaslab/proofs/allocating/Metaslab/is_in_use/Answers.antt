@@ -1,4 +1,4 @@
-use Rattle.std.proofs.Common.{◌≡◌, ◌+◌, ◌≤◌, false, arith}
+use Rattle.std.proofs.Common.{◌+◌, ◌≤◌, arith}
 use Rattle.std.proofs.lemmas.Bool.Decides.{nat_tests}
 use Rattle.metaslab.specs.Space.{Space}
 use Rattle.metaslab.proofs.InUse.{is_run_in_use, shared_free, shared_released, not_shared, not_sharing, runs_have_sectors, releases_have_sectors}

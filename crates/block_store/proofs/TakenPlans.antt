@@ -1,0 +1,82 @@
+-- Plans go on as blocks are taken in.
+use Rattle.std.proofs.Common.{ℕ, ◌≡◌, ◌⊎◌, inl, inr, ◌≤◌, List, refl, sym, ap, subst, ◌∙◌, arith}
+use Rattle.std.specs.Prelude.{Contains}
+use Rattle.model_disk.specs.Joint.{Disks, content}
+use Rattle.raidz_io.specs.declared.writes.ColumnWrite.{ColumnWrite}
+use Rattle.raidz_io.specs.Stands.{IsDone}
+use Rattle.block_store.specs.Blocks.{Contents}
+use Rattle.block_store.specs.Opened.{TakeIn, TakeInPart}
+use Rattle.block_store.specs.Places.{shapes_of}
+use Rattle.block_store.specs.Places.{filled as filled_marks, planned as planned_marks}
+use Rattle.block_store.specs.Plans.{Plans, KeepsPlans}
+use Rattle.block_store.specs.Releases.{CopyAt}
+use Rattle.block_store.specs.Store.{Store, Spans, outs, outs_from}
+use Rattle.block_store.specs.Uses.{IsInUse}
+use Rattle.block_store.proofs.Accounting.{has_too}
+use Rattle.block_store.proofs.Taking.{copy_too, placed_too}
+use Rattle.block_store.proofs.TakenIn.{picks_filled, picks_planned}
+use Rattle.block_store.proofs.TakenBlocks.{taken_grows, taken_shapes, taken_lies, taken_keeps, filled_copies, only_copies, others_stay}
+
+-- copies are taken in, and nothing else changes
+pub record OnlyTakesIn (old new : Store) (copies : List CopyAt) : Type 0 where
+  pub disks : new.disks ≡ old.disks
+  pub out : new.out ≡ old.out
+  pub spans : new.spans ≡ old.spans
+  pub due : new.due ≡ old.due
+  pub stray : new.stray ≡ old.stray
+  pub taken : TakeIn old.spaces copies new.spaces
+
+taken_plans : (old new : Store) (copies : List CopyAt) (stored planned : Contents) → OnlyTakesIn old new copies → Plans old stored planned → Plans new stored planned
+taken_plans old new copies stored planned is plans =
+    let shapes : shapes_of new.spaces ≡ shapes_of old.spaces = taken_shapes old.spaces copies new.spaces is.taken in
+    record {
+      held = taken_keeps old new copies is.disks is.out is.spans is.taken stored plans.held;
+      kept = plans.kept;
+      placed = placed_too old.spaces new.spaces planned_marks planned_marks planned (taken_grows planned_marks picks_planned old.spaces copies new.spaces is.taken) plans.placed;
+      born = λ block bytes known fresh. omega (arith, plans.born block bytes known fresh, ap (λ (s : Spans). s.group) is.spans);
+      in_use = λ block bytes known fresh.
+          taken_lies IsInUse planned_marks picks_planned old.spaces copies new.spaces is.taken refl block (plans.in_use block bytes known fresh);
+      accounted = λ none at used. elim (only_copies planned_marks picks_planned old.spaces copies new.spaces is.taken at used) [
+        | inl was ↦ elim (plans.accounted (sym is.stray ∙ none) at was) [
+          | inl there ↦ inl (others_stay filled_marks picks_filled old.spaces copies new.spaces is.taken at there)
+          | inr of ↦ inr (record {
+            block = of.block;
+            bytes = of.bytes;
+            is_planned = of.is_planned;
+            is_new = of.is_new;
+            has = has_too old.spaces new.spaces of.block at shapes of.has;
+          })
+        ]
+        | inr of ↦ inl (filled_copies filled_marks picks_filled old.spaces copies new.spaces is.taken at of).1
+      ];
+      writes_of = plans.writes_of;
+      on_the_way = λ block bytes i extent known fresh copy.
+          let way = plans.on_the_way block bytes i extent known fresh (copy_too new.spaces old.spaces block i extent (sym shapes) copy) in
+          record {
+            would_store = way.would_store;
+            columns = way.columns;
+            each = λ write among present.
+                let not_out : ¬ Contains (outs old) write.disk = subst (λ o. ¬ Contains (outs_from 0 o) write.disk) is.out present in
+                elim (way.each write among not_out) [
+                  | inl done ↦ inl (subst (λ (d : Disks). IsDone (content d) write) (sym is.disks) done)
+                  | inr due ↦ inr (subst (λ xs. Contains xs write) (sym is.due) due)
+                ];
+          };
+      due = λ write held.
+          let was = plans.due write (subst (λ xs. Contains xs write) is.due held) in
+          record {
+            block = was.block;
+            bytes = was.bytes;
+            i = was.i;
+            extent = was.extent;
+            is_planned = was.is_planned;
+            is_new = was.is_new;
+            is_copy = copy_too old.spaces new.spaces was.block was.i was.extent shapes was.is_copy;
+            is_of_copy = was.is_of_copy;
+          };
+    }
+
+pub part_plans : (old new : Store) (copies : List CopyAt) → new.disks ≡ old.disks → new.out ≡ old.out → new.spans ≡ old.spans → new.due ≡ old.due
+    → new.stray ≡ old.stray → TakeInPart old.spaces copies new.spaces → KeepsPlans old new
+part_plans old new copies disks out spans due stray part stored planned =
+    taken_plans old new part.done stored planned (record { disks = disks; out = out; spans = spans; due = due; stray = stray; taken = part.taken })

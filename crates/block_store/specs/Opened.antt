@@ -1,0 +1,83 @@
+-- Blocks that are on the disks already.
+use Rattle.std.specs.Prelude.{ℕ, ◌≡◌, ◌<◌, ◌⊎◌, Some, List, [], ◌∷◌, ◌++◌, slice_get, slice_set, Contains}
+use Rattle.model_disk.specs.Joint.{content}
+use Rattle.block_pointer.specs.declared.block.Block.{Block}
+use Rattle.metaslab.specs.State.{Free, InUse}
+use Rattle.metaslab_group.specs.Spaces.{ChangesIn}
+use Rattle.raidz_io.specs.declared.vdev.Extent.{Extent}
+use Rattle.raidz_io.specs.Stands.{ExtentStands}
+use Rattle.block_store.specs.Accounts.{SectorAt, IsUsed, HasSector}
+use Rattle.block_store.specs.Blocks.{Contents, IsWrittenAs}
+use Rattle.block_store.specs.Places.{Marks, filled, run_at, IsFree, IsCopy}
+use Rattle.block_store.specs.Places.{planned as planned_marks}
+use Rattle.block_store.specs.Releases.{CopyAt}
+use Rattle.block_store.specs.Shapes.{metaslab_of, IsPlace}
+use Rattle.block_store.specs.Spaces.{VdevSpace}
+use Rattle.block_store.specs.Store.{Store, lost}
+use Rattle.block_store.specs.Uses.{LiesOn, IsInUse}
+
+-- ---- copies that are taken in
+
+-- the copy may lie there, and each sector of the place is free, without what is planned and with it
+pub record HasFreePlace (spaces : List VdevSpace) (copy : CopyAt) : Type 0 where
+  pub filled_free : LiesOn IsFree spaces filled copy.sectors copy.place
+  pub planned_free : LiesOn IsFree spaces planned_marks copy.sectors copy.place
+
+-- the copy is taken in: its sectors were free and are in use, without what is planned and with it, and all else is as it was
+pub record TakesIn (spaces : List VdevSpace) (copy : CopyAt) (after : List VdevSpace) : Type 0 where
+  pub some : 0 < copy.sectors
+  pub space : VdevSpace
+  pub found : slice_get spaces copy.place.vdev ≡ Some space
+  pub is_place : IsPlace space.shape copy.sectors copy.place
+  pub later : VdevSpace
+  pub filled_too : ChangesIn (filled space) (filled later) (metaslab_of space.shape copy.place) (run_at space.shape copy.place) Free InUse
+  pub planned_too : ChangesIn (planned_marks space) (planned_marks later) (metaslab_of space.shape copy.place) (run_at space.shape copy.place) Free InUse
+  pub shape : later.shape ≡ space.shape
+  pub pins : later.pins ≡ space.pins
+  pub rest : after ≡ slice_set spaces copy.place.vdev later
+
+-- one copy after the other
+abbrev pub TakeIn : List VdevSpace → List CopyAt → List VdevSpace → Type 0
+TakeIn spaces [] after = after ≡ spaces
+TakeIn spaces (copy ∷ copies) after = (mid : List VdevSpace) × TakesIn spaces copy mid × TakeIn mid copies after
+
+-- some of them were, and others were not
+pub record TakeInPart (spaces : List VdevSpace) (copies : List CopyAt) (after : List VdevSpace) : Type 0 where
+  pub done : List CopyAt
+  pub left : List CopyAt
+  pub are : copies ≡ done ++ left
+  pub taken : TakeIn spaces done after
+
+-- and the first that was not has no free place
+pub record CannotTakeIn (spaces : List VdevSpace) (copies : List CopyAt) (after : List VdevSpace) : Type 0 where
+  pub done : List CopyAt
+  pub next : CopyAt
+  pub left : List CopyAt
+  pub are : copies ≡ done ++ next ∷ left
+  pub taken : TakeIn spaces done after
+  pub not_free : ¬ HasFreePlace after next
+
+-- ---- which sectors they fill
+
+-- one of these blocks has that sector
+abbrev pub IsOfOne : List VdevSpace → List Block → SectorAt → Type 0
+IsOfOne spaces blocks at = (block : Block) × Contains blocks block × HasSector spaces block at
+
+-- the sectors of these blocks were free and are in use, and each other that is in use was so
+pub record Fills (spaces : List VdevSpace) (marks : Marks) (blocks : List Block) (after : List VdevSpace) : Type 0 where
+  pub were_free : (at : SectorAt) → IsOfOne spaces blocks at → IsUsed IsFree spaces marks at
+  pub are_in_use : (at : SectorAt) → IsOfOne spaces blocks at → IsUsed IsInUse after marks at
+  pub only : (at : SectorAt) → IsUsed IsInUse after marks at → IsUsed IsInUse spaces marks at ⊎ IsOfOne spaces blocks at
+  pub stay : (at : SectorAt) → IsUsed IsInUse spaces marks at → IsUsed IsInUse after marks at
+
+-- ---- which blocks are known from then on
+
+-- the pointer tells these bytes, and each column of each copy stands on every disk that isn't lost for the block's birth
+pub record IsOnDisks (store : Store) (block : Block) (bytes : List ℕ) : Type 0 where
+  pub written : IsWrittenAs block bytes
+  pub stand : (i : ℕ) (extent : Extent) → IsCopy store.spaces block i extent → ExtentStands (content store.disks) (lost store block.birth) extent bytes
+
+-- each block that is known was known before, with the same bytes, or is one of these and on the disks
+abbrev pub AreFound : Store → List Block → Contents → Contents → Type 0
+AreFound store blocks before stored = (block : Block) (bytes : List ℕ) → stored block ≡ Some bytes
+    → (before block ≡ Some bytes) ⊎ (Contains blocks block × IsOnDisks store block bytes)

@@ -1,0 +1,142 @@
+//! Tests of a store over disks that have blocks already: they are read, and no new block lies where they do.
+ghost use Rattle.std.specs.Prelude.{◌<◌};
+
+use crate::stored_blocks::{
+    NEVER, SMALL_DISK, TestDisk, TestStore, disks, pattern, property, vdev, write_due,
+};
+use block_pointer::{Block, Copies};
+use block_store::{Asked, BlockStore, CopyCount, NewBlock, Refusal};
+use std::alloc::{AllocError, Global};
+use std::test::Fail;
+
+/// The sectors of all blocks.
+const SECTORS: u32 = 12;
+
+/// The group that writes the blocks that are there.
+const FIRST: u64 = 4;
+
+/// The seeds of their bytes, and that of the block that is written later.
+const SEEDS: [u8; 3] = [3, 5, 9];
+
+/// A store on one vdev of three disks with one parity.
+fn small_store(alloc: Global, disks: Vec<TestDisk>) -> Result<TestStore, Fail> {
+    let vdevs = [vdev(3, 1, 12)?];
+    Ok(BlockStore::new(alloc, disks, &vdevs)?)
+}
+
+/// Adds a block of two copies to the plan of a group.
+fn plan(store: &mut TestStore, alloc: Global, seed: u8, group: u64) -> Result<Block, Refusal>
+    requires { 0 < group }
+{
+    let bytes = pattern(alloc, seed, SECTORS)?;
+    let new = NewBlock {
+        property: property(SECTORS),
+        birth: group,
+        fill: 1,
+    };
+    store.plan_write(alloc, bytes.as_slice(), new, CopyCount::Two)
+}
+
+/// A group that writes a block.
+fn write(store: &mut TestStore, alloc: Global, seed: u8, group: u64) -> Result<Block, Refusal>
+    requires { 0 < group }
+{
+    store.begin_plan(group)?;
+    let block = plan(store, alloc, seed, group)?;
+    write_due(store);
+    store.finish_plan();
+    Ok(block)
+}
+
+/// Two groups that write a block each.
+fn write_two(store: &mut TestStore, alloc: Global) -> Result<[Block; 2], Refusal> {
+    let first = write(store, alloc, SEEDS[0], FIRST)?;
+    let second = write(store, alloc, SEEDS[1], FIRST + 1)?;
+    Ok([first, second])
+}
+
+/// Disks with two blocks, and a store without blocks over them.
+fn opened(alloc: Global) -> Result<(TestStore, [Block; 2]), Fail> {
+    let empty = disks(alloc, &[SMALL_DISK; 3], NEVER)?;
+    let mut store = small_store(alloc, empty)?;
+    let blocks = write_two(&mut store, alloc)?;
+    Ok((small_store(alloc, store.into_disks())?, blocks))
+}
+
+/// Whether a block is read as it was written.
+fn is_read(
+    store: &mut TestStore,
+    alloc: Global,
+    block: &Block,
+    seed: u8,
+) -> Result<bool, AllocError> {
+    let bytes = pattern(alloc, seed, SECTORS)?;
+    let asked = Asked {
+        property: property(SECTORS),
+        birth: block.birth,
+    };
+    Ok(match store.read(alloc, block, asked, &[]) {
+        Ok(read) => read.as_slice() == bytes.as_slice(),
+        Err(_) => false,
+    })
+}
+
+/// Takes blocks in, and writes another one: whether each of the two and the new one is read then.
+fn go_on(
+    store: &mut TestStore,
+    alloc: Global,
+    blocks: &[Block; 2],
+    taken: &[Block],
+) -> Result<[bool; 3], Refusal> {
+    store.take_in(taken)?;
+    let new = write(store, alloc, SEEDS[2], FIRST + 2)?;
+    let first = is_read(store, alloc, &blocks[0], SEEDS[0])?;
+    let second = is_read(store, alloc, &blocks[1], SEEDS[1])?;
+    Ok([first, second, is_read(store, alloc, &new, SEEDS[2])?])
+}
+
+/// What is read where both blocks are taken in, where the second is not, and where none is.
+fn outcomes(alloc: Global, count: usize) -> Result<[bool; 3], Fail> {
+    let (mut store, blocks) = opened(alloc)?;
+    let taken = blocks.get(..count).unwrap_or(&[]);
+    Ok(go_on(&mut store, alloc, &blocks, taken)?)
+}
+
+#[test]
+fn what_is_taken_in_is_kept(rt: HostRuntime) -> Result<(), Fail> {
+    assert_eq!(rt; outcomes(rt.alloc(), 2)?, [true, true, true]);
+    assert_eq!(rt; outcomes(rt.alloc(), 1)?, [true, false, true]);
+    assert_eq!(rt; outcomes(rt.alloc(), 0)?, [false, true, true]);
+    Ok(())
+}
+
+/// A block whose only copy lies far behind the disks' ends.
+fn behind_all(block: Block) -> Block {
+    let (Copies::One(first) | Copies::Two(first, _) | Copies::Three(first, _, _)) = block.copies;
+    let mut far = first;
+    far.offset = 1 << 40;
+    let mut other = block;
+    other.copies = Copies::One(far);
+    other
+}
+
+/// What is answered as a block is taken in, as it is again, as another is twice in one call, and as one is that lies behind
+/// the disks' ends.
+fn answers(store: &mut TestStore, blocks: [Block; 2]) -> [Option<Refusal>; 4] {
+    let [first, second] = blocks;
+    [
+        store.take_in(&[first]).err(),
+        store.take_in(&[first]).err(),
+        store.take_in(&[second, second]).err(),
+        store.take_in(&[behind_all(first)]).err(),
+    ]
+}
+
+#[test]
+fn what_is_not_free_is_refused(rt: HostRuntime) -> Result<(), Fail> {
+    let (mut store, blocks) = opened(rt.alloc())?;
+    let refused = Some(Refusal::BadPointer);
+    let answers = answers(&mut store, blocks);
+    assert_eq!(rt; answers, [None, refused, refused, refused]);
+    Ok(())
+}
