@@ -13,6 +13,7 @@ use Rattle.block_store.specs.declared.device.FailedDisk.{FailedDisk}
 use Rattle.block_store.specs.Store.{Store, Spans, outs, outs_from, IsOutToo, GoesOut, Spares}
 use Rattle.raidz_io.proofs.Kept.{stands_while_kept}
 use Rattle.block_store.specs.Blocks.{Contents}
+use Rattle.block_store.specs.Elsewhere.{IsForBlocks, IsAside}
 use Rattle.block_store.proofs.Kept.{IsKept}
 use Rattle.block_store.proofs.Lost.{LoseMore, lose_same, lose_one, same_group}
 use Rattle.block_store.proofs.Outs.{more_out, this_is_out}
@@ -102,6 +103,28 @@ flushed old new disk result starts spaces due calls ok err spans gone stray = re
   spaces = spaces;
   due = due;
   contents = λ other i for. other_bytes_stay old.disks new.disks disk (flush_call result) starts calls other i (inr (untouched_by_flush result i));
+  more_out = outs_after old new result disk ok err;
+  more_lost = lost_after old new result disk ok err spans gone;
+  group = group_after old new result disk spans gone;
+}
+
+-- a write of bytes that are for no block changes none that is
+pub wrote_aside : (old new : Store) (disk offset : ℕ) (bytes : List ℕ) (result : Result (Unit {0}) FailedDisk) → new.disks.starts ≡ old.disks.starts
+    → new.spaces ≡ old.spaces → new.due ≡ old.due → new.disks.calls ≡ on disk (write_call result offset bytes) ∷ old.disks.calls
+    → IsAside old.spaces disk offset (length bytes)
+    → OnOk result (new.out ≡ old.out) → IfErr result (λ failed. IsOutToo old.out disk new.out)
+    → OnOk result (new.spans ≡ old.spans) → IfErr result (λ failed. GoesOut old disk new) → new.stray ≡ old.stray → IsKept old new
+wrote_aside old new disk offset bytes result starts spaces due calls aside ok err spans gone stray = record {
+  stray = stray;
+  spaces = spaces;
+  due = due;
+  contents = λ other i for. other_bytes_stay old.disks new.disks disk (write_call result offset bytes) starts calls other i (elim (cases_eq other disk) [
+    | inr differ ↦ inl differ
+    | inl same ↦ elim (outside_or_in offset (length bytes) i) [
+      | inl out ↦ inr (untouched result offset bytes i out)
+      | inr (from, before) ↦ absurd (aside i from before (subst (λ d. IsForBlocks old.spaces d i) same for))
+    ]
+  ]);
   more_out = outs_after old new result disk ok err;
   more_lost = lost_after old new result disk ok err spans gone;
   group = group_after old new result disk spans gone;

@@ -23,6 +23,10 @@ pub record IsForBlocks (spaces : List VdevSpace) (disk i : ℕ) : Type 0 where
   pub from : offset_of_sector 0 ≤ i
   pub before : i < offset_of_sector space.shape.child_sectors
 
+-- none of so many bytes from there on is one of them
+abbrev pub IsAside : List VdevSpace → ℕ → ℕ → ℕ → Type 0
+IsAside spaces disk offset len = (i : ℕ) → offset ≤ i → i < offset + len → ¬ IsForBlocks spaces disk i
+
 -- an extent has no other bytes
 abbrev pub BlocksLieInSectors : Type 0
 BlocksLieInSectors =

@@ -23,7 +23,7 @@ pub struct FailedDisk {
 }
 
 /// What holds of blocks that are written beside others.
-fn blocks_beside_others()
+pub(crate) fn blocks_beside_others()
     ensures { Laws }
 {
     stands_while_kept();
@@ -91,7 +91,7 @@ impl<D: Disk + Drop> BlockStore<D> {
     }
 
     /// Notes that a disk is out, where a call on it failed.
-    fn note(&mut self, disk: usize, answered: bool) -> Result<(), FailedDisk>
+    pub(crate) fn note(&mut self, disk: usize, answered: bool) -> Result<(), FailedDisk>
         requires out { disk < length self.old.out }
         requires since { disk < length self.old.spans.since }
         ensures disks { self.new.disks ≡ self.old.disks }

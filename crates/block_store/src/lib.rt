@@ -1,6 +1,7 @@
 //! Blocks by pointer: where a block is placed on the vdevs of a pool, and how its bytes are read back.
 #![tactic(auto)]
 
+mod aside;
 mod block;
 mod choice;
 mod create;

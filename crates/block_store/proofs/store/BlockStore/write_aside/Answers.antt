@@ -1,0 +1,32 @@
+use Rattle.std.proofs.Common.{◌≡◌, ◌∷◌, IfErr, OnOk, is_ok, sym, ap, ◌∙◌, subst}
+use Rattle.model_disk.specs.Call.{write_call}
+use Rattle.model_disk.specs.Joint.{Disks, on}
+use Rattle.block_store.specs.Store.{Store, IsOutToo, GoesOut}
+use Rattle.block_store.proofs.Calling.{wrote_aside, same_write_call}
+use Rattle.block_store.proofs.Kept.{IsKept, keeps, keeps_plans}
+use Rattle.block_store.proofs.store.BlockStore.write_aside.Given.{Over}
+use Rattle.block_store.proofs.store.BlockStore.write_aside.Goals as goal
+
+kept : (g : Over) (c : goal.After-note g) → IsKept c.args.self.now c.note.new.self
+kept g c =
+    let answers : is_ok c.note.result ≡ is_ok c.write_at-answer.result = c.note.ensures.ok ∙ c.is_ok.ensures.value in
+    let bytes = c.args.bytes.now in
+    let calls : c.note.new.self.disks.calls ≡ on c.args.disk (write_call c.note.result c.args.offset bytes) ∷ c.args.self.now.disks.calls =
+    ap (λ (d : Disks). d.calls) c.note.ensures.disks ∙ c.write_at-answer.ensures.calls
+    ∙ ap (λ made. on c.args.disk made ∷ c.self.inside.disks.calls) (sym (same_write_call c.note.result c.write_at-answer.result c.args.offset bytes answers))
+    ∙ ap (λ (s : Store). on c.args.disk (write_call c.note.result c.args.offset bytes) ∷ s.disks.calls) c.self.view_is in
+    wrote_aside c.args.self.now c.note.new.self c.args.disk c.args.offset bytes c.note.result
+    (ap (λ (d : Disks). d.starts) c.note.ensures.disks ∙ c.write_at-answer.ensures.starts ∙ ap (λ (s : Store). s.disks.starts) c.self.view_is)
+    (c.note.ensures.spaces ∙ ap (λ (s : Store). s.spaces) c.self.view_is)
+    (c.note.ensures.due ∙ ap (λ (s : Store). s.due) c.self.view_is) calls c.requires.aside
+    (subst (λ (s : Store). OnOk c.note.result (c.note.new.self.out ≡ s.out)) c.self.view_is c.note.ensures.out)
+    (subst (λ (s : Store). IfErr c.note.result (λ failed. IsOutToo s.out c.args.disk c.note.new.self.out)) c.self.view_is c.note.ensures.out_too)
+    (subst (λ (s : Store). OnOk c.note.result (c.note.new.self.spans ≡ s.spans)) c.self.view_is c.note.ensures.spans)
+    (subst (λ (s : Store). IfErr c.note.result (λ failed. GoesOut s c.args.disk c.note.new.self)) c.self.view_is c.note.ensures.gone)
+    (c.note.ensures.stray ∙ ap (λ (s : Store). s.stray) c.self.view_is)
+
+pub returns-clause-keeps : goal.returns-clause-keeps
+returns-clause-keeps g c = keeps c.blocks_beside_others.ensures.kept c.blocks_beside_others.ensures.more_absent c.args.self.now c.note.new.self (kept g c)
+
+pub returns-clause-plans : goal.returns-clause-plans
+returns-clause-plans g c = keeps_plans c.blocks_beside_others.ensures.kept c.blocks_beside_others.ensures.more_absent c.args.self.now c.note.new.self (kept g c)
