@@ -1,3 +1,5 @@
+pub mod Accounted
+pub mod Accounting
 pub mod Backing
 pub mod Directories
 pub mod Disks

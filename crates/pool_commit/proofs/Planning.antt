@@ -1,6 +1,6 @@
 -- A plan that is begun, and what it has once it is made.
-use Rattle.std.proofs.Common.{ℕ, zero, suc, ◌≡◌, ◌⊎◌, ⊎_elim, ◌+◌, ◌-◌, ◌<◌, ◌≤◌, if◌then◌else◌, Bool, true, false, List, [], ◌∷◌, ◌++◌, map, Option, Some, None, Result, Ok, Err, OnErr, Contains, refl, sym, ap, ◌∙◌, subst, inl, inr, arith}
-use Rattle.std.specs.Prelude.{not, filter, slice_get}
+use Rattle.std.proofs.Common.{ℕ, zero, suc, ◌≡◌, ◌⊎◌, ⊎_elim, ◌+◌, ◌-◌, ◌<◌, ◌≤◌, if◌then◌else◌, Bool, true, false, List, [], ◌∷◌, ◌++◌, map, Option, Some, None, Result, Ok, Err, OnErr, OnOk, Contains, refl, sym, ap, ◌∙◌, subst, inl, inr, arith}
+use Rattle.std.specs.Prelude.{not, filter, slice_get, is_err}
 use Rattle.std.specs.List.{AllByRecursion, count_by}
 use Rattle.std.proofs.lemmas.Bool.{cases_lt}
 use Rattle.std.proofs.lemmas.List.Elements.{All-contains, Contains-append_left, Contains-append_right}
@@ -17,7 +17,7 @@ use Rattle.block_store.specs.Places.{shapes_of, HaveMarks}
 use Rattle.block_store.specs.Places.{filled as filled_marks, planned as planned_marks}
 use Rattle.block_store.specs.Plans.{Plans}
 use Rattle.block_store.specs.Steps.{OnlyReadsAndPlans, AnswersAreTrue}
-use Rattle.block_store.specs.Releases.{AreSettledIn, AreSpared}
+use Rattle.block_store.specs.Releases.{copies_of_all, AreReleased, AreAllInUse, AreSettledIn, AreSettledInSome, AreSpared}
 use Rattle.block_store.specs.Store.{Store, Holds, outs, outs_from, is_out}
 use Rattle.block_store.specs.Uses.{CopiesLieOn, Passes, IsInUse, IsSpared, SettlesTo}
 use Rattle.block_store.proofs.Planning.{marks_by_map}
@@ -43,11 +43,12 @@ use Rattle.pool_commit.specs.Backs.{Backs, IsPlanOf, LeadsTo, kept_pool, left_ca
 use Rattle.pool_commit.specs.Making.{writes_left}
 use Rattle.pool_commit.specs.Config.{shown, vdevs_of}
 use Rattle.pool_commit.specs.Room.{IsBegun}
-use Rattle.pool_commit.specs.Space.{is_held_for, AreHeld, AreInUse, GivesBack}
+use Rattle.pool_commit.specs.Space.{is_held_for, AreHeld, AreInUse, AreInBlocks, WereReleasedBy, GivesBack}
+use Rattle.pool_commit.proofs.Accounting.{settled_in_blocks, settled_released_by, planned_in_blocks, planned_released_by, in_blocks_by, released_by_marks}
 use Rattle.pool_commit.specs.State.{State, group_at}
 use Rattle.pool_commit.proofs.Backing.{last_at, last_spelled}
 use Rattle.pool_commit.proofs.Reaching.{kept_leads, led_known, plan_reaches, reached_over}
-use Rattle.pool_commit.proofs.Holding.{weaker, by_marks, held_on, held_is_in_use, held_settles, held_is_spared, near, released_is_held, used_is}
+use Rattle.pool_commit.proofs.Holding.{weaker, by_marks, held_on, held_is_in_use, is_used, held_settles, held_is_spared, near, released_is_held, used_is}
 use Rattle.pool_commit.proofs.Reaching.{no_plan as no_reach}
 use Rattle.pool_commit.proofs.Tolerating.{vdev_at}
 
@@ -172,6 +173,7 @@ pub record Begins (old new : Store) (group : ℕ) : Type 0 where
   pub stays : (test later : State' → Bool) (block : Block) → SettlesTo group (Passes test) (Passes later) → CopiesLieOn (Passes test) old.spaces filled_marks block
       → CopiesLieOn (Passes later) new.spaces filled_marks block
   pub plans : (stored : Contents) → Holds old stored → AreSpared group old.spaces stored → Plans new stored stored
+  pub some : AreSettledInSome group old.spaces new.spaces
 
 -- what the kept groups lead to is held still
 begun_held : (s : State) (store : Store) (group : ℕ) (v : View) → Begins s.store store group → group ≤ suc s.kept.committed → (backs : Backs s v)
@@ -212,6 +214,8 @@ backs_begun s store group v out shapes begins next sync none backs =
           once = backs.blocks.reached.once;
           only = backs.blocks.reached.only;
           held = held;
+          accounted = settled_in_blocks group s.store.spaces store.spaces (backs.blocks.reached.reach s.kept.committed) shapes begins.some backs.blocks.reached.accounted;
+          released = settled_released_by group s.store.spaces store.spaces s.kept.committed shapes begins.some backs.blocks.reached.released;
         };
         plan_reached = tt;
       };
@@ -297,6 +301,15 @@ module _ (begun made new : Store) (last : ℕ) (earlier : ℕ → List Block) (s
   pub gone_stored : AreStored stored gone
   gone_stored block among = known block ((only_gone.which block).0 among).0
 
+  pub gone_once : AreDistinct gone
+  gone_once = only_gone.once
+
+  -- what is given back was in use
+  pub gone_in_use : AreAllInUse made.spaces gone
+  gone_in_use block among =
+      weaker (Passes (is_held_for last last)) IsInUse made.spaces planned_marks block (λ state held. is_used state (held_is_in_use last state held))
+      (held_made last block ((only_gone.which block).0 among).0)
+
   -- what the new root leads to is in use before blocks are given back
   in_use_made : (block : Block) → Contains reach block → ((bytes : List ℕ) × (later block ≡ Some bytes)) × CopiesLieOn (Passes is_in_use) made.spaces planned_marks block
   in_use_made block among =
@@ -318,13 +331,24 @@ module _ (begun made new : Store) (last : ℕ) (earlier : ℕ → List Block) (s
       let (there, lies) = in_use_made block among in
       gives.spares is_in_use stored later block there.0 plans gone_stored there.1 (λ left. ((only_gone.which block).0 left).1 among) lies
 
+-- what holds where a call answers, where it answered
+pub was_ok : {E : Type 0} (result : Result (Unit {0}) E) (P : Type 0) → is_err result ≡ false → OnOk result P → P
+was_ok (Ok unit) P is holds = holds
+was_ok (Err e) P is holds = absurd (cc)
+
+-- stored blocks that are in use, each of them once, were given back
+abbrev pub AreGivenBack : Store → Store → List Block → ℕ → Type 0
+AreGivenBack made new gone group = (stored planned : Contents) → Plans made stored planned → AreStored stored gone → AreDistinct gone
+    → AreAllInUse made.spaces gone → AreReleased made.spaces (copies_of_all gone) group new.spaces
+
 pub plan_is_backed : (s : State) (made new : Store) (group : ℕ) (last : KeptGroup) (plan : Planned) (gone : List Block) (items : Entry) (v : View) → (backs : Backs s v) → s.store.due ≡ []
     → group ≡ suc v.committed → last ≡ s.kept.last → items ≡ v.ledger (suc v.committed)
     → plan.flushes.items ≡ filter (λ disk. not (is_out s.store.out disk)) (disks_of (vdevs_of s.store.spaces))
     → OnlyReadsAndPlans s.store made [] → GivesBack made new gone group → HaveMarks s.store.spaces filled_marks s.store.spaces planned_marks
     → AnswersAreTrue s.store made → Plans s.store backs.blocks.stored backs.blocks.stored → IsAfter s.store made group last items plan.after gone
+    → made.stray ≡ false → AreGivenBack made new gone group
     → (calls : List DueCall) × IsPlan v calls × Backs (record { store = new; kept = s.kept; planned = Some plan }) (record v { sync = Due calls })
-plan_is_backed s made new group last plan gone items v backs none next is_last are flushes kept gives free honest begun after =
+plan_is_backed s made new group last plan gone items v backs none next is_last are flushes kept gives free honest begun after whole given =
     let before : group - 1 ≡ v.committed = omega arith in
     let pool : PlainPool = v.pools v.committed in
     let stored : Contents = backs.blocks.stored in
@@ -362,7 +386,23 @@ plan_is_backed s made new group last plan gone items v backs none next is_last a
     in_use_then s.store made new v.committed earlier stored later on.0 gone free kept gives_next held low known distinct there.1 on.2 in
     let stored_gone : AreStored stored gone =
     gone_stored s.store made new v.committed earlier stored later on.0 gone free kept gives_next held low known distinct there.1 on.2 in
-    let shapes : shapes_of new.spaces ≡ shapes_of s.store.spaces = gives.shapes ∙ kept.shapes in (
+    let shapes : shapes_of new.spaces ≡ shapes_of s.store.spaces = gives.shapes ∙ kept.shapes in
+    let released : AreReleased made.spaces (copies_of_all gone) (suc v.committed) new.spaces =
+    subst (λ n. AreReleased made.spaces (copies_of_all gone) n new.spaces) next (given stored later there.1 stored_gone
+    (gone_once s.store made new v.committed earlier stored later on.0 gone free kept gives_next held low known distinct there.1 on.2)
+    (gone_in_use s.store made new v.committed earlier stored later on.0 gone free kept gives_next held low known distinct there.1 on.2)) in
+    let filled_before : AreInBlocks made.spaces filled_marks (earlier v.committed) =
+    in_blocks_by s.store.spaces made.spaces filled_marks filled_marks (earlier v.committed) kept.shapes (marks_by_map filled_marks s.store.spaces made.spaces kept.filled)
+    (subst (λ c. AreInBlocks s.store.spaces filled_marks (earlier c)) backs.committed backs.blocks.reached.accounted) in
+    let accounted_new : AreInBlocks new.spaces planned_marks on.0 =
+    planned_in_blocks (suc v.committed) made.spaces new.spaces stored later (earlier v.committed) on.0 gone (suc v.committed) on.2 (there.1.accounted whole)
+    filled_before released gives.shapes in
+    let released_before : WereReleasedBy s.store.spaces planned_marks v.committed =
+    released_by_marks s.store.spaces s.store.spaces filled_marks planned_marks v.committed refl free
+    (subst (λ c. WereReleasedBy s.store.spaces filled_marks c) backs.committed backs.blocks.reached.released) in
+    let released_new : WereReleasedBy new.spaces planned_marks (suc v.committed) =
+    planned_released_by s.store.spaces made.spaces new.spaces kept.placed (copies_of_all gone) v.committed (suc v.committed) (omega arith) released_before
+    kept.were_placed released in (
       left_calls none_before new.due plan.flushes.items,
       plan_is,
       record {
@@ -385,7 +425,7 @@ plan_is_backed s made new group last plan gone items v backs none next is_last a
           };
           reached = reached_over made.spaces new.spaces stored s.kept (kept_pool v) gives.shapes gives.filled_stays
               (reached_over s.store.spaces made.spaces stored s.kept (kept_pool v) kept.shapes (marks_by_map filled_marks s.store.spaces made.spaces kept.filled) backs.blocks.reached);
-          plan_reached = plan_reaches new.spaces earlier stored later plan.after v last.root pool (earlier v.committed) on.0 gone led_last distinct on.1 on.2 held_new in_use_new;
+          plan_reached = plan_reaches new.spaces earlier stored later plan.after v last.root pool (earlier v.committed) on.0 gone led_last distinct on.1 on.2 held_new in_use_new accounted_new released_new;
         };
       },
     )

@@ -28,7 +28,8 @@ use Rattle.pool_commit.specs.declared.kept.KeptGroup.{KeptGroup}
 use Rattle.pool_commit.specs.declared.kept.Planned.{Planned}
 use Rattle.pool_commit.specs.Backs.{IsReachOfPlan, KeptLeadsTo, LeadsTo, PlansReach, SpellsKept, SpellsRoot, StoresReach, kept_pool, pool_after}
 use Rattle.pool_commit.specs.State.{group_at}
-use Rattle.pool_commit.specs.Space.{is_held_for, AreHeld, AreInUse}
+use Rattle.pool_commit.specs.Space.{is_held_for, AreHeld, AreInUse, AreInBlocks, WereReleasedBy}
+use Rattle.pool_commit.proofs.Accounting.{in_blocks_by, released_by_marks}
 use Rattle.pool_commit.proofs.Directories.{spells_by_stands}
 use Rattle.pool_commit.proofs.Holding.{weaker, held_by_marks, in_use_is_held}
 use Rattle.pool_commit.proofs.Keeping.{gone_group, gone_pool, new_group, new_pool, old_group, old_pool}
@@ -97,10 +98,13 @@ pub plan_reaches : (spaces : List VdevSpace) (earlier : ℕ → List Block) (sto
     (before reach gone : List Block) → LeadsTo stored v.committed root pool before
     → AreDistinct before → LeadsTo later (suc v.committed) after.root (pool_after v) reach → IsReachExchanged (suc v.committed) stored later before reach gone
     → AreHeld spaces planned_marks (suc v.committed) earlier → AreInUse spaces planned_marks reach
+    → AreInBlocks spaces planned_marks reach → WereReleasedBy spaces planned_marks (suc v.committed)
     → PlansReach spaces earlier stored later (suc v.committed) after (pool_after v)
-plan_reaches spaces earlier stored later after v root pool before reach gone was distinct leads exchanged held in_use = record {
+plan_reaches spaces earlier stored later after v root pool before reach gone was distinct leads exchanged held in_use accounted released = record {
   held = held;
   in_use = in_use;
+  accounted = accounted;
+  released = released;
   reach = reach;
   leads = leads;
   once = after_once (suc v.committed) stored later before reach gone (led_known stored v.committed root pool before was) distinct exchanged;
@@ -126,6 +130,8 @@ reached_over spaces after stored kept pools shapes are reached = record {
   once = reached.once;
   only = reached.only;
   held = held_by_marks spaces after filled_marks filled_marks kept.committed reached.reach shapes are reached.held;
+  accounted = in_blocks_by spaces after filled_marks filled_marks (reached.reach kept.committed) shapes are reached.accounted;
+  released = released_by_marks spaces after filled_marks filled_marks kept.committed shapes are reached.released;
 }
 
 pub same_spaces : (spaces after : List VdevSpace) (marks : Marks) → after ≡ spaces → HaveMarks spaces marks after marks
@@ -309,8 +315,16 @@ module _ (v : View) (kept new : Kept) (spaces after : List VdevSpace) (stored pl
       held_by_marks spaces after planned_marks filled_marks (suc v.committed) (next_reach v.committed reached.reach plan.reach) shapes filled_by
       (next_held v.committed reached.reach plan.reach spaces planned_marks plan.held plan.in_use)
 
+  accounted_next : AreInBlocks after filled_marks (next_reach v.committed reached.reach plan.reach new.committed)
+  accounted_next =
+      subst (AreInBlocks after filled_marks) (sym (next_new v.committed reached.reach plan.reach new.committed n))
+      (in_blocks_by spaces after planned_marks filled_marks plan.reach shapes filled_by plan.accounted)
+
   pub reached_next : StoresReach after left new (kept_pool (committed_next v))
   reached_next = record {
+    accounted = accounted_next;
+    released = subst (λ last. WereReleasedBy after filled_marks last) (sym n)
+        (released_by_marks spaces after planned_marks filled_marks (suc v.committed) shapes filled_by plan.released);
     held = subst (λ last. AreHeld after filled_marks last (next_reach v.committed reached.reach plan.reach)) (sym n) held_next;
     reach = next_reach v.committed reached.reach plan.reach;
     leads = leads_next;

@@ -8,7 +8,7 @@ use Rattle.raidz_io.specs.declared.vdev.Vdev.{Vdev as VdevOnDisks}
 use Rattle.block_store.specs.declared.create.VdevConfig.{VdevConfig}
 use Rattle.block_store.specs.declared.shape.VdevShape.{VdevShape}
 use Rattle.block_store.specs.Config.{AreShapes}
-use Rattle.block_store.specs.Places.{shapes_of}
+use Rattle.block_store.specs.Places.{shapes_of, AreEmpty}
 use Rattle.block_pointer.specs.declared.block.Block.{Block}
 use Rattle.block_store.specs.Blocks.{Contents, nothing_stored}
 use Rattle.block_store.specs.Plans.{Plans}
@@ -22,6 +22,7 @@ use Rattle.pool_commit.specs.Config.{shown, vdevs_from}
 use Rattle.pool_commit.specs.Directories.{SpellsBy}
 use Rattle.pool_commit.specs.State.{IsFirst, group_at}
 use Rattle.dataset_snapshots.proofs.ChangedRows.{nothing_in}
+use Rattle.pool_commit.proofs.Accounting.{none_in_use, none_released}
 use Rattle.pool_commit.proofs.Reaching.{none_distinct}
 
 vdev_is : (first : ℕ) (config : Geometry) (vdev : VdevOnDisks) → vdev.first ≡ first → vdev.geometry ≡ config
@@ -95,9 +96,9 @@ leads_first kept vdevs is group = elim (cases_eq group 3) [
     pool_gone other = grind (arith, nat_tests, other)
 
 pub starts : (store : Store) (kept : Kept) (configs : List VdevConfig) → AreShapes store.disks.starts 0 configs (shapes_of store.spaces)
-    → ((disk : ℕ) → is_out store.out disk ≡ false) → Plans store nothing_stored nothing_stored → IsFirst kept
+    → ((disk : ℕ) → is_out store.out disk ≡ false) → Plans store nothing_stored nothing_stored → AreEmpty store.spaces → IsFirst kept
     → Backs (record { store = store; kept = kept; planned = None }) (started (vdevs_from 0 configs))
-starts store kept configs shapes out plans first = record {
+starts store kept configs shapes out plans empty first = record {
   vdevs = vdevs_made store.disks.starts 0 configs (shapes_of store.spaces) shapes;
   slots = refl;
   out = λ disk. sym (out disk);
@@ -114,6 +115,8 @@ starts store kept configs shapes out plans first = record {
       once = λ group. none_distinct;
       only = λ block bytes known. absurd (let clash : None ≡ Some bytes = known in cc);
       held = λ group block among. absurd (nothing_in block among);
+      accounted = none_in_use store.spaces [] empty;
+      released = none_released store.spaces kept.committed empty;
     };
     plan_reached = tt;
   };

@@ -22,7 +22,7 @@ use Rattle.pool_commit.specs.Calls.{IsFlushed}
 use Rattle.pool_commit.specs.Config.{vdevs_of}
 use Rattle.pool_commit.specs.Directories.{SpellsBy}
 use Rattle.pool_commit.specs.Making.{writes_left, flushes_left}
-use Rattle.pool_commit.specs.Space.{AreHeld, AreInUse}
+use Rattle.pool_commit.specs.Space.{AreHeld, AreInUse, AreInBlocks, WereReleasedBy}
 use Rattle.pool_commit.specs.State.{State, group_at}
 
 -- the root spells the pool; with no root there are no volumes
@@ -87,16 +87,19 @@ KeptLeadsTo stored group (Some kept) None blocks = ⊥
 KeptLeadsTo stored group None (Some pool) blocks = ⊥
 
 -- Each kept group leads to blocks, to none of them twice, and no other block is stored. Each of their sectors is in use, or was
--- released by a later group.
+-- released by a later group. What is in use is in a block that the committed group leads to, and what was released was so by that
+-- group or an earlier one.
 pub record StoresReach (spaces : List VdevSpace) (stored : Contents) (kept : Kept) (pools : ℕ → Option PlainPool) : Type 0 where
   pub reach : ℕ → List Block
   pub leads : (group : ℕ) → KeptLeadsTo stored group (group_at kept group) (pools group) (reach group)
   pub once : (group : ℕ) → AreDistinct (reach group)
   pub only : (block : Block) (bytes : List ℕ) → stored block ≡ Some bytes → (group : ℕ) × Contains (reach group) block
   pub held : AreHeld spaces filled kept.committed reach
+  pub accounted : AreInBlocks spaces filled (reach kept.committed)
+  pub released : WereReleasedBy spaces filled kept.committed
 
 -- A group that is planned leads to blocks, to none of them twice, and beside what is stored no other block is planned. All their
--- sectors are in use, and those of what the groups before lead to are held for these.
+-- sectors are in use, and no others; those of what the groups before lead to are held for these. No later group released a sector.
 pub record PlansReach (spaces : List VdevSpace) (before : ℕ → List Block) (stored planned : Contents) (group : ℕ) (after : KeptGroup) (pool : PlainPool)
     : Type 0 where
   pub reach : List Block
@@ -105,6 +108,8 @@ pub record PlansReach (spaces : List VdevSpace) (before : ℕ → List Block) (s
   pub only : (block : Block) (bytes : List ℕ) → planned block ≡ Some bytes → Contains reach block ⊎ (stored block ≡ Some bytes)
   pub held : AreHeld spaces planned_marks group before
   pub in_use : AreInUse spaces planned_marks reach
+  pub accounted : AreInBlocks spaces planned_marks reach
+  pub released : WereReleasedBy spaces planned_marks group
 
 abbrev pub IsReachOfPlan : List VdevSpace → (ℕ → List Block) → Contents → Contents → Option Planned → View → Type 0
 IsReachOfPlan spaces before stored planned None v = Unit {0}

@@ -1,13 +1,14 @@
 -- What the sectors of a pool's blocks are used for.
-use Rattle.std.specs.Prelude.{ℕ, ◌≡◌, Bool, true, false, nat_lt, nat_le, ◌&&◌, Some, List, Contains}
+use Rattle.std.specs.Prelude.{ℕ, ◌≡◌, ◌≤◌, Bool, true, false, nat_lt, nat_le, ◌&&◌, Some, List, Contains}
 use Rattle.metaslab.specs.State.{State, Free, InUse, Released, is_in_use}
 use Rattle.block_pointer.specs.declared.block.Block.{Block}
+use Rattle.block_store.specs.Accounts.{SectorAt, IsUsed, HasSector}
 use Rattle.block_store.specs.Blocks.{Contents, AreStored}
 use Rattle.block_store.specs.Places.{Marks, shapes_of, filled, planned, HaveMarks}
 use Rattle.block_store.specs.Plans.{Plans}
 use Rattle.block_store.specs.Spaces.{VdevSpace}
 use Rattle.block_store.specs.Store.{Store, Keeps}
-use Rattle.block_store.specs.Uses.{CopiesLieOn, Passes}
+use Rattle.block_store.specs.Uses.{CopiesLieOn, Passes, IsInUse}
 
 -- A sector of a block that a group leads to, as the last group is that one: it is in use, or a later group released it.
 abbrev pub is_held_for : ℕ → ℕ → State → Bool
@@ -23,6 +24,15 @@ AreHeld spaces marks last reach =
 -- all sectors of these blocks are in use
 abbrev pub AreInUse : List VdevSpace → Marks → List Block → Type 0
 AreInUse spaces marks blocks = (block : Block) → Contains blocks block → CopiesLieOn (Passes is_in_use) spaces marks block
+
+-- each sector that is in use is in one of these blocks
+abbrev pub AreInBlocks : List VdevSpace → Marks → List Block → Type 0
+AreInBlocks spaces marks blocks = (at : SectorAt) → IsUsed IsInUse spaces marks at
+    → (block : Block) × Contains blocks block × HasSector spaces block at
+
+-- each sector that was released was so by this group or an earlier one
+abbrev pub WereReleasedBy : List VdevSpace → Marks → ℕ → Type 0
+WereReleasedBy spaces marks last = (group : ℕ) (at : SectorAt) → IsUsed (λ state. state ≡ Released group) spaces marks at → group ≤ last
 
 -- Blocks were given back with that group, or the first of them: where they are stored, what is planned stays so, and what held of the
 -- sectors of any other block that is planned holds still.

@@ -202,18 +202,23 @@ fn group_after<D: Disk + Drop>(
 }
 
 /// Gives the blocks that a group replaced back. Where one of them is not in use, it stays as it is, and so do those behind it: disks
-/// that answer truly name no such block.
+/// that answer truly name no such block. A plan that took places for a block that it hasn't got would lose room: it is refused
+/// as where memory is short.
 fn give_back<D: Disk + Drop>(
     store: &mut BlockStore<D>,
     blocks: &[RootBlock],
     group: u64,
 ) -> Result<(), AllocError>
     ensures gives { GivesBack store.old store.new blocks.now group }
+    ensures whole { OnOk result (store.old.stray ≡ false) }
     ensures released { OnOk result ((stored planned : Contents)
         → Plans store.old stored planned → AreStored stored blocks.now
         → AreDistinct blocks.now → AreAllInUse store.old.spaces blocks.now
         → AreReleased store.old.spaces (copies_of_all blocks.now) group store.new.spaces) }
 {
+    if store.has_strays() {
+        return Err(AllocError);
+    }
     let given = store.release(blocks, group);
     if lacks_memory(&given) {
         return Err(AllocError);

@@ -12,6 +12,7 @@ use Rattle.pool_model.specs.Machine.{Run}
 use Rattle.pool_model.proofs.Whole.{headline}
 use Rattle.pool_commit.specs.Calls.{GrewTo}
 use Rattle.pool_commit.proofs.Made.{GrewTo-none, GrewTo-length}
+use Rattle.pool_commit.proofs.Accounted.{no_room_is_lost}
 use Rattle.pool_core.specs.Runs.{Chain, RunsTo, Ran}
 use Rattle.pool_core.specs.State.{CoreState, disks_of}
 use Rattle.pool_core.specs.Steps.{IsPlanned, Link, TakesStep}
@@ -101,5 +102,5 @@ ran old steps before new now runs = (
   λ v trusted r honest plans.
       let all = runs.3 v trusted r honest plans in
       let run = run_of old v steps all.givens runs.0 new all.after all.chain in
-      (all, run, headline v steps all.givens runs.0 all.after r.follows.sound run),
+      (all, run, headline v steps all.givens runs.0 all.after r.follows.sound run, no_room_is_lost new.commit all.after all.represents.backs),
 )

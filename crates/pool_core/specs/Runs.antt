@@ -6,6 +6,7 @@ use Rattle.pool_model.specs.declared.step.Reply.{Reply}
 use Rattle.pool_model.specs.View.{View, Given}
 use Rattle.pool_model.specs.Machine.{Run}
 use Rattle.pool_model.specs.Headline.{Headline}
+use Rattle.pool_commit.specs.Accounted.{HasAllRoom}
 use Rattle.pool_commit.specs.Calls.{GrewTo}
 use Rattle.pool_core.specs.State.{CoreState, disks_of}
 use Rattle.pool_core.specs.Represents.{Represents}
@@ -40,8 +41,9 @@ RunsTo old steps before new after = (replies : List Reply) × (after ≡ before 
     × ((v : View) (trusted : Bool) → Represents old v → (trusted ≡ true → PoolAnswersTruly old new) → PlansAreTrusted trusted replies → Links old v trusted steps replies new)
 
 -- The core took these steps and added their replies. From each view that it represented this is a chain to a view that it
--- now represents; so it is a run of the machine, and tells what the headline says.
+-- now represents; so it is a run of the machine, and tells what the headline says. No room is lost at its end, and none used twice.
 abbrev pub Ran : CoreState → List Step → List Reply → CoreState → List Reply → Type 0
 Ran old steps before new after = (replies : List Reply) × (after ≡ before ++ replies) × GrewTo (disks_of old) (disks_of new)
     × ((v : View) (trusted : Bool) → Represents old v → (trusted ≡ true → PoolAnswersTruly old new) → PlansAreTrusted trusted replies
-    → (links : Links old v trusted steps replies new) × Run v steps links.givens replies links.after × Headline v steps links.givens replies links.after)
+    → (links : Links old v trusted steps replies new) × Run v steps links.givens replies links.after × Headline v steps links.givens replies links.after
+    × HasAllRoom new.commit links.after)

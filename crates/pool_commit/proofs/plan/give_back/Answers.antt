@@ -1,8 +1,10 @@
-use Rattle.std.proofs.Common.{◌≡◌, Result, Ok, Err, ap}
+use Rattle.std.proofs.Common.{◌≡◌, Result, Ok, Err, ap, refl}
 use Rattle.std.specs.Prelude.{IfErr, OnOk}
 use Rattle.std.proofs.lemmas.Result.{IfErr-weaker}
 use Rattle.block_store.specs.declared.refusal.Refusal.{Refusal as StoreRefusal}
 use Rattle.block_store.specs.declared.refusal.Refusal.TheVariants as store
+use Rattle.block_store.specs.Places.{filled as filled_marks}
+use Rattle.block_store.proofs.Planning.{same_marks}
 use Rattle.pool_commit.proofs.plan.give_back.Goals as goal
 
 pub returns-then-lacks_memory-clause-gives : goal.returns-then-lacks_memory-clause-gives
@@ -46,3 +48,16 @@ returns-clause-released g c = λ stored planned plans are distinct in_use.
     (λ is. let short = c.lacks_memory.ensures.1 is in let not_short = c.if-lacks_memory.false in absurd (cc))
     c.release-given.ensures.released
     (IfErr-weaker c.release-given.result _ _ (λ refusal known. known stored planned plans are distinct in_use) c.release-given.ensures.known)
+
+pub returns-then-has_strays-clause-gives : goal.returns-then-has_strays-clause-gives
+returns-then-has_strays-clause-gives g c = record {
+  disks = refl;
+  out = refl;
+  due = refl;
+  shapes = refl;
+  filled_stays = same_marks _ filled_marks;
+  keeps = λ stored holds. holds;
+  plans = λ stored later plans known. plans;
+  stays = λ test block holds lies. lies;
+  spares = λ test stored later block bytes plans known is_later other lies. lies;
+}

@@ -13,7 +13,7 @@ use Rattle.pool_commit.specs.Space.{GivesBack}
 use Rattle.pool_commit.specs.State.{State}
 use Rattle.pool_commit.specs.StateOf.{state_of}
 use Rattle.pool_commit.proofs.Backing.{last_spelled}
-use Rattle.pool_commit.proofs.Planning.{Begins, is_begun, untouched_since, at_error, backs_begun, backs_dropped, backs_still, begun_plans, unplanned_still, plan_is_backed}
+use Rattle.pool_commit.proofs.Planning.{AreGivenBack, was_ok, Begins, is_begun, untouched_since, at_error, backs_begun, backs_dropped, backs_still, begun_plans, unplanned_still, plan_is_backed}
 use Rattle.pool_commit.proofs.Refusing.{no_config, only_room, plan_faults}
 use Rattle.pool_commit.proofs.Suspending.{still}
 use Rattle.pool_commit.proofs.Unread.{lost_for_plan}
@@ -24,42 +24,42 @@ pub returns-in_err-begin_plan-clause-unplanned : goal.returns-in_err-begin_plan-
 returns-in_err-begin_plan-clause-unplanned g c = at_error c.from_residual.result _ (λ v backs none.
     unplanned_still (record { store = c.begin_plan.new.self; kept = c.args.self.now.kept; planned = None }) c.args.self.now.planned v c.requires.unplanned
     (backs_begun (state_of c.args.self.now) c.begin_plan.new.self c.saturating_add-group.result v c.begin_plan.ensures.out c.begin_plan.ensures.shapes
-    (record { free = c.begin_plan.ensures.free; stays = c.begin_plan.ensures.stays; plans = c.begin_plan.ensures.plans })
+    (record { free = c.begin_plan.ensures.free; stays = c.begin_plan.ensures.stays; plans = c.begin_plan.ensures.plans; some = c.begin_plan.ensures.some })
     (let same = c.committed.ensures in omega arith) v.sync none backs))
 
 pub returns-in_err-begin_plan-clause-dropped : goal.returns-in_err-begin_plan-clause-dropped
 returns-in_err-begin_plan-clause-dropped g c = at_error c.from_residual.result _ (λ v backs.
     unplanned_still (record { store = c.begin_plan.new.self; kept = c.args.self.now.kept; planned = None }) c.args.self.now.planned (record v { sync = Unplanned }) c.requires.unplanned
     (backs_begun (state_of c.args.self.now) c.begin_plan.new.self c.saturating_add-group.result v c.begin_plan.ensures.out c.begin_plan.ensures.shapes
-    (record { free = c.begin_plan.ensures.free; stays = c.begin_plan.ensures.stays; plans = c.begin_plan.ensures.plans })
+    (record { free = c.begin_plan.ensures.free; stays = c.begin_plan.ensures.stays; plans = c.begin_plan.ensures.plans; some = c.begin_plan.ensures.some })
     (let same = c.committed.ensures in omega arith) Unplanned refl backs))
 
 pub returns-in_err-flushes-clause-unplanned : goal.returns-in_err-flushes-clause-unplanned
 returns-in_err-flushes-clause-unplanned g c = at_error c.from_residual-in_err-flushes.result _ (λ v backs none.
     unplanned_still (record { store = c.begin_plan.new.self; kept = c.args.self.now.kept; planned = None }) c.args.self.now.planned v c.requires.unplanned
     (backs_begun (state_of c.args.self.now) c.begin_plan.new.self c.saturating_add-group.result v c.begin_plan.ensures.out c.begin_plan.ensures.shapes
-    (record { free = c.begin_plan.ensures.free; stays = c.begin_plan.ensures.stays; plans = c.begin_plan.ensures.plans })
+    (record { free = c.begin_plan.ensures.free; stays = c.begin_plan.ensures.stays; plans = c.begin_plan.ensures.plans; some = c.begin_plan.ensures.some })
     (let same = c.committed.ensures in omega arith) v.sync none backs))
 
 pub returns-in_err-flushes-clause-dropped : goal.returns-in_err-flushes-clause-dropped
 returns-in_err-flushes-clause-dropped g c = at_error c.from_residual-in_err-flushes.result _ (λ v backs.
     unplanned_still (record { store = c.begin_plan.new.self; kept = c.args.self.now.kept; planned = None }) c.args.self.now.planned (record v { sync = Unplanned }) c.requires.unplanned
     (backs_begun (state_of c.args.self.now) c.begin_plan.new.self c.saturating_add-group.result v c.begin_plan.ensures.out c.begin_plan.ensures.shapes
-    (record { free = c.begin_plan.ensures.free; stays = c.begin_plan.ensures.stays; plans = c.begin_plan.ensures.plans })
+    (record { free = c.begin_plan.ensures.free; stays = c.begin_plan.ensures.stays; plans = c.begin_plan.ensures.plans; some = c.begin_plan.ensures.some })
     (let same = c.committed.ensures in omega arith) Unplanned refl backs))
 
 pub returns-then-not-makes_good_volumes-clause-unplanned : goal.returns-then-not-makes_good_volumes-clause-unplanned
 returns-then-not-makes_good_volumes-clause-unplanned g c = λ v backs none.
     unplanned_still (record { store = c.begin_plan.new.self; kept = c.args.self.now.kept; planned = None }) c.args.self.now.planned v c.requires.unplanned
     (backs_begun (state_of c.args.self.now) c.begin_plan.new.self c.saturating_add-group.result v c.begin_plan.ensures.out c.begin_plan.ensures.shapes
-    (record { free = c.begin_plan.ensures.free; stays = c.begin_plan.ensures.stays; plans = c.begin_plan.ensures.plans })
+    (record { free = c.begin_plan.ensures.free; stays = c.begin_plan.ensures.stays; plans = c.begin_plan.ensures.plans; some = c.begin_plan.ensures.some })
     (let same = c.committed.ensures in omega arith) v.sync none backs)
 
 pub returns-then-not-makes_good_volumes-clause-dropped : goal.returns-then-not-makes_good_volumes-clause-dropped
 returns-then-not-makes_good_volumes-clause-dropped g c = λ v backs.
     unplanned_still (record { store = c.begin_plan.new.self; kept = c.args.self.now.kept; planned = None }) c.args.self.now.planned (record v { sync = Unplanned }) c.requires.unplanned
     (backs_begun (state_of c.args.self.now) c.begin_plan.new.self c.saturating_add-group.result v c.begin_plan.ensures.out c.begin_plan.ensures.shapes
-    (record { free = c.begin_plan.ensures.free; stays = c.begin_plan.ensures.stays; plans = c.begin_plan.ensures.plans })
+    (record { free = c.begin_plan.ensures.free; stays = c.begin_plan.ensures.stays; plans = c.begin_plan.ensures.plans; some = c.begin_plan.ensures.some })
     (let same = c.committed.ensures in omega arith) Unplanned refl backs)
 
 pub returns-then-is_err-clause-untouched : goal.returns-then-is_err-clause-untouched
@@ -70,7 +70,7 @@ returns-then-is_err-clause-untouched g c =
 pub returns-then-is_err-clause-unplanned : goal.returns-then-is_err-clause-unplanned
 returns-then-is_err-clause-unplanned g c = λ v backs none.
     let begun = backs_begun (state_of c.args.self.now) c.begin_plan.new.self c.saturating_add-group.result v c.begin_plan.ensures.out c.begin_plan.ensures.shapes
-    (record { free = c.begin_plan.ensures.free; stays = c.begin_plan.ensures.stays; plans = c.begin_plan.ensures.plans })
+    (record { free = c.begin_plan.ensures.free; stays = c.begin_plan.ensures.stays; plans = c.begin_plan.ensures.plans; some = c.begin_plan.ensures.some })
     (let same = c.committed.ensures in omega arith) v.sync none backs in
     unplanned_still (record { store = c.drop_plan.new.self; kept = c.args.self.now.kept; planned = None }) c.args.self.now.planned v c.requires.unplanned
     (backs_dropped (record { store = c.begin_plan.new.self; kept = c.args.self.now.kept; planned = None }) c.group_after.new.store c.give_back.new.store c.drop_plan.new.self c.deref.result.now c.saturating_add-group.result v refl c.in-Ok.ensures.steps
@@ -79,7 +79,7 @@ returns-then-is_err-clause-unplanned g c = λ v backs none.
 pub returns-then-is_err-clause-dropped : goal.returns-then-is_err-clause-dropped
 returns-then-is_err-clause-dropped g c = λ v backs.
     let begun = backs_begun (state_of c.args.self.now) c.begin_plan.new.self c.saturating_add-group.result v c.begin_plan.ensures.out c.begin_plan.ensures.shapes
-    (record { free = c.begin_plan.ensures.free; stays = c.begin_plan.ensures.stays; plans = c.begin_plan.ensures.plans })
+    (record { free = c.begin_plan.ensures.free; stays = c.begin_plan.ensures.stays; plans = c.begin_plan.ensures.plans; some = c.begin_plan.ensures.some })
     (let same = c.committed.ensures in omega arith) Unplanned refl backs in
     unplanned_still (record { store = c.drop_plan.new.self; kept = c.args.self.now.kept; planned = None }) c.args.self.now.planned (record v { sync = Unplanned }) c.requires.unplanned
     (backs_dropped (record { store = c.begin_plan.new.self; kept = c.args.self.now.kept; planned = None }) c.group_after.new.store c.give_back.new.store c.drop_plan.new.self c.deref.result.now c.saturating_add-group.result (record v { sync = Unplanned }) refl
@@ -110,7 +110,7 @@ returns-else-is_err-clause-untouched g c =
 pub returns-else-is_err-clause-planned : goal.returns-else-is_err-clause-planned
 returns-else-is_err-clause-planned g c = λ v backs none few items honest.
     let begins : Begins c.args.self.now.store c.begin_plan.new.self c.saturating_add-group.result =
-    record { free = c.begin_plan.ensures.free; stays = c.begin_plan.ensures.stays; plans = c.begin_plan.ensures.plans } in
+    record { free = c.begin_plan.ensures.free; stays = c.begin_plan.ensures.stays; plans = c.begin_plan.ensures.plans; some = c.begin_plan.ensures.some } in
     let below : c.saturating_add-group.result ≤ suc c.args.self.now.kept.committed = let same = c.committed.ensures in omega arith in
     let begun = backs_begun (state_of c.args.self.now) c.begin_plan.new.self c.saturating_add-group.result v c.begin_plan.ensures.out c.begin_plan.ensures.shapes begins below v.sync none backs in
     let s : State = record { store = c.begin_plan.new.self; kept = c.args.self.now.kept; planned = None } in
@@ -124,11 +124,14 @@ returns-else-is_err-clause-planned g c = λ v backs none few items honest.
     (subst (λ gone. GivesBack c.group_after.new.store c.give_back.new.store gone c.saturating_add-group.result) c.deref.ensures.value c.give_back.ensures.gives)
     c.begin_plan.ensures.free honest_since
     (begun_plans (state_of c.args.self.now) c.begin_plan.new.self c.saturating_add-group.result v c.begin_plan.ensures.out c.begin_plan.ensures.shapes begins below v.sync none backs) c.in-Ok.ensures.value
+    (was_ok c.give_back.result _ (sym c.is_err.ensures.value ∙ c.if-is_err.false) c.give_back.ensures.whole)
+    (subst (λ gone. AreGivenBack c.group_after.new.store c.give_back.new.store gone c.saturating_add-group.result) c.deref.ensures.value
+    (was_ok c.give_back.result _ (sym c.is_err.ensures.value ∙ c.if-is_err.false) c.give_back.ensures.released))
 
 pub returns-in-Err-clause-unplanned : goal.returns-in-Err-clause-unplanned
 returns-in-Err-clause-unplanned g c = λ v backs none.
     let begun = backs_begun (state_of c.args.self.now) c.begin_plan.new.self c.saturating_add-group.result v c.begin_plan.ensures.out c.begin_plan.ensures.shapes
-    (record { free = c.begin_plan.ensures.free; stays = c.begin_plan.ensures.stays; plans = c.begin_plan.ensures.plans })
+    (record { free = c.begin_plan.ensures.free; stays = c.begin_plan.ensures.stays; plans = c.begin_plan.ensures.plans; some = c.begin_plan.ensures.some })
     (let same = c.committed.ensures in omega arith) v.sync none backs in
     let s : State = record { store = c.begin_plan.new.self; kept = c.args.self.now.kept; planned = None } in
     unplanned_still (record s { store = c.group_after.new.store }) c.args.self.now.planned v c.requires.unplanned (backs_still s c.group_after.new.store v refl c.in-Err.ensures.steps begun)
@@ -136,7 +139,7 @@ returns-in-Err-clause-unplanned g c = λ v backs none.
 pub returns-in-Err-clause-dropped : goal.returns-in-Err-clause-dropped
 returns-in-Err-clause-dropped g c = λ v backs.
     let begun = backs_begun (state_of c.args.self.now) c.begin_plan.new.self c.saturating_add-group.result v c.begin_plan.ensures.out c.begin_plan.ensures.shapes
-    (record { free = c.begin_plan.ensures.free; stays = c.begin_plan.ensures.stays; plans = c.begin_plan.ensures.plans })
+    (record { free = c.begin_plan.ensures.free; stays = c.begin_plan.ensures.stays; plans = c.begin_plan.ensures.plans; some = c.begin_plan.ensures.some })
     (let same = c.committed.ensures in omega arith) Unplanned refl backs in
     let s : State = record { store = c.begin_plan.new.self; kept = c.args.self.now.kept; planned = None } in
     unplanned_still (record s { store = c.group_after.new.store }) c.args.self.now.planned (record v { sync = Unplanned }) c.requires.unplanned
@@ -171,7 +174,7 @@ pub returns-in-Err-clause-refused : goal.returns-in-Err-clause-refused
 unfolding refused
 returns-in-Err-clause-refused g c = λ v backs none few items good.
     let begun = backs_begun (state_of c.args.self.now) c.begin_plan.new.self c.saturating_add-group.result v c.begin_plan.ensures.out c.begin_plan.ensures.shapes
-    (record { free = c.begin_plan.ensures.free; stays = c.begin_plan.ensures.stays; plans = c.begin_plan.ensures.plans })
+    (record { free = c.begin_plan.ensures.free; stays = c.begin_plan.ensures.stays; plans = c.begin_plan.ensures.plans; some = c.begin_plan.ensures.some })
     (let same = c.committed.ensures in omega arith) v.sync none backs in
     let s : State = record { store = c.begin_plan.new.self; kept = c.args.self.now.kept; planned = None } in
     let new : State = record { store = c.group_after.new.store; kept = c.args.self.now.kept; planned = c.args.self.now.planned } in
