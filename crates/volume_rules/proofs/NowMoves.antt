@@ -146,7 +146,7 @@ now_moves = record {
   again = λ v given t cause is s. refl;
   failed = λ v given disk left e s. refl;
   replanned = λ v given disk left e s. refl;
-  moved = λ v given phase left rest e s. refl;
+  moved = λ v given phase left rest out e s. refl;
   read = λ v given name offset len bytes a s. refl;
   read_under = λ v given g name offset len bytes k a s. refl;
   held = λ v given by n s. refl;
@@ -157,7 +157,7 @@ now_moves = record {
   quiesced = λ v given e s. refl;
   planned = λ v given t calls s. refl;
   replanned_group = λ v given t calls s. refl;
-  committed = λ v given left e s. now_committed (record v { sync = Due left }) refl;
+  committed = λ v given left out e s. now_committed (record v { sync = Due left }) refl;
 }
 
 pub moves_now : (v : View) (given : Given) (step : Step) (reply : Reply) (w : View) → IsSound v → StepOf v given step reply w → MovesNow v step reply w

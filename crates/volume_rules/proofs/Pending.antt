@@ -156,7 +156,7 @@ below_moves = record {
   again = λ v given t cause is m. m;
   failed = λ v given disk left e m. m;
   replanned = λ v given disk left e m. m;
-  moved = λ v given phase left rest e m. m;
+  moved = λ v given phase left rest out e m. m;
   read = λ v given name offset len bytes a m. m;
   read_under = λ v given g name offset len bytes k a m. m;
   held = λ v given by n m. m;
@@ -167,7 +167,7 @@ below_moves = record {
   quiesced = λ v given e m. m;
   planned = λ v given t calls m. m;
   replanned_group = λ v given t calls m. m;
-  committed = λ v given left e m. subst (λ b. IsMadeBy (suc v.committed) (cond b (applied (suc v.committed) (v.pools v.committed) (v.ledger (suc v.committed))) (v.pools (suc v.committed)))) (sym (itself (suc v.committed))) (made_by_applied v.committed (v.pools v.committed) (v.ledger (suc v.committed)) m);
+  committed = λ v given left out e m. subst (λ b. IsMadeBy (suc v.committed) (cond b (applied (suc v.committed) (v.pools v.committed) (v.ledger (suc v.committed))) (v.pools (suc v.committed)))) (sym (itself (suc v.committed))) (made_by_applied v.committed (v.pools v.committed) (v.ledger (suc v.committed)) m);
 }
 
 pub below_step : (v : View) (given : Given) (step : Step) (reply : Reply) (w : View) → StepOf v given step reply w → GroupsAreBelow v → GroupsAreBelow w
