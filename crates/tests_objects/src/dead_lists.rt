@@ -3,8 +3,7 @@ ghost use Rattle.std.specs.Prelude.{◌<◌, All, OnOk};
 ghost use Rattle.block_pointer.specs.Block.{FitsBlock};
 ghost use Rattle.dnode.specs.ObjectSet.{FitsObjectSet};
 
-use crate::meta::with;
-use crate::objects::EMPTY;
+use crate::meta::{EMPTY, with};
 use crate::stores::{Store, new_store};
 use block_pointer::{Block, Copies, Dva, Property};
 use dead_list::DeadList;

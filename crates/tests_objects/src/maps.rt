@@ -2,8 +2,7 @@
 ghost use Rattle.std.specs.Prelude.{◌+◌, ◌<◌, ◌≤◌};
 ghost use Rattle.dnode.specs.ObjectSet.{FitsObjectSet};
 
-use crate::meta::with;
-use crate::objects::EMPTY;
+use crate::meta::{EMPTY, with};
 use crate::stores::{Store, new_store};
 use dnode::ObjectSet;
 use space_map::{FreeSet, Kind, Run};

@@ -5,10 +5,9 @@ ghost use Rattle.dnode.specs.ObjectSet.{FitsObjectSet};
 ghost use Rattle.meta_objset.specs.Record.{FitsRecord};
 ghost use Rattle.objset.specs.Changes.{IsGoodChange};
 
-use crate::objects::EMPTY;
 use crate::stores::{Store, new_store, store_plan};
-use block_pointer::Block;
-use dnode::ObjectSet;
+use block_pointer::{Block, BlockPtr};
+use dnode::{ObjectNode, ObjectSet, ObjectSetKind};
 use meta_objset::{
     DatasetKind, DatasetRecord, Directory, config_creation, config_replacement, is_name,
     read_config, read_directory, read_record, record_change, record_creation,
@@ -25,6 +24,18 @@ const KIND: TableKind = TableKind {
         first_len: 32,
         row_len: 32,
     },
+};
+
+/// A set with no object.
+pub(crate) const EMPTY: ObjectSet = ObjectSet {
+    dnodes: ObjectNode {
+        object_type: 10,
+        data_sectors: 32,
+        highest: 0,
+        pointer: BlockPtr::Hole,
+    },
+    kind: ObjectSetKind::Volume,
+    objects: 1,
 };
 
 /// The set with one change, once it is stored.
@@ -86,7 +97,7 @@ fn tables_are_read_as_they_were_written(rt: HostRuntime) -> Result<(), Fail> {
 }
 
 /// A name of one byte and its padding.
-pub(crate) fn name_of(byte: u8) -> [u8; 56] {
+fn name_of(byte: u8) -> [u8; 56] {
     let mut name = [0; 56];
     name[0] = byte;
     name
@@ -175,7 +186,7 @@ fn a_configuration_is_read_as_it_was_stored(rt: HostRuntime) -> Result<(), Fail>
     Ok(())
 }
 
-pub(crate) fn record_of(object_set: Block, created: u64) -> DatasetRecord
+fn record_of(object_set: Block, created: u64) -> DatasetRecord
     requires { FitsBlock object_set }
     ensures { FitsRecord result }
 {
@@ -193,7 +204,7 @@ pub(crate) fn record_of(object_set: Block, created: u64) -> DatasetRecord
 }
 
 /// Some block of an object set.
-pub(crate) fn block_of_set(store: &mut Store, alloc: Global) -> Result<Block, Refusal>
+fn block_of_set(store: &mut Store, alloc: Global) -> Result<Block, Refusal>
     ensures { IfOk result FitsBlock }
 {
     store.drop_plan(1);

@@ -1,9 +1,9 @@
 //! Directories that are kept in memory.
 use crate::groups::{
-    FROM, LEN, SIZE, creation, group_of_three, is_after, is_bad, next_group, write,
+    FROM, LEN, SIZE, accept, creation, group_of_three, is_after, is_bad, next_group, write,
 };
-use crate::meta::name_of;
 use crate::roots::first_with;
+use crate::sets::name_of;
 use crate::stores::{Store, new_store, store_of};
 use block_pointer::Block;
 use block_store::BlockStore;
@@ -27,40 +27,48 @@ fn has_rows(directory: &Directory, rows: &[(u8, u64)]) -> bool {
 }
 
 /// Whether the directory under a root has these rows too.
-fn is_under(
-    root: &Block,
-    store: &mut Store,
-    alloc: Global,
-    rows: &[(u8, u64)],
-) -> Result<bool, Refusal> {
-    let directory = directory_under(root, store, alloc, root.birth, &[])?;
-    Ok(has_rows(&directory, rows))
+fn is_under(root: &Block, store: &mut Store, alloc: Global, rows: &[(u8, u64)]) -> bool {
+    match directory_under(root, store, alloc, root.birth, &[]) {
+        Ok(directory) => has_rows(&directory, rows),
+        Err(_) => false,
+    }
+}
+
+/// A root with `v` and `w`.
+fn root_of_three(store: &mut Store, alloc: Global) -> Result<FirstRoot, Fail> {
+    let group = group_of_three(alloc)?;
+    first_with(store, alloc, &group)
 }
 
 /// A root with `v` and `w`, and one behind it with `u`.
 fn two_roots(store: &mut Store, alloc: Global) -> Result<(FirstRoot, NextRoot), Fail> {
-    let first = first_with(store, alloc, &group_of_three(alloc)?)?;
-    let next = next_group(&first.root, store, alloc, creation(alloc, 1, b'u', SIZE)?)?;
+    let item = creation(alloc, 1, b'u', SIZE)?;
+    let first = root_of_three(store, alloc)?;
+    let next = next_group(&first.root, store, alloc, item)?;
     Ok((first, next))
 }
 
 /// Whether the first root and the next came with the directories that are read under them.
-fn are_kept(alloc: Global) -> Result<[bool; 4], Fail> {
-    let mut store = new_store(alloc)?;
-    let (first, next) = two_roots(&mut store, alloc)?;
+fn are_kept(store: &mut Store, alloc: Global) -> Result<[bool; 4], Fail> {
+    let (first, next) = two_roots(store, alloc)?;
     let two = [(b'v', 5), (b'w', 7)];
     let three = [(b'u', 9), (b'v', 5), (b'w', 7)];
     Ok([
         has_rows(&first.directory, &two),
         has_rows(&next.directory, &three),
-        is_under(&first.root, &mut store, alloc, &two)?,
-        is_under(&next.root, &mut store, alloc, &three)?,
+        is_under(&first.root, store, alloc, &two),
+        is_under(&next.root, store, alloc, &three),
     ])
+}
+
+fn are_kept_in_memory(alloc: Global) -> Result<[bool; 4], Fail> {
+    let mut store = new_store(alloc)?;
+    are_kept(&mut store, alloc)
 }
 
 #[test]
 fn roots_come_with_their_directories(rt: HostRuntime) -> Result<(), Fail> {
-    assert_eq!(rt; are_kept(rt.alloc())?, [true; 4]);
+    assert_eq!(rt; are_kept_in_memory(rt.alloc())?, [true; 4]);
     Ok(())
 }
 
@@ -92,34 +100,52 @@ fn object_in(next: &NextRoot, store: &mut Store, alloc: Global, name: u8) -> Res
     }
 }
 
+/// What a letter's volume reads as from a byte on, by the directory that came with a root.
+fn bytes_of(
+    next: &NextRoot,
+    store: &mut Store,
+    alloc: Global,
+    name: u8,
+    offset: u64,
+) -> Result<Vec<u8>, Refusal> {
+    bytes_in(&next.root, store, alloc, &next.directory, name, offset)
+}
+
+/// Whether `v` reads as it is to after the write.
+fn is_written(next: &NextRoot, store: &mut Store, alloc: Global) -> bool {
+    match bytes_of(next, store, alloc, b'v', FROM) {
+        Ok(bytes) => is_after(&bytes, true),
+        Err(_) => false,
+    }
+}
+
+/// A root with `v` and `w`, and in place of the one behind it one that writes to `v`.
+fn written_root(store: &mut Store, alloc: Global) -> Result<NextRoot, Fail> {
+    let item = write(alloc, 1, b'v')?;
+    let root = two_roots(store, alloc)?.0.root;
+    next_group(&root, store, alloc, item)
+}
+
 /// What `v` reads as after a write, also past its end; that `x` isn't there; and the objects of `w` and `x`.
-fn outcomes(alloc: Global) -> Result<[bool; 5], Fail> {
-    let mut store = new_store(alloc)?;
-    let (first, _) = two_roots(&mut store, alloc)?;
-    let next = next_group(&first.root, &mut store, alloc, write(alloc, 1, b'v')?)?;
-    let root = &next.root;
-    let after = bytes_in(root, &mut store, alloc, &next.directory, b'v', FROM)?;
-    let past = bytes_in(
-        root,
-        &mut store,
-        alloc,
-        &next.directory,
-        b'v',
-        SIZE - LEN + 1,
-    );
-    let none = bytes_in(root, &mut store, alloc, &next.directory, b'x', FROM);
+fn outcomes(store: &mut Store, alloc: Global) -> Result<[bool; 5], Fail> {
+    let next = written_root(store, alloc)?;
     Ok([
-        is_after(&after, true),
-        is_bad(past),
-        is_bad(none),
-        object_in(&next, &mut store, alloc, b'w')? == 7,
-        object_in(&next, &mut store, alloc, b'x')? == 0,
+        is_written(&next, store, alloc),
+        is_bad(bytes_of(&next, store, alloc, b'v', SIZE - LEN + 1)),
+        is_bad(bytes_of(&next, store, alloc, b'x', FROM)),
+        object_in(&next, store, alloc, b'w') == Ok(7),
+        object_in(&next, store, alloc, b'x') == Ok(0),
     ])
+}
+
+fn outcomes_in_memory(alloc: Global) -> Result<[bool; 5], Fail> {
+    let mut store = new_store(alloc)?;
+    outcomes(&mut store, alloc)
 }
 
 #[test]
 fn volumes_are_read_by_a_kept_directory(rt: HostRuntime) -> Result<(), Fail> {
-    assert_eq!(rt; outcomes(rt.alloc())?, [true; 5]);
+    assert_eq!(rt; outcomes_in_memory(rt.alloc())?, [true; 5]);
     Ok(())
 }
 
@@ -173,31 +199,60 @@ fn reads_of(store: CountedStore) -> u64 {
     reads
 }
 
-/// A group that makes so many volumes, whose names are the bytes from 1 on.
-fn group_of_many(alloc: Global, count: u8) -> Result<Pipeline, Fail> {
-    let mut pipeline = Pipeline::new(alloc, 3);
-    pipeline.hold(1)?;
+/// Makes so many volumes, whose names are the bytes from 1 on.
+fn accept_many(pipeline: &mut Pipeline, alloc: Global, count: u8) -> Result<(), Fail> {
     for name in 1..=count {
-        pipeline.accept(creation(alloc, u64::from(name), name, SIZE)?)?;
+        let item = creation(alloc, u64::from(name), name, SIZE)?;
+        if name == 1 {
+            accept(pipeline, item)?;
+        } else {
+            pipeline.accept(item)?;
+        }
     }
-    Ok(pipeline)
+    Ok(())
+}
+
+/// The first root after a group that makes so many volumes.
+fn root_of_many(store: &mut CountedStore, alloc: Global, count: u8) -> Result<FirstRoot, Fail> {
+    let mut pipeline = Pipeline::new(alloc, 3);
+    accept_many(&mut pipeline, alloc, count)?;
+    first_with(store, alloc, &pipeline)
+}
+
+/// A root, and its directory as it came with it, or as it is read.
+fn root_with_directory(
+    store: &mut CountedStore,
+    alloc: Global,
+    count: u8,
+    is_kept: bool,
+) -> Result<FirstRoot, Fail> {
+    let first = root_of_many(store, alloc, count)?;
+    if is_kept {
+        return Ok(first);
+    }
+    let root = first.root;
+    let directory = directory_under(&root, store, alloc, 1, &[])?;
+    Ok(FirstRoot { root, directory })
+}
+
+/// Whether a range of the last of so many volumes reads as zeros.
+fn is_last_read(
+    store: &mut CountedStore,
+    alloc: Global,
+    count: u8,
+    is_kept: bool,
+) -> Result<bool, Fail> {
+    let first = root_with_directory(store, alloc, count, is_kept)?;
+    let bytes = bytes_in(&first.root, store, alloc, &first.directory, count, FROM)?;
+    Ok(is_after(&bytes, false))
 }
 
 /// How many reads of disks a range of the last of so many volumes takes, by the directory that was kept, or by one that is read first.
 fn reads_among(alloc: Global, count: u8, is_kept: bool) -> Result<u64, Fail> {
     let mut store = counted_store(alloc)?;
-    let group = group_of_many(alloc, count)?;
-    let FirstRoot { root, directory } = first_with(&mut store, alloc, &group)?;
-    let directory = if is_kept {
-        directory
-    } else {
-        directory_under(&root, &mut store, alloc, 1, &[])?
-    };
-    let bytes = bytes_in(&root, &mut store, alloc, &directory, count, FROM)?;
-    if !is_after(&bytes, false) {
-        return Ok(0);
-    }
-    Ok(reads_of(store))
+    let is_read = is_last_read(&mut store, alloc, count, is_kept)?;
+    let reads = reads_of(store);
+    Ok(if is_read { reads } else { 0 })
 }
 
 /// Each block takes two reads of disks, but the record, of one sector, one. Among three volumes they are: the root; the block of

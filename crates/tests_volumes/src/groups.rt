@@ -44,11 +44,17 @@ pub(crate) fn write(alloc: Global, number: u64, name: u8) -> Result<Item, Fail> 
     }))
 }
 
+/// Accepts an item in the open group, which writer 1 holds then.
+pub(crate) fn accept(pipeline: &mut Pipeline, item: Item) -> Result<(), Fail> {
+    pipeline.hold(1)?;
+    pipeline.accept(item)?;
+    Ok(())
+}
+
 /// A group that has accepted one item.
 fn group_of(alloc: Global, item: Item) -> Result<Pipeline, Fail> {
     let mut pipeline = Pipeline::new(alloc, 3);
-    pipeline.hold(1)?;
-    pipeline.accept(item)?;
+    accept(&mut pipeline, item)?;
     Ok(pipeline)
 }
 
@@ -107,39 +113,57 @@ pub(crate) fn is_bad(read: Result<Vec<u8>, Refusal>) -> bool {
     matches!(read, Err(Refusal::BadPointer))
 }
 
+/// Whether `v` reads as it is to under a root: after the write, or as zeros.
+fn is_read(root: &Block, store: &mut Store, alloc: Global, written: bool) -> bool {
+    match bytes_from(root, store, alloc, FROM) {
+        Ok(bytes) => is_after(&bytes, written),
+        Err(_) => false,
+    }
+}
+
+/// A root with no volumes, the one that `v` is made in, and the one after a write.
+fn three_roots(store: &mut Store, alloc: Global) -> Result<[Block; 3], Fail> {
+    let empty = create_empty(store, alloc)?;
+    let made = next_root(&empty, store, alloc, creation(alloc, 1, b'v', SIZE)?)?;
+    let written = next_root(&made, store, alloc, write(alloc, 1, b'v')?)?;
+    Ok([empty, made, written])
+}
+
 /// What `v` reads as under the root that it is made in, and under the one after a write, also past its end; and under the root
 /// before, which hasn't got it.
-fn outcomes(alloc: Global) -> Result<[bool; 5], Fail> {
-    let mut store = new_store(alloc)?;
-    let empty = create_empty(&mut store, alloc)?;
-    let made = next_root(&empty, &mut store, alloc, creation(alloc, 1, b'v', SIZE)?)?;
-    let written = next_root(&made, &mut store, alloc, write(alloc, 1, b'v')?)?;
-    let before = bytes_from(&made, &mut store, alloc, FROM)?;
-    let after = bytes_from(&written, &mut store, alloc, FROM)?;
-    let past = bytes_from(&written, &mut store, alloc, SIZE - LEN + 1);
-    let none = bytes_from(&empty, &mut store, alloc, FROM);
+fn outcomes(store: &mut Store, alloc: Global) -> Result<[bool; 5], Fail> {
+    let [empty, made, written] = three_roots(store, alloc)?;
     Ok([
-        is_after(&before, false),
-        is_after(&after, true),
-        is_bad(past),
-        is_bad(none),
+        is_read(&made, store, alloc, false),
+        is_read(&written, store, alloc, true),
+        is_bad(bytes_from(&written, store, alloc, SIZE - LEN + 1)),
+        is_bad(bytes_from(&empty, store, alloc, FROM)),
         written.birth == 3,
     ])
 }
 
+fn outcomes_in_memory(alloc: Global) -> Result<[bool; 5], Fail> {
+    let mut store = new_store(alloc)?;
+    outcomes(&mut store, alloc)
+}
+
 #[test]
 fn each_root_has_the_pool_of_its_group(rt: HostRuntime) -> Result<(), Fail> {
-    assert_eq!(rt; outcomes(rt.alloc())?, [true; 5]);
+    assert_eq!(rt; outcomes_in_memory(rt.alloc())?, [true; 5]);
+    Ok(())
+}
+
+fn accept_three(pipeline: &mut Pipeline, alloc: Global) -> Result<(), Fail> {
+    accept(pipeline, creation(alloc, 1, b'v', SIZE)?)?;
+    pipeline.accept(creation(alloc, 2, b'w', 2 * SIZE)?)?;
+    pipeline.accept(write(alloc, 3, b'x')?)?;
     Ok(())
 }
 
 /// A group that makes `v` and `w`, of twice the size, and writes to `x`.
 pub(crate) fn group_of_three(alloc: Global) -> Result<Pipeline, Fail> {
     let mut pipeline = Pipeline::new(alloc, 3);
-    pipeline.hold(1)?;
-    pipeline.accept(creation(alloc, 1, b'v', SIZE)?)?;
-    pipeline.accept(creation(alloc, 2, b'w', 2 * SIZE)?)?;
-    pipeline.accept(write(alloc, 3, b'x')?)?;
+    accept_three(&mut pipeline, alloc)?;
     Ok(pipeline)
 }
 
@@ -151,22 +175,31 @@ fn size_of(root: &Block, store: &mut Store, alloc: Global, letter: u8) -> Result
     }
 }
 
+/// The first root after a group of three.
+fn root_of_three(store: &mut Store, alloc: Global) -> Result<Block, Fail> {
+    let group = group_of_three(alloc)?;
+    first_root(store, alloc, &group)
+}
+
 /// What the first root has of `v`, `w` and `x`, and whether `v` reads as zeros.
-fn first_outcomes(alloc: Global) -> Result<[bool; 5], Fail> {
-    let mut store = new_store(alloc)?;
-    let root = first_root(&mut store, alloc, &group_of_three(alloc)?)?;
-    let bytes = bytes_from(&root, &mut store, alloc, FROM)?;
+fn first_outcomes(store: &mut Store, alloc: Global) -> Result<[bool; 5], Fail> {
+    let root = root_of_three(store, alloc)?;
     Ok([
-        size_of(&root, &mut store, alloc, b'v')? == SIZE,
-        size_of(&root, &mut store, alloc, b'w')? == 2 * SIZE,
-        size_of(&root, &mut store, alloc, b'x')? == 0,
-        is_after(&bytes, false),
+        size_of(&root, store, alloc, b'v')? == SIZE,
+        size_of(&root, store, alloc, b'w')? == 2 * SIZE,
+        size_of(&root, store, alloc, b'x')? == 0,
+        is_read(&root, store, alloc, false),
         root.birth == 1,
     ])
 }
 
+fn first_outcomes_in_memory(alloc: Global) -> Result<[bool; 5], Fail> {
+    let mut store = new_store(alloc)?;
+    first_outcomes(&mut store, alloc)
+}
+
 #[test]
 fn the_first_root_has_the_volumes_of_its_group(rt: HostRuntime) -> Result<(), Fail> {
-    assert_eq!(rt; first_outcomes(rt.alloc())?, [true; 5]);
+    assert_eq!(rt; first_outcomes_in_memory(rt.alloc())?, [true; 5]);
     Ok(())
 }

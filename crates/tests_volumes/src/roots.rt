@@ -3,32 +3,19 @@ ghost use Rattle.std.specs.Prelude.{◌<◌, ◌^◌, length, IfOk};
 ghost use Rattle.dnode.specs.ObjectSet.{FitsObjectSet};
 ghost use Rattle.meta_objset.specs.Record.{FitsRecord};
 
-use crate::meta::{block_of_set, name_of, record_of, with};
+use crate::sets::{EMPTY, name_of, record_of, root_block, volume_block, with};
 use crate::stores::{Store, new_store, store_plan};
-use block_pointer::{Block, BlockPtr};
+use block_pointer::Block;
 use block_store::BlockStore;
 use dataset_snapshots::{Dataset, FirstRoot, find, first_group};
-use dnode::{ObjectNode, ObjectSet, ObjectSetKind};
+use dnode::ObjectSet;
 use meta_objset::{DatasetRecord, Directory, is_name, record_creation};
 use model_disk::Disk;
-use objset::plan_set;
 use pool_model::Name;
 use std::alloc::Global;
 use std::test::Fail;
 use txg_pipeline::Pipeline;
 use vdev_label::Config;
-
-/// A meta object set with no object.
-pub(crate) const EMPTY: ObjectSet = ObjectSet {
-    dnodes: ObjectNode {
-        object_type: 10,
-        data_sectors: 32,
-        highest: 0,
-        pointer: BlockPtr::Hole,
-    },
-    kind: ObjectSetKind::Meta,
-    objects: 1,
-};
 
 /// A directory in which the name `v` has object 5.
 fn directory_of_one(alloc: Global) -> Result<Directory, Fail>
@@ -61,10 +48,7 @@ fn root_with(store: &mut Store, alloc: Global, one: &DatasetRecord) -> Result<Bl
     requires { FitsRecord one.now }
 {
     let set = set_with(store, alloc, one)?;
-    store.drop_plan(3);
-    let root = plan_set(&set, store, alloc, 3)?;
-    store_plan(store);
-    Ok(root)
+    Ok(root_block(&set, store, alloc)?)
 }
 
 /// What a root has of a name of one letter.
@@ -79,12 +63,11 @@ pub(crate) fn find_letter(
 }
 
 /// What the root has of the name `v`: its object, its record and its size; and whether it has nothing of `w`.
-fn outcomes(alloc: Global) -> Result<[bool; 4], Fail> {
-    let mut store = new_store(alloc)?;
-    let record = record_of(block_of_set(&mut store, alloc)?, 1);
-    let root = root_with(&mut store, alloc, &record)?;
-    let found = find_letter(&root, &mut store, alloc, b'v')?;
-    let none = find_letter(&root, &mut store, alloc, b'w')?;
+fn outcomes(store: &mut Store, alloc: Global) -> Result<[bool; 4], Fail> {
+    let record = record_of(volume_block(store, alloc)?, 1);
+    let root = root_with(store, alloc, &record)?;
+    let found = find_letter(&root, store, alloc, b'v')?;
+    let none = find_letter(&root, store, alloc, b'w')?;
     let Some(dataset) = found else {
         return Ok([false; 4]);
     };
@@ -96,9 +79,14 @@ fn outcomes(alloc: Global) -> Result<[bool; 4], Fail> {
     ])
 }
 
+fn outcomes_in_memory(alloc: Global) -> Result<[bool; 4], Fail> {
+    let mut store = new_store(alloc)?;
+    outcomes(&mut store, alloc)
+}
+
 #[test]
 fn a_name_is_found_under_a_root(rt: HostRuntime) -> Result<(), Fail> {
-    assert_eq!(rt; outcomes(rt.alloc())?, [true; 4]);
+    assert_eq!(rt; outcomes_in_memory(rt.alloc())?, [true; 4]);
     Ok(())
 }
 
@@ -132,15 +120,19 @@ pub(crate) fn create_empty(store: &mut Store, alloc: Global) -> Result<Block, Fa
 }
 
 /// Whether a root with no volumes is born in its group, and has nothing of the name `v`.
-fn is_created(alloc: Global) -> Result<[bool; 2], Fail> {
-    let mut store = new_store(alloc)?;
-    let root = create_empty(&mut store, alloc)?;
-    let found = find_letter(&root, &mut store, alloc, b'v')?;
+fn is_created(store: &mut Store, alloc: Global) -> Result<[bool; 2], Fail> {
+    let root = create_empty(store, alloc)?;
+    let found = find_letter(&root, store, alloc, b'v')?;
     Ok([root.birth == 1, found.is_none()])
+}
+
+fn is_created_in_memory(alloc: Global) -> Result<[bool; 2], Fail> {
+    let mut store = new_store(alloc)?;
+    is_created(&mut store, alloc)
 }
 
 #[test]
 fn a_root_is_created_with_no_volumes(rt: HostRuntime) -> Result<(), Fail> {
-    assert_eq!(rt; is_created(rt.alloc())?, [true; 2]);
+    assert_eq!(rt; is_created_in_memory(rt.alloc())?, [true; 2]);
     Ok(())
 }

@@ -1,6 +1,6 @@
 use Rattle.std.proofs.Common.{◌≡◌, ◌<◌, ◌^◌, All, length}
 use Rattle.dnode_tree.specs.Writes.{AreInOrder}
-use Rattle.tests_objects.proofs.trees.blocks_at.Given as goal
+use Rattle.tests_trees.proofs.trees.blocks_at.Given as goal
 
 -- the blocks so far lie before the next one
 abbrev pub invariant-loop : goal.invariant-loop

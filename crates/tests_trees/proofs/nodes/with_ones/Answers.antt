@@ -1,6 +1,6 @@
 use Rattle.std.proofs.Common.{arith}
 use Rattle.dnode_tree.specs.declared.writes.BlockWrite.{BlockWrite}
-use Rattle.tests_objects.proofs.nodes.with_ones.Goals as goal
+use Rattle.tests_trees.proofs.nodes.with_ones.Goals as goal
 
 pub returns-clause-highest : goal.returns-clause-highest
 returns-clause-highest c =

@@ -3,7 +3,7 @@ use Rattle.std.proofs.lemmas.List.Elements.{All-push}
 use Rattle.std.proofs.lemmas.List.Quantifiers.{all_pairs_push}
 use Rattle.dnode_tree.specs.declared.writes.BlockWrite.{BlockWrite}
 use Rattle.dnode_tree.specs.Writes.{AreInOrder}
-use Rattle.tests_objects.proofs.trees.blocks_at.Goals as goal
+use Rattle.tests_trees.proofs.trees.blocks_at.Goals as goal
 
 all_below : (writes : List BlockWrite) (id step : ℕ) → All (λ write. write.id < id) writes → All (λ write. write.id < id + step) writes
 all_below writes id step below k d within = let one = below k d within in omega (arith, one)
