@@ -77,6 +77,8 @@ backs_kept s v w k backs = record {
       once = backs.blocks.reached.once;
       only = backs.blocks.reached.only;
       held = backs.blocks.reached.held;
+      accounted = backs.blocks.reached.accounted;
+      released = backs.blocks.reached.released;
     };
     plan_reached = reach_kept s v w backs s.planned k backs.blocks.plan backs.blocks.plan_reached;
   };
