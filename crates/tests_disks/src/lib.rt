@@ -1,5 +1,5 @@
 //! Tests of the RAID and of the disks below the blocks: the field and its kernels, the layout and the parity of a block,
-//! disks and arrays of them, blocks on an array, and blocks by pointer. They stand together, so that what they reach is proved once with them.
+//! disks and arrays of them, disks in the order of a pool's children, blocks on an array, and blocks by pointer. They stand together, so that what they reach is proved once with them.
 #![tactic(auto)]
 
 #[cfg(test)]
@@ -14,6 +14,8 @@ mod fields;
 mod lanes;
 #[cfg(test)]
 mod layouts;
+#[cfg(test)]
+mod members;
 #[cfg(test)]
 mod opened_blocks;
 #[cfg(test)]

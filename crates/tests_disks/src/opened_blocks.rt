@@ -5,7 +5,9 @@ use crate::stored_blocks::{
     NEVER, SMALL_DISK, TestDisk, TestStore, disks, pattern, property, vdev, write_due,
 };
 use block_pointer::{Block, Copies};
-use block_store::{Asked, BlockStore, CopyCount, NewBlock, Refusal};
+use block_store::{Asked, BlockStore, CopyCount, NewBlock, Refusal, VdevShape, sectors_for_blocks};
+use model_disk::DiskArray;
+use raidz_io::Vdev;
 use std::alloc::{AllocError, Global};
 use std::test::Fail;
 
@@ -138,5 +140,80 @@ fn what_is_not_free_is_refused(rt: HostRuntime) -> Result<(), Fail> {
     let refused = Some(Refusal::BadPointer);
     let answers = answers(&mut store, blocks);
     assert_eq!(rt; answers, [None, refused, refused, refused]);
+    Ok(())
+}
+
+/// The vdev of that store, as a configuration tells it.
+fn small_shape() -> Result<VdevShape, Fail> {
+    let config = vdev(3, 1, 12)?;
+    let child_sectors = match sectors_for_blocks(SMALL_DISK as u64) {
+        Some(sectors) => sectors,
+        None => 0,
+    };
+    Ok(VdevShape {
+        vdev: Vdev {
+            geometry: config.geometry,
+            first: 0,
+        },
+        child_sectors,
+        metaslab_shift: 12,
+    })
+}
+
+/// The array of a store that wrote two blocks.
+fn written(alloc: Global) -> Result<(DiskArray<TestDisk>, [Block; 2]), Fail> {
+    let empty = disks(alloc, &[SMALL_DISK; 3], NEVER)?;
+    let mut store = small_store(alloc, empty)?;
+    let blocks = write_two(&mut store, alloc)?;
+    Ok((store.into_array(), blocks))
+}
+
+/// Whether two blocks are read.
+fn are_read(store: &mut TestStore, alloc: Global, blocks: &[Block; 2]) -> Result<bool, AllocError> {
+    let first = is_read(store, alloc, &blocks[0], SEEDS[0])?;
+    Ok(first && is_read(store, alloc, &blocks[1], SEEDS[1])?)
+}
+
+/// A store that is opened over that array with these disks out: whether the blocks are read before they are taken in, and what
+/// is read once a block was written behind them.
+fn reopened(alloc: Global, out: &[bool]) -> Result<(bool, [bool; 3]), Fail> {
+    let shape = small_shape()?;
+    let (disks, blocks) = written(alloc)?;
+    let mut store = BlockStore::opened(alloc, disks, &[shape], out)?;
+    let before = are_read(&mut store, alloc, &blocks)?;
+    Ok((before, go_on(&mut store, alloc, &blocks, &blocks)?))
+}
+
+/// Why it is not opened with marks for two disks.
+fn not_opened(alloc: Global) -> Result<Option<Refusal>, Fail> {
+    let shape = small_shape()?;
+    let (disks, _) = written(alloc)?;
+    Ok(BlockStore::opened(alloc, disks, &[shape], &[false; 2]).err())
+}
+
+#[test]
+fn an_array_is_opened(rt: HostRuntime) -> Result<(), Fail> {
+    assert_eq!(rt; reopened(rt.alloc(), &[false; 3])?, (true, [true; 3]));
+    assert_eq!(rt;
+        reopened(rt.alloc(), &[false, true, false])?,
+        (true, [true; 3])
+    );
+    assert_eq!(rt; not_opened(rt.alloc())?, Some(Refusal::BadConfig));
+    Ok(())
+}
+
+/// The size of a disk that is there.
+fn size_of_disk(store: &TestStore, disk: usize) -> Option<u64> {
+    if disk >= store.disk_count() {
+        return None;
+    }
+    Some(store.disk_size(disk))
+}
+
+#[test]
+fn a_store_tells_the_sizes_of_its_disks(rt: HostRuntime) -> Result<(), Fail> {
+    let (store, _) = opened(rt.alloc())?;
+    assert_eq!(rt; size_of_disk(&store, 2), Some(SMALL_DISK as u64));
+    assert_eq!(rt; size_of_disk(&store, 3), None);
     Ok(())
 }

@@ -1,0 +1,112 @@
+//! Disks in the order of a pool's children, some of which are absent.
+use model_disk::{Disk, DiskArray, MemDisk, Member};
+use pool_members::{Arranged, Child, Refusal, arrange};
+use std::alloc::{AllocError, Global};
+use std::test::Fail;
+
+/// Three disks in memory of 16 bytes each: sevens, eights and nines.
+fn three(alloc: Global) -> Result<Vec<MemDisk>, AllocError> {
+    let mut disks = Vec::with_capacity(alloc, 3)?;
+    for byte in 7..10 {
+        disks.push(MemDisk::holding(vec![in alloc; byte; 16]?))?;
+    }
+    Ok(disks)
+}
+
+fn there(place: usize) -> Child {
+    Child {
+        disk: Some(place),
+        size: 0,
+    }
+}
+
+fn absent(size: u64) -> Child {
+    Child { disk: None, size }
+}
+
+/// The last of them, none, and the first.
+fn arranged(alloc: Global) -> Result<Arranged<MemDisk>, Refusal> {
+    arrange(alloc, three(alloc)?, &[there(2), absent(40), there(0)])
+}
+
+/// The size of a disk and its first byte, where it can be read.
+fn show(disks: &mut DiskArray<Member<MemDisk>>, which: usize) -> (u64, Option<u8>) {
+    if which >= disks.len() {
+        return (0, None);
+    }
+    let size = disks.size(which);
+    let mut byte = [0];
+    if size == 0 || disks.read(which, 0, &mut byte).is_err() {
+        return (size, None);
+    }
+    (size, Some(byte[0]))
+}
+
+/// What each of them shows.
+fn shown(alloc: Global) -> Result<[(u64, Option<u8>); 3], Refusal> {
+    let mut disks = DiskArray::new(arranged(alloc)?.disks);
+    Ok([
+        show(&mut disks, 0),
+        show(&mut disks, 1),
+        show(&mut disks, 2),
+    ])
+}
+
+/// Whether a write of nothing and a flush fail.
+fn fails<D: Disk>(disk: &mut D) -> [bool; 2] {
+    [disk.write_at(0, &[]).is_err(), disk.flush().is_err()]
+}
+
+/// The first byte of the disk in a member, if there is one.
+fn byte_in(member: Member<MemDisk>) -> Option<u8> {
+    match member.into_disk() {
+        Some(disk) => disk.bytes().first().copied(),
+        None => None,
+    }
+}
+
+fn why(alloc: Global, children: &[Child]) -> Result<Option<Refusal>, AllocError> {
+    match arrange(alloc, three(alloc)?, children) {
+        Ok(_) => Ok(None),
+        Err(refusal) => Ok(Some(refusal)),
+    }
+}
+
+#[test]
+fn disks_are_put_in_order(rt: HostRuntime) -> Result<(), Fail> {
+    let held = shown(rt.alloc())?;
+    assert_eq!(rt; held, [(16, Some(9)), (40, None), (16, Some(7))]);
+    Ok(())
+}
+
+#[test]
+fn absent_disks_are_marked(rt: HostRuntime) -> Result<(), Fail> {
+    let out = arranged(rt.alloc())?.out;
+    assert_eq!(rt; out.as_slice(), [false, true, false].as_slice());
+    Ok(())
+}
+
+#[test]
+fn calls_on_an_absent_disk_fail(rt: HostRuntime) -> Result<(), Fail> {
+    let mut disk: Member<MemDisk> = Member::absent(8);
+    assert_eq!(rt; fails(&mut disk), [true, true]);
+    assert!(rt; disk.is_absent());
+    Ok(())
+}
+
+#[test]
+fn disks_are_given_back(rt: HostRuntime) -> Result<(), Fail> {
+    let last = arranged(rt.alloc())?.disks.pop().and_then(byte_in);
+    assert_eq!(rt; last, Some(7));
+    assert_eq!(rt; byte_in(Member::absent(8)), None);
+    Ok(())
+}
+
+#[test]
+fn each_disk_is_named_once(rt: HostRuntime) -> Result<(), Fail> {
+    let twice = why(rt.alloc(), &[there(1), absent(8), there(1)])?;
+    assert_eq!(rt; twice, Some(Refusal::NotEachOnce));
+    let past = why(rt.alloc(), &[there(3)])?;
+    assert_eq!(rt; past, Some(Refusal::NotEachOnce));
+    Ok(())
+}
