@@ -1,6 +1,6 @@
 -- Which block each sector in use is in, as places are taken, given back and settled.
-use Rattle.std.proofs.Common.{Bool, true, false, if◌then◌else◌, ℕ, zero, suc, ◌≡◌, ◌⊎◌, inl, inr, ◌+◌, ◌<◌, ◌≤◌, Some, None, List, [], ◌∷◌, ◌++◌, length, refl, sym, ap, subst, ◌∙◌, arith}
-use Rattle.std.specs.Prelude.{slice_set, Contains, IsTrue}
+use Rattle.std.proofs.Common.{Bool, true, false, if◌then◌else◌, ℕ, zero, suc, ◌≡◌, ◌⊎◌, inl, inr, ◌<◌, Some, List, [], ◌∷◌, ◌++◌, length, refl, sym, ap, subst, ◌∙◌, arith}
+use Rattle.std.specs.Prelude.{slice_set, Contains}
 use Rattle.std.specs.List.{slice_get}
 use Rattle.std.proofs.lemmas.Bool.{cases_eq}
 use Rattle.std.proofs.lemmas.Option.{slice_get_within}
@@ -15,9 +15,9 @@ use Rattle.metaslab.specs.Space.{Space, state, sectors_of}
 use Rattle.metaslab.specs.State.{State, Free, InUse, Released, settled, is_due}
 use Rattle.metaslab_group.specs.Spaces.{ChangesIn}
 use Rattle.block_store.specs.declared.shape.VdevShape.{VdevShape}
-use Rattle.block_store.specs.Accounts.{SectorAt, IsUsed, HasSector, IsOfNew, AreAccounted}
+use Rattle.block_store.specs.Accounts.{SectorAt, IsUsed, HasSector, AreAccounted}
 use Rattle.block_store.specs.Blocks.{Contents}
-use Rattle.block_store.specs.Places.{Marks, shapes_of, run_at, HaveMarks, IsTakenToo, AreChosen}
+use Rattle.block_store.specs.Places.{Marks, shapes_of, run_at, HaveMarks, AreChosen}
 use Rattle.block_store.specs.Places.{filled as filled_marks, planned as planned_marks}
 use Rattle.block_store.specs.Releases.{CopyAt, IsReleased, AreReleased, AreSettledIn}
 use Rattle.block_store.specs.Shapes.{metaslab_of}

@@ -21,14 +21,14 @@ use Rattle.block_store.specs.Spaces.{VdevSpace}
 use Rattle.block_store.specs.Places.{shapes_of, IsTaken, IsPlaceIn, IsCopy, IsExtentAt, ArePlacesApart, AreChosen}
 use Rattle.block_store.specs.Places.{filled as filled_marks, planned as planned_marks}
 use Rattle.block_store.specs.Plans.{Plans, KeepsPlans, IsOnTheWay, IsDueFor, AreWritesAt}
-use Rattle.block_store.specs.Store.{Store, Spans, Keeps, IsStore, outs, outs_from, ArePlaced}
+use Rattle.block_store.specs.Store.{Store, Spans, Keeps, KeepsStored, IsStore, outs, outs_from, ArePlaced}
 use Rattle.block_store.proofs.Accounting.{chosen_uses, used_after, has_too, has_sector, on_place_too}
 use Rattle.block_store.proofs.Lost.{lose_same}
-use Rattle.block_store.proofs.Planning.{IsSameBut, keeps_by, marks_by_map, some_or_none}
+use Rattle.block_store.proofs.Planning.{IsSameBut, grows_by, holds_by, keeps_by, marks_by_map, some_or_none, stores_grown}
 use Rattle.block_store.proofs.ReadingPlaces.{place_fits}
 use Rattle.block_store.proofs.SameBlock.{same_block, block_is, block_itself}
 use Rattle.block_store.proofs.Sizes.{asize_some}
-use Rattle.block_store.proofs.Taking.{AreTakenToo, are_taken, taken_some, taken_too, placed_too, copy_too, turned}
+use Rattle.block_store.proofs.Taking.{AreTakenToo, Grows, are_taken, taken_some, taken_too, placed_too, copy_too, turned}
 use Rattle.block_store.specs.Uses.{LiesOn, IsInUse}
 use Rattle.block_store.proofs.Uses.{lies_chosen, chosen_in_use}
 use Rattle.block_store.proofs.Writing.{found_at}
@@ -207,6 +207,21 @@ their_way old new block bytes places writes their_writes extent known is way = r
       ];
 }
 
+-- places that are chosen fill nothing, and what is held and stored stays so, whatever is due
+chosen_grows : (spaces : List VdevSpace) (sectors : ℕ) (places : List Dva) (after : List VdevSpace) → AreChosen spaces [] sectors places after
+    → Grows spaces after filled_marks filled_marks
+chosen_grows spaces sectors places after chosen =
+    let taken : AreTakenToo spaces sectors places after = are_taken spaces [] sectors places after chosen in
+    grows_by spaces after filled_marks filled_marks taken.grows.shapes (marks_by_map filled_marks spaces after taken.filled_stays)
+
+pub chosen_keeps : (old new : Store) (sectors : ℕ) (places : List Dva) → new.disks ≡ old.disks → new.out ≡ old.out → new.spans ≡ old.spans
+    → AreChosen old.spaces [] sectors places new.spaces → Keeps old new
+chosen_keeps old new sectors places disks out spans chosen =
+    holds_by old new disks (lose_same old new out spans) (are_taken old.spaces [] sectors places new.spaces chosen).grows.shapes
+
+pub chosen_stores : (old new : Store) (sectors : ℕ) (places : List Dva) → AreChosen old.spaces [] sectors places new.spaces → Keeps old new → KeepsStored old new
+chosen_stores old new sectors places chosen keeps = stores_grown old new keeps (chosen_grows old.spaces sectors places new.spaces chosen)
+
 -- the block is planned
 pub added : (old new : Store) (block : Block) (bytes : List ℕ) (places : List Dva) (writes : List ColumnWrite) (stored planned : Contents)
     → IsNewBlock old new block bytes places writes → Plans old stored planned → (later : Contents) × Plans new stored later × Adds planned later block bytes
@@ -217,13 +232,8 @@ added old new block bytes places writes stored planned is plans =
     let of_copies : Block → ℕ → List ColumnWrite = with_copies block is.writes_at.copies plans.writes_of in (
       later,
       record {
-        held = keeps_by old new (record {
-          disks = is.disks;
-          out = is.out;
-          more_lost = lose_same old new is.out is.spans;
-          shapes = taken.grows.shapes;
-          are = marks_by_map filled_marks old.spaces new.spaces taken.filled_stays;
-        }) stored plans.held;
+        held = chosen_keeps old new block.property.sectors places is.disks is.out is.spans is.chosen stored plans.held;
+        stored_placed = placed_too old.spaces new.spaces filled_marks filled_marks stored (chosen_grows old.spaces block.property.sectors places new.spaces is.chosen) plans.stored_placed;
         kept = λ other known found. still_known block other bytes known planned fresh (plans.kept other known found);
         placed = placed_with old new block bytes places writes planned is plans.placed;
         born = λ other known found unknown. elim (this_or_known block other bytes known planned found) [
@@ -338,21 +348,8 @@ took_same old new sectors places took =
       are = marks_by_map filled_marks old.spaces new.spaces taken.filled_stays;
     }
 
--- what is stored is so where a plan took places, whatever is due
-pub chosen_keeps : (old new : Store) (sectors : ℕ) (places : List Dva) → new.disks ≡ old.disks → new.out ≡ old.out → new.spans ≡ old.spans
-    → AreChosen old.spaces [] sectors places new.spaces → Keeps old new
-chosen_keeps old new sectors places disks out spans chosen stored holds =
-    let taken : AreTakenToo old.spaces sectors places new.spaces = are_taken old.spaces [] sectors places new.spaces chosen in
-    keeps_by old new (record {
-      disks = disks;
-      out = out;
-      more_lost = lose_same old new out spans;
-      shapes = taken.grows.shapes;
-      are = marks_by_map filled_marks old.spaces new.spaces taken.filled_stays;
-    }) stored holds
-
 pub took_keeps : (old new : Store) (sectors : ℕ) (places : List Dva) → OnlyTook old new sectors places → Keeps old new
-took_keeps old new sectors places took stored holds = keeps_by old new (took_same old new sectors places took) stored holds
+took_keeps old new sectors places took = keeps_by old new (took_same old new sectors places took)
 
 pub chosen_shapes : (spaces : List VdevSpace) (sectors : ℕ) (places : List Dva) (after : List VdevSpace) → AreChosen spaces [] sectors places after
     → shapes_of after ≡ shapes_of spaces
@@ -366,6 +363,7 @@ took_keeps_plans old new sectors places took stray stored planned plans =
     let taken : AreTakenToo old.spaces sectors places new.spaces = are_taken old.spaces [] sectors places new.spaces took.chosen in
     record {
       held = took_keeps old new sectors places took stored plans.held;
+      stored_placed = placed_too old.spaces new.spaces filled_marks filled_marks stored (chosen_grows old.spaces sectors places new.spaces took.chosen) plans.stored_placed;
       kept = plans.kept;
       placed = placed_too old.spaces new.spaces planned_marks planned_marks planned taken.grows plans.placed;
       born = λ block bytes known fresh. omega (arith, plans.born block bytes known fresh, ap (λ (s : Spans). s.group) took.spans);

@@ -2,23 +2,16 @@
 use Rattle.std.proofs.Common.{ℕ, ◌≡◌, ◌≤◌, Contains, sym, ap, subst}
 use Rattle.model_disk.specs.Joint.{Disks, content}
 use Rattle.raidz_io.proofs.Kept.{stands_while_kept, more_absent}
-use Rattle.block_store.specs.Places.{shapes_of, HaveMarks}
-use Rattle.block_store.specs.Places.{filled as filled_marks}
+use Rattle.block_store.specs.Places.{shapes_of}
 use Rattle.block_store.specs.Plans.{KeepsPlans}
 use Rattle.block_store.specs.Store.{Store, Keeps, in_group, outs_from}
 use Rattle.block_store.proofs.Kept.{IsKept, keeps_plans}
 use Rattle.block_store.proofs.Lost.{lose_in}
-use Rattle.block_store.proofs.Planning.{keeps_by, same_marks}
+use Rattle.block_store.proofs.Planning.{holds_by}
 
 pub entered : (old new : Store) (group : ℕ) → new.disks ≡ old.disks → new.out ≡ old.out → new.spaces ≡ old.spaces → new.spans ≡ in_group old.spans group
     → Keeps old new
-entered old new group disks out spaces spans stored holds = keeps_by old new (record {
-  disks = disks;
-  out = out;
-  more_lost = lose_in old new group out spans;
-  shapes = ap shapes_of spaces;
-  are = subst (λ them. HaveMarks old.spaces filled_marks them filled_marks) (sym spaces) (same_marks old.spaces filled_marks);
-}) stored holds
+entered old new group disks out spaces spans = holds_by old new disks (lose_in old new group out spans) (ap shapes_of spaces)
 
 pub entered_plans : (old new : Store) (group : ℕ) → new.disks ≡ old.disks → new.out ≡ old.out → new.spaces ≡ old.spaces → new.due ≡ old.due
     → new.stray ≡ old.stray → new.spans ≡ in_group old.spans group → new.spans.group ≤ old.spans.group → KeepsPlans old new

@@ -1,14 +1,13 @@
 -- Fewer blocks are known.
-use Rattle.std.proofs.Common.{ℕ, ◌≡◌, inl, inr, Some, None, List, Contains, sym, subst, ◌∙◌}
-use Rattle.raidz_io.specs.declared.writes.ColumnWrite.{ColumnWrite}
+use Rattle.std.proofs.Common.{ℕ, ◌≡◌, inl, inr, Some, None, List, sym, subst, ◌∙◌}
 use Rattle.raidz_io.proofs.Written.{same_some}
 use Rattle.block_pointer.specs.declared.block.Block.{Block}
 use Rattle.block_store.specs.Spaces.{VdevSpace}
 use Rattle.block_store.specs.Blocks.{Contents, Extends}
 use Rattle.block_store.specs.Forgetting.{FewerAreHeld, FewerArePlanned, Forgets}
 use Rattle.block_store.specs.Places.{Marks}
-use Rattle.block_store.specs.Store.{Store, ArePlaced}
-use Rattle.block_store.proofs.Planning.{some_or_none, nothing}
+use Rattle.block_store.specs.Store.{Store, ArePlaced, Holds}
+use Rattle.block_store.proofs.Planning.{some_or_none}
 use Rattle.block_store.proofs.Writing.{some_is_not_none}
 
 fewer_placed : (spaces : List VdevSpace) (marks : Marks) (known fewer : Contents) → Extends fewer known → ArePlaced spaces marks known → ArePlaced spaces marks fewer
@@ -19,11 +18,18 @@ fewer_placed spaces marks known fewer of placed = record {
       placed.apart block other bytes others i k place behind (of block bytes is) (of other others is') at at';
 }
 
-pub fewer_held : FewerAreHeld
+pub fewer_held : (store : Store) (stored fewer : Contents) → Extends fewer stored → Holds store stored → Holds store fewer
 fewer_held store stored fewer of holds = record {
-  placed = fewer_placed store.spaces _ stored fewer of holds.placed;
+  blocks = λ block bytes known. holds.blocks block bytes (of block bytes known);
+  places = λ block bytes known. holds.places block bytes (of block bytes known);
   stand = λ block bytes i extent known copy. holds.stand block bytes i extent (of block bytes known) copy;
 }
+
+pub fewer_are_held : FewerAreHeld
+fewer_are_held store stored fewer of = (
+  fewer_held store stored fewer of,
+  λ stores. record { held = fewer_held store stored fewer of stores.held; placed = fewer_placed store.spaces _ stored fewer of stores.placed },
+)
 
 -- a block that is left, and was not forgotten as a stored one, was not stored
 left_is_new : (store : Store) (stored planned fewer left : Contents) → Forgets store stored planned fewer left → Extends stored planned
@@ -45,6 +51,7 @@ not_fewer stored fewer of block fresh = elim (some_or_none (fewer block)) [
 pub fewer_planned : FewerArePlanned
 fewer_planned store stored planned fewer left forgets plans = record {
   held = fewer_held store stored fewer forgets.of_stored plans.held;
+  stored_placed = fewer_placed store.spaces _ stored fewer forgets.of_stored plans.stored_placed;
   kept = forgets.kept;
   placed = fewer_placed store.spaces _ planned left forgets.of_planned plans.placed;
   born = λ block bytes known fresh.

@@ -1,5 +1,5 @@
 -- Copies that are given back.
-use Rattle.std.proofs.Common.{Bool, ℕ, zero, suc, ◌≡◌, ◌⊎◌, inl, inr, ◌+◌, ◌<◌, ◌≤◌, Option, Some, None, Result, Ok, Err, List, [], ◌∷◌, ◌++◌, length, refl, sym, ap, subst, ◌∙◌, arith}
+use Rattle.std.proofs.Common.{Bool, ℕ, zero, suc, ◌≡◌, ◌⊎◌, inl, inr, ◌<◌, Some, Result, Ok, Err, List, [], ◌∷◌, ◌++◌, length, refl, sym, ap, subst, ◌∙◌, arith}
 use Rattle.std.specs.Prelude.{slice_set, map, Contains, ◌≢◌, IsTrue, OnOk, OnErr, IfErr, IsErrAnd}
 use Rattle.std.specs.List.{slice_get}
 use Rattle.std.proofs.lemmas.List.{append_assoc, append-nil}
@@ -9,8 +9,6 @@ use Rattle.block_pointer.specs.declared.block.Block.{Block}
 use Rattle.block_pointer.specs.declared.dva.Dva.{Dva}
 use Rattle.block_pointer.specs.Copies.{dvas}
 use Rattle.block_pointer.specs.declared.copies.Copies.TheVariants.{One}
-use Rattle.raidz_io.specs.declared.vdev.Extent.{Extent}
-use Rattle.raidz_io.specs.declared.writes.ColumnWrite.{ColumnWrite}
 use Rattle.raidz_io.specs.Stands.{IsDone}
 use Rattle.raidz_io.proofs.Written.{same_some}
 use Rattle.metaslab.specs.State.{State, Free, InUse, Released}
@@ -21,13 +19,13 @@ use Rattle.block_store.specs.Blocks.{Contents, AreStored, AreDistinct}
 use Rattle.block_store.specs.Spaces.{VdevSpace}
 use Rattle.block_store.specs.Places.{Marks, shapes_of, HaveMarks, run_at, EachSector, IsNotFree, IsTaken, ArePlacesApart}
 use Rattle.block_store.specs.Places.{filled as filled_marks, planned as planned_marks}
-use Rattle.block_store.specs.Plans.{Plans, IsOnTheWay}
+use Rattle.block_store.specs.Plans.{Plans}
 use Rattle.block_store.specs.Releases.{CopyAt, copies_at, copies_of, copies_of_all, IsReleased, AreReleased, AreReleasedInPart, IsNotReleasable, AreAllInUse}
 use Rattle.block_store.specs.Shapes.{metaslab_of, IsPlace}
 use Rattle.block_store.specs.Store.{Store, Spans, outs, outs_from, ArePlaced}
 use Rattle.block_store.specs.Uses.{LiesOn, CopiesLieOn, Passes, IsInUse}
 use Rattle.block_store.proofs.Accounting.{in_use_before, used_after, has_too}
-use Rattle.block_store.proofs.Planning.{IsSameBut, same_but, keeps_by, marks_by_map, some_or_none, no_contents}
+use Rattle.block_store.proofs.Planning.{IsSameBut, same_but, keeps_by, stored_by, stores_kept, marks_by_map, no_contents}
 use Rattle.block_store.proofs.Taking.{map-set_same, copy_too}
 use Rattle.block_store.proofs.Uses.{lies_released}
 
@@ -124,6 +122,7 @@ released_plans old new blocks copies group stored planned is of stored_are plans
     let shapes : shapes_of new.spaces ≡ shapes_of old.spaces = released_shapes old.spaces copies group new.spaces is.released in
     record {
       held = keeps_by old new (released_same old new copies group is) stored plans.held;
+      stored_placed = (stores_kept old new (released_same old new copies group is) stored (stored_by old stored planned plans)).placed;
       kept = plans.kept;
       placed = record {
         blocks = plans.placed.blocks;

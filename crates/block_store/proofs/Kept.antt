@@ -1,19 +1,20 @@
 -- What is stored and planned stays so where no byte of a disk is another.
-use Rattle.std.proofs.Common.{ℕ, ◌≡◌, inl, inr, ◌+◌, ◌<◌, ◌≤◌, Some, List, length, Contains, sym, subst, ◌∙◌, arith}
+use Rattle.std.proofs.Common.{ℕ, ◌≡◌, inl, inr, ◌+◌, ◌<◌, ◌≤◌, List, length, Contains, sym, subst, ◌∙◌, arith}
 use Rattle.model_disk.specs.Joint.{content}
 use Rattle.raidz_io.specs.declared.vdev.Extent.{Extent}
 use Rattle.raidz_io.specs.declared.writes.ColumnWrite.{ColumnWrite}
 use Rattle.raidz_io.specs.Elsewhere.{StandsWhileKept, StandsWithMoreAbsent, IsOfExtent}
 use Rattle.raidz_io.specs.Stands.{IsDone, IsColumnWrite}
 use Rattle.block_pointer.specs.declared.block.Block.{Block}
+use Rattle.block_pointer.specs.Copies.{dvas}
 use Rattle.block_store.specs.Spaces.{VdevSpace}
-use Rattle.block_store.specs.Blocks.{Contents}
 use Rattle.block_store.specs.Elsewhere.{IsForBlocks}
-use Rattle.block_store.specs.Places.{Marks, filled, IsCopy}
+use Rattle.block_store.specs.Places.{IsCopy, ArePlacesIn}
 use Rattle.block_store.specs.Places.{planned as planned_marks}
 use Rattle.block_store.specs.Plans.{IsOnTheWay, IsDueFor, KeepsPlans}
-use Rattle.block_store.specs.Store.{Store, outs, lost, ArePlaced, Keeps}
+use Rattle.block_store.specs.Store.{Store, outs, lost, Keeps}
 use Rattle.block_store.proofs.Lost.{LoseMore}
+use Rattle.block_store.proofs.Planning.{placed_lies, is_among}
 use Rattle.block_store.proofs.Sectors.{lie_in_sectors}
 use Rattle.block_store.proofs.Writing.{found_at}
 
@@ -27,21 +28,21 @@ pub record IsKept (old new : Store) : Type 0 where
   pub more_lost : LoseMore old new
   pub group : new.spans.group ≤ old.spans.group
 
--- a byte of a copy that is placed is one for blocks
-for_blocks : (spaces : List VdevSpace) (marks : Marks) (contents : Contents) (block : Block) (bytes : List ℕ) (k : ℕ) (extent : Extent) (disk i : ℕ)
-    → ArePlaced spaces marks contents → contents block ≡ Some bytes → IsCopy spaces block k extent → IsOfExtent extent disk i → IsForBlocks spaces disk i
-for_blocks spaces marks contents block bytes k extent disk i placed known copy of =
-    let taken = placed.places block bytes k copy.place known copy.is_copy in
-    lie_in_sectors spaces block.property.sectors copy.place extent disk i (record { space = taken.space; found = taken.found; is_place = taken.is_place }) copy.extent_is of
+-- a byte of a copy that lies in a place of the pool is one for blocks
+for_blocks : (spaces : List VdevSpace) (block : Block) (k : ℕ) (extent : Extent) (disk i : ℕ) → ArePlacesIn spaces block.property.sectors (dvas block.copies)
+    → IsCopy spaces block k extent → IsOfExtent extent disk i → IsForBlocks spaces disk i
+for_blocks spaces block k extent disk i places copy of =
+    lie_in_sectors spaces block.property.sectors copy.place extent disk i (places copy.place (is_among (dvas block.copies) k copy.place copy.is_copy)) copy.extent_is of
 
 pub keeps : StandsWhileKept → StandsWithMoreAbsent → (old new : Store) → IsKept old new → Keeps old new
 keeps kept more old new is stored holds = record {
-  placed = rw is.spaces holds.placed;
+  blocks = holds.blocks;
+  places = rw is.spaces holds.places;
   stand = λ block bytes i extent known copy.
       let copy_was : IsCopy old.spaces block i extent = rw (sym is.spaces) copy in
       more (content new.disks) (lost old block.birth) (lost new block.birth) extent bytes (is.more_lost block.birth)
       (kept (content old.disks) (content new.disks) (lost old block.birth) extent bytes
-      (λ disk j of. is.contents disk j (for_blocks old.spaces filled stored block bytes i extent disk j holds.placed known copy_was of))
+      (λ disk j of. is.contents disk j (for_blocks old.spaces block i extent disk j (holds.places block bytes known) copy_was of))
       (holds.stand block bytes i extent known copy_was));
 }
 
@@ -80,6 +81,7 @@ way_still old new writes extent bytes is for way = record {
 pub keeps_plans : StandsWhileKept → StandsWithMoreAbsent → (old new : Store) → IsKept old new → KeepsPlans old new
 keeps_plans kept more old new is stored planned plans = record {
   held = keeps kept more old new is stored plans.held;
+  stored_placed = rw is.spaces plans.stored_placed;
   kept = plans.kept;
   placed = rw is.spaces plans.placed;
   born = λ block bytes known fresh. omega (arith, plans.born block bytes known fresh, is.group);
@@ -89,7 +91,7 @@ keeps_plans kept more old new is stored planned plans = record {
   on_the_way = λ block bytes i extent known fresh copy.
       let copy_was : IsCopy old.spaces block i extent = rw (sym is.spaces) copy in
       way_still old new (plans.writes_of block i) extent bytes is
-      (λ disk j of. for_blocks old.spaces planned_marks planned block bytes i extent disk j plans.placed known copy_was of)
+      (λ disk j of. for_blocks old.spaces block i extent disk j (placed_lies old.spaces planned_marks planned plans.placed block bytes known) copy_was of)
       (plans.on_the_way block bytes i extent known fresh copy_was);
   due = λ write later.
       let was : IsDueFor old stored planned plans.writes_of write = plans.due write (subst (λ (writes : List ColumnWrite). Contains writes write) is.due later) in

@@ -13,6 +13,7 @@ pub mod Kept
 pub mod Losses
 pub mod Lost
 pub mod Making
+pub mod Reopening
 pub mod Outs
 pub mod Planning
 pub mod ReadingCopy

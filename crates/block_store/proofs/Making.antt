@@ -16,10 +16,10 @@ use Rattle.block_store.specs.declared.shape.VdevShape.{VdevShape}
 use Rattle.block_store.specs.Spaces.{VdevSpace}
 use Rattle.block_store.specs.Blocks.{nothing_stored}
 use Rattle.block_store.specs.Config.{IsAllowedSize, sectors_of, size_of, AreAllowedSizes, IsLeastOf, IsShapeOf, AreShapes}
-use Rattle.block_store.specs.Places.{shapes_of, IsEmpty, AreEmpty, HaveMarks}
+use Rattle.block_store.specs.Places.{Marks, shapes_of, IsEmpty, AreEmpty, HaveMarks}
 use Rattle.block_store.specs.Places.{filled as filled_marks, planned as planned_marks}
 use Rattle.block_store.specs.Plans.{Plans}
-use Rattle.block_store.specs.Store.{Store, IsStore, Holds}
+use Rattle.block_store.specs.Store.{Store, IsStore, ArePlaced, Holds, Stores}
 use Rattle.block_store.proofs.Accounting.{none_new}
 
 -- the disks from the first on and before the end are of allowed sizes, and so many sectors are the fewest of one of them
@@ -73,7 +73,7 @@ first_and_rest starts first config configs [] are = absurd are
 first_and_rest starts first config configs (shape ∷ rest) are = record { shape = shape; rest = rest; is_shape = are.0; are_rest = are.1 }
 
 -- a space more
-shapes_of-push : (spaces : List VdevSpace) (space : VdevSpace) (rest : List VdevShape)
+pub shapes_of-push : (spaces : List VdevSpace) (space : VdevSpace) (rest : List VdevShape)
     → shapes_of (spaces ++ space ∷ []) ++ rest ≡ shapes_of spaces ++ (space.shape ∷ rest)
 shapes_of-push [] space rest = refl
 shapes_of-push (other ∷ spaces) space rest = ap (λ xs. other.shape ∷ xs) (shapes_of-push spaces space rest)
@@ -176,7 +176,7 @@ same_count starts first (config ∷ configs) [] are = absurd are
 same_count starts first (config ∷ configs) (here ∷ spaces) are = ap suc (same_count starts (first + config.geometry.children) configs spaces are.1)
 
 -- sectors between the labels of a disk are on it
-on_disk : (size sectors : ℕ) → IsAllowedSize size → sectors ≤ sectors_of size → offset_of_sector sectors ≤ size
+pub on_disk : (size sectors : ℕ) → IsAllowedSize size → sectors ≤ sectors_of size → offset_of_sector sectors ≤ size
 on_disk size sectors allowed least = omega (arith, allowed.least, least)
 
 -- and the vdev has room on its disks
@@ -216,12 +216,24 @@ is_store store configs are few count out spans reached due =
       due = λ write among. let P : List ColumnWrite → Type 0 = λ xs. Contains xs write in absurd (omega (arith, (subst P due among).1));
     }
 
+-- nothing is placed anywhere
+places_nothing : (spaces : List VdevSpace) (marks : Marks) → ArePlaced spaces marks nothing_stored
+places_nothing spaces marks = record {
+  blocks = λ block bytes is. absurd (cc);
+  places = λ block bytes i place is copy. absurd (cc);
+  apart = λ block other bytes others i k place behind is is'. absurd (cc);
+}
+
 -- a store that holds nothing
 holds_nothing : (store : Store) → Holds store nothing_stored
 holds_nothing store = record {
-  placed = record { blocks = λ block bytes is. absurd (cc); places = λ block bytes i place is copy. absurd (cc); apart = λ block other bytes others i k place behind is is'. absurd (cc) };
+  blocks = λ block bytes is. absurd (cc);
+  places = λ block bytes is. absurd (cc);
   stand = λ block bytes i extent is copy. absurd (cc);
 }
+
+pub stores_nothing : (store : Store) → Stores store nothing_stored
+stores_nothing store = record { held = holds_nothing store; placed = places_nothing store.spaces filled_marks }
 
 -- what an empty vdev has without a plan it has with it
 same_marks : (spaces : List VdevSpace) → AreEmpty spaces → HaveMarks spaces filled_marks spaces planned_marks
@@ -232,8 +244,9 @@ same_marks spaces empty v space later found found' =
 pub plans_nothing : (store : Store) → store.due ≡ [] → AreEmpty store.spaces → Plans store nothing_stored nothing_stored
 plans_nothing store due empty = record {
   held = holds_nothing store;
+  stored_placed = places_nothing store.spaces filled_marks;
   kept = λ block bytes is. is;
-  placed = record { blocks = λ block bytes is. absurd (cc); places = λ block bytes i place is copy. absurd (cc); apart = λ block other bytes others i k place behind is is'. absurd (cc) };
+  placed = places_nothing store.spaces planned_marks;
   born = λ block bytes is new. absurd (cc);
   in_use = λ block bytes is new. absurd (cc);
   accounted = λ none. none_new store.spaces nothing_stored nothing_stored (same_marks store.spaces empty);

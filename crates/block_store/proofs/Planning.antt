@@ -6,20 +6,25 @@ use Rattle.std.proofs.lemmas.Bool.{cases_eq}
 use Rattle.std.proofs.lemmas.Option.{slice_get_within}
 use Rattle.model_disk.specs.Joint.{Disks, content}
 use Rattle.block_pointer.specs.declared.block.Block.{Block}
+use Rattle.block_pointer.specs.declared.dva.Dva.{Dva}
+use Rattle.block_pointer.specs.Copies.{dvas}
 use Rattle.raidz_io.specs.declared.vdev.Extent.{Extent}
 use Rattle.raidz_io.specs.declared.writes.ColumnWrite.{ColumnWrite}
 use Rattle.raidz_io.specs.Stands.{ExtentStands, AreDone, IsDone}
 use Rattle.raidz_io.proofs.Written.{same_some}
 use Rattle.block_store.specs.Spaces.{VdevSpace}
 use Rattle.block_store.specs.Blocks.{Contents}
-use Rattle.block_store.specs.Places.{Marks, shapes_of, HaveMarks, IsCopy}
+use Rattle.block_store.specs.declared.shape.VdevShape.{VdevShape}
+use Rattle.block_store.specs.Shapes.{IsPlace}
+use Rattle.block_store.specs.Places.{Marks, shapes_of, HaveMarks, IsCopy, IsPlaceIn, ArePlacesIn}
 use Rattle.block_store.specs.Places.{filled as filled_marks, planned as planned_marks}
 use Rattle.block_store.specs.Plans.{Plans, IsOnTheWay}
-use Rattle.block_store.specs.Store.{Store, outs, lost, ArePlaced, Holds}
+use Rattle.block_store.specs.Store.{Store, outs, lost, ArePlaced, Stores, Keeps, KeepsStored}
 use Rattle.raidz_io.proofs.Kept.{more_absent}
 use Rattle.block_store.proofs.Lost.{LoseMore, lose_same, is_lost}
 use Rattle.block_store.proofs.Accounting.{none_new}
 use Rattle.block_store.proofs.Taking.{Grows, MoreTaken, placed_too, copy_too, found_too, slice_get-set_same, slice_get-set_other}
+use Rattle.block_store.proofs.Writing.{found_at}
 
 pub marks_by_map : (marks : Marks) (spaces after : List VdevSpace) → map marks after ≡ map marks spaces → HaveMarks spaces marks after marks
 marks_by_map marks [] after same v space new found found' = absurd (cc)
@@ -68,19 +73,72 @@ all_below spaces after marks later n all below v space new found found' = below 
 pub same_marks : (spaces : List VdevSpace) (marks : Marks) → HaveMarks spaces marks spaces marks
 same_marks spaces marks v space new found found' = ap marks (same_some new space (sym found' ∙ found))
 
--- a store with the same disks and the same marks holds what it held
-pub held_by : (old new : Store) (marks : Marks) (stored : Contents) → new.disks ≡ old.disks → LoseMore old new → shapes_of new.spaces ≡ shapes_of old.spaces
-    → ArePlaced new.spaces filled_marks stored
-    → ((block : Block) (bytes : List ℕ) (i : ℕ) (extent : Extent) → stored block ≡ Some bytes → IsCopy old.spaces block i extent
-    → ExtentStands (content old.disks) (lost old block.birth) extent bytes)
-    → Holds new stored
-held_by old new marks stored disks more_lost shapes placed stand = record {
-  placed = placed;
-  stand = λ block bytes i extent known copy.
-      let stood = stand block bytes i extent known (copy_too new.spaces old.spaces block i extent (sym shapes) copy) in
-      let P : Disks → Type 0 = λ d. ExtentStands (content d) (lost old block.birth) extent bytes in
-      more_absent (content new.disks) (lost old block.birth) (lost new block.birth) extent bytes (more_lost block.birth) (subst P (sym disks) stood);
+-- ---- what a store holds, and what it stores
+
+-- each column of each copy stands
+abbrev pub AllStand : Store → Contents → Type 0
+AllStand store stored =
+    (block : Block) (bytes : List ℕ) (i : ℕ) (extent : Extent) → stored block ≡ Some bytes → IsCopy store.spaces block i extent
+    → ExtentStands (content store.disks) (lost store block.birth) extent bytes
+
+-- so it does in a store with the same disks and vdevs
+pub stand_by : (old new : Store) (stored : Contents) → new.disks ≡ old.disks → LoseMore old new → shapes_of new.spaces ≡ shapes_of old.spaces
+    → AllStand old stored → AllStand new stored
+stand_by old new stored disks more_lost shapes stand block bytes i extent known copy =
+    let stood = stand block bytes i extent known (copy_too new.spaces old.spaces block i extent (sym shapes) copy) in
+    let P : Disks → Type 0 = λ d. ExtentStands (content d) (lost old block.birth) extent bytes in
+    more_absent (content new.disks) (lost old block.birth) (lost new block.birth) extent bytes (more_lost block.birth) (subst P (sym disks) stood)
+
+pub place_too : (spaces after : List VdevSpace) (sectors : ℕ) (place : Dva) → shapes_of after ≡ shapes_of spaces → IsPlaceIn spaces sectors place → IsPlaceIn after sectors place
+place_too spaces after sectors place shapes is =
+    let there = found_too spaces after place.vdev is.space shapes is.found in
+    record { space = there.0; found = there.1; is_place = subst (λ (shape : VdevShape). IsPlace shape sectors place) (sym there.2) is.is_place }
+
+pub is_among : {X : Type 0} (xs : List X) (k : ℕ) (x : X) → slice_get xs k ≡ Some x → Contains xs x
+is_among [] k x at = absurd (let e : None ≡ Some x = at in cc)
+is_among (y ∷ ys) zero x at = (zero, omega arith, same_some y x at)
+is_among (y ∷ ys) (suc k) x at = let there = is_among ys k x at in (suc there.0, omega (arith, there.1), there.2)
+
+-- copies that are placed lie in places of the pool
+pub placed_lies : (spaces : List VdevSpace) (marks : Marks) (contents : Contents) → ArePlaced spaces marks contents
+    → (block : Block) (bytes : List ℕ) → contents block ≡ Some bytes → ArePlacesIn spaces block.property.sectors (dvas block.copies)
+placed_lies spaces marks contents placed block bytes known place among =
+    let at = found_at (dvas block.copies) place among in
+    let taken = placed.places block bytes at.0 place known at.1 in
+    record { space = taken.space; found = taken.found; is_place = taken.is_place }
+
+-- a store with the same disks and vdevs holds what it held
+pub holds_by : (old new : Store) → new.disks ≡ old.disks → LoseMore old new → shapes_of new.spaces ≡ shapes_of old.spaces → Keeps old new
+holds_by old new disks more_lost shapes stored holds = record {
+  blocks = holds.blocks;
+  places = λ block bytes known place among. place_too old.spaces new.spaces block.property.sectors place shapes (holds.places block bytes known place among);
+  stand = stand_by old new stored disks more_lost shapes holds.stand;
 }
+
+-- and what is placed there it stores
+pub stores_by : (old new : Store) (stored : Contents) → new.disks ≡ old.disks → LoseMore old new → shapes_of new.spaces ≡ shapes_of old.spaces
+    → ArePlaced new.spaces filled_marks stored → AllStand old stored → Stores new stored
+stores_by old new stored disks more_lost shapes placed stand = record {
+  held = record {
+    blocks = placed.blocks;
+    places = placed_lies new.spaces filled_marks stored placed;
+    stand = stand_by old new stored disks more_lost shapes stand;
+  };
+  placed = placed;
+}
+
+-- what a plan stands on is stored
+pub stored_by : (store : Store) (stored planned : Contents) → Plans store stored planned → Stores store stored
+stored_by store stored planned plans = record { held = plans.held; placed = plans.stored_placed }
+
+-- what is kept and grows is stored still
+pub stores_grown : (old new : Store) → Keeps old new → Grows old.spaces new.spaces filled_marks filled_marks → KeepsStored old new
+stores_grown old new keeps grows stored stores =
+    record { held = keeps stored stores.held; placed = placed_too old.spaces new.spaces filled_marks filled_marks stored grows stores.placed }
+
+pub stores_same : (old new : Store) → new.spaces ≡ old.spaces → Keeps old new → KeepsStored old new
+stores_same old new spaces keeps stored stores =
+    record { held = keeps stored stores.held; placed = subst (λ (s : List VdevSpace). ArePlaced s filled_marks stored) (sym spaces) stores.placed }
 
 pub no_contents : {X : Type 0} (x : X) (found : Option X) → found ≡ Some x → ¬ (found ≡ None)
 no_contents x found is none = absurd (let e : Some x ≡ None = sym is ∙ none in cc)
@@ -98,22 +156,26 @@ pub same_but : (old new : Store) (marks later : Marks) → new.disks ≡ old.dis
 same_but old new marks later disks out spans shapes are =
     record { disks = disks; out = out; more_lost = lose_same old new out spans; shapes = shapes; are = are }
 
-pub keeps_by : (old new : Store) → IsSameBut old new filled_marks filled_marks → (stored : Contents) → Holds old stored → Holds new stored
-keeps_by old new same stored holds =
-    held_by old new filled_marks stored same.disks same.more_lost same.shapes
-    (placed_too old.spaces new.spaces filled_marks filled_marks stored (grows_by old.spaces new.spaces filled_marks filled_marks same.shapes same.are) holds.placed)
-    holds.stand
+pub keeps_by : (old new : Store) → IsSameBut old new filled_marks filled_marks → Keeps old new
+keeps_by old new same = holds_by old new same.disks same.more_lost same.shapes
+
+pub grows_same : (old new : Store) → IsSameBut old new filled_marks filled_marks → Grows old.spaces new.spaces filled_marks filled_marks
+grows_same old new same = grows_by old.spaces new.spaces filled_marks filled_marks same.shapes same.are
+
+pub stores_kept : (old new : Store) → IsSameBut old new filled_marks filled_marks → KeepsStored old new
+stores_kept old new same = stores_grown old new (keeps_by old new same) (grows_same old new same)
 
 pub nothing : (write : ColumnWrite) → ¬ Contains [] write
 nothing write (k, within, is) = absurd (omega arith)
 
 -- a plan begins
 pub begun : (old new : Store) → IsSameBut old new filled_marks filled_marks → HaveMarks old.spaces filled_marks new.spaces planned_marks → new.due ≡ []
-    → (stored : Contents) → Holds old stored → Plans new stored stored
-begun old new same planned none stored holds = record {
-  held = keeps_by old new same stored holds;
+    → (stored : Contents) → Stores old stored → Plans new stored stored
+begun old new same planned none stored stores = record {
+  held = keeps_by old new same stored stores.held;
+  stored_placed = (stores_kept old new same stored stores).placed;
   kept = λ block bytes known. known;
-  placed = placed_too old.spaces new.spaces filled_marks planned_marks stored (grows_by old.spaces new.spaces filled_marks planned_marks same.shapes planned) holds.placed;
+  placed = placed_too old.spaces new.spaces filled_marks planned_marks stored (grows_by old.spaces new.spaces filled_marks planned_marks same.shapes planned) stores.placed;
   born = λ block bytes known fresh. absurd (no_contents bytes (stored block) known fresh);
   in_use = λ block bytes known fresh. absurd (no_contents bytes (stored block) known fresh);
   accounted = λ none. none_new new.spaces stored stored (λ v space later found found'.
@@ -148,9 +210,9 @@ arrived store writes extent bytes none way =
 
 -- a plan ends
 pub finished : (old new : Store) → IsSameBut old new planned_marks filled_marks → ((disk : ℕ) → slice_index old.spans.since disk ≤ old.spans.group) → old.due ≡ []
-    → (stored planned : Contents) → Plans old stored planned → Holds new planned
+    → (stored planned : Contents) → Plans old stored planned → Stores new planned
 finished old new same reached none stored planned plans =
-    held_by old new filled_marks planned same.disks same.more_lost same.shapes
+    stores_by old new planned same.disks same.more_lost same.shapes
     (placed_too old.spaces new.spaces planned_marks filled_marks planned (grows_by old.spaces new.spaces planned_marks filled_marks same.shapes same.are) plans.placed)
     (λ block bytes i extent known copy. elim (some_or_none (stored block)) [
       | inl (was, is) ↦

@@ -21,7 +21,6 @@ use Rattle.block_store.proofs.Lost.{lose_same, lost_is_out}
 use Rattle.block_store.proofs.Kept.{IsKept}
 use Rattle.block_store.proofs.ReadingLost.{honest_later, stands_later}
 use Rattle.block_store.proofs.ReadingSteps.{reads_on, untouched_on, failed_by}
-use Rattle.block_store.proofs.Writing.{found_at}
 
 -- the laws of blocks that are read
 pub record Laws : Type 0 where
@@ -84,7 +83,7 @@ pub bytes_right : Laws → (old new : Store) (missing : List ℕ) (block : Block
     → IfOk result (λ read. (stored : Contents) (bytes : List ℕ) → Holds old stored → stored block ≡ Some bytes → IsHonestSince old.disks new.disks → read.items ≡ bytes)
 bytes_right laws old new missing block (Ok read) is = λ stored bytes holds known honest.
     is.read.read.right (honest_later laws.parts_honest old.disks is.read.mid new.disks is.read.before honest) bytes
-    (stands_there laws old new missing block (Ok read) stored bytes is holds known) ((holds.placed.blocks block bytes known).digest)
+    (stands_there laws old new missing block (Ok read) stored bytes is holds known) ((holds.blocks block bytes known).digest)
 bytes_right laws old new missing block (Err refusal) is = tt
 
 pub last_fault : (old new : Store) (missing : List ℕ) (block : Block) (asked : Asked) (result : Result (Vec ℕ Global) Refusal) → IsBlockRead old new missing block result
@@ -136,17 +135,14 @@ is_known laws old new missing block asked (Err refusal) is = λ stored bytes hol
           let nil : absent ++ [] ≡ absent = append-nil absent in
           absurd (none.none_stands (honest_later laws.parts_honest old.disks is.read.mid new.disks is.read.before honest) bytes []
           (subst (λ (xs : List ℕ). ExtentStands (content is.read.mid) xs extent bytes) (sym nil) stands)
-          (subst (λ (xs : List ℕ). FewAreLost extent xs) (sym nil) none.enough) ((holds.placed.blocks block bytes known).digest))
+          (subst (λ (xs : List ℕ). FewAreLost extent xs) (sym nil) none.enough) ((holds.blocks block bytes known).digest))
     ]
 
 -- the pointer of a block that is stored may be read
 pub stored_is_readable : (store : Store) (stored : Contents) (block : Block) (bytes : List ℕ) (asked : Asked) → Holds store stored → stored block ≡ Some bytes
     → Asks asked block → IsReadable store.spaces asked block
 stored_is_readable store stored block bytes asked holds known asks = record {
-  some = (holds.placed.blocks block bytes known).fits.property.not_empty;
+  some = (holds.blocks block bytes known).fits.property.not_empty;
   asks = asks;
-  places = λ place of.
-      let at = found_at (dvas block.copies) place of in
-      let taken = holds.placed.places block bytes at.0 place known at.1 in
-      record { space = taken.space; found = taken.found; is_place = taken.is_place };
+  places = holds.places block bytes known;
 }

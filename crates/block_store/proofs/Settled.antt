@@ -1,15 +1,13 @@
 -- What is due to a group becomes free.
-use Rattle.std.proofs.Common.{Bool, true, false, ◌||◌, ℕ, ◌≡◌, ◌⊎◌, inl, inr, ◌+◌, ◌<◌, ◌≤◌, Some, List, [], length, refl, sym, ap, subst, ◌∙◌, arith}
+use Rattle.std.proofs.Common.{Bool, true, ℕ, ◌≡◌, inl, inr, ◌+◌, ◌<◌, ◌≤◌, Some, List, [], length, refl, sym, ap, subst, ◌∙◌, arith}
 use Rattle.std.specs.Prelude.{slice_set, Contains}
 use Rattle.std.specs.List.{slice_get}
-use Rattle.std.proofs.lemmas.Bool.{cases_eq, cases_lt}
+use Rattle.std.proofs.lemmas.Bool.{cases_eq}
 use Rattle.std.proofs.lemmas.Option.{slice_get_within}
-use Rattle.block_pointer.specs.declared.block.Block.{Block}
 use Rattle.block_pointer.specs.declared.dva.Dva.{Dva}
 use Rattle.raidz_io.proofs.Written.{same_some, slice_get_some}
 use Rattle.metaslab.specs.Space.{Space, state}
-use Rattle.metaslab.specs.State.{State, Free, InUse, Released, settled}
-use Rattle.metaslab.specs.Calls.{SettlesUnder}
+use Rattle.metaslab.specs.State.{State, settled}
 use Rattle.metaslab_group.specs.Spaces.{AreSettled, AreSettledInPart}
 use Rattle.block_store.specs.declared.shape.VdevShape.{VdevShape}
 use Rattle.block_store.specs.Blocks.{Contents}
@@ -19,12 +17,12 @@ use Rattle.block_store.specs.Places.{shapes_of, HaveMarks, EachSector, IsNotFree
 use Rattle.block_store.specs.Places.{filled as filled_marks, planned as planned_marks}
 use Rattle.block_store.specs.Plans.{Plans}
 use Rattle.block_store.specs.Releases.{AreSettledIn, AreSettledInSome, AreSpared}
-use Rattle.block_store.specs.Store.{Store, Holds, ArePlaced}
-use Rattle.block_store.specs.Uses.{LiesOn, CopiesLieOn, Passes, IsSpared, SettlesTo}
+use Rattle.block_store.specs.Store.{Store, Stores, ArePlaced}
+use Rattle.block_store.specs.Uses.{LiesOn, IsSpared, SettlesTo}
 use Rattle.block_store.proofs.Accounting.{none_new}
 use Rattle.block_store.proofs.GivenBack.{taken_of}
 use Rattle.block_store.proofs.Lost.{LoseMore}
-use Rattle.block_store.proofs.Planning.{held_by, grows_by, no_contents, nothing}
+use Rattle.block_store.proofs.Planning.{holds_by, grows_by, no_contents, nothing}
 use Rattle.block_store.proofs.Taking.{found_too, placed_too, slice_get-set_same, slice_get-set_other}
 
 pub in_part : (under : List ℕ) (group : ℕ) (old new : List Space) → AreSettled under group old new → AreSettledInPart under group old new
@@ -156,17 +154,18 @@ spared_stays group pins state spared = (λ free. spared pins (ap (λ s. settled 
 
 pub begun_settled : (group : ℕ) (old new : Store) → new.disks ≡ old.disks → LoseMore old new → shapes_of new.spaces ≡ shapes_of old.spaces
     → AreSettledInSome group old.spaces new.spaces → HaveMarks new.spaces filled_marks new.spaces planned_marks → new.due ≡ []
-    → (stored : Contents) → Holds old stored → AreSpared group old.spaces stored → Plans new stored stored
-begun_settled group old new disks more_lost shapes some free none stored holds spared =
+    → (stored : Contents) → Stores old stored → AreSpared group old.spaces stored → Plans new stored stored
+begun_settled group old new disks more_lost shapes some free none stored stores spared =
     let placed : ArePlaced new.spaces filled_marks stored = record {
-      blocks = holds.placed.blocks;
+      blocks = stores.placed.blocks;
       places = λ block bytes i place known at.
           taken_of new.spaces filled_marks block.property.sectors place
           (lies_settled group (IsSpared group) IsNotFree old.spaces new.spaces block.property.sectors place (spared_stays group) shapes some (spared block bytes known i place at));
-      apart = holds.placed.apart;
+      apart = stores.placed.apart;
     } in
     record {
-      held = held_by old new filled_marks stored disks more_lost shapes placed holds.stand;
+      held = holds_by old new disks more_lost shapes stored stores.held;
+      stored_placed = placed;
       kept = λ block bytes known. known;
       placed = placed_too new.spaces new.spaces filled_marks planned_marks stored (grows_by new.spaces new.spaces filled_marks planned_marks refl free) placed;
       born = λ block bytes known fresh. absurd (no_contents bytes (stored block) known fresh);

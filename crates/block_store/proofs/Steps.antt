@@ -21,6 +21,7 @@ use Rattle.block_store.specs.declared.shape.VdevShape.{VdevShape}
 use Rattle.block_store.specs.Spaces.{VdevSpace}
 use Rattle.block_store.specs.Blocks.{Contents, Adds}
 use Rattle.block_store.specs.Places.{shapes_of, AreChosen, TookSome, RanOut}
+use Rattle.block_store.proofs.Adding.{chosen_stores}
 use Rattle.block_store.proofs.Taking.{fills_nothing}
 use Rattle.block_store.specs.Places.{filled as filled_marks}
 use Rattle.block_store.specs.Plans.{Plans, KeepsPlans}
@@ -42,6 +43,7 @@ reads_none store missing = record {
   reads = OnlyReads-none store.disks;
   untouched = λ disk held. refl;
   keeps = λ stored held. held;
+  stores = λ stored held. held;
   plans = λ stored planned held. held;
 }
 
@@ -53,6 +55,7 @@ reads_on old mid new missing first rest = record {
       rest.untouched disk (subst (λ disks. Contains (disks ++ missing) disk) (sym (same_outs old mid (ap (λ (s : Store). s.out) first.rest))) held)
       ∙ first.untouched disk held;
   keeps = λ stored held. rest.keeps stored (first.keeps stored held);
+  stores = λ stored held. rest.stores stored (first.stores stored held);
   plans = λ stored planned held. rest.plans stored planned (first.plans stored planned held);
 }
 
@@ -110,6 +113,7 @@ steps_none store missing = record {
   reads = OnlyReads-none store.disks;
   untouched = λ disk held. refl;
   keeps = λ stored held. held;
+  stores = λ stored held. held;
   added = [];
   due = sym (append-nil store.due);
   in_use = λ k d below. absurd (omega arith);
@@ -127,6 +131,7 @@ steps_read old new missing reads = record {
   reads = reads.reads;
   untouched = reads.untouched;
   keeps = reads.keeps;
+  stores = reads.stores;
   added = [];
   due = ap (λ (s : Store). s.due) reads.rest ∙ sym (append-nil old.due);
   in_use = λ k d below. absurd (omega arith);
@@ -154,6 +159,7 @@ steps_plan old new missing sectors birth copies (Ok block) bytes disks out spans
   reads = no_reads old.disks new.disks disks;
   untouched = λ disk held. ap (λ (d : Disks). calls_on disk d.calls) disks;
   keeps = keeps;
+  stores = chosen_stores old new sectors (dvas block.copies) places keeps;
   added = due.0;
   due = due.1;
   in_use = due.2;
@@ -169,6 +175,7 @@ steps_plan old new missing sectors birth copies (Err refusal) bytes disks out sp
   reads = no_reads old.disks new.disks disks;
   untouched = λ disk held. ap (λ (d : Disks). calls_on disk d.calls) disks;
   keeps = keeps;
+  stores = chosen_stores old new sectors some.0 some.2 keeps;
   added = [];
   due = let e : old.due ++ [] ≡ old.due = append-nil old.due in err_due ∙ sym e;
   in_use = λ k d below. absurd (omega arith);
@@ -191,6 +198,7 @@ steps_on old mid new missing first rest = record {
       rest.untouched disk (subst (λ disks. Contains (disks ++ missing) disk) (sym (same_outs old mid first.out)) held)
       ∙ first.untouched disk held;
   keeps = λ stored held. rest.keeps stored (first.keeps stored held);
+  stores = λ stored held. rest.stores stored (first.stores stored held);
   added = first.added ++ rest.added;
   due = rest.due ∙ ap (λ writes. writes ++ rest.added) first.due ∙ append_assoc old.due first.added rest.added;
   in_use = All-append (λ write. is_out old.out write.disk ≡ false) first.added rest.added first.in_use
@@ -235,7 +243,7 @@ absent_more missing others failed fewer same within disk held =
     ]
 
 -- only the shapes of the vdevs matter
-shape_found : (spaces others : List VdevSpace) (v : ℕ) (space : VdevSpace) → shapes_of others ≡ shapes_of spaces → slice_get others v ≡ Some space
+pub shape_found : (spaces others : List VdevSpace) (v : ℕ) (space : VdevSpace) → shapes_of others ≡ shapes_of spaces → slice_get others v ≡ Some space
     → (there : VdevSpace) × (slice_get spaces v ≡ Some there) × (there.shape ≡ space.shape)
 shape_found spaces others v space same found = cases (slice_get spaces v) refl
     (sym (slice_get-map (λ (s : VdevSpace). s.shape) spaces v) ∙ ap (λ shapes. slice_get shapes v) (sym same)

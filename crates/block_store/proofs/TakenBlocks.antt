@@ -17,13 +17,13 @@ use Rattle.block_store.specs.Places.{Marks, shapes_of, IsFree, IsTaken, ArePlace
 use Rattle.block_store.specs.Places.{filled as filled_marks, planned as planned_marks}
 use Rattle.block_store.specs.Releases.{CopyAt, copies_at, copies_of, copies_of_all}
 use Rattle.block_store.specs.Spaces.{VdevSpace}
-use Rattle.block_store.specs.Store.{Store, ArePlaced, Holds}
+use Rattle.block_store.specs.Store.{Store, ArePlaced, Stores, Keeps, KeepsStored}
 use Rattle.block_store.specs.Uses.{CopiesLieOn, IsInUse}
 use Rattle.block_store.proofs.Accounting.{on_place_too, has_sector, has_on_place, used_before, used_after}
 use Rattle.block_store.proofs.Lost.{lose_same}
-use Rattle.block_store.proofs.Planning.{grows_by, held_by}
+use Rattle.block_store.proofs.Planning.{grows_by, holds_by, stores_by, stores_grown}
 use Rattle.block_store.proofs.Taking.{Grows, grows_on, taken_too, taken_some, placed_too, turned}
-use Rattle.block_store.proofs.TakenIn.{OnCopy, Picks, picks_filled, TakeAll, viewed, viewed_shapes, into_view, out_of_view, viewed_all, lies_by, first_or_later, all_grow, all_taken, all_apart, all_some, all_lie, all_in_use, all_stay, all_were_free, all_only}
+use Rattle.block_store.proofs.TakenIn.{OnCopy, Picks, picks_filled, TakeAll, viewed, viewed_shapes, into_view, out_of_view, viewed_all, lies_by, first_or_later, all_grow, all_taken, all_apart, all_some, all_lie, all_in_use, all_stay, all_were_free, all_only, all_rest}
 
 -- ---- the copies of blocks
 
@@ -239,6 +239,15 @@ others_stay marks picks spaces copies after taken at used =
     (all_stay (viewed marks spaces) copies (viewed marks after) (viewed_all marks picks spaces copies after taken) at
     (used_after IsInUse spaces (viewed marks spaces) marks planned_marks at (viewed_shapes marks spaces) (into_view marks spaces) used))
 
+pub rest_of : (marks : Marks) → Picks marks → (spaces : List VdevSpace) (copies : List CopyAt) (after : List VdevSpace) → TakeIn spaces copies after
+    → (is : State → Type 0) (at : SectorAt) → IsUsed is after marks at → IsUsed is spaces marks at ⊎ is InUse
+rest_of marks picks spaces copies after taken is at used =
+    elim (all_rest is (viewed marks spaces) copies (viewed marks after) (viewed_all marks picks spaces copies after taken) at
+    (used_after is after (viewed marks after) marks planned_marks at (viewed_shapes marks after) (into_view marks after) used)) [
+      | inl was ↦ inl (used_before is spaces (viewed marks spaces) marks planned_marks at (viewed_shapes marks spaces) (into_view marks spaces) was)
+      | inr holds ↦ inr holds
+    ]
+
 -- and the blocks
 pub taken_fills : (marks : Marks) → Picks marks → (spaces : List VdevSpace) (blocks : List Block) (after : List VdevSpace) → TakeIn spaces (copies_of_all blocks) after
     → Fills spaces marks blocks after
@@ -257,12 +266,13 @@ taken_fills marks picks spaces blocks after taken =
         | inr of ↦ let is = block_of blocks of.copy of.held in inr (is.block, is.held, has_sector spaces is.block is.i of.copy.place at is.at of.on)
       ];
       stay = others_stay marks picks spaces (copies_of_all blocks) after taken;
+      rest = λ state. rest_of marks picks spaces (copies_of_all blocks) after taken (λ s. s ≡ state);
     }
 
 -- ---- what the store holds
 
 -- each block that is known was known, or is one of these
-abbrev AreOf : List Block → Contents → Contents → Type 0
+abbrev pub AreOf : List Block → Contents → Contents → Type 0
 AreOf blocks before stored = (block : Block) (bytes : List ℕ) → stored block ≡ Some bytes → (before block ≡ Some bytes) ⊎ (Contains blocks block × IsWrittenAs block bytes)
 
 all_placed : (spaces : List VdevSpace) (blocks : List Block) (after : List VdevSpace) (before stored : Contents) → TakeAll spaces (copies_of_all blocks) after
@@ -300,7 +310,7 @@ all_placed spaces blocks after before stored all placed of =
       ];
     }
 
-placed_in : (marks : Marks) → Picks marks → (spaces : List VdevSpace) (blocks : List Block) (after : List VdevSpace) (before stored : Contents)
+pub placed_in : (marks : Marks) → Picks marks → (spaces : List VdevSpace) (blocks : List Block) (after : List VdevSpace) (before stored : Contents)
     → TakeIn spaces (copies_of_all blocks) after → ArePlaced spaces marks before → AreOf blocks before stored → ArePlaced after marks stored
 placed_in marks picks spaces blocks after before stored taken placed of =
     placed_too (viewed marks after) after planned_marks marks stored
@@ -311,22 +321,26 @@ placed_in marks picks spaces blocks after before stored taken placed of =
     of)
 
 pub taken_holds : (old new : Store) (blocks : List Block) → new.disks ≡ old.disks → new.out ≡ old.out → new.spans ≡ old.spans
-    → TakeIn old.spaces (copies_of_all blocks) new.spaces → (before stored : Contents) → Holds old before → AreFound old blocks before stored → Holds new stored
-taken_holds old new blocks disks out spans taken before stored holds found =
-    held_by old new filled_marks stored disks (lose_same old new out spans) (taken_shapes old.spaces (copies_of_all blocks) new.spaces taken)
-    (placed_in filled_marks picks_filled old.spaces blocks new.spaces before stored taken holds.placed
+    → TakeIn old.spaces (copies_of_all blocks) new.spaces → (before stored : Contents) → Stores old before → AreFound old blocks before stored → Stores new stored
+taken_holds old new blocks disks out spans taken before stored stores found =
+    stores_by old new stored disks (lose_same old new out spans) (taken_shapes old.spaces (copies_of_all blocks) new.spaces taken)
+    (placed_in filled_marks picks_filled old.spaces blocks new.spaces before stored taken stores.placed
     (λ block bytes known. elim (found block bytes known) [
       | inl was ↦ inl was
       | inr (held, on) ↦ inr (held, on.written)
     ]))
     (λ block bytes i extent known copy. elim (found block bytes known) [
-      | inl was ↦ holds.stand block bytes i extent was copy
+      | inl was ↦ stores.held.stand block bytes i extent was copy
       | inr (held, on) ↦ on.stand i extent copy
     ])
 
 pub taken_keeps : (old new : Store) (copies : List CopyAt) → new.disks ≡ old.disks → new.out ≡ old.out → new.spans ≡ old.spans
-    → TakeIn old.spaces copies new.spaces → (stored : Contents) → Holds old stored → Holds new stored
-taken_keeps old new copies disks out spans taken stored holds =
-    held_by old new filled_marks stored disks (lose_same old new out spans) (taken_shapes old.spaces copies new.spaces taken)
-    (placed_too old.spaces new.spaces filled_marks filled_marks stored (taken_grows filled_marks picks_filled old.spaces copies new.spaces taken) holds.placed)
-    holds.stand
+    → TakeIn old.spaces copies new.spaces → Keeps old new
+taken_keeps old new copies disks out spans taken =
+    holds_by old new disks (lose_same old new out spans) (taken_shapes old.spaces copies new.spaces taken)
+
+pub taken_stores : (old new : Store) (copies : List CopyAt) → new.disks ≡ old.disks → new.out ≡ old.out → new.spans ≡ old.spans
+    → TakeIn old.spaces copies new.spaces → KeepsStored old new
+taken_stores old new copies disks out spans taken =
+    stores_grown old new (taken_keeps old new copies disks out spans taken)
+    (taken_grows filled_marks picks_filled old.spaces copies new.spaces taken)

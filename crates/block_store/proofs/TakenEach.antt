@@ -15,10 +15,10 @@ use Rattle.block_store.specs.Places.{filled as filled_marks, planned as planned_
 use Rattle.block_store.specs.Releases.{CopyAt}
 use Rattle.block_store.specs.Shapes.{metaslab_of, IsPlace}
 use Rattle.block_store.specs.Spaces.{VdevSpace}
-use Rattle.block_store.specs.Store.{Store, Keeps}
+use Rattle.block_store.specs.Store.{Store, Keeps, KeepsStored}
 use Rattle.block_store.specs.Uses.{LiesOn, CopiesLieOn, Passes}
 use Rattle.block_store.proofs.TakenIn.{picks_filled}
-use Rattle.block_store.proofs.TakenBlocks.{taken_shapes, taken_lies, taken_keeps}
+use Rattle.block_store.proofs.TakenBlocks.{taken_shapes, taken_lies, taken_keeps, taken_stores}
 
 -- ---- one copy
 
@@ -147,6 +147,10 @@ part_shapes spaces after copies part = taken_shapes spaces part.done after part.
 pub part_keeps : (old new : Store) (copies : List CopyAt) → new.disks ≡ old.disks → new.out ≡ old.out → new.spans ≡ old.spans
     → TakeInPart old.spaces copies new.spaces → Keeps old new
 part_keeps old new copies disks out spans part = taken_keeps old new part.done disks out spans part.taken
+
+pub part_stores : (old new : Store) (copies : List CopyAt) → new.disks ≡ old.disks → new.out ≡ old.out → new.spans ≡ old.spans
+    → TakeInPart old.spaces copies new.spaces → KeepsStored old new
+part_stores old new copies disks out spans part = taken_stores old new part.done disks out spans part.taken
 
 pub part_stays : (test : State → Bool) (spaces after : List VdevSpace) (copies : List CopyAt) (block : Block) → TakeInPart spaces copies after → Passes test InUse
     → CopiesLieOn (Passes test) spaces filled_marks block → CopiesLieOn (Passes test) after filled_marks block

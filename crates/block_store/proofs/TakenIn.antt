@@ -322,6 +322,18 @@ all_were_free spaces (first ∷ copies) after (some, chosen, mid, too, rest) at 
           )
     ]
 
+-- what holds of a sector then held of it before, or holds of those in use
+pub all_rest : (is : State → Type 0) (spaces : List VdevSpace) (copies : List CopyAt) (after : List VdevSpace) → TakeAll spaces copies after
+    → (at : SectorAt) → IsUsed is after planned_marks at → IsUsed is spaces planned_marks at ⊎ is InUse
+all_rest is spaces [] after same at used = inl (subst (λ xs. IsUsed is xs planned_marks at) same used)
+all_rest is spaces (first ∷ copies) after (some, chosen, mid, too, rest) at used = elim (all_rest is mid copies after rest at used) [
+  | inr holds ↦ inr holds
+  | inl before ↦ elim (changed_uses is spaces mid first.place Free InUse (take_changes spaces mid first.place too) at before) [
+    | inl was ↦ inl was
+    | inr (holds, on) ↦ inr holds
+  ]
+]
+
 -- and no other is in use that was not
 pub all_only : (spaces : List VdevSpace) (copies : List CopyAt) (after : List VdevSpace) → TakeAll spaces copies after
     → (at : SectorAt) → IsUsed IsInUse after planned_marks at → IsUsed IsInUse spaces planned_marks at ⊎ OnCopy spaces copies at

@@ -1,21 +1,22 @@
 -- Plans go on as blocks are taken in.
-use Rattle.std.proofs.Common.{ℕ, ◌≡◌, ◌⊎◌, inl, inr, ◌≤◌, List, refl, sym, ap, subst, ◌∙◌, arith}
+use Rattle.std.proofs.Common.{◌≡◌, inl, inr, List, [], Option, Some, None, refl, sym, ap, subst, ◌∙◌, arith}
 use Rattle.std.specs.Prelude.{Contains}
 use Rattle.model_disk.specs.Joint.{Disks, content}
-use Rattle.raidz_io.specs.declared.writes.ColumnWrite.{ColumnWrite}
 use Rattle.raidz_io.specs.Stands.{IsDone}
 use Rattle.block_store.specs.Blocks.{Contents}
-use Rattle.block_store.specs.Opened.{TakeIn, TakeInPart}
+use Rattle.block_pointer.specs.declared.block.Block.{Block}
+use Rattle.block_store.specs.Opened.{AreFound, TakeIn, TakeInPart}
 use Rattle.block_store.specs.Places.{shapes_of}
 use Rattle.block_store.specs.Places.{filled as filled_marks, planned as planned_marks}
 use Rattle.block_store.specs.Plans.{Plans, KeepsPlans}
-use Rattle.block_store.specs.Releases.{CopyAt}
-use Rattle.block_store.specs.Store.{Store, Spans, outs, outs_from}
+use Rattle.block_store.specs.Releases.{CopyAt, copies_of_all}
+use Rattle.block_store.specs.Store.{Store, Spans, Stores, outs, outs_from}
 use Rattle.block_store.specs.Uses.{IsInUse}
 use Rattle.block_store.proofs.Accounting.{has_too}
+use Rattle.block_store.proofs.Planning.{stored_by}
 use Rattle.block_store.proofs.Taking.{copy_too, placed_too}
 use Rattle.block_store.proofs.TakenIn.{picks_filled, picks_planned}
-use Rattle.block_store.proofs.TakenBlocks.{taken_grows, taken_shapes, taken_lies, taken_keeps, filled_copies, only_copies, others_stay}
+use Rattle.block_store.proofs.TakenBlocks.{AreOf, placed_in, taken_holds, taken_grows, taken_shapes, taken_lies, taken_keeps, taken_stores, filled_copies, only_copies, others_stay}
 
 -- copies are taken in, and nothing else changes
 pub record OnlyTakesIn (old new : Store) (copies : List CopyAt) : Type 0 where
@@ -31,6 +32,7 @@ taken_plans old new copies stored planned is plans =
     let shapes : shapes_of new.spaces ≡ shapes_of old.spaces = taken_shapes old.spaces copies new.spaces is.taken in
     record {
       held = taken_keeps old new copies is.disks is.out is.spans is.taken stored plans.held;
+      stored_placed = (taken_stores old new copies is.disks is.out is.spans is.taken stored (stored_by old stored planned plans)).placed;
       kept = plans.kept;
       placed = placed_too old.spaces new.spaces planned_marks planned_marks planned (taken_grows planned_marks picks_planned old.spaces copies new.spaces is.taken) plans.placed;
       born = λ block bytes known fresh. omega (arith, plans.born block bytes known fresh, ap (λ (s : Spans). s.group) is.spans);
@@ -80,3 +82,38 @@ pub part_plans : (old new : Store) (copies : List CopyAt) → new.disks ≡ old.
     → new.stray ≡ old.stray → TakeInPart old.spaces copies new.spaces → KeepsPlans old new
 part_plans old new copies disks out spans due stray part stored planned =
     taken_plans old new part.done stored planned (record { disks = disks; out = out; spans = spans; due = due; stray = stray; taken = part.taken })
+
+-- ---- what is planned where nothing was beside what was stored
+
+not_both : {X : Type 0} (o : Option X) (x : X) → o ≡ Some x → ¬ (o ≡ None)
+not_both o x some none = cc
+
+pub opened_plans : (old new : Store) (blocks : List Block) → OnlyTakesIn old new (copies_of_all blocks) → (before stored : Contents)
+    → Plans old before before → AreFound old blocks before stored → Plans new stored stored
+opened_plans old new blocks is before stored plans found =
+    let stores : Stores new stored =
+    taken_holds old new blocks is.disks is.out is.spans is.taken before stored (stored_by old before before plans) found in
+    let of : AreOf blocks before stored = λ block bytes known. elim (found block bytes known) [
+      | inl was ↦ inl was
+      | inr (held, on) ↦ inr (held, on.written)
+    ] in
+    record {
+      held = stores.held;
+      stored_placed = stores.placed;
+      kept = λ block bytes known. known;
+      placed = placed_in planned_marks picks_planned old.spaces blocks new.spaces before stored is.taken plans.placed of;
+      born = λ block bytes known fresh. absurd (not_both (stored block) bytes known fresh);
+      in_use = λ block bytes known fresh. absurd (not_both (stored block) bytes known fresh);
+      accounted = λ none at used. elim (only_copies planned_marks picks_planned old.spaces (copies_of_all blocks) new.spaces is.taken at used) [
+        | inl was ↦ elim (plans.accounted (sym is.stray ∙ none) at was) [
+          | inl there ↦ inl (others_stay filled_marks picks_filled old.spaces (copies_of_all blocks) new.spaces is.taken at there)
+          | inr new_one ↦ absurd (not_both (before new_one.block) new_one.bytes new_one.is_planned new_one.is_new)
+        ]
+        | inr on ↦ inl (filled_copies filled_marks picks_filled old.spaces (copies_of_all blocks) new.spaces is.taken at on).1
+      ];
+      writes_of = λ block i. [];
+      on_the_way = λ block bytes i extent known fresh copy. absurd (not_both (stored block) bytes known fresh);
+      due = λ write held.
+          let was = plans.due write (subst (λ xs. Contains xs write) is.due held) in
+          absurd (not_both (before was.block) was.bytes was.is_planned was.is_new);
+    }

@@ -1,14 +1,12 @@
 -- Sectors that stay in use, as others are taken or given back.
-use Rattle.std.proofs.Common.{Bool, true, false, if◌then◌else◌, ℕ, zero, suc, ◌≡◌, ◌≢◌, ◌⊎◌, inl, inr, ◌+◌, ◌*◌, ◌/◌, ◌%◌, ◌<◌, ◌≤◌, Some, List, [], ◌∷◌, ◌++◌, length, refl, sym, ap, subst, ◌∙◌, arith}
+use Rattle.std.proofs.Common.{Bool, true, false, if◌then◌else◌, ℕ, zero, suc, ◌≡◌, ◌⊎◌, inl, inr, ◌+◌, ◌*◌, ◌/◌, ◌%◌, ◌<◌, ◌≤◌, Some, List, [], ◌∷◌, ◌++◌, refl, sym, ap, subst, ◌∙◌, arith}
 use Rattle.std.specs.Prelude.{slice_set, Contains}
 use Rattle.std.specs.List.{slice_get}
 use Rattle.std.proofs.lemmas.Bool.{cases_eq}
 use Rattle.std.proofs.lemmas.Nat.{div-add-mod'}
-use Rattle.std.proofs.lemmas.List.Elements.{Contains-append_left, Contains-append_right}
-use Rattle.block_pointer.specs.declared.block.Block.{Block}
+use Rattle.std.proofs.lemmas.List.Elements.{Contains-append_right}
 use Rattle.block_pointer.specs.declared.dva.Dva.{Dva}
 use Rattle.raidz_io.proofs.Written.{same_some}
-use Rattle.space_map.specs.declared.entry.Run.{Run}
 use Rattle.space_map.specs.Sectors.{names}
 use Rattle.space_map.proofs.RunLemmas.{named}
 use Rattle.metaslab.specs.Space.{Space, state}
@@ -17,10 +15,10 @@ use Rattle.metaslab_group.specs.Spaces.{ChangesIn}
 use Rattle.block_store.specs.declared.shape.VdevShape.{VdevShape}
 use Rattle.block_store.specs.Spaces.{VdevSpace}
 use Rattle.block_store.specs.Shapes.{metaslab_sectors, metaslab_of, IsPlace}
-use Rattle.block_store.specs.Places.{planned, run_at, EachSector, IsTaken, ArePlacesApart, IsTakenToo, AreChosen}
-use Rattle.block_store.specs.Releases.{CopyAt, IsReleased, AreReleased, AreReleasedInPart, PlacesSpare}
+use Rattle.block_store.specs.Places.{planned, run_at, EachSector, ArePlacesApart, IsTakenToo, AreChosen}
+use Rattle.block_store.specs.Releases.{CopyAt, IsReleased, AreReleased, PlacesSpare}
 use Rattle.block_store.specs.Steps.{Placed, HavePlaced}
-use Rattle.block_store.specs.Uses.{LiesOn, CopiesLieOn, Passes, IsInUse}
+use Rattle.block_store.specs.Uses.{LiesOn, Passes, IsInUse}
 use Rattle.block_store.proofs.Taking.{slice_get-set_other, slice_get-set_found}
 
 if_yes : {X : Type 0} (test : Bool) (x y : X) → test ≡ true → (if test then x else y) ≡ x

@@ -52,7 +52,8 @@ later_too x y xs (k, within, is) = (suc k, omega arith, is)
 held_still : Laws → (old new : Store) (write : ColumnWrite) (stored planned : Contents) → IsLaidOut old.disks.starts old.spaces → Makes old new write
     → (plans : Plans old stored planned) → IsDueFor old stored planned plans.writes_of write → Holds new stored
 held_still laws old new write stored planned laid makes plans due = record {
-  placed = rw makes.spaces plans.held.placed;
+  blocks = plans.held.blocks;
+  places = rw makes.spaces plans.held.places;
   stand = λ block bytes i extent known copy.
       let copy_was : IsCopy old.spaces block i extent = rw (sym makes.spaces) copy in
       let way = plans.on_the_way due.block due.bytes due.i due.extent due.is_planned due.is_new due.is_copy in
@@ -127,6 +128,7 @@ write_keeps laws old new write stored planned laid makes plans =
     let due = plans.due write is_due in
     record {
       held = held_still laws old new write stored planned laid makes plans due;
+      stored_placed = rw makes.spaces plans.stored_placed;
       kept = plans.kept;
       placed = rw makes.spaces plans.placed;
       born = λ block bytes known fresh. omega (arith, plans.born block bytes known fresh, makes.group);

@@ -10,7 +10,7 @@ use Rattle.block_store.specs.Blocks.{Contents}
 use Rattle.block_store.specs.Spaces.{VdevSpace}
 use Rattle.block_store.specs.Places.{IsPlaceIn, IsExtentAt}
 use Rattle.block_store.specs.Plans.{KeepsPlans}
-use Rattle.block_store.specs.Store.{Store, Keeps, Spares}
+use Rattle.block_store.specs.Store.{Store, Keeps, KeepsStored, Spares}
 
 -- Byte i of the disk is in one of the sectors of a vdev that hold blocks. Labels and uberblocks stand before these sectors and
 -- behind them.
@@ -42,4 +42,4 @@ abbrev pub WritesElsewhereKeep : Type 0
 WritesElsewhereKeep =
     (old new : Store) → new.spaces ≡ old.spaces → new.due ≡ old.due → new.out ≡ old.out → new.spans ≡ old.spans → new.stray ≡ old.stray
     → ((disk i : ℕ) → IsForBlocks old.spaces disk i → content new.disks disk i ≡ content old.disks disk i)
-    → Keeps old new × KeepsPlans old new
+    → Keeps old new × KeepsStored old new × KeepsPlans old new

@@ -1,13 +1,14 @@
 -- Blocks that are no longer known.
-use Rattle.std.specs.Prelude.{ℕ, ◌≡◌, ◌⊎◌, [], Some, None, List}
+use Rattle.std.specs.Prelude.{ℕ, ◌≡◌, Some, None, List}
 use Rattle.block_pointer.specs.declared.block.Block.{Block}
 use Rattle.block_store.specs.Blocks.{Contents, Extends}
 use Rattle.block_store.specs.Plans.{Plans}
-use Rattle.block_store.specs.Store.{Store, Holds}
+use Rattle.block_store.specs.Store.{Store, Holds, Stores}
 
--- what a store holds, it holds of fewer blocks
+-- what a store holds, or stores, it does of fewer blocks
 abbrev pub FewerAreHeld : Type 0
-FewerAreHeld = (store : Store) (stored fewer : Contents) → Extends fewer stored → Holds store stored → Holds store fewer
+FewerAreHeld = (store : Store) (stored fewer : Contents) → Extends fewer stored
+    → (Holds store stored → Holds store fewer) × (Stores store stored → Stores store fewer)
 
 -- Of blocks that are stored and planned fewer are known: one that was stored is left out of both or of none, and one that
 -- the plan adds is never left out, as its sectors stay in use.

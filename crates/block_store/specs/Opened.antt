@@ -1,20 +1,47 @@
 -- Blocks that are on the disks already.
-use Rattle.std.specs.Prelude.{ℕ, ◌≡◌, ◌<◌, ◌⊎◌, Some, List, [], ◌∷◌, ◌++◌, slice_get, slice_set, Contains}
+use Rattle.std.specs.Prelude.{ℕ, ◌≡◌, ◌+◌, ◌<◌, ◌≤◌, ◌⊎◌, Bool, Some, List, [], ◌∷◌, ◌++◌, length, slice_get, slice_set, Contains}
 use Rattle.model_disk.specs.Joint.{content}
 use Rattle.block_pointer.specs.declared.block.Block.{Block}
-use Rattle.metaslab.specs.State.{Free, InUse}
+use Rattle.block_pointer.specs.Copies.{dvas}
+use Rattle.metaslab.specs.State.{State, Free, InUse}
 use Rattle.metaslab_group.specs.Spaces.{ChangesIn}
 use Rattle.raidz_io.specs.declared.vdev.Extent.{Extent}
 use Rattle.raidz_io.specs.Stands.{ExtentStands}
 use Rattle.block_store.specs.Accounts.{SectorAt, IsUsed, HasSector}
-use Rattle.block_store.specs.Blocks.{Contents, IsWrittenAs}
-use Rattle.block_store.specs.Places.{Marks, filled, run_at, IsFree, IsCopy}
+use Rattle.block_store.specs.Blocks.{Contents, IsWrittenAs, nothing_stored}
+use Rattle.block_store.specs.Places.{Marks, filled, run_at, IsFree, IsCopy, ArePlacesIn}
 use Rattle.block_store.specs.Places.{planned as planned_marks}
 use Rattle.block_store.specs.Releases.{CopyAt}
-use Rattle.block_store.specs.Shapes.{metaslab_of, IsPlace}
+use Rattle.block_store.specs.declared.shape.VdevShape.{VdevShape}
+use Rattle.block_store.specs.Config.{AreAllowedSizes, sectors_of, size_of}
+use Rattle.block_store.specs.Shapes.{metaslab_of, metaslabs, IsPlace}
 use Rattle.block_store.specs.Spaces.{VdevSpace}
-use Rattle.block_store.specs.Store.{Store, lost}
+use Rattle.block_store.specs.Store.{Store, Holds, lost}
 use Rattle.block_store.specs.Uses.{LiesOn, IsInUse}
+
+-- ---- the vdevs of a pool that is there
+
+-- Each disk of the vdev, one that is out too, is of an allowed size and has as many sectors for blocks as the vdev uses of it. And
+-- the vdev has from 1 to 1,024 metaslabs.
+pub record FitsDisks (starts : List (List ℕ)) (shape : VdevShape) : Type 0 where
+  pub there : shape.vdev.first + shape.vdev.geometry.children ≤ length starts
+  pub sizes : AreAllowedSizes starts shape.vdev.first (shape.vdev.first + shape.vdev.geometry.children)
+  pub sectors : (disk : ℕ) → shape.vdev.first ≤ disk → disk < shape.vdev.first + shape.vdev.geometry.children
+      → shape.child_sectors ≤ sectors_of (size_of starts disk)
+  pub some : 1 ≤ metaslabs shape
+  pub few : metaslabs shape ≤ 1024
+
+-- the vdevs take the disks from that one on in order, and all of them
+abbrev pub LieOn : List (List ℕ) → ℕ → List VdevShape → Type 0
+LieOn starts first [] = first ≡ length starts
+LieOn starts first (shape ∷ shapes) = (shape.vdev.first ≡ first) × FitsDisks starts shape × LieOn starts (first + shape.vdev.geometry.children) shapes
+
+-- a store may be opened with these vdevs, of whose disks these are out
+pub record MayBeOpened (starts : List (List ℕ)) (shapes : List VdevShape) (out : List Bool) : Type 0 where
+  pub some : 1 ≤ length shapes
+  pub few : length shapes ≤ 8
+  pub lie : LieOn starts 0 shapes
+  pub flags : length out ≡ length starts
 
 -- ---- copies that are taken in
 
@@ -63,12 +90,14 @@ pub record CannotTakeIn (spaces : List VdevSpace) (copies : List CopyAt) (after 
 abbrev pub IsOfOne : List VdevSpace → List Block → SectorAt → Type 0
 IsOfOne spaces blocks at = (block : Block) × Contains blocks block × HasSector spaces block at
 
--- the sectors of these blocks were free and are in use, and each other that is in use was so
+-- The sectors of these blocks were free and are in use, and each other that is in use was so. What a sector is used for it was used for
+-- before, or it is in use.
 pub record Fills (spaces : List VdevSpace) (marks : Marks) (blocks : List Block) (after : List VdevSpace) : Type 0 where
   pub were_free : (at : SectorAt) → IsOfOne spaces blocks at → IsUsed IsFree spaces marks at
   pub are_in_use : (at : SectorAt) → IsOfOne spaces blocks at → IsUsed IsInUse after marks at
   pub only : (at : SectorAt) → IsUsed IsInUse after marks at → IsUsed IsInUse spaces marks at ⊎ IsOfOne spaces blocks at
   pub stay : (at : SectorAt) → IsUsed IsInUse spaces marks at → IsUsed IsInUse after marks at
+  pub rest : (state : State) (at : SectorAt) → IsUsed (λ s. s ≡ state) after marks at → IsUsed (λ s. s ≡ state) spaces marks at ⊎ (InUse ≡ state)
 
 -- ---- which blocks are known from then on
 
@@ -81,3 +110,8 @@ pub record IsOnDisks (store : Store) (block : Block) (bytes : List ℕ) : Type 0
 abbrev pub AreFound : Store → List Block → Contents → Contents → Type 0
 AreFound store blocks before stored = (block : Block) (bytes : List ℕ) → stored block ≡ Some bytes
     → (before block ≡ Some bytes) ⊎ (Contains blocks block × IsOnDisks store block bytes)
+
+-- blocks that are on the disks, in places of the pool, may be read before they are taken in
+abbrev pub FoundAreHeld : Type 0
+FoundAreHeld = (store : Store) (blocks : List Block) (stored : Contents) → AreFound store blocks nothing_stored stored
+    → ((block : Block) → Contains blocks block → ArePlacesIn store.spaces block.property.sectors (dvas block.copies)) → Holds store stored

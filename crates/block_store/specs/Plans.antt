@@ -8,7 +8,7 @@ use Rattle.raidz_io.specs.declared.writes.ColumnWrite.{ColumnWrite}
 use Rattle.raidz_io.specs.Stands.{WouldStore, AreColumnWrites, IsDone}
 use Rattle.block_store.specs.Accounts.{AreAccounted}
 use Rattle.block_store.specs.Blocks.{Contents, Extends, Adds}
-use Rattle.block_store.specs.Places.{IsCopy, IsExtentAt}
+use Rattle.block_store.specs.Places.{filled, IsCopy, IsExtentAt}
 use Rattle.block_store.specs.Places.{planned as planned_marks}
 use Rattle.block_store.specs.Store.{Store, outs, is_out, ArePlaced, Holds, Spares, SparesBut}
 use Rattle.block_store.specs.Uses.{CopiesLieOn, IsInUse}
@@ -46,6 +46,7 @@ pub record AreWritesAt (store : Store) (sectors : ℕ) (bytes : List ℕ) (place
 -- Some blocks are stored, and a plan adds others, born in its group: they are placed too, and once what is due is written all are stored.
 pub record Plans (store : Store) (stored planned : Contents) : Type 0 where
   pub held : Holds store stored
+  pub stored_placed : ArePlaced store.spaces filled stored
   pub kept : Extends stored planned
   pub placed : ArePlaced store.spaces planned_marks planned
   pub born : (block : Block) (bytes : List ℕ) → planned block ≡ Some bytes → stored block ≡ None → store.spans.group ≤ block.birth
@@ -62,10 +63,6 @@ pub record Plans (store : Store) (stored planned : Contents) : Type 0 where
 -- each plan of the store is one still
 abbrev pub KeepsPlans : Store → Store → Type 0
 KeepsPlans old new = (stored planned : Contents) → Plans old stored planned → Plans new stored planned
-
--- what was stored before a plan is stored beside it
-abbrev pub PlansHold : Type 0
-PlansHold = (store : Store) (stored planned : Contents) → Plans store stored planned → Holds store stored
 
 -- the block is planned too, with these bytes, and all others stay
 abbrev pub PlansToo : Store → Store → Block → List ℕ → Type 0

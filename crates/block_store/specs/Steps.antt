@@ -9,7 +9,7 @@ use Rattle.block_store.specs.Places.{shapes_of, AreChosen, RanOut}
 use Rattle.block_store.specs.Places.{filled as filled_marks}
 use Rattle.block_store.specs.Plans.{Plans, KeepsPlans}
 use Rattle.block_store.specs.Reading.{AreTolerable}
-use Rattle.block_store.specs.Store.{Store, Keeps, outs, is_out}
+use Rattle.block_store.specs.Store.{Store, Keeps, KeepsStored, outs, is_out}
 
 -- nothing was done but reads, none of them on a disk that is out or missing
 pub record OnlyReadsBlocks (old new : Store) (missing : List ℕ) : Type 0 where
@@ -17,6 +17,7 @@ pub record OnlyReadsBlocks (old new : Store) (missing : List ℕ) : Type 0 where
   pub reads : OnlyReads old.disks new.disks
   pub untouched : AreUntouched (outs old ++ missing) old.disks new.disks
   pub keeps : Keeps old new
+  pub stores : KeepsStored old new
   pub plans : KeepsPlans old new
 
 -- the places that were chosen for the copies of one block, of so many sectors and born then
@@ -44,6 +45,7 @@ pub record OnlyReadsAndPlans (old new : Store) (missing : List ℕ) : Type 0 whe
   pub reads : OnlyReads old.disks new.disks
   pub untouched : AreUntouched (outs old ++ missing) old.disks new.disks
   pub keeps : Keeps old new
+  pub stores : KeepsStored old new
   pub added : List ColumnWrite
   pub due : new.due ≡ old.due ++ added
   pub in_use : All (λ write. is_out old.out write.disk ≡ false) added

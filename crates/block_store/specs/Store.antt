@@ -9,7 +9,7 @@ use Rattle.raidz_io.specs.declared.writes.ColumnWrite.{ColumnWrite}
 use Rattle.raidz_io.specs.Stands.{ExtentStands, IsColumnWrite, IsWithin}
 use Rattle.block_store.specs.Spaces.{VdevSpace}
 use Rattle.block_store.specs.Blocks.{Contents, IsWrittenAs}
-use Rattle.block_store.specs.Places.{Marks, filled, IsLaidOut, IsTaken, IsCopy, ArePlacesApart}
+use Rattle.block_store.specs.Places.{Marks, filled, IsLaidOut, IsTaken, IsCopy, ArePlacesIn, ArePlacesApart}
 
 -- Which blocks the disks that are out may lack. A plan is of a transaction group, and no block of it was born before that group.
 pub record Spans : Type 0 where
@@ -68,16 +68,26 @@ pub record ArePlaced (spaces : List VdevSpace) (marks : Marks) (contents : Conte
       → slice_get (dvas block.copies) i ≡ Some place → slice_get (dvas other.copies) k ≡ Some behind
       → ((block ≡ other) × (i ≡ k)) ⊎ ArePlacesApart place behind
 
--- The blocks are stored: they are placed, and each column of each copy, the parity too, stands at its place on every disk that isn't
--- lost for its birth: on those that are out too, where they went out later.
+-- The blocks may be read: each is what its pointer tells, its copies lie in places of the pool, and each column of each copy, the
+-- parity too, stands at its place on every disk that isn't lost for its birth: on those that are out too, where they went out later.
 pub record Holds (store : Store) (stored : Contents) : Type 0 where
-  pub placed : ArePlaced store.spaces filled stored
+  pub blocks : (block : Block) (bytes : List ℕ) → stored block ≡ Some bytes → IsWrittenAs block bytes
+  pub places : (block : Block) (bytes : List ℕ) → stored block ≡ Some bytes → ArePlacesIn store.spaces block.property.sectors (dvas block.copies)
   pub stand : (block : Block) (bytes : List ℕ) (i : ℕ) (extent : Extent) → stored block ≡ Some bytes → IsCopy store.spaces block i extent
       → ExtentStands (content store.disks) (lost store block.birth) extent bytes
+
+-- And no plan may overwrite them: their places are in use, and lie apart.
+pub record Stores (store : Store) (stored : Contents) : Type 0 where
+  pub held : Holds store stored
+  pub placed : ArePlaced store.spaces filled stored
 
 -- each map of blocks that the store held, it still holds
 abbrev pub Keeps : Store → Store → Type 0
 Keeps old new = (stored : Contents) → Holds old stored → Holds new stored
+
+-- each that it stored, it still stores
+abbrev pub KeepsStored : Store → Store → Type 0
+KeepsStored old new = (stored : Contents) → Stores old stored → Stores new stored
 
 -- Each copy of these blocks that stood, but for columns on some disks, does so still. So each column that stood stands.
 abbrev pub Spares : Contents → Store → Store → Type 0

@@ -4,7 +4,7 @@ ghost use Rattle.model_disk.specs.Call.{write_call};
 ghost use Rattle.model_disk.specs.Joint.{on, bytes_of};
 ghost use Rattle.block_store.specs.Elsewhere.{IsAside};
 ghost use Rattle.block_store.specs.Plans.{KeepsPlans};
-ghost use Rattle.block_store.specs.Store.{Keeps, IsOutToo, GoesOut};
+ghost use Rattle.block_store.specs.Store.{Keeps, KeepsStored, IsOutToo, GoesOut};
 
 use crate::device::{FailedDisk, blocks_beside_others};
 use crate::store::BlockStore;
@@ -31,6 +31,7 @@ impl<D: Disk + Drop> BlockStore<D> {
 
         // All that is stored and planned stays so, also on a disk that goes out.
         ensures keeps { Keeps self.old self.new }
+        ensures stores { KeepsStored self.old self.new }
         ensures plans { KeepsPlans self.old self.new }
     {
         blocks_beside_others();

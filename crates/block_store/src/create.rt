@@ -17,7 +17,7 @@ use std::alloc::{AllocError, Global};
 use std::collections::VecDeque;
 
 /// The most vdevs that a store may have.
-const MAX_VDEVS: usize = 8;
+pub(crate) const MAX_VDEVS: usize = 8;
 
 /// The sectors of a metaslab, as a power of two: from this one on.
 pub const MIN_METASLAB_SHIFT: u32 = 12;
@@ -26,7 +26,7 @@ pub const MIN_METASLAB_SHIFT: u32 = 12;
 pub const MAX_METASLAB_SHIFT: u32 = 20;
 
 /// The most metaslabs that a vdev may have.
-const MAX_METASLABS: u64 = 1024;
+pub(crate) const MAX_METASLABS: u64 = 1024;
 
 /// The bytes of a disk are used in multiples of this: 256 KiB, the size of a label.
 const DISK_UNIT: u64 = 0x40000;
@@ -144,7 +144,7 @@ fn spaces_of<D: Disk + Drop>(
 impl<D: Disk + Drop> BlockStore<D> {
     ghost use Rattle.block_store.specs.Blocks.{nothing_stored};
     ghost use Rattle.block_store.specs.Plans.{Plans};
-    ghost use Rattle.block_store.specs.Store.{Holds, is_out};
+    ghost use Rattle.block_store.specs.Store.{Stores, is_out};
 
     /// A store without blocks, over disks that are not out. The vdevs take the disks in order, each as many as it has
     /// children. Where a vdev, a disk or their number is not within the limits the answer is `BadConfig`.
@@ -162,7 +162,7 @@ impl<D: Disk + Drop> BlockStore<D> {
 
         // It holds no block, and no plan is begun: no sector is in use.
         ensures empty { IfOk result (λ store. AreEmpty store.spaces) }
-        ensures holds { IfOk result (λ store. Holds store nothing_stored) }
+        ensures holds { IfOk result (λ store. Stores store nothing_stored) }
         ensures plans { IfOk result (λ store. Plans store nothing_stored nothing_stored) }
         ensures refused { IfErr result (λ refusal. (refusal ≡ Refusal.NoMemory)
             ⊎ ((refusal ≡ Refusal.BadConfig) × MakeNoStore (map D.start disks.items) vdevs.now)) }

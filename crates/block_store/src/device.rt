@@ -6,7 +6,7 @@ ghost use Rattle.raidz_io.specs.declared.writes.ColumnWrite.{ColumnWrite};
 ghost use Rattle.block_store.specs.Laws.{Laws};
 ghost use Rattle.block_store.specs.Blocks.{Contents};
 ghost use Rattle.block_store.specs.Plans.{KeepsPlans, SparesAllBut};
-ghost use Rattle.block_store.specs.Store.{Keeps, IsOutToo, GoesOut, Spares};
+ghost use Rattle.block_store.specs.Store.{Keeps, KeepsStored, IsOutToo, GoesOut, Spares};
 
 use crate::store::BlockStore;
 use model_disk::Disk;
@@ -83,6 +83,7 @@ impl<D: Disk + Drop> BlockStore<D> {
         ensures gone { IfErr result (λ failed. GoesOut self.old disk self.new) }
         ensures spares { (known : Contents) → Spares known self.old self.new }
         ensures keeps { Keeps self.old self.new }
+        ensures stores { KeepsStored self.old self.new }
         ensures plans { KeepsPlans self.old self.new }
     {
         blocks_beside_others();

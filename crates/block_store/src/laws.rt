@@ -2,6 +2,7 @@
 ghost use Rattle.block_store.specs.Elsewhere.{BlocksLieInSectors, ReadsSpare, WritesElsewhereKeep};
 ghost use Rattle.block_store.specs.Forgetting.{FewerAreHeld, FewerArePlanned};
 ghost use Rattle.block_store.specs.Losses.{LossesAreNotTolerable};
+ghost use Rattle.block_store.specs.Opened.{FoundAreHeld};
 ghost use Rattle.block_store.specs.Releases.{PlacesSpare};
 
 use raidz_io::{few_are_not_more, reads_keep_contents, stands_while_kept, stands_with_more_absent};
@@ -14,6 +15,11 @@ pub fn fewer_are_held()
 /// A plan may forget blocks of which nothing is due.
 pub fn fewer_are_planned()
     ensures { FewerArePlanned }
+{}
+
+/// Blocks that are on the disks may be read before they are taken in.
+pub fn found_are_held()
+    ensures { FoundAreHeld }
 {}
 
 /// The bytes of a block lie in those sectors of its vdev's disks that are for blocks.

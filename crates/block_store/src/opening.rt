@@ -1,25 +1,168 @@
 //! Blocks that are on the disks already, as a pool is opened.
-ghost use Rattle.std.specs.Prelude.{◌≡◌, ◌⊎◌, ◌↔◌, ◌<◌, Bool, List, OnOk, OnErr, IfOk, IfErr, IsTrue, Contains};
+ghost use Rattle.std.specs.Prelude.{◌≡◌, ◌⊎◌, ◌↔◌, ◌+◌, ◌<◌, ◌≤◌, ℕ, Bool, false, List, [], length, replicate, OnOk, OnErr, IfOk, IfErr, IsTrue, Contains};
 ghost use Rattle.std.specs.Bool.{OnTrue, OnFalse};
 ghost use Rattle.block_pointer.specs.declared.block.Block.{Block};
 ghost use Rattle.metaslab.specs.State.{State, InUse};
 ghost use Rattle.block_store.specs.Blocks.{Contents, AreDistinct};
+ghost use Rattle.block_store.specs.Config.{IsAllowedSize, sectors_of, size_of};
+ghost use Rattle.block_store.specs.Opened.{FitsDisks, LieOn};
 ghost use Rattle.block_store.specs.Opened.{AreFound, CannotTakeIn, Fills, HasFreePlace};
 ghost use Rattle.block_store.specs.Opened.{TakeIn, TakeInPart, TakesIn};
-ghost use Rattle.block_store.specs.Places.{shapes_of, filled, planned, IsPlaceIn};
+ghost use Rattle.block_store.specs.Places.{shapes_of, filled, planned, AreEmpty, IsPlaceIn};
 ghost use Rattle.block_store.specs.Plans.{KeepsPlans};
 ghost use Rattle.block_store.specs.Releases.{copies_at, copies_of, copies_of_all};
-ghost use Rattle.block_store.specs.Store.{Holds, Keeps};
+ghost use Rattle.block_store.specs.Store.{Keeps, KeepsStored, Stores};
 ghost use Rattle.block_store.specs.Uses.{CopiesLieOn, Passes, IsInUse};
 
+use crate::create::{MAX_METASLABS, MAX_VDEVS, sectors_for_blocks};
 use crate::read::places_of;
 use crate::refusal::Refusal;
+use crate::shape::VdevShape;
+use crate::space::VdevMetaslabs;
 use crate::store::BlockStore;
 use block_pointer::{Block, Dva};
-use model_disk::Disk;
-use std::alloc::AllocError;
+use model_disk::{Disk, DiskArray};
+use std::alloc::{AllocError, Global};
+use std::collections::VecDeque;
+
+/// Whether the disk is of an allowed size, and has so many sectors for blocks.
+fn has_sectors<D: Disk + Drop>(disks: &DiskArray<D>, disk: usize, sectors: u64) -> bool
+    requires { disk < length disks.now.starts }
+    ensures { IsTrue result ↔ (IsAllowedSize (size_of disks.now.starts disk)
+        × (sectors ≤ sectors_of (size_of disks.now.starts disk))) }
+{
+    match sectors_for_blocks(disks.size(disk)) {
+        Some(most) => sectors <= most,
+        None => false,
+    }
+}
+
+/// The same of the disks from `first` on and before `end`.
+fn have_sectors<D: Disk + Drop>(
+    disks: &DiskArray<D>,
+    first: usize,
+    end: usize,
+    sectors: u64,
+) -> bool
+    requires { end ≤ length disks.now.starts }
+    ensures { IsTrue result ↔ ((disk : ℕ) → first ≤ disk → disk < end
+        → IsAllowedSize (size_of disks.now.starts disk)
+        × (sectors ≤ sectors_of (size_of disks.now.starts disk))) }
+{
+    for disk in first..end {
+        if !has_sectors(disks, disk, sectors) {
+            return false;
+        }
+    }
+    true
+}
+
+/// Whether the vdev begins with that disk, and fits its disks.
+fn fits_disks<D: Disk + Drop>(disks: &DiskArray<D>, first: usize, shape: VdevShape) -> bool
+    requires { first ≤ length disks.now.starts }
+    ensures { IsTrue result ↔ ((shape.vdev.first ≡ first) × FitsDisks disks.now.starts shape) }
+{
+    let children = shape.vdev.geometry.children as usize;
+    let metaslabs = shape.metaslabs();
+    shape.vdev.first == first
+        && children <= disks.len() - first
+        && have_sectors(disks, first, first + children, shape.child_sectors)
+        && 1 <= metaslabs
+        && metaslabs <= MAX_METASLABS
+}
+
+/// Whether the vdevs take all disks in order, and fit them.
+fn lie_on<D: Disk + Drop>(disks: &DiskArray<D>, shapes: &[VdevShape]) -> bool
+    ensures { IsTrue result ↔ LieOn disks.now.starts 0 shapes.now }
+{
+    let count = disks.len();
+    let mut first = 0;
+    for shape in shapes {
+        if !fits_disks(disks, first, *shape) {
+            return false;
+        }
+        first += shape.vdev.geometry.children as usize;
+    }
+    first == count
+}
+
+/// The space of each vdev, with no sector in use.
+fn empty_spaces(alloc: Global, shapes: &[VdevShape]) -> Result<Vec<VdevMetaslabs>, AllocError>
+    ensures shapes { IfOk result (λ spaces. shapes_of spaces.items ≡ shapes.now) }
+    ensures empty { IfOk result (λ spaces. AreEmpty spaces.items) }
+{
+    let mut spaces = Vec::new(alloc);
+    for shape in shapes {
+        let space = VdevMetaslabs::new(alloc, *shape)?;
+        spaces.push(space).map_err(AllocError::from)?;
+    }
+    Ok(spaces)
+}
 
 impl<D: Disk + Drop> BlockStore<D> {
+    ghost use Rattle.block_store.specs.Blocks.{nothing_stored};
+    ghost use Rattle.block_store.specs.Opened.{MayBeOpened};
+    ghost use Rattle.block_store.specs.Plans.{Plans};
+
+    /// A store over disks that were used before, with the vdevs of the pool that is on them. No block is taken in, and no plan
+    /// begun. The disks that are marked are out from the start, and may lack every block; what stands for a disk that is away
+    /// says a size all the same, and is never called. `BadConfig` where the vdevs don't take all disks in order, a disk is too
+    /// small for its vdev or too large, or there isn't one mark for each disk.
+    pub fn opened(
+        alloc: Global,
+        disks: DiskArray<D>,
+        shapes: &[VdevShape],
+        out: &[bool],
+    ) -> Result<Self, Refusal>
+        ensures may { IfOk result (λ store. MayBeOpened disks.starts shapes.now out.now) }
+        ensures shapes { IfOk result (λ store. shapes_of store.spaces ≡ shapes.now) }
+        ensures disks { IfOk result (λ store. store.disks ≡ disks) }
+        ensures out { IfOk result (λ store. store.out ≡ out.now) }
+        ensures since { IfOk result (λ store.
+            store.spans.since ≡ replicate (length disks.starts) 0) }
+        ensures group { IfOk result (λ store. store.spans.group ≡ 0) }
+        ensures due { IfOk result (λ store. store.due ≡ []) }
+        ensures stray { IfOk result (λ store. store.stray ≡ false) }
+
+        // It stores no block, and no plan is begun: no sector is in use.
+        ensures empty { IfOk result (λ store. AreEmpty store.spaces) }
+        ensures holds { IfOk result (λ store. Stores store nothing_stored) }
+        ensures plans { IfOk result (λ store. Plans store nothing_stored nothing_stored) }
+        ensures refused { IfErr result (λ refusal. (refusal ≡ Refusal.NoMemory)
+            ⊎ ((refusal ≡ Refusal.BadConfig)
+            × ¬ MayBeOpened disks.starts shapes.now out.now)) }
+    {
+        if shapes.is_empty() || MAX_VDEVS < shapes.len() || out.len() != disks.len() {
+            return Err(Refusal::BadConfig);
+        }
+        if !lie_on(&disks, shapes) {
+            return Err(Refusal::BadConfig);
+        }
+        let spaces = empty_spaces(alloc, shapes)?;
+        let out = Vec::from_slice(alloc, out)?;
+        let since = vec![in alloc; 0; disks.len()]?;
+        Ok(BlockStore {
+            disks,
+            spaces,
+            out,
+            since,
+            group: 0,
+            due: VecDeque::new(alloc),
+            stray: false,
+        })
+    }
+
+    /// The disks, in the order of their numbers, with the record of all calls.
+    pub fn into_array(self) -> DiskArray<D>
+        ensures { result ≡ self.disks }
+    {
+        self.disks
+    }
+}
+
+impl<D: Disk + Drop> BlockStore<D> {
+    ghost use Rattle.block_store.specs.Plans.{Plans};
+
     /// Takes in blocks that are on the disks already, each copy at the place that its pointer says: no plan places a block
     /// there from now on. `BadPointer` where a copy is in no place of the pool, or not all its sectors are free as its turn
     /// comes, as where two copies share one. After an error some copies were taken in.
@@ -53,11 +196,16 @@ impl<D: Disk + Drop> BlockStore<D> {
             → CopiesLieOn (Passes test) self.old.spaces filled block
             → CopiesLieOn (Passes test) self.new.spaces filled block }
         ensures keeps { Keeps self.old self.new }
+        ensures stores { KeepsStored self.old self.new }
         ensures plans { KeepsPlans self.old self.new }
 
         // What was stored is so still, and so are these blocks, with the bytes that stand there.
-        ensures holds { OnOk result ((before stored : Contents) → Holds self.old before
-            → AreFound self.old blocks.now before stored → Holds self.new stored) }
+        ensures holds { OnOk result ((before stored : Contents) → Stores self.old before
+            → AreFound self.old blocks.now before stored → Stores self.new stored) }
+
+        // And where nothing was planned beside what was stored, nothing is planned then.
+        ensures opens { OnOk result ((before stored : Contents) → Plans self.old before before
+            → AreFound self.old blocks.now before stored → Plans self.new stored stored) }
     {
         self.take_in_each(blocks)
     }

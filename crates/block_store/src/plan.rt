@@ -7,7 +7,7 @@ ghost use Rattle.raidz_io.specs.Stands.{AreWritesOfBlock};
 ghost use Rattle.block_store.specs.Blocks.{Contents, FitsNew, IsBlockOf, count_of};
 ghost use Rattle.block_store.specs.Places.{shapes_of, filled, planned, HaveMarks, AreChosen, TookSome, RanOut, IsPlaceIn, ArePlacesIn, IsExtentAt};
 ghost use Rattle.block_store.specs.Plans.{Plans, KeepsPlans, PlansToo, MoreIsDue, AreWritesAt};
-ghost use Rattle.block_store.specs.Store.{Holds, Keeps, is_out, in_group, reaching};
+ghost use Rattle.block_store.specs.Store.{Keeps, KeepsStored, Stores, is_out, in_group, reaching};
 
 use crate::block::{CopyCount, NewBlock};
 use crate::refusal::Refusal;
@@ -108,7 +108,8 @@ impl<D: Disk + Drop> BlockStore<D> {
 
         // What is stored stays so, and nothing else is planned.
         ensures plans { (stored : Contents)
-            → Holds self.old stored → Plans self.new stored stored }
+            → Stores self.old stored → Plans self.new stored stored }
+        ensures keeps { Keeps self.old self.new }
     {
         self.enter(group);
         self.clear_plan();
@@ -125,7 +126,8 @@ impl<D: Disk + Drop> BlockStore<D> {
         ensures filled { HaveMarks self.old.spaces filled self.new.spaces filled }
         ensures free { HaveMarks self.old.spaces filled self.new.spaces planned }
         ensures plans { (stored : Contents)
-            → Holds self.old stored → Plans self.new stored stored }
+            → Stores self.old stored → Plans self.new stored stored }
+        ensures keeps { Keeps self.old self.new }
     {
         self.due.clear();
         self.stray = false;
@@ -174,7 +176,8 @@ impl<D: Disk + Drop> BlockStore<D> {
         ensures filled { HaveMarks self.old.spaces planned self.new.spaces filled }
         ensures planned { HaveMarks self.old.spaces planned self.new.spaces planned }
         ensures stored { (stored planned : Contents) → Plans self.old stored planned
-            → self.old.due ≡ [] → Holds self.new planned }
+            → self.old.due ≡ [] → Stores self.new planned }
+        ensures keeps { Keeps self.old self.new }
     {
         keep_plans(&mut self.spaces);
     }
@@ -197,6 +200,7 @@ impl<D: Disk + Drop> BlockStore<D> {
         ensures spans { self.new.spans ≡ reaching self.old.spans new.birth }
         ensures shapes { shapes_of self.new.spaces ≡ shapes_of self.old.spaces }
         ensures keeps { Keeps self.old self.new }
+        ensures stores { KeepsStored self.old self.new }
         ensures block { IfOk result (λ block. IsBlockOf new bytes.now (count_of copies) block) }
         ensures fits { IfOk result FitsBlock }
 

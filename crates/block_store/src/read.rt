@@ -8,7 +8,7 @@ ghost use Rattle.block_store.specs.Blocks.{Contents};
 ghost use Rattle.block_store.specs.Losses.{IsForLoss};
 ghost use Rattle.block_store.specs.Plans.{KeepsPlans};
 ghost use Rattle.block_store.specs.Reading.{Asks, IsReadable, IsLastFault, IsFirstRead, IsFault};
-ghost use Rattle.block_store.specs.Store.{Holds, Keeps, outs};
+ghost use Rattle.block_store.specs.Store.{Holds, Keeps, KeepsStored, outs};
 
 use crate::block::Asked;
 use crate::refusal::Refusal;
@@ -38,6 +38,7 @@ impl<D: Disk + Drop> BlockStore<D> {
         ensures untouched { AreUntouched (outs self.old ++ missing.now)
             self.old.disks self.new.disks }
         ensures keeps { Keeps self.old self.new }
+        ensures stores { KeepsStored self.old self.new }
         ensures plans { KeepsPlans self.old self.new }
         ensures readable { IfOk result (λ read. IsReadable self.old.spaces asked block.now) }
         ensures digest { IfOk result (λ read. sha256 read.items ≡ block.now.checksum) }

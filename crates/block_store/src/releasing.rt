@@ -8,7 +8,7 @@ ghost use Rattle.block_store.specs.Plans.{Plans};
 ghost use Rattle.block_store.specs.Releases.{AreSettledIn, AreSettledInSome, AreSpared, AreAllInUse};
 ghost use Rattle.block_store.specs.Releases.{copies_at, copies_of, copies_of_all, IsReleased};
 ghost use Rattle.block_store.specs.Releases.{AreReleased, AreReleasedInPart, IsNotReleasable};
-ghost use Rattle.block_store.specs.Store.{Holds, Keeps, in_group};
+ghost use Rattle.block_store.specs.Store.{Keeps, KeepsStored, Stores, in_group};
 ghost use Rattle.block_store.specs.Uses.{LiesOn, CopiesLieOn, Passes, IsInUse, SettlesTo};
 
 use crate::read::places_of;
@@ -66,8 +66,9 @@ impl<D: Disk + Drop> BlockStore<D> {
             → CopiesLieOn (Passes later) self.new.spaces filled block }
 
         // What is stored stays so, where none of it is due, and nothing else is planned.
-        ensures plans { (stored : Contents) → Holds self.old stored
+        ensures plans { (stored : Contents) → Stores self.old stored
             → AreSpared group self.old.spaces stored → Plans self.new stored stored }
+        ensures keeps { Keeps self.old self.new }
     {
         self.enter(group);
         self.due.clear();
@@ -93,6 +94,7 @@ impl<D: Disk + Drop> BlockStore<D> {
             ⊎ ((refusal ≡ Refusal.BadPointer) × IsNotReleasable self.old.spaces
             (copies_of_all blocks.now) group self.new.spaces)) }
         ensures keeps { Keeps self.old self.new }
+        ensures stores { KeepsStored self.old self.new }
 
         // What is stored and planned stays so, where these blocks are stored.
         ensures plans { (stored planned : Contents) → Plans self.old stored planned

@@ -1,5 +1,6 @@
 //! The store.
 ghost use Rattle.std.specs.Prelude.{◌≡◌, ◌+◌, ◌<◌, ◌≤◌, length, slice_get, slice_index, Some, None, if◌then◌else◌, option_map};
+ghost use Rattle.model_disk.specs.Joint.{bytes_of};
 ghost use Rattle.block_store.specs.Store.{is_out};
 
 use crate::shape::VdevShape;
@@ -63,6 +64,14 @@ impl<D: Disk + Drop> BlockStore<D> {
         ensures out { result ≡ length self.now.out }
     {
         self.disks.len()
+    }
+
+    /// How many bytes a disk has.
+    pub fn disk_size(&self, disk: usize) -> u64
+        requires { disk < length self.now.disks.starts }
+        ensures { result ≡ length (bytes_of self.now.disks.starts disk) }
+    {
+        self.disks.size(disk)
     }
 
     /// Whether a disk is out: it failed a write or a flush.

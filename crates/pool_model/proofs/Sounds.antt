@@ -1,5 +1,5 @@
 -- A step of the machine is a step of its groups, holds and items, and keeps a view sound.
-use Rattle.std.proofs.Common.{⊎_elim, inl, inr, ℕ, ◌≤◌, List, [], ◌∷◌, Some, None, refl, sym, ap, subst, arith, lit≤}
+use Rattle.std.proofs.Common.{⊎_elim, inl, inr, ℕ, ◌≤◌, List, [], ◌∷◌, Some, None, refl, sym, ap, subst, arith, lit≤, Bool, ◌<◌}
 use Rattle.pool_model.specs.declared.group.Stage.TheVariants.{Quiesced as QuiescedStage}
 use Rattle.pool_model.specs.declared.step.Step.{Step}
 use Rattle.pool_model.specs.declared.step.Step.TheVariants.{Hold, Plan}
@@ -8,8 +8,10 @@ use Rattle.pool_model.specs.declared.step.Reply.TheVariants.{Refused}
 use Rattle.pool_model.specs.declared.refusal.Refusal.{Refusal}
 use Rattle.pool_model.specs.declared.refusal.Refusal.TheVariants.{Suspended, NotNow}
 use Rattle.pool_model.specs.Flow.{Flow, TakesGroup, FlowStep, FlowRun}
-use Rattle.pool_model.specs.View.{View, Vdev, Given, Idle, Unplanned, started}
+use Rattle.pool_model.specs.View.{View, Vdev, Given, Idle, Unplanned, started, opened_as}
 use Rattle.pool_model.specs.Flow.{flow_of}
+use Rattle.pool_model.specs.Pools.{PlainPool}
+use Rattle.pool_model.specs.Refusals.{greatest}
 use Rattle.pool_model.specs.Machine.{StepOf, Run}
 use Rattle.pool_model.specs.Sound.{IsSound}
 use Rattle.pool_model.proofs.Moves.{IsPlanFault, MayStay, EachMove, by_move}
@@ -84,3 +86,7 @@ sound_step v given step reply w s h = record {
 
 pub sound_start : (vdevs : List Vdev) → IsSound (started vdevs)
 sound_start vdevs = record { first = omega arith; flow = record { holds = tt; beyond = λ group lt. refl; groups = lit≤ tt; numbers = λ writer. lit≤ tt } }
+
+pub sound_opened : (vdevs : List Vdev) (out : ℕ → Bool) (group : ℕ) (pool : PlainPool) → group < greatest → IsSound (opened_as vdevs out group pool)
+sound_opened vdevs out group pool below =
+    record { first = omega arith; flow = record { holds = tt; beyond = λ other lt. refl; groups = omega (arith, below); numbers = λ writer. lit≤ tt } }

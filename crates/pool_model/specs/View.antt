@@ -44,6 +44,10 @@ pub record View : Type 0 where
 abbrev pub started : List Vdev → View
 started vdevs = record { vdevs = vdevs; slots = false; first = 3; committed = 3; sync = Idle; waiting = None; holds = []; next = λ writer. 1; ledger = λ group. no_items; pools = λ group. no_volumes; out = λ disk. false }
 
+-- a pool is opened that was committed before as this group, with these disks out
+abbrev pub opened_as : List Vdev → (ℕ → Bool) → ℕ → PlainPool → View
+opened_as vdevs out group pool = record (started vdevs) { slots = true; first = group; committed = group; pools = λ other. pool; out = out }
+
 -- ---- groups
 
 abbrev pub is_syncing : Sync → Bool

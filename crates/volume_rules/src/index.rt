@@ -40,6 +40,15 @@ impl NameIndex {
         self.shapes.get(name.as_slice()).copied()
     }
 
+    /// The same names and shapes once more.
+    pub fn copied(&self) -> Result<NameIndex, AllocError>
+        ensures { IfOk result (λ copy. (pool : PlainPool) → Knows self.now pool ↔ Knows copy pool) }
+    {
+        Ok(NameIndex {
+            shapes: self.shapes.clone()?,
+        })
+    }
+
     /// Makes room for one name more.
     pub fn reserve(&mut self) -> Result<(), AllocError>
         ensures room { OnOk result (HasRoom self.new) }
@@ -71,9 +80,7 @@ impl NameIndex {
         ensures { IfOk result (λ after. (pool : PlainPool) → Knows self.now pool
             → Knows after (applied group pool items.now)) }
     {
-        let mut after = NameIndex {
-            shapes: self.shapes.clone()?,
-        };
+        let mut after = self.copied()?;
         after.make_all(alloc, group, items.actions())?;
         Ok(after)
     }

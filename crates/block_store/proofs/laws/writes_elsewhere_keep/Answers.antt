@@ -3,6 +3,7 @@ use Rattle.std.specs.Prelude.{◌≡◌, Contains}
 use Rattle.block_store.specs.Store.{Spans, outs_from}
 use Rattle.block_store.proofs.Kept.{IsKept, keeps, keeps_plans}
 use Rattle.block_store.proofs.Lost.{lose_same}
+use Rattle.block_store.proofs.Planning.{stores_same}
 use Rattle.block_store.proofs.laws.writes_elsewhere_keep.Goals as goal
 
 pub returns : goal.returns
@@ -17,5 +18,6 @@ returns c old new spaces due out spans stray contents =
       group = let same : new.spans.group ≡ old.spans.group = ap (λ (s : Spans). s.group) spans in omega (arith, same);
     } in (
       keeps c.stands_while_kept.ensures c.stands_with_more_absent.ensures old new kept,
+      stores_same old new spaces (keeps c.stands_while_kept.ensures c.stands_with_more_absent.ensures old new kept),
       keeps_plans c.stands_while_kept.ensures c.stands_with_more_absent.ensures old new kept,
     )

@@ -1,8 +1,7 @@
-use Rattle.std.proofs.Common.{rules, ◌≡◌, ◌+◌, ◌<◌, ◌≤◌, Bool, true, false, not, Some, Result, Ok, Err, length, refl, sym, ap, subst, ◌∙◌, arith}
-use Rattle.std.specs.Prelude.{OnOk, slice_set, is_err}
+use Rattle.std.proofs.Common.{rules, ◌≡◌, true, false, not, Some, Result, Ok, Err, sym, ap, subst, ◌∙◌}
+use Rattle.std.specs.Prelude.{OnOk, is_err}
 use Rattle.std.specs.List.{slice_get}
 use Rattle.std.proofs.lemmas.List.{length-set}
-use Rattle.metaslab_group.specs.Spaces.{AreSettled}
 use Rattle.block_store.specs.Spaces.{VdevSpace}
 use Rattle.block_store.proofs.Choosing.{at_item}
 use Rattle.block_store.proofs.Settled.{SettledUpTo, none_yet, one_more, all_settled, some_settled, none_planned}

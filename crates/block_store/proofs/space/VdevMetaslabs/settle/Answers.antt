@@ -1,4 +1,4 @@
-use Rattle.std.proofs.Common.{◌≡◌, List, sym, ap, subst}
+use Rattle.std.proofs.Common.{List, sym, subst}
 use Rattle.metaslab.specs.Space.{Space}
 use Rattle.metaslab_group.specs.Spaces.{AreSettledInPart}
 use Rattle.block_store.specs.Spaces.{VdevSpace, AreMetaslabsOf}

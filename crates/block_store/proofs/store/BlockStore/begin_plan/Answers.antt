@@ -1,12 +1,11 @@
-use Rattle.std.proofs.Common.{◌≡◌, false, List, ap, subst, ◌∙◌}
+use Rattle.std.proofs.Common.{◌≡◌, false, ap, subst, ◌∙◌}
 use Rattle.std.specs.Prelude.{OnOk, Contains}
 use Rattle.block_store.specs.Places.{shapes_of}
 use Rattle.block_store.specs.Releases.{AreSettledIn, AreSettledInSome}
-use Rattle.block_store.specs.Spaces.{VdevSpace}
 use Rattle.block_store.specs.Store.{Store}
 use Rattle.block_store.specs.Uses.{Passes}
 use Rattle.block_store.proofs.Lost.{lose_in}
-use Rattle.block_store.proofs.Planning.{nothing}
+use Rattle.block_store.proofs.Planning.{holds_by, nothing}
 use Rattle.block_store.proofs.Settled.{lies_settled, begun_settled}
 use Rattle.block_store.proofs.Taking.{laid_out_too}
 use Rattle.block_store.proofs.store.BlockStore.begin_plan.Goals as goal
@@ -38,7 +37,7 @@ returns-clause-stays g c = λ test later block to lies i place at.
     (returns-clause-some g c) (lies i place at)
 
 pub returns-clause-plans : goal.returns-clause-plans
-returns-clause-plans g c = λ stored holds spared.
+returns-clause-plans g c = λ stored stores spared.
     let spaces : c.self.inside.spaces.items ≡ c.args.self.now.spaces = ap (λ (s : Store). s.spaces) c.self.view_is ∙ c.enter.ensures.spaces in
     let shapes : shapes_of c.settle_each.new.spaces.items ≡ shapes_of c.args.self.now.spaces = c.settle_each.ensures.shapes ∙ ap shapes_of spaces in
     let new : Store = record {
@@ -51,4 +50,19 @@ returns-clause-plans g c = λ stored holds spared.
     } in
     begun_settled c.args.group c.args.self.now new (ap (λ (s : Store). s.disks) c.self.view_is ∙ c.enter.ensures.disks)
     (lose_in c.args.self.now new c.args.group (ap (λ (s : Store). s.out) c.self.view_is ∙ c.enter.ensures.out) (ap (λ (s : Store). s.spans) c.self.view_is ∙ c.enter.ensures.spans))
-    shapes (returns-clause-some g c) c.settle_each.ensures.free c.clear.ensures.items stored holds spared
+    shapes (returns-clause-some g c) c.settle_each.ensures.free c.clear.ensures.items stored stores spared
+
+pub returns-clause-keeps : goal.returns-clause-keeps
+returns-clause-keeps g c =
+    let spaces : c.self.inside.spaces.items ≡ c.args.self.now.spaces = ap (λ (s : Store). s.spaces) c.self.view_is ∙ c.enter.ensures.spaces in
+    let new : Store = record {
+      disks = c.self.inside.disks;
+      spaces = c.settle_each.new.spaces.items;
+      out = c.self.inside.out.items;
+      spans = record { since = c.self.inside.since.items; group = c.self.inside.group };
+      due = c.clear.new.self.items;
+      stray = false;
+    } in
+    holds_by c.args.self.now new (ap (λ (s : Store). s.disks) c.self.view_is ∙ c.enter.ensures.disks)
+    (lose_in c.args.self.now new c.args.group (ap (λ (s : Store). s.out) c.self.view_is ∙ c.enter.ensures.out) (ap (λ (s : Store). s.spans) c.self.view_is ∙ c.enter.ensures.spans))
+    (c.settle_each.ensures.shapes ∙ ap shapes_of spaces)

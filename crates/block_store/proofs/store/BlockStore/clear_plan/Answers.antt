@@ -1,6 +1,8 @@
-use Rattle.std.proofs.Common.{Contains, refl, sym, subst}
-use Rattle.block_store.specs.Store.{Store, Holds}
-use Rattle.block_store.proofs.Planning.{same_but, begun, nothing}
+use Rattle.std.proofs.Common.{Contains, false, refl, sym, ap, ◌∙◌, subst}
+use Rattle.block_store.specs.Places.{shapes_of}
+use Rattle.block_store.specs.Store.{Store, Stores}
+use Rattle.block_store.proofs.Lost.{lose_same}
+use Rattle.block_store.proofs.Planning.{same_but, begun, holds_by, nothing}
 use Rattle.block_store.proofs.Taking.{laid_out_too}
 use Rattle.block_store.proofs.store.BlockStore.clear_plan.Goals as goal
 
@@ -14,6 +16,20 @@ invariant_of-self g c = record {
 }
 
 pub returns-clause-plans : goal.returns-clause-plans
-returns-clause-plans g c stored holds =
+returns-clause-plans g c stored stores =
     begun _ _ (same_but _ _ _ _ refl refl refl c.drop_plans.ensures.shapes c.drop_plans.ensures.filled) c.drop_plans.ensures.planned c.clear.ensures.items stored
-    (subst (λ (s : Store). Holds s stored) (sym c.self.view_is) holds)
+    (subst (λ (s : Store). Stores s stored) (sym c.self.view_is) stores)
+
+pub returns-clause-keeps : goal.returns-clause-keeps
+returns-clause-keeps g c =
+    let new : Store = record {
+      disks = c.self.inside.disks;
+      spaces = c.drop_plans.new.spaces.items;
+      out = c.self.inside.out.items;
+      spans = record { since = c.self.inside.since.items; group = c.self.inside.group };
+      due = c.clear.new.self.items;
+      stray = false;
+    } in
+    holds_by c.args.self.now new (ap (λ (s : Store). s.disks) c.self.view_is)
+    (lose_same c.args.self.now new (ap (λ (s : Store). s.out) c.self.view_is) (ap (λ (s : Store). s.spans) c.self.view_is))
+    (c.drop_plans.ensures.shapes ∙ ap (λ (s : Store). shapes_of s.spaces) c.self.view_is)

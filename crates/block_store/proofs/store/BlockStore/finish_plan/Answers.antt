@@ -1,7 +1,9 @@
 use Rattle.std.proofs.Common.{refl, sym, ap, ◌∙◌, subst}
 use Rattle.block_store.specs.Plans.{Plans}
 use Rattle.block_store.specs.Store.{Store}
-use Rattle.block_store.proofs.Planning.{same_but, finished}
+use Rattle.block_store.specs.Places.{shapes_of}
+use Rattle.block_store.proofs.Lost.{lose_same}
+use Rattle.block_store.proofs.Planning.{same_but, holds_by, finished}
 use Rattle.block_store.proofs.Taking.{laid_out_too}
 use Rattle.block_store.proofs.store.BlockStore.finish_plan.Goals as goal
 
@@ -13,6 +15,20 @@ invariant_of-self g c = record {
   reached = c.self.invariant.reached;
   due = c.self.invariant.due;
 }
+
+pub returns-clause-keeps : goal.returns-clause-keeps
+returns-clause-keeps g c =
+    let new : Store = record {
+      disks = c.self.inside.disks;
+      spaces = c.keep_plans.new.spaces.items;
+      out = c.self.inside.out.items;
+      spans = record { since = c.self.inside.since.items; group = c.self.inside.group };
+      due = c.self.inside.due.items;
+      stray = c.self.inside.stray;
+    } in
+    holds_by c.args.self.now new (ap (λ (s : Store). s.disks) c.self.view_is)
+    (lose_same c.args.self.now new (ap (λ (s : Store). s.out) c.self.view_is) (ap (λ (s : Store). s.spans) c.self.view_is))
+    (c.keep_plans.ensures.shapes ∙ ap (λ (s : Store). shapes_of s.spaces) c.self.view_is)
 
 pub returns-clause-stored : goal.returns-clause-stored
 returns-clause-stored g c stored planned plans none =

@@ -4,6 +4,7 @@ use Rattle.model_disk.specs.Joint.{Disks, on}
 use Rattle.block_store.specs.Store.{Store, IsOutToo, GoesOut}
 use Rattle.block_store.proofs.Calling.{flushed, same_flush_call}
 use Rattle.block_store.proofs.Kept.{IsKept, keeps, keeps_plans}
+use Rattle.block_store.proofs.Planning.{stores_same}
 use Rattle.block_store.proofs.store.BlockStore.flush.Given.{Over}
 use Rattle.block_store.proofs.store.BlockStore.flush.Goals as goal
 
@@ -26,6 +27,9 @@ kept g c =
 
 pub returns-clause-keeps : goal.returns-clause-keeps
 returns-clause-keeps g c = keeps c.blocks_beside_others.ensures.kept c.blocks_beside_others.ensures.more_absent c.args.self.now c.note.new.self (kept g c)
+
+pub returns-clause-stores : goal.returns-clause-stores
+returns-clause-stores g c = stores_same c.args.self.now c.note.new.self (kept g c).spaces (returns-clause-keeps g c)
 
 pub returns-clause-plans : goal.returns-clause-plans
 returns-clause-plans g c = keeps_plans c.blocks_beside_others.ensures.kept c.blocks_beside_others.ensures.more_absent c.args.self.now c.note.new.self (kept g c)

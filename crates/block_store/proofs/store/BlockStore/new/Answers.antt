@@ -1,7 +1,7 @@
 use Rattle.std.proofs.Common.{rules, ◌≡◌, ◌≤◌, ◌^◌, ℕ, List, length, sym, subst, arith}
 use Rattle.std.specs.Prelude.{replicate, slice_index}
 use Rattle.std.proofs.lemmas.Grind.{common_steps}
-use Rattle.block_store.proofs.Making.{is_store, none_since, plans_nothing}
+use Rattle.block_store.proofs.Making.{is_store, none_since, plans_nothing, stores_nothing}
 use Rattle.block_store.proofs.store.BlockStore.new.Goals as goal
 
 pub invariant_of-result : goal.invariant_of-result
@@ -13,6 +13,9 @@ invariant_of-result g c =
     let zeros : c.in_ok-since.since.items ≡ replicate c.len-2.result 0 = search rules in
     is_store _ c.args.vdevs.now c.in_ok-spaces.ensures.ok few count out since
     (λ disk. subst (λ (them : List ℕ). slice_index them disk ≤ 0) (sym zeros) (none_since c.len-2.result disk)) c.new.ensures.items
+
+pub returns-clause-holds : goal.returns-clause-holds
+returns-clause-holds g c = stores_nothing _
 
 pub returns-clause-plans : goal.returns-clause-plans
 returns-clause-plans g c = plans_nothing _ c.new.ensures.items c.in_ok-spaces.ensures.empty

@@ -1,8 +1,8 @@
-use Rattle.std.proofs.Common.{◌≡◌, ◌∙◌, sym, subst, List}
+use Rattle.std.proofs.Common.{◌∙◌, [], sym, subst}
+use Rattle.block_pointer.specs.Copies.{dvas}
 use Rattle.block_store.specs.Blocks.{count_of}
-use Rattle.block_store.specs.Places.{TookSome}
-use Rattle.block_store.specs.Spaces.{VdevSpace}
-use Rattle.block_store.proofs.Adding.{OnlyTook, took_keeps, took_keeps_plans}
+use Rattle.block_store.specs.Places.{AreChosen, TookSome}
+use Rattle.block_store.proofs.Adding.{chosen_stores, took_keeps, took_keeps_plans}
 use Rattle.block_store.proofs.Entering.{keeps_through, plans_through}
 use Rattle.block_store.proofs.Fitting.{took_some}
 use Rattle.block_store.proofs.store.BlockStore.plan_write.Goals as goal
@@ -27,3 +27,20 @@ returns-in-Err-clause-err g c =
     let took = took_some c.reach.new.self c.note_stray.new.self sectors (count_of c.args.copies) (c.note_stray.ensures.disks ∙ c.in-Err.ensures.disks)
     (c.note_stray.ensures.out ∙ c.in-Err.ensures.out) (c.note_stray.ensures.spans ∙ c.in-Err.ensures.spans) (c.note_stray.ensures.due ∙ c.in-Err.ensures.err_due) some in
     plans_through _ _ _ c.reach.ensures.plans (took_keeps_plans c.reach.new.self c.note_stray.new.self sectors took.0 took.1 c.note_stray.ensures.stray)
+
+pub returns-in-Ok-clause-stores : goal.returns-in-Ok-clause-stores
+returns-in-Ok-clause-stores g c =
+    let sectors = c.args.new.property.sectors in
+    let places = dvas c.in-Ok.block.copies in
+    let chosen : AreChosen c.args.self.now.spaces [] sectors places c.place_block.new.self.spaces =
+    subst (λ xs. AreChosen xs [] sectors places c.place_block.new.self.spaces) c.reach.ensures.spaces c.in-Ok.ensures.places in
+    chosen_stores c.args.self.now c.place_block.new.self sectors places chosen (keeps_through _ _ _ c.reach.ensures.keeps c.in-Ok.ensures.keeps)
+
+pub returns-in-Err-clause-stores : goal.returns-in-Err-clause-stores
+returns-in-Err-clause-stores g c =
+    let sectors = c.args.new.property.sectors in
+    let some : TookSome c.reach.new.self.spaces sectors (count_of c.args.copies) c.note_stray.new.self.spaces =
+    subst (λ xs. TookSome c.reach.new.self.spaces sectors (count_of c.args.copies) xs) (sym c.note_stray.ensures.spaces) c.in-Err.ensures.err_spaces in
+    let chosen : AreChosen c.args.self.now.spaces [] sectors some.0 c.note_stray.new.self.spaces =
+    subst (λ xs. AreChosen xs [] sectors some.0 c.note_stray.new.self.spaces) c.reach.ensures.spaces some.2 in
+    chosen_stores c.args.self.now c.note_stray.new.self sectors some.0 chosen (returns-in-Err-clause-keeps g c)

@@ -1,5 +1,6 @@
 use Rattle.std.proofs.Common.{◌≡◌, rules, false, true, refl, ◌∙◌}
 use Rattle.block_store.proofs.Kept.{keeps, keeps_plans}
+use Rattle.block_store.proofs.Planning.{stores_same}
 use Rattle.block_store.proofs.ReadingPointers.{in_places}
 use Rattle.block_store.proofs.ReadingWhole.{Laws, IsBlockRead, block_read, reads, untouched, is_kept, first_read, bytes_right, last_fault, is_known, stored_is_readable}
 use Rattle.block_store.proofs.store.BlockStore.read.Goals as goal
@@ -32,6 +33,7 @@ returns g c =
       reads = reads c.args.self.now c.read_places.new.self c.args.missing.now c.args.block.now c.read_places.result is;
       untouched = untouched c.args.self.now c.read_places.new.self c.args.missing.now c.args.block.now c.read_places.result is;
       keeps = keeps laws.kept laws.more_absent c.args.self.now c.read_places.new.self kept;
+      stores = stores_same c.args.self.now c.read_places.new.self kept.spaces (keeps laws.kept laws.more_absent c.args.self.now c.read_places.new.self kept);
       plans = keeps_plans laws.kept laws.more_absent c.args.self.now c.read_places.new.self kept;
       readable = search rules;
       digest = is.read.read.digest;

@@ -1,10 +1,6 @@
-use Rattle.std.proofs.Common.{◌≡◌, inl, inr, List, Result, Ok, Err}
-use Rattle.std.specs.Prelude.{IfErr, ◌⊎◌}
-use Rattle.block_store.specs.declared.refusal.Refusal.{Refusal}
-use Rattle.block_store.specs.declared.refusal.Refusal.TheVariants.{NoMemory, BadPointer}
-use Rattle.block_store.specs.Releases.{copies_of_all, AreReleasedInPart}
-use Rattle.block_store.proofs.GivenBack.{all_in_part, part_same, part_plans, part_stays, part_spares, all_releasable, never_refused}
-use Rattle.block_store.proofs.Planning.{keeps_by}
+use Rattle.block_store.specs.Releases.{copies_of_all}
+use Rattle.block_store.proofs.GivenBack.{all_in_part, part_same, part_plans, part_stays, part_spares, never_refused}
+use Rattle.block_store.proofs.Planning.{keeps_by, stores_kept}
 use Rattle.block_store.proofs.store.BlockStore.release.Goals as goal
 
 pub returns-clause-shapes : goal.returns-clause-shapes
@@ -24,6 +20,13 @@ returns-clause-keeps g c =
     let is = c.release_each.ensures in
     let part = all_in_part c.args.self.now.spaces c.release_each.new.self.spaces (copies_of_all c.args.blocks.now) c.args.group c.release_each.result is.released is.some in
     keeps_by c.args.self.now c.release_each.new.self
+    (part_same c.args.self.now c.release_each.new.self (copies_of_all c.args.blocks.now) c.args.group is.disks is.out is.spans is.due is.stray part)
+
+pub returns-clause-stores : goal.returns-clause-stores
+returns-clause-stores g c =
+    let is = c.release_each.ensures in
+    let part = all_in_part c.args.self.now.spaces c.release_each.new.self.spaces (copies_of_all c.args.blocks.now) c.args.group c.release_each.result is.released is.some in
+    stores_kept c.args.self.now c.release_each.new.self
     (part_same c.args.self.now c.release_each.new.self (copies_of_all c.args.blocks.now) c.args.group is.disks is.out is.spans is.due is.stray part)
 
 pub returns-clause-plans : goal.returns-clause-plans

@@ -1,8 +1,7 @@
-use Rattle.std.proofs.Common.{◌≡◌, ◌+◌, ◌∷◌, drop, get_or, List, [], inl, inr, refl, ap, subst, ◌∙◌}
-use Rattle.std.specs.Prelude.{IfErr}
+use Rattle.std.proofs.Common.{◌≡◌, ◌+◌, ◌∷◌, drop, get_or, List, inl, inr, refl, subst, ◌∙◌}
 use Rattle.std.proofs.lemmas.List.{drop_more}
 use Rattle.block_pointer.specs.declared.block.Block.{Block}
-use Rattle.block_store.specs.Releases.{CopyAt, copies_of, copies_of_all}
+use Rattle.block_store.specs.Releases.{copies_of, copies_of_all}
 use Rattle.block_store.proofs.GivenBack.{ReleasedUpTo, none_yet, more_are, part_of, stops_at, some_block, at_error, passed_on}
 use Rattle.block_store.proofs.store.BlockStore.release_each.Goals as goal
 

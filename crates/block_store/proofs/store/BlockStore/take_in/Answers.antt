@@ -3,8 +3,8 @@ use Rattle.block_store.specs.Places.{filled, planned}
 use Rattle.block_store.specs.Releases.{copies_of_all}
 use Rattle.block_store.proofs.TakenIn.{picks_filled, picks_planned}
 use Rattle.block_store.proofs.TakenBlocks.{distinct_are, taken_in_use, taken_fills, taken_holds}
-use Rattle.block_store.proofs.TakenEach.{all_in_part, part_shapes, part_keeps, part_stays}
-use Rattle.block_store.proofs.TakenPlans.{part_plans}
+use Rattle.block_store.proofs.TakenEach.{all_in_part, part_shapes, part_keeps, part_stores, part_stays}
+use Rattle.block_store.proofs.TakenPlans.{opened_plans, part_plans}
 use Rattle.block_store.proofs.store.BlockStore.take_in.Goals as goal
 
 pub returns-clause-shapes : goal.returns-clause-shapes
@@ -46,6 +46,12 @@ returns-clause-keeps g c =
     part_keeps c.args.self.now c.take_in_each.new.self (copies_of_all c.args.blocks.now) is.disks is.out is.spans
     (all_in_part c.args.self.now.spaces c.take_in_each.new.self.spaces (copies_of_all c.args.blocks.now) c.take_in_each.result is.taken is.some)
 
+pub returns-clause-stores : goal.returns-clause-stores
+returns-clause-stores g c =
+    let is = c.take_in_each.ensures in
+    part_stores c.args.self.now c.take_in_each.new.self (copies_of_all c.args.blocks.now) is.disks is.out is.spans
+    (all_in_part c.args.self.now.spaces c.take_in_each.new.self.spaces (copies_of_all c.args.blocks.now) c.take_in_each.result is.taken is.some)
+
 pub returns-clause-plans : goal.returns-clause-plans
 returns-clause-plans g c =
     let is = c.take_in_each.ensures in
@@ -56,3 +62,11 @@ pub returns-clause-holds : goal.returns-clause-holds
 returns-clause-holds g c =
     let is = c.take_in_each.ensures in
     on_ok_weaker c.take_in_each.result (taken_holds c.args.self.now c.take_in_each.new.self c.args.blocks.now is.disks is.out is.spans) is.taken
+
+pub returns-clause-opens : goal.returns-clause-opens
+returns-clause-opens g c =
+    let is = c.take_in_each.ensures in
+    on_ok_weaker c.take_in_each.result
+    (λ taken. opened_plans c.args.self.now c.take_in_each.new.self c.args.blocks.now
+    (record { disks = is.disks; out = is.out; spans = is.spans; due = is.due; stray = is.stray; taken = taken }))
+    is.taken

@@ -1,0 +1,9 @@
+use Rattle.std.proofs.Common.{ℕ, List, Vec, Global, sym, ◌∙◌}
+use Rattle.std.specs.List.{each_same}
+use Rattle.volume_rules.proofs.Indexes.{same_in_clone}
+use Rattle.volume_rules.proofs.index.NameIndex.copied.Goals as goal
+
+pub returns : goal.returns
+returns c = λ pool.
+    let cloned = same_in_clone (λ (key : Vec ℕ Global). key.items) _ _ (λ key copy h. each_same key.items copy.items h.0) (λ shape copy h. h) c.args.self.now.shapes.entries c.in_ok-clone.field-0.entries c.in_ok-clone.ensures.cases in
+    (λ k. record { shapes = λ name. cloned name ∙ k.shapes name }, λ k. record { shapes = λ name. sym (cloned name) ∙ k.shapes name })
