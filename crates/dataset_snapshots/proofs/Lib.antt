@@ -16,6 +16,7 @@ pub mod MakingDemands
 pub mod MakingRefusals
 pub mod MakingSteps
 pub mod MakingVolumes
+pub mod NamedRows
 pub mod NamingOrder
 pub mod Numbered
 pub mod Opening

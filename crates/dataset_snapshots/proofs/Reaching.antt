@@ -136,7 +136,7 @@ reach_known stored birth root pool is block held =
     ]
 
 pub reaches_lie_apart : ReachesLieApart
-reaches_lie_apart store stored birth root pool held is block other i k place behind one two at there =
+reaches_lie_apart store stored birth root pool stores is block other i k place behind one two at there =
     let first = reach_known stored birth root pool is block one in
     let second = reach_known stored birth root pool is other two in
-    held.placed.apart block other first.0 second.0 i k place behind first.1 second.1 at there
+    stores.placed.apart block other first.0 second.0 i k place behind first.1 second.1 at there

@@ -8,7 +8,7 @@ use Rattle.block_store.specs.declared.refusal.Refusal.TheVariants.{DiskFault}
 use Rattle.block_store.specs.Blocks.{Contents, Extends}
 use Rattle.block_store.specs.Losses.{IsBlockLost}
 use Rattle.block_store.specs.Places.{ArePlacesApart}
-use Rattle.block_store.specs.Store.{Holds, Store}
+use Rattle.block_store.specs.Store.{Store, Stores}
 use Rattle.dnode_tree.specs.Freeing.{AreOnlyIn}
 use Rattle.dnode_tree.specs.ReadRefusals.{IsForRead}
 use Rattle.dnode_tree.specs.Rewriting.{AreDistinct}
@@ -143,7 +143,7 @@ GoodChangesMayBeMade =
 abbrev pub ReachesLieApart : Type 0
 ReachesLieApart =
     (store : Store) (stored : Contents) (birth : ℕ) (root : Block) (pool : PlainPool)
-    → Holds store stored → (is : SpellsPool stored birth root pool)
+    → Stores store stored → (is : SpellsPool stored birth root pool)
     → (block other : Block) (i k : ℕ) (place behind : Dva) → Contains (reach_of is) block
     → Contains (reach_of is) other → slice_get (dvas block.copies) i ≡ Some place
     → slice_get (dvas other.copies) k ≡ Some behind

@@ -6,6 +6,7 @@ ghost use Rattle.block_pointer.specs.Copies.{dvas};
 ghost use Rattle.block_store.specs.Blocks.{Contents, Extends};
 ghost use Rattle.block_store.specs.Plans.{Plans};
 ghost use Rattle.block_store.specs.Steps.{OnlyReadsAndPlans, AnswersAreTrue};
+ghost use Rattle.dnode_slots.specs.Sets.{asked_of_set};
 ghost use Rattle.dnode_tree.specs.Writes.{IsForRoom};
 ghost use Rattle.objset.specs.Changes.{IsGoodChange};
 ghost use Rattle.pool_model.specs.Pools.{applied, changed, no_volumes};
@@ -71,6 +72,8 @@ pub fn first_group<D: Disk + Drop>(
     ensures steps { OnlyReadsAndPlans store.old store.new [] }
     ensures fits { IfOk result (λ first. FitsBlock first.root) }
     ensures born { IfOk result (λ first. first.root.birth ≡ group) }
+    ensures property { IfOk result (λ first.
+        first.root.property ≡ (asked_of_set group).property) }
     ensures copies { IfOk result (λ first. length (dvas first.root.copies) ≡ 3) }
 
     // It spells the pool after the group, once the plan is stored, and has the tables of a new pool. What is planned is what it

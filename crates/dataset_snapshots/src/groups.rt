@@ -10,6 +10,7 @@ ghost use Rattle.block_store.specs.Steps.{OnlyReadsAndPlans, OnlyReadsBlocks, An
 ghost use Rattle.block_store.specs.Store.{Holds};
 ghost use Rattle.dnode.specs.ObjectSet.{FitsObjectSet};
 ghost use Rattle.dnode.specs.declared.object_set.ObjectSetKind.TheVariants as sets;
+ghost use Rattle.dnode_slots.specs.Sets.{asked_of_set};
 ghost use Rattle.dnode_tree.specs.Subtree.{joined};
 ghost use Rattle.dnode_tree.specs.Writes.{IsForRoom};
 ghost use Rattle.meta_objset.specs.declared.directory.DirectoryRow.{DirectoryRow};
@@ -90,6 +91,8 @@ pub fn after_group<D: Disk + Drop>(
     ensures steps { OnlyReadsAndPlans store.old store.new [] }
     ensures fits { IfOk result (λ after. FitsBlock after.root) }
     ensures born { IfOk result (λ after. after.root.birth ≡ group) }
+    ensures property { IfOk result (λ after.
+        after.root.property ≡ (asked_of_set group).property) }
     ensures copies { IfOk result (λ after. length (dvas after.root.copies) ≡ 3) }
 
     // It spells the pool after the group, once the plan is stored, and has the other tables that there were. The blocks that
@@ -324,6 +327,7 @@ pub(crate) fn plan_root<D: Disk + Drop>(
     ensures steps { OnlyReadsAndPlans store.old store.new [] }
     ensures fits { IfOk result FitsBlock }
     ensures born { IfOk result (λ root. root.birth ≡ group) }
+    ensures property { IfOk result (λ root. root.property ≡ (asked_of_set group).property) }
     ensures copies { IfOk result (λ root. length (dvas root.copies) ≡ 3) }
     ensures value { IfOk result (λ root. (stored planned : Contents) (bound : ℕ)
         (objects : ℕ → Option Object) (own : List Block) (blocks : ℕ → List Block)

@@ -1,17 +1,20 @@
 //! The datasets of a pool under a root: what a root spells, and what it has of a name.
 #![tactic(auto)]
 
+mod contents;
 mod finding;
 mod first_root;
 mod groups;
 mod laws;
 mod making;
+mod naming;
 mod new_volume;
 mod ranges;
 mod walks;
 mod writing;
 
 pub use block_store::Refusal;
+pub use contents::{RootContents, contents_under};
 pub use finding::{Dataset, directory_under, find, find_in};
 pub use first_root::{FirstRoot, first_group};
 pub use groups::{NextRoot, after_group};

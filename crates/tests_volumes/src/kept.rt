@@ -18,7 +18,7 @@ use std::test::Fail;
 use txg_pipeline::Pipeline;
 
 /// Whether a directory has these rows: letters in order, each with its object.
-fn has_rows(directory: &Directory, rows: &[(u8, u64)]) -> bool {
+pub(crate) fn has_rows(directory: &Directory, rows: &[(u8, u64)]) -> bool {
     let mut right = directory.rows().len() == rows.len();
     for (row, (name, object)) in directory.rows().iter().zip(rows) {
         right = right && row.name == name_of(*name) && row.object == *object;

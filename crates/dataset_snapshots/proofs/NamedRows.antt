@@ -1,0 +1,166 @@
+-- The names of rows, known one after the other.
+use Rattle.std.proofs.Common.{◌≡◌, ◌≢◌, ℕ, zero, suc, ◌+◌, ◌<◌, List, [], ◌∷◌, ◌++◌, length, take, get_or, Bool, true, false, Option, Some, None, AllPairs, inl, inr, refl, sym, ap, ◌∙◌, subst, arith}
+use Rattle.std.specs.Prelude.{cond, find, min, replicate, All}
+use Rattle.std.specs.List.{AllZip}
+use Rattle.std.specs.Option.{option_map}
+use Rattle.std.proofs.lemmas.List.{get_or-take, get_or_default, length-replicate, length-take, take_more}
+use Rattle.std.proofs.lemmas.List.Elements.{All-head, All-tail}
+use Rattle.std.proofs.lemmas.List.Folds.{find-append}
+use Rattle.std.proofs.lemmas.Slice.Zip.{all_zipped_more}
+use Rattle.block_store.specs.Blocks.{Contents}
+use Rattle.block_store.specs.declared.refusal.Refusal.{Refusal}
+use Rattle.block_store.specs.declared.refusal.Refusal.TheVariants.{NoSpace}
+use Rattle.block_store.specs.Spaces.{VdevSpace}
+use Rattle.block_store.specs.Steps.{OnlyReadsBlocks}
+use Rattle.block_store.specs.Store.{Store}
+use Rattle.dnode.specs.declared.object_set.ObjectSet.{ObjectSet}
+use Rattle.dnode_tree.specs.ReadRefusals.{IsForRead}
+use Rattle.meta_objset.proofs.Edits.{apart, pairs_head, pairs_tail}
+use Rattle.meta_objset.specs.declared.directory.DirectoryRow.{DirectoryRow}
+use Rattle.meta_objset.specs.declared.record.DatasetRecord.{DatasetRecord}
+use Rattle.meta_objset.specs.Names.{IsBefore, IsName, IsNamed}
+use Rattle.object_table.proofs.Tables.{spaces_stay}
+use Rattle.objset.specs.Objects.{Object}
+use Rattle.pool_model.proofs.Places.{same_is, volume_more}
+use Rattle.pool_model.specs.declared.volume.PlainVolume.{PlainVolume}
+use Rattle.pool_model.specs.declared.volume.VolumeKind.{VolumeKind}
+use Rattle.pool_model.specs.declared.volume.VolumeKind.TheVariants as volumes
+use Rattle.pool_model.specs.Names.{same}
+use Rattle.pool_model.specs.Pools.{PlainPool, volume_at, with_volume}
+use Rattle.volume_rules.specs.declared.index.NameIndex.{NameIndex}
+use Rattle.volume_rules.specs.declared.shape.VolumeShape.{VolumeShape}
+use Rattle.volume_rules.specs.Index.{Knows}
+use Rattle.volume_rules.specs.Shapes.{shape_of}
+use Rattle.dataset_snapshots.specs.Contents.{AreVolumesNamed, IsVolumeNamed, IsVolumeShapeFound}
+use Rattle.dataset_snapshots.specs.Pools.{IsRecordOf, SpellsDataset}
+use Rattle.dataset_snapshots.proofs.Rows.{at, padded_same}
+
+abbrev Before : DirectoryRow → DirectoryRow → Type 0
+Before row later = IsBefore row.name later.name
+
+-- ---- the next volume
+
+not_first : (b : Bool) (name : List ℕ) (volume : PlainVolume) (volumes : List PlainVolume) → same volume.name name ≡ b → b ≢ true → at name volumes ≡ None
+    → at name (volume ∷ volumes) ≡ None
+not_first true name volume volumes e clash none = absurd (clash refl)
+not_first false name volume volumes e clash none = ap (λ t. cond t (Some volume) (at name volumes)) e ∙ none
+
+module _ (stored : Contents) (birth : ℕ) (objects : ℕ → Option Object) where
+  -- the row spells the volume that follows on the first ones, and none of these has its name
+  pub record IsNext (row : DirectoryRow) (k : ℕ) (volumes : List PlainVolume) : Type 0 where
+    pub volume : PlainVolume
+    pub is : SpellsDataset stored birth objects row volume
+    pub more : take (suc k) volumes ≡ take k volumes ++ volume ∷ []
+    pub new : at volume.name (take k volumes) ≡ None
+
+  pub next_volume : (rows : List DirectoryRow) (volumes : List PlainVolume) (k : ℕ) (row other : DirectoryRow) → AllPairs Before rows → AllZip (SpellsDataset stored birth objects) rows volumes
+      → k < length rows → row ≡ get_or rows k other → IsNext row k volumes
+  next_volume [] volumes k row other order all low is = absurd (omega (arith, low))
+  next_volume (first ∷ rows) [] k row other order all low is = absurd all
+  next_volume (first ∷ rows) (volume ∷ volumes) zero row other order all low is = record {
+    volume = volume;
+    is = subst (λ (r : DirectoryRow). SpellsDataset stored birth objects r volume) (sym is) all.0;
+    more = refl;
+    new = refl;
+  }
+  next_volume (first ∷ rows) (volume ∷ volumes) (suc k) row other order all low is =
+      let next = next_volume rows volumes k row other (pairs_tail Before first rows order) all.1 (omega (arith, low)) is in
+      let before : Before first row = subst (λ (r : DirectoryRow). Before first r) (sym is) (pairs_head Before first rows order k other (omega (arith, low))) in
+      record {
+        volume = next.volume;
+        is = next.is;
+        more = ap (λ vs. volume ∷ vs) next.more;
+        new = not_first (same volume.name next.volume.name) next.volume.name volume (take k volumes) refl
+            (λ e. apart first.name row.name before (padded_same first.name row.name volume.name next.volume.name all.0.name next.is.name (same_is volume.name next.volume.name e))) next.new;
+      }
+
+-- ---- what is known
+
+-- an index that knows volumes and one with a new name knows them in this order
+knows_more : (names : NameIndex) (volumes : List PlainVolume) (volume : PlainVolume) → Knows names (with_volume volume (record { volumes = volumes })) → Knows names (record { volumes = volumes ++ volume ∷ [] })
+knows_more names volumes volume known =
+    let pool : PlainPool = record { volumes = volumes } in
+    record {
+      shapes = λ name.
+          let found : volume_at name (with_volume volume pool) ≡ at name (volumes ++ volume ∷ []) =
+          volume_more pool volume name ∙ sym (find-append (λ (v : PlainVolume). same v.name name) volumes (volume ∷ [])) in
+          known.shapes name ∙ ap (option_map shape_of) found;
+    }
+
+pub knows_next : (names : NameIndex) (volumes : List PlainVolume) (k : ℕ) (volume : PlainVolume) → take (suc k) volumes ≡ take k volumes ++ volume ∷ []
+    → Knows names (with_volume volume (record { volumes = take k volumes })) → Knows names (record { volumes = take (k + 1) volumes })
+knows_next names volumes k volume more known =
+    let one_more : k + 1 ≡ suc k = omega arith in
+    subst (λ (vs : List PlainVolume). Knows names (record { volumes = vs })) (sym (ap (λ n. take n volumes) one_more ∙ more)) (knows_more names (take k volumes) volume known)
+
+shapes_same : (shape other : VolumeShape) → shape.size ≡ other.size → shape.block_size ≡ other.block_size → shape.group ≡ other.group → shape.kind ≡ other.kind → shape ≡ other
+shapes_same shape other size block_size group kind = λ i. record { size = size i; block_size = block_size i; group = group i; kind = kind i }
+
+-- the record that was read has the volume's shape
+pub shape_is : (volume : PlainVolume) (r found : DatasetRecord) (kind : VolumeKind) → found ≡ r → kind ≡ volumes.Volume → IsRecordOf r volume
+    → shape_of volume ≡ record { size = found.size; block_size = found.block_size; group = found.created; kind = kind }
+shape_is volume r found kind same kind_is is =
+    shapes_same (shape_of volume) (record { size = found.size; block_size = found.block_size; group = found.created; kind = kind })
+    (sym is.size ∙ ap (λ (other : DatasetRecord). other.size) (sym same)) (sym is.block_size ∙ ap (λ (other : DatasetRecord). other.block_size) (sym same))
+    (sym is.created ∙ ap (λ (other : DatasetRecord). other.created) (sym same)) (is.is_volume ∙ sym kind_is)
+
+-- ---- whatever the root is
+
+-- the rows before one have names that stand before its own
+before_row : (rows : List DirectoryRow) (k : ℕ) (row other : DirectoryRow) → AllPairs Before rows → k < length rows → row ≡ get_or rows k other → All (λ first. Before first row) (take k rows)
+before_row rows k row other order low is i d within =
+    let len : length (take k rows) ≡ min k (length rows) = length-take k rows in
+    let small : i < k = omega (arith, within, len) in
+    let there : row ≡ get_or rows k d = is ∙ get_or_default rows k other d low in
+    subst (λ (r : DirectoryRow). Before (get_or (take k rows) i d) r) (sym there)
+    (subst (λ (r : DirectoryRow). Before r (get_or rows k d)) (sym (get_or-take k rows i d small)) (order i k d small low))
+
+module _ (spaces : List VdevSpace) (set : ObjectSet) (birth : ℕ) where
+  no_name : (rows : List DirectoryRow) (volumes : List PlainVolume) (row : DirectoryRow) (name : List ℕ) → AllZip (IsVolumeNamed spaces set birth) rows volumes → All (λ first. Before first row) rows
+      → IsNamed row.name name → at name volumes ≡ None
+  no_name [] [] row name all before named = refl
+  no_name [] (volume ∷ volumes) row name all before named = absurd all
+  no_name (first ∷ rows) [] row name all before named = absurd all
+  no_name (first ∷ rows) (volume ∷ volumes) row name all before named =
+      not_first (same volume.name name) name volume volumes refl
+      (λ e. apart first.name row.name (All-head (λ one. Before one row) first rows before) (padded_same first.name row.name volume.name name all.0.name named (same_is volume.name name e)))
+      (no_name rows volumes row name all.1 (All-tail (λ one. Before one row) first rows before) named)
+
+  -- one row more
+  named_more : (rows : List DirectoryRow) (k : ℕ) (row other : DirectoryRow) (names after : NameIndex) (shape : VolumeShape) → AllPairs Before rows → k < length rows → row ≡ get_or rows k other
+      → IsName row.name → IsVolumeShapeFound spaces set birth row.object shape → AreVolumesNamed spaces set birth (take k rows) names
+      → ((pool : PlainPool) (volume : PlainVolume) → Knows names pool → IsNamed row.name volume.name → volume_at volume.name pool ≡ None → shape_of volume ≡ shape → Knows after (with_volume volume pool))
+      → AreVolumesNamed spaces set birth (take (k + 1) rows) after
+  named_more rows k row other names after shape order low is named (r, has, kind, shape_is) (before, all, known) added =
+      let none : ℕ = 0 in
+      let volume : PlainVolume = record { name = named.0; bytes = replicate r.size none; block_size = r.block_size; group = r.created; kind = volumes.Volume } in
+      let size : length volume.bytes ≡ r.size = length-replicate r.size none in
+      let record_is : IsRecordOf r volume = record { kind = kind; is_volume = refl; size = sym size; block_size = refl; created = refl } in
+      let is_named : IsVolumeNamed spaces set birth row volume = record { name = named.1; r = r; has = has; is = record_is } in
+      let new : at volume.name before ≡ None = no_name (take k rows) before row volume.name all (before_row rows k row other order low is) named.1 in
+      let same_shape : shape_of volume ≡ shape =
+      shapes_same (shape_of volume) (record { size = r.size; block_size = r.block_size; group = r.created; kind = volumes.Volume }) size refl refl refl ∙ sym shape_is in
+      let taken : take k rows ++ row ∷ [] ≡ take (k + 1) rows = ap (λ (r : DirectoryRow). take k rows ++ r ∷ []) is ∙ sym (take_more rows k other low) in (
+        before ++ volume ∷ [],
+        subst (λ (rs : List DirectoryRow). AllZip (IsVolumeNamed spaces set birth) rs (before ++ volume ∷ [])) taken
+            (all_zipped_more (IsVolumeNamed spaces set birth) (take k rows) before row volume all is_named),
+        knows_more after before volume (added (record { volumes = before }) volume known named.1 new same_shape),
+      )
+
+-- behind reads
+pub named_next : (old mid : Store) (missing : List ℕ) (set : ObjectSet) (birth : ℕ) (rows : List DirectoryRow) (k : ℕ) (row other : DirectoryRow) (names after : NameIndex) (shape : VolumeShape)
+    → OnlyReadsBlocks old mid missing → AllPairs Before rows → k < length rows → IsVolumeShapeFound mid.spaces set birth row.object shape → row ≡ get_or rows k other → IsName row.name
+    → AreVolumesNamed old.spaces set birth (take k rows) names
+    → ((pool : PlainPool) (volume : PlainVolume) → Knows names pool → IsNamed row.name volume.name → volume_at volume.name pool ≡ None → shape_of volume ≡ shape → Knows after (with_volume volume pool))
+    → AreVolumesNamed old.spaces set birth (take (k + 1) rows) after
+named_next old mid missing set birth rows k row other names after shape reads order low found is named before added =
+    named_more old.spaces set birth rows k row other names after shape order low is named
+    (subst (λ (spaces : List VdevSpace). IsVolumeShapeFound spaces set birth row.object shape) (spaces_stay old mid missing reads) found) before added
+
+-- ---- what a read is refused for
+
+pub needs_no_room : (refusal : Refusal) → IsForRead refusal → refusal ≢ NoSpace
+needs_no_room refusal (inl memory) is = absurd (cc)
+needs_no_room refusal (inr (inl fault)) is = absurd (cc)
+needs_no_room refusal (inr (inr (inl bad))) is = absurd (cc)
+needs_no_room refusal (inr (inr (inr digest))) is = absurd (cc)

@@ -1,0 +1,70 @@
+use Rattle.std.proofs.Common.{◌≡◌, ◌∙◌, List, inl, inr, ⊎_elim, sym, subst}
+use Rattle.std.specs.List.{AllZip}
+use Rattle.std.proofs.lemmas.Result.{IfOk-weaker, IfErr-weaker}
+use Rattle.block_store.proofs.Steps.{reads_on}
+use Rattle.block_store.specs.Spaces.{VdevSpace}
+use Rattle.dnode_tree.proofs.FurtherReads.{true_before, true_after}
+use Rattle.dnode_tree.proofs.Refusing.{passed_on}
+use Rattle.meta_objset.specs.declared.directory.DirectoryRow.{DirectoryRow}
+use Rattle.object_table.proofs.Tables.{spaces_stay}
+use Rattle.dataset_snapshots.specs.Contents.{AreVolumesNamed, IsRowUnnamed}
+use Rattle.dataset_snapshots.specs.Pools.{SpellsDataset}
+use Rattle.dataset_snapshots.proofs.Datasets.{are_of_root}
+use Rattle.dataset_snapshots.proofs.naming.names_by.Goals as goal
+
+pub returns-in_err-set-clause-refused : goal.returns-in_err-set-clause-refused
+returns-in_err-set-clause-refused g c = passed_on _ _ _ c.from_residual.ensures.1 (inr (inl c.in_err-set.ensures.refused))
+
+pub returns-in_err-set-clause-known : goal.returns-in_err-set-clause-known
+returns-in_err-set-clause-known g c =
+    passed_on _ _ _ c.from_residual.ensures.1 (λ stored pool held is same honest. c.in_err-set.ensures.known stored is.set held is.is_set is.kind honest)
+
+pub returns-clause-reads : goal.returns-clause-reads
+returns-clause-reads g c = reads_on _ _ _ _ c.in_ok-set.ensures.reads c.names_of.ensures.reads
+
+pub returns-clause-value : goal.returns-clause-value
+returns-clause-value g c =
+    let first = c.in_ok-set.ensures.reads in
+    let rest = c.names_of.ensures.reads in
+    IfOk-weaker c.names_of.result _ _
+    (λ names told stored pool held is same honest.
+    let are = are_of_root stored _ _ pool _ is (c.in_ok-set.ensures.value stored is.set held is.is_set (true_before _ _ _ _ first rest honest)) in
+    let rows_are : c.rows.result.now ≡ is.rows = c.rows.ensures.value ∙ same in
+    told stored is.objects is.own is.blocks pool.volumes (first.keeps stored held) are
+    (subst (λ (rows : List DirectoryRow). AllZip (SpellsDataset stored c.args.root.now.birth is.objects) rows pool.volumes) (sym rows_are) is.volumes) (true_after _ _ _ _ first rest honest))
+    c.names_of.ensures.value
+
+pub returns-clause-found : goal.returns-clause-found
+returns-clause-found g c =
+    IfOk-weaker c.names_of.result _ _
+    (λ names found. record {
+      set = c.in_ok-set.set;
+      meta = c.in_ok-set.ensures.found;
+      volumes = subst (λ (rows : List DirectoryRow). AreVolumesNamed c.args.store.now.spaces c.in_ok-set.set c.args.root.now.birth rows names) c.rows.ensures.value
+          (subst (λ (spaces : List VdevSpace). AreVolumesNamed spaces c.in_ok-set.set c.args.root.now.birth c.rows.result.now names) (spaces_stay _ _ _ c.in_ok-set.ensures.reads) found);
+    })
+    c.names_of.ensures.found
+
+pub returns-clause-refused : goal.returns-clause-refused
+returns-clause-refused g c =
+    IfErr-weaker c.names_of.result _ _
+    (λ refusal. ⊎_elim (λ memory. inl memory) (λ why. inr (inr (record {
+      set = c.in_ok-set.set;
+      meta = c.in_ok-set.ensures.found;
+      mid = c.read_meta.new.store;
+      first = c.in_ok-set.ensures.reads;
+      why = subst (λ (rows : List DirectoryRow). IsRowUnnamed c.read_meta.new.store c.names_of.new.store c.args.missing.now c.in_ok-set.set c.args.root.now.birth rows refusal) c.rows.ensures.value why;
+    }))))
+    c.names_of.ensures.refused
+
+pub returns-clause-known : goal.returns-clause-known
+returns-clause-known g c =
+    let first = c.in_ok-set.ensures.reads in
+    let rest = c.names_of.ensures.reads in
+    IfErr-weaker c.names_of.result _ _
+    (λ refusal known stored pool held is same honest.
+    let are = are_of_root stored _ _ pool _ is (c.in_ok-set.ensures.value stored is.set held is.is_set (true_before _ _ _ _ first rest honest)) in
+    let rows_are : c.rows.result.now ≡ is.rows = c.rows.ensures.value ∙ same in
+    known stored is.objects is.own is.blocks pool.volumes (first.keeps stored held) are
+    (subst (λ (rows : List DirectoryRow). AllZip (SpellsDataset stored c.args.root.now.birth is.objects) rows pool.volumes) (sym rows_are) is.volumes) (true_after _ _ _ _ first rest honest))
+    c.names_of.ensures.known

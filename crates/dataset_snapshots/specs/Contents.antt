@@ -1,0 +1,150 @@
+-- What an open keeps of a pool's root.
+use Rattle.std.specs.Prelude.{ℕ, ◌≡◌, ◌≢◌, ◌⊎◌, ◌∷◌, ◌++◌, List}
+use Rattle.std.specs.List.{AllZip}
+use Rattle.block_pointer.specs.declared.block.Block.{Block}
+use Rattle.block_store.specs.Blocks.{Contents}
+use Rattle.block_store.specs.declared.refusal.Refusal.{Refusal}
+use Rattle.block_store.specs.declared.refusal.Refusal.TheVariants.{NoMemory, BadPointer}
+use Rattle.block_store.specs.Spaces.{VdevSpace}
+use Rattle.block_store.specs.Steps.{OnlyReadsBlocks}
+use Rattle.block_store.specs.Store.{Store}
+use Rattle.dnode.specs.declared.object_set.ObjectSet.{ObjectSet}
+use Rattle.meta_objset.specs.declared.directory.DirectoryRow.{DirectoryRow}
+use Rattle.meta_objset.specs.declared.record.DatasetKind.TheVariants as datasets
+use Rattle.meta_objset.specs.declared.record.DatasetRecord.{DatasetRecord}
+use Rattle.meta_objset.specs.Found.{IsRecordFound, IsRecordRefused}
+use Rattle.meta_objset.specs.Names.{IsNamed}
+use Rattle.pool_model.specs.declared.volume.PlainVolume.{PlainVolume}
+use Rattle.pool_model.specs.declared.volume.VolumeKind.TheVariants as volumes
+use Rattle.pool_model.specs.Pools.{PlainPool}
+use Rattle.volume_rules.specs.declared.index.NameIndex.{NameIndex}
+use Rattle.volume_rules.specs.declared.shape.VolumeShape.{VolumeShape}
+use Rattle.volume_rules.specs.Index.{Knows}
+use Rattle.dataset_snapshots.specs.declared.contents.RootContents.{RootContents}
+use Rattle.dataset_snapshots.specs.Finding.{AreRowsFound, IsDirectoryRefused, IsMetaFound, IsMetaRefused}
+use Rattle.dataset_snapshots.specs.Pools.{IsRecordOf, SpellsPool}
+use Rattle.dataset_snapshots.specs.Reach.{reach_of, IsReached, IsReachRefused}
+
+-- these are the root's own: the rows that it spells its pool by, the names of the pool, and the
+-- blocks that it leads to
+pub record AreContentsOf (stored : Contents) (birth : ℕ) (root : Block) (pool : PlainPool)
+    (contents : RootContents) : Type 0 where
+  pub is : SpellsPool stored birth root pool
+  pub rows : contents.directory ≡ is.rows
+  pub names : Knows contents.names pool
+  pub blocks : contents.blocks.items ≡ reach_of is
+
+-- ---- what was read, whether or not the root is whole
+
+-- the dataset's record was read, and is that of a volume of this shape
+abbrev pub IsVolumeShapeFound : List VdevSpace → ObjectSet → ℕ → ℕ → VolumeShape → Type 0
+IsVolumeShapeFound spaces set birth object shape =
+    (r : DatasetRecord) × IsRecordFound spaces set birth object r × (r.kind ≡ datasets.Volume)
+    × (shape ≡ record {
+      size = r.size;
+      block_size = r.block_size;
+      group = r.created;
+      kind = volumes.Volume;
+    })
+
+-- the volume has the row's name, and what its record says, which was read
+pub record IsVolumeNamed (spaces : List VdevSpace) (set : ObjectSet) (birth : ℕ)
+    (row : DirectoryRow) (volume : PlainVolume) : Type 0 where
+  pub name : IsNamed row.name volume.name
+  pub r : DatasetRecord
+  pub has : IsRecordFound spaces set birth row.object r
+  pub is : IsRecordOf r volume
+
+-- the index knows the volumes of the rows
+abbrev pub AreVolumesNamed :
+    List VdevSpace → ObjectSet → ℕ → List DirectoryRow → NameIndex → Type 0
+AreVolumesNamed spaces set birth rows names =
+    (volumes : List PlainVolume) × AllZip (IsVolumeNamed spaces set birth) rows volumes
+    × Knows names (record { volumes = volumes })
+
+-- the root was read, and then the record of each row
+pub record AreNamesFound (spaces : List VdevSpace) (birth : ℕ) (root : Block)
+    (rows : List DirectoryRow) (names : NameIndex) : Type 0 where
+  pub set : ObjectSet
+  pub meta : IsMetaFound spaces birth root set
+  pub volumes : AreVolumesNamed spaces set root.birth rows names
+
+-- the directory was read, the names of its rows, and then all blocks, by so many reads of these
+pub record AreContentsFound (spaces : List VdevSpace) (birth : ℕ) (root : Block) (before after : ℕ)
+    (contents : RootContents) : Type 0 where
+  pub set : ObjectSet
+  pub directory : AreRowsFound spaces birth root set contents.directory
+  pub names : AreNamesFound spaces birth root contents.directory contents.names
+  pub blocks : IsReached spaces birth root before after contents.blocks.items
+
+-- ---- why it was not
+
+-- the dataset's record was read, and is no volume's
+abbrev pub IsOtherKind : List VdevSpace → ObjectSet → ℕ → ℕ → Type 0
+IsOtherKind spaces set birth object =
+    (r : DatasetRecord) × IsRecordFound spaces set birth object r × (r.kind ≢ datasets.Volume)
+
+-- why the shape of a volume was not read: its record was not, or is another dataset's
+abbrev pub IsShapeRefused : Store → Store → List ℕ → ObjectSet → ℕ → ℕ → Refusal → Type 0
+IsShapeRefused old new missing set birth object refusal =
+    IsRecordRefused old new missing set birth object refusal
+    ⊎ ((refusal ≡ BadPointer) × IsOtherKind old.spaces set birth object)
+
+-- behind other reads, the shape of the volume of one of the rows was refused
+pub record IsRowUnnamed (old new : Store) (missing : List ℕ) (set : ObjectSet) (birth : ℕ)
+    (rows : List DirectoryRow) (refusal : Refusal) : Type 0 where
+  pub first : List DirectoryRow
+  pub row : DirectoryRow
+  pub rest : List DirectoryRow
+  pub are : rows ≡ first ++ row ∷ rest
+  pub mid : Store
+  pub reads : OnlyReadsBlocks old mid missing
+  pub why : IsShapeRefused mid new missing set birth row.object refusal
+
+-- the root was read, and then one of the rows was refused
+pub record AreRowsUnnamed (old new : Store) (missing : List ℕ) (birth : ℕ) (root : Block)
+    (rows : List DirectoryRow) (refusal : Refusal) : Type 0 where
+  pub set : ObjectSet
+  pub meta : IsMetaFound old.spaces birth root set
+  pub mid : Store
+  pub first : OnlyReadsBlocks old mid missing
+  pub why : IsRowUnnamed mid new missing set root.birth rows refusal
+
+-- why the names of the rows were not read: the root was not, or one of the rows was refused
+abbrev pub AreNamesRefused :
+    Store → Store → List ℕ → ℕ → Block → List DirectoryRow → Refusal → Type 0
+AreNamesRefused old new missing birth root rows refusal =
+    (refusal ≡ NoMemory)
+    ⊎ (IsMetaRefused old new missing birth root refusal
+    ⊎ AreRowsUnnamed old new missing birth root rows refusal)
+
+-- the directory was read, and then the names of its rows were refused
+pub record AreNamesUnread (old new : Store) (missing : List ℕ) (birth : ℕ) (root : Block)
+    (refusal : Refusal) : Type 0 where
+  pub set : ObjectSet
+  pub rows : List DirectoryRow
+  pub read : AreRowsFound old.spaces birth root set rows
+  pub mid : Store
+  pub first : OnlyReadsBlocks old mid missing
+  pub why : AreNamesRefused mid new missing birth root rows refusal
+
+-- the directory and the names of its rows were read, and then the walk of all blocks was refused
+pub record IsReachUnread (old new : Store) (missing : List ℕ) (birth : ℕ) (root : Block)
+    (before after : ℕ) (refusal : Refusal) : Type 0 where
+  pub set : ObjectSet
+  pub rows : List DirectoryRow
+  pub read : AreRowsFound old.spaces birth root set rows
+  pub mid : Store
+  pub first : OnlyReadsBlocks old mid missing
+  pub why : IsReachRefused mid new missing birth root before after refusal
+
+-- why the contents of a root were not read: its directory was not, or the names of its rows, or its
+-- blocks were not walked
+abbrev pub AreContentsRefused :
+    Store → Store → List ℕ → ℕ → Block → ℕ → ℕ → Refusal → Type 0
+AreContentsRefused old new missing birth root before after refusal =
+    (refusal ≡ NoMemory)
+    ⊎ ((IsMetaRefused old new missing birth root refusal
+    ⊎ IsDirectoryRefused old new missing birth root refusal)
+    ⊎ (AreNamesUnread old new missing birth root refusal
+    ⊎ IsReachUnread old new missing birth root before after refusal))

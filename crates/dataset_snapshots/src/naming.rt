@@ -1,0 +1,148 @@
+//! The names of a pool, by the directory under its root.
+ghost use Rattle.std.specs.Prelude.{◌≡◌, ◌≢◌, ◌⊎◌, ℕ, List, Option, None, IfOk, IfErr, OnOk};
+ghost use Rattle.std.specs.List.{AllZip};
+ghost use Rattle.block_pointer.specs.declared.block.Block.{Block};
+ghost use Rattle.block_store.specs.Blocks.{Contents};
+ghost use Rattle.block_store.specs.Losses.{IsForLoss};
+ghost use Rattle.block_store.specs.Steps.{OnlyReadsBlocks, AnswersAreTrue};
+ghost use Rattle.block_store.specs.Store.{Holds};
+ghost use Rattle.dnode.specs.ObjectSet.{FitsObjectSet};
+ghost use Rattle.meta_objset.specs.declared.directory.DirectoryRow.{DirectoryRow};
+ghost use Rattle.meta_objset.specs.Directory.{IsDirectory};
+ghost use Rattle.meta_objset.specs.Names.{IsName, IsNamed};
+ghost use Rattle.objset.specs.Objects.{Object, AreObjects};
+ghost use Rattle.pool_model.specs.declared.volume.PlainVolume.{PlainVolume};
+ghost use Rattle.pool_model.specs.Pools.{PlainPool, volume_at, with_volume};
+ghost use Rattle.volume_rules.specs.Index.{Knows};
+ghost use Rattle.volume_rules.specs.Shapes.{shape_of};
+ghost use Rattle.dataset_snapshots.specs.Contents.{AreNamesFound, AreNamesRefused, AreVolumesNamed};
+ghost use Rattle.dataset_snapshots.specs.Contents.{IsRowUnnamed, IsShapeRefused, IsVolumeShapeFound};
+ghost use Rattle.dataset_snapshots.specs.Pools.{SpellsDataset, SpellsPool};
+
+use crate::finding::{read_dataset, read_meta};
+use block_pointer::Block;
+use block_store::{BlockStore, Refusal};
+use dnode::ObjectSet;
+use meta_objset::{DatasetKind, Directory, DirectoryRow, unpadded};
+use model_disk::Disk;
+use pool_model::{Name, VolumeKind};
+use std::alloc::{AllocError, Global};
+use volume_rules::{NameIndex, VolumeShape};
+
+/// The names of the pool whose root has this directory, and at each the shape of its volume. It reads the root and the record of
+/// each dataset. `BadPointer` where the block is no root of a pool, or the object of a name no record of a volume.
+pub(crate) fn names_by<D: Disk + Drop>(
+    root: &Block,
+    store: &mut BlockStore<D>,
+    alloc: Global,
+    birth: u64,
+    directory: &Directory,
+    missing: &[usize],
+) -> Result<NameIndex, Refusal>
+    ensures reads { OnlyReadsBlocks store.old store.new missing.now }
+    ensures value { IfOk result (λ names. (stored : Contents) (pool : PlainPool)
+        → Holds store.old stored → (is : SpellsPool stored birth root.now pool)
+        → directory.now ≡ is.rows → AnswersAreTrue store.old store.new → Knows names pool) }
+    ensures found { IfOk result (AreNamesFound store.old.spaces birth root.now directory.now) }
+    ensures refused { IfErr result (AreNamesRefused store.old store.new missing.now birth root.now
+        directory.now) }
+    ensures cause { IfErr result (λ refusal. refusal ≢ Refusal.NoSpace) }
+    ensures known { IfErr result (λ refusal. (stored : Contents) (pool : PlainPool)
+        → Holds store.old stored → (is : SpellsPool stored birth root.now pool)
+        → directory.now ≡ is.rows → AnswersAreTrue store.old store.new → IsForLoss refusal) }
+{
+    let set = read_meta(root, store, alloc, birth, missing)?;
+    names_of(&set, directory.rows(), store, alloc, root.birth, missing)
+}
+
+/// The names of rows, and at each the shape of its volume.
+fn names_of<D: Disk + Drop>(
+    set: &ObjectSet,
+    rows: &[DirectoryRow],
+    store: &mut BlockStore<D>,
+    alloc: Global,
+    birth: u64,
+    missing: &[usize],
+) -> Result<NameIndex, Refusal>
+    requires fits { FitsObjectSet set.now }
+    requires is { IsDirectory rows.now }
+    ensures reads { OnlyReadsBlocks store.old store.new missing.now }
+    ensures value { IfOk result (λ names. (stored : Contents) (objects : ℕ → Option Object)
+        (own : List Block) (blocks : ℕ → List Block) (volumes : List PlainVolume)
+        → Holds store.old stored → AreObjects stored birth set.now objects own blocks
+        → AllZip (SpellsDataset stored birth objects) rows.now volumes
+        → AnswersAreTrue store.old store.new → Knows names (record { volumes = volumes })) }
+    ensures found { IfOk result (AreVolumesNamed store.old.spaces set.now birth rows.now) }
+    ensures refused { IfErr result (λ refusal. (refusal ≡ Refusal.NoMemory)
+        ⊎ IsRowUnnamed store.old store.new missing.now set.now birth rows.now refusal) }
+    ensures cause { IfErr result (λ refusal. refusal ≢ Refusal.NoSpace) }
+    ensures known { IfErr result (λ refusal. (stored : Contents) (objects : ℕ → Option Object)
+        (own : List Block) (blocks : ℕ → List Block) (volumes : List PlainVolume)
+        → Holds store.old stored → AreObjects stored birth set.now objects own blocks
+        → AllZip (SpellsDataset stored birth objects) rows.now volumes
+        → AnswersAreTrue store.old store.new → IsForLoss refusal) }
+{
+    let mut names = NameIndex::new(alloc);
+    for row in rows {
+        let shape = read_shape(set, store, alloc, birth, row.object, missing)?;
+        add_name(alloc, &mut names, row, shape)?;
+    }
+    Ok(names)
+}
+
+/// The shape of the volume whose record an object has. `BadPointer` where the record is another dataset's.
+fn read_shape<D: Disk + Drop>(
+    set: &ObjectSet,
+    store: &mut BlockStore<D>,
+    alloc: Global,
+    birth: u64,
+    object: u64,
+    missing: &[usize],
+) -> Result<VolumeShape, Refusal>
+    requires { FitsObjectSet set.now }
+    ensures reads { OnlyReadsBlocks store.old store.new missing.now }
+    ensures value { IfOk result (λ shape. (stored : Contents) (objects : ℕ → Option Object)
+        (own : List Block) (blocks : ℕ → List Block) (row : DirectoryRow) (volume : PlainVolume)
+        → Holds store.old stored → AreObjects stored birth set.now objects own blocks
+        → SpellsDataset stored birth objects row volume → row.object ≡ object
+        → AnswersAreTrue store.old store.new → shape_of volume ≡ shape) }
+    ensures found { IfOk result (IsVolumeShapeFound store.old.spaces set.now birth object) }
+    ensures refused { IfErr result (λ refusal. (refusal ≡ Refusal.NoMemory)
+        ⊎ IsShapeRefused store.old store.new missing.now set.now birth object refusal) }
+    ensures cause { IfErr result (λ refusal. refusal ≢ Refusal.NoSpace) }
+    ensures known { IfErr result (λ refusal. (stored : Contents) (objects : ℕ → Option Object)
+        (own : List Block) (blocks : ℕ → List Block) (row : DirectoryRow) (volume : PlainVolume)
+        → Holds store.old stored → AreObjects stored birth set.now objects own blocks
+        → SpellsDataset stored birth objects row volume → row.object ≡ object
+        → AnswersAreTrue store.old store.new → IsForLoss refusal) }
+{
+    let dataset = read_dataset(set, store, alloc, birth, object, missing)?;
+    let record = dataset.record;
+    match record.kind {
+        DatasetKind::Volume => Ok(VolumeShape {
+            size: record.size,
+            block_size: record.block_size,
+            group: record.created,
+            kind: VolumeKind::Volume,
+        }),
+        DatasetKind::Snapshot => Err(Refusal::BadPointer),
+    }
+}
+
+/// Adds the name of a row, and the shape of its volume.
+fn add_name(
+    alloc: Global,
+    names: &mut NameIndex,
+    row: &DirectoryRow,
+    shape: VolumeShape,
+) -> Result<(), AllocError>
+    requires { IsName row.now.name }
+    ensures { OnOk result ((pool : PlainPool) (volume : PlainVolume) → Knows names.old pool
+        → IsNamed row.now.name volume.name → volume_at volume.name pool ≡ None
+        → shape_of volume ≡ shape → Knows names.new (with_volume volume pool)) }
+{
+    let name = Name::new(Vec::from_slice(alloc, unpadded(&row.name))?);
+    names.reserve()?;
+    names.add(name, shape);
+    Ok(())
+}
