@@ -18,6 +18,7 @@ use Rattle.pool_slots.proofs.OneDisk.{shows_same, kept_allowed}
 use Rattle.pool_slots.proofs.Places.{same_or_not}
 use Rattle.pool_slots.proofs.Phases.{IsPhase, phase_leaves, phases_leave, leads_more}
 use Rattle.pool_slots.proofs.Writing.{off_slot_writes, stays_through, slot_number_small, more_picked, same_starts, slot_writes_more}
+use Rattle.pool_slots.proofs.FreeWrites.{used_makes}
 use Rattle.pool_slots.proofs.SlotPhases.{slot_phase, finished, tree_kept}
 
 -- ---- halves
@@ -139,7 +140,8 @@ pub between_halves : (trees : Trees) (out : List Bool) (old mid : Disks) (p : Po
     → BetweenHalves trees out old mid p u all
 between_halves trees out old mid p u all there room fits on may makes stand settled =
     let P : List (List ℕ) → Type 0 = λ starts. Leads trees out starts (content mid) (also_begun u p) in
-    let tree : TreeStands trees out (content mid) u.root = tree_kept trees out old mid u u (InTurn all 0) fits may.off_labels makes may.tree in
+    let made = used_makes out (IsSlotWrite old.starts u (InTurn all 0)) old mid makes in
+    let tree : TreeStands trees out (content mid) u.root = tree_kept trees out old mid u u (InTurn all 0) fits may.off_labels made may.tree in
     record {
       makes = makes;
       stand = stand;
@@ -148,7 +150,7 @@ between_halves trees out old mid p u all there room fits on may makes stand sett
           let it = (on which).0 used in
           half_leads (length (bytes_of old.starts which)) (content old which) (content mid which) p.last u ((it.0.other_half % 2 + 0) % 2)
           (IsPossible trees out (content old) p) (IsPossible trees out (content mid) (also_begun u p)) (omega arith) fits may.above
-          (λ v possible. (also_reached p u v possible.0, tree_kept trees out old mid u v (InTurn all 0) fits may.off_labels makes possible.1))
+          (λ v possible. (also_reached p u v possible.0, tree_kept trees out old mid u v (InTurn all 0) fits may.off_labels made possible.1))
           (inl (later_in p.last u (u ∷ p.begun) (first_in u p.begun)), tree)
           (λ label slot is away i inside. off_content (IsSlotWrite old.starts u (InTurn all 0)) old mid which (slot_at (length (bytes_of old.starts which)) label slot + i) makes
           (off_slot_writes old.starts u (InTurn all 0) which label slot fits (room which (there which used)) is
@@ -237,7 +239,7 @@ claim_done trees out old mid new p u all there room fits on may between makes st
       | inr second ↦ stand' which label below is second
     ] in
     let T : List (List ℕ) → Type 0 = AreThere out in
-    record { there = subst T (sym (makes.starts ∙ starts)) there; fits = fits; settled = settled; leads = finished trees out old new u [] (λ w. ⊥) there room fits may.off_labels whole both may.below (λ w none. absurd none) may.tree }
+    record { there = subst T (sym (makes.starts ∙ starts)) there; fits = fits; settled = settled; leads = finished trees out old new u [] (λ w. ⊥) there room fits may.off_labels (used_makes out may_all old new whole) both may.below (λ w none. absurd none) may.tree }
 
 same_half_of : (all : List (Option Found)) (turn which label : ℕ) (found : Found) → slice_get all which ≡ Some (Some found) → InTurn all turn which label → InHalf ((found.other_half % 2 + turn) % 2) label
 same_half_of all turn which label found at it =
@@ -257,12 +259,13 @@ second_leads trees out old mid new p u all there room fits on may between makes 
     let room' : HaveLabels mid.starts = subst R (sym starts) room in
     let off' : AreOffLabels trees out mid.starts = subst O (sym starts) may.off_labels in
     let P : List (List ℕ) → Type 0 = λ s. Leads trees out s (content new) (also_begun u p) in
-    let tree : TreeStands trees out (content new) u.root = tree_kept trees out mid new u u (InTurn all 1) fits off' makes between.tree in
+    let made = used_makes out (IsSlotWrite mid.starts u (InTurn all 1)) mid new makes in
+    let tree : TreeStands trees out (content new) u.root = tree_kept trees out mid new u u (InTurn all 1) fits off' made between.tree in
     subst P (sym makes.starts) (λ which used.
     let it = (on which).0 used in
     half_leads (length (bytes_of mid.starts which)) (content mid which) (content new which) p.last u ((it.0.other_half % 2 + 1) % 2)
     (IsPossible trees out (content mid) (also_begun u p)) (IsPossible trees out (content new) (also_begun u p)) (omega arith) fits may.above
-    (λ v possible. (possible.0, tree_kept trees out mid new u v (InTurn all 1) fits off' makes possible.1))
+    (λ v possible. (possible.0, tree_kept trees out mid new u v (InTurn all 1) fits off' made possible.1))
     (inl (later_in p.last u (u ∷ p.begun) (first_in u p.begun)), tree)
     (λ label slot is away i inside. off_content (IsSlotWrite mid.starts u (InTurn all 1)) mid new which (slot_at (length (bytes_of mid.starts which)) label slot + i) makes
     (off_slot_writes mid.starts u (InTurn all 1) which label slot fits (room' which (there' which used)) is

@@ -80,7 +80,7 @@ breach_case area breach.List l bad valid len e = bad.2 (label_pairs l) valid.roo
 breach_case area breach.Pairs l bad valid len e =
     bad.3 l valid.in_range (same_fronts bad.0 (label_pairs l) bad.1 valid.room (same_seals area (front_of bad.0) (front_of (label_pairs l)) bad.2 e))
 
-no_label : (area : List ℕ) (it : Breach) (l : PlainLabel) → IsBreach area it → IsValid l → length area ≡ 114688 → area ≡ inscribed l → ⊥
+pub no_label : (area : List ℕ) (it : Breach) (l : PlainLabel) → IsBreach area it → IsValid l → length area ≡ 114688 → area ≡ inscribed l → ⊥
 unfolding inscribed
 no_label area it l bad valid len e = breach_case area it l bad valid len e
 

@@ -36,7 +36,7 @@ areas_apart size n m room is is' other =
       | inr (inr same) ↦ absurd (other same)
     ]
 
-area_off_slot : (size number label slot : ℕ) → 4 * 262144 ≤ size → number < 4 → IsSlot label slot
+pub area_off_slot : (size number label slot : ℕ) → 4 * 262144 ≤ size → number < 4 → IsSlot label slot
     → (area_place size number + 114688 ≤ slot_at size label slot) ⊎ (slot_at size label slot + 1024 ≤ area_place size number)
 unfolding area_place slot_at
 area_off_slot size number label slot room is is' =

@@ -6,9 +6,14 @@ pub mod Phases
 pub mod Used
 pub mod Results
 pub mod Failing
-mod ReadRuns
+pub mod ReadRuns
 pub mod Writing
+pub mod FreeWrites
 pub mod SlotPhases
+pub mod NextUberblock
+pub mod Unflushed
+pub mod PhaseSteps
+mod Refusing
 pub mod CommitPhases
 pub mod ClaimPhases
 pub mod Reading
@@ -19,8 +24,8 @@ pub mod Opened
 mod SurveySteps
 pub mod LifeSteps
 mod Choices
-mod LabelAreas
-mod LabelScans
+pub mod LabelAreas
+pub mod LabelScans
 mod LabelWrites
 mod LabelPlans
 mod LabelPhases

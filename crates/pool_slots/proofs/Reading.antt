@@ -238,7 +238,7 @@ slots_refused_back old new which from groups ring.NoMemory it = tt
 slots_refused_back old new which from groups ring.NoUberblock it = absurd it
 
 -- what was found in a slot is shown, and no other
-read_is : (old : Disks) (which : ℕ) (slots : List (Option Uberblock)) (k : ℕ) (u : Uberblock) → AreRead old which slots → Has slots k u → IsReadOn (size_of old which) (content old which) u
+pub read_is : (old : Disks) (which : ℕ) (slots : List (Option Uberblock)) (k : ℕ) (u : Uberblock) → AreRead old which slots → Has slots k u → IsReadOn (size_of old which) (content old which) u
 read_is old which slots k u are has =
     let below : k < 512 = omega (arith, within slots k u has, are.count) in
     let says = says_some (k % 128) (are.bytes k) (get_or slots k None) u (are.says k below) has in

@@ -13,7 +13,9 @@ use Rattle.pool_slots.specs.Slots.{AreThere, InUse, HaveLabels, spelled, slot_at
 use Rattle.pool_slots.specs.Possible.{Possible, IsInReach, Trees, TreeStands, IsPossible, Leads}
 use Rattle.pool_slots.specs.Writes.{IsSlotWrite, in_use, SlotsStand}
 use Rattle.pool_slots.specs.Commits.{AreOffLabels, only_last}
+use Rattle.pool_slots.specs.Phases.{if_used, slot_writes}
 use Rattle.pool_slots.proofs.Among.{first_in}
+use Rattle.pool_slots.proofs.FreeWrites.{used_off}
 use Rattle.pool_slots.proofs.OneDisk.{AreAllowed, IsWritten, IsSafe, leads_finished}
 use Rattle.pool_slots.proofs.Phases.{IsPhase}
 use Rattle.pool_slots.proofs.Places.{slots_apart, length-spelled, off_slot}
@@ -64,13 +66,15 @@ slot_phase trees out disks p u picks there room fits off_labels among stands saf
 
 -- ---- after the phase
 
-pub tree_kept : (trees : Trees) (out : List Bool) (old new : Disks) (u v : Uberblock) (picks : ℕ → ℕ → Type 0) → Fits u → AreOffLabels trees out old.starts → Makes (IsSlotWrite old.starts u picks) old new
-    → TreeStands trees out (content old) v.root → TreeStands trees out (content new) v.root
+pub tree_kept : (trees : Trees) (out : List Bool) (old new : Disks) (u v : Uberblock) (picks : ℕ → ℕ → Type 0) → Fits u → AreOffLabels trees out old.starts
+    → Makes (if_used out (IsSlotWrite old.starts u picks)) old new → TreeStands trees out (content old) v.root → TreeStands trees out (content new) v.root
 tree_kept trees out old new u v picks fits off_labels makes stands which i value used is =
-    off_content (IsSlotWrite old.starts u picks) old new which i makes (off_tree trees out old.starts u v picks which i value off_labels fits used is) ∙ stands which i value used is
+    off_content (if_used out (IsSlotWrite old.starts u picks)) old new which i makes
+    (used_off out (IsSlotWrite old.starts u picks) which i used (off_tree trees out old.starts u v picks which i value off_labels fits used is))
+    ∙ stands which i value used is
 
 pub finished : (trees : Trees) (out : List Bool) (old new : Disks) (u : Uberblock) (before : List Uberblock) (Old : Uberblock → Type 0) → AreThere out old.starts → HaveLabels old.starts → Fits u
-    → AreOffLabels trees out old.starts → Makes (IsSlotWrite old.starts u (in_use out)) old new
+    → AreOffLabels trees out old.starts → Makes (slot_writes out old.starts u) old new
     → SlotsStand (content new) old.starts u (in_use out) (length old.starts)
     → ((which : ℕ) → InUse out which → AreAllowed (length (bytes_of old.starts which)) (content old which) u Old)
     → ((w : Uberblock) → Old w → IsPossible trees out (content old) (only_last u before) w) → TreeStands trees out (content old) u.root
@@ -83,7 +87,8 @@ finished trees out old new u before Old there room fits off_labels makes stand b
     (λ w it. let good = goods w it in (good.0, tree_kept trees out old new u w (in_use out) fits off_labels makes good.1))
     (below which used)
     (λ label slot is elsewhere i i_below.
-    off_content (IsSlotWrite old.starts u (in_use out)) old new which (slot_at (length (bytes_of old.starts which)) label slot + i) makes
-    (off_slot_writes old.starts u (in_use out) which label slot fits (room which (there which used)) is (λ label' is' picked both. elsewhere (sym both.1)) i i_below))
+    off_content (slot_writes out old.starts u) old new which (slot_at (length (bytes_of old.starts which)) label slot + i) makes
+    (used_off out (IsSlotWrite old.starts u (in_use out)) which (slot_at (length (bytes_of old.starts which)) label slot + i) used
+    (off_slot_writes old.starts u (in_use out) which label slot fits (room which (there which used)) is (λ label' is' picked both. elsewhere (sym both.1)) i i_below)))
     (λ label is i i_below. stand which label (there which used) is used i i_below)
     (slot_number_small u))

@@ -40,7 +40,7 @@ flush_makes r out old new which used starts calls =
     record { makes = Makes-flush r no_write old new which starts calls; alone = alone_one old new which (flush_call r) calls } in
     MakesOn-wider (is_disk which) (InUse out) no_write no_write old new (on_used out which used) (λ w at bytes it. it) one
 
-flush_settles : (old new : Disks) (which : ℕ) → new.calls ≡ on which Flushed ∷ old.calls → IsSettled (calls_on which new.calls)
+pub flush_settles : (old new : Disks) (which : ℕ) → new.calls ≡ on which Flushed ∷ old.calls → IsSettled (calls_on which new.calls)
 flush_settles old new which calls =
     let P : List JointCall → Type 0 = λ them. IsSettled (calls_on which them) in
     let R : List Call → Type 0 = IsSettled in
@@ -116,7 +116,7 @@ stays_through starts u picks old new d label room fits below is makes unpicked s
     (λ label' is' picked same. let P : ℕ → Type 0 = λ l. picks d l in unpicked (subst P same.0 picked)) i (omega (arith, length-spelled u fits)))
     ∙ stands i inside
 
-stands_written : (starts : List (List ℕ)) (u : Uberblock) (old new : Disks) (which label : ℕ) → new.starts ≡ old.starts
+pub stands_written : (starts : List (List ℕ)) (u : Uberblock) (old new : Disks) (which label : ℕ) → new.starts ≡ old.starts
     → new.calls ≡ on which (Wrote (slot_at (length (bytes_of starts which)) label (slot_number u.group)) (spelled u)) ∷ old.calls
     → SlotStands (content new) starts u which label
 stands_written starts u old new which label same calls = written_bytes_stand old new which (slot_at (length (bytes_of starts which)) label (slot_number u.group)) (spelled u) same calls

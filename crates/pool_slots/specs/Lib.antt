@@ -14,5 +14,7 @@ pub mod LabelReads
 pub mod Surveys
 pub mod OpenRefusals
 pub mod Lives
+pub mod Phases
+pub mod PhaseLaws
 pub mod Claims
 pub mod Present

@@ -17,6 +17,7 @@ mod opening;
 mod present;
 mod refusal;
 mod scan;
+pub mod stepwise;
 mod surveyed;
 mod surveying;
 mod writes;

@@ -16,6 +16,8 @@ mod nodes;
 #[cfg(test)]
 mod pointers;
 #[cfg(test)]
+mod scans;
+#[cfg(test)]
 mod seals;
 #[cfg(test)]
 mod slots;

@@ -1,0 +1,10 @@
+pub mod Lists
+pub mod LabelLemmas
+pub mod Readings
+pub mod SlotReads
+pub mod ScanRuns
+pub mod ScanSteps
+pub mod FourLabels
+pub mod RankLemmas
+pub mod MemberLemmas
+pub mod ChoiceLemmas

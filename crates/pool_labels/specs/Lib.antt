@@ -1,0 +1,4 @@
+pub mod Sizes
+pub mod Scans
+pub mod Choices
+pub mod Ranks
