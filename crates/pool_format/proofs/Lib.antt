@@ -1,0 +1,4 @@
+pub mod Failures
+pub mod Blanks
+pub mod Writes
+pub mod Words
