@@ -12,6 +12,7 @@ use Rattle.block_store.specs.Shapes.{metaslab_of}
 use Rattle.block_store.specs.Spaces.{VdevSpace}
 use Rattle.block_store.specs.Uses.{LiesOn, Passes, IsInUse, IsSpared}
 use Rattle.block_store.proofs.Accounting.{OnPlace, has_on_place}
+use Rattle.block_store.proofs.Planning.{stored_by}
 use Rattle.pool_model.specs.View.{View}
 use Rattle.pool_commit.specs.Accounted.{IsWithheld, WasReleasedLate, HasAllRoom, NoRoomIsLost}
 use Rattle.pool_commit.specs.Backs.{Backs, kept_pool}
@@ -45,7 +46,7 @@ no_room_is_lost s v backs =
     let reached = backs.blocks.reached in
     record {
       stored = backs.blocks.stored;
-      holds = backs.blocks.plans.held;
+      stores = stored_by s.store backs.blocks.stored backs.blocks.planned backs.blocks.plans;
       reach = reached.reach;
       leads = reached.leads;
       once = reached.once;

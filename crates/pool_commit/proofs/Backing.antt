@@ -5,6 +5,7 @@ use Rattle.model_disk.specs.Call.{Call, Read, FailedRead, Wrote, FailedWrite, Fl
 use Rattle.model_disk.specs.Joint.{Disks, JointCall, on}
 use Rattle.raidz_io.specs.Reads.{IsRead, AreReads, OnlyReads}
 use Rattle.std.specs.Prelude.{cond}
+use Rattle.raidz_io.proofs.Calls.{content-OnlyReads}
 use Rattle.std.proofs.lemmas.Bool.{eq-eqb}
 use Rattle.raidz_io.specs.declared.writes.ColumnWrite.{ColumnWrite}
 use Rattle.block_pointer.specs.declared.block.Block.{Block}
@@ -20,6 +21,8 @@ use Rattle.pool_model.specs.Pools.{PlainPool}
 use Rattle.pool_model.specs.View.{View, DueCall, Due, is_kept}
 use Rattle.pool_commit.specs.declared.kept.Kept.{Kept}
 use Rattle.pool_commit.specs.declared.kept.Planned.{Planned}
+use Rattle.model_disk.specs.Joint.{content}
+use Rattle.pool_commit.proofs.SlotWrites.{shows_still}
 use Rattle.pool_commit.specs.Backs.{Backs, IsReachOfPlan, SpellsKept, IsPlanOf, kept_pool, left_calls, SpellsGroup, SpellsRoot}
 use Rattle.pool_commit.specs.Calls.{IsWrite, IsFlushed}
 use Rattle.pool_commit.specs.Config.{vdevs_of}
@@ -98,15 +101,24 @@ flushed_still old new disk reads is = record {
   none = all_joined (λ (made : JointCall). made.which ≡ disk → ¬ IsWrite made.call) reads.newer is.newer (reads_leave reads.newer disk reads.are_reads) is.none;
 }
 
+-- and each byte
+reads_leave_bytes : (old new : Disks) → OnlyReads old new → (disk i : ℕ) → content new disk i ≡ content old disk i
+reads_leave_bytes old new reads disk i = content-OnlyReads old new reads disk i
+
 plan_stays : (s : State) (store : Store) (planned : Contents) (plan : Option Planned) (v : View) → store.due ≡ s.store.due → store.out ≡ s.store.out → OnlyReads s.store.disks store.disks
     → IsPlanOf s planned plan v → IsPlanOf (record s { store = store }) planned plan v
 plan_stays s store planned None v due out reads is = is
 plan_stays s store planned (Some plan) v due out reads is = record {
   counts = is.counts;
-  sync = is.sync ∙ ap (λ (writes : List ColumnWrite). Due (left_calls is.counts writes plan.flushes.items)) (sym due);
+  slot_counts = is.slot_counts;
+  sync = is.sync ∙ ap (λ (writes : List ColumnWrite). Due (left_calls is.counts is.slot_counts writes plan.behind)) (sym due);
   spells = is.spells;
-  to_flush = λ disk in_use. ⊎_elim inl (λ flushed. inr (due ∙ flushed.0, flushed_still s.store.disks store.disks disk reads flushed.1)) (is.to_flush disk in_use);
-  in_use = subst (λ (p : List Bool × List ColumnWrite). AllByRecursion (λ (call : DueCall). is_out p.0 call.disk ≡ false) (left_calls is.counts p.1 plan.flushes.items)) (λ i. (sym out i, sym due i)) is.in_use;
+  uberblock = record { root = is.uberblock.root; is_root = is.uberblock.is_root; timestamp = is.uberblock.timestamp; is = is.uberblock.is };
+  to_flush = λ disk in_use. ⊎_elim inl (λ flushed. inr (due ∙ flushed.0, flushed.1, flushed_still s.store.disks store.disks disk reads flushed.2)) (is.to_flush disk in_use);
+  shown = λ write in_use label. ⊎_elim inl
+      (λ shows. inr (due ∙ shows.0, shows_still s.store.disks store.disks plan.uberblock write reads.starts (reads_leave_bytes s.store.disks store.disks reads) shows.1))
+      (is.shown write in_use label);
+  in_use = subst (λ (p : List Bool × List ColumnWrite). AllByRecursion (λ (call : DueCall). is_out p.0 call.disk ≡ false) (left_calls is.counts is.slot_counts p.1 plan.behind)) (λ i. (sym out i, sym due i)) is.in_use;
 }
 
 backs_after : (s : State) (store : Store) (missing : List ℕ) (v : View) → OnlyReadsBlocks s.store store missing → Backs s v → Backs (record s { store = store }) v

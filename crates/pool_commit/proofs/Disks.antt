@@ -13,7 +13,11 @@ use Rattle.block_store.specs.declared.shape.VdevShape.{VdevShape}
 use Rattle.block_store.specs.Spaces.{VdevSpace}
 use Rattle.block_store.specs.Places.{shapes_of}
 use Rattle.pool_model.specs.View.{Vdev, counted, disks_of, lost_in, is_tolerable}
+use Rattle.pool_commit.specs.declared.kept.SlotWrite.{SlotWrite}
 use Rattle.pool_commit.specs.Config.{shown, vdevs_of}
+use Rattle.pool_commit.specs.HasDisks.{AreBelow, AreSlotsBelow}
+use Rattle.pool_commit.specs.Slots.{slots_of_disk, all_slots}
+use Rattle.pool_commit.proofs.SlotWrites.{cases_in}
 
 -- the vdev of a shape that is there
 pub vdev_there : (spaces : List VdevSpace) (i : ℕ) (shape : VdevShape) → option_map (λ (s : VdevSpace). s.shape) (slice_get spaces i) ≡ Some shape
@@ -105,3 +109,36 @@ kept_below kept first n count disk le held = counted_below first n count disk le
     of_filter : (kept : ℕ → Bool) (xs : List ℕ) (x : ℕ) → Contains (filter kept xs) x → Contains xs x
     of_filter kept [] x held = held
     of_filter kept (y ∷ ys) x held = if_kept (kept y) y ys (filter kept ys) x (of_filter kept ys x) held
+
+-- ---- slots
+
+-- one disk more has its four slots
+pub slots_more : (disks : List ℕ) (i disk : ℕ) → slice_get disks i ≡ Some disk → all_slots (take (suc i) disks) ≡ all_slots (take i disks) ++ slots_of_disk disk
+slots_more disks i disk at =
+    ap all_slots (take_next disks i disk at)
+    ∙ flat_map-append slots_of_disk (take i disks) (disk ∷ []) ∙ ap (λ (slots : List SlotWrite). all_slots (take i disks) ++ slots) (append-nil (slots_of_disk disk))
+
+pub slots_below : (count : ℕ) (disks : List ℕ) → AreBelow count disks → AreSlotsBelow count (all_slots disks)
+slots_below count [] below write held = absurd (omega (arith, held.1))
+slots_below count (disk ∷ disks) below write held = elim (Contains-append_cases (slots_of_disk disk) (all_slots disks) write held) [
+  | inl here ↦ four (below disk (Contains-front disk disks)) here
+  | inr later ↦ slots_below count disks (λ other among. below other (Contains-later disk disks other among)) write later
+]
+  where
+    is_in : (label : ℕ) → label < 4 → disk < count → write ≡ record { disk = disk; label = label } → (write.disk < count) × (write.label < 4)
+    is_in label low under same = subst (λ (w : SlotWrite). (w.disk < count) × (w.label < 4)) (sym same) (under, low)
+
+    four : disk < count → Contains (slots_of_disk disk) write → (write.disk < count) × (write.label < 4)
+    four under here = elim (cases_in (record { disk = disk; label = 0 }) (record { disk = disk; label = 1 } ∷ record { disk = disk; label = 2 } ∷ record { disk = disk; label = 3 } ∷ []) write here) [
+      | inl same ↦ is_in 0 (omega arith) under same
+      | inr more ↦ elim (cases_in (record { disk = disk; label = 1 }) (record { disk = disk; label = 2 } ∷ record { disk = disk; label = 3 } ∷ []) write more) [
+        | inl same ↦ is_in 1 (omega arith) under same
+        | inr others ↦ elim (cases_in (record { disk = disk; label = 2 }) (record { disk = disk; label = 3 } ∷ []) write others) [
+          | inl same ↦ is_in 2 (omega arith) under same
+          | inr last ↦ elim (cases_in (record { disk = disk; label = 3 }) [] write last) [
+            | inl same ↦ is_in 3 (omega arith) under same
+            | inr none ↦ absurd (omega (arith, none.1))
+          ]
+        ]
+      ]
+    ]

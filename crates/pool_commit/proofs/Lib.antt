@@ -4,9 +4,13 @@ pub mod Backing
 pub mod Directories
 pub mod Disks
 pub mod Keeping
+pub mod Labels
 pub mod Made
+pub mod SlotWrites
 pub mod Planning
 pub mod Progressing
+pub mod Spellings
+pub mod Phasing
 pub mod Holding
 pub mod Reaching
 pub mod ReadCauses
@@ -15,4 +19,5 @@ pub mod Starting
 pub mod Tolerating
 pub mod Unread
 pub mod Refusing
+pub mod Reopened
 pub mod Suspending

@@ -5,18 +5,21 @@ use Rattle.std.specs.List.{AllByRecursion}
 use Rattle.std.proofs.lemmas.Bool.Decides.{nat_tests}
 use Rattle.std.proofs.lemmas.List.{append-nil, length-append}
 use Rattle.std.proofs.Common.{Result, Ok, Err, is_ok}
-use Rattle.model_disk.specs.Call.{Call, is_failed, write_call, flush_call}
+use Rattle.model_disk.specs.Call.{Call, Flushed, is_failed, write_call, flush_call}
 use Rattle.raidz_io.proofs.Calls.{Contains-cases}
 use Rattle.raidz_io.specs.declared.writes.ColumnWrite.{ColumnWrite}
 use Rattle.model_disk.specs.Joint.{Disks, JointCall, on}
 use Rattle.block_store.specs.Plans.{KeepsPlans}
 use Rattle.block_store.specs.Store.{Store, IsOutToo}
 use Rattle.pool_model.specs.declared.step.Phase.{Phase}
+use Rattle.pool_model.specs.declared.step.Phase.TheVariants.{Slots}
 use Rattle.pool_model.specs.View.{DueCall}
 use Rattle.pool_model.specs.Flow.{counted_on}
-use Rattle.pool_model.specs.Machine.{due_write, due_flush}
+use Rattle.pool_model.specs.Machine.{due_write}
 use Rattle.pool_commit.specs.Calls.{disk_call, plan_call, fault_call, unread_call, told_since, made_between, faults_between, unread_between, GrewTo, IsWrite, IsFlushed, which_call, called_between}
-use Rattle.pool_commit.specs.Making.{writes_left, IsSameStore, MadeCalls, FailedCall, FlushesMove}
+use Rattle.pool_commit.specs.Calls.{DiskCall}
+use Rattle.pool_commit.specs.declared.kept.SlotWrite.{SlotWrite}
+use Rattle.pool_commit.specs.Making.{flushes_left, slots_left, writes_left, IsFlushPhase, IsSameStore, MadeCalls, FailedCall, FlushesMove, FlushesMoveBut}
 
 late : (m n : ℕ) → m ≤ n → nat_le m n ≡ true
 late m n h = grind (arith, nat_tests)
@@ -155,6 +158,13 @@ one_failed old mid new left rest phase n next call so few one in_it failed out =
   called = called_so old mid new next call so.made so.same one so.called;
 }
 
+-- the same, with what is left behind it
+pub one_failed_before : (old mid new : Store) (left rest : List DueCall) (phase : Phase) (n : ℕ) (next : DueCall) (call : Call)
+    → MadeCalls old mid left (next ∷ rest) phase n → n < 4 → MadeOne mid new next call → next.phase ≡ phase → is_failed call ≡ true → IsOutToo mid.out next.disk new.out
+    → (failed : FailedCall old new left phase next.disk) × (failed.rest ≡ rest)
+unfolding one_failed
+one_failed_before old mid new left rest phase n next call so few one in_it failed out = (one_failed old mid new left rest phase n next call so few one in_it failed out, refl)
+
 -- ---- a write and a flush
 
 pub write_made : {T E : Type 0} (result : Result T E) (mid new : Store) (write : ColumnWrite) (number : ℕ) → is_ok result ≡ true
@@ -171,19 +181,31 @@ pub write_lost : {T E : Type 0} (result : Result T E) (mid new : Store) (write :
 write_lost (Err x) mid new write number ok starts spaces plans calls = (record { starts = starts; calls = calls; spaces = spaces; plans = plans; is_due = refl; fault = refl; no_read = refl }, refl)
 write_lost (Ok x) mid new write number ok starts spaces plans calls = absurd (cc)
 
-pub flush_made : {T E : Type 0} (result : Result T E) (mid new : Store) (disk : ℕ) → is_ok result ≡ true
-    → new.disks.starts ≡ mid.disks.starts → new.spaces ≡ mid.spaces → KeepsPlans mid new
-    → new.disks.calls ≡ on disk (flush_call result) ∷ mid.disks.calls
-    → MadeOne mid new (due_flush disk) (flush_call result) × (is_failed (flush_call result) ≡ false)
-flush_made (Ok x) mid new disk ok starts spaces plans calls = (record { starts = starts; calls = calls; spaces = spaces; plans = plans; is_due = refl; fault = refl; no_read = refl }, refl)
-flush_made (Err x) mid new disk ok starts spaces plans calls = absurd (cc)
+-- a flush of either phase
+abbrev pub flush_due : Phase → ℕ → DueCall
+flush_due phase disk = record { disk = disk; phase = phase; number = 0 }
 
-pub flush_lost : {T E : Type 0} (result : Result T E) (mid new : Store) (disk : ℕ) → is_ok result ≡ false
+abbrev with_flush : ℕ → Bool → DiskCall
+with_flush disk b = record { disk = disk; flushes = b }
+
+as_flush : (phase : Phase) (disk : ℕ) → IsFlushPhase phase → plan_call disk Flushed ≡ disk_call (flush_due phase disk) ∷ []
+as_flush phase disk flushes = ap (λ (b : Bool). with_flush disk b ∷ []) (sym (flushes disk 0))
+
+pub flush_made : {T E : Type 0} (result : Result T E) (mid new : Store) (phase : Phase) (disk : ℕ) → IsFlushPhase phase → is_ok result ≡ true
     → new.disks.starts ≡ mid.disks.starts → new.spaces ≡ mid.spaces → KeepsPlans mid new
     → new.disks.calls ≡ on disk (flush_call result) ∷ mid.disks.calls
-    → MadeOne mid new (due_flush disk) (flush_call result) × (is_failed (flush_call result) ≡ true)
-flush_lost (Err x) mid new disk ok starts spaces plans calls = (record { starts = starts; calls = calls; spaces = spaces; plans = plans; is_due = refl; fault = refl; no_read = refl }, refl)
-flush_lost (Ok x) mid new disk ok starts spaces plans calls = absurd (cc)
+    → MadeOne mid new (flush_due phase disk) (flush_call result) × (is_failed (flush_call result) ≡ false)
+flush_made (Ok x) mid new phase disk flushes ok starts spaces plans calls =
+    (record { starts = starts; calls = calls; spaces = spaces; plans = plans; is_due = as_flush phase disk flushes; fault = refl; no_read = refl }, refl)
+flush_made (Err x) mid new phase disk flushes ok starts spaces plans calls = absurd (cc)
+
+pub flush_lost : {T E : Type 0} (result : Result T E) (mid new : Store) (phase : Phase) (disk : ℕ) → IsFlushPhase phase → is_ok result ≡ false
+    → new.disks.starts ≡ mid.disks.starts → new.spaces ≡ mid.spaces → KeepsPlans mid new
+    → new.disks.calls ≡ on disk (flush_call result) ∷ mid.disks.calls
+    → MadeOne mid new (flush_due phase disk) (flush_call result) × (is_failed (flush_call result) ≡ true)
+flush_lost (Err x) mid new phase disk flushes ok starts spaces plans calls =
+    (record { starts = starts; calls = calls; spaces = spaces; plans = plans; is_due = as_flush phase disk flushes; fault = as_flush phase disk flushes; no_read = refl }, refl)
+flush_lost (Ok x) mid new phase disk flushes ok starts spaces plans calls = absurd (cc)
 
 -- ---- how many
 
@@ -232,3 +254,34 @@ one_flushed result old mid new flushes rest disk ok calls move = record {
       (λ is. inr (flushed_more mid.disks new.disks disk other (flush_call result) calls (flush_is_no_write result) is)) (move.flushed other held);
   stays = λ other is. flushed_more mid.disks new.disks disk other (flush_call result) calls (flush_is_no_write result) (move.stays other is);
 }
+
+-- the flush of one of them fails: the others are to be flushed, or are, as they were
+pub one_flushed_but : {T E : Type 0} (result : Result T E) (old mid new : Store) (flushes rest : List ℕ) (disk : ℕ)
+    → new.disks.calls ≡ on disk (flush_call result) ∷ mid.disks.calls → FlushesMove old mid flushes (disk ∷ rest) → FlushesMoveBut disk old new flushes rest
+one_flushed_but result old mid new flushes rest disk calls move = record {
+  flushed = λ other apart held. ⊎_elim
+      (λ left. ⊎_elim (λ same. absurd (apart same)) inl (Contains-cases disk rest other left))
+      (λ is. inr (flushed_more mid.disks new.disks disk other (flush_call result) calls (flush_is_no_write result) is)) (move.flushed other held);
+  stays = λ other is. flushed_more mid.disks new.disks disk other (flush_call result) calls (flush_is_no_write result) (move.stays other is);
+}
+
+-- ---- as many calls as there are slots and flushes
+
+pub slots_count : (counts : ℕ → ℕ) (slots : List SlotWrite) → length (slots_left counts slots) ≡ length slots
+slots_count counts [] = refl
+slots_count counts (write ∷ slots) = ap suc (slots_count (counted_on counts write.disk) slots)
+
+flushes_count : (phase : Phase) (flushes : List ℕ) → length (flushes_left phase flushes) ≡ length flushes
+flushes_count phase [] = refl
+flushes_count phase (disk ∷ flushes) = ap suc (flushes_count phase flushes)
+
+-- while fewer were made some are left
+pub some_to_flush : (store mid : Store) (phase : Phase) (flushes rest : List ℕ) (n : ℕ) → MadeCalls store mid (flushes_left phase flushes) (flushes_left phase rest) phase n
+    → n < length flushes → 0 < length rest
+some_to_flush store mid phase flushes rest n so less =
+    omega (arith, left_some (flushes_left phase flushes) so.made (flushes_left phase rest) n so.order so.count (omega (arith, less, flushes_count phase flushes)), flushes_count phase rest)
+
+pub some_to_write : (store mid : Store) (counts later : ℕ → ℕ) (slots rest : List SlotWrite) (n : ℕ) → MadeCalls store mid (slots_left counts slots) (slots_left later rest) Slots n
+    → n < length slots → 0 < length rest
+some_to_write store mid counts later slots rest n so less =
+    omega (arith, left_some (slots_left counts slots) so.made (slots_left later rest) n so.order so.count (omega (arith, less, slots_count counts slots)), slots_count later rest)

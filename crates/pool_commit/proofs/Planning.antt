@@ -18,15 +18,16 @@ use Rattle.block_store.specs.Places.{filled as filled_marks, planned as planned_
 use Rattle.block_store.specs.Plans.{Plans}
 use Rattle.block_store.specs.Steps.{OnlyReadsAndPlans, AnswersAreTrue}
 use Rattle.block_store.specs.Releases.{copies_of_all, AreReleased, AreAllInUse, AreSettledIn, AreSettledInSome, AreSpared}
-use Rattle.block_store.specs.Store.{Store, Holds, outs, outs_from, is_out}
+use Rattle.block_store.specs.Store.{Store, Stores, outs, outs_from, is_out}
 use Rattle.block_store.specs.Uses.{CopiesLieOn, Passes, IsInUse, IsSpared, SettlesTo}
-use Rattle.block_store.proofs.Planning.{marks_by_map}
+use Rattle.block_store.proofs.Planning.{marks_by_map, stored_by}
 use Rattle.block_store.proofs.Uses.{places_spare}
 use Rattle.block_store.proofs.Writing.{found_at}
 use Rattle.pool_commit.specs.declared.kept.KeptGroup.{KeptGroup}
 use Rattle.pool_model.specs.Flow.{counted_on}
-use Rattle.pool_model.specs.Machine.{due_write, due_flush, IsPlan}
-use Rattle.pool_model.proofs.Plans.{writes_on, is_plan as plan_of}
+use Rattle.pool_model.specs.declared.step.Phase.TheVariants.{BlocksFlush, Slots, SlotsFlush}
+use Rattle.pool_model.specs.Machine.{due_write, IsPlan}
+use Rattle.pool_model.proofs.Plans.{writes_on, writes_in, counts_after, four_times, plan_calls, is_plan_of}
 use Rattle.pool_model.specs.Pools.{PlainPool, Entry, applied}
 use Rattle.pool_model.specs.View.{View, Vdev, DueCall, Sync, Due, is_planned, counted, disks_of, disks_in_use}
 use Rattle.pool_commit.specs.declared.kept.Planned.{Planned}
@@ -39,8 +40,11 @@ use Rattle.dnode_tree.specs.Freeing.{AreOnlyIn}
 use Rattle.dnode_tree.specs.Rewriting.{AreDistinct}
 use Rattle.dnode_tree.proofs.SameBlocks.{same_as, found}
 use Rattle.dnode_tree.proofs.SameBlocks.{counted as counted_in}
-use Rattle.pool_commit.specs.Backs.{Backs, IsPlanOf, LeadsTo, kept_pool, left_calls, SpellsGroup}
-use Rattle.pool_commit.specs.Making.{writes_left}
+use Rattle.pool_commit.specs.declared.kept.Behind.{Behind}
+use Rattle.pool_commit.specs.declared.kept.SlotWrite.{SlotWrite}
+use Rattle.pool_commit.specs.Backs.{Backs, AreDueBehind, IsPlanOf, IsUberblockOf, LeadsTo, kept_pool, left_calls, SpellsGroup}
+use Rattle.pool_commit.specs.Making.{writes_left, slots_left, flushes_left}
+use Rattle.pool_commit.specs.Slots.{slots_of_disk, all_slots}
 use Rattle.pool_commit.specs.Config.{shown, vdevs_of}
 use Rattle.pool_commit.specs.Room.{IsBegun}
 use Rattle.pool_commit.specs.Space.{is_held_for, AreHeld, AreInUse, AreInBlocks, WereReleasedBy, GivesBack}
@@ -124,20 +128,60 @@ none_before disk = 0
 pub same_vdevs : (spaces others : List VdevSpace) → shapes_of others ≡ shapes_of spaces → vdevs_of others ≡ vdevs_of spaces
 same_vdevs spaces others same = ap (λ (shapes : List VdevShape). map (λ shape. shown shape.vdev) shapes) same
 
--- writes to disks in use, and then their flushes
-is_plan : (old new : Store) (v : View) (flushes : List ℕ) (stored planned : Contents) → v.vdevs ≡ vdevs_of old.spaces → v.slots ≡ false → ((disk : ℕ) → v.out disk ≡ is_out old.out disk)
-    → old.due ≡ [] → OnlyReadsAndPlans old new [] → Plans new stored planned → flushes ≡ disks_in_use v → IsPlan v (left_calls none_before new.due flushes)
-is_plan old new v flushes stored planned vdevs slots out none kept plans are =
+slots_are : (counts : ℕ → ℕ) (slots : List SlotWrite) → slots_left counts slots ≡ writes_in Slots counts (map (λ (write : SlotWrite). write.disk) slots)
+slots_are counts [] = refl
+slots_are counts (write ∷ slots) =
+    ap (λ (calls : List DueCall). record { disk = write.disk; phase = Slots; number = counts write.disk } ∷ calls) (slots_are (counted_on counts write.disk) slots)
+
+disks_of_slots : (disks : List ℕ) → map (λ (write : SlotWrite). write.disk) (all_slots disks) ≡ four_times disks
+disks_of_slots [] = refl
+disks_of_slots (disk ∷ disks) = ap (λ (rest : List ℕ). disk ∷ disk ∷ disk ∷ disk ∷ rest) (disks_of_slots disks)
+
+-- where commits end in slots, writes to disks in use, and then what is due behind them
+abbrev pub slot_counts_of : Store → ℕ → ℕ
+slot_counts_of store = counts_after none_before (map (λ (write : ColumnWrite). write.disk) store.due)
+
+left_are : (store : Store) (behind : Behind) (disks : List ℕ) → AreDueBehind behind disks
+    → left_calls none_before (slot_counts_of store) store.due behind ≡ plan_calls (map (λ (write : ColumnWrite). write.disk) store.due) disks disks
+left_are store behind disks are =
+    (λ i. calls_of_disks none_before store.due i ++ (flushes_left BlocksFlush (are.flushes i) ++ (slots_are (slot_counts_of store) behind.slots.items i ++ flushes_left SlotsFlush (are.slot_flushes i))))
+    ∙ (λ i. writes_on none_before (map (λ (write : ColumnWrite). write.disk) store.due)
+    ++ (flushes_left BlocksFlush disks ++ (writes_in Slots (slot_counts_of store) ((ap (λ (slots : List SlotWrite). map (λ (write : SlotWrite). write.disk) slots) are.slots ∙ disks_of_slots disks) i)
+    ++ flushes_left SlotsFlush disks)))
+
+is_plan : (old new : Store) (v : View) (behind : Behind) (stored planned : Contents) → v.vdevs ≡ vdevs_of old.spaces → v.slots ≡ true → ((disk : ℕ) → v.out disk ≡ is_out old.out disk)
+    → old.due ≡ [] → OnlyReadsAndPlans old new [] → Plans new stored planned → AreDueBehind behind (disks_in_use v) → IsPlan v (left_calls none_before (slot_counts_of new) new.due behind)
+is_plan old new v behind stored planned vdevs slots out none kept plans are =
     let only : new.due ≡ kept.added = kept.due ∙ ap (λ (writes : List ColumnWrite). writes ++ kept.added) none in
-    subst (IsPlan v) (sym (ap (λ (calls : List DueCall). calls ++ map due_flush flushes) (calls_of_disks none_before new.due)
-    ∙ ap (λ (disks : List ℕ). writes_on none_before (map (λ write. write.disk) new.due) ++ map due_flush disks) are))
-    (plan_of v (map (λ write. write.disk) new.due) slots
+    subst (IsPlan v) (sym (left_are new behind (disks_in_use v) are))
+    (subst (λ (b : Bool). IsPlan v (plan_calls (map (λ (write : ColumnWrite). write.disk) new.due) (disks_in_use v) (if b then disks_in_use v else []))) slots
+    (is_plan_of v (map (λ (write : ColumnWrite). write.disk) new.due)
     (all_disks (Contains (disks_in_use v)) new.due (λ write held.
     in_filter (λ disk. not (v.out disk)) (disks_of v.vdevs) write.disk
     (ap not (out write.disk ∙ All-contains (λ (w : ColumnWrite). is_out old.out w.disk ≡ false) kept.added write kept.in_use
     (subst (λ (writes : List ColumnWrite). Contains writes write) only held)))
     (subst (λ (list : List Vdev). Contains (disks_of list) write.disk) (same_vdevs old.spaces new.spaces kept.shapes ∙ sym vdevs)
-    (write_on_disk new stored planned write plans held)))))
+    (write_on_disk new stored planned write plans held))))))
+
+-- each label of each of these disks has its slot
+slot_of : (disk label : ℕ) → label < 4 → Contains (slots_of_disk disk) (record { disk = disk; label = label })
+slot_of disk label below = elim (four label below) [
+  | inl is ↦ (0, omega arith, λ i. record { disk = disk; label = sym is i })
+  | inr (inl is) ↦ (1, omega arith, λ i. record { disk = disk; label = sym is i })
+  | inr (inr (inl is)) ↦ (2, omega arith, λ i. record { disk = disk; label = sym is i })
+  | inr (inr (inr is)) ↦ (3, omega arith, λ i. record { disk = disk; label = sym is i })
+]
+  where
+    four : (label : ℕ) → label < 4 → (label ≡ 0) ⊎ ((label ≡ 1) ⊎ ((label ≡ 2) ⊎ (label ≡ 3)))
+    four label below = grind (arith, below)
+
+has_slot : (disks : List ℕ) (disk label : ℕ) → Contains disks disk → label < 4 → Contains (all_slots disks) (record { disk = disk; label = label })
+has_slot [] disk label held below = absurd (Contains-none disk held)
+has_slot (first ∷ disks) disk label held below = elim (Contains-cases first disks disk held) [
+  | inl same ↦ subst (λ (d : ℕ). Contains (slots_of_disk d ++ all_slots disks) (record { disk = disk; label = label })) same
+      (Contains-append_left (slots_of_disk disk) (all_slots disks) (record { disk = disk; label = label }) (slot_of disk label below))
+  | inr later ↦ Contains-append_right (slots_of_disk first) (all_slots disks) (record { disk = disk; label = label }) (has_slot disks disk label later below)
+]
 
 not_true : (b : Bool) → not b ≡ true → b ≡ false
 not_true false is = refl
@@ -172,7 +216,7 @@ pub record Begins (old new : Store) (group : ℕ) : Type 0 where
   pub free : HaveMarks new.spaces filled_marks new.spaces planned_marks
   pub stays : (test later : State' → Bool) (block : Block) → SettlesTo group (Passes test) (Passes later) → CopiesLieOn (Passes test) old.spaces filled_marks block
       → CopiesLieOn (Passes later) new.spaces filled_marks block
-  pub plans : (stored : Contents) → Holds old stored → AreSpared group old.spaces stored → Plans new stored stored
+  pub plans : (stored : Contents) → Stores old stored → AreSpared group old.spaces stored → Plans new stored stored
   pub some : AreSettledInSome group old.spaces new.spaces
 
 -- what the kept groups lead to is held still
@@ -195,7 +239,7 @@ begun_spares s group v next backs block bytes known =
 -- where a plan was begun, the one before it is dropped
 pub backs_begun : (s : State) (store : Store) (group : ℕ) (v : View) → store.out ≡ s.store.out → shapes_of store.spaces ≡ shapes_of s.store.spaces
     → Begins s.store store group → group ≤ suc s.kept.committed → (sync : Sync) → is_planned sync ≡ false → Backs s v
-    → Backs (record { store = store; kept = s.kept; planned = None }) (record v { sync = sync })
+    → Backs (record s { store = store; planned = None }) (record v { sync = sync })
 backs_begun s store group v out shapes begins next sync none backs =
     let held : AreHeld store.spaces filled_marks s.kept.committed backs.blocks.reached.reach = begun_held s store group v begins next backs in record {
       vdevs = backs.vdevs ∙ sym (same_vdevs s.store.spaces store.spaces shapes);
@@ -205,7 +249,7 @@ backs_begun s store group v out shapes begins next sync none backs =
       blocks = record {
         stored = backs.blocks.stored;
         planned = backs.blocks.stored;
-        plans = begins.plans backs.blocks.stored backs.blocks.plans.held (begun_spares s group v next backs);
+        plans = begins.plans backs.blocks.stored (stored_by s.store backs.blocks.stored backs.blocks.planned backs.blocks.plans) (begun_spares s group v next backs);
         kept = backs.blocks.kept;
         plan = none;
         reached = record {
@@ -226,7 +270,7 @@ pub begun_plans : (s : State) (store : Store) (group : ℕ) (v : View) (out : st
     (begins : Begins s.store store group) (next : group ≤ suc s.kept.committed) (sync : Sync) (none : is_planned sync ≡ false) (backs : Backs s v)
     → Plans store (backs_begun s store group v out shapes begins next sync none backs).blocks.stored (backs_begun s store group v out shapes begins next sync none backs).blocks.stored
 unfolding backs_begun
-begun_plans s store group v out shapes begins next sync none backs = begins.plans backs.blocks.stored backs.blocks.plans.held (begun_spares s group v next backs)
+begun_plans s store group v out shapes begins next sync none backs = begins.plans backs.blocks.stored (stored_by s.store backs.blocks.stored backs.blocks.planned backs.blocks.plans) (begun_spares s group v next backs)
 
 -- and where more was planned since, but no plan was made
 pub backs_still : (s : State) (new : Store) (v : View) → s.planned ≡ None → OnlyReadsAndPlans s.store new [] → Backs s v
@@ -343,12 +387,12 @@ AreGivenBack made new gone group = (stored planned : Contents) → Plans made st
 
 pub plan_is_backed : (s : State) (made new : Store) (group : ℕ) (last : KeptGroup) (plan : Planned) (gone : List Block) (items : Entry) (v : View) → (backs : Backs s v) → s.store.due ≡ []
     → group ≡ suc v.committed → last ≡ s.kept.last → items ≡ v.ledger (suc v.committed)
-    → plan.flushes.items ≡ filter (λ disk. not (is_out s.store.out disk)) (disks_of (vdevs_of s.store.spaces))
+    → AreDueBehind plan.behind (filter (λ disk. not (is_out s.store.out disk)) (disks_of (vdevs_of s.store.spaces))) → IsUberblockOf s.stamp group plan
     → OnlyReadsAndPlans s.store made [] → GivesBack made new gone group → HaveMarks s.store.spaces filled_marks s.store.spaces planned_marks
     → AnswersAreTrue s.store made → Plans s.store backs.blocks.stored backs.blocks.stored → IsAfter s.store made group last items plan.after gone
     → made.stray ≡ false → AreGivenBack made new gone group
-    → (calls : List DueCall) × IsPlan v calls × Backs (record { store = new; kept = s.kept; planned = Some plan }) (record v { sync = Due calls })
-plan_is_backed s made new group last plan gone items v backs none next is_last are flushes kept gives free honest begun after whole given =
+    → (calls : List DueCall) × IsPlan v calls × Backs (record s { store = new; planned = Some plan }) (record v { sync = Due calls })
+plan_is_backed s made new group last plan gone items v backs none next is_last are behind uberblock kept gives free honest begun after whole given =
     let before : group - 1 ≡ v.committed = omega arith in
     let pool : PlainPool = v.pools v.committed in
     let stored : Contents = backs.blocks.stored in
@@ -365,12 +409,12 @@ plan_is_backed s made new group last plan gone items v backs none next is_last a
     let on : LeadsOn stored later (suc v.committed) plan.after (applied (suc v.committed) pool (v.ledger (suc v.committed))) (earlier v.committed) gone =
     subst (λ (entry : Entry). LeadsOn stored later (suc v.committed) plan.after (applied (suc v.committed) pool entry) (earlier v.committed) gone) are
     (subst (λ (n : ℕ). LeadsOn stored later n plan.after (applied n pool items) (earlier v.committed) gone) next (there.4, there.5, there.6)) in
-    let all : plan.flushes.items ≡ disks_in_use v =
-    flushes ∙ (λ i. filter (λ disk. not (sym (backs.out disk) i)) (disks_of (sym backs.vdevs i))) in
+    let all : AreDueBehind plan.behind (disks_in_use v) =
+    subst (AreDueBehind plan.behind) (λ i. filter (λ disk. not (sym (backs.out disk) i)) (disks_of (sym backs.vdevs i))) behind in
     let due : new.due ≡ made.due = gives.due in
-    let plan_is : IsPlan v (left_calls none_before new.due plan.flushes.items) =
-    subst (λ (writes : List ColumnWrite). IsPlan v (left_calls none_before writes plan.flushes.items)) (sym due)
-    (is_plan s.store made v plan.flushes.items stored later backs.vdevs backs.slots backs.out none kept there.1 all) in
+    let plan_is : IsPlan v (left_calls none_before (slot_counts_of new) new.due plan.behind) =
+    subst (λ (writes : List ColumnWrite). IsPlan v (left_calls none_before (counts_after none_before (map (λ (write : ColumnWrite). write.disk) writes)) writes plan.behind)) (sym due)
+    (is_plan s.store made v plan.behind stored later backs.vdevs backs.slots backs.out none kept there.1 all) in
     let spells : SpellsGroup later (suc v.committed) plan.after (applied (suc v.committed) pool (v.ledger (suc v.committed))) =
     subst (λ (entry : Entry). SpellsGroup later (suc v.committed) plan.after (applied (suc v.committed) pool entry)) are
     (subst (λ (n : ℕ). SpellsGroup later n plan.after (applied n pool items)) next there.3) in
@@ -403,7 +447,7 @@ plan_is_backed s made new group last plan gone items v backs none next is_last a
     let released_new : WereReleasedBy new.spaces planned_marks (suc v.committed) =
     planned_released_by s.store.spaces made.spaces new.spaces kept.placed (copies_of_all gone) v.committed (suc v.committed) (omega arith) released_before
     kept.were_placed released in (
-      left_calls none_before new.due plan.flushes.items,
+      left_calls none_before (slot_counts_of new) new.due plan.behind,
       plan_is,
       record {
         vdevs = backs.vdevs ∙ sym (same_vdevs s.store.spaces new.spaces shapes);
@@ -417,11 +461,14 @@ plan_is_backed s made new group last plan gone items v backs none next is_last a
           kept = backs.blocks.kept;
           plan = record {
             counts = none_before;
+            slot_counts = slot_counts_of new;
             sync = refl;
             spells = spells;
-            to_flush = λ disk in_use. inl (subst (λ (xs : List ℕ). Contains xs disk) (sym all) in_use);
-            in_use = subst (λ (out : List Bool). AllByRecursion (λ (call : DueCall). is_out out call.disk ≡ false) (left_calls none_before new.due plan.flushes.items)) (sym (gives.out ∙ kept.out))
-                (calls_in_use s.store v (left_calls none_before new.due plan.flushes.items) backs.out plan_is.in_use);
+            uberblock = subst (λ n. IsUberblockOf s.stamp n plan) next uberblock;
+            to_flush = λ disk in_use. inl (subst (λ (xs : List ℕ). Contains xs disk) (sym all.slot_flushes) in_use);
+            shown = λ write in_use label. inl (subst (λ (xs : List SlotWrite). Contains xs write) (sym all.slots) (has_slot (disks_in_use v) write.disk write.label in_use label));
+            in_use = subst (λ (out : List Bool). AllByRecursion (λ (call : DueCall). is_out out call.disk ≡ false) (left_calls none_before (slot_counts_of new) new.due plan.behind)) (sym (gives.out ∙ kept.out))
+                (calls_in_use s.store v (left_calls none_before (slot_counts_of new) new.due plan.behind) backs.out plan_is.in_use);
           };
           reached = reached_over made.spaces new.spaces stored s.kept (kept_pool v) gives.shapes gives.filled_stays
               (reached_over s.store.spaces made.spaces stored s.kept (kept_pool v) kept.shapes (marks_by_map filled_marks s.store.spaces made.spaces kept.filled) backs.blocks.reached);
@@ -433,7 +480,7 @@ plan_is_backed s made new group last plan gone items v backs none next is_last a
 -- where blocks could not be given back the plan is dropped
 pub backs_dropped : (s : State) (made mid new : Store) (gone : List Block) (group : ℕ) (v : View) → s.planned ≡ None → OnlyReadsAndPlans s.store made []
     → GivesBack made mid gone group → new.out ≡ mid.out → shapes_of new.spaces ≡ shapes_of mid.spaces → HaveMarks mid.spaces filled_marks new.spaces filled_marks
-    → ((stored : Contents) → Holds mid stored → Plans new stored stored) → Backs s v → Backs (record s { store = new }) v
+    → ((stored : Contents) → Stores mid stored → Plans new stored stored) → Backs s v → Backs (record s { store = new }) v
 backs_dropped s made mid new gone group v no_plan kept gives out shapes filled plans backs =
     let there = kept.plans backs.blocks.stored backs.blocks.planned backs.blocks.plans in
     record {
@@ -444,7 +491,7 @@ backs_dropped s made mid new gone group v no_plan kept gives out shapes filled p
       blocks = record {
         stored = backs.blocks.stored;
         planned = backs.blocks.stored;
-        plans = plans backs.blocks.stored (gives.keeps backs.blocks.stored there.1.held);
+        plans = plans backs.blocks.stored (gives.stores backs.blocks.stored (stored_by made backs.blocks.stored there.0 there.1));
         kept = backs.blocks.kept;
         plan = none_is_left s.planned no_plan backs.blocks.plan;
         reached = reached_over mid.spaces new.spaces backs.blocks.stored s.kept (kept_pool v) shapes filled

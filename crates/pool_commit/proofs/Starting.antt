@@ -20,6 +20,8 @@ use Rattle.pool_commit.specs.declared.kept.Kept.{Kept}
 use Rattle.pool_commit.specs.Backs.{Backs, KeptLeadsTo, LeadsTo, SpellsKept, kept_pool, SpellsGroup, SpellsRoot}
 use Rattle.pool_commit.specs.Config.{shown, vdevs_from}
 use Rattle.pool_commit.specs.Directories.{SpellsBy}
+use Rattle.pool_commit.specs.Started.{started_on_disks}
+use Rattle.pool_commit.specs.declared.stamp.Stamp.{Stamp}
 use Rattle.pool_commit.specs.State.{IsFirst, group_at}
 use Rattle.dataset_snapshots.proofs.ChangedRows.{nothing_in}
 use Rattle.pool_commit.proofs.Accounting.{none_in_use, none_released}
@@ -95,10 +97,10 @@ leads_first kept vdevs is group = elim (cases_eq group 3) [
     pool_gone : group ≢ 3 → kept_pool (started vdevs) group ≡ None
     pool_gone other = grind (arith, nat_tests, other)
 
-pub starts : (store : Store) (kept : Kept) (configs : List VdevConfig) → AreShapes store.disks.starts 0 configs (shapes_of store.spaces)
+pub starts : (store : Store) (kept : Kept) (stamp : Stamp) (configs : List VdevConfig) → AreShapes store.disks.starts 0 configs (shapes_of store.spaces)
     → ((disk : ℕ) → is_out store.out disk ≡ false) → Plans store nothing_stored nothing_stored → AreEmpty store.spaces → IsFirst kept
-    → Backs (record { store = store; kept = kept; planned = None }) (started (vdevs_from 0 configs))
-starts store kept configs shapes out plans empty first = record {
+    → Backs (record { store = store; kept = kept; planned = None; stamp = stamp }) (started_on_disks (vdevs_from 0 configs))
+starts store kept stamp configs shapes out plans empty first = record {
   vdevs = vdevs_made store.disks.starts 0 configs (shapes_of store.spaces) shapes;
   slots = refl;
   out = λ disk. sym (out disk);

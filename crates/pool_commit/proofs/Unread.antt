@@ -177,7 +177,7 @@ lost_under v old new group kept name offset len missing refusal backs is_kept re
 next_lost : (old new : Store) (last : Option Block) (group : ℕ) (items : Entry) (refusal : StoreRefusal)
     → IsNextRefused old new last group items refusal → refusal ≡ store.DiskFault → IsBlockLost old new []
 next_lost old new (Some root) group items refusal why is = losses_of_groups old new root group items refusal why is
-next_lost old new None group items refusal why is = losses_of_first_groups old new group (configs_from 1 (shapes_of old.spaces)) items refusal why is
+next_lost old new None group items refusal why is = losses_of_first_groups old new group (configs_from 100 (shapes_of old.spaces)) items refusal why is
 
 pub lost_for_plan : (v : View) (old new : State) (items : Entry) (refusal : Refusal) (is : IsUnreadForPlan old new items refusal)
     → Backs (record old { store = is.refused.begun; planned = None }) v → OnlyReads is.refused.begun.disks new.store.disks

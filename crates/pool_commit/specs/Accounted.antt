@@ -7,7 +7,7 @@ use Rattle.block_store.specs.Accounts.{SectorAt, HasSector}
 use Rattle.block_store.specs.Blocks.{Contents}
 use Rattle.block_store.specs.Places.{filled}
 use Rattle.block_store.specs.Spaces.{VdevSpace}
-use Rattle.block_store.specs.Store.{Holds}
+use Rattle.block_store.specs.Store.{Stores}
 use Rattle.dnode_tree.specs.Rewriting.{AreDistinct}
 use Rattle.pool_model.specs.View.{View}
 use Rattle.pool_commit.specs.Backs.{Backs, KeptLeadsTo, kept_pool}
@@ -32,7 +32,7 @@ pub record WasReleasedLate (pins : List ℕ) (committed : ℕ) (state : SectorSt
 -- hand out is in a block that the committed group leads to, or was released late.
 pub record HasAllRoom (s : State) (v : View) : Type 0 where
   pub stored : Contents
-  pub holds : Holds s.store stored
+  pub stores : Stores s.store stored
   pub reach : ℕ → List Block
   pub leads : (group : ℕ) → KeptLeadsTo stored group (group_at s.kept group) (kept_pool v group) (reach group)
   pub once : (group : ℕ) → AreDistinct (reach group)

@@ -1,5 +1,5 @@
 -- When the committed half of a core backs a view: what the view says of disks, of kept groups and of the group that is synced.
-use Rattle.std.specs.Prelude.{ℕ, suc, ◌≡◌, ◌⊎◌, ◌++◌, Contains, List, [], false, Option, Some, None, if◌then◌else◌}
+use Rattle.std.specs.Prelude.{ℕ, suc, ◌≡◌, ◌⊎◌, ◌<◌, ◌++◌, Contains, List, [], true, false, Option, Some, None, if◌then◌else◌}
 use Rattle.std.specs.List.{AllByRecursion}
 use Rattle.raidz_io.specs.declared.writes.ColumnWrite.{ColumnWrite}
 use Rattle.block_store.specs.Blocks.{Contents}
@@ -17,11 +17,15 @@ use Rattle.pool_model.specs.View.{View, DueCall, Due, is_planned, is_kept, disks
 use Rattle.volume_rules.specs.Index.{Knows}
 use Rattle.pool_commit.specs.declared.kept.Kept.{Kept}
 use Rattle.pool_commit.specs.declared.kept.KeptGroup.{KeptGroup}
+use Rattle.pool_commit.specs.declared.kept.Behind.{Behind}
 use Rattle.pool_commit.specs.declared.kept.Planned.{Planned}
+use Rattle.pool_commit.specs.declared.kept.SlotWrite.{SlotWrite}
+use Rattle.pool_commit.specs.declared.stamp.Stamp.{Stamp}
 use Rattle.pool_commit.specs.Calls.{IsFlushed}
 use Rattle.pool_commit.specs.Config.{vdevs_of}
 use Rattle.pool_commit.specs.Directories.{SpellsBy}
-use Rattle.pool_commit.specs.Making.{writes_left, flushes_left}
+use Rattle.pool_commit.specs.Making.{writes_left, behind_left}
+use Rattle.pool_commit.specs.Slots.{uberblock_of, ShowsIn, all_slots}
 use Rattle.pool_commit.specs.Space.{AreHeld, AreInUse, AreInBlocks, WereReleasedBy}
 use Rattle.pool_commit.specs.State.{State, group_at}
 
@@ -47,26 +51,45 @@ SpellsKept stored group None (Some pool) = ⊥
 abbrev pub kept_pool : View → ℕ → Option PlainPool
 kept_pool v group = if is_kept v group then Some (v.pools group) else None
 
--- the device calls that are left of a plan: its writes, behind so many on each disk, and then its flushes
-abbrev pub left_calls : (ℕ → ℕ) → List ColumnWrite → List ℕ → List DueCall
-left_calls counts writes flushes = writes_left counts writes ++ flushes_left flushes
+-- the device calls that are left of a plan: its writes, behind so many on each disk, and then what is due behind them
+abbrev pub left_calls : (ℕ → ℕ) → (ℕ → ℕ) → List ColumnWrite → Behind → List DueCall
+left_calls counts slot_counts writes behind = writes_left counts writes ++ behind_left slot_counts behind
 
 -- what the group after the committed one makes
 abbrev pub pool_after : View → PlainPool
 pool_after v = applied (suc v.committed) (v.pools v.committed) (v.ledger (suc v.committed))
 
--- the disk is to be flushed, or no write is due and it was flushed behind its last one
-abbrev pub IsToFlush : Store → List ℕ → ℕ → Type 0
-IsToFlush store flushes disk = Contains flushes disk ⊎ ((store.due ≡ []) × IsFlushed store.disks disk)
+-- what is due behind the block writes of a plan over these disks: a flush of each, four slots on each, and a flush of each
+pub record AreDueBehind (behind : Behind) (disks : List ℕ) : Type 0 where
+  pub flushes : behind.flushes.items ≡ disks
+  pub slots : behind.slots.items ≡ all_slots disks
+  pub slot_flushes : behind.slot_flushes.items ≡ disks
 
--- a plan has these device calls left, its root spells what the group makes, once its blocks are stored, each disk in use
--- is flushed behind its last write or has its flush left, and no call that is left is on a disk that is out
+-- the disk is to be flushed last of all, or no write is due and it was flushed behind its last one
+abbrev pub IsToFlush : Store → Behind → ℕ → Type 0
+IsToFlush store behind disk =
+    Contains behind.slot_flushes.items disk ⊎ ((store.due ≡ []) × (behind.slots.items ≡ []) × IsFlushed store.disks disk)
+
+-- the uberblock is that of the group after the committed one, and leads to what the plan makes
+pub record IsUberblockOf (stamp : Stamp) (group : ℕ) (plan : Planned) : Type 0 where
+  pub root : Block
+  pub is_root : plan.after.root ≡ Some root
+  pub timestamp : ℕ
+  pub is : plan.uberblock ≡ uberblock_of stamp group root timestamp
+
+-- A plan has these device calls left, and its root spells what the group makes, once its blocks are stored. Each disk in use is flushed
+-- behind its last write or has its flush left; its four slots show the uberblock, or are to be written. No call that is left is on a disk
+-- that is out.
 pub record HasPlan (s : State) (planned : Contents) (plan : Planned) (v : View) : Type 0 where
   pub counts : ℕ → ℕ
-  pub sync : v.sync ≡ Due (left_calls counts s.store.due plan.flushes.items)
+  pub slot_counts : ℕ → ℕ
+  pub sync : v.sync ≡ Due (left_calls counts slot_counts s.store.due plan.behind)
   pub spells : SpellsGroup planned (suc v.committed) plan.after (pool_after v)
-  pub to_flush : (disk : ℕ) → Contains (disks_in_use v) disk → IsToFlush s.store plan.flushes.items disk
-  pub in_use : AllByRecursion (λ (call : DueCall). is_out s.store.out call.disk ≡ false) (left_calls counts s.store.due plan.flushes.items)
+  pub uberblock : IsUberblockOf s.stamp (suc v.committed) plan
+  pub to_flush : (disk : ℕ) → Contains (disks_in_use v) disk → IsToFlush s.store plan.behind disk
+  pub shown : (write : SlotWrite) → Contains (disks_in_use v) write.disk → write.label < 4
+      → Contains plan.behind.slots.items write ⊎ ((s.store.due ≡ []) × ShowsIn s.store.disks plan.uberblock write)
+  pub in_use : AllByRecursion (λ (call : DueCall). is_out s.store.out call.disk ≡ false) (left_calls counts slot_counts s.store.due plan.behind)
 
 abbrev pub IsPlanOf : State → Contents → Option Planned → View → Type 0
 IsPlanOf s planned None v = is_planned v.sync ≡ false
@@ -127,8 +150,8 @@ pub record HasBlocks (s : State) (v : View) : Type 0 where
 
 pub record Backs (s : State) (v : View) : Type 0 where
   pub vdevs : v.vdevs ≡ vdevs_of s.store.spaces
-  -- its commits write no slots
-  pub slots : v.slots ≡ false
+  -- its commits end in uberblock slots
+  pub slots : v.slots ≡ true
   pub out : (disk : ℕ) → v.out disk ≡ is_out s.store.out disk
   pub committed : s.kept.committed ≡ v.committed
   pub blocks : HasBlocks s v

@@ -16,11 +16,11 @@ vdev_with guid shape =
       children = counted (suc guid) shape.vdev.geometry.children;
     }
 
--- vdevs of these shapes, whose guids are numbers in order from this one on
+-- vdevs of these shapes, the first with this guid and each later one with a guid that is 100 more
 abbrev pub configs_from : ℕ → List VdevShape → List PlainVdev
 configs_from guid [] = []
-configs_from guid (shape ∷ shapes) = vdev_with guid shape ∷ configs_from (suc guid + shape.vdev.geometry.children) shapes
+configs_from guid (shape ∷ shapes) = vdev_with guid shape ∷ configs_from (guid + 100) shapes
 
--- each vdev of these shapes, with guids from 1 on
+-- each vdev of these shapes: the guids of the first and of its disks begin with 100, those of the next with 200, and so on
 abbrev pub IsConfigOf : List VdevShape → List PlainVdev → Type 0
-IsConfigOf shapes vdevs = vdevs ≡ configs_from 1 shapes
+IsConfigOf shapes vdevs = vdevs ≡ configs_from 100 shapes

@@ -2,6 +2,8 @@ pub mod Accounted
 pub mod Config
 pub mod Configs
 pub mod Directories
+pub mod Slots
+pub mod Started
 pub mod HasDisks
 pub mod State
 pub mod StateOf
@@ -10,6 +12,7 @@ pub mod Calls
 pub mod Making
 pub mod Progress
 pub mod Reading
+pub mod Reopened
 pub mod Causes
 pub mod Room
 pub mod Space

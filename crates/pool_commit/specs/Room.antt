@@ -24,7 +24,7 @@ pub record IsBegun (group : ℕ) (old begun : Store) : Type 0 where
 abbrev pub IsNextRefused : Store → Store → Option Block → ℕ → Entry → StoreRefusal → Type 0
 IsNextRefused old new (Some root) group items refusal = IsGroupRefused old new root group items refusal
 IsNextRefused old new None group items refusal =
-    IsFirstRefused old new group (configs_from 1 (shapes_of old.spaces)) items refusal
+    IsFirstRefused old new group (configs_from 100 (shapes_of old.spaces)) items refusal
 
 -- from where a plan was begun, the root after the items was refused
 pub record IsPlanRefused (old : State) (new : Store) (items : Entry) (refusal : StoreRefusal) : Type 0 where

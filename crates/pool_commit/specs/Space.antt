@@ -7,7 +7,7 @@ use Rattle.block_store.specs.Blocks.{Contents, AreStored}
 use Rattle.block_store.specs.Places.{Marks, shapes_of, filled, planned, HaveMarks}
 use Rattle.block_store.specs.Plans.{Plans}
 use Rattle.block_store.specs.Spaces.{VdevSpace}
-use Rattle.block_store.specs.Store.{Store, Keeps}
+use Rattle.block_store.specs.Store.{Store, Keeps, KeepsStored}
 use Rattle.block_store.specs.Uses.{CopiesLieOn, Passes, IsInUse}
 
 -- A sector of a block that a group leads to, as the last group is that one: it is in use, or a later group released it.
@@ -43,6 +43,7 @@ pub record GivesBack (old new : Store) (blocks : List Block) (group : ℕ) : Typ
   pub shapes : shapes_of new.spaces ≡ shapes_of old.spaces
   pub filled_stays : HaveMarks old.spaces filled new.spaces filled
   pub keeps : Keeps old new
+  pub stores : KeepsStored old new
   pub plans : (stored later : Contents) → Plans old stored later → AreStored stored blocks → Plans new stored later
   pub stays : (test : State → Bool) (block : Block) → Passes test (Released group) → CopiesLieOn (Passes test) old.spaces planned block
       → CopiesLieOn (Passes test) new.spaces planned block

@@ -7,11 +7,13 @@ use Rattle.volume_rules.specs.Index.{Knows}
 use Rattle.pool_commit.specs.declared.kept.Kept.{Kept}
 use Rattle.pool_commit.specs.declared.kept.KeptGroup.{KeptGroup}
 use Rattle.pool_commit.specs.declared.kept.Planned.{Planned}
+use Rattle.pool_commit.specs.declared.stamp.Stamp.{Stamp}
 
 pub record State : Type 0 where
   pub store : Store
   pub kept : Kept
   pub planned : Option Planned
+  pub stamp : Stamp
 
 abbrev pub disks_of_state : State → Disks
 disks_of_state s = s.store.disks

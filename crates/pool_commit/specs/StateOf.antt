@@ -7,7 +7,7 @@ use Rattle.pool_commit.specs.State.{State, disks_of_state, outs_of_state}
 
 module _ {D : Type 0} {g : disk.Ghosts D} where
   abbrev pub state_of : Commit D g → State
-  state_of commit = record { store = commit.store; kept = commit.kept; planned = commit.planned }
+  state_of commit = record { store = commit.store; kept = commit.kept; planned = commit.planned; stamp = commit.stamp }
 
   abbrev pub disks_in : Commit D g → Disks
   disks_in commit = disks_of_state (state_of commit)

@@ -11,6 +11,9 @@ use model_disk::Disk;
 use std::alloc::{AllocError, Global};
 use vdev_label::{Config, Vdev, small_configs_fit};
 
+/// How far the guids of a vdev and the next one lie apart.
+const GUIDS_OF_VDEV: u64 = 100;
+
 /// How many of a vdev's last metaslabs are the meta region.
 const META_SLABS: u64 = 1;
 
@@ -43,12 +46,9 @@ fn vdev_of(alloc: Global, guid: u64, shape: VdevShape) -> Result<Vdev, AllocErro
     })
 }
 
-/// The configuration of a store's vdevs. As long as pools have no names, guids are numbers in order,
-/// from 1 on: each vdev's, and behind it those of its disks.
-pub(crate) fn config_of<D: Disk + Drop>(
-    alloc: Global,
-    store: &BlockStore<D>,
-) -> Result<Config, AllocError>
+/// The configuration of a store's vdevs, as long as no caller names guids: the first vdev has 100, the next 200 and so on, and
+/// a vdev's disks the numbers behind it. A vdev has at most 32 disks, so no two guids are the same.
+pub fn config_of<D: Disk + Drop>(alloc: Global, store: &BlockStore<D>) -> Result<Config, AllocError>
     ensures is { IfOk result (λ config.
         IsConfigOf (shapes_of store.now.spaces) (config_view config)) }
     ensures fits { IfOk result (λ config. FitsConfig (config_view config)) }
@@ -56,11 +56,11 @@ pub(crate) fn config_of<D: Disk + Drop>(
 {
     small_configs_fit();
     let mut vdevs = Vec::new(alloc);
-    let mut guid = 1;
+    let mut guid = GUIDS_OF_VDEV;
     for index in 0..store.vdev_count() {
         let shape = store.shape(index);
         vdevs.push(vdev_of(alloc, guid, shape)?)?;
-        guid += 1 + u64::from(shape.vdev.geometry.children);
+        guid += GUIDS_OF_VDEV;
     }
     Ok(Config { vdevs })
 }

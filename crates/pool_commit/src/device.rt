@@ -1,23 +1,33 @@
 //! The device calls of a plan.
-ghost use Rattle.std.specs.Prelude.{◌≡◌, ◌<◌, ◌≤◌, ◌^◌, ℕ, min, length, false, true, []};
+ghost use Rattle.std.specs.Prelude.{◌≡◌, ◌<◌, ◌≤◌, ◌∷◌, ◌^◌, ℕ, min, length, false, true, []};
 ghost use Rattle.std.specs.Prelude.{Some, None, OnOk, IfErr, IfSome, IfNone};
+ghost use Rattle.model_disk.specs.Call.{write_call};
+ghost use Rattle.model_disk.specs.Joint.{on};
+ghost use Rattle.block_store.specs.Plans.{KeepsPlans};
+ghost use Rattle.block_store.specs.Store.{IsOutToo};
+ghost use Rattle.uberblock_ring.specs.Slot.{slot_bytes};
+ghost use Rattle.uberblock_ring.specs.Uberblock.{Fits};
 ghost use Rattle.pool_model.specs.View.{View, is_planned};
 ghost use Rattle.pool_commit.specs.Backs.{Backs};
 ghost use Rattle.pool_commit.specs.StateOf.{state_of, disks_in};
 ghost use Rattle.pool_commit.specs.Calls.{GrewTo};
-ghost use Rattle.pool_commit.specs.Making.{MadeWrites, MadeFlushes};
-ghost use Rattle.pool_commit.specs.Making.{FailedWrite, FailedFlush, FlushesMove};
+ghost use Rattle.pool_commit.specs.Making.{MadeWrites, MadeFlushes, MadeSlots, KeepsContent};
+ghost use Rattle.pool_commit.specs.Making.{FailedWrite, FailedFlush, FailedSlot};
+ghost use Rattle.pool_commit.specs.Making.{FlushesMove, FlushesMoveBut, SlotsMove, SlotsMoveBut};
 ghost use Rattle.pool_commit.specs.declared.device.Progress.TheVariants as progress;
-ghost use Rattle.pool_commit.specs.Progress.{Progresses, DropsPlan, GoesOn, with_plan};
-ghost use Rattle.pool_commit.specs.HasDisks.{AreBelow, HasDisks};
+ghost use Rattle.pool_commit.specs.Progress.{Progresses, DropsPlan, CarriesOn, LeavesOut, with_plan};
+ghost use Rattle.pool_commit.specs.HasDisks.{AreBelow, AreSlotsBelow, HasDisks};
+ghost use Rattle.pool_commit.specs.Slots.{LabelsLieAside, place_of};
 
 use crate::commit::Commit;
-use crate::kept::Planned;
+use crate::kept::{Planned, SlotWrite};
 use crate::suspension::lacks_disks;
 use block_store::{BlockStore, FailedDisk};
 use model_disk::Disk;
 use pool_model::Phase;
 use std::collections::VecDeque;
+use uberblock_ring::{Uberblock, encode_slot, slot_offset};
+use vdev_label::label_offset;
 
 /// The most device calls that one step makes.
 const MOST_CALLS: usize = 4;
@@ -56,11 +66,16 @@ fn make_flushes<D: Disk + Drop>(
     ensures made { OnOk result (MadeFlushes store.old store.new flushes.old.items
         flushes.new.items (min (length flushes.old.items) 4)) }
     ensures due { store.new.due ≡ store.old.due }
+    ensures there { AreBelow (length store.old.disks.starts) flushes.new.items }
     ensures flushed { OnOk result
         (FlushesMove store.old store.new flushes.old.items flushes.new.items) }
-    ensures there { OnOk result (AreBelow (length store.old.disks.starts) flushes.new.items) }
-    ensures failed { IfErr result (λ failed.
-        FailedFlush store.old store.new flushes.old.items failed.disk) }
+    ensures failed { IfErr result (λ failed. FailedFlush store.old store.new flushes.old.items
+        flushes.new.items failed.disk) }
+    ensures flushed_but { IfErr result (λ failed. FlushesMoveBut failed.disk store.old store.new
+        flushes.old.items flushes.new.items) }
+
+    // No byte of a disk changes.
+    ensures content { KeepsContent store.old store.new }
 {
     for _ in 0..flushes.len().min(MOST_CALLS) {
         let Some(disk) = flushes.pop_front() else {
@@ -73,9 +88,67 @@ fn make_flushes<D: Disk + Drop>(
     Ok(())
 }
 
+/// Writes the slot of an uberblock in a label of a disk. Where it fails the disk is out from then on.
+fn write_slot<D: Disk + Drop>(
+    store: &mut BlockStore<D>,
+    write: SlotWrite,
+    uberblock: &Uberblock,
+) -> Result<(), FailedDisk>
+    requires there { write.disk < length store.old.disks.starts }
+    requires label { write.label < 4 }
+    requires aside { LabelsLieAside store.old.disks.starts store.old.spaces }
+    requires fits { Fits uberblock.now }
+    ensures starts { store.new.disks.starts ≡ store.old.disks.starts }
+    ensures spaces { store.new.spaces ≡ store.old.spaces }
+    ensures due { store.new.due ≡ store.old.due }
+    ensures call { let at = place_of store.old.disks.starts write uberblock.now.group in
+        store.new.disks.calls
+        ≡ on write.disk (write_call result at (slot_bytes uberblock.now)) ∷ store.old.disks.calls }
+    ensures out { OnOk result (store.new.out ≡ store.old.out) }
+    ensures failed { IfErr result (λ failed. failed.disk ≡ write.disk) }
+    ensures out_too { IfErr result (λ failed. IsOutToo store.old.out write.disk store.new.out) }
+    ensures plans { KeepsPlans store.old store.new }
+{
+    let size = store.disk_size(write.disk);
+    let at = label_offset(size, write.label) + slot_offset(uberblock.group);
+    store.write_aside(write.disk, at, &encode_slot(uberblock))
+}
+
+/// Writes up to four of the slots of an uberblock. The first fault ends them.
+fn make_slots<D: Disk + Drop>(
+    store: &mut BlockStore<D>,
+    uberblock: &Uberblock,
+    slots: &mut VecDeque<SlotWrite>,
+) -> Result<(), FailedDisk>
+    requires there { AreSlotsBelow (length store.old.disks.starts) slots.old.items }
+    requires aside { LabelsLieAside store.old.disks.starts store.old.spaces }
+    requires fits { Fits uberblock.now }
+    ensures made { OnOk result (MadeSlots store.old store.new slots.old.items
+        slots.new.items (min (length slots.old.items) 4)) }
+    ensures due { store.new.due ≡ store.old.due }
+    ensures there { AreSlotsBelow (length store.old.disks.starts) slots.new.items }
+    ensures moved { OnOk result (SlotsMove store.old store.new uberblock.now
+        slots.old.items slots.new.items) }
+    ensures failed { IfErr result (λ failed. FailedSlot store.old store.new slots.old.items
+        slots.new.items failed.disk) }
+    ensures moved_but { IfErr result (λ failed. SlotsMoveBut failed.disk store.old store.new
+        uberblock.now slots.old.items slots.new.items) }
+{
+    for _ in 0..slots.len().min(MOST_CALLS) {
+        let Some(write) = slots.pop_front() else {
+            return Ok(());
+        };
+        if let Err(failed) = write_slot(store, write, uberblock) {
+            return Err(failed);
+        }
+    }
+    Ok(())
+}
+
 impl<D: Disk + Drop> Commit<D> {
-    /// Makes the next device calls of the plan: up to four writes, or where none is left up to four flushes. The first
-    /// fault ends them. Where there is no plan the answer is `None`.
+    /// Makes the next device calls of the plan: up to four writes of blocks, or where none is left up to four flushes, then of slots, then
+    /// flushes again. The first fault ends them. Where a disk fails before the slots, or too many disks are out, the plan is dropped; from
+    /// the slots on the commit goes on without it. Where there is no plan the answer is `None`.
     pub fn device(&mut self) -> Option<Progress>
         ensures grew { GrewTo (disks_in self.old) (disks_in self.new) }
         ensures idle { IfNone result (disks_in self.new ≡ disks_in self.old) }
@@ -87,10 +160,15 @@ impl<D: Disk + Drop> Commit<D> {
     {
         let planned = self.planned.take()?;
         if self.store.due_count() > 0 {
-            Some(self.write(planned))
-        } else {
-            Some(self.flush(planned))
+            return Some(self.write(planned));
         }
+        if !planned.behind.flushes.is_empty() {
+            return Some(self.flush(planned));
+        }
+        if !planned.behind.slots.is_empty() {
+            return Some(self.write_slots(planned));
+        }
+        Some(self.flush_slots(planned))
     }
 
     /// Makes writes of this plan.
@@ -117,12 +195,13 @@ impl<D: Disk + Drop> Commit<D> {
         requires none { self.old.planned ≡ None }
         requires there { HasDisks (length self.old.store.disks.starts) (Some planned) }
         requires written { self.old.store.due ≡ [] }
+        requires some { 0 < length planned.behind.flushes.items }
         ensures grew { GrewTo self.old.store.disks self.new.store.disks }
         ensures goes { (v : View) → Backs (with_plan (state_of self.old) planned) v
             → v.committed < 2 ^ 62
             → Progresses (state_of self.old) result (state_of self.new) v }
     {
-        match make_flushes(&mut self.store, &mut planned.flushes) {
+        match make_flushes(&mut self.store, &mut planned.behind.flushes) {
             Ok(()) => self.go_on(planned, Phase::BlocksFlush),
             Err(failed) => {
                 self.suspended = lacks_disks(&self.store);
@@ -131,12 +210,74 @@ impl<D: Disk + Drop> Commit<D> {
         }
     }
 
+    /// Writes slots of this plan, whose blocks are written and flushed.
+    fn write_slots(&mut self, mut planned: Planned) -> Progress
+        requires none { self.old.planned ≡ None }
+        requires there { HasDisks (length self.old.store.disks.starts) (Some planned) }
+        requires written { self.old.store.due ≡ [] }
+        requires flushed { planned.behind.flushes.items ≡ [] }
+        requires some { 0 < length planned.behind.slots.items }
+        ensures grew { GrewTo self.old.store.disks self.new.store.disks }
+        ensures goes { (v : View) → Backs (with_plan (state_of self.old) planned) v
+            → v.committed < 2 ^ 62
+            → Progresses (state_of self.old) result (state_of self.new) v }
+    {
+        match make_slots(
+            &mut self.store,
+            &planned.uberblock,
+            &mut planned.behind.slots,
+        ) {
+            Ok(()) => self.go_on(planned, Phase::Slots),
+            Err(failed) => {
+                self.suspended = lacks_disks(&self.store);
+                self.go_without(planned, failed, Phase::Slots)
+            }
+        }
+    }
+
+    /// Flushes slots of this plan, which are all written. Where no flush is left either, the group is committed.
+    fn flush_slots(&mut self, mut planned: Planned) -> Progress
+        requires none { self.old.planned ≡ None }
+        requires there { HasDisks (length self.old.store.disks.starts) (Some planned) }
+        requires written { self.old.store.due ≡ [] }
+        requires flushed { planned.behind.flushes.items ≡ [] }
+        requires shown { planned.behind.slots.items ≡ [] }
+        ensures grew { GrewTo self.old.store.disks self.new.store.disks }
+        ensures goes { (v : View) → Backs (with_plan (state_of self.old) planned) v
+            → v.committed < 2 ^ 62
+            → Progresses (state_of self.old) result (state_of self.new) v }
+    {
+        match make_flushes(&mut self.store, &mut planned.behind.slot_flushes) {
+            Ok(()) => self.go_on(planned, Phase::SlotsFlush),
+            Err(failed) => {
+                self.suspended = lacks_disks(&self.store);
+                self.go_without(planned, failed, Phase::SlotsFlush)
+            }
+        }
+    }
+
+    /// A disk failed a call from the slots on: the commit goes on without it, unless too many disks are out.
+    fn go_without(&mut self, mut planned: Planned, failed: FailedDisk, phase: Phase) -> Progress
+        requires none { self.old.planned ≡ None }
+        requires there { HasDisks (length self.old.store.disks.starts) (Some planned) }
+        ensures grew { self.new.store.disks ≡ self.old.store.disks }
+        ensures goes { LeavesOut (state_of self.old) planned failed.disk phase result
+            (state_of self.new) }
+    {
+        if self.suspended {
+            return self.drop_plan(failed);
+        }
+        planned.behind.leave_out(failed.disk);
+        self.go_on(planned, phase)
+    }
+
     /// A disk failed a call of the plan, which is dropped.
     fn drop_plan(&mut self, failed: FailedDisk) -> Progress
         ensures result { result ≡ progress.Dropped failed.disk }
         ensures store { DropsPlan self.old.store self.new.store }
         ensures kept { self.new.kept ≡ self.old.kept }
         ensures planned { self.new.planned ≡ self.old.planned }
+        ensures stamp { self.new.stamp ≡ self.old.stamp }
     {
         self.store
             .drop_plan(self.kept.committed().saturating_add(1));
@@ -147,9 +288,9 @@ impl<D: Disk + Drop> Commit<D> {
     fn go_on(&mut self, planned: Planned, phase: Phase) -> Progress
         requires none { self.old.planned ≡ None }
         requires there { HasDisks (length self.old.store.disks.starts) (Some planned) }
-        ensures { GoesOn (state_of self.old) planned phase result (state_of self.new) }
+        ensures { CarriesOn (state_of self.old) planned phase result (state_of self.new) }
     {
-        if self.store.due_count() > 0 || !planned.flushes.is_empty() {
+        if self.store.due_count() > 0 || !planned.behind.is_done() {
             self.planned = Some(planned);
             return Progress::Moved(phase);
         }

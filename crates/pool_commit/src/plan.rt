@@ -1,5 +1,6 @@
 //! The plan of a group.
 ghost use Rattle.std.specs.Prelude.{◌≡◌, ◌⊎◌, ◌↔◌, ◌<◌, ◌-◌, ◌^◌, ℕ, suc, List, [], Some, None, Err, false, IsTrue, OnOk, OnErr, IfOk, IfErr};
+ghost use Rattle.block_pointer.specs.Block.{FitsBlock};
 ghost use Rattle.block_pointer.specs.declared.block.Block.{Block};
 ghost use Rattle.block_store.specs.Blocks.{Contents, Extends, AreDistinct, AreStored};
 ghost use Rattle.block_store.specs.Plans.{Plans};
@@ -10,6 +11,7 @@ ghost use Rattle.raidz_io.specs.Reads.{OnlyReads, AreUntouched};
 ghost use Rattle.pool_model.specs.Pools.{PlainPool, applied, no_volumes};
 ghost use Rattle.pool_model.specs.View.{View, DueCall, Unplanned, Due, is_planned};
 ghost use Rattle.pool_model.specs.Machine.{IsPlan};
+ghost use Rattle.uberblock_ring.specs.Uberblock.{IsRoot};
 ghost use Rattle.volume_rules.specs.GoodChanges.{MakesGoodVolumes};
 ghost use Rattle.volume_rules.specs.Index.{Knows};
 ghost use Rattle.block_store.specs.declared.refusal.Refusal.TheVariants as lost_blocks;
@@ -36,6 +38,7 @@ use std::alloc::{AllocError, Global};
 use std::sync::Arc;
 use txg_pipeline::Pending;
 use volume_rules::{NameIndex, makes_good_volumes};
+use words::LAST_COUNT;
 
 /// Plans the first root of a pool.
 fn first_root<D: Disk + Drop>(
@@ -46,6 +49,7 @@ fn first_root<D: Disk + Drop>(
 ) -> Result<FirstRoot, block_store::Refusal>
     requires born { 0 < group }
     ensures steps { OnlyReadsAndPlans store.old store.new [] }
+    ensures root { IfOk result (λ first. IsRoot group first.root × FitsBlock first.root) }
     ensures value { IfOk result (λ first. (stored planned : Contents)
         → Plans store.old stored planned → AnswersAreTrue store.old store.new
         → (later : Contents) × Plans store.new stored later × Extends planned later
@@ -83,6 +87,7 @@ fn root_after<D: Disk + Drop>(
 ) -> Result<PlannedRoot, block_store::Refusal>
     requires born { 0 < group }
     ensures steps { OnlyReadsAndPlans store.old store.new [] }
+    ensures root { IfOk result (λ next. IsRoot group next.root × FitsBlock next.root) }
     ensures value { IfOk result (λ next. (stored planned : Contents) (pool : PlainPool)
         (before : List Block)
         → Plans store.old stored planned → SpellsRoot stored (group - 1) last.now.root pool
@@ -153,10 +158,11 @@ fn directory_after(
     Ok(Arc::new(alloc, directory)?)
 }
 
-/// The next group, and the blocks that its root no longer leads to.
+/// The next group, its root, and the blocks that the root no longer leads to.
 #[derive(Drop)]
 struct NextGroup {
     after: KeptGroup,
+    root: RootBlock,
     replaced: Vec<RootBlock>,
 }
 
@@ -170,6 +176,8 @@ fn group_after<D: Disk + Drop>(
 ) -> Result<NextGroup, block_store::Refusal>
     requires born { 0 < group }
     ensures steps { OnlyReadsAndPlans store.old store.new [] }
+    ensures root { IfOk result (λ next. IsRoot group next.root × FitsBlock next.root) }
+    ensures is_root { IfOk result (λ next. next.after.root ≡ Some next.root) }
     ensures value { IfOk result (λ next. (stored planned : Contents) (pool : PlainPool)
         (before : List Block)
         → Plans store.old stored planned → SpellsGroup stored (group - 1) last.now pool
@@ -197,6 +205,7 @@ fn group_after<D: Disk + Drop>(
     };
     Ok(NextGroup {
         after,
+        root: next.root,
         replaced: next.replaced,
     })
 }
@@ -237,8 +246,8 @@ impl<D: Disk + Drop> Commit<D> {
     /// Plans the group after the committed one, which accepted these items. What earlier groups released and is due to it may be
     /// handed out again; what it replaces is released with it. It reads what it must of the committed volumes, and then names
     /// the writes of the new blocks, none of them in place of a block that is kept. `BadConfig` where a volume can't be made as
-    /// it is asked; a pool accepts no such change.
-    pub fn plan(&mut self, alloc: Global, items: &Pending) -> Result<(), Refusal>
+    /// it is asked; a pool accepts no such change. `NoMemory` also behind the last group that there is, 2^62: a pool closes none there.
+    pub fn plan(&mut self, alloc: Global, items: &Pending, timestamp: u64) -> Result<(), Refusal>
         requires unplanned { HasNoPlan (state_of self.old) }
         ensures reads { OnlyReads (disks_in self.old) (disks_in self.new) }
         ensures untouched { AreUntouched (outs_in self.old) (disks_in self.old)
@@ -273,8 +282,11 @@ impl<D: Disk + Drop> Commit<D> {
             ⊎ (refusal ≡ Refusal.NoSpace))) }
     {
         let group = self.kept.committed().saturating_add(1);
+        if group > LAST_COUNT {
+            return Err(Refusal::NoMemory);
+        }
         self.store.begin_plan(group)?;
-        let flushes = self.disks_in_use(alloc)?;
+        let behind = self.due_behind(alloc)?;
         if !makes_good_volumes(items) {
             return Err(Refusal::BadConfig);
         }
@@ -286,7 +298,12 @@ impl<D: Disk + Drop> Commit<D> {
                     return Err(Refusal::NoMemory);
                 }
                 let after = next.after;
-                self.planned = Some(Planned { after, flushes });
+                let uberblock = self.stamp.uberblock(group, next.root, timestamp);
+                self.planned = Some(Planned {
+                    after,
+                    uberblock,
+                    behind,
+                });
                 Ok(())
             }
             Err(refusal) => Err(Refusal::from(refusal)),

@@ -16,13 +16,13 @@ use Rattle.pool_model.proofs.Plans.{nothing_quiet, may_nothing}
 use Rattle.pool_intake.specs.declared.intake.Intake.{Intake}
 use Rattle.pool_intake.specs.Follows.{Follows, KeepsCommitted}
 use Rattle.pool_commit.specs.declared.kept.Planned.{Planned}
-use Rattle.pool_commit.specs.Backs.{Backs, IsPlanOf, IsReachOfPlan, KeptLeadsTo, PlansReach, SpellsGroup, SpellsKept, kept_pool, pool_after}
+use Rattle.pool_commit.specs.Backs.{IsUberblockOf, Backs, IsPlanOf, IsReachOfPlan, KeptLeadsTo, PlansReach, SpellsGroup, SpellsKept, kept_pool, pool_after}
 use Rattle.pool_commit.specs.Calls.{fault_call, unread_call, which_call}
 use Rattle.pool_commit.specs.State.{State, group_at}
 use Rattle.pool_commit.proofs.Made.{made_by_none, told_by_none}
 use Rattle.pool_core.specs.Represents.{Represents}
 use Rattle.pool_core.specs.State.{CoreState, disks_of as core_disks}
-use Rattle.pool_core.specs.Steps.{OnlyWritesAndFlushes, IsGiven, AreFlushed, is_barred, Goes}
+use Rattle.pool_core.specs.Steps.{OnlyWritesAndFlushes, IsGiven, AreFlushed, ShowsGroup, is_barred, Goes}
 
 -- ---- what backs a view backs one with the same disks and groups
 
@@ -41,10 +41,13 @@ plan_kept : (s : State) (planned : Contents) (plan : Option Planned) (v w : View
 plan_kept s planned None v w k is = ap is_planned k.sync ∙ is
 plan_kept s planned (Some plan) v w k is = record {
   counts = is.counts;
+  slot_counts = is.slot_counts;
   sync = k.sync ∙ is.sync;
   spells = subst (λ (p : PlainPool). SpellsGroup planned (suc w.committed) plan.after p) (sym (made_kept v w k (ap is_syncing is.sync)))
       (subst (λ c. SpellsGroup planned (suc c) plan.after (pool_after v)) (sym k.committed) is.spells);
+  uberblock = subst (λ c. IsUberblockOf s.stamp (suc c) plan) (sym k.committed) is.uberblock;
   to_flush = λ disk in_use. is.to_flush disk (subst (λ (disks : List ℕ). Contains disks disk) (in_use_kept v w k) in_use);
+  shown = λ write in_use label. is.shown write (subst (λ (disks : List ℕ). Contains disks write.disk) (in_use_kept v w k) in_use) label;
   in_use = is.in_use;
 }
 
@@ -122,6 +125,11 @@ front_commits_none v given step (Committed group) w new is s = absurd (⊎_elim 
 front_commits_none v given step (Held group) w new is s = tt
 front_commits_none v given step reply w new is s = tt
 
+pub front_shows_none : (v : View) (given : Given) (step : Step) (reply : Reply) (w : View) (new : CoreState) → IsFrontStep step → StepOf v given step reply w → ShowsGroup reply w new
+front_shows_none v given step (Committed group) w new is s = absurd (⊎_elim (λ r. let e = r.answer in cc) (λ o. ⊎_elim (λ l. let e = l.answer in cc) (λ g. answers_commit_none v given step group w is g.answered) o) s)
+front_shows_none v given step (Held group) w new is s = tt
+front_shows_none v given step reply w new is s = tt
+
 -- a step of the intake
 pub front : (s : CoreState) (intake : Intake) (v : View) (trusted : Bool) (step : Step) (reply : Reply) → Represents s v → IsFrontStep step
     → (w : View) × StepOf v nothing_given step reply w × Follows intake w × KeepsCommitted v w
@@ -135,6 +143,7 @@ front s intake v trusted step reply r is_front goes = record {
     is_step = goes.1;
     represents = record { follows = goes.2; backs = backs_kept s.commit v goes.0 goes.3 r.backs };
     flushed = front_commits_none v nothing_given step reply goes.0 (record s { intake = intake }) is_front goes.1;
+    shown = front_shows_none v nothing_given step reply goes.0 (record s { intake = intake }) is_front goes.1;
     untouched = λ disk away. refl;
     only = front_calls step s nothing_given (record s { intake = intake }) is_front;
   };
@@ -151,6 +160,7 @@ refused s v trusted step cause r first = record {
     is_step = inl (record { cause = cause; first = first; answer = refl; unchanged = refl; quiet = nothing_quiet; calls = may_nothing step });
     represents = r;
     flushed = tt;
+    shown = tt;
     untouched = λ disk away. refl;
     only = nothing_called step s s.intake;
   };

@@ -13,10 +13,11 @@ use Rattle.pool_model.specs.declared.step.Step.{Step}
 use Rattle.pool_model.specs.declared.step.Step.TheVariants.{Plan, Device}
 use Rattle.pool_model.specs.declared.step.Reply.{Reply}
 use Rattle.pool_model.specs.declared.step.Reply.TheVariants.{Planned, Moved, Replan, Committed, Refused}
-use Rattle.pool_model.specs.View.{View, Vdev, Given, DueCall, is_away, nothing_given, Sync, Unplanned, Due, is_syncing, is_planned, is_quiesced, is_suspended, open_after}
+use Rattle.pool_model.specs.View.{View, Vdev, Given, DueCall, is_away, nothing_given, Sync, Idle, Unplanned, Due, is_syncing, is_planned, is_quiesced, is_suspended, open_after}
 use Rattle.pool_model.specs.Pools.{Entry}
+use Rattle.pool_model.specs.Flow.{flow_of, with_committed}
 use Rattle.pool_model.specs.Refusals.{greatest, first_cause, refusal_of}
-use Rattle.pool_model.specs.Machine.{StepOf, IsPlan, IsQuiet, FailsOn, IsUnreadable, taken, committed_next, without_plan, dropped}
+use Rattle.pool_model.specs.Machine.{StepOf, IsPlan, IsQuiet, FailsOn, GoesOn, Ends, IsUnreadable, taken, committed_next, without_plan, dropped}
 use Rattle.pool_model.proofs.Answering.{takes_due, syncs_without_plan}
 use Rattle.pool_model.proofs.Plans.{nothing_quiet}
 use Rattle.pool_intake.specs.declared.intake.Intake.{Intake}
@@ -26,7 +27,7 @@ use Rattle.pool_commit.specs.declared.device.Progress.TheVariants as progress
 use Rattle.pool_commit.specs.declared.kept.Planned.{Planned as PlannedGroup}
 use Rattle.pool_commit.specs.Backs.{Backs, IsPlanOf, IsReachOfPlan}
 use Rattle.pool_commit.specs.Calls.{disk_call, plan_call, fault_call, unread_call, told_since, made_between, faults_between, unread_between, GrewTo, which_call, called_between}
-use Rattle.pool_commit.specs.Progress.{AreMade, Progresses}
+use Rattle.pool_commit.specs.Progress.{AreMade, Progresses, EndsWell, fault_list, given_calls}
 use Rattle.pool_commit.specs.Reading.{IsLostUnder, IsLostForPlan}
 use Rattle.pool_commit.specs.Room.{LacksRoom}
 use Rattle.pool_commit.specs.State.{State}
@@ -42,7 +43,7 @@ use Rattle.pool_commit.specs.Causes.{cause_of}
 use Rattle.pool_core.specs.Reading.{LosesUnder, LosesForPlan}
 use Rattle.pool_core.specs.Represents.{Represents}
 use Rattle.pool_core.specs.State.{CoreState, disks_of}
-use Rattle.pool_core.specs.Steps.{AwayIsUntouched, AreFlushed, PoolAnswersTruly, fault_list, LosesBlock, FindsNoRoom, IsGiven, Goes}
+use Rattle.pool_core.specs.Steps.{AwayIsUntouched, AreFlushed, ShowsGroup, PoolAnswersTruly, LosesBlock, FindsNoRoom, IsGiven, Goes}
 use Rattle.pool_core.proofs.Fronting.{nothing_is_given}
 
 -- ---- reads are no calls of a plan
@@ -185,12 +186,8 @@ device_early v s p = both (is_suspended v) (is_planned v.sync) s p
     both false true x y = absurd (true≢false y)
     both true b x y = absurd (true≢false x)
 
--- the calls of a Device step
-abbrev device_given : List DueCall → Option DueCall → Given
-device_given made fault = record { made = made; fault = fault; unread = []; lost_on = None; trusted = true; full = false }
-
 device_is_given : (old new : CoreState) (v : View) (made : List DueCall) (fault : Option DueCall) → AreMade (disks_of old) (disks_of new) v made
-    → faults_between (disks_of old) (disks_of new) ≡ map disk_call (fault_list fault) → IsGiven old v Device new (device_given made fault)
+    → faults_between (disks_of old) (disks_of new) ≡ map disk_call (fault_list fault) → IsGiven old v Device new (given_calls made fault)
 device_is_given old new v made fault are faults =
     record { made = are.seen; fault = sym faults; unread = sym are.unread; lost = none_lost _; full = λ e. absurd (true≢false (sym e)) }
 
@@ -227,39 +224,83 @@ device_spares s new v made grew only disk away =
     (λ held. not_on_away made v disk only.in_use away
     (subst (λ (xs : List ℕ). Contains xs disk) (ap (told_since which_call (length (disks_of s).calls)) (sym grew.calls) ∙ only.called) held))
 
+-- a view that goes on is planned, and its intake follows it still
+goes_planned : (v w : View) (given : Given) (phase : Phase) (rest : List DueCall) → GoesOn v given phase rest w → is_planned v.sync ≡ true
+goes_planned v w given phase rest (inl well) = ap is_planned well.planned
+goes_planned v w given phase rest (inr without) = ap is_planned without.fails.planned
+
+goes_follows : (intake : Intake) (v w : View) (given : Given) (phase : Phase) (rest : List DueCall) → Follows intake v → GoesOn v given phase rest w → Follows intake w
+goes_follows intake v w given phase rest f (inl well) =
+    subst (Follows intake) (sym well.after) (follows_on intake v (Due rest) v.out f (ap is_syncing well.planned) refl)
+goes_follows intake v w given phase rest f (inr without) =
+    subst (Follows intake) (sym without.after) (follows_on intake v (Due rest) (λ d. (d == without.disk) || v.out d) f (ap is_syncing without.fails.planned) refl)
+
 pub moves : (s : CoreState) (commit : State) (v : View) (trusted : Bool) (phase : Phase) → Represents s v → is_suspended v ≡ false → Progresses s.commit (progress.Moved phase) commit v → GrewTo (disks_of s) commit.store.disks
     → Goes s v trusted Device (Moved phase) (record s { commit = commit })
 moves s commit v trusted phase r free p grew =
     let new : CoreState = record s { commit = commit } in
-    let on = p.0 in
+    let w : View = p.0 in
+    let on = p.1 in
+    let given : Given = given_calls on.made on.fault in
     record {
-      given = device_given on.made None;
+      given = given;
       trust = λ e. refl;
-      after = record v { sync = Due on.rest };
+      after = w;
       link = record {
-        is_given = device_is_given s new v on.made None on.are_made on.faults;
-        is_step = inr (inr (record { none = device_free v free (ap is_planned on.planned); answered = (on.rest, on.some, inl (record { left = on.left; planned = on.planned; makes = on.makes; fault = refl; after = refl })); calls = refl }));
-        represents = record { follows = follows_on s.intake v (Due on.rest) v.out r.follows (ap is_syncing on.planned) refl; backs = p.1 };
+        is_given = device_is_given s new v on.made on.fault on.are_made on.faults;
+        is_step = inr (inr (record { none = device_free v free (goes_planned v w given phase on.rest on.goes); answered = (on.rest, on.some, on.goes); calls = refl }));
+        represents = record { follows = goes_follows s.intake v w given phase on.rest r.follows on.goes; backs = p.2 };
         flushed = tt;
+        shown = tt;
         untouched = device_spares s new v on.made grew on.are_made;
         only = on.are_made.called;
       };
     }
 
-pub commits : (s : CoreState) (intake : Intake) (commit : State) (v : View) (trusted : Bool) (reply : Reply) → Represents s v → is_suspended v ≡ false → Progresses s.commit progress.Done commit v → GrewTo (disks_of s) commit.store.disks
-    → reply ≡ Committed (suc v.committed) → Follows intake (committed_next v) → Goes s v trusted Device reply (record { intake = intake; commit = commit })
-commits s intake commit v trusted reply r free p grew is f =
+-- so it is of one whose commit ends
+pub ends_planned : (v w : View) (given : Given) → Ends v given w → is_planned v.sync ≡ true
+ends_planned v w given (inl (done, same)) = ap is_planned done.planned
+ends_planned v w given (inr (phase, without)) = ap is_planned without.fails.planned
+
+syncing_if : (sync : Sync) → is_planned sync ≡ true → is_syncing sync ≡ true
+syncing_if Idle is = is
+syncing_if Unplanned is = refl
+syncing_if (Due calls) is = refl
+
+pub ends_follows : (intake : Intake) (v w : View) (given : Given) → Follows intake v → Ends v given w → Follows intake w
+ends_follows intake v w given f (inl (done, same)) = subst (Follows intake) (sym same) f
+ends_follows intake v w given f (inr (phase, without)) =
+    subst (Follows intake) (sym without.after) (follows_on intake v (Due []) (λ d. (d == without.disk) || v.out d) f (ap is_syncing without.fails.planned) refl)
+
+pub ends_syncing : (v w : View) (given : Given) → Ends v given w → is_syncing w.sync ≡ true
+ends_syncing v w given (inl (done, same)) = ap (λ (u : View). is_syncing u.sync) same ∙ ap is_syncing done.planned
+ends_syncing v w given (inr (phase, without)) = ap (λ (u : View). is_syncing u.sync) without.after
+
+pub ends_committed : (v w : View) (given : Given) → Ends v given w → w.committed ≡ v.committed
+ends_committed v w given (inl (done, same)) = ap (λ (u : View). u.committed) same
+ends_committed v w given (inr (phase, without)) = ap (λ (u : View). u.committed) without.after
+
+ends_flow : (v w : View) (given : Given) → Ends v given w → flow_of (committed_next w) ≡ with_committed (flow_of v)
+ends_flow v w given (inl (done, same)) = ap (λ (u : View). flow_of (committed_next u)) same
+ends_flow v w given (inr (phase, without)) = ap (λ (u : View). flow_of (committed_next u)) without.after
+
+pub commits : (s : CoreState) (intake : Intake) (commit : State) (v w : View) (trusted : Bool) (reply : Reply) → Represents s v → is_suspended v ≡ false
+    → EndsWell (disks_of s) commit v w → Backs commit (committed_next w) → GrewTo (disks_of s) commit.store.disks
+    → reply ≡ Committed (suc w.committed) → Follows intake (committed_next w) → Goes s v trusted Device reply (record { intake = intake; commit = commit })
+commits s intake commit v w trusted reply r free ends backs grew is f =
     let new : CoreState = record { intake = intake; commit = commit } in
-    let ends = p.0 in
-    subst (λ (x : Reply). Goes s v trusted Device x new) (sym is) (record {
-      given = device_given ends.made None;
+    let given : Given = given_calls ends.made ends.fault in
+    let planned = ends_planned v w given ends.ends in
+    subst (λ (x : Reply). Goes s v trusted Device x new) (sym (is ∙ ap (λ (n : ℕ). Committed (suc n)) (ends_committed v w given ends.ends))) (record {
+      given = given;
       trust = λ e. refl;
-      after = committed_next v;
+      after = committed_next w;
       link = record {
-        is_given = device_is_given s new v ends.made None ends.are_made ends.faults;
-        is_step = inr (inr (record { none = device_free v free (ap is_planned ends.planned); answered = ((ap is_syncing ends.planned, refl, refl), v, inl (record { left = ends.left; planned = ends.planned; makes = ends.makes; fault = refl }, refl), refl); calls = refl }));
-        represents = record { follows = f; backs = p.1 };
+        is_given = device_is_given s new v ends.made ends.fault ends.are_made ends.faults;
+        is_step = inr (inr (record { none = device_free v free planned; answered = ((syncing_if v.sync planned, refl, ends_flow v w given ends.ends), w, ends.ends, refl); calls = refl }));
+        represents = record { follows = f; backs = backs };
         flushed = ends.flushed;
+        shown = (ends.root, ends.is_root, ends.timestamp, ends.shown);
         untouched = device_spares s new v ends.made grew ends.are_made;
         only = ends.are_made.called;
       };
@@ -273,7 +314,7 @@ drops s commit v trusted disk reply r free p grew is = go (is_suspended (dropped
     new = record s { commit = commit }
 
     given : Given
-    given = device_given p.0.made (Some p.0.call)
+    given = given_calls p.0.made (Some p.0.call)
 
     is_given : IsGiven s v Device new given
     is_given = device_is_given s new v p.0.made (Some p.0.call) p.0.are_made p.0.fault
@@ -294,8 +335,9 @@ drops s commit v trusted disk reply r free p grew is = go (is_suspended (dropped
     after : Represents new (dropped v disk)
     after = record { follows = follows_on s.intake v (without_plan v.sync) (dropped v disk).out r.follows (ap is_syncing p.0.planned) (syncs_without_plan v.sync ∙ ap is_syncing p.0.planned); backs = p.1 }
 
-    goes : (answer : Reply) → StepOf v given Device answer (dropped v disk) → AreFlushed answer (dropped v disk) new → Goes s v trusted Device answer new
-    goes answer step flushed = record {
+    goes : (answer : Reply) → StepOf v given Device answer (dropped v disk) → AreFlushed answer (dropped v disk) new → ShowsGroup answer (dropped v disk) new
+        → Goes s v trusted Device answer new
+    goes answer step flushed shown = record {
       given = given;
       trust = λ t. refl;
       after = dropped v disk;
@@ -304,6 +346,7 @@ drops s commit v trusted disk reply r free p grew is = go (is_suspended (dropped
         is_step = step;
         represents = after;
         flushed = flushed;
+        shown = shown;
         untouched = device_spares s new v p.0.made grew p.0.are_made;
         only = p.0.are_made.called;
       };
@@ -312,10 +355,10 @@ drops s commit v trusted disk reply r free p grew is = go (is_suspended (dropped
     go : (b : Bool) → is_suspended (dropped v disk) ≡ b → reply ≡ (if is_suspended (dropped v disk) then Refused causes.Suspended else Replan disk) → Goes s v trusted Device reply new
     go true e x =
         subst (λ (y : Reply). Goes s v trusted Device y new) (sym (x ∙ ap (λ b. if b then Refused causes.Suspended else Replan disk) e))
-        (goes (Refused causes.Suspended) (inr (inr (record { none = device_free v free (ap is_planned p.0.planned); answered = (refl, disk, fails, e, refl); calls = refl }))) tt)
+        (goes (Refused causes.Suspended) (inr (inr (record { none = device_free v free (ap is_planned p.0.planned); answered = (refl, disk, fails, e, refl); calls = refl }))) tt tt)
     go false e x =
         subst (λ (y : Reply). Goes s v trusted Device y new) (sym (x ∙ ap (λ b. if b then Refused causes.Suspended else Replan disk) e))
-        (goes (Replan disk) (inr (inr (record { none = device_free v free (ap is_planned p.0.planned); answered = (fails, p.0.early, e, refl); calls = refl }))) tt)
+        (goes (Replan disk) (inr (inr (record { none = device_free v free (ap is_planned p.0.planned); answered = (fails, p.0.early e, e, refl); calls = refl }))) tt tt)
 
 -- ---- plans
 
@@ -370,6 +413,7 @@ plans s intake commit v trusted timestamp group calls none f is plan backs reads
         is_step = inr (inr (record { none = none; answered = ((is, (takes_due v timestamp none, refl)), calls, record { in_use = plan.in_use; numbered = plan.numbered; behind = plan.behind; flushes = plan.flushes; slots = plan.slots; slot_flushes = plan.slot_flushes }, refl); calls = reads_quiet s new None trusted false }));
         represents = record { follows = follows_on intake (taken v Unplanned) (Due calls) v.out f refl refl; backs = backs };
         flushed = tt;
+        shown = tt;
         untouched = spared;
         only = tt;
       };
@@ -417,6 +461,7 @@ plan_refused s intake commit v trusted timestamp refusal named is none f backs r
         is_step = step;
         represents = record { follows = f; backs = backs };
         flushed = tt;
+        shown = tt;
         untouched = spared;
         only = tt;
       };
@@ -442,6 +487,7 @@ idles s commit v trusted r free none backs same =
         is_step = inl (record { cause = causes.NotNow; first = device_early v free none; answer = refl; unchanged = refl; quiet = nothing_quiet; calls = refl });
         represents = record { follows = r.follows; backs = backs };
         flushed = tt;
+        shown = tt;
         untouched = λ disk away. ap (λ (d : Disks). calls_on disk d.calls) same;
         only = ap (λ (d : Disks). called_between (disks_of s) d) same ∙ told_by_none which_call (disks_of s);
       };
@@ -459,6 +505,7 @@ takes_none s intake v trusted timestamp cause r first f = record {
     is_step = inl (record { cause = cause; first = first; answer = refl; unchanged = refl; quiet = nothing_quiet; calls = nothing_quiet });
     represents = record { follows = f; backs = r.backs };
     flushed = tt;
+    shown = tt;
     untouched = λ disk away. refl;
     only = tt;
   };

@@ -1,5 +1,6 @@
 -- What a step of a core is.
-use Rattle.std.specs.Prelude.{ℕ, suc, ◌≡◌, List, [], ◌∷◌, Contains, map, Bool, true, false, Option, Some, None}
+use Rattle.std.specs.Prelude.{ℕ, suc, ◌≡◌, ◌<◌, List, Contains, map, Bool, true, false, Some}
+use Rattle.block_pointer.specs.declared.block.Block.{Block}
 use Rattle.model_disk.specs.Joint.{calls_on}
 use Rattle.raidz_io.specs.Reads.{IsHonestSince}
 use Rattle.pool_model.specs.declared.step.Step.{Step}
@@ -9,6 +10,9 @@ use Rattle.pool_model.specs.declared.step.Reply.TheVariants.{Planned, Committed}
 use Rattle.pool_model.specs.View.{View, Vdev, Given, DueCall, is_away, disks_in_use, is_suspended}
 use Rattle.pool_model.specs.Machine.{StepOf}
 use Rattle.pool_commit.specs.Calls.{disk_call, made_between, faults_between, unread_between, called_between, IsFlushed}
+use Rattle.pool_commit.specs.Progress.{fault_list}
+use Rattle.pool_commit.specs.declared.kept.SlotWrite.{SlotWrite}
+use Rattle.pool_commit.specs.Slots.{ShowsIn, uberblock_of}
 use Rattle.pool_commit.specs.Room.{LacksRoom}
 use Rattle.pool_core.specs.Reading.{LosesUnder, LosesForPlan}
 use Rattle.pool_core.specs.State.{CoreState, disks_of}
@@ -24,10 +28,6 @@ is_barred (Release writer) = false
 is_barred (Read name offset len) = false
 is_barred (ReadUnder group name offset len) = false
 is_barred step = true
-
-abbrev pub fault_list : Option DueCall → List DueCall
-fault_list None = []
-fault_list (Some call) = call ∷ []
 
 -- a block that the step had to read could not be, and this is the vdev of its last copy
 abbrev pub LosesBlock : CoreState → View → Step → CoreState → Vdev → Type 0
@@ -55,6 +55,13 @@ abbrev pub AreFlushed : Reply → View → CoreState → Type 0
 AreFlushed (Committed group) w new = (disk : ℕ) → Contains (disks_in_use w) disk → IsFlushed (disks_of new) disk
 AreFlushed reply w new = Unit {0}
 
+-- and its uberblock stands in each of the four labels of these disks
+abbrev pub ShowsGroup : Reply → View → CoreState → Type 0
+ShowsGroup (Committed group) w new = (root : Block) × (new.commit.kept.last.root ≡ Some root) × (timestamp : ℕ)
+    × ((write : SlotWrite) → Contains (disks_in_use w) write.disk → write.label < 4
+    → ShowsIn (disks_of new) (uberblock_of new.commit.stamp group root timestamp) write)
+ShowsGroup reply w new = Unit {0}
+
 -- no disk that is away is called
 abbrev pub AwayIsUntouched : CoreState → View → CoreState → Type 0
 AwayIsUntouched old v new = (disk : ℕ) → is_away v disk ≡ true → calls_on disk (disks_of new).calls ≡ calls_on disk (disks_of old).calls
@@ -70,6 +77,7 @@ pub record Link (old : CoreState) (v : View) (step : Step) (given : Given) (repl
   pub is_step : StepOf v given step reply w
   pub represents : Represents new w
   pub flushed : AreFlushed reply w new
+  pub shown : ShowsGroup reply w new
   pub untouched : AwayIsUntouched old v new
   pub only : OnlyWritesAndFlushes step old given new
 

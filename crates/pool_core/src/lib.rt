@@ -5,6 +5,7 @@
 mod honest;
 mod pool;
 mod reading;
+mod reopening;
 mod runs;
 mod syncing;
 

@@ -4,7 +4,7 @@ ghost use Rattle.model_disk.specs.Joint.{calls_on, log_of};
 ghost use Rattle.pool_model.specs.declared.step.Step.TheVariants as steps;
 ghost use Rattle.pool_model.specs.declared.volume.PlainVolume.{PlainVolume};
 ghost use Rattle.pool_model.specs.Pools.{volume_at};
-ghost use Rattle.pool_model.specs.View.{View, is_suspended, now_of, started};
+ghost use Rattle.pool_model.specs.View.{View, is_suspended, now_of};
 ghost use Rattle.volume_rules.specs.Covering.{IsCovered};
 ghost use Rattle.volume_rules.specs.Shapes.{shape_of};
 ghost use Rattle.pool_commit.specs.Backs.{Backs};
@@ -12,6 +12,7 @@ ghost use Rattle.block_store.specs.declared.shape.VdevShape.{VdevShape as ShapeO
 ghost use Rattle.block_store.specs.Config.{AreShapes, IsFewVdevs};
 ghost use Rattle.pool_commit.specs.Calls.{GrewTo};
 ghost use Rattle.pool_commit.specs.Config.{vdevs_from};
+ghost use Rattle.pool_commit.specs.Started.{started_on_disks};
 ghost use Rattle.pool_core.specs.Represents.{Represents};
 ghost use Rattle.pool_core.specs.StateOf.{disks_in, state_of};
 ghost use Rattle.pool_core.specs.Steps.{TakesStep, is_barred as barred_step};
@@ -49,7 +50,7 @@ impl<D: Disk + Drop> Core<D> {
         ensures calls { IfOk result (λ core. (which : ℕ)
             → calls_on which (disks_in core).calls ≡ log_of (map D.calls disks.items) which) }
         ensures represents { IfOk result (λ core. Represents (state_of core)
-            (started (vdevs_from 0 vdevs.now))) }
+            (started_on_disks (vdevs_from 0 vdevs.now))) }
         ensures refused { IfErr result (λ refusal. (refusal ≡ Refusal.NoMemory)
             ⊎ ((refusal ≡ Refusal.BadConfig) × ((shapes : List ShapeOf)
             → ¬ (IsFewVdevs vdevs.now × AreShapes (map D.start disks.items) 0 vdevs.now shapes)))) }
@@ -62,6 +63,16 @@ impl<D: Disk + Drop> Core<D> {
             }),
             Err(refusal) => Err(Refusal::from(refusal)),
         }
+    }
+
+    /// The disks, in the order of their numbers. What was accepted and isn't committed is dropped.
+    pub fn into_disks(self) -> Vec<D>
+        ensures starts { map D.start result.items ≡ (disks_in self).starts }
+        ensures calls { (which : ℕ)
+            → log_of (map D.calls result.items) which ≡ calls_on which (disks_in self).calls }
+    {
+        let Core { commit, .. } = self;
+        commit.into_disks()
     }
 
     /// Whether the pool is suspended, and refuses the step for that.
@@ -95,7 +106,7 @@ impl<D: Disk + Drop> Core<D> {
             Step::Release(writer) => self.intake.release(writer),
             Step::Close => self.intake.close(),
             Step::Quiesce => self.intake.quiesce(),
-            Step::Plan { .. } => self.plan(),
+            Step::Plan { timestamp } => self.plan(timestamp),
             Step::Device => self.device(),
             Step::Read { name, offset, len } => self.read(&name, offset, len),
             Step::ReadUnder {

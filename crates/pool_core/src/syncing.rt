@@ -18,10 +18,10 @@ use pool_model::{Refusal, Reply};
 
 impl<D: Disk + Drop> Core<D> {
     /// Takes the quiesced group to be synced, or the one whose plan was dropped, and plans it.
-    pub(crate) fn plan(&mut self) -> Reply
+    pub(crate) fn plan(&mut self, timestamp: u64) -> Reply
         ensures grew { GrewTo (disks_in self.old) (disks_in self.new) }
-        ensures goes { (timestamp : ℕ) → TakesStepUnlessSuspended (state_of self.old)
-            (steps.Plan timestamp) result (state_of self.new) }
+        ensures goes { (time : ℕ) → TakesStepUnlessSuspended (state_of self.old)
+            (steps.Plan time) result (state_of self.new) }
     {
         if self.commit.is_planned() {
             return Reply::Refused(Refusal::NotNow);
@@ -33,7 +33,7 @@ impl<D: Disk + Drop> Core<D> {
         let Some(items) = self.intake.syncing_items() else {
             return Reply::Refused(Refusal::NotNow);
         };
-        match self.commit.plan(self.alloc, items) {
+        match self.commit.plan(self.alloc, items, timestamp) {
             Ok(()) => Reply::Planned(self.intake.committed_group().saturating_add(1)),
             Err(refusal) => Reply::Refused(Refusal::from(refusal)),
         }

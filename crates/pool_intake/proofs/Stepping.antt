@@ -1,5 +1,5 @@
 -- Steps of the intake, and the view that it follows after each.
-use Rattle.std.proofs.Common.{◌≡◌, ◌⊎◌, ⊎_elim, inl, inr, ℕ, suc, ◌≤◌, true, false, true≢false, List, Option, Some, None, refl, sym, ap, ◌∙◌, subst, arith}
+use Rattle.std.proofs.Common.{◌≡◌, ◌⊎◌, ⊎_elim, inl, inr, ℕ, suc, ◌≤◌, ◌<◌, Bool, true, false, true≢false, List, Option, Some, None, refl, sym, ap, ◌∙◌, subst, arith}
 use Rattle.std.specs.Prelude.{cond, is_some, not, ◌==◌, ◌&&◌, ◌||◌}
 use Rattle.pool_model.specs.declared.group.Holder.{Holder}
 use Rattle.pool_model.specs.declared.group.Stage.{Stage}
@@ -16,20 +16,20 @@ use Rattle.pool_model.specs.declared.step.Step.{Step}
 use Rattle.pool_model.specs.declared.step.Step.TheVariants.{Hold, Write as WriteStep, Act, Release, Close, Quiesce, Plan, Device}
 use Rattle.pool_model.specs.declared.step.Reply.{Reply}
 use Rattle.pool_model.specs.declared.step.Reply.TheVariants.{Held, Receipt, Released, Closed, Quiesced, Planned, Committed, Refused}
-use Rattle.pool_model.specs.Pools.{upto, PlainPool, Ledger, Entry, volume_at, changed, applied}
-use Rattle.pool_model.specs.View.{View, nothing_given, Unplanned, is_syncing, is_planned, is_quiescing, is_quiesced, is_suspended, hold_group, is_held, now_of, open_group, waiting_group}
+use Rattle.pool_model.specs.Pools.{upto, no_items, PlainPool, Ledger, Entry, volume_at, changed, applied}
+use Rattle.pool_model.specs.View.{View, Vdev, opened_as, nothing_given, Unplanned, is_syncing, is_planned, is_quiescing, is_quiesced, is_suspended, hold_group, is_held, now_of, open_group, waiting_group}
 use Rattle.pool_model.specs.Flow.{Flow, flow_of, opened, added, counted_on, ledger_accepted, with_hold, without_hold, with_accepted, with_taken}
 use Rattle.pool_model.specs.Refusals.{greatest, change_refusal, refusal_of}
 use Rattle.pool_model.specs.Machine.{StepOf, MayAnswer, MayLack, with_flow, taken, committed_next, without_memory}
 use Rattle.pool_model.proofs.Answering.{taken_already}
 use Rattle.pool_model.proofs.Plans.{nothing_quiet, may_nothing}
 use Rattle.pool_model.proofs.SoundFlows.{all_snoc, taken_hold}
-use Rattle.pool_model.proofs.Sounds.{sound_step}
-use Rattle.pool_model.proofs.Uptos.{itself}
+use Rattle.pool_model.proofs.Sounds.{sound_opened, sound_step}
+use Rattle.pool_model.proofs.Uptos.{itself, upto_one}
 use Rattle.txg_pipeline.specs.declared.pipeline.Pipeline.{Pipeline}
 use Rattle.txg_pipeline.specs.declared.refusal.Refusal.{Refusal}
 use Rattle.txg_pipeline.specs.declared.refusal.Refusal.TheVariants.{NoMemory, AlreadyHeld, NoHold, OutOfOrder, NotNow}
-use Rattle.txg_pipeline.specs.Carries.{Carries, Does, IsUnchanged, IsNotAccepted}
+use Rattle.txg_pipeline.specs.Carries.{Carries, empty_after, Does, IsUnchanged, IsNotAccepted}
 use Rattle.txg_pipeline.specs.Calls.{cause_of}
 use Rattle.txg_pipeline.proofs.Carrying.{kept_synced}
 use Rattle.volume_rules.specs.declared.index.NameIndex.{NameIndex}
@@ -262,3 +262,20 @@ followed intake v w r e p f =
 
     now : now_of w ≡ now_of v
     now = λ i. upto (e i).committed (p i (e i).committed) (e i).ledger (opened (e i))
+
+-- ---- a pool that is opened
+
+-- nothing is pending behind the group that was committed
+now_opened : (vdevs : List Vdev) (out : ℕ → Bool) (group : ℕ) (pool : PlainPool) → now_of (opened_as vdevs out group pool) ≡ pool
+now_opened vdevs out group pool = upto_one group pool (λ other. no_items)
+
+pub follows_opened : (pipeline : Pipeline) (index : NameIndex) (vdevs : List Vdev) (out : ℕ → Bool) (group : ℕ) (pool : PlainPool) → group < greatest
+    → Carries pipeline (empty_after group) → Knows index pool → IsMadeBy group pool
+    → Follows (record { pipeline = pipeline; index = index }) (opened_as vdevs out group pool)
+follows_opened pipeline index vdevs out group pool below carries knows made = record {
+  sound = sound_opened vdevs out group pool below;
+  flow = carries;
+  names = subst (Knows index) (sym (now_opened vdevs out group pool)) knows;
+  made = made;
+  good = λ other. tt;
+}

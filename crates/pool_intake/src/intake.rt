@@ -20,15 +20,17 @@ pub struct Intake {
 }
 
 impl Intake {
-    ghost use Rattle.std.specs.Prelude.{◌↔◌, IsTrue, ℕ, suc, List, length, replicate, ◌+◌, ◌≤◌, None, Some, false, is_some, IfSome, IfErr, OnOk};
+    ghost use Rattle.std.specs.Prelude.{◌↔◌, ◌<◌, Bool, IsTrue, ℕ, suc, List, length, replicate, ◌+◌, ◌≤◌, None, Some, false, is_some, IfSome, IfErr, OnOk};
     ghost use Rattle.pool_model.specs.declared.step.Step.TheVariants as steps;
     ghost use Rattle.pool_model.specs.declared.volume.PlainVolume.{PlainVolume};
-    ghost use Rattle.pool_model.specs.Pools.{volume_at};
-    ghost use Rattle.pool_model.specs.View.{View, Vdev, Unplanned, started, is_syncing, is_planned, is_suspended, now_of};
-    ghost use Rattle.pool_model.specs.Refusals.{refusal_of};
+    ghost use Rattle.pool_model.specs.Pools.{PlainPool, volume_at};
+    ghost use Rattle.pool_model.specs.View.{View, Vdev, Unplanned, started, opened_as, is_syncing, is_planned, is_suspended, now_of};
+    ghost use Rattle.pool_model.specs.Refusals.{greatest, refusal_of};
     ghost use Rattle.pool_model.specs.Machine.{taken, committed_next};
     ghost use Rattle.volume_rules.specs.Shapes.{shape_of, shape_at};
     ghost use Rattle.volume_rules.specs.Covering.{IsCovered};
+    ghost use Rattle.volume_rules.specs.Index.{Knows};
+    ghost use Rattle.volume_rules.specs.NowMoves.{IsMadeBy};
     ghost use Rattle.volume_rules.specs.Overlay.{base_of, HasRange};
     ghost use Rattle.pool_intake.specs.Follows.{Follows, TakesStep, TakesStepUnlessSuspended};
 
@@ -39,6 +41,19 @@ impl Intake {
         Intake {
             pipeline: Pipeline::new(alloc, 3),
             index: NameIndex::new(alloc),
+        }
+    }
+
+    /// An intake over a pool that was committed before as that group, and has these names: as it is opened nobody has a hold, and
+    /// each writer begins with number 1.
+    pub fn opened(alloc: Global, group: u64, index: NameIndex) -> Intake
+        requires { group < greatest }
+        ensures { (vdevs : List Vdev) (out : ℕ → Bool) (pool : PlainPool) → Knows index pool
+            → IsMadeBy group pool → Follows result (opened_as vdevs out group pool) }
+    {
+        Intake {
+            pipeline: Pipeline::new(alloc, group),
+            index,
         }
     }
 

@@ -51,13 +51,14 @@ fn vdev_of(line: &PoolLine) -> Option<VdevConfig>
 }
 
 impl StepMachine for Core<MemDisk> {
-    ghost use Rattle.pool_model.specs.View.{started};
+    ghost use Rattle.pool_commit.specs.Started.{started_on_disks};
     ghost use Rattle.pool_core.specs.Represents.{Represents};
     ghost use Rattle.pool_core.specs.StateOf.{state_of};
     ghost use Rattle.programs.specs.Runs.{StepsTruly};
     ghost use Rattle.programs.specs.Vdevs.{vdev_of, RefusesPool};
 
-    ghost creates = { λ line core. Represents (state_of core) (started (vdev_of line ∷ [])) };
+    ghost creates = { λ line core.
+        Represents (state_of core) (started_on_disks (vdev_of line ∷ [])) };
 
     ghost refuses = { RefusesPool };
 

@@ -19,4 +19,6 @@ mod playing;
 #[cfg(test)]
 mod schedules;
 #[cfg(test)]
+mod shown_slots;
+#[cfg(test)]
 mod telling;

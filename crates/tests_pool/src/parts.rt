@@ -399,8 +399,8 @@ fn step(alloc: Global, number: u32) -> Result<Step, AllocError> {
     })
 }
 
-/// The steps up to the plan, so many that write, one that flushes, and one more.
-fn steps(alloc: Global, writing: u32) -> Result<Vec<Step>, Fail> {
+/// The steps up to the plan, so many that go on, one that ends the commit, and one more.
+pub(crate) fn steps(alloc: Global, writing: u32) -> Result<Vec<Step>, Fail> {
     let mut steps = Vec::new(alloc);
     for number in 0..writing.saturating_add(8) {
         steps.push(step(alloc, number)?)?;
@@ -415,6 +415,9 @@ fn replies_to(alloc: Global, writing: u32) -> Result<String, Fail> {
     for _ in 0..writing {
         text.push_str("Moved(Blocks), ")?;
     }
+    if writing > 0 {
+        text.push_str("Moved(BlocksFlush), Moved(Slots), Moved(Slots), Moved(Slots), ")?;
+    }
     text.push_str("Committed(4), Refused(NotNow)]")?;
     Ok(text)
 }
@@ -424,7 +427,10 @@ fn replies_to(alloc: Global, writing: u32) -> Result<String, Fail> {
 /// object set all has three copies: the directory, the configuration, stale spans, space maps, a
 /// dead list, the dnodes and the set of three columns, and a record, which is one sector, of two:
 /// 69. A step writes four.
-const WRITING: u32 = 21;
+pub(crate) const WRITING: u32 = 21;
+
+/// Behind these one flushes, and three write slots.
+pub(crate) const BEHIND: u32 = 4;
 
 fn run_in_memory(alloc: Global) -> Result<String, Fail> {
     let steps = steps(alloc, 0)?;
@@ -435,7 +441,7 @@ fn run_in_memory(alloc: Global) -> Result<String, Fail> {
 }
 
 /// A vdev of three disks with one parity.
-fn three_disks() -> Result<VdevConfig, Fail> {
+pub(crate) fn three_disks() -> Result<VdevConfig, Fail> {
     Ok(VdevConfig {
         geometry: Geometry::new(3, 1, 9)?,
         metaslab_shift: 12,
@@ -449,7 +455,7 @@ fn replies_of(alloc: Global, core: &mut Core<MemDisk>, steps: Vec<Step>) -> Resu
 }
 
 fn run_over_disks(alloc: Global) -> Result<String, Fail> {
-    let steps = steps(alloc, WRITING)?;
+    let steps = steps(alloc, WRITING + BEHIND)?;
     let vdev = three_disks()?;
     let disks = MemDisk::several(alloc, 3, 0x800000)?;
     let mut core = Core::create(alloc, disks, &[vdev])?;
@@ -569,7 +575,7 @@ fn plan_cause(
     if commit.is_planned() {
         return Ok((None, false));
     }
-    let cause = commit.plan(alloc, items.open_items()).err();
+    let cause = commit.plan(alloc, items.open_items(), 0).err();
     Ok((cause, is_done(commit)))
 }
 

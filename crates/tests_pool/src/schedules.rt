@@ -30,6 +30,8 @@ close -> closed 5
 quiesced -> quiesced 5
 plan -> planned 5
 times 19 device -> moved Blocks
+device -> moved BlocksFlush
+times 3 device -> moved Slots
 device -> committed 5
 under 5 v 510 4 -> 00x2 01x2
 under 5 v 1534 4 -> 01x2 00x2
@@ -59,6 +61,8 @@ close -> closed 6
 quiesced -> quiesced 6
 plan -> planned 6
 times 12 device -> moved Blocks
+device -> moved BlocksFlush
+times 3 device -> moved Slots
 device -> committed 6
 under 6 v 1022 4 -> 01x2 04x2
 under 6 v 1534 4 -> 04x2 00x2
@@ -68,6 +72,8 @@ close -> closed 7
 quiesced -> quiesced 7
 plan -> planned 7
 times 3 device -> moved Blocks
+device -> moved BlocksFlush
+times 3 device -> moved Slots
 device -> committed 7
 under 7 v 3582 4 -> 06x2 05x2
 under 7 w 2048 4 -> 02x4
@@ -109,7 +115,7 @@ under 4 w 0 4 -> 00x4
 /// Two blocks with a column on each of five disks. Behind their ten columns group 5 writes 26 of
 /// the volume, two copies of five of the indirect block and the dnodes and of three of the set,
 /// and 30 of the meta object set, three copies of two of the record, of five of the dnodes and of
-/// three of the set: 66 writes, and then five flushes.
+/// three of the set: 66 writes, and then five flushes, 20 slots and five flushes.
 const FIVE_DISKS: &str = "pool 1 5 8388608 12 2
 device -> refused 13 NotNow
 hold 1 -> held 4
@@ -126,7 +132,9 @@ quiesced -> quiesced 5
 plan -> planned 5
 plan -> refused 13 NotNow
 times 17 device -> moved Blocks
-device -> moved BlocksFlush
+times 2 device -> moved BlocksFlush
+times 5 device -> moved Slots
+device -> moved SlotsFlush
 device -> committed 5
 device -> refused 13 NotNow
 under 5 v 511 2 -> 00x1 07x1
@@ -212,11 +220,11 @@ read w 510 4 -> 05x2 00x2
 under 5 v 510 4 -> 03x4
 ";
 
-/// Disk 1 fails its first write for group 5, behind 26 for group 4, and disk 2 its flush for
-/// group 6: that is one disk too many. Groups 5 and 6 have 39 columns each, of which the other
+/// Disk 1 fails its first write for group 5, behind 26 of blocks and four of slots for group 4, and disk 2 its first flush for
+/// group 6, behind two for each group before: that is one disk too many. Groups 5 and 6 have 39 columns each, of which the other
 /// two disks have 26 and 27: a record has no column on one of the three.
-const LEFT_OUT: &str = "fault 1 write 26
-fault 2 flush 2
+const LEFT_OUT: &str = "fault 1 write 30
+fault 2 flush 4
 pool 1 3 8388608 12 2
 hold 1 -> held 4
 create 1 1 v 4096 1024 -> receipt 4
@@ -233,6 +241,8 @@ device -> refused 13 NotNow
 under 4 v 511 2 -> 00x2
 plan -> planned 5
 times 7 device -> moved Blocks
+device -> moved BlocksFlush
+times 2 device -> moved Slots
 device -> committed 5
 under 5 v 511 2 -> 00x1 05x1
 hold 1 -> held 6
@@ -264,11 +274,38 @@ release 1 -> refused 6 NoHold
 device -> refused 4 Suspended
 ";
 
-/// Each disk fails each call behind group 4, for which the disks have 27, 26 and 28 writes and a flush: what one pending write has whole
-/// is read all the same, and a byte beside it isn't.
-const COVERED: &str = "fault 0 from 28
-fault 1 from 27
-fault 2 from 29
+/// Two disks fail their first slot for group 5, behind 27 and 26 writes of blocks and four slots for group 4, and 16 and 16 for
+/// group 5: without the first the commit goes on, without the second the pool is suspended, and the group isn't committed.
+const TOO_FEW_SLOTS: &str = "fault 0 write 47
+fault 1 write 46
+pool 1 3 8388608 12 2
+hold 1 -> held 4
+create 1 1 v 1024 512 -> receipt 4
+release 1 -> released
+sync -> committed 4
+hold 1 -> held 5
+write 1 2 v 0 512 07 -> receipt 5
+write 1 3 v 512 512 08 -> receipt 5
+release 1 -> released
+close -> closed 5
+quiesced -> quiesced 5
+plan -> planned 5
+times 12 device -> moved Blocks
+device -> moved BlocksFlush
+device -> moved Slots
+device -> refused 4 Suspended
+hold 1 -> refused 4 Suspended
+read v 510 4 -> refused 2 DiskFault
+read v 0 512 -> 07x512
+under 4 v 510 4 -> refused 2 DiskFault
+under 5 v 510 4 -> refused 17 GroupGone
+";
+
+/// Each disk fails each call behind group 4, for which the disks have 27, 26 and 28 writes, a flush, four slots and a flush: what one
+/// pending write has whole is read all the same, and a byte beside it isn't.
+const COVERED: &str = "fault 0 from 33
+fault 1 from 32
+fault 2 from 34
 pool 1 3 8388608 12 2
 hold 1 -> held 4
 create 1 1 v 2048 512 -> receipt 4
@@ -309,9 +346,9 @@ read v 511 2 -> 06x2
 ";
 
 /// With 20 blocks it is full: what is above them lies in what is left behind them. The ninth
-/// write of the plan to disk 1 fails, behind 42 for the groups before, and the next plan uses its
+/// write of the plan to disk 1 fails, behind 50 for the groups before, and the next plan uses its
 /// room.
-const JUST_ROOM: &str = "fault 1 write 50
+const JUST_ROOM: &str = "fault 1 write 58
 pool 1 2 8388608 12 2
 hold 1 -> held 4
 create 1 1 v 4194304 131072 -> receipt 4
@@ -459,7 +496,7 @@ fn missing_disks_have_their_replies(rt: HostRuntime) -> Result<(), Fail> {
 
 #[test]
 fn failing_disks_have_their_replies(rt: HostRuntime) -> Result<(), Fail> {
-    let texts = [LEFT_OUT, SUSPENDED, COVERED];
+    let texts = [LEFT_OUT, SUSPENDED, TOO_FEW_SLOTS, COVERED];
     assert_eq!(rt; changed_in(rt.alloc(), &texts)?.as_str(), "");
     Ok(())
 }
@@ -501,26 +538,32 @@ const NO_DISK_2: &str = "missing 0
 under 5 v 510 4 -> refused 2 DiskFault
 ";
 
-/// One write of one disk fails. For group 4 the disks have 27, 26 and 28 writes, for group 5 16,
-/// 16 and 14: the first on disk 0, one in the middle on disk 1, and the last on disk 2, of each.
+/// One write of blocks of one disk fails. For group 4 the disks have 27, 26 and 28 of these, for group 5 16, 16 and 14, behind four
+/// of slots: the first on disk 0, one in the middle on disk 1, and the last on disk 2, of each group.
 const WRITE_FAULTS: [(&str, &str); 6] = [
     ("fault 0 at 0\n", NO_DISK_0),
     ("fault 1 write 13\n", NO_DISK_1),
     ("fault 2 write 27\n", NO_DISK_2),
-    ("fault 0 write 27\n", NO_DISK_0),
-    ("fault 1 write 34\n", NO_DISK_1),
-    ("fault 2 write 41\n", NO_DISK_2),
+    ("fault 0 write 31\n", NO_DISK_0),
+    ("fault 1 write 38\n", NO_DISK_1),
+    ("fault 2 write 45\n", NO_DISK_2),
 ];
 
-/// One flush of one disk fails: that for group 4, which is the call behind the writes, or that
-/// for group 5.
+/// One write of a slot fails: the first on disk 0 for group 4, or the last on disk 2 for group 5.
+const SLOT_FAULTS: [(&str, &str); 2] = [
+    ("fault 0 write 27\n", NO_DISK_0),
+    ("fault 2 write 49\n", NO_DISK_2),
+];
+
+/// One flush of one disk fails: the first for group 4, which is the call behind the writes of blocks, or the one behind its slots, or
+/// one of those for group 5.
 const FLUSH_FAULTS: [(&str, &str); 6] = [
     ("fault 0 at 27\n", NO_DISK_0),
     ("fault 1 at 26\n", NO_DISK_1),
     ("fault 2 at 28\n", NO_DISK_2),
     ("fault 0 flush 1\n", NO_DISK_0),
-    ("fault 1 flush 1\n", NO_DISK_1),
-    ("fault 2 flush 1\n", NO_DISK_2),
+    ("fault 1 flush 2\n", NO_DISK_1),
+    ("fault 2 flush 3\n", NO_DISK_2),
 ];
 
 /// One read of one disk fails. Where each block of the two is read by a way of its own, the disks have 1, 9 and 11 reads for what
@@ -569,6 +612,12 @@ fn changed_by(alloc: Global, faults: &[(&str, &str)]) -> Result<String, Fail> {
 #[test]
 fn a_write_of_a_disk_may_fail(rt: HostRuntime) -> Result<(), Fail> {
     assert_eq!(rt; changed_by(rt.alloc(), &WRITE_FAULTS)?.as_str(), "");
+    Ok(())
+}
+
+#[test]
+fn a_slot_of_a_disk_may_fail(rt: HostRuntime) -> Result<(), Fail> {
+    assert_eq!(rt; changed_by(rt.alloc(), &SLOT_FAULTS)?.as_str(), "");
     Ok(())
 }
 

@@ -55,7 +55,7 @@ quiesced -> quiesced 5
 ";
 
 /// Behind those, a plan, and a commit: without disks, or the last step over them, which flushes
-/// each.
+/// each behind its slots.
 const PLANNED: &str = "plan -> planned 5
 ";
 
@@ -76,6 +76,13 @@ device -> moved Blocks
 device -> moved Blocks
 device -> moved Blocks
 device -> moved Blocks
+";
+
+/// Behind the writes over three disks, what is due before the last step: a flush of each disk, and four slots on each.
+const SLOTS: &str = "device -> moved BlocksFlush
+device -> moved Slots
+device -> moved Slots
+device -> moved Slots
 ";
 
 /// Behind it, groups 5 to 8 each write their number over the first sector.
@@ -158,12 +165,14 @@ const IN_MEMORY: [[&str; 4]; 5] = [
 /// block above it, the volume's dnodes and its set two copies of three, which are 18; the record
 /// three copies of two; the dnodes of the meta object set and that set three of three, which are
 /// 18: 44 columns. Group 4 makes a volume and the first root: 81 columns.
-const OVER_DISKS: [[&str; 6]; 5] = [
-    [FIRST, "", "", "", "", ""],
-    [FIRST, TWO_GROUPS, "", "", "", ""],
-    [FIRST, REFUSALS, PLANNED, TEN_WRITES, WRITES, COMMITTED],
-    [FIRST, KEPT, "", "", "", ""],
-    [CAUSES, TEN_WRITES, TEN_WRITES, WRITES, NO_CAUSES, ""],
+const OVER_DISKS: [[&str; 7]; 5] = [
+    [FIRST, "", "", "", "", "", ""],
+    [FIRST, TWO_GROUPS, "", "", "", "", ""],
+    [
+        FIRST, REFUSALS, PLANNED, TEN_WRITES, WRITES, SLOTS, COMMITTED,
+    ],
+    [FIRST, KEPT, "", "", "", "", ""],
+    [CAUSES, TEN_WRITES, TEN_WRITES, WRITES, SLOTS, NO_CAUSES, ""],
 ];
 
 /// Pools that are made over disks, and those that are not.

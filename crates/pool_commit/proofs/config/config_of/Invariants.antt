@@ -7,5 +7,5 @@ use Rattle.pool_commit.proofs.config.config_of.Given as goal
 -- the vdevs so far, and the rest from the next guid on
 abbrev pub invariant-loop-index : goal.invariant-loop-index
 invariant-loop-index g l =
-    (map vdev_view l.vdevs.items ++ configs_from l.guid (drop l.index (shapes_of l.store.spaces)) ≡ configs_from 1 (shapes_of l.store.spaces))
-    × (l.guid ≤ 1 + 33 * l.index)
+    (map vdev_view l.vdevs.items ++ configs_from l.guid (drop l.index (shapes_of l.store.spaces)) ≡ configs_from 100 (shapes_of l.store.spaces))
+    × (l.guid ≤ 100 + 100 * l.index)

@@ -5,6 +5,7 @@ use Rattle.pool_commit.specs.Backs.{Backs}
 use Rattle.pool_commit.specs.Progress.{with_plan}
 use Rattle.pool_commit.specs.State.{State}
 use Rattle.pool_commit.specs.StateOf.{state_of}
+use Rattle.pool_commit.proofs.Progressing.{planned_either_way}
 use Rattle.pool_commit.proofs.commit.Commit.device.Goals as goal
 
 pub write-requires-clause-there : goal.write-requires-clause-there
@@ -13,15 +14,31 @@ write-requires-clause-there g c plan is = c.args.self.now.disks plan (sym c.in_o
 pub flush-requires-clause-there : goal.flush-requires-clause-there
 flush-requires-clause-there g c plan is = c.args.self.now.disks plan (sym c.in_ok-planned.ensures.value ∙ is)
 
+pub write_slots-requires-clause-there : goal.write_slots-requires-clause-there
+write_slots-requires-clause-there g c plan is = c.args.self.now.disks plan (sym c.in_ok-planned.ensures.value ∙ is)
+
+pub flush_slots-requires-clause-there : goal.flush_slots-requires-clause-there
+flush_slots-requires-clause-there g c plan is = c.args.self.now.disks plan (sym c.in_ok-planned.ensures.value ∙ is)
+
 with_it : (s : State) (plan : Planned) (v : View) → Some plan ≡ s.planned → Backs s v → Backs (with_plan s plan) v
 with_it s plan v is backs = subst (λ (o : Option Planned). Backs (record s { planned = o }) v) (sym is) backs
 
 pub returns-then-due_count-gt0-clause-some : goal.returns-then-due_count-gt0-clause-some
 returns-then-due_count-gt0-clause-some g c v backs low =
     let with_one = with_it (state_of c.args.self.now) c.in_ok-planned.planned v c.in_ok-planned.ensures.value backs in
-    (ap is_planned with_one.blocks.plan.sync, c.write.ensures.goes v with_one low)
+    (ap is_planned with_one.blocks.plan.sync, planned_either_way (state_of c.args.self.now) c.take.new.self c.write.result (state_of c.write.new.self) v (c.write.ensures.goes v with_one low))
 
-pub returns-else-due_count-gt0-clause-some : goal.returns-else-due_count-gt0-clause-some
-returns-else-due_count-gt0-clause-some g c v backs low =
+pub returns-then-not-is_empty-clause-some : goal.returns-then-not-is_empty-clause-some
+returns-then-not-is_empty-clause-some g c v backs low =
     let with_one = with_it (state_of c.args.self.now) c.in_ok-planned.planned v c.in_ok-planned.ensures.value backs in
-    (ap is_planned with_one.blocks.plan.sync, c.flush.ensures.goes v with_one low)
+    (ap is_planned with_one.blocks.plan.sync, planned_either_way (state_of c.args.self.now) c.take.new.self c.flush.result (state_of c.flush.new.self) v (c.flush.ensures.goes v with_one low))
+
+pub returns-then-not-is_empty-2-clause-some : goal.returns-then-not-is_empty-2-clause-some
+returns-then-not-is_empty-2-clause-some g c v backs low =
+    let with_one = with_it (state_of c.args.self.now) c.in_ok-planned.planned v c.in_ok-planned.ensures.value backs in
+    (ap is_planned with_one.blocks.plan.sync, planned_either_way (state_of c.args.self.now) c.take.new.self c.write_slots.result (state_of c.write_slots.new.self) v (c.write_slots.ensures.goes v with_one low))
+
+pub returns-clause-some : goal.returns-clause-some
+returns-clause-some g c v backs low =
+    let with_one = with_it (state_of c.args.self.now) c.in_ok-planned.planned v c.in_ok-planned.ensures.value backs in
+    (ap is_planned with_one.blocks.plan.sync, planned_either_way (state_of c.args.self.now) c.take.new.self c.flush_slots.result (state_of c.flush_slots.new.self) v (c.flush_slots.ensures.goes v with_one low))

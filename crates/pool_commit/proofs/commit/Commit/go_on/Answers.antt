@@ -1,25 +1,19 @@
-use Rattle.std.proofs.Common.{ℕ, ◌≡◌, ◌≤◌, ◌==◌, Bool, true, false, List, [], ◌∷◌, length, refl, ◌∙◌, arith}
-use Rattle.std.proofs.lemmas.Bool.Decides.{nat_tests}
+use Rattle.std.proofs.Common.{ℕ, ◌≡◌, ◌≤◌, Bool, true, List, [], ◌∷◌, length, Option, Some, None, refl, sym, ap, ◌∙◌, subst, arith}
+use Rattle.std.specs.Prelude.{IsTrue}
+use Rattle.model_disk.specs.Joint.{Disks}
 use Rattle.block_store.specs.Places.{filled, planned}
 use Rattle.pool_commit.proofs.Holding.{marks_then}
+use Rattle.pool_commit.proofs.Labels.{labels_still}
+use Rattle.pool_commit.proofs.Progressing.{no_length}
+use Rattle.pool_commit.proofs.Suspending.{still}
 use Rattle.pool_commit.proofs.commit.Commit.go_on.Goals as goal
-
-no_length : {X : Type 0} (xs : List X) → length xs ≤ 0 → xs ≡ []
-no_length [] few = refl
-no_length (x ∷ xs) few = absurd (omega (arith, few))
-
-is_none : (n : ℕ) (b : Bool) → b ≡ (n == 0) → b ≡ true → n ≡ 0
-is_none n true is some = grind (arith, nat_tests, is)
-is_none n false is some = absurd (cc)
 
 pub returns : goal.returns
 returns g c =
     let due = c.if-due_count-gt0.false in
-    let none : c.args.self.now.store.due ≡ [] = no_length c.args.self.now.store.due (omega (arith, due, c.due_count.ensures)) in
-    let len = is_none c.args.planned.flushes.len c.is_empty.result c.is_empty.ensures c.if-not-is_empty.false in
-    let same = c.args.planned.flushes.ok in (
-      no_length c.args.planned.flushes.items (omega (arith, len, same)),
-      none,
+    let done = c.is_done.ensures.0 (subst IsTrue (sym c.if-not-is_done.false) refl) in
+    let none : c.args.self.now.store.due ≡ [] = no_length c.args.self.now.store.due (omega (arith, due, c.due_count.ensures)) in (
+      omega (arith, due, c.due_count.ensures, done),
       record {
         disks = c.drop_plan.ensures.disks ∙ c.finish_plan.ensures.disks;
         out = c.drop_plan.ensures.out ∙ c.finish_plan.ensures.out;
@@ -30,4 +24,15 @@ returns g c =
       },
       c.shift.ensures,
       c.requires.none,
+      refl,
     )
+
+pub invariant_of-self-2 : goal.invariant_of-self-2
+invariant_of-self-2 g c = record {
+  disks = λ plan is. absurd (let no : None ≡ Some plan = sym c.requires.none ∙ is in cc);
+  suspension = c.args.self.now.suspension ∙ still c.args.self.now.store c.finish_plan.new.self c.finish_plan.ensures.out c.finish_plan.ensures.shapes
+      ∙ still c.finish_plan.new.self c.drop_plan.new.self c.drop_plan.ensures.out c.drop_plan.ensures.shapes;
+  labels = labels_still c.args.self.now.store c.drop_plan.new.self (ap (λ (d : Disks). d.starts) (c.drop_plan.ensures.disks ∙ c.finish_plan.ensures.disks))
+      (c.drop_plan.ensures.shapes ∙ c.finish_plan.ensures.shapes) c.args.self.now.labels;
+  claim = c.args.self.now.claim;
+}

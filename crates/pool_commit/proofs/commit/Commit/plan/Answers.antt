@@ -1,4 +1,4 @@
-use Rattle.std.proofs.Common.{ℕ, suc, ◌≡◌, ◌≤◌, ⊎_elim, inl, inr, ◌-◌, ◌++◌, List, [], length, None, Contains, refl, sym, ap, ◌∙◌, subst, arith}
+use Rattle.std.proofs.Common.{ℕ, suc, ◌≡◌, ◌≤◌, ⊎_elim, inl, inr, ◌-◌, ◌++◌, List, [], length, Some, None, refl, sym, ap, ◌∙◌, subst, arith}
 use Rattle.model_disk.specs.Joint.{Disks}
 use Rattle.raidz_io.specs.Reads.{AreUntouched, IsHonestSince}
 use Rattle.block_store.specs.declared.refusal.Refusal.{Refusal as StoreRefusal}
@@ -15,6 +15,9 @@ use Rattle.pool_commit.specs.StateOf.{state_of}
 use Rattle.pool_commit.proofs.Backing.{last_spelled}
 use Rattle.pool_commit.proofs.Planning.{AreGivenBack, was_ok, Begins, is_begun, untouched_since, at_error, backs_begun, backs_dropped, backs_still, begun_plans, unplanned_still, plan_is_backed}
 use Rattle.pool_commit.proofs.Refusing.{no_config, only_room, plan_faults}
+use Rattle.pool_commit.proofs.Spellings.{fits_spelled}
+use Rattle.pool_commit.specs.HasDisks.{AreDueOn, HasDisks, HasSpelling, IsPlannedOn}
+use Rattle.pool_commit.proofs.Labels.{labels_still}
 use Rattle.pool_commit.proofs.Suspending.{still}
 use Rattle.pool_commit.proofs.Unread.{lost_for_plan}
 use Rattle.pool_commit.proofs.commit.Commit.plan.Given as given
@@ -22,42 +25,42 @@ use Rattle.pool_commit.proofs.commit.Commit.plan.Goals as goal
 
 pub returns-in_err-begin_plan-clause-unplanned : goal.returns-in_err-begin_plan-clause-unplanned
 returns-in_err-begin_plan-clause-unplanned g c = at_error c.from_residual.result _ (λ v backs none.
-    unplanned_still (record { store = c.begin_plan.new.self; kept = c.args.self.now.kept; planned = None }) c.args.self.now.planned v c.requires.unplanned
+    unplanned_still (record { store = c.begin_plan.new.self; kept = c.args.self.now.kept; planned = None; stamp = c.args.self.now.stamp }) c.args.self.now.planned v c.requires.unplanned
     (backs_begun (state_of c.args.self.now) c.begin_plan.new.self c.saturating_add-group.result v c.begin_plan.ensures.out c.begin_plan.ensures.shapes
     (record { free = c.begin_plan.ensures.free; stays = c.begin_plan.ensures.stays; plans = c.begin_plan.ensures.plans; some = c.begin_plan.ensures.some })
     (let same = c.committed.ensures in omega arith) v.sync none backs))
 
 pub returns-in_err-begin_plan-clause-dropped : goal.returns-in_err-begin_plan-clause-dropped
 returns-in_err-begin_plan-clause-dropped g c = at_error c.from_residual.result _ (λ v backs.
-    unplanned_still (record { store = c.begin_plan.new.self; kept = c.args.self.now.kept; planned = None }) c.args.self.now.planned (record v { sync = Unplanned }) c.requires.unplanned
+    unplanned_still (record { store = c.begin_plan.new.self; kept = c.args.self.now.kept; planned = None; stamp = c.args.self.now.stamp }) c.args.self.now.planned (record v { sync = Unplanned }) c.requires.unplanned
     (backs_begun (state_of c.args.self.now) c.begin_plan.new.self c.saturating_add-group.result v c.begin_plan.ensures.out c.begin_plan.ensures.shapes
     (record { free = c.begin_plan.ensures.free; stays = c.begin_plan.ensures.stays; plans = c.begin_plan.ensures.plans; some = c.begin_plan.ensures.some })
     (let same = c.committed.ensures in omega arith) Unplanned refl backs))
 
-pub returns-in_err-flushes-clause-unplanned : goal.returns-in_err-flushes-clause-unplanned
-returns-in_err-flushes-clause-unplanned g c = at_error c.from_residual-in_err-flushes.result _ (λ v backs none.
-    unplanned_still (record { store = c.begin_plan.new.self; kept = c.args.self.now.kept; planned = None }) c.args.self.now.planned v c.requires.unplanned
+pub returns-in_err-behind-clause-unplanned : goal.returns-in_err-behind-clause-unplanned
+returns-in_err-behind-clause-unplanned g c = at_error c.from_residual-in_err-behind.result _ (λ v backs none.
+    unplanned_still (record { store = c.begin_plan.new.self; kept = c.args.self.now.kept; planned = None; stamp = c.args.self.now.stamp }) c.args.self.now.planned v c.requires.unplanned
     (backs_begun (state_of c.args.self.now) c.begin_plan.new.self c.saturating_add-group.result v c.begin_plan.ensures.out c.begin_plan.ensures.shapes
     (record { free = c.begin_plan.ensures.free; stays = c.begin_plan.ensures.stays; plans = c.begin_plan.ensures.plans; some = c.begin_plan.ensures.some })
     (let same = c.committed.ensures in omega arith) v.sync none backs))
 
-pub returns-in_err-flushes-clause-dropped : goal.returns-in_err-flushes-clause-dropped
-returns-in_err-flushes-clause-dropped g c = at_error c.from_residual-in_err-flushes.result _ (λ v backs.
-    unplanned_still (record { store = c.begin_plan.new.self; kept = c.args.self.now.kept; planned = None }) c.args.self.now.planned (record v { sync = Unplanned }) c.requires.unplanned
+pub returns-in_err-behind-clause-dropped : goal.returns-in_err-behind-clause-dropped
+returns-in_err-behind-clause-dropped g c = at_error c.from_residual-in_err-behind.result _ (λ v backs.
+    unplanned_still (record { store = c.begin_plan.new.self; kept = c.args.self.now.kept; planned = None; stamp = c.args.self.now.stamp }) c.args.self.now.planned (record v { sync = Unplanned }) c.requires.unplanned
     (backs_begun (state_of c.args.self.now) c.begin_plan.new.self c.saturating_add-group.result v c.begin_plan.ensures.out c.begin_plan.ensures.shapes
     (record { free = c.begin_plan.ensures.free; stays = c.begin_plan.ensures.stays; plans = c.begin_plan.ensures.plans; some = c.begin_plan.ensures.some })
     (let same = c.committed.ensures in omega arith) Unplanned refl backs))
 
 pub returns-then-not-makes_good_volumes-clause-unplanned : goal.returns-then-not-makes_good_volumes-clause-unplanned
 returns-then-not-makes_good_volumes-clause-unplanned g c = λ v backs none.
-    unplanned_still (record { store = c.begin_plan.new.self; kept = c.args.self.now.kept; planned = None }) c.args.self.now.planned v c.requires.unplanned
+    unplanned_still (record { store = c.begin_plan.new.self; kept = c.args.self.now.kept; planned = None; stamp = c.args.self.now.stamp }) c.args.self.now.planned v c.requires.unplanned
     (backs_begun (state_of c.args.self.now) c.begin_plan.new.self c.saturating_add-group.result v c.begin_plan.ensures.out c.begin_plan.ensures.shapes
     (record { free = c.begin_plan.ensures.free; stays = c.begin_plan.ensures.stays; plans = c.begin_plan.ensures.plans; some = c.begin_plan.ensures.some })
     (let same = c.committed.ensures in omega arith) v.sync none backs)
 
 pub returns-then-not-makes_good_volumes-clause-dropped : goal.returns-then-not-makes_good_volumes-clause-dropped
 returns-then-not-makes_good_volumes-clause-dropped g c = λ v backs.
-    unplanned_still (record { store = c.begin_plan.new.self; kept = c.args.self.now.kept; planned = None }) c.args.self.now.planned (record v { sync = Unplanned }) c.requires.unplanned
+    unplanned_still (record { store = c.begin_plan.new.self; kept = c.args.self.now.kept; planned = None; stamp = c.args.self.now.stamp }) c.args.self.now.planned (record v { sync = Unplanned }) c.requires.unplanned
     (backs_begun (state_of c.args.self.now) c.begin_plan.new.self c.saturating_add-group.result v c.begin_plan.ensures.out c.begin_plan.ensures.shapes
     (record { free = c.begin_plan.ensures.free; stays = c.begin_plan.ensures.stays; plans = c.begin_plan.ensures.plans; some = c.begin_plan.ensures.some })
     (let same = c.committed.ensures in omega arith) Unplanned refl backs)
@@ -72,8 +75,8 @@ returns-then-is_err-clause-unplanned g c = λ v backs none.
     let begun = backs_begun (state_of c.args.self.now) c.begin_plan.new.self c.saturating_add-group.result v c.begin_plan.ensures.out c.begin_plan.ensures.shapes
     (record { free = c.begin_plan.ensures.free; stays = c.begin_plan.ensures.stays; plans = c.begin_plan.ensures.plans; some = c.begin_plan.ensures.some })
     (let same = c.committed.ensures in omega arith) v.sync none backs in
-    unplanned_still (record { store = c.drop_plan.new.self; kept = c.args.self.now.kept; planned = None }) c.args.self.now.planned v c.requires.unplanned
-    (backs_dropped (record { store = c.begin_plan.new.self; kept = c.args.self.now.kept; planned = None }) c.group_after.new.store c.give_back.new.store c.drop_plan.new.self c.deref.result.now c.saturating_add-group.result v refl c.in-Ok.ensures.steps
+    unplanned_still (record { store = c.drop_plan.new.self; kept = c.args.self.now.kept; planned = None; stamp = c.args.self.now.stamp }) c.args.self.now.planned v c.requires.unplanned
+    (backs_dropped (record { store = c.begin_plan.new.self; kept = c.args.self.now.kept; planned = None; stamp = c.args.self.now.stamp }) c.group_after.new.store c.give_back.new.store c.drop_plan.new.self c.deref.result.now c.saturating_add-group.result v refl c.in-Ok.ensures.steps
     c.give_back.ensures.gives c.drop_plan.ensures.out c.drop_plan.ensures.shapes c.drop_plan.ensures.filled c.drop_plan.ensures.plans begun)
 
 pub returns-then-is_err-clause-dropped : goal.returns-then-is_err-clause-dropped
@@ -81,26 +84,32 @@ returns-then-is_err-clause-dropped g c = λ v backs.
     let begun = backs_begun (state_of c.args.self.now) c.begin_plan.new.self c.saturating_add-group.result v c.begin_plan.ensures.out c.begin_plan.ensures.shapes
     (record { free = c.begin_plan.ensures.free; stays = c.begin_plan.ensures.stays; plans = c.begin_plan.ensures.plans; some = c.begin_plan.ensures.some })
     (let same = c.committed.ensures in omega arith) Unplanned refl backs in
-    unplanned_still (record { store = c.drop_plan.new.self; kept = c.args.self.now.kept; planned = None }) c.args.self.now.planned (record v { sync = Unplanned }) c.requires.unplanned
-    (backs_dropped (record { store = c.begin_plan.new.self; kept = c.args.self.now.kept; planned = None }) c.group_after.new.store c.give_back.new.store c.drop_plan.new.self c.deref.result.now c.saturating_add-group.result (record v { sync = Unplanned }) refl
+    unplanned_still (record { store = c.drop_plan.new.self; kept = c.args.self.now.kept; planned = None; stamp = c.args.self.now.stamp }) c.args.self.now.planned (record v { sync = Unplanned }) c.requires.unplanned
+    (backs_dropped (record { store = c.begin_plan.new.self; kept = c.args.self.now.kept; planned = None; stamp = c.args.self.now.stamp }) c.group_after.new.store c.give_back.new.store c.drop_plan.new.self c.deref.result.now c.saturating_add-group.result (record v { sync = Unplanned }) refl
     c.in-Ok.ensures.steps c.give_back.ensures.gives c.drop_plan.ensures.out c.drop_plan.ensures.shapes c.drop_plan.ensures.filled c.drop_plan.ensures.plans begun)
 
+-- the disks of the plan are there
+planned_there : (count now : ℕ) (plan : Planned) → now ≡ count → AreDueOn count plan.behind → HasSpelling plan.uberblock → HasDisks now (Some plan)
+planned_there count now plan same there fits other is =
+    let one : plan ≡ other = cc in
+    subst (λ (n : ℕ). IsPlannedOn n other) (sym same) (subst (λ (p : Planned). IsPlannedOn count p) one (record { behind = there; fits = fits }))
+
 pub invariant_of-self-in-Ok : goal.invariant_of-self-in-Ok
-invariant_of-self-in-Ok g c = record {
-  disks = λ plan is disk held.
-      let planned : Planned = record { after = c.in-Ok.next.after; flushes = c.in_ok-flushes.flushes } in
-      let same : planned ≡ plan = cc in
-      let below = c.in_ok-flushes.ensures.there disk (subst (λ (p : Planned). Contains p.flushes.items disk) (sym same) held) in
-      let starts = ap (λ (starts : List (List ℕ)). length starts) c.in-Ok.ensures.steps.reads.starts in
-      let given = ap (λ (d : Disks). length d.starts) c.give_back.ensures.gives.disks in
-      let begun = ap (λ (d : Disks). length d.starts) c.begin_plan.ensures.disks in
-      omega arith;
-  suspension =
-      c.args.self.now.suspension
-      ∙ still c.args.self.now.store c.begin_plan.new.self c.begin_plan.ensures.out c.begin_plan.ensures.shapes
-      ∙ still c.begin_plan.new.self c.group_after.new.store c.in-Ok.ensures.steps.out c.in-Ok.ensures.steps.shapes
-      ∙ still c.group_after.new.store c.give_back.new.store c.give_back.ensures.gives.out c.give_back.ensures.gives.shapes;
-}
+invariant_of-self-in-Ok g c =
+    let planned : Planned = record { after = c.in-Ok.next.after; uberblock = c.uberblock-uberblock.result; behind = c.in_ok-behind.behind } in
+    let starts = ap (λ (d : Disks). d.starts) c.give_back.ensures.gives.disks ∙ c.in-Ok.ensures.steps.reads.starts ∙ ap (λ (d : Disks). d.starts) c.begin_plan.ensures.disks in
+    let shapes = c.give_back.ensures.gives.shapes ∙ c.in-Ok.ensures.steps.shapes ∙ c.begin_plan.ensures.shapes in record {
+      disks = planned_there (length c.begin_plan.new.self.disks.starts) (length c.give_back.new.store.disks.starts) planned
+          (ap (λ (d : Disks). length d.starts) c.give_back.ensures.gives.disks ∙ ap (λ (them : List (List ℕ)). length them) c.in-Ok.ensures.steps.reads.starts)
+          c.in_ok-behind.ensures.there (fits_spelled c.uberblock-uberblock.result c.uberblock-uberblock.ensures.fits);
+      suspension =
+          c.args.self.now.suspension
+          ∙ still c.args.self.now.store c.begin_plan.new.self c.begin_plan.ensures.out c.begin_plan.ensures.shapes
+          ∙ still c.begin_plan.new.self c.group_after.new.store c.in-Ok.ensures.steps.out c.in-Ok.ensures.steps.shapes
+          ∙ still c.group_after.new.store c.give_back.new.store c.give_back.ensures.gives.out c.give_back.ensures.gives.shapes;
+      labels = labels_still c.args.self.now.store c.give_back.new.store starts shapes c.args.self.now.labels;
+      claim = c.args.self.now.claim;
+    }
 
 pub returns-else-is_err-clause-untouched : goal.returns-else-is_err-clause-untouched
 returns-else-is_err-clause-untouched g c =
@@ -113,14 +122,15 @@ returns-else-is_err-clause-planned g c = λ v backs none few items honest.
     record { free = c.begin_plan.ensures.free; stays = c.begin_plan.ensures.stays; plans = c.begin_plan.ensures.plans; some = c.begin_plan.ensures.some } in
     let below : c.saturating_add-group.result ≤ suc c.args.self.now.kept.committed = let same = c.committed.ensures in omega arith in
     let begun = backs_begun (state_of c.args.self.now) c.begin_plan.new.self c.saturating_add-group.result v c.begin_plan.ensures.out c.begin_plan.ensures.shapes begins below v.sync none backs in
-    let s : State = record { store = c.begin_plan.new.self; kept = c.args.self.now.kept; planned = None } in
+    let s : State = record { store = c.begin_plan.new.self; kept = c.args.self.now.kept; planned = None; stamp = c.args.self.now.stamp } in
     let next : c.saturating_add-group.result ≡ suc v.committed = let same = c.committed.ensures ∙ backs.committed in omega arith in
     let honest_since : IsHonestSince c.begin_plan.new.self.disks c.group_after.new.store.disks =
     subst (λ (disks : Disks). IsHonestSince disks c.group_after.new.store.disks) (sym c.begin_plan.ensures.disks)
     (subst (λ (disks : Disks). IsHonestSince c.args.self.now.store.disks disks) c.give_back.ensures.gives.disks honest) in
     plan_is_backed s c.group_after.new.store c.give_back.new.store c.saturating_add-group.result c.last-last.result.now
-    (record { after = c.in-Ok.next.after; flushes = c.in_ok-flushes.flushes }) c.in-Ok.next.replaced.items
-    c.args.items.now v begun c.begin_plan.ensures.due next c.last-last.ensures items c.in_ok-flushes.ensures.disks c.in-Ok.ensures.steps
+    (record { after = c.in-Ok.next.after; uberblock = c.uberblock-uberblock.result; behind = c.in_ok-behind.behind }) c.in-Ok.next.replaced.items
+    c.args.items.now v begun c.begin_plan.ensures.due next c.last-last.ensures items c.in_ok-behind.ensures.are
+    (record { root = c.in-Ok.next.root; is_root = c.in-Ok.ensures.is_root; timestamp = c.args.timestamp; is = c.uberblock-uberblock.ensures.is }) c.in-Ok.ensures.steps
     (subst (λ gone. GivesBack c.group_after.new.store c.give_back.new.store gone c.saturating_add-group.result) c.deref.ensures.value c.give_back.ensures.gives)
     c.begin_plan.ensures.free honest_since
     (begun_plans (state_of c.args.self.now) c.begin_plan.new.self c.saturating_add-group.result v c.begin_plan.ensures.out c.begin_plan.ensures.shapes begins below v.sync none backs) c.in-Ok.ensures.value
@@ -133,7 +143,7 @@ returns-in-Err-clause-unplanned g c = λ v backs none.
     let begun = backs_begun (state_of c.args.self.now) c.begin_plan.new.self c.saturating_add-group.result v c.begin_plan.ensures.out c.begin_plan.ensures.shapes
     (record { free = c.begin_plan.ensures.free; stays = c.begin_plan.ensures.stays; plans = c.begin_plan.ensures.plans; some = c.begin_plan.ensures.some })
     (let same = c.committed.ensures in omega arith) v.sync none backs in
-    let s : State = record { store = c.begin_plan.new.self; kept = c.args.self.now.kept; planned = None } in
+    let s : State = record { store = c.begin_plan.new.self; kept = c.args.self.now.kept; planned = None; stamp = c.args.self.now.stamp } in
     unplanned_still (record s { store = c.group_after.new.store }) c.args.self.now.planned v c.requires.unplanned (backs_still s c.group_after.new.store v refl c.in-Err.ensures.steps begun)
 
 pub returns-in-Err-clause-dropped : goal.returns-in-Err-clause-dropped
@@ -141,7 +151,7 @@ returns-in-Err-clause-dropped g c = λ v backs.
     let begun = backs_begun (state_of c.args.self.now) c.begin_plan.new.self c.saturating_add-group.result v c.begin_plan.ensures.out c.begin_plan.ensures.shapes
     (record { free = c.begin_plan.ensures.free; stays = c.begin_plan.ensures.stays; plans = c.begin_plan.ensures.plans; some = c.begin_plan.ensures.some })
     (let same = c.committed.ensures in omega arith) Unplanned refl backs in
-    let s : State = record { store = c.begin_plan.new.self; kept = c.args.self.now.kept; planned = None } in
+    let s : State = record { store = c.begin_plan.new.self; kept = c.args.self.now.kept; planned = None; stamp = c.args.self.now.stamp } in
     unplanned_still (record s { store = c.group_after.new.store }) c.args.self.now.planned (record v { sync = Unplanned }) c.requires.unplanned
     (backs_still s c.group_after.new.store (record v { sync = Unplanned }) refl c.in-Err.ensures.steps begun)
 
@@ -150,7 +160,7 @@ returns-in-Err-clause-untouched g c =
     untouched_since c.args.self.now.store c.begin_plan.new.self c.group_after.new.store c.begin_plan.ensures.disks c.begin_plan.ensures.out c.in-Err.ensures.steps.untouched
 
 -- what the plan was refused for
-refused : (g : given.Over) (c : goal.After-drop-flushes-in-Err-1 g) → IsPlanRefused (state_of c.args.self.now) c.group_after.new.store c.args.items.now c.in-Err.refusal
+refused : (g : given.Over) (c : goal.After-drop-behind-in-Err-3 g) → IsPlanRefused (state_of c.args.self.now) c.group_after.new.store c.args.items.now c.in-Err.refusal
 refused g c = record {
   begun = c.begin_plan.new.self;
   is_begun = is_begun c.args.self.now.store c.begin_plan.new.self c.saturating_add-group.result c.begin_plan.ensures.disks c.begin_plan.ensures.out c.begin_plan.ensures.shapes
@@ -176,8 +186,8 @@ returns-in-Err-clause-refused g c = λ v backs none few items good.
     let begun = backs_begun (state_of c.args.self.now) c.begin_plan.new.self c.saturating_add-group.result v c.begin_plan.ensures.out c.begin_plan.ensures.shapes
     (record { free = c.begin_plan.ensures.free; stays = c.begin_plan.ensures.stays; plans = c.begin_plan.ensures.plans; some = c.begin_plan.ensures.some })
     (let same = c.committed.ensures in omega arith) v.sync none backs in
-    let s : State = record { store = c.begin_plan.new.self; kept = c.args.self.now.kept; planned = None } in
-    let new : State = record { store = c.group_after.new.store; kept = c.args.self.now.kept; planned = c.args.self.now.planned } in
+    let s : State = record { store = c.begin_plan.new.self; kept = c.args.self.now.kept; planned = None; stamp = c.args.self.now.stamp } in
+    let new : State = record { store = c.group_after.new.store; kept = c.args.self.now.kept; planned = c.args.self.now.planned; stamp = c.args.self.now.stamp } in
     let before : c.saturating_add-group.result - 1 ≡ v.committed = let same = c.committed.ensures ∙ backs.committed in omega arith in
     let spelled : SpellsGroup begun.blocks.stored (c.saturating_add-group.result - 1) c.last-last.result.now (v.pools v.committed) =
     subst (λ (n : ℕ). SpellsGroup begun.blocks.stored n c.last-last.result.now (v.pools v.committed)) (sym before)
@@ -193,3 +203,37 @@ returns-in-Err-clause-refused g c = λ v backs none few items good.
 
 pub returns-in-Err-clause-bad : goal.returns-in-Err-clause-bad
 returns-in-Err-clause-bad g c = λ is. absurd (no_config c.in-Err.refusal (sym c.from.ensures ∙ is))
+
+pub invariant_of-self-2 : goal.invariant_of-self-2
+invariant_of-self-2 g c = record {
+  disks = subst (λ (starts : List (List ℕ)). HasDisks (length starts) c.args.self.now.planned) (sym (ap (λ (d : Disks). d.starts) c.begin_plan.ensures.disks)) c.args.self.now.disks;
+  suspension =
+      c.args.self.now.suspension
+      ∙ still c.args.self.now.store c.begin_plan.new.self c.begin_plan.ensures.out c.begin_plan.ensures.shapes;
+  labels = labels_still c.args.self.now.store c.begin_plan.new.self (ap (λ (d : Disks). d.starts) c.begin_plan.ensures.disks) (c.begin_plan.ensures.shapes) c.args.self.now.labels;
+  claim = c.args.self.now.claim;
+}
+
+pub invariant_of-self-then-is_err : goal.invariant_of-self-then-is_err
+invariant_of-self-then-is_err g c = record {
+  disks = subst (λ (starts : List (List ℕ)). HasDisks (length starts) c.args.self.now.planned) (sym (ap (λ (d : Disks). d.starts) (c.drop_plan.ensures.disks ∙ c.give_back.ensures.gives.disks) ∙ c.in-Ok.ensures.steps.reads.starts ∙ ap (λ (d : Disks). d.starts) c.begin_plan.ensures.disks)) c.args.self.now.disks;
+  suspension =
+      c.args.self.now.suspension
+      ∙ still c.args.self.now.store c.begin_plan.new.self c.begin_plan.ensures.out c.begin_plan.ensures.shapes
+      ∙ still c.begin_plan.new.self c.group_after.new.store c.in-Ok.ensures.steps.out c.in-Ok.ensures.steps.shapes
+      ∙ still c.group_after.new.store c.give_back.new.store c.give_back.ensures.gives.out c.give_back.ensures.gives.shapes
+      ∙ still c.give_back.new.store c.drop_plan.new.self c.drop_plan.ensures.out c.drop_plan.ensures.shapes;
+  labels = labels_still c.args.self.now.store c.drop_plan.new.self (ap (λ (d : Disks). d.starts) (c.drop_plan.ensures.disks ∙ c.give_back.ensures.gives.disks) ∙ c.in-Ok.ensures.steps.reads.starts ∙ ap (λ (d : Disks). d.starts) c.begin_plan.ensures.disks) (c.drop_plan.ensures.shapes ∙ c.give_back.ensures.gives.shapes ∙ c.in-Ok.ensures.steps.shapes ∙ c.begin_plan.ensures.shapes) c.args.self.now.labels;
+  claim = c.args.self.now.claim;
+}
+
+pub invariant_of-self-in-Err-1 : goal.invariant_of-self-in-Err-1
+invariant_of-self-in-Err-1 g c = record {
+  disks = subst (λ (starts : List (List ℕ)). HasDisks (length starts) c.args.self.now.planned) (sym (c.in-Err.ensures.steps.reads.starts ∙ ap (λ (d : Disks). d.starts) c.begin_plan.ensures.disks)) c.args.self.now.disks;
+  suspension =
+      c.args.self.now.suspension
+      ∙ still c.args.self.now.store c.begin_plan.new.self c.begin_plan.ensures.out c.begin_plan.ensures.shapes
+      ∙ still c.begin_plan.new.self c.group_after.new.store c.in-Err.ensures.steps.out c.in-Err.ensures.steps.shapes;
+  labels = labels_still c.args.self.now.store c.group_after.new.store (c.in-Err.ensures.steps.reads.starts ∙ ap (λ (d : Disks). d.starts) c.begin_plan.ensures.disks) (c.in-Err.ensures.steps.shapes ∙ c.begin_plan.ensures.shapes) c.args.self.now.labels;
+  claim = c.args.self.now.claim;
+}

@@ -14,6 +14,7 @@ use Rattle.pool_commit.specs.StateOf.{state_of}
 use Rattle.pool_commit.proofs.Backing.{last_at, last_spelled, only_reads}
 use Rattle.pool_commit.proofs.ReadCauses.{no_read_cause}
 use Rattle.pool_commit.proofs.ReadingBase.{zeros_lie_under, base_lies_under, no_base_cause}
+use Rattle.pool_commit.proofs.Labels.{labels_still}
 use Rattle.pool_commit.proofs.Suspending.{still}
 use Rattle.pool_commit.proofs.Unread.{lost_under}
 use Rattle.pool_commit.proofs.commit.Commit.read_committed.Goals as goal
@@ -24,6 +25,9 @@ invariant_of-self-2 g c = record {
   suspension =
       c.args.self.now.suspension
       ∙ still c.args.self.now.store c.read_of.new.store (ap (λ (s : Store). s.out) c.read_of.ensures.reads.rest) (ap (λ (s : Store). shapes_of s.spaces) c.read_of.ensures.reads.rest);
+  labels = labels_still c.args.self.now.store c.read_of.new.store c.read_of.ensures.reads.reads.starts (ap (λ (s : Store). shapes_of s.spaces) c.read_of.ensures.reads.rest)
+      c.args.self.now.labels;
+  claim = c.args.self.now.claim;
 }
 
 pub returns-then-shape-committed-clause-bytes : goal.returns-then-shape-committed-clause-bytes

@@ -1,0 +1,257 @@
+-- A pool that is opened.
+use Rattle.std.proofs.Common.{◌≡◌, ◌≢◌, ℕ, ◌≤◌, ◌==◌, Bool, true, false, List, [], Option, Some, None, Contains, refl, sym, ap, ◌∙◌, subst, arith, inl, inr}
+use Rattle.std.specs.Prelude.{if◌then◌else◌, map}
+use Rattle.std.proofs.lemmas.Bool.{cases_eq}
+use Rattle.std.proofs.lemmas.Bool.Decides.{nat_tests}
+use Rattle.block_pointer.specs.declared.block.Block.{Block}
+use Rattle.block_store.specs.Blocks.{Contents, nothing_stored}
+use Rattle.block_store.specs.declared.shape.VdevShape.{VdevShape}
+use Rattle.block_store.specs.Opened.{AreFound, Fills}
+use Rattle.block_store.specs.Places.{AreEmpty, shapes_of, filled}
+use Rattle.block_store.specs.Plans.{Plans}
+use Rattle.block_store.specs.Spaces.{VdevSpace}
+use Rattle.block_store.specs.Store.{Store, Holds, is_out}
+use Rattle.block_store.specs.Uses.{CopiesLieOn, IsInUse, Passes}
+use Rattle.block_store.proofs.Accounting.{has_too}
+use Rattle.dataset_snapshots.specs.declared.contents.RootContents.{RootContents}
+use Rattle.dataset_snapshots.specs.Contents.{AreContentsOf}
+use Rattle.dataset_snapshots.specs.Laws.{KeepsEach}
+use Rattle.dataset_snapshots.specs.Pools.{SpellsPool}
+use Rattle.dataset_snapshots.specs.Reach.{reach_of}
+use Rattle.dataset_snapshots.proofs.ChangedRows.{nothing_in}
+use Rattle.dataset_snapshots.proofs.Standing.{roots_stand}
+use Rattle.dnode_tree.specs.Rewriting.{AreDistinct}
+use Rattle.metaslab.specs.State.{State as Mark, InUse, Released}
+use Rattle.pool_model.specs.Pools.{PlainPool, no_volumes}
+use Rattle.pool_model.specs.View.{Vdev, opened_as}
+use Rattle.volume_rules.specs.Index.{Knows}
+use Rattle.pool_commit.specs.declared.kept.Kept.{Kept}
+use Rattle.pool_commit.specs.declared.kept.KeptGroup.{KeptGroup}
+use Rattle.pool_commit.specs.declared.kept.Planned.{Planned}
+use Rattle.pool_commit.specs.declared.stamp.Stamp.{Stamp}
+use Rattle.pool_commit.specs.Backs.{Backs, IsPlanOf, KeptLeadsTo, LeadsTo, SpellsGroup, SpellsKept, SpellsRoot, kept_pool}
+use Rattle.pool_commit.specs.Config.{shown, vdevs_of}
+use Rattle.pool_commit.specs.Directories.{SpellsBy}
+use Rattle.pool_commit.specs.Reopened.{IsEmptyGroup, IsGroupOf, IsOfGroup}
+use Rattle.pool_commit.specs.Space.{is_held_for, AreInBlocks, WereReleasedBy}
+use Rattle.pool_commit.specs.State.{State, group_at}
+use Rattle.pool_commit.proofs.Accounting.{none_in_use, none_released}
+use Rattle.pool_commit.proofs.Holding.{weaker}
+use Rattle.pool_commit.proofs.Reaching.{among, among_are, among_keeps, no_plan, none_distinct}
+
+-- ---- one group is kept
+
+pub record IsOnly (kept : Kept) (group : ℕ) : Type 0 where
+  pub committed : kept.committed ≡ group
+  pub before : kept.before ≡ None
+  pub earliest : kept.earliest ≡ None
+
+module _ (kept : Kept) (vdevs : List Vdev) (out : ℕ → Bool) (group : ℕ) (pool : PlainPool) (only : IsOnly kept group) where
+  there : (other : ℕ) → other ≡ group → group_at kept other ≡ Some kept.last
+  there other at = grind (arith, nat_tests, only.committed, at)
+
+  pool_there : (other : ℕ) → other ≡ group → kept_pool (opened_as vdevs out group pool) other ≡ Some pool
+  pool_there other at = grind (arith, nat_tests, at)
+
+  gone : (other : ℕ) → other ≢ group → group_at kept other ≡ None
+  gone other at = grind (arith, nat_tests, only.committed, only.before, only.earliest, at)
+
+  pool_gone : (other : ℕ) → other ≢ group → kept_pool (opened_as vdevs out group pool) other ≡ None
+  pool_gone other at = grind (arith, nat_tests, at)
+
+  pub kept_opened : (stored : Contents) → SpellsGroup stored group kept.last pool → (other : ℕ)
+      → SpellsKept stored other (group_at kept other) (kept_pool (opened_as vdevs out group pool) other)
+  kept_opened stored spells other = elim (cases_eq other group) [
+    | inl at ↦
+        subst (λ (o : Option KeptGroup). SpellsKept stored other o (kept_pool (opened_as vdevs out group pool) other)) (sym (there other at))
+        (subst (λ (o : Option PlainPool). SpellsKept stored other (Some kept.last) o) (sym (pool_there other at))
+        (subst (λ g. SpellsGroup stored g kept.last pool) (sym at) spells))
+    | inr another ↦
+        subst (λ (o : Option KeptGroup). SpellsKept stored other o (kept_pool (opened_as vdevs out group pool) other)) (sym (gone other another))
+        (subst (λ (o : Option PlainPool). SpellsKept stored other None o) (sym (pool_gone other another)) tt)
+  ]
+
+  -- what it leads to
+  abbrev pub only_reach : List Block → ℕ → List Block
+  only_reach blocks other = if other == group then blocks else []
+
+  reach_there : (blocks : List Block) (other : ℕ) → other ≡ group → only_reach blocks other ≡ blocks
+  reach_there blocks other at = grind (arith, nat_tests, at)
+
+  reach_gone : (blocks : List Block) (other : ℕ) → other ≢ group → only_reach blocks other ≡ []
+  reach_gone blocks other at = grind (arith, nat_tests, at)
+
+  pub reach_cases : (P : List Block → Type 0) (blocks : List Block) → P blocks → P [] → (other : ℕ) → P (only_reach blocks other)
+  reach_cases P blocks some none other = elim (cases_eq other group) [
+    | inl at ↦ subst P (sym (reach_there blocks other at)) some
+    | inr another ↦ subst P (sym (reach_gone blocks other another)) none
+  ]
+
+  pub reach_here : (blocks : List Block) → only_reach blocks group ≡ blocks
+  reach_here blocks = reach_there blocks group refl
+
+  pub leads_opened : (stored : Contents) (blocks : List Block) → LeadsTo stored group kept.last.root pool blocks → (other : ℕ)
+      → KeptLeadsTo stored other (group_at kept other) (kept_pool (opened_as vdevs out group pool) other) (only_reach blocks other)
+  leads_opened stored blocks leads other = elim (cases_eq other group) [
+    | inl at ↦
+        subst (λ (o : Option KeptGroup). KeptLeadsTo stored other o (kept_pool (opened_as vdevs out group pool) other) (only_reach blocks other)) (sym (there other at))
+        (subst (λ (o : Option PlainPool). KeptLeadsTo stored other (Some kept.last) o (only_reach blocks other)) (sym (pool_there other at))
+        (subst (λ (list : List Block). LeadsTo stored other kept.last.root pool list) (sym (reach_there blocks other at))
+        (subst (λ g. LeadsTo stored g kept.last.root pool blocks) (sym at) leads)))
+    | inr another ↦
+        subst (λ (o : Option KeptGroup). KeptLeadsTo stored other o (kept_pool (opened_as vdevs out group pool) other) (only_reach blocks other)) (sym (gone other another))
+        (subst (λ (o : Option PlainPool). KeptLeadsTo stored other None o (only_reach blocks other)) (sym (pool_gone other another)) (reach_gone blocks other another))
+  ]
+
+-- ---- the blocks that were taken in
+
+-- what is in use is held for whichever group
+held_in_use : (group last : ℕ) (state : Mark) → IsInUse state → Passes (is_held_for group last) state
+held_in_use group last state is = subst (Passes (is_held_for group last)) (sym is) refl
+
+not_released : (group : ℕ) → ¬ IsInUse (Released group)
+not_released group is = absurd (cc)
+
+-- the blocks of the root alone, of those that the disks have, are found
+pub found_among : (store : Store) (blocks : List Block) (stored : Contents) → Holds store stored → AreFound store blocks nothing_stored (among blocks stored)
+found_among store blocks stored holds block bytes known =
+    let is = among_are blocks stored block bytes known in
+    inr (is.0, record { written = holds.blocks block bytes is.1; stand = λ i extent copy. holds.stand block bytes i extent is.1 copy })
+
+-- what a group leads to, of the blocks of its root alone
+pub record IsFound (stored : Contents) (group : ℕ) (kept : KeptGroup) (pool : PlainPool) (blocks : List Block) : Type 0 where
+  pub spells : SpellsGroup stored group kept pool
+  pub leads : LeadsTo stored group kept.root pool blocks
+
+found_by : (stored : Contents) (group : ℕ) (root : Block) (pool : PlainPool) (contents : RootContents) (kept : KeptGroup) → IsGroupOf root contents kept
+    → AreContentsOf stored group root pool contents → IsFound (among contents.blocks.items stored) group kept pool contents.blocks.items
+found_by stored group root pool contents kept is are =
+    let blocks = contents.blocks.items in
+    let keeps : KeepsEach stored (among blocks stored) (reach_of are.is) =
+    λ block bytes held known. among_keeps blocks stored block bytes (subst (λ (list : List Block). Contains list block) (sym are.blocks) held) known in
+    let still = roots_stand stored (among blocks stored) group group root pool (omega arith) are.is keeps in
+    record {
+      spells = record {
+        root = subst (λ (o : Option Block). SpellsRoot (among blocks stored) group o pool) (sym is.root_is) still.0;
+        directory = subst (λ (o : Option Block). SpellsBy (among blocks stored) group o pool kept.directory.value) (sym is.root_is)
+            (still.0, is.directory ∙ are.rows ∙ sym still.2);
+        names = subst (λ index. Knows index pool) (sym is.names) are.names;
+      };
+      leads = subst (λ (o : Option Block). LeadsTo (among blocks stored) group o pool blocks) (sym is.root_is) (still.0, still.1 ∙ sym are.blocks);
+    }
+
+-- what taking the blocks in does
+pub record AreTaken (old new : Store) (blocks : List Block) : Type 0 where
+  pub out : new.out ≡ old.out
+  pub shapes : shapes_of new.spaces ≡ shapes_of old.spaces
+  pub fills : Fills old.spaces filled blocks new.spaces
+  pub in_use : (block : Block) → Contains blocks block → CopiesLieOn IsInUse new.spaces filled block
+  pub once : AreDistinct blocks
+  pub opens : (before stored : Contents) → Plans old before before → AreFound old blocks before stored → Plans new stored stored
+
+-- a state of which one group is kept, and what it leads to, backs the pool that the group spells
+backs_only : (s : State) (spaces : List VdevSpace) (flags : List Bool) (group : ℕ) (last : KeptGroup) (pool : PlainPool) (mine : Contents) (blocks : List Block)
+    → IsOfGroup s.store s.stamp group last s → shapes_of s.store.spaces ≡ shapes_of spaces → s.store.out ≡ flags → Plans s.store mine mine
+    → IsFound mine group last pool blocks → AreDistinct blocks
+    → ((block : Block) (bytes : List ℕ) → mine block ≡ Some bytes → Contains blocks block)
+    → ((block : Block) → Contains blocks block → CopiesLieOn IsInUse s.store.spaces filled block)
+    → AreInBlocks s.store.spaces filled blocks → WereReleasedBy s.store.spaces filled s.kept.committed
+    → Backs s (opened_as (vdevs_of spaces) (is_out flags) group pool)
+backs_only s spaces flags group last pool mine blocks is shapes out plans found once known in_use accounted released =
+    let vdevs = vdevs_of spaces in
+    let only : IsOnly s.kept group = record { committed = is.committed; before = is.before; earliest = is.earliest } in
+    let spells : SpellsGroup mine group s.kept.last pool = subst (λ k. SpellsGroup mine group k pool) (sym is.last_is) found.spells in
+    let leads : LeadsTo mine group s.kept.last.root pool blocks = subst (λ (k : KeptGroup). LeadsTo mine group k.root pool blocks) (sym is.last_is) found.leads in
+    record {
+      vdevs = ap (λ them. map (λ (shape : VdevShape). shown shape.vdev) them) (sym shapes);
+      slots = refl;
+      out = λ disk. ap (λ them. is_out them disk) (sym out);
+      committed = only.committed;
+      blocks = record {
+        stored = mine;
+        planned = mine;
+        plans = plans;
+        kept = kept_opened s.kept vdevs (is_out flags) group pool only mine spells;
+        plan = subst (λ (p : Option Planned). IsPlanOf s mine p (opened_as vdevs (is_out flags) group pool)) (sym is.unplanned) refl;
+        reached = record {
+          reach = only_reach s.kept vdevs (is_out flags) group pool only blocks;
+          leads = leads_opened s.kept vdevs (is_out flags) group pool only mine blocks leads;
+          once = reach_cases s.kept vdevs (is_out flags) group pool only AreDistinct blocks once none_distinct;
+          only = λ block bytes there. (
+            group,
+            subst (λ (list : List Block). Contains list block)
+                (sym (reach_here s.kept vdevs (is_out flags) group pool only blocks)) (known block bytes there),
+          );
+          held = λ other. reach_cases s.kept vdevs (is_out flags) group pool only
+              (λ list. (block : Block) → Contains list block → CopiesLieOn (Passes (is_held_for other s.kept.committed)) s.store.spaces filled block) blocks
+              (λ block held. weaker IsInUse (Passes (is_held_for other s.kept.committed)) s.store.spaces filled block (held_in_use other s.kept.committed) (in_use block held))
+              (λ block held. absurd (nothing_in block held))
+              other;
+          accounted = subst (AreInBlocks s.store.spaces filled)
+              (sym (ap (only_reach s.kept vdevs (is_out flags) group pool only blocks) only.committed ∙ reach_here s.kept vdevs (is_out flags) group pool only blocks)) accounted;
+          released = released;
+        };
+        plan_reached = no_plan s.store.spaces (only_reach s.kept vdevs (is_out flags) group pool only blocks) mine mine s.planned
+            (opened_as vdevs (is_out flags) group pool) is.unplanned;
+      };
+    }
+
+-- the state is over this store
+over : (store : Store) (stamp : Stamp) (group : ℕ) (last : KeptGroup) (s : State) → IsOfGroup store stamp group last s → IsOfGroup s.store s.stamp group last s
+over store stamp group last s is = record {
+  store_is = refl;
+  stamp_is = refl;
+  unplanned = is.unplanned;
+  committed = is.committed;
+  last_is = is.last_is;
+  before = is.before;
+  earliest = is.earliest;
+}
+
+pub backs_opened : (old new : Store) (stamp : Stamp) (group : ℕ) (root : Block) (contents : RootContents) (last : KeptGroup) (s : State)
+    → AreTaken old new contents.blocks.items → IsGroupOf root contents last → IsOfGroup new stamp group last s
+    → Plans old nothing_stored nothing_stored → AreEmpty old.spaces → (stored : Contents) (pool : PlainPool)
+    → Holds old stored → AreContentsOf stored group root pool contents
+    → Backs s (opened_as (vdevs_of old.spaces) (is_out old.out) group pool)
+backs_opened old new stamp group root contents last s taken is_group is plans empty stored pool holds are =
+    let blocks = contents.blocks.items in
+    let at : s.store ≡ new = is.store_is in
+    backs_only s old.spaces old.out group last pool (among blocks stored) blocks (over new stamp group last s is)
+    (ap (λ (store : Store). shapes_of store.spaces) at ∙ taken.shapes) (ap (λ (store : Store). store.out) at ∙ taken.out)
+    (subst (λ store. Plans store (among blocks stored) (among blocks stored)) (sym at) (taken.opens nothing_stored (among blocks stored) plans (found_among old blocks stored holds)))
+    (found_by stored group root pool contents last is_group are) taken.once
+    (λ block bytes known. (among_are blocks stored block bytes known).0)
+    (λ block held. subst (λ (store : Store). CopiesLieOn IsInUse store.spaces filled block) (sym at) (taken.in_use block held))
+    (subst (λ (store : Store). AreInBlocks store.spaces filled blocks) (sym at) (λ mark used. elim (taken.fills.only mark used) [
+      | inl was ↦ let none = none_in_use old.spaces [] empty mark was in absurd (nothing_in none.0 none.1)
+      | inr of ↦ (of.0, of.1, has_too old.spaces new.spaces of.0 mark taken.shapes of.2)
+    ]))
+    (subst (λ (store : Store). WereReleasedBy store.spaces filled s.kept.committed) (sym at) (λ by mark used. elim (taken.fills.rest (Released by) mark used) [
+      | inl was ↦ none_released old.spaces s.kept.committed empty by mark was
+      | inr clash ↦ absurd (let no : InUse ≡ Released by = clash in cc)
+    ]))
+
+-- ---- an empty pool
+
+-- nothing is found of it
+found_empty : (stored : Contents) (group : ℕ) (last : KeptGroup) → IsEmptyGroup last → IsFound stored group last no_volumes []
+found_empty stored group last is = record {
+  spells = record {
+    root = subst (λ (o : Option Block). SpellsRoot stored group o no_volumes) (sym is.root_is) refl;
+    directory = subst (λ (o : Option Block). SpellsBy stored group o no_volumes last.directory.value) (sym is.root_is) is.directory;
+    names = is.names;
+  };
+  leads = subst (λ (o : Option Block). LeadsTo stored group o no_volumes []) (sym is.root_is) refl;
+}
+
+pub backs_empty : (store : Store) (stamp : Stamp) (group : ℕ) (last : KeptGroup) (s : State) → IsEmptyGroup last → IsOfGroup store stamp group last s
+    → Plans store nothing_stored nothing_stored → AreEmpty store.spaces → Backs s (opened_as (vdevs_of store.spaces) (is_out store.out) group no_volumes)
+backs_empty store stamp group last s empty_group is plans empty =
+    let at : s.store ≡ store = is.store_is in
+    backs_only s store.spaces store.out group last no_volumes nothing_stored [] (over store stamp group last s is)
+    (ap (λ (st : Store). shapes_of st.spaces) at) (ap (λ (st : Store). st.out) at) (subst (λ st. Plans st nothing_stored nothing_stored) (sym at) plans)
+    (found_empty nothing_stored group last empty_group) none_distinct
+    (λ block bytes known. absurd (let clash : None ≡ Some bytes = known in cc))
+    (λ block held. absurd (nothing_in block held))
+    (subst (λ (st : Store). AreInBlocks st.spaces filled []) (sym at) (none_in_use store.spaces [] empty))
+    (subst (λ (st : Store). WereReleasedBy st.spaces filled s.kept.committed) (sym at) (none_released store.spaces s.kept.committed empty))

@@ -1,0 +1,130 @@
+//! The committed half of a core as a pool is opened, or is made on disks.
+ghost use Rattle.std.specs.Prelude.{◌≡◌, ◌⊎◌, ℕ, List, IfOk, IfErr};
+ghost use Rattle.block_store.specs.Blocks.{Contents, nothing_stored};
+ghost use Rattle.block_store.specs.Opened.{CannotTakeIn};
+ghost use Rattle.block_store.specs.Places.{AreEmpty};
+ghost use Rattle.block_store.specs.Plans.{Plans};
+ghost use Rattle.block_store.specs.Releases.{copies_of_all};
+ghost use Rattle.block_store.specs.Spaces.{VdevSpace};
+ghost use Rattle.block_store.specs.Store.{Holds, is_out};
+ghost use Rattle.dataset_snapshots.specs.Contents.{AreContentsOf};
+ghost use Rattle.pool_model.specs.Pools.{PlainPool, no_volumes};
+ghost use Rattle.pool_model.specs.View.{opened_as};
+ghost use Rattle.uberblock_ring.specs.Uberblock.{IsNumber};
+ghost use Rattle.pool_commit.specs.Config.{vdevs_of};
+ghost use Rattle.pool_commit.specs.Reopened.{IsEmptyGroup, IsGroupOf, IsOfGroup};
+ghost use Rattle.pool_commit.specs.Slots.{LabelsLieAside};
+
+use crate::commit::{Commit, no_directory, no_names};
+use crate::kept::{Kept, KeptGroup};
+use crate::refusal::Refusal;
+use crate::stamp::Stamp;
+use crate::suspension::lacks_disks;
+use block_pointer::Block;
+use block_store::BlockStore;
+use dataset_snapshots::RootContents;
+use model_disk::Disk;
+use std::alloc::{AllocError, Global};
+use std::sync::Arc;
+
+/// A group with this root, and what an open keeps of it.
+fn group_of(alloc: Global, root: Block, contents: RootContents) -> Result<KeptGroup, AllocError>
+    ensures { IfOk result (λ kept. IsGroupOf root contents kept) }
+{
+    let RootContents {
+        directory,
+        names,
+        ..
+    } = contents;
+    Ok(KeptGroup {
+        root: Some(root),
+        names: Arc::new(alloc, names)?,
+        directory: Arc::new(alloc, directory)?,
+    })
+}
+
+/// A group with no root, no volumes and no rows.
+fn empty_group(alloc: Global) -> Result<KeptGroup, AllocError>
+    ensures { IfOk result IsEmptyGroup }
+{
+    Ok(KeptGroup {
+        root: None,
+        names: no_names(alloc)?,
+        directory: no_directory(alloc)?,
+    })
+}
+
+impl<D: Disk + Drop> Commit<D> {
+    ghost use Rattle.pool_commit.specs.Backs.{Backs};
+    ghost use Rattle.pool_commit.specs.StateOf.{state_of, disks_in};
+
+    /// A group over a store, with nothing planned.
+    fn of_group(store: BlockStore<D>, stamp: Stamp, group: u64, last: KeptGroup) -> Self
+        requires labels { LabelsLieAside store.disks.starts store.spaces }
+        requires claim { IsNumber stamp.claim }
+        ensures { IsOfGroup store stamp group last (state_of result) }
+    {
+        let suspended = lacks_disks(&store);
+        Commit {
+            store,
+            kept: Kept::new(group, last),
+            planned: None,
+            suspended,
+            stamp,
+        }
+    }
+
+    /// A pool with no volumes, over a store that holds nothing, committed as that group. It has no root: the next group writes the
+    /// first one. The uberblocks of later groups get this stamp.
+    pub fn empty(
+        alloc: Global,
+        store: BlockStore<D>,
+        stamp: Stamp,
+        group: u64,
+    ) -> Result<Self, AllocError>
+        requires plans { Plans store nothing_stored nothing_stored }
+        requires empty { AreEmpty store.spaces }
+        requires labels { LabelsLieAside store.disks.starts store.spaces }
+        requires claim { IsNumber stamp.claim }
+        ensures disks { IfOk result (λ commit. disks_in commit ≡ store.disks) }
+        ensures stamp { IfOk result (λ commit. (state_of commit).stamp ≡ stamp) }
+        ensures backs { IfOk result (λ commit. Backs (state_of commit)
+            (opened_as (vdevs_of store.spaces) (is_out store.out) group no_volumes)) }
+    {
+        let last = empty_group(alloc)?;
+        Ok(Commit::of_group(store, stamp, group, last))
+    }
+
+    /// A pool that was committed before as that group, over a store that was opened and stores no block yet. The root is that of the
+    /// group, and the contents are what was read of it. No disk is called. The uberblocks of later groups get this stamp. No group
+    /// before it is kept. `BadPointer` where a block of the root lies in no place of the pool, or two copies share a sector.
+    pub fn opened(
+        alloc: Global,
+        store: BlockStore<D>,
+        stamp: Stamp,
+        group: u64,
+        root: Block,
+        contents: RootContents,
+    ) -> Result<Self, Refusal>
+        requires plans { Plans store nothing_stored nothing_stored }
+        requires empty { AreEmpty store.spaces }
+        requires labels { LabelsLieAside store.disks.starts store.spaces }
+        requires claim { IsNumber stamp.claim }
+        ensures disks { IfOk result (λ commit. disks_in commit ≡ store.disks) }
+        ensures stamp { IfOk result (λ commit. (state_of commit).stamp ≡ stamp) }
+
+        // Where the store's disks have the blocks, and the root spells a pool, that pool is committed as the group.
+        ensures backs { IfOk result (λ commit. (stored : Contents) (pool : PlainPool)
+            → Holds store stored → AreContentsOf stored group root pool contents
+            → Backs (state_of commit)
+            (opened_as (vdevs_of store.spaces) (is_out store.out) group pool)) }
+        ensures refused { IfErr result (λ refusal. (refusal ≡ Refusal.NoMemory)
+            ⊎ ((refusal ≡ Refusal.BadPointer) × (after : List VdevSpace)
+            × CannotTakeIn store.spaces (copies_of_all contents.blocks.items) after)) }
+    {
+        let mut store = store;
+        store.take_in(&contents.blocks)?;
+        let last = group_of(alloc, root, contents)?;
+        Ok(Commit::of_group(store, stamp, group, last))
+    }
+}

@@ -1,0 +1,100 @@
+//! Cores of pools that are opened, or made on disks.
+ghost use Rattle.std.specs.Prelude.{◌≡◌, ◌⊎◌, ◌<◌, List, IfOk, IfErr};
+ghost use Rattle.block_store.specs.Blocks.{Contents, nothing_stored};
+ghost use Rattle.block_store.specs.Opened.{CannotTakeIn};
+ghost use Rattle.block_store.specs.Places.{AreEmpty};
+ghost use Rattle.block_store.specs.Plans.{Plans};
+ghost use Rattle.block_store.specs.Releases.{copies_of_all};
+ghost use Rattle.block_store.specs.Spaces.{VdevSpace};
+ghost use Rattle.block_store.specs.Store.{Holds, is_out};
+ghost use Rattle.dataset_snapshots.specs.Contents.{AreContentsOf};
+ghost use Rattle.pool_commit.specs.Config.{vdevs_of};
+ghost use Rattle.pool_commit.specs.Slots.{LabelsLieAside};
+ghost use Rattle.pool_model.specs.Pools.{PlainPool, no_volumes};
+ghost use Rattle.pool_model.specs.Refusals.{greatest};
+ghost use Rattle.pool_model.specs.View.{opened_as};
+ghost use Rattle.uberblock_ring.specs.Uberblock.{IsNumber};
+ghost use Rattle.volume_rules.specs.NowMoves.{IsMadeBy};
+
+use crate::pool::Core;
+use block_pointer::Block;
+use block_store::BlockStore;
+use dataset_snapshots::RootContents;
+use model_disk::Disk;
+use pool_commit::{Commit, Stamp};
+use pool_intake::Intake;
+use pool_model::Refusal;
+use std::alloc::{AllocError, Global};
+use volume_rules::NameIndex;
+
+impl<D: Disk + Drop> Core<D> {
+    ghost use Rattle.pool_core.specs.Represents.{Represents};
+    ghost use Rattle.pool_core.specs.StateOf.{disks_in, state_of};
+
+    /// A pool with no volumes, over a store that holds nothing, committed as that group, of which nothing is on the disks: the next
+    /// group writes the first root. The uberblocks of later groups get this stamp.
+    pub fn empty(
+        alloc: Global,
+        store: BlockStore<D>,
+        stamp: Stamp,
+        group: u64,
+    ) -> Result<Self, AllocError>
+        requires plans { Plans store nothing_stored nothing_stored }
+        requires empty { AreEmpty store.spaces }
+        requires labels { LabelsLieAside store.disks.starts store.spaces }
+        requires claim { IsNumber stamp.claim }
+        requires below { group < greatest }
+        ensures disks { IfOk result (λ core. disks_in core ≡ store.disks) }
+        ensures represents { IfOk result (λ core. Represents (state_of core)
+            (opened_as (vdevs_of store.spaces) (is_out store.out) group no_volumes)) }
+    {
+        let commit = Commit::empty(alloc, store, stamp, group)?;
+        Ok(Core {
+            alloc,
+            intake: Intake::opened(alloc, group, NameIndex::new(alloc)),
+            commit,
+        })
+    }
+
+    /// A pool that was committed before as that group, over a store that was opened and stores no block yet. The root is that of the
+    /// group, and the contents are what was read of it. No disk is called. Nobody has a hold, each writer begins with number 1, and
+    /// no group before it is kept. The uberblocks of later groups get this stamp. `BadPointer` where a block of the root lies in no
+    /// place of the pool, or two copies share a sector.
+    pub fn opened(
+        alloc: Global,
+        store: BlockStore<D>,
+        stamp: Stamp,
+        group: u64,
+        root: Block,
+        contents: RootContents,
+    ) -> Result<Self, Refusal>
+        requires plans { Plans store nothing_stored nothing_stored }
+        requires empty { AreEmpty store.spaces }
+        requires labels { LabelsLieAside store.disks.starts store.spaces }
+        requires claim { IsNumber stamp.claim }
+        requires below { group < greatest }
+        ensures disks { IfOk result (λ core. disks_in core ≡ store.disks) }
+
+        // Where the store's disks have the blocks, and the root spells a pool whose volumes were made by then, the core is sound, and
+        // represents that pool, committed as the group.
+        ensures represents { IfOk result (λ core. (stored : Contents) (pool : PlainPool)
+            → Holds store stored → AreContentsOf stored group root pool contents
+            → IsMadeBy group pool → Represents (state_of core)
+            (opened_as (vdevs_of store.spaces) (is_out store.out) group pool)) }
+        ensures refused { IfErr result (λ refusal. (refusal ≡ Refusal.NoMemory)
+            ⊎ ((refusal ≡ Refusal.BadPointer) × (after : List VdevSpace)
+            × CannotTakeIn store.spaces (copies_of_all contents.blocks.items) after)) }
+    {
+        let Ok(names) = contents.names.copied() else {
+            return Err(Refusal::NoMemory);
+        };
+        match Commit::opened(alloc, store, stamp, group, root, contents) {
+            Ok(commit) => Ok(Core {
+                alloc,
+                intake: Intake::opened(alloc, group, names),
+                commit,
+            }),
+            Err(refusal) => Err(Refusal::from(refusal)),
+        }
+    }
+}

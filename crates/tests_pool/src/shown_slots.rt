@@ -1,0 +1,57 @@
+//! The uberblock slots that a commit writes.
+use crate::parts::{BEHIND, WRITING, steps, three_disks};
+use model_disk::{DiskArray, MemDisk};
+use pool_core::Core;
+use std::alloc::Global;
+use std::test::Fail;
+use uberblock_ring::{Uberblock, read_slots};
+
+/// The disks of a pool of three that has committed group 4, which makes a volume.
+fn committed(alloc: Global) -> Result<DiskArray<MemDisk>, Fail> {
+    let steps = steps(alloc, WRITING + BEHIND)?;
+    let disks = MemDisk::several(alloc, 3, 0x800000)?;
+    let mut core = Core::create(alloc, disks, &[three_disks()?])?;
+    let mut replies = Vec::new(alloc);
+    pool_core::run(&mut core, steps, &mut replies)?;
+    Ok(DiskArray::new(core.into_disks()))
+}
+
+/// What an uberblock is known by: its group, its claim, the sum of guids, and its root's birth. The guids of a vdev with three
+/// disks are 100 to 103.
+fn told(uberblock: Uberblock) -> (u64, u64, u64, u64) {
+    (
+        uberblock.group,
+        uberblock.claim,
+        uberblock.guid_sum,
+        uberblock.root.birth,
+    )
+}
+
+/// How many of these slots show group 4 in its place, and how many show anything.
+fn counts(slots: &[Option<Uberblock>]) -> (u32, u32) {
+    let mut counts: (u32, u32) = (0, 0);
+    for (number, slot) in slots.iter().enumerate() {
+        if let Some(uberblock) = slot {
+            counts.1 = counts.1.saturating_add(1);
+            if number % 128 == 4 && told(*uberblock) == (4, 1, 406, 4) {
+                counts.0 = counts.0.saturating_add(1);
+            }
+        }
+    }
+    counts
+}
+
+/// The same of each disk.
+fn counted(alloc: Global) -> Result<[(u32, u32); 3], Fail> {
+    let mut disks = committed(alloc)?;
+    let first = read_slots(alloc, &mut disks, 0)?;
+    let second = read_slots(alloc, &mut disks, 1)?;
+    let third = read_slots(alloc, &mut disks, 2)?;
+    Ok([counts(&first), counts(&second), counts(&third)])
+}
+
+#[test]
+fn a_commit_shows_its_uberblock_in_each_label(rt: HostRuntime) -> Result<(), Fail> {
+    assert_eq!(rt; counted(rt.alloc())?, [(4, 4); 3]);
+    Ok(())
+}
