@@ -11,7 +11,7 @@ ghost use Rattle.block_store.specs.Plans.{Plans};
 ghost use Rattle.block_store.specs.Store.{Holds};
 ghost use Rattle.block_store.specs.Steps.{OnlyReadsBlocks, OnlyReadsAndPlans, AnswersAreTrue};
 ghost use Rattle.dnode_tree.specs.Writes.{IsForRoom};
-ghost use Rattle.dnode_slots.specs.Sets.{IsSetBlock, IsSetFound, IsSetRefused};
+ghost use Rattle.dnode_slots.specs.Sets.{IsSetBlock, IsSetFound, IsSetRefused, asked_of_set};
 
 use block_pointer::{Block, Property};
 use block_store::{Asked, BlockStore, CopyCount, NewBlock, Refusal};
@@ -82,6 +82,7 @@ pub fn plan_set<D: Disk + Drop>(
     ensures steps { OnlyReadsAndPlans store.old store.new [] }
     ensures fits { IfOk result FitsBlock }
     ensures birth { IfOk result (λ block. block.birth ≡ birth) }
+    ensures property { IfOk result (λ block. block.property ≡ (asked_of_set birth).property) }
     ensures copies { IfOk result (λ block. length (dvas block.copies) ≡ count_of copies) }
     ensures planned { IfOk result (λ block. (stored planned : Contents)
         → Plans store.old stored planned

@@ -7,7 +7,7 @@ ghost use Rattle.block_store.specs.Places.{AreChosen, RanOut};
 ghost use Rattle.block_store.specs.Plans.{Plans};
 ghost use Rattle.block_store.specs.Steps.{OnlyReadsAndPlans};
 ghost use Rattle.dnode.specs.ObjectSet.{FitsObjectSet, object_set_bytes};
-ghost use Rattle.dnode_slots.specs.Sets.{IsSetBlock};
+ghost use Rattle.dnode_slots.specs.Sets.{IsSetBlock, asked_of_set};
 ghost use Rattle.dnode_tree.specs.Writes.{IsForRoom};
 ghost use Rattle.objset.specs.Changes.{copies_of};
 
@@ -33,6 +33,7 @@ pub fn plan_set<D: Disk + Drop>(
     ensures steps { OnlyReadsAndPlans store.old store.new [] }
     ensures fits { IfOk result FitsBlock }
     ensures birth { IfOk result (λ block. block.birth ≡ birth) }
+    ensures property { IfOk result (λ block. block.property ≡ (asked_of_set birth).property) }
     ensures copies { IfOk result (λ block.
         length (dvas block.copies) ≡ count_of (copies_of set.now.kind).other) }
     ensures planned { IfOk result (λ block. (stored planned : Contents)
