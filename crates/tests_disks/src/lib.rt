@@ -5,6 +5,8 @@
 #[cfg(test)]
 mod arrays;
 #[cfg(test)]
+mod configured;
+#[cfg(test)]
 mod devices;
 #[cfg(test)]
 mod extents;

@@ -1,7 +1,7 @@
 ghost use Rattle.std.specs.Prelude.{◌≡◌, ◌<◌, ◌≤◌, ◌*◌, length, IfOk};
 ghost use Rattle.model_disk.specs.Joint.{bytes_of};
 ghost use Rattle.vdev_label.specs.Area.{HasRoom};
-ghost use Rattle.vdev_label.specs.Pairs.{label_pairs};
+ghost use Rattle.vdev_label.specs.Pairs.{InRange, label_pairs};
 ghost use Rattle.vdev_label.specs.Plain.{label_view};
 
 use model_disk::{DiskArray, MemDisk};
@@ -34,7 +34,7 @@ pub(crate) fn area_with(
 }
 
 /// The claim, the disk, the pool, the vdev and the group.
-fn numbers_of(label: &Label) -> [u64; 5] {
+pub(crate) fn numbers_of(label: &Label) -> [u64; 5] {
     [
         label.claim,
         label.guid,
@@ -102,8 +102,9 @@ fn found_at(alloc: Global, disks: &mut DiskArray<MemDisk>, number: u64) -> Found
     }
 }
 
-fn first_label(alloc: Global) -> Result<Label, Refusal>
-    ensures { IfOk result (λ label. HasRoom (label_pairs (label_view label))) }
+pub(crate) fn first_label(alloc: Global) -> Result<Label, Refusal>
+    ensures room { IfOk result (λ label. HasRoom (label_pairs (label_view label))) }
+    ensures in_range { IfOk result (λ label. InRange (label_view label)) }
 {
     let area = area_with(alloc, LIST, 1000, 0)?;
     decode_area(alloc, &area)

@@ -12,6 +12,8 @@ mod labels;
 #[cfg(test)]
 mod lists;
 #[cfg(test)]
+mod new_pools;
+#[cfg(test)]
 mod nodes;
 #[cfg(test)]
 mod pointers;

@@ -12,9 +12,9 @@ use std::test::*;
 use uberblock_ring::{Uberblock, write_slot};
 use vdev_label::{Breach, label_offset};
 
-type Disks = DiskArray<FaultDisk<MemDisk>>;
+pub(crate) type Disks = DiskArray<FaultDisk<MemDisk>>;
 
-const NEVER: Fault = Fault::At(u64::MAX);
+pub(crate) const NEVER: Fault = Fault::At(u64::MAX);
 
 /// Where the list of a label has the guid of its disk, and the last bytes of the pool's guid, of the group
 /// and of the sectors of a child.
@@ -71,6 +71,18 @@ fn add_disk(alloc: Global, disks: &mut Disks, fault: Fault) -> Result<(), Fail>
     let disk = FaultDisk::new(MemDisk::new(alloc, SIZE)?, fault);
     disks.push(disk)?;
     Ok(())
+}
+
+/// Three empty disks, the last one with this fault.
+pub(crate) fn empty_disks(alloc: Global, fault: Fault) -> Result<Disks, Fail>
+    ensures count { IfOk result (λ disks. length disks.starts ≡ 3) }
+    ensures labels { IfOk result (λ disks. HaveLabels disks.starts) }
+{
+    let mut disks = DiskArray::new(Vec::new(alloc));
+    add_disk(alloc, &mut disks, NEVER)?;
+    add_disk(alloc, &mut disks, NEVER)?;
+    add_disk(alloc, &mut disks, fault)?;
+    Ok(disks)
 }
 
 /// Writes the area of one label.
@@ -137,10 +149,7 @@ fn handed_in(alloc: Global, case: &Case) -> Result<Disks, Fail>
     ensures labels { IfOk result (λ disks. HaveLabels disks.starts) }
 {
     let (guids, change, slot, fault) = *case;
-    let mut disks = DiskArray::new(Vec::new(alloc));
-    add_disk(alloc, &mut disks, NEVER)?;
-    add_disk(alloc, &mut disks, NEVER)?;
-    add_disk(alloc, &mut disks, fault)?;
+    let mut disks = empty_disks(alloc, fault)?;
     label_disk(alloc, &mut disks, 0, guids[0], NOWHERE)?;
     label_disk(alloc, &mut disks, 1, guids[1], NOWHERE)?;
     label_disk(alloc, &mut disks, 2, guids[2], change)?;

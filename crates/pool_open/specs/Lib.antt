@@ -1,0 +1,3 @@
+pub mod Children
+pub mod Shapes
+pub mod Claims
