@@ -1,8 +1,8 @@
 -- The writes of a claim lie beside blocks.
-use Rattle.std.proofs.Common.{◌≡◌, ◌⊎◌, ⊎_elim, inl, inr, ℕ, zero, suc, ◌+◌, ◌≤◌, ◌<◌, Bool, true, false, List, [], ◌∷◌, length, refl, sym, ap, ◌∙◌, subst, arith}
+use Rattle.std.proofs.Common.{◌≡◌, ◌⊎◌, inl, inr, ℕ, zero, suc, ◌+◌, ◌≤◌, ◌<◌, Bool, List, [], ◌∷◌, length, ap, ◌∙◌, arith}
 use Rattle.std.proofs.lemmas.Bool.Decides.{nat_tests}
 use Rattle.model_disk.specs.Contents.{covers}
-use Rattle.model_disk.specs.Joint.{Disks, bytes_of, content}
+use Rattle.model_disk.specs.Joint.{bytes_of}
 use Rattle.model_disk.specs.Runs.{IsOff}
 use Rattle.model_disk.proofs.RunLemmas.{off_content}
 use Rattle.model_disk.proofs.ContentsLemmas.{covers-outside}
@@ -10,7 +10,7 @@ use Rattle.block_store.specs.Elsewhere.{IsForBlocks}
 use Rattle.block_store.specs.Spaces.{VdevSpace}
 use Rattle.pool_commit.specs.Slots.{LabelsLieAside}
 use Rattle.pool_slots.specs.Labels.{IsClaimWrite, IsLabelWrite, area_place}
-use Rattle.pool_slots.specs.Slots.{AreThere, InUse, IsSlot, slot_at}
+use Rattle.pool_slots.specs.Slots.{InUse, IsSlot, slot_at}
 use Rattle.pool_slots.specs.Writes.{IsSlotWrite, in_use}
 use Rattle.pool_slots.proofs.LabelAreas.{area_len}
 use Rattle.pool_slots.proofs.Places.{length-spelled, range_off_slot}

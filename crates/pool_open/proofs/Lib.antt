@@ -1,2 +1,4 @@
 pub mod Lists
 pub mod Claiming
+pub mod Holding
+pub mod Layouts

@@ -1,3 +1,5 @@
 pub mod Children
 pub mod Shapes
 pub mod Claims
+pub mod Held
+pub mod Finding

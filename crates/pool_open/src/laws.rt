@@ -1,7 +1,22 @@
-//! Laws of a claim, as functions with no body: what each ensures follows from the definitions alone.
+//! Laws of what is on the disks of a pool that is opened: what each ensures follows from the definitions alone.
 ghost use Rattle.pool_open.specs.Claims.{ClaimsSpareBlocks};
+ghost use Rattle.pool_open.specs.Held.{AlikeStoresHoldAlike, ClaimsKeepWhatIsHeld};
 
-/// A claim changes no byte that is for blocks. So what a store over its disks holds, it holds still.
+use block_store::writes_elsewhere_keep;
+
+/// A claim changes no byte that is for blocks.
 pub fn claims_spare_blocks()
     ensures { ClaimsSpareBlocks }
 {}
+
+/// What may be read of the disks doesn't depend on the store that they are opened with, but by its vdevs and the disks that are out.
+pub fn alike_stores_hold_alike()
+    ensures { AlikeStoresHoldAlike }
+{}
+
+/// What was read of the disks before a claim may be read of them behind it.
+pub fn claims_keep_what_is_held()
+    ensures { ClaimsKeepWhatIsHeld }
+{
+    writes_elsewhere_keep();
+}

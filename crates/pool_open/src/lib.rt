@@ -2,9 +2,12 @@
 #![tactic(auto)]
 
 mod children;
+mod finding;
 mod laws;
 mod shapes;
 
 pub use children::children_of;
-pub use laws::claims_spare_blocks;
+pub use finding::{FoundPool, find};
+pub use laws::{alike_stores_hold_alike, claims_keep_what_is_held, claims_spare_blocks};
+pub use pool_labels::Refusal;
 pub use shapes::shapes_of;

@@ -54,7 +54,7 @@ const LAST_CLAIM: Uberblock = Uberblock {
 
 /// Which uberblock stands on the first disk.
 #[derive(Clone, Copy)]
-enum Slot {
+pub(crate) enum Slot {
     Empty,
     Taken,
     OtherConfig,
@@ -142,9 +142,9 @@ fn write_uberblock(disks: &mut Disks, slot: Slot) -> Result<(), Fail>
 
 /// What is handed in: three disks by their guids, a change of the last one's labels, the uberblock, and
 /// the fault of the last disk.
-type Case = ([u8; 3], (usize, u8), Slot, Fault);
+pub(crate) type Case = ([u8; 3], (usize, u8), Slot, Fault);
 
-fn handed_in(alloc: Global, case: &Case) -> Result<Disks, Fail>
+pub(crate) fn handed_in(alloc: Global, case: &Case) -> Result<Disks, Fail>
     ensures count { IfOk result (λ disks. length disks.starts ≡ 3) }
     ensures labels { IfOk result (λ disks. HaveLabels disks.starts) }
 {
@@ -168,6 +168,11 @@ fn members_of(choice: &Choice) -> Option<[Option<usize>; 3]> {
     Some([a, b, c])
 }
 
+/// Whether the one uberblock there is was taken.
+pub(crate) fn is_taken(taken: Uberblock, highest: Uberblock) -> bool {
+    taken == TAKEN && highest == TAKEN
+}
+
 /// The disks of the children, the place of the label, and whether the uberblock is the taken one.
 type Chosen = Result<(Option<[Option<usize>; 3]>, usize, bool), Refusal>;
 
@@ -175,8 +180,11 @@ fn outcome(alloc: Global, scan: &Scan, rewind: u64) -> Chosen
     requires { AreSound scan.now.labels.items }
 {
     let choice = choose(alloc, scan, rewind)?;
-    let is_taken = choice.taken == TAKEN && choice.highest == TAKEN;
-    Ok((members_of(&choice), choice.source, is_taken))
+    Ok((
+        members_of(&choice),
+        choice.source,
+        is_taken(choice.taken, choice.highest),
+    ))
 }
 
 fn chosen(alloc: Global, case: &Case, rewind: u64) -> Result<Chosen, Fail> {
@@ -186,7 +194,7 @@ fn chosen(alloc: Global, case: &Case, rewind: u64) -> Result<Chosen, Fail> {
 }
 
 /// The disks of a pool in another order; one of them left out; one that can't be read; a later label.
-const CHOICES: [(Case, [Option<usize>; 3], usize); 4] = [
+pub(crate) const CHOICES: [(Case, [Option<usize>; 3], usize); 4] = [
     (
         (*b"gef", NOWHERE, Slot::Taken, NEVER),
         [Some(1), Some(2), Some(0)],
@@ -223,7 +231,7 @@ fn disks_are_found_in_any_order(rt: HostRuntime) -> Result<(), Fail> {
 /// What is refused, and why: blank disks, also one with a broken list behind them; two pools, and one guid
 /// twice, which come before an empty ring; no uberblock, or one with the last claim; one of another
 /// configuration, or of another sum of guids; and two disks of three left out.
-const REFUSALS: [(Case, Refusal); 10] = [
+pub(crate) const REFUSALS: [(Case, Refusal); 10] = [
     (
         (*b"\0\0\0", NOWHERE, Slot::Taken, NEVER),
         Refusal::BadLabel(Breach::Tail),

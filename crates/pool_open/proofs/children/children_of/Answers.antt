@@ -1,4 +1,4 @@
-use Rattle.std.proofs.Common.{◌≤◌, arith}
+use Rattle.std.proofs.Common.{arith}
 use Rattle.pool_open.proofs.Lists.{allowed_at}
 use Rattle.pool_open.proofs.children.children_of.Goals as goal
 

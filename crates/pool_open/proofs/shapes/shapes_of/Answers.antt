@@ -1,5 +1,5 @@
-use Rattle.std.proofs.Common.{◌≤◌, length, arith}
-use Rattle.pool_open.proofs.Lists.{allowed_at, before_none, before_more, before_all}
+use Rattle.std.proofs.Common.{arith}
+use Rattle.pool_open.proofs.Lists.{allowed_at, before_all}
 use Rattle.pool_open.proofs.shapes.shapes_of.Goals as goal
 
 pub shape_of-requires-in-loop-i : goal.shape_of-requires-in-loop-i

@@ -1,0 +1,24 @@
+use Rattle.std.proofs.Common.{List, inr, sym, subst}
+use Rattle.pool_labels.specs.Choices.{HasLabelAt, IsValidAt}
+use Rattle.pool_labels.specs.declared.scanned.ScannedLabel.{ScannedLabel}
+use Rattle.pool_slots.proofs.Results.{if_err_is}
+use Rattle.pool_open.specs.Finding.{LayoutRefuses}
+use Rattle.pool_open.proofs.Layouts.{laid_out}
+use Rattle.pool_open.proofs.finding.lay_out.Goals as goal
+
+pub returns-in_err-choice-clause-refused : goal.returns-in_err-choice-clause-refused
+returns-in_err-choice-clause-refused g c =
+    if_err_is c.from_residual-in_err-choice.result c.in_err-choice.field-0.0 (LayoutRefuses c.args.disks.now c.scan.new.disks c.args.rewind)
+    c.from_residual-in_err-choice.ensures.1 (inr (c.in_ok-found.found, c.in_ok-found.ensures.scans, c.in_err-choice.ensures.refused))
+
+pub label_at-label-requires : goal.label_at-label-requires
+label_at-label-requires g c =
+    let chosen = c.in_ok-choice.ensures.chosen in
+    let P : List ScannedLabel → Type 0 = λ them. HasLabelAt them c.in_ok-choice.choice.source in
+    record { valid = subst P (sym c.deref.ensures.value) (chosen.configured.s, chosen.l, chosen.configured.source.at) }
+
+pub returns-clause-laid_out : goal.returns-clause-laid_out
+returns-clause-laid_out g c =
+    let P : List ScannedLabel → Type 0 = λ them. IsValidAt them c.in_ok-choice.choice.source c.label_at-label.ensures.0 c.label_at-label.result.now in
+    laid_out c.args.disks.now c.scan.new.disks c.args.rewind c.in_ok-found.found c.in_ok-choice.choice c.in_ok-layout.layout c.label_at-label.ensures.0 c.label_at-label.result.now
+    c.in_ok-found.ensures.scans c.in_ok-choice.ensures.chosen (subst P c.deref.ensures.value c.label_at-label.ensures.1) c.in_ok-layout.ensures

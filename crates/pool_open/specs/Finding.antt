@@ -1,0 +1,83 @@
+-- A pool that is found on disks.
+use Rattle.std.specs.Prelude.{ℕ, ◌≡◌, ◌⊎◌, Bool, List, length, map}
+use Rattle.model_disk.specs.Joint.{Disks, calls_on, log_of}
+use Rattle.model_disk.specs.Member.{calls_of, disk_of, start_of}
+use Rattle.model_disk.specs.declared.disk.Disk as disk
+use Rattle.model_disk.specs.declared.member.Member.{Member}
+use Rattle.block_store.specs.declared.shape.VdevShape.{VdevShape}
+use Rattle.pool_labels.specs.Choices.{ChoiceRefuses, IsChoice}
+use Rattle.pool_labels.specs.Scans.{IsScanOf, anywhere, has_allowed_size}
+use Rattle.pool_labels.specs.declared.choice.Choice.{Choice}
+use Rattle.pool_labels.specs.declared.refusal.Refusal.{Refusal}
+use Rattle.pool_labels.specs.declared.refusal.Refusal.TheVariants.{NoMemory, PoolMismatch}
+use Rattle.pool_labels.specs.declared.scanned.Scan.{Scan}
+use Rattle.pool_members.specs.Arranged.{AreArranged, AreEachOnce, disk_for}
+use Rattle.pool_members.specs.declared.arranging.Child.{Child}
+use Rattle.pool_slots.specs.Reads.{OnlyReads}
+use Rattle.uberblock_ring.specs.declared.uberblock.Uberblock.{Uberblock}
+use Rattle.vdev_label.specs.Plain.{PlainVdev, config_view}
+use Rattle.pool_open.specs.Children.{all_children}
+use Rattle.pool_open.specs.Shapes.{AreShapesOf}
+use Rattle.pool_open.specs.declared.finding.Layout.{Layout}
+
+-- ---- what the disks show
+
+-- The uberblock that was chosen, and of its configuration the children, each with its disk, and the vdevs.
+pub record IsLaidOut (vdevs : List PlainVdev) (choice : Choice) (layout : Layout) : Type 0 where
+  pub highest : layout.highest ≡ choice.highest
+  pub taken : layout.taken ≡ choice.taken
+  pub children : layout.children.items ≡ all_children vdevs choice.members.items
+  pub shapes : AreShapesOf vdevs 0 layout.shapes.items
+
+-- since the old moment the disks were read, and this was chosen of what they show
+pub record IsLayoutOf (old new : Disks) (rewind : ℕ) (layout : Layout) : Type 0 where
+  pub scan : Scan
+  pub read : IsScanOf old new scan
+  pub choice : Choice
+  pub chosen : IsChoice scan rewind choice
+  pub laid_out : IsLaidOut (config_view chosen.l.config) choice layout
+
+-- nothing is chosen of what they show, for this cause
+abbrev pub LayoutRefuses : Disks → Disks → ℕ → Refusal → Type 0
+LayoutRefuses old new rewind refusal = (refusal ≡ NoMemory) ⊎ ((scan : Scan) × IsScanOf old new scan × ChoiceRefuses scan rewind refusal)
+
+-- two children name one disk
+pub record AreNotEachOnce (old new : Disks) (rewind : ℕ) : Type 0 where
+  pub layout : Layout
+  pub laid_out : IsLayoutOf old new rewind layout
+  pub twice : ¬ AreEachOnce (length old.starts) layout.children.items
+
+-- ---- the disks themselves
+
+module _ {D : Type 0} where
+  -- an array of these disks
+  abbrev pub IsArrayOf : disk.Ghosts D → List D → Disks → Type 0
+  IsArrayOf g disks array = (array.starts ≡ map g.start disks) × ((which : ℕ) → calls_on which array.calls ≡ log_of (map g.calls disks) which)
+
+  -- nothing but reads of disks of an allowed size was called, between these two moments
+  pub record AreRead (g : disk.Ghosts D) (disks : List D) (old new : Disks) : Type 0 where
+    pub before : IsArrayOf g disks old
+    pub only : OnlyReads (has_allowed_size old) anywhere old new
+
+  -- The disks were read, and put in the order of the children that were chosen; what stands for a child with no disk is marked.
+  pub record IsFoundPool (g : disk.Ghosts D) (disks : List D) (rewind : ℕ) (members : List (Member D)) (out : List Bool) (shapes : List VdevShape)
+      (highest taken : Uberblock) : Type 0 where
+    pub old : Disks
+    pub new : Disks
+    pub read : AreRead g disks old new
+    pub layout : Layout
+    pub laid_out : IsLayoutOf old new rewind layout
+    pub highest_is : highest ≡ layout.highest
+    pub taken_is : taken ≡ layout.taken
+    pub shapes_are : shapes ≡ layout.shapes.items
+    pub after : List D
+    pub array : IsArrayOf g after new
+    pub members_are : map disk_of members ≡ map (disk_for after) layout.children.items
+    pub arranged : AreArranged (map g.start after) (map g.calls after) layout.children.items (map (start_of g) members) (map (calls_of g) members) out
+
+  -- why no pool was found: the disks were read, and what they show was refused, or names a disk for two children
+  pub record FindRefuses (g : disk.Ghosts D) (disks : List D) (rewind : ℕ) (refusal : Refusal) : Type 0 where
+    pub old : Disks
+    pub new : Disks
+    pub read : AreRead g disks old new
+    pub cause : LayoutRefuses old new rewind refusal ⊎ ((refusal ≡ PoolMismatch) × AreNotEachOnce old new rewind)

@@ -1,0 +1,120 @@
+//! Finding a pool on disks that are handed in, in any order.
+ghost use Rattle.std.specs.Prelude.{◌≡◌, ◌≤◌, length, All, IfErr, IfOk};
+ghost use Rattle.pool_labels.specs.Choices.{HasLabelAt, IsValidAt};
+ghost use Rattle.pool_labels.specs.Scans.{anywhere, has_allowed_size};
+ghost use Rattle.pool_labels.specs.declared.scanned.ScannedLabel.{ScannedLabel};
+ghost use Rattle.pool_open.specs.Finding.{FindRefuses, IsFoundPool, IsLaidOut, IsLayoutOf, LayoutRefuses};
+ghost use Rattle.pool_slots.specs.Reads.{OnlyReads};
+ghost use Rattle.vdev_label.specs.Limits.{IsAllowedVdev};
+ghost use Rattle.vdev_label.specs.Plain.{config_view};
+
+use crate::children::children_of;
+use crate::shapes::shapes_of;
+use block_store::VdevShape;
+use model_disk::{Disk, DiskArray, Member};
+use pool_labels::{Choice, Reading, Refusal, Scan, ScannedLabel, choose, scan};
+use pool_members::{Arranged, Child, arrange};
+use std::alloc::{AllocError, Global};
+use uberblock_ring::Uberblock;
+use vdev_label::Label;
+
+/// A pool that was found on disks. Nothing was written yet.
+#[derive(Drop)]
+pub struct FoundPool<D: Disk + Drop> {
+    /// The disks of its children, in order, and what stands for those that are absent.
+    pub disks: Vec<Member<D>>,
+    /// Which of them are absent.
+    pub out: Vec<bool>,
+    pub shapes: Vec<VdevShape>,
+    /// The greatest uberblock on the disks, and the one that is to be claimed.
+    pub highest: Uberblock,
+    pub taken: Uberblock,
+}
+
+/// Which children a pool has, in order, and how its vdevs take them.
+#[derive(Drop)]
+pub(crate) struct Layout {
+    pub(crate) children: Vec<Child>,
+    pub(crate) shapes: Vec<VdevShape>,
+    pub(crate) highest: Uberblock,
+    pub(crate) taken: Uberblock,
+}
+
+/// The label at that place, which is valid.
+fn label_at(labels: &[ScannedLabel], i: usize) -> &Label
+    requires valid { HasLabelAt labels.now i }
+    ensures { (s : ScannedLabel) × IsValidAt labels.now i s result.now }
+{
+    match &labels[i].reading {
+        Reading::Valid(label) => label,
+        Reading::Bad(_) | Reading::Unreadable => unreachable!(),
+    }
+}
+
+/// The layout of a pool with that label's configuration.
+fn layout_of(alloc: Global, label: &Label, choice: &Choice) -> Result<Layout, AllocError>
+    requires count { length choice.now.members.items ≡ length (config_view label.now.config) }
+    requires few { length (config_view label.now.config) ≤ 8 }
+    requires allowed { All IsAllowedVdev (config_view label.now.config) }
+    ensures { IfOk result (IsLaidOut (config_view label.now.config) choice.now) }
+{
+    Ok(Layout {
+        children: children_of(alloc, &label.config, &choice.members)?,
+        shapes: shapes_of(alloc, &label.config)?,
+        highest: choice.highest,
+        taken: choice.taken,
+    })
+}
+
+/// Reads the disks, and lays out the pool that they show.
+fn lay_out<D: Disk + Drop>(
+    alloc: Global,
+    disks: &mut DiskArray<D>,
+    rewind: u64,
+) -> Result<Layout, Refusal>
+    ensures only { OnlyReads (has_allowed_size disks.old) anywhere disks.old disks.new }
+    ensures laid_out { IfOk result (IsLayoutOf disks.old disks.new rewind) }
+    ensures refused { IfErr result (LayoutRefuses disks.old disks.new rewind) }
+{
+    let found = scan(alloc, disks)?;
+    let choice = choose(alloc, &found, rewind)?;
+    let label = label_at(&found.labels, choice.source);
+    let layout = layout_of(alloc, label, &choice)?;
+    Ok(layout)
+}
+
+/// Finds a pool on disks that are handed in, in any order: reads their labels and slots, takes the greatest uberblock that
+/// they show, or where it goes back (`rewind`, 1 or 2) the one that is so many groups less, and puts the disks in the order of
+/// its configuration. Nothing is written. Disks that are none of its children are dropped, and so are all where it is refused.
+///
+/// The refusals are those of `pool_labels::choose`, in their order (this project's profile); `PoolMismatch` is also said where
+/// two children name one disk.
+pub fn find<D: Disk + Drop>(
+    alloc: Global,
+    disks: Vec<D>,
+    rewind: u64,
+) -> Result<FoundPool<D>, Refusal>
+    ensures found { IfOk result (λ pool. IsFoundPool D.Disk disks.items rewind
+        pool.disks.items pool.out.items pool.shapes.items pool.highest pool.taken) }
+    ensures refused { IfErr result (FindRefuses D.Disk disks.items rewind) }
+{
+    let mut array = DiskArray::new(disks);
+    let layout = lay_out(alloc, &mut array, rewind)?;
+    let Layout {
+        children,
+        shapes,
+        highest,
+        taken,
+    } = layout;
+    match arrange(alloc, array.into_disks(), &children) {
+        Ok(Arranged { disks, out }) => Ok(FoundPool {
+            disks,
+            out,
+            shapes,
+            highest,
+            taken,
+        }),
+        Err(pool_members::Refusal::NoMemory) => Err(Refusal::NoMemory),
+        Err(pool_members::Refusal::NotEachOnce) => Err(Refusal::PoolMismatch),
+    }
+}
