@@ -1,9 +1,6 @@
 -- What was chosen of disks, by its label.
 use Rattle.std.proofs.Common.{◌≡◌, ℕ, List, Some, sym, ap, ◌∙◌, subst}
-use Rattle.std.specs.Prelude.{length}
-use Rattle.std.proofs.lemmas.List.{length-map}
 use Rattle.model_disk.specs.Joint.{Disks}
-use Rattle.model_disk.specs.declared.disk.Disk as disk
 use Rattle.vdev_label.specs.Plain.{config_view}
 use Rattle.vdev_label.specs.declared.label.Label.{Label}
 use Rattle.pool_labels.specs.Choices.{IsChoice, IsValidAt}
@@ -12,9 +9,7 @@ use Rattle.pool_labels.specs.declared.choice.Choice.{Choice}
 use Rattle.pool_labels.specs.declared.scanned.Reading.TheVariants.{Valid}
 use Rattle.pool_labels.specs.declared.scanned.Scan.{Scan}
 use Rattle.pool_labels.specs.declared.scanned.ScannedLabel.{ScannedLabel}
-use Rattle.pool_members.specs.Arranged.{AreEachOnce}
-use Rattle.pool_members.specs.declared.arranging.Child.{Child}
-use Rattle.pool_open.specs.Finding.{IsArrayOf, IsLaidOut, IsLayoutOf}
+use Rattle.pool_open.specs.Finding.{IsLaidOut, IsLayoutOf}
 use Rattle.pool_open.specs.declared.finding.Layout.{Layout}
 
 same_some : {X : Type 0} (x y : X) → Some x ≡ Some y → x ≡ y
@@ -34,10 +29,3 @@ pub laid_out : (old new : Disks) (rewind : ℕ) (scan : Scan) (choice : Choice) 
 laid_out old new rewind scan choice layout s m read is at laid =
     let same : m ≡ is.l = same_label scan.labels.items choice.source s is.configured.s m is.l at is.configured.source.at in
     record { scan = scan; read = read; choice = choice; chosen = is; laid_out = subst (λ (l : Label). IsLaidOut (config_view l.config) choice layout) same laid }
-
--- as many disks come back as there were
-pub not_once : {D : Type 0} (g : disk.Ghosts D) (after : List D) (old new : Disks) (children : List Child) → IsArrayOf g after new → new.starts ≡ old.starts
-    → ¬ AreEachOnce (length after) children → ¬ AreEachOnce (length old.starts) children
-not_once g after old new children array starts twice =
-    let count : length after ≡ length old.starts = sym (length-map after g.start) ∙ ap length (sym array.0 ∙ starts) in
-    subst (λ (n : ℕ). ¬ AreEachOnce n children) count twice

@@ -2,3 +2,4 @@ pub mod Lists
 pub mod Claiming
 pub mod Holding
 pub mod Layouts
+pub mod Once

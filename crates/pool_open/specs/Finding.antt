@@ -1,5 +1,5 @@
 -- A pool that is found on disks.
-use Rattle.std.specs.Prelude.{ℕ, ◌≡◌, ◌⊎◌, Bool, List, length, map}
+use Rattle.std.specs.Prelude.{ℕ, ◌≡◌, ◌⊎◌, Bool, List, map}
 use Rattle.model_disk.specs.Joint.{Disks, calls_on, log_of}
 use Rattle.model_disk.specs.Member.{calls_of, disk_of, start_of}
 use Rattle.model_disk.specs.declared.disk.Disk as disk
@@ -9,10 +9,9 @@ use Rattle.pool_labels.specs.Choices.{ChoiceRefuses, IsChoice}
 use Rattle.pool_labels.specs.Scans.{IsScanOf, anywhere, has_allowed_size}
 use Rattle.pool_labels.specs.declared.choice.Choice.{Choice}
 use Rattle.pool_labels.specs.declared.refusal.Refusal.{Refusal}
-use Rattle.pool_labels.specs.declared.refusal.Refusal.TheVariants.{NoMemory, PoolMismatch}
+use Rattle.pool_labels.specs.declared.refusal.Refusal.TheVariants.{NoMemory}
 use Rattle.pool_labels.specs.declared.scanned.Scan.{Scan}
-use Rattle.pool_members.specs.Arranged.{AreArranged, AreEachOnce, disk_for}
-use Rattle.pool_members.specs.declared.arranging.Child.{Child}
+use Rattle.pool_members.specs.Arranged.{AreArranged, disk_for}
 use Rattle.pool_slots.specs.Reads.{OnlyReads}
 use Rattle.uberblock_ring.specs.declared.uberblock.Uberblock.{Uberblock}
 use Rattle.vdev_label.specs.Plain.{PlainVdev, config_view}
@@ -40,12 +39,6 @@ pub record IsLayoutOf (old new : Disks) (rewind : ℕ) (layout : Layout) : Type 
 -- nothing is chosen of what they show, for this cause
 abbrev pub LayoutRefuses : Disks → Disks → ℕ → Refusal → Type 0
 LayoutRefuses old new rewind refusal = (refusal ≡ NoMemory) ⊎ ((scan : Scan) × IsScanOf old new scan × ChoiceRefuses scan rewind refusal)
-
--- two children name one disk
-pub record AreNotEachOnce (old new : Disks) (rewind : ℕ) : Type 0 where
-  pub layout : Layout
-  pub laid_out : IsLayoutOf old new rewind layout
-  pub twice : ¬ AreEachOnce (length old.starts) layout.children.items
 
 -- ---- the disks themselves
 
@@ -75,9 +68,9 @@ module _ {D : Type 0} where
     pub members_are : map disk_of members ≡ map (disk_for after) layout.children.items
     pub arranged : AreArranged (map g.start after) (map g.calls after) layout.children.items (map (start_of g) members) (map (calls_of g) members) out
 
-  -- why no pool was found: the disks were read, and what they show was refused, or names a disk for two children
+  -- why no pool was found: the disks were read, and what they show was refused
   pub record FindRefuses (g : disk.Ghosts D) (disks : List D) (rewind : ℕ) (refusal : Refusal) : Type 0 where
     pub old : Disks
     pub new : Disks
     pub read : AreRead g disks old new
-    pub cause : LayoutRefuses old new rewind refusal ⊎ ((refusal ≡ PoolMismatch) × AreNotEachOnce old new rewind)
+    pub cause : LayoutRefuses old new rewind refusal

@@ -1,5 +1,5 @@
 -- What may be read of a pool's disks, by whatever store they are opened with.
-use Rattle.std.specs.Prelude.{ℕ, ◌≡◌, Bool, List, length, replicate}
+use Rattle.std.specs.Prelude.{◌≡◌, Bool, List, length, replicate}
 use Rattle.model_disk.specs.Joint.{Disks}
 use Rattle.block_store.specs.Blocks.{Contents}
 use Rattle.block_store.specs.Places.{shapes_of}

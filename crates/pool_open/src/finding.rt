@@ -87,8 +87,7 @@ fn lay_out<D: Disk + Drop>(
 /// they show, or where it goes back (`rewind`, 1 or 2) the one that is so many groups less, and puts the disks in the order of
 /// its configuration. Nothing is written. Disks that are none of its children are dropped, and so are all where it is refused.
 ///
-/// The refusals are those of `pool_labels::choose`, in their order (this project's profile); `PoolMismatch` is also said where
-/// two children name one disk.
+/// The refusals are those of `pool_labels::choose`, in their order (this project's profile).
 pub fn find<D: Disk + Drop>(
     alloc: Global,
     disks: Vec<D>,
@@ -115,6 +114,7 @@ pub fn find<D: Disk + Drop>(
             taken,
         }),
         Err(pool_members::Refusal::NoMemory) => Err(Refusal::NoMemory),
-        Err(pool_members::Refusal::NotEachOnce) => Err(Refusal::PoolMismatch),
+        // A disk has one guid, and so is one child.
+        Err(pool_members::Refusal::NotEachOnce) => unreachable!(),
     }
 }

@@ -1,10 +1,10 @@
-use Rattle.std.proofs.Common.{◌≡◌, List, length, map, Err, inl, inr, refl, sym, ap, subst}
+use Rattle.std.proofs.Common.{◌≡◌, List, length, map, Err, refl, sym, ap, subst}
 use Rattle.model_disk.specs.Member.{calls_of, disk_of, start_of}
 use Rattle.pool_members.specs.Arranged.{AreArranged, AreEachOnce, disk_for}
 use Rattle.pool_members.specs.declared.arranging.Child.{Child}
 use Rattle.pool_slots.proofs.Results.{if_err_is}
 use Rattle.pool_open.specs.Finding.{FindRefuses}
-use Rattle.pool_open.proofs.Layouts.{not_once}
+use Rattle.pool_open.proofs.Once.{layout_once}
 use Rattle.pool_open.proofs.finding.find.Goals as goal
 
 pub returns-in_err-layout-clause-refused : goal.returns-in_err-layout-clause-refused
@@ -14,7 +14,7 @@ returns-in_err-layout-clause-refused g c =
       old = c.new-array.result;
       new = c.lay_out.new.disks;
       read = record { before = (c.new-array.ensures.starts, c.new-array.ensures.calls); only = c.in_err-layout.ensures.only };
-      cause = inl c.in_err-layout.ensures.refused;
+      cause = c.in_err-layout.ensures.refused;
     })
 
 pub returns-in-Ok-clause-found : goal.returns-in-Ok-clause-found
@@ -38,24 +38,11 @@ returns-in-Ok-clause-found g c =
       arranged = subst Q c.deref.ensures.value c.in-Ok.ensures.arranged;
     }
 
-pub returns-clause-refused : goal.returns-clause-refused
-returns-clause-refused g c =
+pub unreachable-requires : goal.unreachable-requires
+unreachable-requires g c =
     let after = c.into_disks.result.items in
-    let old = c.new-array.result in
-    let new = c.lay_out.new.disks in
-    let P : List Child → Type 0 = λ them. ¬ AreEachOnce (length after) them in
-    let twice : ¬ AreEachOnce (length after) c.deref.result.now = c.in-Err-NotEachOnce.ensures.refused (ap Err c.in-Err-NotEachOnce.field-0-is) in
-    record {
-      old = old;
-      new = new;
-      read = record { before = (c.new-array.ensures.starts, c.new-array.ensures.calls); only = c.in_ok-layout.ensures.only };
-      cause = inr (
-        refl,
-        record {
-          layout = c.in_ok-layout.layout;
-          laid_out = c.in_ok-layout.ensures.laid_out;
-          twice = not_once g.D.Disk after old new c.in_ok-layout.layout.children.items (sym c.into_disks.ensures.starts, λ which. sym (c.into_disks.ensures.calls which))
-              c.in_ok-layout.ensures.only.starts (subst P c.deref.ensures.value twice);
-        },
-      );
-    }
+    let once : AreEachOnce (length after) c.in_ok-layout.layout.children.items =
+    layout_once g.D.Disk after c.new-array.result c.lay_out.new.disks c.args.rewind c.in_ok-layout.layout c.in_ok-layout.ensures.laid_out
+    (sym c.into_disks.ensures.starts, λ which. sym (c.into_disks.ensures.calls which)) c.in_ok-layout.ensures.only.starts in
+    let P : List Child → Type 0 = λ them. AreEachOnce (length after) them in
+    c.in-Err-NotEachOnce.ensures.refused (ap Err c.in-Err-NotEachOnce.field-0-is) (subst P (sym c.deref.ensures.value) once)
