@@ -3,3 +3,4 @@ pub mod Claiming
 pub mod Holding
 pub mod Layouts
 pub mod Once
+pub mod Reading

@@ -3,3 +3,4 @@ pub mod Shapes
 pub mod Claims
 pub mod Held
 pub mod Finding
+pub mod Roots

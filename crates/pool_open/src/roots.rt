@@ -1,0 +1,45 @@
+//! Reading the root of a pool before it is claimed.
+ghost use Rattle.std.specs.Prelude.{◌≡◌, ◌⊎◌, IfErr, IfOk};
+ghost use Rattle.pool_open.specs.Roots.{AreReadBeside, IsReadOfRoot, RootRefuses};
+
+use block_pointer::Block;
+use block_store::{BlockStore, Refusal, VdevShape};
+use dataset_snapshots::{RootContents, contents_under};
+use model_disk::{Disk, DiskArray};
+use std::alloc::Global;
+
+/// What was read of a root, and the disks that it was read from.
+#[derive(Drop)]
+pub struct ReadRoot<D: Disk + Drop> {
+    pub disks: DiskArray<D>,
+    pub contents: RootContents,
+}
+
+/// Reads what an open keeps of the root of a group: its directory, its names and all its blocks. Nothing is written, and a disk
+/// that is marked isn't called. The walk of all blocks reads at most `left` of them, whatever the root is.
+///
+/// `BadConfig` where the vdevs don't take all disks in order, or a disk is too small for its vdev. `BadPointer`, `BadDigest` and
+/// `DiskFault` come from reading, as `contents_under` says; then the disks are dropped.
+pub fn read_root<D: Disk + Drop>(
+    alloc: Global,
+    disks: DiskArray<D>,
+    shapes: &[VdevShape],
+    out: &[bool],
+    root: &Block,
+    group: u64,
+    left: u64,
+) -> Result<ReadRoot<D>, Refusal>
+    ensures only { IfOk result (λ read. AreReadBeside out.now disks read.disks) }
+    ensures contents { IfOk result (λ read.
+        IsReadOfRoot disks read.disks shapes.now out.now group root.now read.contents) }
+    ensures refused { IfErr result (λ refusal. (refusal ≡ Refusal.NoMemory)
+        ⊎ RootRefuses disks shapes.now out.now group root.now left refusal) }
+{
+    let mut store = BlockStore::opened(alloc, disks, shapes, out)?;
+    let mut left = left;
+    let contents = contents_under(root, &mut store, alloc, group, &mut left, &[])?;
+    Ok(ReadRoot {
+        disks: store.into_array(),
+        contents,
+    })
+}
