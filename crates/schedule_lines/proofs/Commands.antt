@@ -1,18 +1,24 @@
 -- The two laws of commands: what is read is spelled so, and what is spelled so is read.
-use Rattle.std.proofs.Common.{◌≡◌, ℕ, ◌^◌, List, [], ◌∷◌, ◌++◌, drop, Some, codes, lit<, refl, ap, subst, ◌∙◌, arith}
+use Rattle.std.proofs.Common.{◌≡◌, ℕ, ◌^◌, ◌<◌, ◌⊎◌, inl, inr, Bool, true, false, cond, List, [], ◌∷◌, ◌++◌, drop, map, Option, Some, None, codes, lit<, refl, sym, ap, subst, ◌∙◌, arith}
 use Rattle.std.specs.List.{AllByRecursion}
 use Rattle.std.specs.Fmt.{decimal}
+use Rattle.std.specs.Str.{bytes_eq}
+use Rattle.std.proofs.lemmas.Slice.Eq.{bytes_eq-Decides}
 use Rattle.schedule_lines.specs.declared.command.PoolLine.{PoolLine}
 use Rattle.schedule_lines.specs.declared.command.WriteLine.{WriteLine}
 use Rattle.schedule_lines.specs.declared.command.CreateLine.{CreateLine}
 use Rattle.schedule_lines.specs.declared.command.ReadLine.{ReadLine}
 use Rattle.schedule_lines.specs.declared.command.UnderLine.{UnderLine}
+use Rattle.schedule_lines.specs.declared.command.ReopenLine.{ReopenLine}
+use Rattle.schedule_lines.specs.declared.command.StopPoint.{StopPoint}
+use Rattle.schedule_lines.specs.declared.command.StopPoint.TheVariants.{Blocks, Slots, Claim}
 use Rattle.schedule_lines.specs.declared.command.Command.{Command}
-use Rattle.schedule_lines.specs.declared.command.Command.TheVariants.{Pool, Write, Create, Read, Under}
+use Rattle.schedule_lines.specs.declared.command.Command.TheVariants.{Pool, Write, Create, Read, Under, Stop, Reopen}
 use Rattle.schedule_lines.specs.Hexadecimal.{byte_text}
-use Rattle.schedule_lines.specs.Grammar.{words_of, NumbersFit}
-use Rattle.schedule_lines.specs.Reading.{pool_at, write_at, create_at, read_at, under_at}
-use Rattle.schedule_lines.proofs.Fields.{some_is, Words, IsFull, Number, number_then, number_read, Byte, byte_then, byte_read, NameWord, name_then, name_read}
+use Rattle.schedule_lines.specs.Grammar.{words_of_stop, words_of, StopFits, NumbersFit}
+use Rattle.schedule_lines.specs.Reading.{word_at, number_at, pool_at, write_at, create_at, read_at, under_at, of_read, point_at, stop_at, reopen_at}
+use Rattle.schedule_lines.proofs.Fields.{bind_some, some, some_is, Words, IsFull, word_taken, Number, number_taken, number_then, number_read, Byte, byte_then, byte_read, NameWord, name_then, name_read}
+use Rattle.schedule_lines.proofs.Numbers.{Numbers, numbers_then, numbers_read}
 
 -- words are those of a command, and then these
 pub record Taken (words : Words) (c : Command) (rest : Words) : Type 0 where
@@ -163,3 +169,91 @@ under_read under fits full =
     let from_offset : Words = decimal under.offset ∷ from_len in
     let from_name : Words = under.name ∷ from_offset in
     rw (number_read (2 ^ 64) under.group from_name (omega arith) fits.0, name_read under.name from_offset full.1.1.0, number_read (2 ^ 64) under.offset from_len (omega arith) fits.1, number_read (2 ^ 64) under.len [] (omega arith) fits.2) refl
+
+-- ---- a point of stop
+
+pub of_read_some : {A B : Type 0} (f : A → B) (read : Option (A × Words)) (x : B × Words) → of_read f read ≡ Some x → (y : A × Words) × (read ≡ Some y) × ((f y.0, y.1) ≡ x)
+of_read_some f (Some y) x e = (y, refl, some_is (f y.0, y.1) x e)
+of_read_some f None x e = absurd cc
+
+-- which way a test went
+pub chosen : {A : Type 0} (b : Bool) (x y z : A) → cond b x y ≡ z → ((b ≡ true) × (x ≡ z)) ⊎ ((b ≡ false) × (y ≡ z))
+chosen true x y z e = inl (refl, e)
+chosen false x y z e = inr (refl, e)
+
+-- words are those behind "stop", and then these
+record StopTaken (words : Words) (stop : StopPoint) (rest : Words) : Type 0 where
+  parts : words ≡ words_of_stop stop ++ rest
+  fits : StopFits stop
+  full : AllByRecursion IsFull (words_of_stop stop)
+
+-- a point with a number of disks
+point_made : (word text : List ℕ) (words : Words) (point : ℕ → StopPoint) (x : StopPoint × Words) → bytes_eq word text ≡ true → IsFull text
+    → ((n : ℕ) → words_of_stop (point n) ≡ text ∷ decimal n ∷ []) → ((n : ℕ) → n < 2 ^ 32 → StopFits (point n)) → of_read point (number_at (2 ^ 32) words) ≡ Some x → StopTaken (word ∷ words) x.0 x.1
+point_made word text words point x same full spelled fits e =
+    let a = of_read_some point (number_at (2 ^ 32) words) x e in
+    let number = number_taken (2 ^ 32) words a.0 (omega arith) a.1 in
+    let made : StopTaken (word ∷ words) (point a.0.0) a.0.1 = record {
+      parts = ap (λ (w : List ℕ). w ∷ words) ((bytes_eq-Decides word text).0 same) ∙ onto text words _ number.word ∙ ap (λ (w : Words). w ++ a.0.1) (sym (spelled a.0.0));
+      fits = fits a.0.0 number.fits;
+      full = subst (AllByRecursion IsFull) (sym (spelled a.0.0)) (full, (number.full, tt));
+    } in
+    subst (λ (y : StopPoint × Words). StopTaken (word ∷ words) y.0 y.1) a.2 made
+
+blocks_made : (word : List ℕ) (words : Words) (x : StopPoint × Words) → bytes_eq word (codes "blocks") ≡ true → some (Blocks, words) ≡ Some x → StopTaken (word ∷ words) x.0 x.1
+blocks_made word words x same e =
+    subst (λ (y : StopPoint × Words). StopTaken (word ∷ words) y.0 y.1) (some_is (Blocks, words) x e)
+    (record { parts = ap (λ (w : List ℕ). w ∷ words) ((bytes_eq-Decides word (codes "blocks")).0 same); fits = tt; full = (lit< tt, tt) })
+
+none_is_some : {A : Type 0} (x : A) → None ≡ some x → ⊥
+none_is_some x e = cc
+
+point_taken : (word : List ℕ) (words : Words) (x : StopPoint × Words) → point_at word words ≡ Some x → StopTaken (word ∷ words) x.0 x.1
+point_taken word words x e =
+    elim (chosen (bytes_eq word (codes "blocks")) _ _ (Some x) e) [
+      | inl blocks ↦ blocks_made word words x blocks.0 blocks.1
+      | inr other ↦ elim (chosen (bytes_eq word (codes "slots")) _ _ (Some x) other.1) [
+        | inl slots ↦ point_made word (codes "slots") words Slots x slots.0 (lit< tt) (λ n. refl) (λ n small. small) slots.1
+        | inr last ↦ elim (chosen (bytes_eq word (codes "claim")) _ _ (Some x) last.1) [
+          | inl claim ↦ point_made word (codes "claim") words Claim x claim.0 (lit< tt) (λ n. refl) (λ n small. small) claim.1
+          | inr nothing ↦ absurd (none_is_some x nothing.1)
+        ]
+      ]
+    ]
+
+pub stop_taken : (words : Words) (stop : StopPoint) (rest : Words) → stop_at words ≡ Some (stop, rest) → Taken (codes "stop" ∷ words) (Stop stop) rest
+unfolding stop_at
+stop_taken words stop rest e =
+    let a = bind_some (word_at words) _ (stop, rest) e in
+    let taken = point_taken a.0.0 a.0.1 (stop, rest) a.2 in
+    record { parts = onto _ _ _ (word_taken words a.0 a.1 ∙ taken.parts); fits = taken.fits; full = (lit< tt, taken.full) }
+
+pub stop_read : (stop : StopPoint) → StopFits stop → stop_at (words_of_stop stop) ≡ Some (stop, [])
+unfolding stop_at
+stop_read Blocks fits = refl
+stop_read (Slots disks) fits = ap (of_read Slots) (number_read (2 ^ 32) disks [] (omega arith) fits)
+stop_read (Claim disks) fits = ap (of_read Claim) (number_read (2 ^ 32) disks [] (omega arith) fits)
+
+-- ---- opened again
+
+reopen_made : (words : Words) (a : ℕ × Words) (b : List ℕ × Words) → Number words 3 a → Numbers a.1 b → Taken (codes "reopen" ∷ words) (Reopen (record { rewind = a.0; absent = b.0 })) b.1
+reopen_made words a b is_rewind are_absent =
+    record {
+      parts = onto _ _ _ (is_rewind.word ∙ onto _ _ _ (are_absent.parts));
+      fits = (omega (arith, is_rewind.fits), are_absent.fits);
+      full = (lit< tt, (is_rewind.full, are_absent.full));
+    }
+
+pub reopen_taken : (words : Words) (reopen : ReopenLine) (rest : Words) → reopen_at words ≡ Some (reopen, rest) → Taken (codes "reopen" ∷ words) (Reopen reopen) rest
+unfolding reopen_at
+reopen_taken words reopen rest e =
+    let a = number_then 3 words _ (reopen, rest) (omega arith) e in
+    let b = numbers_then a.0.1 _ (reopen, rest) a.2 in
+    let same = some_is (record { rewind = a.0.0; absent = b.0.0 }, b.0.1) (reopen, rest) b.2 in
+    subst (λ (x : ReopenLine × Words). Taken (codes "reopen" ∷ words) (Reopen x.0) x.1) same (reopen_made words a.0 b.0 a.1 b.1)
+
+pub reopen_read : (reopen : ReopenLine) → NumbersFit (Reopen reopen) → reopen_at (drop 1 (words_of (Reopen reopen))) ≡ Some (reopen, [])
+unfolding reopen_at
+reopen_read reopen fits =
+    let from_absent : Words = map decimal reopen.absent in
+    rw (number_read 3 reopen.rewind from_absent (omega arith) (omega (arith, fits.0)), numbers_read reopen.absent fits.1) refl

@@ -1,5 +1,5 @@
 -- The two laws of lines: what is read is spelled so, and what is spelled so is read.
-use Rattle.std.proofs.Common.{◌≡◌, ℕ, ◌^◌, ◌⊎◌, inl, inr, Bool, true, false, cond, nat_eq, find, List, [], ◌∷◌, ◌++◌, drop, Option, Some, None, Result, Ok, Err, IfOk, codes, lit<, refl, sym, ap, subst, ◌∙◌, arith}
+use Rattle.std.proofs.Common.{◌≡◌, ℕ, ◌^◌, ◌⊎◌, inl, inr, Bool, true, false, cond, nat_eq, find, List, [], ◌∷◌, ◌++◌, drop, Option, Some, Result, Ok, Err, IfOk, codes, lit<, refl, sym, ap, subst, ◌∙◌, arith}
 use Rattle.std.specs.List.{AllByRecursion, slice_split, join_with_byte}
 use Rattle.std.specs.Fmt.{decimal}
 use Rattle.std.specs.Str.{bytes_eq}
@@ -10,21 +10,18 @@ use Rattle.std.proofs.lemmas.Slice.Eq.{bytes_eq-Decides}
 use Rattle.schedule_lines.specs.declared.command.Line.{Line}
 use Rattle.schedule_lines.specs.declared.command.Line.TheVariants.{Skipped, Command as CommandLine}
 use Rattle.schedule_lines.specs.declared.command.Command.{Command}
-use Rattle.schedule_lines.specs.declared.command.Command.TheVariants.{Pool, Hold, Release, Write, Create, Close, Quiesced, Plan, Device, Commit, Sync, Read, Under}
+use Rattle.schedule_lines.specs.declared.command.Command.TheVariants.{Pool, Hold, Release, Write, Create, Close, Quiesced, Plan, Device, Commit, Sync, Read, Under, Stop, Reopen}
+use Rattle.schedule_lines.specs.declared.command.StopPoint.TheVariants.{Blocks, Slots, Claim}
 use Rattle.schedule_lines.specs.declared.keyword.Keyword.{Keyword}
 use Rattle.schedule_lines.specs.declared.keyword.Keyword.TheVariants as keyword
 use Rattle.schedule_lines.specs.declared.refusal.Refusal.{Refusal}
 use Rattle.schedule_lines.specs.declared.refusal.Refusal.TheVariants.{Fault, NoMemory}
 use Rattle.schedule_lines.specs.Grammar.{words_of, NumbersFit, IsWord, Spells}
 use Rattle.schedule_lines.specs.Keywords.{keyword_text, keywords, keyword_of}
-use Rattle.schedule_lines.specs.Reading.{Gives, word_at, end_at, number_at, pool_at, write_at, create_at, read_at, under_at, of_read, command_at, whole_command, line_of}
+use Rattle.schedule_lines.specs.Reading.{Gives, word_at, end_at, number_at, pool_at, write_at, create_at, read_at, under_at, stop_at, reopen_at, of_read, command_at, whole_command, line_of}
 use Rattle.schedule_lines.proofs.Fields.{bind_some, some, some_is, Words, IsFull, word_taken, number_taken, number_read, Number}
-use Rattle.schedule_lines.proofs.Commands.{Taken, onto, pool_taken, pool_read, write_taken, write_read, create_taken, create_read, read_taken, read_read, under_taken, under_read}
+use Rattle.schedule_lines.proofs.Commands.{Taken, onto, pool_taken, pool_read, write_taken, write_read, create_taken, create_read, read_taken, read_read, under_taken, under_read, stop_taken, stop_read, reopen_taken, reopen_read, of_read_some, chosen}
 use Rattle.schedule_lines.proofs.Splitting.{is_space, Spaceless, split_joined, parts_spaceless}
-
-of_read_some : {A : Type 0} (f : A → Command) (read : Option (A × Words)) (x : Command × Words) → of_read f read ≡ Some x → (y : A × Words) × (read ≡ Some y) × ((f y.0, y.1) ≡ x)
-of_read_some f (Some y) x e = (y, refl, some_is (f y.0, y.1) x e)
-of_read_some f None x e = absurd cc
 
 -- ---- keywords
 
@@ -60,6 +57,8 @@ keyword_read keyword.Commit = refl
 keyword_read keyword.Sync = refl
 keyword_read keyword.Read = refl
 keyword_read keyword.Under = refl
+keyword_read keyword.Stop = refl
+keyword_read keyword.Reopen = refl
 
 -- the keyword of a command
 abbrev keyword_for : Command → Keyword
@@ -76,6 +75,8 @@ keyword_for Commit = keyword.Commit
 keyword_for Sync = keyword.Sync
 keyword_for (Read read) = keyword.Read
 keyword_for (Under under) = keyword.Under
+keyword_for (Stop stop) = keyword.Stop
+keyword_for (Reopen reopen) = keyword.Reopen
 
 words_begin : (c : Command) → words_of c ≡ keyword_text (keyword_for c) ∷ drop 1 (words_of c)
 words_begin (Pool pool) = refl
@@ -91,6 +92,8 @@ words_begin Commit = refl
 words_begin Sync = refl
 words_begin (Read read) = refl
 words_begin (Under under) = refl
+words_begin (Stop stop) = refl
+words_begin (Reopen reopen) = refl
 
 -- ---- commands
 
@@ -139,6 +142,12 @@ command_taken keyword.Read words x e =
 command_taken keyword.Under words x e =
     let a = of_read_some Under (under_at words) x e in
     subst (λ (y : Command × Words). Taken (codes "under" ∷ words) y.0 y.1) a.2 (under_taken words a.0.0 a.0.1 a.1)
+command_taken keyword.Stop words x e =
+    let a = of_read_some Stop (stop_at words) x e in
+    subst (λ (y : Command × Words). Taken (codes "stop" ∷ words) y.0 y.1) a.2 (stop_taken words a.0.0 a.0.1 a.1)
+command_taken keyword.Reopen words x e =
+    let a = of_read_some Reopen (reopen_at words) x e in
+    subst (λ (y : Command × Words). Taken (codes "reopen" ∷ words) y.0 y.1) a.2 (reopen_taken words a.0.0 a.0.1 a.1)
 
 command_read : (c : Command) → NumbersFit c → AllByRecursion IsFull (words_of c) → command_at (keyword_for c) (drop 1 (words_of c)) ≡ Some (c, [])
 unfolding command_at
@@ -155,6 +164,8 @@ command_read Commit fits full = refl
 command_read Sync fits full = refl
 command_read (Read read) fits full = ap (of_read Read) (read_read read fits full)
 command_read (Under under) fits full = ap (of_read Under) (under_read under fits full)
+command_read (Stop stop) fits full = ap (of_read Stop) (stop_read stop fits)
+command_read (Reopen reopen) fits full = ap (of_read Reopen) (reopen_read reopen fits)
 
 end_taken : (words : Words) (x : Unit {0}) → end_at words ≡ Some x → words ≡ []
 end_taken [] x e = refl
@@ -196,11 +207,6 @@ command_spelled bytes c taken =
     let spaceless : AllByRecursion Spaceless (words_of c) = subst (AllByRecursion Spaceless) words (parts_spaceless bytes) in
     (record { words = both_by_recursion (words_of c) taken.full spaceless; numbers = taken.fits }, sym (join_with_byte-slice_split 32 bytes) ∙ ap (join_with_byte 32) words)
 
--- which way a test went
-chosen : {A : Type 0} (b : Bool) (x y z : A) → cond b x y ≡ z → ((b ≡ true) × (x ≡ z)) ⊎ ((b ≡ false) × (y ≡ z))
-chosen true x y z e = inl (refl, e)
-chosen false x y z e = inr (refl, e)
-
 pub line_spelled : (bytes : List ℕ) (line : Line) → line_of bytes ≡ Some line → Spells line bytes
 unfolding line_of
 line_spelled [] line e = subst (λ (l : Line). Spells l []) (some_is Skipped line e) tt
@@ -231,6 +237,10 @@ command_line Commit = refl
 command_line Sync = refl
 command_line (Read read) = refl
 command_line (Under under) = refl
+command_line (Stop Blocks) = refl
+command_line (Stop (Slots disks)) = refl
+command_line (Stop (Claim disks)) = refl
+command_line (Reopen reopen) = refl
 
 pub line_read : (line : Line) (bytes : List ℕ) → Spells line bytes → line_of bytes ≡ Some line
 unfolding line_of

@@ -1,11 +1,12 @@
 -- Lists of words, cut at spaces and joined by them.
-use Rattle.std.proofs.Common.{◌≡◌, ◌≢◌, ℕ, ◌+◌, Bool, true, false, cond, nat_lt, nat_eq, List, [], ◌∷◌, ◌++◌, length, take, drop, Some, None, refl, ap, subst, ◌∙◌, arith}
+use Rattle.std.proofs.Common.{◌≡◌, ◌≢◌, ℕ, ◌+◌, Bool, true, false, cond, not, nat_lt, nat_eq, List, [], ◌∷◌, ◌++◌, length, take, drop, Option, Some, None, is_some, Bor, IsTrue, ◌↔◌, refl, sym, ap, subst, ◌∙◌, arith}
 use Rattle.std.specs.List.{AllByRecursion, slice_split, onto_first, join_with_byte, position, position_or_len}
+use Rattle.std.specs.Option.{option_copied}
 use Rattle.std.proofs.lemmas.Bool.{ltb-true, ltb-false}
 use Rattle.std.proofs.lemmas.Grind.{common_steps}
 use Rattle.std.proofs.lemmas.List.Splits.{slice_split_first, slice_split_none}
 use Rattle.std.proofs.lemmas.List.Sums.{fails_before_first}
-use Rattle.schedule_lines.specs.Reading.{end_at}
+use Rattle.schedule_lines.specs.Reading.{words_left, end_at}
 
 abbrev pub is_space : ℕ → Bool
 is_space b = nat_eq b 32
@@ -22,6 +23,13 @@ unended false b ws (v ∷ vs) = refl
 pub some_word_left : (bytes : List ℕ) → end_at (slice_split is_space bytes) ≡ None
 some_word_left [] = refl
 some_word_left (b ∷ bytes) = unended (is_space b) b (slice_split is_space bytes) (slice_split is_space bytes)
+
+-- words are left behind the last one that was taken, or none are
+pub none_left : (rest : Option (Bor (List ℕ))) (done : Bool) (words : List (List ℕ)) → is_some rest ≡ not done → words_left (option_copied rest) ≡ words → IsTrue done ↔ (words ≡ [])
+none_left None true words tested e = ((λ is. sym e), (λ none. refl))
+none_left None false words tested e = absurd cc
+none_left (Some bytes) true words tested e = absurd cc
+none_left (Some bytes) false words tested e = ((λ is. absurd cc), (λ none. let first = some_word_left bytes.now in let same = ap end_at (e ∙ none) in absurd cc))
 
 -- ---- one word cut off
 

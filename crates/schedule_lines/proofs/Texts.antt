@@ -47,10 +47,10 @@ unfolding number_of
 number_none limit word none = if_text_none decimal limit word (digits_value 10 word) none
 
 -- a number that fits less is a number
-pub smaller_some : (n : ℕ) (word : List ℕ) → number_of (2 ^ 64) word ≡ Some n → n < 2 ^ 32 → Some n ≡ number_of (2 ^ 32) word
-smaller_some n word e small =
+pub smaller_some : (limit n : ℕ) (word : List ℕ) → number_of (2 ^ 64) word ≡ Some n → n < limit → Some n ≡ number_of limit word
+smaller_some limit n word e small =
     let s = number_some (2 ^ 64) word n e in
-    sym (ap (number_of (2 ^ 32)) s.0 ∙ number_again (2 ^ 32) n small s.1)
+    sym (ap (number_of limit) s.0 ∙ number_again limit n small s.1)
 
 -- ---- bytes
 
@@ -98,22 +98,22 @@ not_printed word text r n same parsed ok spelled tested other = number_none (2 ^
     let yes = (bytes_eq-Decides text word).1 (spelled ∙ ap decimal number ∙ sym e) in
     cc)
 
-pub larger_none : (word : List ℕ) → number_of (2 ^ 64) word ≡ None → None ≡ number_of (2 ^ 32) word
-larger_none word none = number_none (2 ^ 32) word (λ m small e.
+pub larger_none : (limit : ℕ) (word : List ℕ) → limit ≤ 2 ^ 64 → number_of (2 ^ 64) word ≡ None → None ≡ number_of limit word
+larger_none limit word below none = number_none limit word (λ m small e.
     let wide : m < 2 ^ 64 = omega arith in
     let read = ap (number_of (2 ^ 64)) e ∙ number_again (2 ^ 64) m wide wide in
     cc)
 
-pub too_large : (word : List ℕ) (n : ℕ) → number_of (2 ^ 64) word ≡ Some n → 2 ^ 32 ≤ n → None ≡ number_of (2 ^ 32) word
-too_large word n e large = number_none (2 ^ 32) word (λ m small spelled.
+pub too_large : (limit : ℕ) (word : List ℕ) (n : ℕ) → limit ≤ 2 ^ 64 → number_of (2 ^ 64) word ≡ Some n → limit ≤ n → None ≡ number_of limit word
+too_large limit word n below e large = number_none limit word (λ m small spelled.
     let wide : m < 2 ^ 64 = omega arith in
     let read = ap (number_of (2 ^ 64)) spelled ∙ number_again (2 ^ 64) m wide wide in
     let same : n ≡ m = cc in
     omega arith)
 
 pub narrowed : {E : Type 0} (word : List ℕ) (n : ℕ) (r : Result ℕ E) → number_of (2 ^ 64) word ≡ Some n → OkIff r (n < 2 ^ 32) n → result_ok r ≡ number_of (2 ^ 32) word
-narrowed word n (Ok m) e h = ap (λ (k : ℕ). Some k) h.1 ∙ smaller_some n word e h.0
-narrowed word n (Err x) e h = too_large word n e (omega (arith, h))
+narrowed word n (Ok m) e h = ap (λ (k : ℕ). Some k) h.1 ∙ smaller_some (2 ^ 32) n word e h.0
+narrowed word n (Err x) e h = too_large (2 ^ 32) word n (omega arith) e (omega (arith, h))
 
 pub two_digits : (word : List ℕ) (high low : ℕ) → length word ≡ 2 → get_or word 0 0 ≡ digit_glyph false high → get_or word 1 0 ≡ digit_glyph false low → high < 16 → low < 16 → Some (16 * high + low) ≡ byte_of word
 two_digits word high low two first second above below =

@@ -1,12 +1,20 @@
 -- Which bytes spell which line.
-use Rattle.std.specs.Prelude.{◌≡◌, ◌≢◌, ℕ, ◌^◌, ◌<◌, List, [], ◌∷◌, length, codes}
+use Rattle.std.specs.Prelude.{◌≡◌, ◌≢◌, ℕ, ◌^◌, ◌<◌, ◌≤◌, List, [], ◌∷◌, length, map, codes}
 use Rattle.std.specs.List.{AllByRecursion, join_with_byte}
 use Rattle.std.specs.Fmt.{decimal}
 use Rattle.schedule_lines.specs.declared.command.Line.{Line}
 use Rattle.schedule_lines.specs.declared.command.Line.TheVariants.{Skipped, Command as CommandLine}
 use Rattle.schedule_lines.specs.declared.command.Command.{Command}
-use Rattle.schedule_lines.specs.declared.command.Command.TheVariants.{Pool, Hold, Release, Write, Create, Close, Quiesced, Plan, Device, Commit, Sync, Read, Under}
+use Rattle.schedule_lines.specs.declared.command.Command.TheVariants.{Pool, Hold, Release, Write, Create, Close, Quiesced, Plan, Device, Commit, Sync, Read, Under, Stop, Reopen}
+use Rattle.schedule_lines.specs.declared.command.StopPoint.{StopPoint}
+use Rattle.schedule_lines.specs.declared.command.StopPoint.TheVariants.{Blocks, Slots, Claim}
 use Rattle.schedule_lines.specs.Hexadecimal.{byte_text}
+
+-- the words behind "stop"
+abbrev pub words_of_stop : StopPoint → List (List ℕ)
+words_of_stop Blocks = codes "blocks" ∷ []
+words_of_stop (Slots disks) = codes "slots" ∷ decimal disks ∷ []
+words_of_stop (Claim disks) = codes "claim" ∷ decimal disks ∷ []
 
 -- the words of a command
 abbrev pub words_of : Command → List (List ℕ)
@@ -23,12 +31,20 @@ words_of Commit = codes "commit" ∷ []
 words_of Sync = codes "sync" ∷ []
 words_of (Read r) = codes "read" ∷ r.name ∷ decimal r.offset ∷ decimal r.len ∷ []
 words_of (Under u) = codes "under" ∷ decimal u.group ∷ u.name ∷ decimal u.offset ∷ decimal u.len ∷ []
+words_of (Stop stop) = codes "stop" ∷ words_of_stop stop
+words_of (Reopen r) = codes "reopen" ∷ decimal r.rewind ∷ map decimal r.absent
 
 -- one byte or more, and no space
 abbrev pub IsWord : List ℕ → Type 0
 IsWord word = (0 < length word) × AllByRecursion (λ b. b ≢ 32) word
 
--- the numbers of a command fit their types
+-- the number of disks fits its type
+abbrev pub StopFits : StopPoint → Type 0
+StopFits Blocks = Unit {0}
+StopFits (Slots disks) = disks < 2 ^ 32
+StopFits (Claim disks) = disks < 2 ^ 32
+
+-- the numbers of a command fit their types, and an open goes back 0, 1 or 2 groups
 abbrev pub NumbersFit : Command → Type 0
 NumbersFit (Pool p) = (p.parities < 2 ^ 32) × (p.disks < 2 ^ 32) × (p.bytes < 2 ^ 64) × (p.metaslab_shift < 2 ^ 32) × (p.meta_metaslabs < 2 ^ 32)
 NumbersFit (Hold writer) = writer < 2 ^ 32
@@ -43,6 +59,8 @@ NumbersFit Commit = Unit {0}
 NumbersFit Sync = Unit {0}
 NumbersFit (Read r) = (r.offset < 2 ^ 64) × (r.len < 2 ^ 64)
 NumbersFit (Under u) = (u.group < 2 ^ 64) × (u.offset < 2 ^ 64) × (u.len < 2 ^ 64)
+NumbersFit (Stop stop) = StopFits stop
+NumbersFit (Reopen r) = (r.rewind ≤ 2) × AllByRecursion (λ disk. disk < 2 ^ 32) r.absent
 
 -- a command that a line can say
 pub record IsSayable (c : Command) : Type 0 where

@@ -1,5 +1,5 @@
 -- Reading as functions on lists of words: what stands at the front, and the words after it.
-use Rattle.std.specs.Prelude.{◌≡◌, ℕ, ◌^◌, ◌==◌, ◌&&◌, nat_lt, List, [], ◌∷◌, length, Option, Some, None, option_map, Result, Ok, Err, if◌then◌else◌}
+use Rattle.std.specs.Prelude.{◌≡◌, ℕ, ◌^◌, ◌==◌, ◌&&◌, nat_lt, List, [], ◌∷◌, length, Option, Some, None, option_map, codes, Result, Ok, Err, if◌then◌else◌}
 use Rattle.std.specs.List.{slice_split}
 use Rattle.std.specs.Fmt.{decimal}
 use Rattle.std.specs.Str.{bytes_eq}
@@ -9,12 +9,15 @@ use Rattle.schedule_lines.specs.declared.refusal.Refusal.TheVariants.{Fault, NoM
 use Rattle.schedule_lines.specs.declared.command.Line.{Line}
 use Rattle.schedule_lines.specs.declared.command.Line.TheVariants.{Skipped, Command as CommandLine}
 use Rattle.schedule_lines.specs.declared.command.Command.{Command}
-use Rattle.schedule_lines.specs.declared.command.Command.TheVariants.{Pool, Hold, Release, Write, Create, Close, Quiesced, Plan, Device, Commit, Sync, Read, Under}
+use Rattle.schedule_lines.specs.declared.command.Command.TheVariants.{Pool, Hold, Release, Write, Create, Close, Quiesced, Plan, Device, Commit, Sync, Read, Under, Stop, Reopen}
+use Rattle.schedule_lines.specs.declared.command.StopPoint.{StopPoint}
+use Rattle.schedule_lines.specs.declared.command.StopPoint.TheVariants.{Blocks, Slots, Claim}
 use Rattle.schedule_lines.specs.declared.command.PoolLine.{PoolLine}
 use Rattle.schedule_lines.specs.declared.command.WriteLine.{WriteLine}
 use Rattle.schedule_lines.specs.declared.command.CreateLine.{CreateLine}
 use Rattle.schedule_lines.specs.declared.command.ReadLine.{ReadLine}
 use Rattle.schedule_lines.specs.declared.command.UnderLine.{UnderLine}
+use Rattle.schedule_lines.specs.declared.command.ReopenLine.{ReopenLine}
 use Rattle.schedule_lines.specs.declared.keyword.Keyword.{Keyword}
 use Rattle.schedule_lines.specs.declared.keyword.Keyword.TheVariants as keyword
 use Rattle.schedule_lines.specs.Hexadecimal.{byte_text}
@@ -112,8 +115,39 @@ under_at words = do
   len ← number_at (2 ^ 64) offset.1
   Some (record { group = group.0; name = name.0; offset = offset.0; len = len.0 }, len.1)
 
-abbrev pub of_read : {A : Type 0} → (A → Command) → Option (A × List (List ℕ)) → Option (Command × List (List ℕ))
+abbrev pub of_read : {A B : Type 0} → (A → B) → Option (A × List (List ℕ)) → Option (B × List (List ℕ))
 of_read f read = option_map (λ x. (f x.0, x.1)) read
+
+-- the arguments behind the word that names a point
+abbrev pub point_at : List ℕ → Parse StopPoint
+point_at word words =
+    if bytes_eq word (codes "blocks") then Some (Blocks, words)
+    else (if bytes_eq word (codes "slots") then of_read Slots (number_at (2 ^ 32) words)
+    else (if bytes_eq word (codes "claim") then of_read Claim (number_at (2 ^ 32) words)
+    else None))
+
+unfoldable pub stop_at : Parse StopPoint
+stop_at words = do
+  word ← word_at words
+  point_at word.0 word.1
+
+-- the numbers that all words spell
+abbrev pub numbers_of : List (List ℕ) → Option (List ℕ)
+numbers_of [] = Some []
+numbers_of (word ∷ words) = do
+  number ← number_of (2 ^ 32) word
+  numbers ← numbers_of words
+  Some (number ∷ numbers)
+
+-- all words that are left
+unfoldable pub numbers_at : Parse (List ℕ)
+numbers_at words = option_map (λ numbers. (numbers, [])) (numbers_of words)
+
+unfoldable pub reopen_at : Parse ReopenLine
+reopen_at words = do
+  rewind ← number_at 3 words
+  absent ← numbers_at rewind.1
+  Some (record { rewind = rewind.0; absent = absent.0 }, absent.1)
 
 -- the arguments behind a keyword
 unfoldable pub command_at : Keyword → Parse Command
@@ -130,6 +164,8 @@ command_at keyword.Commit words = Some (Commit, words)
 command_at keyword.Sync words = Some (Sync, words)
 command_at keyword.Read words = of_read Read (read_at words)
 command_at keyword.Under words = of_read Under (under_at words)
+command_at keyword.Stop words = of_read Stop (stop_at words)
+command_at keyword.Reopen words = of_read Reopen (reopen_at words)
 
 unfoldable pub whole_command : List (List ℕ) → Option Line
 whole_command words = do

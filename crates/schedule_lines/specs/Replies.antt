@@ -26,6 +26,16 @@ argument_text _ = []
 abbrev pub refusal_text : Refusal → List ℕ
 refusal_text refusal = codes "refused " ++ (decimal (number_of_cause refusal) ++ (32 ∷ (name_of_cause refusal ++ argument_text refusal)))
 
+-- these bytes, the number of a group, and that of a claim
+abbrev pub group_and_claim : List ℕ → ℕ → ℕ → List ℕ
+group_and_claim front group claim = front ++ (decimal group ++ (codes " claim " ++ decimal claim))
+
+abbrev pub opened_text : ℕ → ℕ → List ℕ
+opened_text group claim = group_and_claim (codes "opened ") group claim
+
+abbrev pub made_text : ℕ → ℕ → List ℕ
+made_text group claim = group_and_claim (codes "pool ") group claim
+
 abbrev pub IsReplyText : Reply → List ℕ → Type 0
 IsReplyText (Held group) text = text ≡ codes "held " ++ decimal group
 IsReplyText (Receipt group) text = text ≡ codes "receipt " ++ decimal group

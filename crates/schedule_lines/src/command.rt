@@ -1,4 +1,5 @@
 //! What the lines of a schedule say.
+use crate::disk_numbers::DiskNumbers;
 use pool_model::Name;
 
 /// A line of a schedule.
@@ -25,6 +26,10 @@ pub enum Command {
     Sync,
     Read(ReadLine),
     Under(UnderLine),
+    /// Says where the next commit stops, or the next reopening.
+    Stop(StopPoint),
+    /// Opens the disks again.
+    Reopen(ReopenLine),
 }
 
 /// A pool over disks in memory.
@@ -87,4 +92,25 @@ pub struct UnderLine {
     pub offset: u64,
     /// In bytes.
     pub len: u64,
+}
+
+/// Where a commit or a reopening stops: what the disks hold then.
+#[derive(Clone, Copy, Debug, PartialEq, Eq)]
+pub enum StopPoint {
+    /// All blocks are written and flushed, and no slot is.
+    Blocks,
+    /// As many disks from the first on hold the new slot whole, the others their old bytes.
+    Slots { disks: u32 },
+    /// The claim's label is flushed on each present disk. As many of these from the first on hold the claimed slot in
+    /// labels 0 and 2, flushed.
+    Claim { disks: u32 },
+}
+
+/// Disks that are opened again.
+#[derive(Debug, Drop)]
+pub struct ReopenLine {
+    /// How many groups it goes back: 0, 1 or 2.
+    pub rewind: u64,
+    /// The disks that are left out, in the order of the line.
+    pub absent: DiskNumbers,
 }

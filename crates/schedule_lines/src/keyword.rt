@@ -18,10 +18,12 @@ pub(crate) enum Keyword {
     Sync,
     Read,
     Under,
+    Stop,
+    Reopen,
 }
 
 impl Keyword {
-    const ALL: [Keyword; 13] = [
+    const ALL: [Keyword; 15] = [
         Keyword::Pool,
         Keyword::Hold,
         Keyword::Release,
@@ -35,6 +37,8 @@ impl Keyword {
         Keyword::Sync,
         Keyword::Read,
         Keyword::Under,
+        Keyword::Stop,
+        Keyword::Reopen,
     ];
 
     fn text(&self) -> &'static str
@@ -54,6 +58,8 @@ impl Keyword {
             Keyword::Sync => "sync",
             Keyword::Read => "read",
             Keyword::Under => "under",
+            Keyword::Stop => "stop",
+            Keyword::Reopen => "reopen",
         }
     }
 

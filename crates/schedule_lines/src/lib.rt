@@ -2,6 +2,7 @@
 #![tactic(auto)]
 
 mod command;
+mod disk_numbers;
 mod equal_bytes;
 mod keyword;
 mod laws;
@@ -11,9 +12,12 @@ mod refusal;
 mod reply;
 mod words;
 
-pub use command::{Command, CreateLine, Line, PoolLine, ReadLine, UnderLine, WriteLine};
+pub use command::{
+    Command, CreateLine, Line, PoolLine, ReadLine, ReopenLine, StopPoint, UnderLine, WriteLine,
+};
+pub use disk_numbers::DiskNumbers;
 pub use equal_bytes::{Run, runs, runs_text};
 pub use laws::{bytes_have_one_list_of_runs, bytes_spell_one_line};
 pub use reading::parse;
 pub use refusal::Refusal;
-pub use reply::reply_text;
+pub use reply::{made_text, opened_text, reply_text};

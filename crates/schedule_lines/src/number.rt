@@ -31,6 +31,16 @@ pub(crate) fn number32(word: &[u8]) -> Option<u32>
     u32::try_from(number).ok()
 }
 
+/// How many groups an open goes back.
+pub(crate) fn rewind(word: &[u8]) -> Option<u64>
+    ensures { result ≡ number_of 3 word.now }
+{
+    let Some(number) = number64(word) else {
+        return None;
+    };
+    if number < 3 { Some(number) } else { None }
+}
+
 /// The value of a hexadecimal digit, lower case.
 fn hexadecimal(digit: u8) -> Option<u8>
     ensures { MatchOption result ((d : ℕ) → d < 16 → digit ≢ digit_glyph false d)

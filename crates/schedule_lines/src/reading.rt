@@ -2,9 +2,12 @@
 ghost use Rattle.std.specs.Prelude.{◌≡◌, ◌⊎◌, List, ℕ, IfOk, Ok, Err};
 ghost use Rattle.schedule_lines.specs.declared.command.Line.{Line};
 ghost use Rattle.schedule_lines.specs.Grammar.{Spells};
-ghost use Rattle.schedule_lines.specs.Reading.{Gives, pool_at, write_at, create_at, read_at, under_at, command_at, line_of};
+ghost use Rattle.schedule_lines.specs.Reading.{Gives, pool_at, write_at, create_at, read_at, under_at, stop_at, numbers_at, reopen_at, command_at, line_of};
 
-use crate::command::{Command, CreateLine, Line, PoolLine, ReadLine, UnderLine, WriteLine};
+use crate::command::{
+    Command, CreateLine, Line, PoolLine, ReadLine, ReopenLine, StopPoint, UnderLine, WriteLine,
+};
+use crate::disk_numbers::DiskNumbers;
 use crate::keyword::Keyword;
 use crate::refusal::Refusal;
 use crate::words::Words;
@@ -73,6 +76,47 @@ fn under(alloc: Global, words: &mut Words) -> Result<UnderLine, Refusal>
     })
 }
 
+#[tactic(auto, unfolding(crate::specs::Reading::stop_at))]
+fn stop(words: &mut Words) -> Result<StopPoint, Refusal>
+    ensures { Gives (λ stop. (stop, words.new)) result (stop_at words.old) }
+{
+    let word = words.word()?;
+    if word == b"blocks".as_slice() {
+        Ok(StopPoint::Blocks)
+    } else if word == b"slots".as_slice() {
+        Ok(StopPoint::Slots {
+            disks: words.number32()?,
+        })
+    } else if word == b"claim".as_slice() {
+        Ok(StopPoint::Claim {
+            disks: words.number32()?,
+        })
+    } else {
+        Err(Refusal::Fault)
+    }
+}
+
+/// All numbers that are left.
+fn numbers(alloc: Global, words: &mut Words) -> Result<Vec<u32>, Refusal>
+    ensures { Gives (λ numbers. (numbers.items, words.new)) result (numbers_at words.old) }
+{
+    let mut numbers = Vec::new(alloc);
+    while !words.is_done() {
+        numbers.push(words.number32()?)?;
+    }
+    Ok(numbers)
+}
+
+#[tactic(auto, unfolding(crate::specs::Reading::reopen_at))]
+fn reopen(alloc: Global, words: &mut Words) -> Result<ReopenLine, Refusal>
+    ensures { Gives (λ reopen. (reopen, words.new)) result (reopen_at words.old) }
+{
+    Ok(ReopenLine {
+        rewind: words.rewind()?,
+        absent: DiskNumbers::new(numbers(alloc, words)?),
+    })
+}
+
 /// The command of a keyword, from the words behind it.
 #[tactic(auto, unfolding(crate::specs::Reading::command_at))]
 fn command(alloc: Global, keyword: Keyword, words: &mut Words) -> Result<Command, Refusal>
@@ -96,6 +140,8 @@ fn command(alloc: Global, keyword: Keyword, words: &mut Words) -> Result<Command
         Keyword::Sync => Command::Sync,
         Keyword::Read => Command::Read(read(alloc, words)?),
         Keyword::Under => Command::Under(under(alloc, words)?),
+        Keyword::Stop => Command::Stop(stop(words)?),
+        Keyword::Reopen => Command::Reopen(reopen(alloc, words)?),
     })
 }
 

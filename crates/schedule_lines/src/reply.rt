@@ -1,6 +1,6 @@
 //! The texts of replies.
 ghost use Rattle.std.specs.Prelude.{◌≡◌, IfOk, string_bytes};
-ghost use Rattle.schedule_lines.specs.Replies.{IsReplyText, phase_text, refusal_text};
+ghost use Rattle.schedule_lines.specs.Replies.{IsReplyText, made_text, opened_text, phase_text, refusal_text};
 
 use crate::equal_bytes::runs_text;
 use pool_model::{Phase, Refusal, Reply};
@@ -50,4 +50,18 @@ pub fn reply_text(alloc: Global, reply: &Reply) -> Result<String, AllocError>
         Reply::Bytes(bytes) => runs_text(alloc, bytes.as_slice()),
         Reply::Refused(refusal) => refusal_text(alloc, refusal),
     }
+}
+
+/// What is printed of a pool that was opened again: the group that it stands at, and its claim.
+pub fn opened_text(alloc: Global, group: u64, claim: u64) -> Result<String, AllocError>
+    ensures { IfOk result (λ text. string_bytes text ≡ opened_text group claim) }
+{
+    format!(in alloc; "opened {group} claim {claim}")
+}
+
+/// What is printed of a new pool: its first group, and its claim.
+pub fn made_text(alloc: Global, group: u64, claim: u64) -> Result<String, AllocError>
+    ensures { IfOk result (λ text. string_bytes text ≡ made_text group claim) }
+{
+    format!(in alloc; "pool {group} claim {claim}")
 }

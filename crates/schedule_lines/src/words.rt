@@ -1,10 +1,10 @@
 //! The words of a line, one after another.
-ghost use Rattle.std.specs.Prelude.{◌≡◌, ◌==◌, ◌^◌, ◌∷◌, position};
+ghost use Rattle.std.specs.Prelude.{◌≡◌, ◌↔◌, ◌==◌, ◌^◌, [], ◌∷◌, IsTrue, position};
 ghost use Rattle.std.specs.Option.{option_copied};
 ghost use Rattle.std.specs.List.{slice_split};
 ghost use Rattle.schedule_lines.specs.Reading.{Gives, words_left, word_at, number_at, byte_at, name_at, end_at};
 
-use crate::number::{byte, number32, number64};
+use crate::number::{byte, number32, number64, rewind};
 use crate::refusal::Refusal;
 use pool_model::Name;
 use std::alloc::Global;
@@ -76,6 +76,14 @@ impl<'a> Words<'a> {
         number64(self.word()?).ok_or(Refusal::Fault)
     }
 
+    /// How many groups an open goes back.
+    #[tactic(auto, unfolding(crate::specs::Reading::number_at))]
+    pub(crate) fn rewind(&mut self) -> Result<u64, Refusal>
+        ensures { Gives (λ n. (n, self.new)) result (number_at 3 self.old) }
+    {
+        rewind(self.word()?).ok_or(Refusal::Fault)
+    }
+
     #[tactic(auto, unfolding(crate::specs::Reading::byte_at))]
     pub(crate) fn byte(&mut self) -> Result<u8, Refusal>
         ensures { Gives (λ b. (b, self.new)) result (byte_at self.old) }
@@ -93,6 +101,13 @@ impl<'a> Words<'a> {
             return Err(Refusal::Fault);
         }
         Ok(Name::new(Vec::from_slice(alloc, word)?))
+    }
+
+    /// Whether no word is left.
+    pub(crate) fn is_done(&self) -> bool
+        ensures { IsTrue result ↔ (self.now ≡ []) }
+    {
+        self.rest.is_none()
     }
 
     /// The end of the line.
