@@ -9,12 +9,12 @@ use Rattle.pool_model.specs.declared.step.Reply.{Reply}
 use Rattle.schedule_lines.specs.declared.command.Line.{Line}
 use Rattle.schedule_lines.specs.declared.command.Line.TheVariants.{Skipped, Command as CommandLine}
 use Rattle.schedule_lines.specs.declared.command.Command.{Command}
-use Rattle.schedule_lines.specs.declared.command.Command.TheVariants.{Pool, Hold, Release, Write as WriteCommand, Create, Close, Quiesced, Plan, Device, Commit, Sync, Read, Under}
+use Rattle.schedule_lines.specs.declared.command.Command.TheVariants.{Pool, Hold, Release, Write as WriteCommand, Create, Close, Quiesced, Plan, Device, Commit, Sync, Read, Under, Stop, Reopen}
 use Rattle.schedule_lines.specs.declared.command.PoolLine.{PoolLine}
 use Rattle.schedule_lines.specs.Replies.{IsReplyText, refusal_text}
 use Rattle.programs.specs.declared.refusal.Refusal.{Refusal}
 use Rattle.programs.specs.declared.refusal.Refusal.TheVariants.{Line as LineFault, Input, Output, Memory}
-use Rattle.programs.specs.Answers.{Answers, IsFirst}
+use Rattle.programs.specs.Answers.{Answers, IsFirst, IsNoStep}
 use Rattle.programs.specs.Faults.{counted, SpellsNothing, NextIs, Skips, ReadsCommand, IsLineFault, IsNextFault, IsNoLine, StopsPool, IsPoolFault, CannotStand, StopsAtLine, IsFaultOf}
 use Rattle.programs.specs.Plays.{Plays, Prints, AnswersAll}
 use Rattle.programs.specs.Reads.{ReadsLines, Reads, IsSchedule, commands_of}
@@ -76,6 +76,8 @@ not_first Commit other first = first
 not_first Sync other first = first
 not_first (Read line) other first = first
 not_first (Under line) other first = first
+not_first (Stop point) other first = first
+not_first (Reopen line) other first = first
 
 -- what an error is passed on for
 pub passed_on : {T E : Type 0} (result : Result T E) (refusal : E) (P : E → Type 0) → IsErrAnd result (λ e. e ≡ refusal) → P refusal → IfErr result P
@@ -145,12 +147,12 @@ module _ {M : Type 0} (Steps : M → Step → Reply → M → Type 0) where
   ran_fault pool input k old last rest n new Output ran fault = tt
   ran_fault pool input k old last rest n new Memory ran fault = tt
 
-  -- another pool is asked for
+  -- a command that is no step of a pool
   pub ran_misplaced : (pool : M) (input : Option (List ℕ)) (k : ℕ) (old : Option (List ℕ)) (last : M) (rest behind : Option (List ℕ)) (n j : ℕ) (new : Option (List ℕ)) (command : Command)
-      → RanSoFar pool input k old last rest n new → ReadsCommand rest n command behind j → IsFirst command → StopsPool Steps pool input k old new j
-  ran_misplaced pool input k old last rest behind n j new command ran found first =
+      → RanSoFar pool input k old last rest n new → ReadsCommand rest n command behind j → IsNoStep command → StopsPool Steps pool input k old new j
+  ran_misplaced pool input k old last rest behind n j new command ran found none =
       let upto = ran_skips pool input k old last rest found.0 n found.1 new ran found.2 in
-      record { lines = upto.lines; rest = found.0; text = upto.text; last = last; read = upto.read; number = omega (arith, upto.number, found.4); plays = upto.plays; appends = upto.appends; cause = inr (command, (behind, found.3), first) }
+      record { lines = upto.lines; rest = found.0; text = upto.text; last = last; read = upto.read; number = omega (arith, upto.number, found.4); plays = upto.plays; appends = upto.appends; cause = inr (command, (behind, found.3), none) }
 
   pub no_pool_line : (pool : M) (input : Option (List ℕ)) (k : ℕ) (old new : Option (List ℕ)) (cause : Refusal) → IsNoLine cause → IsPoolFault Steps pool input k old new cause
   no_pool_line pool input k old new (LineFault n) none = absurd none
@@ -160,9 +162,9 @@ module _ {M : Type 0} (Steps : M → Step → Reply → M → Type 0) where
 
 -- ---- a whole schedule
 
-cannot_stand : (Refuses : PoolLine → Cause → Type 0) (line : PoolLine) (commands : List Command) (text : List ℕ) (command : Command) → IsFirst command → CannotStand Refuses (Pool line ∷ commands) text command
-cannot_stand Refuses line [] text command first = inl first
-cannot_stand Refuses line (other ∷ commands) text command first = first
+cannot_stand : (Refuses : PoolLine → Cause → Type 0) (line : PoolLine) (commands : List Command) (text : List ℕ) (command : Command) → IsNoStep command → CannotStand Refuses (Pool line ∷ commands) text command
+cannot_stand Refuses line [] text command none = inl none
+cannot_stand Refuses line (other ∷ commands) text command none = none
 
 module _ {M : Type 0} (Creates : PoolLine → M → Type 0) (Refuses : PoolLine → Cause → Type 0) (Steps : M → Step → Reply → M → Type 0) where
   pub no_line : (input old new : Option (List ℕ)) (cause : Refusal) → IsNoLine cause → IsFaultOf Creates Refuses Steps input old new cause

@@ -8,7 +8,7 @@ use Rattle.pool_model.specs.declared.step.Step.TheVariants as step
 use Rattle.pool_model.specs.declared.step.Reply.{Reply}
 use Rattle.pool_model.specs.declared.step.Reply.TheVariants as reply
 use Rattle.schedule_lines.specs.declared.command.Command.{Command}
-use Rattle.schedule_lines.specs.declared.command.Command.TheVariants.{Pool, Hold, Release, Write as WriteCommand, Create, Close, Quiesced, Plan, Device, Commit, Sync, Read, Under}
+use Rattle.schedule_lines.specs.declared.command.Command.TheVariants.{Pool, Hold, Release, Write as WriteCommand, Create, Close, Quiesced, Plan, Device, Commit, Sync, Read, Under, Stop, Reopen}
 use Rattle.schedule_lines.specs.declared.command.WriteLine.{WriteLine}
 use Rattle.schedule_lines.specs.declared.command.CreateLine.{CreateLine}
 use Rattle.programs.specs.Lengths.{StandsFor}
@@ -36,6 +36,8 @@ Begins Commit s = s ≡ step.Plan 0
 Begins Sync s = s ≡ step.Close
 Begins (Read line) s = s ≡ step.Read line.name line.offset line.len
 Begins (Under line) s = s ≡ step.ReadUnder line.group line.name line.offset line.len
+Begins (Stop point) s = ⊥
+Begins (Reopen line) s = ⊥
 
 -- the step that brings a group on after this reply, unless it is committed or refused
 abbrev pub next_of : Reply → Option Step
@@ -73,3 +75,10 @@ Answers Steps old command last new = (s : Step) × Begins command s × Goes Step
 abbrev pub IsFirst : Command → Type 0
 IsFirst (Pool line) = Unit {0}
 IsFirst _ = ⊥
+
+-- a command that is no step of a pool
+abbrev pub IsNoStep : Command → Type 0
+IsNoStep (Pool line) = Unit {0}
+IsNoStep (Stop point) = Unit {0}
+IsNoStep (Reopen line) = Unit {0}
+IsNoStep _ = ⊥

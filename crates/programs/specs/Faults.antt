@@ -16,7 +16,7 @@ use Rattle.programs.specs.declared.refusal.Refusal.{Refusal}
 use Rattle.programs.specs.declared.refusal.Refusal.TheVariants.{Line as LineFault}
 use Rattle.programs.specs.declared.status.ExitStatus.{ExitStatus}
 use Rattle.programs.specs.declared.status.ExitStatus.TheVariants.{Done, Fault}
-use Rattle.programs.specs.Answers.{IsFirst}
+use Rattle.programs.specs.Answers.{IsFirst, IsNoStep}
 use Rattle.programs.specs.Plays.{Plays, Prints, RunsSchedule}
 use Rattle.programs.specs.Reads.{ReadsLines, commands_of}
 
@@ -58,7 +58,7 @@ IsNoLine (LineFault n) = ⊥
 IsNoLine _ = Unit {0}
 
 -- Against a pool: line n can't be run, and those before it, of which k were read before the pool was asked, were. Their commands are
--- answered with that text, and the output grew by it. The line spells nothing, or it asks for another pool.
+-- answered with that text, and the output grew by it. The line spells nothing, or it is no step of a pool.
 pub record StopsPool {M : Type 0} (Steps : M → Step → Reply → M → Type 0) (pool : M) (input : Option (List ℕ)) (k : ℕ) (old new : Option (List ℕ)) (n : ℕ) : Type 0 where
   pub lines : List Line
   pub rest : Option (List ℕ)
@@ -68,19 +68,19 @@ pub record StopsPool {M : Type 0} (Steps : M → Step → Reply → M → Type 0
   pub number : n ≡ counted (k + length lines + 1)
   pub plays : Plays Steps pool (commands_of lines) text last
   pub appends : Appends old new text
-  pub cause : SpellsNothing rest ⊎ ((command : Command) × NextIs rest command × IsFirst command)
+  pub cause : SpellsNothing rest ⊎ ((command : Command) × NextIs rest command × IsNoStep command)
 
 abbrev pub IsPoolFault : {M : Type 0} → (M → Step → Reply → M → Type 0) → M → Option (List ℕ) → ℕ → Option (List ℕ) → Option (List ℕ) → Refusal → Type 0
 IsPoolFault Steps pool input k old new (LineFault n) = StopsPool Steps pool input k old new n
 IsPoolFault Steps pool input k old new _ = Unit {0}
 
--- A command can't stand behind these, of which that text was printed: the first one asks for a pool, no later one does, and where none
--- was made nothing is asked of it.
+-- A command can't stand behind these, of which that text was printed: the first one asks for a pool, each later one is a step of it, and
+-- where none was made nothing is asked of it.
 abbrev pub CannotStand : (PoolLine → Cause → Type 0) → List Command → List ℕ → Command → Type 0
 CannotStand Refuses [] text command = ¬ IsFirst command
 CannotStand Refuses (Pool line ∷ []) text command =
-    IsFirst command ⊎ ((cause : Cause) × Refuses line cause × (text ≡ refusal_text cause ++ (10 ∷ [])))
-CannotStand Refuses (_ ∷ commands) text command = IsFirst command
+    IsNoStep command ⊎ ((cause : Cause) × Refuses line cause × (text ≡ refusal_text cause ++ (10 ∷ [])))
+CannotStand Refuses (_ ∷ commands) text command = IsNoStep command
 
 -- Line n can't be run, and those before it were: their commands have that text, and the output grew by it and nothing else. The line
 -- spells nothing, or it is a command that can't stand behind theirs.

@@ -1,7 +1,7 @@
 //! What the commands of a schedule do to a pool.
 ghost use Rattle.std.specs.Prelude.{◌≡◌, ℕ, MatchOption, IfOk, OnErr};
 ghost use Rattle.pool_model.specs.declared.step.Step.TheVariants as step;
-ghost use Rattle.programs.specs.Answers.{Answers, Begins, IsFirst, RunsOn, action_of, next_of, runs_on, write_of};
+ghost use Rattle.programs.specs.Answers.{Answers, Begins, IsNoStep, RunsOn, action_of, next_of, runs_on, write_of};
 ghost use Rattle.programs.specs.Lengths.{StandsFor};
 
 use crate::machine::StepMachine;
@@ -62,12 +62,12 @@ fn under_step(line: UnderLine) -> Step
     }
 }
 
-/// The first step of a command, or none where the command is that of a first line.
+/// The first step of a command, or none where the command is no step of a pool.
 fn first_step(alloc: Global, command: Command) -> Result<Option<Step>, AllocError>
-    ensures { IfOk result (λ found. MatchOption found (IsFirst command) (λ s. Begins command s)) }
+    ensures { IfOk result (λ found. MatchOption found (IsNoStep command) (λ s. Begins command s)) }
 {
     Ok(Some(match command {
-        Command::Pool(_) => return Ok(None),
+        Command::Pool(_) | Command::Stop(_) | Command::Reopen(_) => return Ok(None),
         Command::Hold { writer } => Step::Hold(writer),
         Command::Release { writer } => Step::Release(writer),
         Command::Write(line) => write_step(alloc, line)?,
@@ -118,14 +118,14 @@ fn runs_on(command: &Command) -> bool
     matches!(command, Command::Commit | Command::Sync)
 }
 
-/// Does what a command asks, and gives the reply that is printed: none where the command is that of a first line.
+/// Does what a command asks, and gives the reply that is printed: none where the command is no step of a pool.
 pub fn answer<P: StepMachine>(
     alloc: Global,
     pool: &mut P,
     command: Command,
 ) -> Result<Option<Reply>, AllocError>
     ensures ok { IfOk result (λ found. MatchOption found
-        (IsFirst command × (pool.new ≡ pool.old))
+        (IsNoStep command × (pool.new ≡ pool.old))
         (λ last. Answers P.steps pool.old command last pool.new)) }
     ensures err { OnErr result (pool.new ≡ pool.old) }
 {

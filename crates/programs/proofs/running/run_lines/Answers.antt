@@ -1,6 +1,6 @@
 use Rattle.std.proofs.Common.{◌≡◌, [], sym, subst}
 use Rattle.programs.specs.declared.refusal.Refusal.TheVariants.{Line as LineFault}
-use Rattle.programs.specs.Answers.{Answers, IsFirst}
+use Rattle.programs.specs.Answers.{Answers, IsNoStep}
 use Rattle.programs.specs.Faults.{ReadsCommand, IsPoolFault}
 use Rattle.programs.specs.Reads.{IsSchedule}
 use Rattle.programs.proofs.Playing.{if_none}
@@ -34,10 +34,10 @@ returns-in_default-2-clause-fault g c =
     let now = g.W.Write.contents c.loop.output in
     let command = c.in-Some.command in
     let found : ReadsCommand rest c.loop.lines.count command behind c.next_command.new.self.count = rw c.in-Some.is at c.in_ok-command.ensures.found in
-    let first = if_none c.in_ok-reply.field-0 (IsFirst command × (c.answer.new.pool ≡ c.loop.pool))
+    let none = if_none c.in_ok-reply.field-0 (IsNoStep command × (c.answer.new.pool ≡ c.loop.pool))
     (λ last. Answers g.P.StepMachine.steps c.loop.pool command last c.answer.new.pool) c.in_ok-reply.ensures.ok c.in_default-2.not-Some in
     let stops : IsPoolFault g.P.StepMachine.steps c.args.pool input c.args.lines.now.count old now (LineFault c.next_command.new.self.count) =
-    ran_misplaced g.P.StepMachine.steps c.args.pool input c.args.lines.now.count old c.loop.pool rest behind c.loop.lines.count c.next_command.new.self.count now command c.loop.invariant found first.0 in
+    ran_misplaced g.P.StepMachine.steps c.args.pool input c.args.lines.now.count old c.loop.pool rest behind c.loop.lines.count c.next_command.new.self.count now command c.loop.invariant found none.0 in
     subst (λ cause. IsPoolFault g.P.StepMachine.steps c.args.pool input c.args.lines.now.count old now cause) (sym c.fault.ensures) stops
 
 pub loop-preserved : goal.loop-preserved
