@@ -13,7 +13,7 @@ use std::io::{BufReader, ErrorKind, Read, Write};
 use std::test::Fail;
 
 /// Schedules, and what is told: the output, the fault, and the number at the end.
-const TOLD: [(&str, &str); 14] = [
+const TOLD: [(&str, &str); 16] = [
     ("hold 1\n", "poolrun: line 1\n2"),
     (
         "# none\n\npool 1 3 8388608 12 2\n# one\npool 1 3 8388608 12 2\nhold 1\n",
@@ -25,6 +25,14 @@ const TOLD: [(&str, &str); 14] = [
     ),
     (
         "pool 1 3 8388608 12 2\nhold 1\r\n",
+        "pool 3 claim 1\npoolrun: line 2\n2",
+    ),
+    (
+        "pool 1 3 8388608 12 2\nhold 1\nstop blocks\n",
+        "pool 3 claim 1\nheld 4\npoolrun: line 3\n2",
+    ),
+    (
+        "pool 1 3 8388608 12 2\nreopen 0\n",
         "pool 3 claim 1\npoolrun: line 2\n2",
     ),
     ("\r\n", "poolrun: line 1\n2"),

@@ -1,11 +1,14 @@
 //! Lines with what they say, faults, and texts.
 use pool_model::{Bytes, Phase, Refusal as Cause, Reply};
-use schedule_lines::{Refusal, Run, parse, reply_text, runs, runs_text};
+use schedule_lines::{
+    Command, DiskNumbers, Line, Refusal, Run, made_text, opened_text, parse, reply_text, runs,
+    runs_text,
+};
 use std::alloc::{AllocError, Global};
 use std::test::Fail;
 
 /// Lines, and what each says.
-const LINES: [(&str, &str); 18] = [
+const LINES: [(&str, &str); 24] = [
     ("", "Skipped"),
     ("# a  line of words", "Skipped"),
     (
@@ -45,10 +48,25 @@ const LINES: [(&str, &str); 18] = [
         "read a\tb 1 2",
         "Command(Read(ReadLine { name: Name { letters: [97, 9, 98] }, offset: 1, len: 2 }))",
     ),
+    ("stop blocks", "Command(Stop(Blocks))"),
+    ("stop slots 0", "Command(Stop(Slots { disks: 0 }))"),
+    (
+        "stop slots 4294967295",
+        "Command(Stop(Slots { disks: 4294967295 }))",
+    ),
+    ("stop claim 2", "Command(Stop(Claim { disks: 2 }))"),
+    (
+        "reopen 0",
+        "Command(Reopen(ReopenLine { rewind: 0, absent: DiskNumbers { numbers: [] } }))",
+    ),
+    (
+        "reopen 2 4 0 4294967295 4",
+        "Command(Reopen(ReopenLine { rewind: 2, absent: DiskNumbers { numbers: [4, 0, 4294967295, 4] } }))",
+    ),
 ];
 
 /// Lines that say nothing, and why.
-const FAULTS: [(&str, &str); 20] = [
+const FAULTS: [(&str, &str); 30] = [
     (" ", "two empty words"),
     (" # no comment", "a space before the mark"),
     ("hold", "a word is missing"),
@@ -69,6 +87,16 @@ const FAULTS: [(&str, &str); 20] = [
     ("write 1 2 v 512 1024 5", "one digit of a byte"),
     ("write 1 2 v 512 1024 0a5", "three digits of a byte"),
     ("close now", "a word behind the last"),
+    ("stop", "no point"),
+    ("stop slots", "no number of disks"),
+    ("stop blocks 1", "a number of disks too many"),
+    ("stop claim -1", "a sign of a number of disks"),
+    ("stop claims 1", "no such point"),
+    ("reopen", "no number of groups"),
+    ("reopen 3", "too many groups back"),
+    ("reopen 0 01", "a leading zero of a disk"),
+    ("reopen 0 4294967296", "no disk has this number"),
+    ("reopen 0 1 ", "a space behind the disks"),
 ];
 
 fn said(alloc: Global, line: &str) -> Result<String, Fail> {
@@ -132,6 +160,27 @@ fn reply_texts(alloc: Global) -> Result<String, Fail> {
 #[test]
 fn replies_have_texts(rt: HostRuntime) -> Result<(), Fail> {
     assert_eq!(rt; reply_texts(rt.alloc())?.as_str(), TEXTS);
+    Ok(())
+}
+
+#[test]
+fn pools_have_texts(rt: HostRuntime) -> Result<(), Fail> {
+    assert_eq!(rt; opened_text(rt.alloc(), 7, 2)?.as_str(), "opened 7 claim 2");
+    assert_eq!(rt; made_text(rt.alloc(), 3, 1)?.as_str(), "pool 3 claim 1");
+    Ok(())
+}
+
+fn absent(alloc: Global, line: &str) -> Result<Vec<u32>, Fail> {
+    match parse(alloc, line.as_bytes())? {
+        Line::Command(Command::Reopen(reopen)) => Ok(reopen.absent.into_vec()),
+        _ => Ok(Vec::new(alloc)),
+    }
+}
+
+#[test]
+fn absent_disks_are_listed(rt: HostRuntime) -> Result<(), Fail> {
+    let numbers = absent(rt.alloc(), "reopen 1 3 0 3")?;
+    assert_eq!(rt; DiskNumbers::new(numbers).as_slice(), [3, 0, 3].as_slice());
     Ok(())
 }
 
