@@ -1,7 +1,7 @@
 -- What the committed half of a pool's core shows.
-use Rattle.std.specs.Prelude.{ℕ, suc, ◌≡◌, ◌==◌, Bool, List, [], Option, Some, None, is_some, if◌then◌else◌}
+use Rattle.std.specs.Prelude.{ℕ, suc, ◌≡◌, ◌==◌, Bool, false, List, [], Option, Some, None, is_some, if◌then◌else◌}
 use Rattle.model_disk.specs.Joint.{Disks}
-use Rattle.block_store.specs.Store.{Store, outs}
+use Rattle.block_store.specs.Store.{Store, is_out, outs}
 use Rattle.pool_model.specs.Pools.{no_volumes}
 use Rattle.volume_rules.specs.Index.{Knows}
 use Rattle.pool_commit.specs.declared.kept.Kept.{Kept}
@@ -21,6 +21,10 @@ disks_of_state s = s.store.disks
 -- the numbers of the disks that are out
 abbrev pub outs_of_state : State → List ℕ
 outs_of_state s = outs s.store
+
+-- no disk is out
+abbrev pub NoneIsOut : State → Type 0
+NoneIsOut s = (disk : ℕ) → is_out s.store.out disk ≡ false
 
 -- whether the group that is synced has a plan
 abbrev pub has_plan : State → Bool

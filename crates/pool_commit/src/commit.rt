@@ -1,6 +1,6 @@
 //! The committed half of a core.
 ghost use Rattle.std.specs.Prelude.{ℕ, List, [], ◌≡◌, ◌⊎◌, ◌<◌, ◌≤◌, ◌+◌, ◌-◌, ◌^◌, ◌++◌, not, filter};
-ghost use Rattle.std.specs.Prelude.{length, map, slice_get, Some, false, OnOk, IfOk, IfErr};
+ghost use Rattle.std.specs.Prelude.{length, map, slice_get, Some, false, IsTrue, ◌↔◌, OnOk, IfOk, IfErr};
 ghost use Rattle.model_disk.specs.Joint.{calls_on, log_of};
 ghost use Rattle.block_store.specs.declared.shape.VdevShape.{VdevShape as ShapeOf};
 ghost use Rattle.block_store.specs.Config.{AreShapes, IsFewVdevs};
@@ -21,9 +21,10 @@ use crate::kept::{Behind, Kept, KeptGroup, Planned, SlotWrite};
 use crate::refusal::Refusal;
 use crate::stamp::Stamp;
 use crate::suspension::{lacks_disks, vdev_at};
-use block_store::{BlockStore, VdevConfig};
+use block_pointer::Block;
+use block_store::{BlockStore, VdevConfig, VdevShape};
 use meta_objset::Directory;
-use model_disk::Disk;
+use model_disk::{Disk, DiskArray};
 use raidz_io::Vdev;
 use std::alloc::{AllocError, Global};
 use std::collections::VecDeque;
@@ -92,7 +93,7 @@ impl<D: Disk + Drop> Commit<D> {
     ghost use Rattle.pool_model.specs.View.{is_suspended, is_planned};
     ghost use Rattle.pool_commit.specs.Backs.{Backs, AreDueBehind};
     ghost use Rattle.pool_commit.specs.Started.{started_on_disks};
-    ghost use Rattle.pool_commit.specs.State.{has_plan, HasNoPlan};
+    ghost use Rattle.pool_commit.specs.State.{has_plan, HasNoPlan, NoneIsOut};
     ghost use Rattle.pool_commit.specs.StateOf.{state_of, disks_in};
 
     /// The empty pool, committed as group 3 under claim 1. The vdevs take the disks in order, each as many as it has children. The
@@ -140,6 +141,45 @@ impl<D: Disk + Drop> Commit<D> {
     {
         let Commit { store, .. } = self;
         store.into_disks()
+    }
+
+    /// The disks, in the order of their numbers, with the record of all calls. What is planned is dropped.
+    pub fn into_array(self) -> DiskArray<D>
+        ensures { result ≡ disks_in self }
+    {
+        let Commit { store, .. } = self;
+        store.into_array()
+    }
+
+    /// The root of the committed group. A pool has none before its first group is committed.
+    pub fn last_root(&self) -> Option<Block>
+        ensures { result ≡ (state_of self.now).kept.last.root }
+    {
+        self.kept.last().root
+    }
+
+    /// The shapes of the vdevs, in order.
+    pub fn shapes(&self, alloc: Global) -> Result<Vec<VdevShape>, AllocError>
+        ensures { IfOk result (λ shapes.
+            shapes.items ≡ shapes_of (state_of self.now).store.spaces) }
+    {
+        let mut shapes = Vec::new(alloc);
+        for index in 0..self.store.vdev_count() {
+            shapes.push(self.store.shape(index))?;
+        }
+        Ok(shapes)
+    }
+
+    /// Whether no disk is out.
+    pub fn is_whole(&self) -> bool
+        ensures { IsTrue result ↔ NoneIsOut (state_of self.now) }
+    {
+        for disk in 0..self.store.disk_count() {
+            if self.store.is_out(disk) {
+                return false;
+            }
+        }
+        true
     }
 
     /// Whether more disks of a vdev are out than it has parities.

@@ -1,5 +1,5 @@
 //! The committed half of a core as a pool is opened, or is made on disks.
-ghost use Rattle.std.specs.Prelude.{◌≡◌, ◌⊎◌, ℕ, List, IfOk, IfErr};
+ghost use Rattle.std.specs.Prelude.{◌≡◌, ◌⊎◌, ℕ, List, Some, IfOk, IfErr};
 ghost use Rattle.block_store.specs.Blocks.{Contents, nothing_stored};
 ghost use Rattle.block_store.specs.Opened.{CannotTakeIn};
 ghost use Rattle.block_store.specs.Places.{AreEmpty};
@@ -112,6 +112,7 @@ impl<D: Disk + Drop> Commit<D> {
         requires claim { IsNumber stamp.claim }
         ensures disks { IfOk result (λ commit. disks_in commit ≡ store.disks) }
         ensures stamp { IfOk result (λ commit. (state_of commit).stamp ≡ stamp) }
+        ensures root { IfOk result (λ commit. (state_of commit).kept.last.root ≡ Some root) }
 
         // Where the store's disks have the blocks, and the root spells a pool, that pool is committed as the group.
         ensures backs { IfOk result (λ commit. (stored : Contents) (pool : PlainPool)

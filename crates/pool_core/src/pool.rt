@@ -1,5 +1,5 @@
 //! The core and its steps.
-ghost use Rattle.std.specs.Prelude.{◌≡◌, ◌⊎◌, ◌<◌, ◌&&◌, ℕ, List, Some, map, IfOk, IfErr};
+ghost use Rattle.std.specs.Prelude.{◌≡◌, ◌⊎◌, ◌<◌, ◌&&◌, ◌↔◌, IsTrue, ℕ, List, Some, map, IfOk, IfErr};
 ghost use Rattle.model_disk.specs.Joint.{calls_on, log_of};
 ghost use Rattle.pool_model.specs.declared.step.Step.TheVariants as steps;
 ghost use Rattle.pool_model.specs.declared.volume.PlainVolume.{PlainVolume};
@@ -10,19 +10,22 @@ ghost use Rattle.volume_rules.specs.Shapes.{shape_of};
 ghost use Rattle.pool_commit.specs.Backs.{Backs};
 ghost use Rattle.block_store.specs.declared.shape.VdevShape.{VdevShape as ShapeOf};
 ghost use Rattle.block_store.specs.Config.{AreShapes, IsFewVdevs};
+ghost use Rattle.block_store.specs.Places.{shapes_of};
 ghost use Rattle.pool_commit.specs.Calls.{GrewTo};
 ghost use Rattle.pool_commit.specs.Config.{vdevs_from};
 ghost use Rattle.pool_commit.specs.Started.{started_on_disks};
+ghost use Rattle.pool_commit.specs.State.{NoneIsOut};
 ghost use Rattle.pool_core.specs.Represents.{Represents};
 ghost use Rattle.pool_core.specs.StateOf.{disks_in, state_of};
 ghost use Rattle.pool_core.specs.Steps.{TakesStep, is_barred as barred_step};
 
-use block_store::VdevConfig;
-use model_disk::Disk;
+use block_pointer::Block;
+use block_store::{VdevConfig, VdevShape};
+use model_disk::{Disk, DiskArray};
 use pool_commit::Commit;
 use pool_intake::Intake;
 use pool_model::{Refusal, Reply, Step};
-use std::alloc::Global;
+use std::alloc::{AllocError, Global};
 
 /// A pool over disks: what it accepts, and what is committed.
 #[derive(Drop)]
@@ -73,6 +76,36 @@ impl<D: Disk + Drop> Core<D> {
     {
         let Core { commit, .. } = self;
         commit.into_disks()
+    }
+
+    /// The same, with the record of all calls.
+    pub fn into_array(self) -> DiskArray<D>
+        ensures { result ≡ disks_in self }
+    {
+        let Core { commit, .. } = self;
+        commit.into_array()
+    }
+
+    /// The root of the committed group. A pool has none before its first group is committed.
+    pub fn last_root(&self) -> Option<Block>
+        ensures { result ≡ (state_of self.now).commit.kept.last.root }
+    {
+        self.commit.last_root()
+    }
+
+    /// The shapes of the vdevs, in order.
+    pub fn shapes(&self, alloc: Global) -> Result<Vec<VdevShape>, AllocError>
+        ensures { IfOk result (λ shapes.
+            shapes.items ≡ shapes_of (state_of self.now).commit.store.spaces) }
+    {
+        self.commit.shapes(alloc)
+    }
+
+    /// Whether no disk is out.
+    pub fn is_whole(&self) -> bool
+        ensures { IsTrue result ↔ NoneIsOut (state_of self.now).commit }
+    {
+        self.commit.is_whole()
     }
 
     /// Whether the pool is suspended, and refuses the step for that.

@@ -1,5 +1,5 @@
 //! Cores of pools that are opened, or made on disks.
-ghost use Rattle.std.specs.Prelude.{◌≡◌, ◌⊎◌, ◌<◌, List, IfOk, IfErr};
+ghost use Rattle.std.specs.Prelude.{◌≡◌, ◌⊎◌, ◌<◌, List, Some, IfOk, IfErr};
 ghost use Rattle.block_store.specs.Blocks.{Contents, nothing_stored};
 ghost use Rattle.block_store.specs.Opened.{CannotTakeIn};
 ghost use Rattle.block_store.specs.Places.{AreEmpty};
@@ -45,6 +45,7 @@ impl<D: Disk + Drop> Core<D> {
         requires claim { IsNumber stamp.claim }
         requires below { group < greatest }
         ensures disks { IfOk result (λ core. disks_in core ≡ store.disks) }
+        ensures stamp { IfOk result (λ core. (state_of core).commit.stamp ≡ stamp) }
         ensures represents { IfOk result (λ core. Represents (state_of core)
             (opened_as (vdevs_of store.spaces) (is_out store.out) group no_volumes)) }
     {
@@ -74,6 +75,8 @@ impl<D: Disk + Drop> Core<D> {
         requires claim { IsNumber stamp.claim }
         requires below { group < greatest }
         ensures disks { IfOk result (λ core. disks_in core ≡ store.disks) }
+        ensures stamp { IfOk result (λ core. (state_of core).commit.stamp ≡ stamp) }
+        ensures root { IfOk result (λ core. (state_of core).commit.kept.last.root ≡ Some root) }
 
         // Where the store's disks have the blocks, and the root spells a pool whose volumes were made by then, the core is sound, and
         // represents that pool, committed as the group.

@@ -1,9 +1,10 @@
 //! Writing the labels of a new pool.
 ghost use Rattle.std.specs.Prelude.{◌≡◌, ◌≤◌, ◌<◌, ◌^◌, length, map, IsTrue, OnOk, string_bytes, All};
+ghost use Rattle.std.specs.List.{list_all};
 ghost use Rattle.model_disk.specs.Joint.{bytes_of, calls_on, content};
 ghost use Rattle.model_disk.specs.Runs.{AreSettled, AreSettledBelow, IsSettled, Makes, no_write};
 ghost use Rattle.vdev_label.specs.Limits.{IsAllowed};
-ghost use Rattle.vdev_label.specs.Pairs.{IsCount, is_name};
+ghost use Rattle.vdev_label.specs.Pairs.{IsCount, is_letter, is_name, is_name_byte};
 ghost use Rattle.vdev_label.specs.Plain.{config_view, label_view};
 ghost use Rattle.vdev_label.specs.Reads.{KeepsElsewhere};
 ghost use Rattle.pool_slots.specs.Labels.{IsLabelShown, IsValid};
@@ -23,6 +24,38 @@ pub struct PoolIdentity {
     /// 1 to 27 bytes of `a-z 0-9 . _ -`, the first a letter.
     pub name: String,
     pub guid: u64,
+}
+
+fn is_letter(b: u8) -> bool
+    ensures { result ≡ is_letter b }
+{
+    b'a' <= b && b <= b'z'
+}
+
+fn is_name_byte(b: u8) -> bool
+    ensures { result ≡ is_name_byte b }
+{
+    is_letter(b) || (b'0' <= b && b <= b'9') || b == b'.' || b == b'_' || b == b'-'
+}
+
+fn are_name_bytes(bytes: &[u8]) -> bool
+    ensures { result ≡ list_all is_name_byte bytes.now }
+{
+    bytes.iter().all(|b| is_name_byte(*b))
+}
+
+impl PoolIdentity {
+    /// Whether a pool may have the name: 1 to 27 bytes of `a-z 0-9 . _ -`, the first a letter.
+    pub fn has_good_name(&self) -> bool
+        ensures { result ≡ is_name (string_bytes self.now.name) }
+    {
+        match self.name.as_bytes().split_first() {
+            Some((first, others)) => {
+                is_letter(*first) && are_name_bytes(others) && others.len() <= 26
+            }
+            None => false,
+        }
+    }
 }
 
 /// Writes a label of a disk.
