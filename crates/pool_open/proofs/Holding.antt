@@ -1,5 +1,5 @@
 -- Stores over the same disks hold the same blocks.
-use Rattle.std.proofs.Common.{◌≡◌, ℕ, Bool, List, length, filter, nat_le, refl, sym, ap, ◌∙◌, subst}
+use Rattle.std.proofs.Common.{◌≡◌, ℕ, suc, Bool, false, List, [], ◌∷◌, length, filter, nat_le, refl, sym, ap, ◌∙◌, subst, if◌then◌else◌}
 use Rattle.std.specs.Prelude.{replicate, slice_index}
 use Rattle.model_disk.specs.Joint.{Disks, content}
 use Rattle.raidz_io.specs.Stands.{ExtentStands}
@@ -7,14 +7,15 @@ use Rattle.block_store.specs.Blocks.{Contents}
 use Rattle.block_store.specs.Elsewhere.{IsForBlocks, WritesElsewhereKeep}
 use Rattle.block_store.specs.Places.{shapes_of, IsCopy}
 use Rattle.block_store.specs.Shapes.{IsPlace}
-use Rattle.block_store.specs.Store.{Store, Holds, outs_from}
+use Rattle.block_store.specs.declared.shape.VdevShape.{VdevShape}
+use Rattle.block_store.specs.Store.{Store, Holds, is_out, lost, outs_from}
 use Rattle.block_store.proofs.Steps.{shape_found}
-use Rattle.pool_open.specs.Held.{AlikeStoresHoldAlike, ClaimsKeepWhatIsHeld}
+use Rattle.pool_open.specs.Held.{AlikeStoresHoldAlike, ClaimsKeepWhatIsHeld, HoldOver, IsStoreOver}
 use Rattle.pool_open.proofs.Claiming.{claims_spare_blocks}
 
-held_alike : (one other : Store) (stored : Contents) → other.disks ≡ one.disks → shapes_of other.spaces ≡ shapes_of one.spaces → other.out ≡ one.out
-    → other.spans.since ≡ one.spans.since → Holds one stored → Holds other stored
-held_alike one other stored disks shapes out since held = record {
+held_alike : (one other : Store) (stored : Contents) → other.disks ≡ one.disks → shapes_of other.spaces ≡ shapes_of one.spaces
+    → ((birth : ℕ) → lost other birth ≡ lost one birth) → Holds one stored → Holds other stored
+held_alike one other stored disks shapes lose held = record {
   blocks = held.blocks;
   places = λ block bytes known place has.
       let was = held.places block bytes known place has in
@@ -37,22 +38,48 @@ held_alike one other stored disks shapes out since held = record {
           sectors_are = at.sectors_are;
         };
       } in
-      let E : Disks → List ℕ → List Bool → Type 0 = λ d s o. ExtentStands (content d) (filter (λ disk. nat_le (slice_index s disk) block.birth) (outs_from 0 o)) extent bytes in
-      subst (λ (d : Disks). E d other.spans.since other.out) (sym disks)
-      (subst (λ (s : List ℕ). E one.disks s other.out) (sym since)
-      (subst (λ (o : List Bool). E one.disks one.spans.since o) (sym out) (held.stand block bytes i extent known was)));
+      let E : Disks → List ℕ → Type 0 = λ d gone. ExtentStands (content d) gone extent bytes in
+      subst (λ (d : Disks). E d (lost other block.birth)) (sym disks)
+      (subst (λ (gone : List ℕ). E one.disks gone) (sym (lose block.birth)) (held.stand block bytes i extent known was));
 }
+
+-- they lack the same where the same disks are out since the same groups
+same_lost : (one other : Store) → other.out ≡ one.out → other.spans.since ≡ one.spans.since → (birth : ℕ) → lost other birth ≡ lost one birth
+same_lost one other out since birth =
+    let L : List ℕ → List Bool → List ℕ = λ s o. filter (λ disk. nat_le (slice_index s disk) birth) (outs_from 0 o) in
+    ap (λ (s : List ℕ). L s other.out) since ∙ ap (λ (o : List Bool). L one.spans.since o) out
+
+none_from : (first : ℕ) (out : List Bool) → ((disk : ℕ) → is_out out disk ≡ false) → outs_from first out ≡ []
+none_from first [] none = refl
+none_from first (flag ∷ out) none =
+    ap (λ (b : Bool). if b then first ∷ outs_from (suc first) out else outs_from (suc first) out) (none 0) ∙ none_from (suc first) out (λ disk. none (suc disk))
+
+-- and nothing where none is out
+whole_lost : (one other : Store) → ((disk : ℕ) → is_out one.out disk ≡ false) → ((disk : ℕ) → is_out other.out disk ≡ false) → (birth : ℕ) → lost other birth ≡ lost one birth
+whole_lost one other mine others birth =
+    let F : (List ℕ → List ℕ → List ℕ) = λ s gone. filter (λ disk. nat_le (slice_index s disk) birth) gone in
+    ap (F other.spans.since) (none_from 0 other.out others) ∙ sym (ap (F one.spans.since) (none_from 0 one.out mine))
+
+pub held_whole : (one other : Store) (stored : Contents) → other.disks ≡ one.disks → shapes_of other.spaces ≡ shapes_of one.spaces
+    → ((disk : ℕ) → is_out one.out disk ≡ false) → ((disk : ℕ) → is_out other.out disk ≡ false) → Holds one stored → Holds other stored
+held_whole one other stored disks shapes mine others held = held_alike one other stored disks shapes (whole_lost one other mine others) held
 
 pub alike_stores_hold_alike : AlikeStoresHoldAlike
 alike_stores_hold_alike disks shapes out stored store over holds other too =
-    held_alike store other stored (too.disks_are ∙ sym over.disks_are) (too.shapes_are ∙ sym over.shapes_are) (too.out_is ∙ sym over.out_is)
-    (too.since ∙ sym over.since) holds
+    held_alike store other stored (too.disks_are ∙ sym over.disks_are) (too.shapes_are ∙ sym over.shapes_are)
+    (same_lost store other (too.out_is ∙ sym over.out_is) (too.since ∙ sym over.since)) holds
+
+-- and of disks whose bytes for blocks are the same
+pub held_where_same : WritesElsewhereKeep → (shapes : List VdevShape) (out : List Bool) (old new : Disks) (stored : Contents) (store : Store) → IsStoreOver old shapes out store
+    → Holds store stored → new.starts ≡ old.starts → ((disk i : ℕ) → IsForBlocks store.spaces disk i → content new disk i ≡ content old disk i) → HoldOver new shapes out stored
+held_where_same keep shapes out old new stored store over holds starts same other too =
+    let moved : Store = record store { disks = new } in
+    let here : (disk i : ℕ) → IsForBlocks store.spaces disk i → content new disk i ≡ content store.disks disk i = λ disk i is.
+    same disk i is ∙ ap (λ (d : Disks). content d disk i) (sym over.disks_are) in
+    let kept : Holds moved stored = (keep store moved refl refl refl refl refl here).0 stored holds in
+    held_alike moved other stored too.disks_are (too.shapes_are ∙ sym over.shapes_are)
+    (same_lost moved other (too.out_is ∙ sym over.out_is) (too.since ∙ ap (λ (them : List (List ℕ)). replicate (length them) 0) starts ∙ sym over.since)) kept
 
 pub claims_keep_what_is_held : WritesElsewhereKeep → ClaimsKeepWhatIsHeld
-claims_keep_what_is_held keep shapes out u old new stored store over holds lie count fits made other too =
-    let moved : Store = record store { disks = new } in
-    let same : (disk i : ℕ) → IsForBlocks store.spaces disk i → content new disk i ≡ content store.disks disk i = λ disk i is.
-    claims_spare_blocks store.spaces out u old new lie count fits made disk i is ∙ ap (λ (d : Disks). content d disk i) (sym over.disks_are) in
-    let kept : Holds moved stored = (keep store moved refl refl refl refl refl same).0 stored holds in
-    held_alike moved other stored too.disks_are (too.shapes_are ∙ sym over.shapes_are) (too.out_is ∙ sym over.out_is)
-    (too.since ∙ ap (λ (starts : List (List ℕ)). replicate (length starts) 0) made.makes.starts ∙ sym over.since) kept
+claims_keep_what_is_held keep shapes out u old new stored store over holds lie count fits made =
+    held_where_same keep shapes out old new stored store over holds made.makes.starts (claims_spare_blocks store.spaces out u old new lie count fits made)

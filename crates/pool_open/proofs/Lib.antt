@@ -4,3 +4,9 @@ pub mod Holding
 pub mod Layouts
 pub mod Once
 pub mod Reading
+pub mod Through
+pub mod Representing
+pub mod Trees
+pub mod Stops
+pub mod Counting
+pub mod Stages

@@ -18,6 +18,12 @@ pub record IsStoreOver (disks : Disks) (shapes : List VdevShape) (out : List Boo
   pub out_is : store.out ≡ out
   pub since : store.spans.since ≡ replicate (length disks.starts) 0
 
+-- there is one, with its labels beside its blocks
+pub record IsLaidOver (disks : Disks) (shapes : List VdevShape) (out : List Bool) : Type 0 where
+  pub store : Store
+  pub over : IsStoreOver disks shapes out store
+  pub lie : LabelsLieAside disks.starts store.spaces
+
 -- each such store may read these blocks
 abbrev pub HoldOver : Disks → List VdevShape → List Bool → Contents → Type 0
 HoldOver disks shapes out stored = (store : Store) → IsStoreOver disks shapes out store → Holds store stored

@@ -4,3 +4,9 @@ pub mod Claims
 pub mod Held
 pub mod Finding
 pub mod Roots
+pub mod Causes
+pub mod Words
+pub mod Trees
+pub mod Opening
+pub mod Opens
+pub mod Stops

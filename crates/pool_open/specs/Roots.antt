@@ -20,6 +20,10 @@ pub record AreReadBeside (out : List Bool) (old new : Disks) : Type 0 where
   pub only : OnlyReads old new
   pub untouched : AreUntouched (outs_from 0 out) old new
 
+-- the same up to some moment
+abbrev pub WereReadBeside : List Bool → Disks → Type 0
+WereReadBeside out old = (new : Disks) × AreReadBeside out old new
+
 -- Where any store over the disks may read the blocks of a root that spells a pool, and the disks' answers are true, this is what it has.
 abbrev pub IsReadOfRoot : Disks → Disks → List VdevShape → List Bool → ℕ → Block → RootContents → Type 0
 IsReadOfRoot old new shapes out group root contents =

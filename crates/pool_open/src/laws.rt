@@ -1,6 +1,7 @@
 //! Laws of what is on the disks of a pool that is opened: what each ensures follows from the definitions alone.
 ghost use Rattle.pool_open.specs.Claims.{ClaimsSpareBlocks};
 ghost use Rattle.pool_open.specs.Held.{AlikeStoresHoldAlike, ClaimsKeepWhatIsHeld};
+ghost use Rattle.pool_open.specs.Stops.{StoppedCanBeOpened};
 
 use block_store::writes_elsewhere_keep;
 
@@ -20,3 +21,8 @@ pub fn claims_keep_what_is_held()
 {
     writes_elsewhere_keep();
 }
+
+/// Where the disks that a stop leaves lead to possible uberblocks, they may be opened.
+pub fn stopped_can_be_opened()
+    ensures { StoppedCanBeOpened }
+{}

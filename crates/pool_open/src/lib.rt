@@ -1,15 +1,23 @@
-//! Opening a pool: what a configuration and the disks that were found make of its vdevs, and what a claim leaves as it is.
+//! Opening a pool: finding it on disks, claiming it, and the core that goes on from its last group.
 #![tactic(auto)]
 
 mod children;
 mod finding;
+mod handed_in;
 mod laws;
+mod opening;
+mod refusal;
 mod roots;
 mod shapes;
+mod tolerance;
 
 pub use children::children_of;
 pub use finding::{FoundPool, find};
-pub use laws::{alike_stores_hold_alike, claims_keep_what_is_held, claims_spare_blocks};
-pub use pool_labels::Refusal;
+pub use handed_in::open;
+pub use laws::{
+    alike_stores_hold_alike, claims_keep_what_is_held, claims_spare_blocks, stopped_can_be_opened,
+};
+pub use opening::{OpenedPool, open_over};
+pub use refusal::Refusal;
 pub use roots::{ReadRoot, read_root};
 pub use shapes::shapes_of;

@@ -1,6 +1,6 @@
 //! Reading the root of a pool before it is claimed.
 ghost use Rattle.std.specs.Prelude.{◌≡◌, ◌⊎◌, IfErr, IfOk};
-ghost use Rattle.pool_open.specs.Roots.{AreReadBeside, IsReadOfRoot, RootRefuses};
+ghost use Rattle.pool_open.specs.Roots.{AreReadBeside, IsReadOfRoot, RootRefuses, WereReadBeside};
 
 use block_pointer::Block;
 use block_store::{BlockStore, Refusal, VdevShape};
@@ -30,6 +30,7 @@ pub fn read_root<D: Disk + Drop>(
     left: u64,
 ) -> Result<ReadRoot<D>, Refusal>
     ensures only { IfOk result (λ read. AreReadBeside out.now disks read.disks) }
+    ensures dropped { IfErr result (λ _. WereReadBeside out.now disks) }
     ensures contents { IfOk result (λ read.
         IsReadOfRoot disks read.disks shapes.now out.now group root.now read.contents) }
     ensures refused { IfErr result (λ refusal. (refusal ≡ Refusal.NoMemory)

@@ -1,7 +1,8 @@
 //! Pools that are found on disks that are handed in, in any order.
 use crate::scans::{CHOICES, Case, REFUSALS, handed_in, is_taken};
 use model_disk::{DiskArray, FaultDisk, MemDisk, Member};
-use pool_open::{FoundPool, Refusal, find};
+use pool_labels::Refusal;
+use pool_open::{FoundPool, find};
 use std::alloc::Global;
 use std::test::*;
 

@@ -1,0 +1,72 @@
+-- What a core represents that goes on from a root that was read before its claim.
+use Rattle.std.proofs.Common.{◌≡◌, ℕ, ◌<◌, Bool, List, length, refl, sym, ap, ◌∙◌, subst}
+use Rattle.model_disk.specs.Joint.{Disks, content}
+use Rattle.model_disk.specs.Runs.{Makes, no_write}
+use Rattle.raidz_io.specs.Reads.{IsHonestSince}
+use Rattle.block_store.specs.Blocks.{Contents}
+use Rattle.block_store.specs.Elsewhere.{IsForBlocks, WritesElsewhereKeep}
+use Rattle.block_store.specs.Store.{Store, Holds, is_out}
+use Rattle.block_store.specs.declared.shape.VdevShape.{VdevShape}
+use Rattle.dataset_snapshots.specs.Contents.{AreContentsOf}
+use Rattle.dataset_snapshots.specs.declared.contents.RootContents.{RootContents}
+use Rattle.pool_commit.specs.Slots.{LabelsLieAside}
+use Rattle.pool_core.specs.Represents.{Represents}
+use Rattle.pool_core.specs.State.{CoreState, disks_of}
+use Rattle.pool_model.specs.Pools.{PlainPool}
+use Rattle.pool_model.specs.View.{opened_as}
+use Rattle.pool_slots.specs.Labels.{IsClaimWrite}
+use Rattle.pool_slots.specs.Slots.{InUse, MakesOn}
+use Rattle.pool_slots.proofs.Phases.{both_made, none_same}
+use Rattle.uberblock_ring.specs.Uberblock.{Fits}
+use Rattle.uberblock_ring.specs.declared.uberblock.Uberblock.{Uberblock}
+use Rattle.volume_rules.specs.NowMoves.{IsMadeBy}
+use Rattle.pool_open.specs.Held.{HoldOver, IsLaidOver, IsStoreOver}
+use Rattle.pool_open.specs.Opening.{RepresentsRoot}
+use Rattle.pool_open.specs.Words.{vdevs_in}
+use Rattle.pool_open.specs.Roots.{IsReadOfRoot}
+use Rattle.pool_open.proofs.Claiming.{claims_spare_blocks}
+use Rattle.pool_open.proofs.Holding.{held_where_same}
+use Rattle.pool_open.proofs.Through.{honest_within}
+
+-- the same store with other disks out
+marked : (old : Disks) (shapes : List VdevShape) (out later : List Bool) (store : Store) → IsStoreOver old shapes out store → IsStoreOver old shapes later (record store { out = later })
+marked old shapes out later store over = record { disks_are = over.disks_are; shapes_are = over.shapes_are; out_is = refl; since = over.since }
+
+-- reads keep what is held
+pub held_behind_reads : WritesElsewhereKeep → (old new : Disks) (shapes : List VdevShape) (out later : List Bool) (stored : Contents) (laid : IsLaidOver old shapes out)
+    → Makes no_write old new → HoldOver old shapes later stored → HoldOver new shapes later stored
+held_behind_reads keep old new shapes out later stored laid makes hold =
+    let store : Store = record laid.store { out = later } in
+    let over = marked old shapes out later laid.store laid.over in
+    held_where_same keep shapes later old new stored store over (hold store over) makes.starts (λ disk i is. none_same old new disk i makes)
+
+-- and so does a claim behind them
+pub held_behind_claim : WritesElsewhereKeep → (old read new : Disks) (shapes : List VdevShape) (out later : List Bool) (u : Uberblock) (stored : Contents)
+    (laid : IsLaidOver old shapes out) → Makes no_write old read → MakesOn (InUse later) (IsClaimWrite read.starts later u) read new → length later ≡ length old.starts → Fits u
+    → HoldOver old shapes later stored → HoldOver new shapes later stored
+held_behind_claim keep old read new shapes out later u stored laid makes claims count fits hold =
+    let store : Store = record laid.store { out = later } in
+    let over = marked old shapes out later laid.store laid.over in
+    let lie : LabelsLieAside read.starts laid.store.spaces = subst (λ (starts : List (List ℕ)). LabelsLieAside starts laid.store.spaces) (sym makes.starts) laid.lie in
+    let there : length later ≡ length read.starts = count ∙ ap length (sym makes.starts) in
+    held_where_same keep shapes later old new stored store over (hold store over) (claims.makes.starts ∙ makes.starts)
+    (λ disk i is. claims_spare_blocks laid.store.spaces later u read new lie there fits claims disk i is ∙ none_same old read disk i makes)
+
+-- what is said of a core over claimed disks, for what was read of the root
+abbrev pub CoreRepresents : Disks → List VdevShape → List Bool → Uberblock → RootContents → CoreState → Type 0
+CoreRepresents new shapes later claimed contents core =
+    (stored : Contents) (pool : PlainPool) → HoldOver new shapes later stored → AreContentsOf stored claimed.group claimed.root pool contents → IsMadeBy claimed.group pool
+    → Represents core (opened_as (vdevs_in shapes) (is_out later) claimed.group pool)
+
+pub represents_root : WritesElsewhereKeep → (old surveyed read new : Disks) (shapes : List VdevShape) (out later : List Bool) (claimed : Uberblock) (contents : RootContents)
+    (core : CoreState) → IsLaidOver old shapes out → length later ≡ length old.starts → Makes no_write old surveyed → Makes no_write surveyed read
+    → MakesOn (InUse later) (IsClaimWrite read.starts later claimed) read new → Fits claimed → IsReadOfRoot surveyed read shapes later claimed.group claimed.root contents
+    → disks_of core ≡ new → CoreRepresents new shapes later claimed contents core → RepresentsRoot old shapes later claimed core
+represents_root keep old surveyed read new shapes out later claimed contents core laid count surveys reads claims fits root disks represents stored pool hold spells honest made =
+    let honest_now = subst (λ (d : Disks). IsHonestSince old d) disks honest in
+    let before = both_made no_write old surveyed read surveys reads in
+    represents stored pool
+    (held_behind_claim keep old read new shapes out later claimed stored laid before claims count fits hold)
+    (root stored pool (held_behind_reads keep old surveyed shapes out later stored laid surveys hold) spells
+    (honest_within (IsClaimWrite read.starts later claimed) old surveyed read new surveys claims.makes honest_now))
+    made

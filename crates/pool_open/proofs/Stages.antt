@@ -1,0 +1,196 @@
+-- Where an open ends, stage by stage.
+use Rattle.std.proofs.Common.{◌≡◌, ◌⊎◌, inl, inr, ℕ, ◌<◌, Bool, true, Some, List, [], length, refl, sym, ap, ◌∙◌, subst}
+use Rattle.model_disk.specs.Joint.{Disks}
+use Rattle.block_store.specs.Elsewhere.{WritesElsewhereKeep}
+use Rattle.block_store.specs.Opened.{MayBeOpened}
+use Rattle.block_store.specs.Places.{shapes_of}
+use Rattle.block_store.specs.Store.{Store, is_out}
+use Rattle.block_store.specs.declared.refusal.Refusal.{Refusal as StoreRefusal}
+use Rattle.block_store.specs.declared.refusal.Refusal.TheVariants as store
+use Rattle.block_store.specs.declared.shape.VdevShape.{VdevShape}
+use Rattle.dataset_snapshots.specs.declared.contents.RootContents.{RootContents}
+use Rattle.pool_commit.specs.Reopened.{LabelsOfOpenedLie}
+use Rattle.pool_commit.specs.Slots.{LabelsLieAside}
+use Rattle.pool_core.specs.State.{CoreState, disks_of}
+use Rattle.pool_model.specs.View.{is_tolerable}
+use Rattle.pool_slots.specs.Configs.{OpenConfigures}
+use Rattle.pool_slots.specs.Failures.{HasFailedOn}
+use Rattle.pool_slots.specs.Labels.{AreClaimed, IsClaimWrite}
+use Rattle.pool_slots.specs.Opens.{OpenGives, OpenKeeps, OpenMarks}
+use Rattle.pool_slots.specs.Present.{GoOut, is_out as is_away}
+use Rattle.pool_slots.specs.Relabels.{OpenRelabels}
+use Rattle.pool_slots.specs.Slots.{InUse, MakesOn}
+use Rattle.pool_slots.specs.Surveys.{Surveyed, IsSurveyed, IsWholeOf, OfSurveyed}
+use Rattle.pool_slots.proofs.Opened.{opened_from}
+use Rattle.pool_slots.proofs.ReadRuns.{reads_none}
+use Rattle.uberblock_ring.specs.declared.uberblock.Uberblock.{Uberblock}
+use Rattle.pool_open.specs.Causes.{of_store}
+use Rattle.pool_open.specs.Held.{IsLaidOver, IsStoreOver}
+use Rattle.pool_open.specs.Opening.{AreClaimedThrough, AreReadThrough, IsBlockMisplaced, IsCauseOfReading, IsKeptThrough, IsNotOpenedOver, IsOpenedOver, IsSurveyRefused}
+use Rattle.pool_open.specs.Roots.{AreReadBeside, IsReadOfRoot, RootRefuses}
+use Rattle.pool_open.specs.Words.{most_blocks, stamp_of, vdevs_in}
+use Rattle.pool_open.specs.declared.refusal.Refusal.{Refusal}
+use Rattle.pool_open.specs.declared.refusal.Refusal.TheVariants.{NoMemory, DiskFault, BadPointer, BadConfig}
+use Rattle.pool_open.proofs.Representing.{CoreRepresents, represents_root}
+use Rattle.pool_open.proofs.Through.{block_reads_made, kept_by_reads, surveyed_still, through_made}
+use Rattle.pool_open.proofs.Trees.{opens_possible}
+
+-- ---- stores
+
+pub lies_of : LabelsOfOpenedLie → (disks : Disks) (shapes : List VdevShape) (out : List Bool) (store : Store) → IsStoreOver disks shapes out store
+    → MayBeOpened disks.starts shapes out → LabelsLieAside store.disks.starts store.spaces
+lies_of law disks shapes out store over may =
+    let P : Disks → List VdevShape → List Bool → Type 0 = λ d s o. MayBeOpened d.starts s o in
+    law store (subst (λ (d : Disks). P d (shapes_of store.spaces) store.out) (sym over.disks_are)
+    (subst (λ (s : List VdevShape). P disks s store.out) (sym over.shapes_are) (subst (λ (o : List Bool). P disks shapes o) (sym over.out_is) may)))
+
+pub laid_of : LabelsOfOpenedLie → (disks : Disks) (shapes : List VdevShape) (out : List Bool) (store : Store) → IsStoreOver disks shapes out store
+    → MayBeOpened disks.starts shapes out → IsLaidOver disks shapes out
+laid_of law disks shapes out store over may = record {
+  store = store;
+  over = over;
+  lie = subst (λ (d : Disks). LabelsLieAside d.starts store.spaces) over.disks_are (lies_of law disks shapes out store over may);
+}
+
+-- ---- nothing is called
+
+none_goes : (out : List Bool) (disks : Disks) → GoOut out out disks disks
+none_goes out disks = record { stay = λ which used. used; only = reads_none (InUse out) (is_away out) disks; failed = λ which used gone. absurd (gone used) }
+
+none_beside : (out : List Bool) (disks : Disks) → AreReadBeside out disks disks
+none_beside out disks = record { only = record { starts = refl; newer = []; calls = refl; are_reads = tt }; untouched = λ disk among. refl }
+
+through_survey : (out later : List Bool) (old new : Disks) → GoOut out later old new → AreReadThrough out later old new
+through_survey out later old new absent = record { surveyed = new; absent = absent; blocks = none_beside later new }
+
+pub refused_at_once : (out : List Bool) (rewind : ℕ) (disks : Disks) (shapes : List VdevShape) (refusal : Refusal) → length out ≡ length disks.starts
+    → (refusal ≡ NoMemory) ⊎ ((refusal ≡ BadConfig) × ¬ MayBeOpened disks.starts shapes out) → IsNotOpenedOver disks shapes out rewind refusal
+refused_at_once out rewind disks shapes refusal count why =
+    let through = through_survey out out disks disks (none_goes out disks) in
+    record {
+      later = out;
+      new = disks;
+      kept = kept_by_reads out out rewind disks disks through count;
+      cause = inl (through, elim why [ inl memory ↦ inl memory | inr bad ↦ inr (inl bad) ]);
+    }
+
+-- ---- disks are only read
+
+pub refused_by_survey : (out later : List Bool) (rewind : ℕ) (old new : Disks) (shapes : List VdevShape) (refusal : Refusal) → GoOut out later old new
+    → length later ≡ length old.starts → IsSurveyRefused shapes later rewind old new refusal → IsNotOpenedOver old shapes out rewind refusal
+refused_by_survey out later rewind old new shapes refusal absent count why =
+    let through = through_survey out later old new absent in
+    record { later = later; new = new; kept = kept_by_reads out later rewind old new through count; cause = inl (through, inr (inr (inl why))) }
+
+-- what was surveyed
+pub record AreSurveyed (out later : List Bool) (rewind : ℕ) (old surveyed : Disks) (s : Surveyed) : Type 0 where
+  pub absent : GoOut out later old surveyed
+  pub count : length later ≡ length old.starts
+  pub whole : IsWholeOf later old.starts s
+  pub is : IsSurveyed later rewind old surveyed s
+
+root_cause : (out later : List Bool) (rewind : ℕ) (old surveyed new : Disks) (shapes : List VdevShape) (s : Surveyed) (cause : StoreRefusal) → IsSurveyed later rewind old surveyed s
+    → (cause ≡ store.NoMemory) ⊎ RootRefuses surveyed shapes later s.claimed.group s.claimed.root (most_blocks shapes) cause → IsCauseOfReading old new shapes out later rewind (of_store cause)
+root_cause out later rewind old surveyed new shapes s cause is (inl memory) = inl (ap of_store memory)
+root_cause out later rewind old surveyed new shapes s cause is (inr why) = inr (inr (inr (record { surveyed = surveyed; s = s; is = is; cause = cause; same = refl; why = why })))
+
+pub refused_by_root : (out later : List Bool) (rewind : ℕ) (old surveyed new : Disks) (shapes : List VdevShape) (s : Surveyed) (cause : StoreRefusal) → AreSurveyed out later rewind old surveyed s
+    → AreReadBeside later surveyed new → (cause ≡ store.NoMemory) ⊎ RootRefuses surveyed shapes later s.claimed.group s.claimed.root (most_blocks shapes) cause
+    → IsNotOpenedOver old shapes out rewind (of_store cause)
+refused_by_root out later rewind old surveyed new shapes s cause are blocks why =
+    let through : AreReadThrough out later old new = record { surveyed = surveyed; absent = are.absent; blocks = blocks } in
+    record {
+      later = later;
+      new = new;
+      kept = kept_by_reads out later rewind old new through are.count;
+      cause = inl (through, root_cause out later rewind old surveyed new shapes s cause are.is why);
+    }
+
+-- ---- a claim is begun
+
+pub record AreBegun (later : List Bool) (s : Surveyed) (read new : Disks) : Type 0 where
+  pub makes : MakesOn (InUse later) (IsClaimWrite read.starts later s.claimed) read new
+  pub leads : OfSurveyed later s read (λ rewind first. OpenKeeps later rewind first new)
+  pub marks : OfSurveyed later s read (λ rewind first. OpenMarks later rewind first new)
+  pub configures : OfSurveyed later s read (λ rewind first. OpenConfigures later rewind first new)
+
+pub record AreDone (later : List Bool) (s : Surveyed) (read new : Disks) : Type 0 where
+  pub gives : OfSurveyed later s read (λ rewind first. OpenGives later rewind first s.claimed new)
+  pub labeled : AreClaimed later new s.claimed
+  pub relabels : OfSurveyed later s read (λ rewind first. OpenRelabels later first s.claimed new)
+
+kept_by_claim : (later : List Bool) (rewind : ℕ) (old read new : Disks) (s : Surveyed) → rewind < 3 → IsSurveyed later rewind old read s → AreBegun later s read new → IsKeptThrough later rewind old new
+kept_by_claim later rewind old read new s few is begun = record {
+  leads = begun.leads rewind old few is;
+  marks = begun.marks rewind old few is;
+  configures = begun.configures rewind old few is;
+}
+
+still : (out later : List Bool) (rewind : ℕ) (old surveyed read : Disks) (s : Surveyed) → AreSurveyed out later rewind old surveyed s → AreReadBeside later surveyed read → IsSurveyed later rewind old read s
+still out later rewind old surveyed read s are blocks = surveyed_still later rewind old surveyed read s are.is (block_reads_made surveyed read blocks.only)
+
+abbrev claimed_through : (out later : List Bool) (rewind : ℕ) (old surveyed read new : Disks) (s : Surveyed) → AreSurveyed out later rewind old surveyed s → AreReadBeside later surveyed read
+    → AreBegun later s read new → AreClaimedThrough out later s.claimed old new
+claimed_through out later rewind old surveyed read new s are blocks begun =
+    record { read = read; before = record { surveyed = surveyed; absent = are.absent; blocks = blocks }; claims = begun.makes }
+
+pub refused_by_claim : (out later : List Bool) (rewind : ℕ) (old surveyed read new : Disks) (shapes : List VdevShape) (s : Surveyed) (which : ℕ) → rewind < 3
+    → AreSurveyed out later rewind old surveyed s → AreReadBeside later surveyed read → AreBegun later s read new → HasFailedOn read new which → IsNotOpenedOver old shapes out rewind DiskFault
+refused_by_claim out later rewind old surveyed read new shapes s which few are blocks begun failed = record {
+  later = later;
+  new = new;
+  kept = kept_by_claim later rewind old read new s few (still out later rewind old surveyed read s are blocks) begun;
+  cause = inr (s.claimed, claimed_through out later rewind old surveyed read new s are blocks begun, inr (inl (refl, (which, failed))));
+}
+
+pub refused_by_core : (out later : List Bool) (rewind : ℕ) (old surveyed read new : Disks) (shapes : List VdevShape) (s : Surveyed) (contents : RootContents) (refusal : Refusal) → rewind < 3
+    → AreSurveyed out later rewind old surveyed s → AreReadBeside later surveyed read → AreBegun later s read new
+    → IsReadOfRoot surveyed read shapes later s.claimed.group s.claimed.root contents
+    → (refusal ≡ NoMemory) ⊎ ((refusal ≡ BadPointer) × IsBlockMisplaced new shapes later contents) → IsNotOpenedOver old shapes out rewind refusal
+refused_by_core out later rewind old surveyed read new shapes s contents refusal few are blocks begun root why = record {
+  later = later;
+  new = new;
+  kept = kept_by_claim later rewind old read new s few (still out later rewind old surveyed read s are blocks) begun;
+  cause = inr (
+    s.claimed,
+    claimed_through out later rewind old surveyed read new s are blocks begun,
+    elim why [
+      | inl memory ↦ inl memory
+      | inr it ↦ inr (inr (it.0, record { surveyed = surveyed; s = s; is = are.is; read = read; contents = contents; reads = root; why = it.1 }))
+    ],
+  );
+}
+
+-- ---- it is opened
+
+pub record IsMadeCore (later : List Bool) (new : Disks) (shapes : List VdevShape) (u : Uberblock) (contents : RootContents) (core : CoreState) : Type 0 where
+  pub disks : disks_of core ≡ new
+  pub stamped : core.commit.stamp ≡ stamp_of u
+  pub root : core.commit.kept.last.root ≡ Some u.root
+  pub represents : CoreRepresents new shapes later u contents core
+
+pub opened_over : WritesElsewhereKeep → (out later : List Bool) (rewind : ℕ) (old surveyed read new : Disks) (shapes : List VdevShape) (s : Surveyed) (contents : RootContents) (core : CoreState)
+    → rewind < 3 → IsLaidOver old shapes out → is_tolerable (vdevs_in shapes) (is_out later) ≡ true → AreSurveyed out later rewind old surveyed s → AreReadBeside later surveyed read
+    → IsReadOfRoot surveyed read shapes later s.claimed.group s.claimed.root contents → AreBegun later s read new → AreDone later s read new
+    → IsMadeCore later new shapes s.claimed contents core → IsOpenedOver old shapes out rewind s.claimed core
+opened_over keep out later rewind old surveyed read new shapes s contents core few laid tolerable are blocks root begun done made =
+    let is = still out later rewind old surveyed read s are blocks in
+    let here : AreBegun later s read (disks_of core) = subst (λ (d : Disks). AreBegun later s read d) (sym made.disks) begun in
+    let ended : AreDone later s read (disks_of core) = subst (λ (d : Disks). AreDone later s read d) (sym made.disks) done in
+    let surveys = through_made out later old surveyed (through_survey out later old surveyed are.absent) in
+    let reads = block_reads_made surveyed read blocks.only in
+    let represents = represents_root keep old surveyed read new shapes out later s.claimed contents core laid are.count surveys reads begun.makes are.whole.fits root made.disks made.represents in
+    record {
+      later = later;
+      calls = claimed_through out later rewind old surveyed read (disks_of core) s are blocks here;
+      kept = kept_by_claim later rewind old read (disks_of core) s few is here;
+      gives = ended.gives rewind old few is;
+      takes = opened_from later rewind old read (disks_of core) s are.whole.found_on is here.makes.makes;
+      labeled = ended.labeled;
+      relabels = ended.relabels rewind old few is;
+      tolerable = tolerable;
+      stamped = made.stamped;
+      root = made.root;
+      represents = represents;
+      possible = opens_possible (IsClaimWrite read.starts later s.claimed) old read new shapes later rewind s core few are.whole.found_on is begun.makes.makes made.disks represents;
+    }

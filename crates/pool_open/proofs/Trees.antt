@@ -1,0 +1,42 @@
+-- What a core represents whose disks lead to possible uberblocks.
+use Rattle.std.proofs.Common.{◌≡◌, ℕ, ◌<◌, Bool, List, length, refl, sym, ap, subst}
+use Rattle.model_disk.specs.Joint.{Disks, content}
+use Rattle.model_disk.specs.Runs.{Makes, no_write}
+use Rattle.raidz_io.specs.Reads.{IsHonestSince}
+use Rattle.block_pointer.specs.declared.block.Block.{Block}
+use Rattle.block_store.specs.Store.{is_out}
+use Rattle.block_store.specs.declared.shape.VdevShape.{VdevShape}
+use Rattle.dataset_snapshots.specs.Pools.{SpellsPool}
+use Rattle.pool_core.specs.Represents.{Represents}
+use Rattle.pool_core.specs.State.{CoreState, disks_of}
+use Rattle.pool_model.specs.View.{opened_as}
+use Rattle.pool_slots.specs.Opens.{AreOn}
+use Rattle.pool_slots.specs.Possible.{TreeStands}
+use Rattle.pool_slots.specs.Surveys.{Surveyed, IsSurveyed}
+use Rattle.pool_slots.proofs.Finding.{honest_before}
+use Rattle.pool_slots.proofs.OpenSteps.{chosen}
+use Rattle.pool_slots.proofs.Phases.{MakesOn-none}
+use Rattle.uberblock_ring.specs.declared.uberblock.Uberblock.{Uberblock}
+use Rattle.volume_rules.specs.NowMoves.{IsMadeBy}
+use Rattle.pool_open.specs.Opening.{RepresentsRoot}
+use Rattle.pool_open.specs.Trees.{OpensPossible}
+use Rattle.pool_open.specs.Words.{vdevs_in}
+
+pub opens_possible : (may : ℕ → ℕ → List ℕ → Type 0) (old read new : Disks) (shapes : List VdevShape) (later : List Bool) (rewind : ℕ) (s : Surveyed) (core : CoreState) → rewind < 3
+    → AreOn later s.found → IsSurveyed later rewind old read s → Makes may read new → disks_of core ≡ new → RepresentsRoot old shapes later s.claimed core
+    → OpensPossible old shapes later rewind s.claimed core
+opens_possible may old read new shapes later rewind s core few on surveyed makes disks represents trees p pools can are honest =
+    let honest_new = subst (λ (d : Disks). IsHonestSince old d) disks honest in
+    let says = surveyed.says can.known (honest_before (length old.calls) may read new makes honest_new) in
+    let it = chosen trees later rewind old old p s can few (MakesOn-none (λ (which : ℕ). ⊥) no_write old).makes on says in
+    let taken = it.claim.taken in
+    let tree = are taken it.claim.reached in
+    let stands : TreeStands trees later (content old) taken.root = subst (λ (root : Block). TreeStands trees later (content old) root) (ap (λ (u : Uberblock). u.root) it.claim.is) it.may.tree in
+    let spells : SpellsPool tree.stored s.claimed.group s.claimed.root (pools taken) =
+    subst (λ (u : Uberblock). SpellsPool tree.stored u.group u.root (pools taken)) (sym it.claim.is) tree.spells in
+    let made : IsMadeBy s.claimed.group (pools taken) = subst (λ (u : Uberblock). IsMadeBy u.group (pools taken)) (sym it.claim.is) tree.made in
+    record {
+      claim = it.claim;
+      represents = subst (λ (u : Uberblock). Represents core (opened_as (vdevs_in shapes) (is_out later) u.group (pools taken))) it.claim.is
+          (represents tree.stored (pools taken) (tree.held old refl stands) spells honest made);
+    }

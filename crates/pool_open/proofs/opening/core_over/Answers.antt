@@ -1,0 +1,47 @@
+use Rattle.std.proofs.Common.{◌≡◌, inl, inr, Bool, List, subst}
+use Rattle.block_store.specs.Places.{shapes_of}
+use Rattle.block_store.specs.Store.{is_out}
+use Rattle.block_store.specs.declared.shape.VdevShape.{VdevShape}
+use Rattle.pool_core.specs.Represents.{Represents}
+use Rattle.pool_core.specs.StateOf.{state_of}
+use Rattle.pool_model.specs.View.{opened_as}
+use Rattle.pool_open.specs.Held.{IsStoreOver}
+use Rattle.pool_open.specs.Words.{vdevs_in}
+use Rattle.pool_open.proofs.Stages.{lies_of}
+use Rattle.pool_open.proofs.opening.core_over.Goals as goal
+
+pub opened-requires-2-clause-labels : goal.opened-requires-2-clause-labels
+opened-requires-2-clause-labels g c =
+    let over : IsStoreOver c.args.disks c.args.shapes.now c.args.out.now c.in_ok-store.store = record {
+      disks_are = c.in_ok-store.ensures.disks;
+      shapes_are = c.in_ok-store.ensures.shapes;
+      out_is = c.in_ok-store.ensures.out;
+      since = c.in_ok-store.ensures.since;
+    } in
+    lies_of c.labels_of_opened_lie.ensures c.args.disks c.args.shapes.now c.args.out.now c.in_ok-store.store over c.requires.may
+
+pub returns-in-Ok-clause-represents : goal.returns-in-Ok-clause-represents
+returns-in-Ok-clause-represents g c stored pool hold are made =
+    let over : IsStoreOver c.args.disks c.args.shapes.now c.args.out.now c.in_ok-store.store = record {
+      disks_are = c.in_ok-store.ensures.disks;
+      shapes_are = c.in_ok-store.ensures.shapes;
+      out_is = c.in_ok-store.ensures.out;
+      since = c.in_ok-store.ensures.since;
+    } in
+    let S : List VdevShape → List Bool → Type 0 = λ s o. Represents (state_of c.in-Ok.core) (opened_as (vdevs_in s) (is_out o) c.args.claimed.now.group pool) in
+    subst (λ (s : List VdevShape). S s c.args.out.now) c.in_ok-store.ensures.shapes
+    (subst (λ (o : List Bool). S (shapes_of c.in_ok-store.store.spaces) o) c.in_ok-store.ensures.out
+    (c.in-Ok.ensures.represents stored pool (hold c.in_ok-store.store over) are made))
+
+pub returns-in-Err-clause-refused : goal.returns-in-Err-clause-refused
+returns-in-Err-clause-refused g c =
+    let over : IsStoreOver c.args.disks c.args.shapes.now c.args.out.now c.in_ok-store.store = record {
+      disks_are = c.in_ok-store.ensures.disks;
+      shapes_are = c.in_ok-store.ensures.shapes;
+      out_is = c.in_ok-store.ensures.out;
+      since = c.in_ok-store.ensures.since;
+    } in
+    elim c.in-Err.ensures.refused [
+      | inl memory ↦ inl (c.of_core.ensures.memory memory)
+      | inr it ↦ inr (c.of_core.ensures.pointer it.0, record { store = c.in_ok-store.store; over = over; empty = c.in_ok-store.ensures.empty; after = it.1; cannot = it.2 })
+    ]

@@ -1,0 +1,67 @@
+-- Why a pool is not opened, by what the layers below say.
+use Rattle.std.specs.Prelude.{ℕ, List, codes}
+use Rattle.block_store.specs.declared.refusal.Refusal.{Refusal as StoreRefusal}
+use Rattle.block_store.specs.declared.refusal.Refusal.TheVariants as store
+use Rattle.pool_format.specs.declared.refusal.Refusal.{Refusal as FormatRefusal}
+use Rattle.pool_format.specs.declared.refusal.Refusal.TheVariants as format
+use Rattle.pool_labels.specs.declared.refusal.Refusal.{Refusal as LabelsRefusal}
+use Rattle.pool_labels.specs.declared.refusal.Refusal.TheVariants as labels
+use Rattle.pool_slots.specs.declared.refusal.Refusal.{Refusal as SlotsRefusal}
+use Rattle.pool_slots.specs.declared.refusal.Refusal.TheVariants as slots
+use Rattle.pool_open.specs.declared.refusal.Refusal.{Refusal}
+use Rattle.pool_open.specs.declared.refusal.Refusal.TheVariants.{NoMemory, DiskFault, NoSpace, BadLabel, NoUberblock, BadPointer, BadDigest, TooManyMissing, PoolMismatch, BadConfig}
+
+abbrev pub number_of : Refusal → ℕ
+number_of NoMemory = 1
+number_of DiskFault = 2
+number_of NoSpace = 3
+number_of (BadLabel breach) = 18
+number_of NoUberblock = 19
+number_of BadPointer = 20
+number_of BadDigest = 21
+number_of TooManyMissing = 22
+number_of PoolMismatch = 23
+number_of BadConfig = 24
+
+abbrev pub name_of : Refusal → List ℕ
+name_of NoMemory = codes "NoMemory"
+name_of DiskFault = codes "DiskFault"
+name_of NoSpace = codes "NoSpace"
+name_of (BadLabel breach) = codes "BadLabel"
+name_of NoUberblock = codes "NoUberblock"
+name_of BadPointer = codes "BadPointer"
+name_of BadDigest = codes "BadDigest"
+name_of TooManyMissing = codes "TooManyMissing"
+name_of PoolMismatch = codes "PoolMismatch"
+name_of BadConfig = codes "BadConfig"
+
+-- the same as one of ours
+abbrev pub of_labels : LabelsRefusal → Refusal
+of_labels labels.NoMemory = NoMemory
+of_labels (labels.BadLabel breach) = BadLabel breach
+of_labels labels.NoUberblock = NoUberblock
+of_labels labels.TooManyMissing = TooManyMissing
+of_labels labels.PoolMismatch = PoolMismatch
+of_labels labels.BadConfig = BadConfig
+
+-- no claim left is no uberblock to take; a label without the configuration is none with it
+abbrev pub of_slots : SlotsRefusal → Refusal
+of_slots slots.NoMemory = NoMemory
+of_slots (slots.DiskFault disk) = DiskFault
+of_slots slots.NoUberblock = NoUberblock
+of_slots slots.NoLabel = BadConfig
+of_slots slots.UsedUp = NoUberblock
+
+-- the same as one of ours
+abbrev pub of_store : StoreRefusal → Refusal
+of_store store.NoMemory = NoMemory
+of_store store.DiskFault = DiskFault
+of_store store.NoSpace = NoSpace
+of_store store.BadPointer = BadPointer
+of_store store.BadDigest = BadDigest
+of_store store.BadConfig = BadConfig
+
+-- the disk that failed isn't told
+abbrev pub of_format : FormatRefusal → Refusal
+of_format format.NoMemory = NoMemory
+of_format (format.DiskFault disk) = DiskFault

@@ -1,0 +1,145 @@
+-- Opening a pool whose disks are in order.
+use Rattle.std.specs.Prelude.{ℕ, ◌≡◌, ◌⊎◌, ◌≤◌, Bool, true, false, Some, List}
+use Rattle.model_disk.specs.Joint.{Disks}
+use Rattle.raidz_io.specs.Reads.{IsHonestSince}
+use Rattle.block_store.specs.Blocks.{Contents}
+use Rattle.block_store.specs.Opened.{CannotTakeIn, MayBeOpened}
+use Rattle.block_store.specs.Places.{AreEmpty}
+use Rattle.block_store.specs.Releases.{copies_of_all}
+use Rattle.block_store.specs.Spaces.{VdevSpace}
+use Rattle.block_store.specs.Store.{Store, is_out}
+use Rattle.block_store.specs.declared.refusal.Refusal.{Refusal as StoreRefusal}
+use Rattle.block_store.specs.declared.shape.VdevShape.{VdevShape}
+use Rattle.dataset_snapshots.specs.Pools.{SpellsPool}
+use Rattle.dataset_snapshots.specs.declared.contents.RootContents.{RootContents}
+use Rattle.pool_core.specs.Represents.{Represents}
+use Rattle.pool_core.specs.State.{CoreState, disks_of}
+use Rattle.pool_model.specs.Pools.{PlainPool}
+use Rattle.pool_model.specs.Refusals.{greatest}
+use Rattle.pool_model.specs.View.{is_tolerable, opened_as}
+use Rattle.pool_slots.specs.Configs.{OpenConfigures}
+use Rattle.pool_slots.specs.Failures.{HasFailedOn}
+use Rattle.pool_slots.specs.Labels.{AreClaimed, IsClaimWrite}
+use Rattle.pool_slots.specs.Opens.{OpenGives, OpenKeeps, OpenMarks, OpenTakes}
+use Rattle.pool_slots.specs.Present.{GoOut, IsNoFault}
+use Rattle.pool_slots.specs.Relabels.{OpenRelabels}
+use Rattle.pool_slots.specs.Slots.{InUse, MakesOn}
+use Rattle.pool_slots.specs.Surveys.{Surveyed, IsSurveyed, SurveyRefuses}
+use Rattle.pool_slots.specs.declared.refusal.Refusal.{Refusal as SlotsRefusal}
+use Rattle.uberblock_ring.specs.declared.uberblock.Uberblock.{Uberblock}
+use Rattle.volume_rules.specs.NowMoves.{IsMadeBy}
+use Rattle.pool_open.specs.Causes.{of_slots, of_store}
+use Rattle.pool_open.specs.Held.{HoldOver, IsStoreOver}
+use Rattle.pool_open.specs.Roots.{AreReadBeside, IsReadOfRoot, RootRefuses}
+use Rattle.pool_open.specs.Trees.{OpensPossible}
+use Rattle.pool_open.specs.Words.{most_blocks, stamp_of, vdevs_in}
+use Rattle.pool_open.specs.declared.refusal.Refusal.{Refusal}
+use Rattle.pool_open.specs.declared.refusal.Refusal.TheVariants.{NoMemory, DiskFault, NoUberblock, BadPointer, TooManyMissing, BadConfig}
+
+-- ---- which calls are made
+
+-- Disks in use were read, and those of which a read failed are out now. Then blocks were read of the others.
+pub record AreReadThrough (out later : List Bool) (old new : Disks) : Type 0 where
+  pub surveyed : Disks
+  pub absent : GoOut out later old surveyed
+  pub blocks : AreReadBeside later surveyed new
+
+-- And then an uberblock was claimed on those that are still in use, or a claim of it was begun.
+pub record AreClaimedThrough (out later : List Bool) (claimed : Uberblock) (old new : Disks) : Type 0 where
+  pub read : Disks
+  pub before : AreReadThrough out later old read
+  pub claims : MakesOn (InUse later) (IsClaimWrite read.starts later claimed) read new
+
+-- Stopped at any moment since, inside a device call too, the disks lead to one of the possible uberblocks or to a claim of one, and their
+-- labels show the claim and the configuration.
+pub record IsKeptThrough (later : List Bool) (rewind : ℕ) (old new : Disks) : Type 0 where
+  pub leads : OpenKeeps later rewind old new
+  pub marks : OpenMarks later rewind old new
+  pub configures : OpenConfigures later rewind old new
+
+-- ---- an open that is done
+
+-- Where the disks still in use have the blocks of a root that spells a pool, and all answers were true, the core represents that pool.
+abbrev pub RepresentsRoot : Disks → List VdevShape → List Bool → Uberblock → CoreState → Type 0
+RepresentsRoot old shapes later claimed core =
+    (stored : Contents) (pool : PlainPool) → HoldOver old shapes later stored → SpellsPool stored claimed.group claimed.root pool
+    → IsHonestSince old (disks_of core) → IsMadeBy claimed.group pool
+    → Represents core (opened_as (vdevs_in shapes) (is_out later) claimed.group pool)
+
+-- An uberblock was claimed on the disks that are still in use, and the core goes on from its group.
+pub record IsOpenedOver (old : Disks) (shapes : List VdevShape) (out : List Bool) (rewind : ℕ) (claimed : Uberblock) (core : CoreState) : Type 0 where
+  pub later : List Bool
+  pub calls : AreClaimedThrough out later claimed old (disks_of core)
+  pub kept : IsKeptThrough later rewind old (disks_of core)
+  pub gives : OpenGives later rewind old claimed (disks_of core)
+  pub takes : OpenTakes later rewind old claimed (disks_of core)
+  pub labeled : AreClaimed later (disks_of core) claimed
+  pub relabels : OpenRelabels later old claimed (disks_of core)
+  pub tolerable : is_tolerable (vdevs_in shapes) (is_out later) ≡ true
+  pub stamped : core.commit.stamp ≡ stamp_of claimed
+  pub root : core.commit.kept.last.root ≡ Some claimed.root
+  pub represents : RepresentsRoot old shapes later claimed core
+  pub possible : OpensPossible old shapes later rewind claimed core
+
+-- ---- an open that is refused
+
+-- the slots or labels were refused; or no group is left after that which is taken; or of a vdev too many disks are out
+abbrev pub IsSurveyRefused : List VdevShape → List Bool → ℕ → Disks → Disks → Refusal → Type 0
+IsSurveyRefused shapes later rewind old new refusal =
+    ((cause : SlotsRefusal) × (refusal ≡ of_slots cause) × SurveyRefuses later rewind old new cause × IsNoFault cause)
+    ⊎ (((refusal ≡ NoUberblock) × ((s : Surveyed) × IsSurveyed later rewind old new s × (greatest ≤ s.claimed.group)))
+    ⊎ ((refusal ≡ TooManyMissing) × (is_tolerable (vdevs_in shapes) (is_out later) ≡ false)))
+
+-- what was surveyed has a root that was refused
+pub record IsRootUnread (old : Disks) (shapes : List VdevShape) (later : List Bool) (rewind : ℕ) (refusal : Refusal) : Type 0 where
+  pub surveyed : Disks
+  pub s : Surveyed
+  pub is : IsSurveyed later rewind old surveyed s
+  pub cause : StoreRefusal
+  pub same : refusal ≡ of_store cause
+  pub why : RootRefuses surveyed shapes later s.claimed.group s.claimed.root (most_blocks shapes) cause
+
+-- a copy of a block has no place of the pool, or shares a sector with another
+pub record IsBlockMisplaced (disks : Disks) (shapes : List VdevShape) (later : List Bool) (contents : RootContents) : Type 0 where
+  pub store : Store
+  pub over : IsStoreOver disks shapes later store
+  pub empty : AreEmpty store.spaces
+  pub after : List VdevSpace
+  pub cannot : CannotTakeIn store.spaces (copies_of_all contents.blocks.items) after
+
+-- of what was read of the root that was surveyed
+pub record IsReadMisplaced (old new : Disks) (shapes : List VdevShape) (later : List Bool) (rewind : ℕ) : Type 0 where
+  pub surveyed : Disks
+  pub s : Surveyed
+  pub is : IsSurveyed later rewind old surveyed s
+  pub read : Disks
+  pub contents : RootContents
+  pub reads : IsReadOfRoot surveyed read shapes later s.claimed.group s.claimed.root contents
+  pub why : IsBlockMisplaced new shapes later contents
+
+-- Before anything was written: want of memory; the vdevs don't lie on the disks; slots, labels or absent disks; the root.
+abbrev pub IsCauseOfReading : Disks → Disks → List VdevShape → List Bool → List Bool → ℕ → Refusal → Type 0
+IsCauseOfReading old new shapes out later rewind refusal =
+    (refusal ≡ NoMemory)
+    ⊎ (((refusal ≡ BadConfig) × ¬ MayBeOpened old.starts shapes out)
+    ⊎ (IsSurveyRefused shapes later rewind old new refusal
+    ⊎ IsRootUnread old shapes later rewind refusal))
+
+-- Once a claim was begun: want of memory; a write or flush of it failed; two blocks share a sector.
+abbrev pub IsCauseOfClaim : Disks → Disks → Disks → List VdevShape → List Bool → ℕ → Refusal → Type 0
+IsCauseOfClaim old read new shapes later rewind refusal =
+    (refusal ≡ NoMemory)
+    ⊎ (((refusal ≡ DiskFault) × ((which : ℕ) × HasFailedOn read new which))
+    ⊎ ((refusal ≡ BadPointer) × IsReadMisplaced old new shapes later rewind))
+
+abbrev pub IsOpenCause : Disks → Disks → List VdevShape → List Bool → List Bool → ℕ → Refusal → Type 0
+IsOpenCause old new shapes out later rewind refusal =
+    (AreReadThrough out later old new × IsCauseOfReading old new shapes out later rewind refusal)
+    ⊎ ((claimed : Uberblock) × (through : AreClaimedThrough out later claimed old new) × IsCauseOfClaim old through.read new shapes later rewind refusal)
+
+-- The disks are as a stop in the open might leave them, and there is a cause.
+pub record IsNotOpenedOver (old : Disks) (shapes : List VdevShape) (out : List Bool) (rewind : ℕ) (refusal : Refusal) : Type 0 where
+  pub later : List Bool
+  pub new : Disks
+  pub kept : IsKeptThrough later rewind old new
+  pub cause : IsOpenCause old new shapes out later rewind refusal

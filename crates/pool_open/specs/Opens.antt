@@ -1,0 +1,45 @@
+-- Opening a pool on disks that are handed in, in any order.
+use Rattle.std.specs.Prelude.{ℕ, ◌≡◌, ◌⊎◌, Bool, List, map}
+use Rattle.model_disk.specs.Joint.{Disks, calls_on, log_of}
+use Rattle.model_disk.specs.Member.{calls_of, start_of}
+use Rattle.model_disk.specs.declared.disk.Disk as disk
+use Rattle.model_disk.specs.declared.member.Member.{Member}
+use Rattle.block_store.specs.declared.shape.VdevShape.{VdevShape}
+use Rattle.pool_core.specs.State.{CoreState}
+use Rattle.pool_labels.specs.declared.refusal.Refusal.{Refusal as LabelsRefusal}
+use Rattle.uberblock_ring.specs.declared.uberblock.Uberblock.{Uberblock}
+use Rattle.pool_open.specs.Causes.{of_labels}
+use Rattle.pool_open.specs.Finding.{FindRefuses, IsFoundPool}
+use Rattle.pool_open.specs.Opening.{IsNotOpenedOver, IsOpenedOver}
+use Rattle.pool_open.specs.declared.refusal.Refusal.{Refusal}
+
+module _ {D : Type 0} where
+  -- A pool was found on the disks, and its children's disks stand in an array in the order of its configuration.
+  pub record AreInOrder (g : disk.Ghosts D) (disks : List D) (rewind : ℕ) (array : Disks) (shapes : List VdevShape) (out : List Bool) : Type 0 where
+    pub members : List (Member D)
+    pub highest : Uberblock
+    pub taken : Uberblock
+    pub found : IsFoundPool g disks rewind members out shapes highest taken
+    pub starts : array.starts ≡ map (start_of g) members
+    pub calls : (which : ℕ) → calls_on which array.calls ≡ log_of (map (calls_of g) members) which
+
+  -- and it was opened over them
+  pub record IsOpened (g : disk.Ghosts D) (disks : List D) (rewind : ℕ) (claimed : Uberblock) (core : CoreState) : Type 0 where
+    pub array : Disks
+    pub shapes : List VdevShape
+    pub out : List Bool
+    pub ordered : AreInOrder g disks rewind array shapes out
+    pub opened : IsOpenedOver array shapes out rewind claimed core
+
+  -- or it was not
+  pub record IsUnopened (g : disk.Ghosts D) (disks : List D) (rewind : ℕ) (refusal : Refusal) : Type 0 where
+    pub array : Disks
+    pub shapes : List VdevShape
+    pub out : List Bool
+    pub ordered : AreInOrder g disks rewind array shapes out
+    pub refused : IsNotOpenedOver array shapes out rewind refusal
+
+  -- why no pool is opened: none was found, or that which was found is refused
+  abbrev pub OpenRefuses : disk.Ghosts D → List D → ℕ → Refusal → Type 0
+  OpenRefuses g disks rewind refusal =
+      ((cause : LabelsRefusal) × (refusal ≡ of_labels cause) × FindRefuses g disks rewind cause) ⊎ IsUnopened g disks rewind refusal

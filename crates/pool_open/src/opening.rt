@@ -1,0 +1,201 @@
+//! Opening a pool whose disks are in order.
+ghost use Rattle.std.specs.Prelude.{◌≡◌, ◌⊎◌, ◌<◌, List, length, Some, true, IfErr, IfOk};
+ghost use Rattle.block_store.specs.Blocks.{Contents};
+ghost use Rattle.block_store.specs.Opened.{MayBeOpened};
+ghost use Rattle.block_store.specs.Store.{is_out};
+ghost use Rattle.dataset_snapshots.specs.Contents.{AreContentsOf};
+ghost use Rattle.pool_core.specs.Represents.{Represents};
+ghost use Rattle.pool_core.specs.StateOf.{disks_in, state_of};
+ghost use Rattle.pool_model.specs.Pools.{PlainPool};
+ghost use Rattle.pool_model.specs.declared.refusal.Refusal.TheVariants as Causes;
+ghost use Rattle.pool_model.specs.Refusals.{greatest};
+ghost use Rattle.pool_model.specs.View.{is_tolerable, opened_as};
+ghost use Rattle.pool_open.specs.Held.{HoldOver, IsLaidOver};
+ghost use Rattle.pool_open.specs.Opening.{IsBlockMisplaced, IsNotOpenedOver, IsOpenedOver, IsSurveyRefused};
+ghost use Rattle.pool_open.specs.Words.{stamp_of, vdevs_in};
+ghost use Rattle.pool_slots.specs.Present.{GoOut};
+ghost use Rattle.pool_slots.specs.Slots.{HaveLabels};
+ghost use Rattle.pool_slots.specs.Surveys.{IsSurveyed, IsWholeOf};
+ghost use Rattle.uberblock_ring.specs.Uberblock.{IsNumber};
+ghost use Rattle.volume_rules.specs.NowMoves.{IsMadeBy};
+
+use crate::refusal::Refusal;
+use crate::roots::{ReadRoot, read_root};
+use crate::tolerance::{are_tolerable, count_sectors};
+use block_store::{BlockStore, VdevShape, writes_elsewhere_keep};
+use dataset_snapshots::RootContents;
+use model_disk::{Disk, DiskArray};
+use pool_commit::{Stamp, labels_of_opened_lie};
+use pool_core::Core;
+use pool_slots::{Survey, claim, survey_present};
+use std::alloc::Global;
+use uberblock_ring::Uberblock;
+use words::LAST_COUNT;
+
+/// A pool that was opened.
+#[derive(Drop)]
+pub struct OpenedPool<D: Disk + Drop> {
+    pub core: Core<D>,
+    /// What it goes on from.
+    pub uberblock: Uberblock,
+}
+
+/// The disks, where a store may be opened over them.
+pub(crate) fn fitting<D: Disk + Drop>(
+    alloc: Global,
+    disks: DiskArray<D>,
+    shapes: &[VdevShape],
+    out: &[bool],
+) -> Result<DiskArray<D>, Refusal>
+    ensures same { IfOk result (λ array. array ≡ disks) }
+    ensures may { IfOk result (λ _. MayBeOpened disks.starts shapes.now out.now) }
+    ensures labels { IfOk result (λ _. HaveLabels disks.starts) }
+    ensures laid { IfOk result (λ _. IsLaidOver disks shapes.now out.now) }
+    ensures refused { IfErr result (λ refusal. (refusal ≡ Refusal.NoMemory)
+        ⊎ ((refusal ≡ Refusal.BadConfig) × ¬ MayBeOpened disks.starts shapes.now out.now)) }
+{
+    labels_of_opened_lie();
+    let store = BlockStore::opened(alloc, disks, shapes, out)?;
+    Ok(store.into_array())
+}
+
+/// Surveys the disks in use. `NoUberblock` also where no group is left after the one that is taken, and `TooManyMissing` where of a vdev
+/// more disks are out then than it has parities.
+fn survey_disks<D: Disk + Drop>(
+    alloc: Global,
+    disks: &mut DiskArray<D>,
+    out: &mut Vec<bool>,
+    shapes: &[VdevShape],
+    rewind: u64,
+) -> Result<Survey, Refusal>
+    requires may { MayBeOpened disks.old.starts shapes.now out.old.items }
+    requires labels { HaveLabels disks.old.starts }
+    ensures count { length out.new.items ≡ length disks.old.starts }
+    ensures absent { GoOut out.old.items out.new.items disks.old disks.new }
+    ensures whole { IfOk result (IsWholeOf out.new.items disks.old.starts) }
+    ensures surveyed { IfOk result (IsSurveyed out.new.items rewind disks.old disks.new) }
+    ensures below { IfOk result (λ survey. survey.claimed.group < greatest) }
+    ensures tolerable { IfOk result (λ _.
+        is_tolerable (vdevs_in shapes.now) (is_out out.new.items) ≡ true) }
+    ensures refused { IfErr result
+        (IsSurveyRefused shapes.now out.new.items rewind disks.old disks.new) }
+{
+    let survey = survey_present(alloc, disks, out, rewind)?;
+    let claimed = survey.claimed();
+    if claimed.group >= LAST_COUNT {
+        return Err(Refusal::NoUberblock);
+    }
+    if !are_tolerable(shapes, out) {
+        return Err(Refusal::TooManyMissing);
+    }
+    Ok(survey)
+}
+
+/// Why there is no core: memory ran out, or a block has no place of its own.
+fn of_core(cause: pool_model::Refusal) -> Refusal
+    ensures memory { cause ≡ Causes.NoMemory → result ≡ Refusal.NoMemory }
+    ensures pointer { cause ≡ Causes.BadPointer → result ≡ Refusal.BadPointer }
+{
+    match cause {
+        pool_model::Refusal::NoMemory => Refusal::NoMemory,
+        _ => Refusal::BadPointer,
+    }
+}
+
+/// The core of a pool that was claimed.
+pub(crate) fn core_over<D: Disk + Drop>(
+    alloc: Global,
+    disks: DiskArray<D>,
+    shapes: &[VdevShape],
+    out: &[bool],
+    claimed: &Uberblock,
+    contents: RootContents,
+) -> Result<Core<D>, Refusal>
+    requires may { MayBeOpened disks.starts shapes.now out.now }
+    requires claim { IsNumber claimed.now.claim }
+    requires below { claimed.now.group < greatest }
+    ensures disks { IfOk result (λ core. disks_in core ≡ disks) }
+    ensures stamped { IfOk result (λ core. (state_of core).commit.stamp ≡ stamp_of claimed.now) }
+    ensures root { IfOk result (λ core.
+        (state_of core).commit.kept.last.root ≡ Some claimed.now.root) }
+    ensures represents { IfOk result (λ core. (stored : Contents) (pool : PlainPool)
+        → HoldOver disks shapes.now out.now stored
+        → AreContentsOf stored claimed.now.group claimed.now.root pool contents
+        → IsMadeBy claimed.now.group pool → Represents (state_of core)
+        (opened_as (vdevs_in shapes.now) (is_out out.now) claimed.now.group pool)) }
+    ensures refused { IfErr result (λ refusal. (refusal ≡ Refusal.NoMemory)
+        ⊎ ((refusal ≡ Refusal.BadPointer)
+        × IsBlockMisplaced disks shapes.now out.now contents)) }
+{
+    labels_of_opened_lie();
+    let store = BlockStore::opened(alloc, disks, shapes, out)?;
+    let stamp = Stamp {
+        guid_sum: claimed.guid_sum,
+        claim: claimed.claim,
+        config_digest: claimed.config_digest,
+    };
+    match Core::opened(alloc, store, stamp, claimed.group, claimed.root, contents) {
+        Ok(core) => Ok(core),
+        Err(cause) => Err(of_core(cause)),
+    }
+}
+
+/// The same over disks that a store may be opened over.
+fn open_fitting<D: Disk + Drop>(
+    alloc: Global,
+    disks: DiskArray<D>,
+    shapes: &[VdevShape],
+    out: Vec<bool>,
+    rewind: u64,
+) -> Result<OpenedPool<D>, Refusal>
+    requires rewind { rewind < 3 }
+    requires may { MayBeOpened disks.starts shapes.now out.items }
+    requires labels { HaveLabels disks.starts }
+    requires laid { IsLaidOver disks shapes.now out.items }
+    ensures opened { IfOk result (λ pool.
+        IsOpenedOver disks shapes.now out.items rewind pool.uberblock (state_of pool.core)) }
+    ensures refused { IfErr result (IsNotOpenedOver disks shapes.now out.items rewind) }
+{
+    writes_elsewhere_keep();
+    let mut out = out;
+    let mut disks = disks;
+    let survey = survey_disks(alloc, &mut disks, &mut out, shapes, rewind)?;
+    let taken = survey.claimed();
+    let left = count_sectors(shapes);
+    let read = read_root(alloc, disks, shapes, &out, &taken.root, taken.group, left)?;
+    let ReadRoot {
+        mut disks,
+        contents,
+    } = read;
+    let claimed = claim(&survey, &mut disks, &out)?;
+    let core = core_over(alloc, disks, shapes, &out, &claimed, contents)?;
+    Ok(OpenedPool {
+        core,
+        uberblock: claimed,
+    })
+}
+
+/// Opens a pool whose disks are in the order of its configuration: reads what they show and what its root holds, claims it, and goes
+/// on from its group. Where it goes back (`rewind`, 1 or 2) it is the group that is so many less. A disk of which a label or slot can't
+/// be read is out from then on, and nothing is written to it.
+///
+/// `BadConfig` where the vdevs don't lie on the disks; what `survey_present` answers, and no group left is `NoUberblock` too;
+/// `TooManyMissing` where of a vdev more disks are out than it has parities; `BadPointer`, `BadDigest` and `DiskFault` come from reading
+/// what the root holds. Until then nothing was written. `DiskFault` where a write or flush of the claim failed, and `BadPointer` where
+/// two blocks share a sector.
+pub fn open_over<D: Disk + Drop>(
+    alloc: Global,
+    disks: DiskArray<D>,
+    shapes: &[VdevShape],
+    out: Vec<bool>,
+    rewind: u64,
+) -> Result<OpenedPool<D>, Refusal>
+    requires rewind { rewind < 3 }
+    requires out { length out.items ≡ length disks.starts }
+    ensures opened { IfOk result (λ pool.
+        IsOpenedOver disks shapes.now out.items rewind pool.uberblock (state_of pool.core)) }
+    ensures refused { IfErr result (IsNotOpenedOver disks shapes.now out.items rewind) }
+{
+    let disks = fitting(alloc, disks, shapes, &out)?;
+    open_fitting(alloc, disks, shapes, out, rewind)
+}

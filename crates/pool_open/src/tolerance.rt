@@ -1,0 +1,49 @@
+//! Whether a pool bears that disks are out, and how large it is.
+ghost use Rattle.std.specs.Prelude.{◌≡◌, ◌≤◌, ◌+◌, ◌-◌, ◌^◌, length, min, All};
+ghost use Rattle.block_store.specs.Store.{is_out};
+ghost use Rattle.pool_model.specs.View.{is_tolerable, lost_in};
+ghost use Rattle.pool_open.specs.Words.{LiesAmong, sectors_in, vdevs_in};
+
+use block_store::VdevShape;
+use raidz_io::Vdev;
+
+/// How many disks of a vdev are out.
+fn count_out(out: &[bool], vdev: Vdev) -> u32
+    requires there { vdev.first + vdev.geometry.children ≤ length out.now }
+    ensures { result ≡ lost_in (is_out out.now) vdev.first vdev.geometry.children }
+{
+    let mut count = 0;
+    for child in 0..vdev.geometry.children {
+        if out[vdev.first + child as usize] {
+            count += 1;
+        }
+    }
+    count
+}
+
+/// Whether of no vdev more disks are out than it has parities.
+pub(crate) fn are_tolerable(shapes: &[VdevShape], out: &[bool]) -> bool
+    requires there { All (LiesAmong (length out.now)) shapes.now }
+    ensures { result ≡ is_tolerable (vdevs_in shapes.now) (is_out out.now) }
+{
+    for index in 0..shapes.len() {
+        let vdev = shapes[index].vdev;
+        if count_out(out, vdev) > vdev.geometry.parity {
+            return false;
+        }
+    }
+    true
+}
+
+/// How many sectors the vdevs have, or the greatest number where they have more.
+pub(crate) fn count_sectors(shapes: &[VdevShape]) -> u64
+    ensures { result ≡ min (sectors_in shapes.now) (2 ^ 64 - 1) }
+{
+    let mut count: u64 = 0;
+    for index in 0..shapes.len() {
+        let shape = shapes[index];
+        let children = u64::from(shape.vdev.geometry.children);
+        count = count.saturating_add(shape.child_sectors.saturating_mul(children));
+    }
+    count
+}
