@@ -1,5 +1,5 @@
 -- The best of the labels that were read of a disk.
-use Rattle.std.proofs.Common.{◌≡◌, ◌⊎◌, inl, inr, ◌<◌, ◌≤◌, ◌∙◌, ℕ, ◌+◌, List, length, slice_get, Option, Some, None, Result, Ok, Err, IfOk, refl, sym, ap, subst, arith}
+use Rattle.std.proofs.Common.{◌≡◌, ◌⊎◌, inl, inr, ◌<◌, ◌≤◌, ◌∙◌, ℕ, ◌+◌, List, length, Option, Some, None, Result, Ok, Err, IfOk, refl, sym, ap, subst, arith}
 use Rattle.std.specs.Prelude.{Vec}
 use Rattle.std.specs.declared.alloc.Global.{Global}
 use Rattle.std.proofs.lemmas.Bool.{cases_lt}
@@ -29,8 +29,8 @@ use Rattle.pool_slots.proofs.LabelAreas.{area_len, inscribed_is, label_not_read,
 use Rattle.pool_slots.proofs.LabelScans.{label_earlier, label_later}
 use Rattle.pool_slots.proofs.Reading.{longer}
 use Rattle.pool_export.specs.Faults.{IsFaultOf}
-use Rattle.pool_export.specs.Reads.{IsAbove, IsBetter, IsBetterOf, IsToldOf, ReadsArea, ReadsBest, ReadsBetter, shows_none, unread_as}
-use Rattle.pool_export.specs.Taken.{IsTaken, exported}
+use Rattle.pool_export.specs.Reads.{IsAbove, IsBetter, IsBetterOf, IsToldOf, ReadsArea, ReadsBest, ReadsBetter, unread_as}
+use Rattle.pool_export.specs.Taken.{exported}
 use Rattle.pool_export.specs.declared.refusal.Refusal.{Refusal}
 use Rattle.pool_export.specs.declared.refusal.Refusal.TheVariants.{NoMemory, DiskFault, NoLabel}
 
@@ -243,8 +243,3 @@ area_read u old new which it area fits best spells = (
   ),
   λ known honest. let taken = best.2 known honest in record { number = taken.0; label = label_view it; taken = taken.1; spells = spells },
 )
-
-pub area_refused : (u : Uberblock) (old new : Disks) (which : ℕ) (refusal : Refusal) → ReadsBest u.config_digest old new which (Err refusal) → ReadsArea u old new which (Err refusal)
-area_refused u old new which NoMemory it = tt
-area_refused u old new which (DiskFault d) it = it
-area_refused u old new which (NoLabel d) it = absurd it

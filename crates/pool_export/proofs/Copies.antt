@@ -6,13 +6,13 @@ use Rattle.std.proofs.lemmas.Option.{slice_get-get_or}
 use Rattle.model_disk.specs.Call.{Wrote, write_call}
 use Rattle.model_disk.specs.Contents.{covers}
 use Rattle.model_disk.specs.Joint.{Disks, on, bytes_of, content}
-use Rattle.model_disk.specs.Runs.{IsOff, Makes}
+use Rattle.model_disk.specs.Runs.{IsOff}
 use Rattle.model_disk.proofs.LawLemmas.{written_bytes_stand}
 use Rattle.model_disk.proofs.RunLemmas.{off_content}
 use Rattle.pool_slots.specs.Labels.{area_place}
 use Rattle.pool_slots.specs.Slots.{MakesOn, is_disk}
 use Rattle.pool_slots.specs.Writes.{InHalf}
-use Rattle.pool_slots.proofs.Phases.{MakesOn-none, MakesOn-more, MakesOn-wider}
+use Rattle.pool_slots.proofs.Phases.{MakesOn-more, MakesOn-wider}
 use Rattle.pool_slots.proofs.Places.{apart_covers, labels_apart}
 use Rattle.pool_slots.proofs.Writing.{MakesOn-write}
 use Rattle.pool_export.specs.Writes.{AreWhole, AreaStands, Areas, HasArea, IsAreaOf, IsAreaWrite, IsCopy, StandsOn, copy_on, on_one}

@@ -1,15 +1,11 @@
 -- An export: the reads, and then the writes.
-use Rattle.std.proofs.Common.{◌≡◌, inl, inr, ◌<◌, ◌≤◌, ◌∙◌, ℕ, ◌+◌, Bool, List, length, slice_get, Some, Err, refl, sym, ap, subst, arith}
-use Rattle.std.specs.Prelude.{Vec}
-use Rattle.std.specs.declared.alloc.Global.{Global}
+use Rattle.std.proofs.Common.{inl, inr, ◌≤◌, ◌∙◌, ℕ, Bool, List, length, slice_get, Err, sym, ap, subst, arith}
 use Rattle.uberblock_ring.specs.declared.uberblock.Uberblock.{Uberblock}
 use Rattle.uberblock_ring.specs.Uberblock.{Fits}
-use Rattle.model_disk.specs.Joint.{Disks, bytes_of, content, AreHonestSince}
+use Rattle.model_disk.specs.Joint.{Disks, content, AreHonestSince}
 use Rattle.model_disk.specs.Runs.{EachSince, Makes, no_write}
-use Rattle.vdev_label.specs.Plain.{PlainLabel}
 use Rattle.pool_slots.specs.Configs.{LeavesConfigured, of_config}
-use Rattle.pool_slots.specs.Labels.{area_place}
-use Rattle.pool_slots.specs.Marks.{LeavesMarked, MarkedAlways}
+use Rattle.pool_slots.specs.Marks.{LeavesMarked}
 use Rattle.pool_slots.specs.Opens.{AreKnown}
 use Rattle.pool_slots.specs.Phases.{IsRelabel}
 use Rattle.pool_slots.specs.Failures.{IsFailure}

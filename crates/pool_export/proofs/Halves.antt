@@ -1,7 +1,5 @@
 -- One half of the labels of all disks.
-use Rattle.std.proofs.Common.{◌≡◌, ◌⊎◌, inl, inr, ◌<◌, ◌≤◌, ◌∙◌, ℕ, ◌+◌, Bool, List, length, slice_get, Option, Some, refl, sym, ap, subst, arith}
-use Rattle.std.specs.Prelude.{Vec}
-use Rattle.std.specs.declared.alloc.Global.{Global}
+use Rattle.std.proofs.Common.{◌≡◌, ◌⊎◌, inl, inr, ◌<◌, ◌≤◌, ◌∙◌, ℕ, ◌+◌, Bool, List, length, Option, Some, sym, ap, subst, arith}
 use Rattle.std.proofs.lemmas.Bool.{cases_lt}
 use Rattle.std.proofs.lemmas.Option.{slice_get_within}
 use Rattle.model_disk.specs.Call.{Call}
@@ -10,10 +8,10 @@ use Rattle.model_disk.specs.Joint.{Disks, bytes_of, calls_on, content}
 use Rattle.model_disk.specs.Runs.{Makes, no_write}
 use Rattle.model_disk.proofs.RunLemmas.{off_content}
 use Rattle.pool_slots.specs.Labels.{area_place}
-use Rattle.pool_slots.specs.Slots.{AreThere, HaveLabels, InUse, MakesOn}
+use Rattle.pool_slots.specs.Slots.{HaveLabels, InUse, MakesOn}
 use Rattle.pool_slots.specs.Writes.{InHalf}
 use Rattle.pool_slots.proofs.Phases.{MakesOn-more, MakesOn-wider, none_same}
-use Rattle.pool_export.specs.Writes.{AreWhole, AreaStands, Areas, AreasOn, AreasStand, HasArea, IsAreaOf, IsAreaWrite, StandsOn, is_any, on_one}
+use Rattle.pool_export.specs.Writes.{AreWhole, Areas, AreasOn, AreasStand, HasArea, IsAreaWrite, StandsOn, is_any, on_one}
 use Rattle.pool_export.proofs.Copies.{off_area_writes}
 
 -- ---- disk by disk

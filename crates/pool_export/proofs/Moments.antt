@@ -1,14 +1,12 @@
 -- What a stop leaves, at each moment of an export.
-use Rattle.std.proofs.Common.{◌≡◌, inl, inr, ◌<◌, ◌≤◌, ◌∙◌, ℕ, ◌+◌, Bool, List, [], length, slice_get, get_or, Option, Some, refl, sym, ap, subst, arith}
-use Rattle.std.specs.Prelude.{Vec}
-use Rattle.std.specs.declared.alloc.Global.{Global}
+use Rattle.std.proofs.Common.{◌≡◌, inl, inr, ◌<◌, ◌∙◌, ℕ, ◌+◌, Bool, List, [], length, slice_get, get_or, Option, Some, refl, sym, ap, subst, arith}
 use Rattle.std.proofs.lemmas.Option.{slice_get-get_or}
 use Rattle.uberblock_ring.specs.declared.uberblock.Uberblock.{Uberblock}
 use Rattle.model_disk.specs.Joint.{JointCall, Disks, bytes_of, content, MayLeaveAll}
 use Rattle.model_disk.specs.Runs.{EachSince, IsOff, Makes, no_write}
 use Rattle.model_disk.proofs.RunLemmas.{each_after, each_weaker, off_is_left, Makes-wider}
 use Rattle.vdev_label.specs.Plain.{PlainLabel}
-use Rattle.pool_slots.specs.Commits.{AreAt, AreOffLabels, LeadAlways}
+use Rattle.pool_slots.specs.Commits.{AreAt, AreOffLabels}
 use Rattle.pool_slots.specs.Configs.{LeavesConfigured, of_config}
 use Rattle.pool_slots.specs.Labels.{IsLabelShown, area_place, inscribed}
 use Rattle.pool_slots.specs.Marks.{LeavesMarked, MarkedAlways}
@@ -23,8 +21,8 @@ use Rattle.pool_slots.proofs.LabelScans.{label_later}
 use Rattle.pool_slots.proofs.PhaseSteps as steps
 use Rattle.pool_slots.proofs.Phases.{IsPhase, phase_leaves, settled_later}
 use Rattle.pool_slots.proofs.Places.{length-spelled}
-use Rattle.pool_export.specs.Moments.{AllSpell, ExportLeads, HasEven, HaveEven, IsLeading, Spells, of_claim_from}
-use Rattle.pool_export.specs.Writes.{AreWhole, Areas, AreasOn, AreasStand, IsAreaOf, IsAreaWrite}
+use Rattle.pool_export.specs.Moments.{AllSpell, ExportLeads, HaveEven, IsLeading, of_claim_from}
+use Rattle.pool_export.specs.Writes.{AreWhole, Areas, AreasOn, AreasStand, IsAreaWrite}
 use Rattle.pool_export.proofs.Copies.{off_area_writes}
 use Rattle.pool_export.proofs.Halves.{not_both}
 

@@ -1,13 +1,12 @@
 -- What was read of all disks.
-use Rattle.std.proofs.Common.{◌≡◌, ◌⊎◌, inl, inr, ◌<◌, ◌≤◌, ◌∙◌, ℕ, zero, suc, Bool, List, [], ◌∷◌, ◌++◌, length, slice_get, Option, Some, None, Result, Ok, Err, refl, sym, ap, subst, arith}
+use Rattle.std.proofs.Common.{◌≡◌, ◌⊎◌, inl, inr, ◌<◌, ◌∙◌, ℕ, zero, suc, Bool, List, [], ◌∷◌, ◌++◌, length, slice_get, Option, Some, None, Result, Ok, Err, refl, sym, ap, subst, arith}
 use Rattle.std.specs.Prelude.{IsErrAnd, Vec}
 use Rattle.std.specs.declared.alloc.Global.{Global}
 use Rattle.uberblock_ring.specs.declared.uberblock.Uberblock.{Uberblock}
-use Rattle.model_disk.specs.Joint.{Disks, bytes_of, content, AreHonestSince}
+use Rattle.model_disk.specs.Joint.{Disks, bytes_of, content}
 use Rattle.model_disk.specs.Runs.{Makes, no_write}
 use Rattle.vdev_label.specs.Plain.{PlainLabel}
-use Rattle.pool_slots.specs.Labels.{IsLabelShown, IsWithout}
-use Rattle.pool_slots.specs.Opens.{AreKnown, IsKnown}
+use Rattle.pool_slots.specs.Labels.{IsWithout}
 use Rattle.pool_slots.specs.Slots.{AreThere, InUse}
 use Rattle.pool_slots.proofs.Failing.{fails_later}
 use Rattle.pool_slots.proofs.Finding.{known_on, honest_before, honest_since}
@@ -15,8 +14,7 @@ use Rattle.pool_slots.proofs.LabelScans.{label_earlier, label_later}
 use Rattle.pool_slots.proofs.Reading.{longer}
 use Rattle.pool_slots.specs.Reads.{OnlyReads}
 use Rattle.pool_export.specs.Faults.{IsFaultOf, is_fault}
-use Rattle.pool_export.specs.Reads.{IsMadeOf, IsToldOf, ReadsArea, ReadsAreas, ReadsIfUsed, shows_none}
-use Rattle.pool_export.specs.Taken.{IsTaken}
+use Rattle.pool_export.specs.Reads.{IsMadeOf, IsToldOf, ReadsAreas, ReadsIfUsed, shows_none}
 use Rattle.pool_export.specs.Writes.{Areas, HasArea, IsPutAway}
 use Rattle.pool_export.specs.declared.refusal.Refusal.{Refusal}
 use Rattle.pool_export.specs.declared.refusal.Refusal.TheVariants.{NoMemory, DiskFault, NoLabel}

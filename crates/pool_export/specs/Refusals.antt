@@ -1,5 +1,5 @@
 -- Why disks are not exported.
-use Rattle.std.specs.Prelude.{◌≡◌, ◌⊎◌, ℕ, Bool, List}
+use Rattle.std.specs.Prelude.{◌⊎◌, ℕ, Bool, List}
 use Rattle.model_disk.specs.Joint.{Disks}
 use Rattle.uberblock_ring.specs.declared.uberblock.Uberblock.{Uberblock}
 use Rattle.pool_slots.specs.Failures.{HasFailedOn}

@@ -1,5 +1,5 @@
 -- Which label of a disk is taken, and what the disk's labels show then.
-use Rattle.std.specs.Prelude.{◌≡◌, ◌≤◌, ◌<◌, ℕ, Bool, List, length, Option}
+use Rattle.std.specs.Prelude.{◌≤◌, ◌<◌, ℕ, Bool, List, length, Option}
 use Rattle.model_disk.specs.Joint.{Disks, bytes_of, content, AreHonestSince}
 use Rattle.uberblock_ring.specs.declared.uberblock.Uberblock.{Uberblock}
 use Rattle.vdev_label.specs.Plain.{PlainLabel}

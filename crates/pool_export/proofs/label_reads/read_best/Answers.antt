@@ -1,4 +1,4 @@
-use Rattle.std.proofs.Common.{Result, Option, arith, sym, subst}
+use Rattle.std.proofs.Common.{Result, Option, arith}
 use Rattle.vdev_label.specs.declared.label.Label.{Label}
 use Rattle.pool_slots.specs.Reads.{nowhere}
 use Rattle.pool_slots.proofs.ReadRuns.{reads_any, reads_made, reads_then}

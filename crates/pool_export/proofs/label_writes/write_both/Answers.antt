@@ -1,5 +1,4 @@
 use Rattle.std.proofs.Common.{inl, refl, arith}
-use Rattle.pool_slots.specs.Slots.{is_disk}
 use Rattle.pool_slots.specs.Writes.{InHalf}
 use Rattle.pool_slots.proofs.Failing.{failure_later}
 use Rattle.pool_export.specs.Writes.{copy_on}

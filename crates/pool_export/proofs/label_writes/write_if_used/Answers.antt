@@ -1,4 +1,4 @@
-use Rattle.std.proofs.Common.{◌≡◌, ℕ, List, length, slice_get, None, Some, arith, subst}
+use Rattle.std.proofs.Common.{ℕ, List, length, None, Some, arith, subst}
 use Rattle.model_disk.specs.Joint.{bytes_of, content}
 use Rattle.pool_slots.specs.Slots.{MakesOn, is_disk}
 use Rattle.pool_slots.specs.Writes.{InHalf}

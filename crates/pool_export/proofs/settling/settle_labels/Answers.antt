@@ -1,7 +1,7 @@
-use Rattle.std.proofs.Common.{◌≡◌, List, arith, sym, subst}
+use Rattle.std.proofs.Common.{arith}
 use Rattle.model_disk.specs.Joint.{content}
 use Rattle.pool_slots.specs.Configs.{of_config}
-use Rattle.pool_slots.specs.Slots.{HaveLabels, InUse}
+use Rattle.pool_slots.specs.Slots.{InUse}
 use Rattle.pool_slots.specs.Writes.{InHalf}
 use Rattle.pool_slots.proofs.Failing.{failure_later}
 use Rattle.pool_slots.proofs.Results.{on_ok_use}
