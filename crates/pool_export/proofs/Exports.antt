@@ -2,8 +2,9 @@
 use Rattle.std.proofs.Common.{inl, inr, ◌≤◌, ◌∙◌, ℕ, Bool, List, length, slice_get, Err, sym, ap, subst, arith}
 use Rattle.uberblock_ring.specs.declared.uberblock.Uberblock.{Uberblock}
 use Rattle.uberblock_ring.specs.Uberblock.{Fits}
-use Rattle.model_disk.specs.Joint.{Disks, content, AreHonestSince}
+use Rattle.model_disk.specs.Joint.{Disks, bytes_of, content, AreHonestSince}
 use Rattle.model_disk.specs.Runs.{EachSince, Makes, no_write}
+use Rattle.model_disk.proofs.RunLemmas.{Makes-more, Makes-wider}
 use Rattle.pool_slots.specs.Configs.{LeavesConfigured, of_config}
 use Rattle.pool_slots.specs.Marks.{LeavesMarked}
 use Rattle.pool_slots.specs.Opens.{AreKnown}
@@ -19,7 +20,7 @@ use Rattle.pool_export.specs.Moments.{AllSpell, ExportConfigures, ExportMarks, W
 use Rattle.pool_export.specs.Faults.{is_fault}
 use Rattle.pool_export.specs.Reads.{AreMadeOf, ReadsAreas}
 use Rattle.pool_export.specs.Refusals.{ExportRefuses}
-use Rattle.pool_export.specs.Taken.{AreExported}
+use Rattle.pool_export.specs.Taken.{AreExported, ExportTakes, IsMadeOf, IsTakenWrite}
 use Rattle.pool_export.specs.Writes.{AreWhole, Areas, AreasFit, AreasOn, AreasStand, IsAreaWrite, IsExportWrite, IsPutAway, is_any}
 use Rattle.pool_export.specs.declared.refusal.Refusal.{Refusal}
 use Rattle.pool_export.specs.declared.refusal.Refusal.TheVariants.{NoMemory, DiskFault, NoLabel}
@@ -60,6 +61,27 @@ export_made out u areas old read new on fit reads makes =
 pub export_relabels : (starts : List (List ℕ)) (out : List Bool) (u : Uberblock) (which at : ℕ) (bytes : List ℕ) → IsExportWrite starts out u which at bytes → IsRelabel starts which at bytes
 export_relabels starts out u which at bytes write =
     record { number = write.number; is_label = write.is_label; place = write.place; whole = ap length write.put_away.spells ∙ area_len write.label write.put_away.valid }
+
+-- each is of the label that was taken
+pub takes_none : (out : List Bool) (u : Uberblock) (old read : Disks) → Makes no_write old read → ExportTakes out old u read
+takes_none out u old read reads = λ known honest. Makes-wider no_write (IsTakenWrite old u) old read (λ which at bytes none. absurd none) reads
+
+pub export_takes : (out : List Bool) (u : Uberblock) (areas : Areas) (old read new : Disks) → Makes no_write old read
+    → (AreKnown out old → AreHonestSince (length old.calls) read.starts read.calls → AreMadeOf u old areas) → Makes (IsAreaWrite read.starts areas is_any) read new → ExportTakes out old u new
+export_takes out u areas old read new reads made makes = λ known honest.
+    let before = honest_before (length old.calls) (IsAreaWrite read.starts areas is_any) read new makes honest in
+    let M : List (List ℕ) → Type 0 = λ starts. Makes (IsAreaWrite starts areas is_any) read new in
+    Makes-more (IsTakenWrite old u) old read new (takes_none out u old read reads known before)
+    (Makes-wider (IsAreaWrite old.starts areas is_any) (IsTakenWrite old u) read new
+    (λ which at bytes write.
+    let P : List ℕ → Type 0 = λ them. IsMadeOf u them (length (bytes_of old.starts which)) (content old which) in
+    record {
+      number = write.copy.number;
+      is_label = write.copy.is_label;
+      place = write.copy.place;
+      made = subst P (sym write.copy.same) (made known before which write.area write.has);
+    })
+    (subst M reads.starts makes))
 
 -- ---- what is shown
 

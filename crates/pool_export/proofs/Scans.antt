@@ -14,7 +14,8 @@ use Rattle.pool_slots.proofs.LabelScans.{label_earlier, label_later}
 use Rattle.pool_slots.proofs.Reading.{longer}
 use Rattle.pool_slots.specs.Reads.{OnlyReads}
 use Rattle.pool_export.specs.Faults.{IsFaultOf, is_fault}
-use Rattle.pool_export.specs.Reads.{IsMadeOf, IsToldOf, ReadsAreas, ReadsIfUsed, shows_none}
+use Rattle.pool_export.specs.Taken.{IsMadeOf}
+use Rattle.pool_export.specs.Reads.{IsToldOf, ReadsAreas, ReadsIfUsed, shows_none}
 use Rattle.pool_export.specs.Writes.{Areas, HasArea, IsPutAway}
 use Rattle.pool_export.specs.declared.refusal.Refusal.{Refusal}
 use Rattle.pool_export.specs.declared.refusal.Refusal.TheVariants.{NoMemory, DiskFault, NoLabel}

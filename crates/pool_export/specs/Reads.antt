@@ -9,10 +9,10 @@ use Rattle.vdev_label.specs.declared.refusal.Refusal.{Refusal as LabelRefusal}
 use Rattle.vdev_label.specs.declared.refusal.Refusal.TheVariants as label
 use Rattle.pool_slots.specs.Configs.{of_config}
 use Rattle.pool_slots.specs.Failures.{HasFailedOn}
-use Rattle.pool_slots.specs.Labels.{IsLabelShown, IsValid, IsWithout, inscribed}
+use Rattle.pool_slots.specs.Labels.{IsLabelShown, IsValid, IsWithout}
 use Rattle.pool_slots.specs.Opens.{AreKnown, IsKnown}
 use Rattle.pool_slots.specs.Slots.{InUse}
-use Rattle.pool_export.specs.Taken.{IsTaken, exported}
+use Rattle.pool_export.specs.Taken.{IsMadeOf, IsTaken}
 use Rattle.pool_export.specs.Writes.{Areas, AreasFit, AreasOn, IsAreaOf, IsPutAway}
 use Rattle.pool_export.specs.declared.refusal.Refusal.{Refusal}
 use Rattle.pool_export.specs.declared.refusal.Refusal.TheVariants.{NoMemory, DiskFault, NoLabel}
@@ -89,13 +89,6 @@ ReadsBest digest old new which (Ok (Some it)) = IsValid (label_view it) × of_co
 ReadsBest digest old new which (Err NoMemory) = Unit {0}
 ReadsBest digest old new which (Err (DiskFault disk)) = HasFailedOn old new disk
 ReadsBest digest old new which (Err (NoLabel disk)) = ⊥
-
--- these bytes spell the label that is taken, put away
-pub record IsMadeOf (u : Uberblock) (bytes : List ℕ) (size : ℕ) (held : ℕ → Option ℕ) : Type 0 where
-  pub number : ℕ
-  pub label : PlainLabel
-  pub taken : IsTaken size held u.config_digest number label
-  pub spells : bytes ≡ inscribed (exported label u)
 
 -- the area that is to be written to the disk
 abbrev pub ReadsArea : Uberblock → Disks → Disks → ℕ → Result (Vec ℕ Global) Refusal → Type 0

@@ -10,12 +10,12 @@ use Rattle.pool_export.specs.Writes.{IsExportWrite}
 use Rattle.pool_export.specs.declared.refusal.Refusal.{Refusal}
 use Rattle.pool_export.specs.declared.refusal.Refusal.TheVariants.{NoMemory, DiskFault, NoLabel}
 
--- a read of the disk failed, and nothing but reads was called
+-- a read of the disk failed, the only call that did, and nothing but reads was called
 pub record FailsInReading (out : List Bool) (old new : Disks) (disk : ℕ) : Type 0 where
   pub only : OnlyReads (InUse out) (is_disk disk) old new
   pub failed : HasFailedOn old new disk
 
--- all labels were read, and none of these reads failed; then the disk failed as labels were written
+-- no read failed, and then the disk did as labels were written
 pub record FailsInWriting (out : List Bool) (u : Uberblock) (old new : Disks) (disk : ℕ) : Type 0 where
   pub read : Disks
   pub only : OnlyReads (InUse out) nowhere old read

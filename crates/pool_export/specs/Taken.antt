@@ -1,12 +1,13 @@
 -- Which label of a disk is taken, and what the disk's labels show then.
-use Rattle.std.specs.Prelude.{◌≤◌, ◌<◌, ℕ, Bool, List, length, Option}
+use Rattle.std.specs.Prelude.{◌≡◌, ◌≤◌, ◌<◌, ℕ, Bool, List, length, Option}
 use Rattle.model_disk.specs.Joint.{Disks, bytes_of, content, AreHonestSince}
+use Rattle.model_disk.specs.Runs.{Makes}
 use Rattle.uberblock_ring.specs.declared.uberblock.Uberblock.{Uberblock}
 use Rattle.vdev_label.specs.Plain.{PlainLabel}
 use Rattle.vdev_label.specs.Room.{relabeled}
 use Rattle.vdev_label.specs.declared.label.State.TheVariants.{Exported}
 use Rattle.pool_slots.specs.Configs.{of_config}
-use Rattle.pool_slots.specs.Labels.{IsLabelShown}
+use Rattle.pool_slots.specs.Labels.{IsLabelShown, area_place, inscribed}
 use Rattle.pool_slots.specs.Opens.{AreKnown}
 use Rattle.pool_slots.specs.Slots.{InUse}
 
@@ -19,6 +20,28 @@ pub record IsTaken (size : ℕ) (held : ℕ → Option ℕ) (digest : List ℕ) 
 -- a label as it is put away: exported, with the uberblock's claim and group
 abbrev pub exported : PlainLabel → Uberblock → PlainLabel
 exported l u = relabeled l u.claim u.group Exported
+
+-- ---- what is written
+
+-- these bytes spell the label that is taken, put away
+pub record IsMadeOf (u : Uberblock) (bytes : List ℕ) (size : ℕ) (held : ℕ → Option ℕ) : Type 0 where
+  pub number : ℕ
+  pub label : PlainLabel
+  pub taken : IsTaken size held u.config_digest number label
+  pub spells : bytes ≡ inscribed (exported label u)
+
+-- in a label of their disk
+pub record IsTakenWrite (disks : Disks) (u : Uberblock) (which at : ℕ) (bytes : List ℕ) : Type 0 where
+  pub number : ℕ
+  pub is_label : number < 4
+  pub place : at ≡ area_place (length (bytes_of disks.starts which)) number
+  pub made : IsMadeOf u bytes (length (bytes_of disks.starts which)) (content disks which)
+
+-- nothing else is written
+abbrev pub ExportTakes : List Bool → Disks → Uberblock → Disks → Type 0
+ExportTakes out old u new = AreKnown out old → AreHonestSince (length old.calls) new.starts new.calls → Makes (IsTakenWrite old u) old new
+
+-- ---- what is shown
 
 -- Each label of the disk now shows the one that was taken, put away.
 pub record IsExported (old : Disks) (u : Uberblock) (new : Disks) (which : ℕ) : Type 0 where

@@ -4,7 +4,7 @@ ghost use Rattle.uberblock_ring.specs.Uberblock.{Fits};
 ghost use Rattle.pool_slots.specs.Slots.{AreSettled, HaveLabels, InUse, MakesOn};
 ghost use Rattle.pool_export.specs.Moments.{ExportConfigures, ExportKeeps, ExportLeads, ExportMarks};
 ghost use Rattle.pool_export.specs.Refusals.{ExportRefuses};
-ghost use Rattle.pool_export.specs.Taken.{AreExported};
+ghost use Rattle.pool_export.specs.Taken.{AreExported, ExportTakes};
 ghost use Rattle.pool_export.specs.Writes.{IsExportWrite};
 
 use crate::reading::read_areas;
@@ -14,15 +14,17 @@ use model_disk::{Disk, DiskArray};
 use std::alloc::Global;
 use uberblock_ring::Uberblock;
 
-/// Writes the four labels of each disk in use anew, so that they say that the pool is put away: as the label of
-/// the disk with the configuration of the uberblock and the greatest claim, in state `Exported`, with the
-/// uberblock's claim and group. `out` says of each disk that it isn't in use.
+/// Writes the four labels of each disk in use anew, so that they say that the pool is put away. Each disk's are
+/// written alike: as the label that is taken there, in state `Exported`, with the uberblock's claim and group.
+/// Taken is the label with the uberblock's configuration and the greatest claim, of several the lowest. `out` says
+/// of each disk whether it isn't in use.
 ///
-/// The labels of all disks are read before any is written. Then labels 1 and 3 of each disk are written, all
-/// disks in use are flushed, labels 0 and 2 are written, and all are flushed.
+/// The labels of all disks are read before any is written. Then labels 1 and 3 of each disk are written and all
+/// disks in use are flushed, and the same of labels 0 and 2. Which label is taken, and this order, are this
+/// project's profile.
 ///
-/// `NoLabel` names the first disk of which no label has the configuration. The first call that fails ends it,
-/// with a `DiskFault`; so labels may be left of which some are exported and others not.
+/// `NoLabel` names the first disk that shows the configuration in no label. The first call that fails ends it,
+/// with a `DiskFault`: then some labels may say that the pool is put away, and others not.
 pub fn export_labels<D: Disk + Drop>(
     alloc: Global,
     disks: &mut DiskArray<D>,
@@ -36,6 +38,9 @@ pub fn export_labels<D: Disk + Drop>(
     // No disk that is out is called, and all that is written are exported labels with the uberblock's configuration, claim and group.
     ensures makes { MakesOn (InUse out.now)
         (IsExportWrite disks.old.starts out.now uberblock.now) disks.old disks.new }
+
+    // Where the disks answer truly, each is the label that is taken on its disk.
+    ensures taken { ExportTakes out.now disks.old uberblock.now disks.new }
 
     // Then each label of each disk in use shows the one that was taken there, exported, and nothing is unflushed.
     ensures exported { OnOk result (AreExported out.now disks.old uberblock.now disks.new) }

@@ -10,7 +10,7 @@ use Rattle.pool_export.specs.Moments.{WritesConfigure, WritesMark}
 use Rattle.pool_export.specs.Refusals.{ExportRefuses}
 use Rattle.pool_export.specs.declared.refusal.Refusal.TheVariants.{DiskFault}
 use Rattle.pool_export.specs.Writes.{AreWhole, Areas, AreasOn, AreasStand, IsAreaWrite, IsExportWrite, is_any}
-use Rattle.pool_export.proofs.Exports.{are_exported, are_whole, configured_read, export_configures, export_made, export_marks, export_relabels, marked_read, read_refused, write_refused}
+use Rattle.pool_export.proofs.Exports.{are_exported, are_whole, configured_read, export_configures, export_made, export_marks, export_relabels, export_takes, marked_read, read_refused, takes_none, write_refused}
 use Rattle.pool_export.proofs.Moments.{at_later, lead_always}
 use Rattle.pool_export.proofs.exporting.export_labels.Goals as goal
 
@@ -77,6 +77,25 @@ returns-clause-makes g c =
     let given = c.in_ok-areas.ensures.reads in
     let M : Areas → Type 0 = λ areas. MakesOn (InUse out) (IsAreaWrite read.starts areas is_any) read new in
     export_made out u c.in_ok-areas.areas.items old read new given.1 given.2 (reads_on c.read_areas.ensures.only) (subst M c.deref.ensures.value c.settle_labels.ensures.makes)
+
+pub returns-in_err-areas-clause-taken : goal.returns-in_err-areas-clause-taken
+returns-in_err-areas-clause-taken g c = takes_none c.args.out.now c.args.uberblock.now c.args.disks.now c.read_areas.new.disks (reads_made c.read_areas.ensures.only)
+
+pub returns-in_err-settle_labels-clause-taken : goal.returns-in_err-settle_labels-clause-taken
+returns-in_err-settle_labels-clause-taken g c =
+    let read = c.read_areas.new.disks in
+    let new = c.settle_labels.new.disks in
+    let M : Areas → Type 0 = λ areas. MakesOn (InUse c.args.out.now) (IsAreaWrite read.starts areas is_any) read new in
+    export_takes c.args.out.now c.args.uberblock.now c.in_ok-areas.areas.items c.args.disks.now read new (reads_made c.read_areas.ensures.only) c.in_ok-areas.ensures.reads.3
+    (subst M c.deref.ensures.value c.settle_labels.ensures.makes).makes
+
+pub returns-clause-taken : goal.returns-clause-taken
+returns-clause-taken g c =
+    let read = c.read_areas.new.disks in
+    let new = c.settle_labels.new.disks in
+    let M : Areas → Type 0 = λ areas. MakesOn (InUse c.args.out.now) (IsAreaWrite read.starts areas is_any) read new in
+    export_takes c.args.out.now c.args.uberblock.now c.in_ok-areas.areas.items c.args.disks.now read new (reads_made c.read_areas.ensures.only) c.in_ok-areas.ensures.reads.3
+    (subst M c.deref.ensures.value c.settle_labels.ensures.makes).makes
 
 pub returns-clause-exported : goal.returns-clause-exported
 returns-clause-exported g c =
