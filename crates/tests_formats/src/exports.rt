@@ -90,8 +90,14 @@ fn even_labels_wait_until_odd_ones_are_flushed(rt: HostRuntime) -> Result<(), Fa
         ([1, 102, 1, 100, 2], ACTIVE),
         ([1, 103, 1, 100, 2], ACTIVE),
     ];
-    assert_eq!(rt; exported(rt.alloc(), Fault::Write(5), &LAST)?, (failed, labels));
-    assert_eq!(rt; exported(rt.alloc(), Fault::Flush(1), &LAST)?, (failed, labels));
+    assert_eq!(rt;
+        exported(rt.alloc(), Fault::Write(5), &LAST)?,
+        (failed, labels)
+    );
+    assert_eq!(rt;
+        exported(rt.alloc(), Fault::Flush(1), &LAST)?,
+        (failed, labels)
+    );
     Ok(())
 }
 
@@ -106,7 +112,13 @@ fn all_labels_are_read_before_any_is_written(rt: HostRuntime) -> Result<(), Fail
     ];
     let unread = Err(Refusal::DiskFault { disk: 2 });
     let missing = Err(Refusal::NoLabel { disk: 0 });
-    assert_eq!(rt; exported(rt.alloc(), Fault::Read(3), &LAST)?, (unread, labels));
-    assert_eq!(rt; exported(rt.alloc(), NEVER, &OTHER_CONFIG)?, (missing, labels));
+    assert_eq!(rt;
+        exported(rt.alloc(), Fault::Read(3), &LAST)?,
+        (unread, labels)
+    );
+    assert_eq!(rt;
+        exported(rt.alloc(), NEVER, &OTHER_CONFIG)?,
+        (missing, labels)
+    );
     Ok(())
 }
