@@ -8,6 +8,8 @@ mod claims;
 #[cfg(test)]
 mod configs;
 #[cfg(test)]
+mod exports;
+#[cfg(test)]
 mod finds;
 #[cfg(test)]
 mod labels;

@@ -24,7 +24,7 @@ fn has_three(config: &Config) -> bool
 }
 
 /// Labels the disks as those of the label's pool, if it has three.
-fn label_all(alloc: Global, disks: &mut Disks, label: Label) -> Result<bool, Refusal>
+pub(crate) fn label_all(alloc: Global, disks: &mut Disks, label: Label) -> Result<bool, Refusal>
     requires range { InRange (label_view label) }
     requires count { length disks.old.starts ≡ 3 }
     requires labels { HaveLabels disks.old.starts }

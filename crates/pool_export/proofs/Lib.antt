@@ -1,0 +1,6 @@
+mod Best
+mod Scans
+mod Copies
+mod Halves
+mod Moments
+mod Exports

@@ -1,0 +1,6 @@
+pub mod Faults
+pub mod Taken
+pub mod Writes
+pub mod Reads
+pub mod Moments
+pub mod Refusals

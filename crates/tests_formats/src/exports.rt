@@ -1,0 +1,124 @@
+//! Labels of a pool that is put away.
+ghost use Rattle.std.specs.Prelude.{◌≡◌, ◌<◌, length};
+ghost use Rattle.pool_slots.specs.Slots.{HaveLabels};
+ghost use Rattle.uberblock_ring.specs.Uberblock.{Fits};
+
+use crate::claims::FIRST;
+use crate::labels::{first_label, numbers_of};
+use crate::new_pools::label_all;
+use crate::scans::{Disks, NEVER, empty_disks};
+use model_disk::Fault;
+use pool_export::{Refusal, export_labels};
+use std::alloc::Global;
+use std::test::*;
+use uberblock_ring::Uberblock;
+use vdev_label::{State, read_label};
+
+/// With the configuration of the labels, and a claim and a group above theirs.
+const LAST: Uberblock = Uberblock {
+    claim: 3,
+    group: 9,
+    ..FIRST
+};
+
+const OTHER_CONFIG: Uberblock = Uberblock {
+    config_digest: [0xdd; 32],
+    ..LAST
+};
+
+/// What a label of a disk says.
+fn told(
+    alloc: Global,
+    disks: &mut Disks,
+    which: usize,
+    number: u64,
+) -> Result<([u64; 5], State), Fail>
+    requires which { which < length disks.old.starts }
+    requires number { number < 4 }
+    requires labels { HaveLabels disks.old.starts }
+    ensures starts { disks.new.starts ≡ disks.old.starts }
+{
+    let label = read_label(alloc, disks, which, number)?;
+    Ok((numbers_of(&label), label.state))
+}
+
+type Outcome = (Result<(), Refusal>, [([u64; 5], State); 4]);
+
+/// What an export of three disks that were labeled answers, where the last has this fault and the second is out;
+/// and what labels then say, each in another place.
+fn exported(alloc: Global, fault: Fault, uberblock: &Uberblock) -> Result<Outcome, Fail>
+    requires { Fits uberblock.now }
+{
+    let label = first_label(alloc)?;
+    let mut disks = empty_disks(alloc, fault)?;
+    label_all(alloc, &mut disks, label)?;
+    let answer = export_labels(alloc, &mut disks, &[false, true, false], uberblock);
+    let first = told(alloc, &mut disks, 0, 0)?;
+    let second = told(alloc, &mut disks, 0, 3)?;
+    let third = told(alloc, &mut disks, 1, 1)?;
+    let fourth = told(alloc, &mut disks, 2, 2)?;
+    Ok((answer, [first, second, third, fourth]))
+}
+
+const ACTIVE: State = State::Active;
+
+const AWAY: State = State::Exported;
+
+#[test]
+fn labels_of_disks_in_use_are_put_away(rt: HostRuntime) -> Result<(), Fail> {
+    let (answer, labels) = exported(rt.alloc(), NEVER, &LAST)?;
+    assert_eq!(rt; answer, Ok(()));
+    assert_eq!(rt;
+        labels,
+        [
+            ([3, 101, 1, 100, 9], AWAY),
+            ([3, 101, 1, 100, 9], AWAY),
+            ([1, 102, 1, 100, 2], ACTIVE),
+            ([3, 103, 1, 100, 9], AWAY),
+        ]
+    );
+    Ok(())
+}
+
+/// Its second odd label can't be written, or the odd ones can't be flushed: even ones stay as they were.
+#[test]
+fn even_labels_wait_until_odd_ones_are_flushed(rt: HostRuntime) -> Result<(), Fail> {
+    let failed = Err(Refusal::DiskFault { disk: 2 });
+    let labels = [
+        ([1, 101, 1, 100, 2], ACTIVE),
+        ([3, 101, 1, 100, 9], AWAY),
+        ([1, 102, 1, 100, 2], ACTIVE),
+        ([1, 103, 1, 100, 2], ACTIVE),
+    ];
+    assert_eq!(rt;
+        exported(rt.alloc(), Fault::Write(5), &LAST)?,
+        (failed, labels)
+    );
+    assert_eq!(rt;
+        exported(rt.alloc(), Fault::Flush(1), &LAST)?,
+        (failed, labels)
+    );
+    Ok(())
+}
+
+/// A label can't be read, or none has the configuration: nothing is written.
+#[test]
+fn all_labels_are_read_before_any_is_written(rt: HostRuntime) -> Result<(), Fail> {
+    let labels = [
+        ([1, 101, 1, 100, 2], ACTIVE),
+        ([1, 101, 1, 100, 2], ACTIVE),
+        ([1, 102, 1, 100, 2], ACTIVE),
+        ([1, 103, 1, 100, 2], ACTIVE),
+    ];
+    let unread = Err(Refusal::DiskFault { disk: 2 });
+    let missing = Err(Refusal::NoLabel { disk: 0 });
+    assert_eq!(rt;
+        exported(rt.alloc(), Fault::Read(3), &LAST)?,
+        (unread, labels)
+    );
+    assert_eq!(rt;
+        exported(rt.alloc(), NEVER, &OTHER_CONFIG)?,
+        (missing, labels)
+    );
+    Ok(())
+}
