@@ -1,0 +1,7 @@
+//! Tests of pools that outlive the program that made them: made on disks, dropped, and opened again.
+#![tactic(auto)]
+
+#[cfg(test)]
+mod opened;
+#[cfg(test)]
+mod pools;
