@@ -17,7 +17,6 @@ use vdev_label::{State, read_label};
 /// With the configuration of the labels, and a claim and a group above theirs.
 const LAST: Uberblock = Uberblock {
     claim: 3,
-    group: 9,
     ..FIRST
 };
 
@@ -71,10 +70,10 @@ fn labels_of_disks_in_use_are_put_away(rt: HostRuntime) -> Result<(), Fail> {
     assert_eq!(rt;
         labels,
         [
-            ([3, 101, 1, 100, 9], AWAY),
-            ([3, 101, 1, 100, 9], AWAY),
+            ([3, 101, 1, 100, 4], AWAY),
+            ([3, 101, 1, 100, 4], AWAY),
             ([1, 102, 1, 100, 2], ACTIVE),
-            ([3, 103, 1, 100, 9], AWAY),
+            ([3, 103, 1, 100, 4], AWAY),
         ]
     );
     Ok(())
@@ -86,7 +85,7 @@ fn even_labels_wait_until_odd_ones_are_flushed(rt: HostRuntime) -> Result<(), Fa
     let failed = Err(Refusal::DiskFault { disk: 2 });
     let labels = [
         ([1, 101, 1, 100, 2], ACTIVE),
-        ([3, 101, 1, 100, 9], AWAY),
+        ([3, 101, 1, 100, 4], AWAY),
         ([1, 102, 1, 100, 2], ACTIVE),
         ([1, 103, 1, 100, 2], ACTIVE),
     ];
