@@ -15,10 +15,7 @@ use uberblock_ring::Uberblock;
 use vdev_label::{State, read_label};
 
 /// With the configuration of the labels, and a claim and a group above theirs.
-const LAST: Uberblock = Uberblock {
-    claim: 3,
-    ..FIRST
-};
+const LAST: Uberblock = Uberblock { claim: 3, ..FIRST };
 
 const OTHER_CONFIG: Uberblock = Uberblock {
     config_digest: [0xdd; 32],
