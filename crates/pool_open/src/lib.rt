@@ -17,7 +17,7 @@ pub use handed_in::open;
 pub use laws::{
     alike_stores_hold_alike, claims_keep_what_is_held, claims_spare_blocks, stopped_can_be_opened,
 };
-pub use opening::{OpenedPool, open_over};
+pub use opening::{OpenedPool, core_over, open_over};
 pub use refusal::Refusal;
 pub use roots::{ReadRoot, read_root};
 pub use shapes::shapes_of;

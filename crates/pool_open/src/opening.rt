@@ -102,8 +102,9 @@ fn of_core(cause: pool_model::Refusal) -> Refusal
     }
 }
 
-/// The core of a pool that was claimed.
-pub(crate) fn core_over<D: Disk + Drop>(
+/// The core of a pool whose disks show this uberblock, with what was read of its root; it goes on under that claim. No disk is called.
+/// `BadPointer` where a block has no place of the pool, or two blocks share a sector.
+pub fn core_over<D: Disk + Drop>(
     alloc: Global,
     disks: DiskArray<D>,
     shapes: &[VdevShape],
