@@ -15,7 +15,7 @@ use Rattle.metaslab.specs.State.{State, Free, InUse, Released, settled, is_due}
 use Rattle.metaslab_group.specs.Spaces.{IsWhollyFree, AreWhollyFree}
 use Rattle.block_store.specs.Accounts.{SectorAt, IsUsed, HasSector, AreAccounted}
 use Rattle.block_store.specs.Blocks.{Contents}
-use Rattle.block_store.specs.Places.{Marks, shapes_of, HaveMarks, IsEmpty, AreEmpty}
+use Rattle.block_store.specs.Places.{IsNotFree, Marks, shapes_of, HaveMarks, IsEmpty, AreEmpty}
 use Rattle.block_store.specs.Places.{filled as filled_marks, planned as planned_marks}
 use Rattle.block_store.specs.Releases.{CopyAt, copies_at, copies_of, copies_of_all, AreReleased, AreSettledInSome}
 use Rattle.block_store.specs.Spaces.{VdevSpace}
@@ -25,7 +25,7 @@ use Rattle.block_store.proofs.Accounting.{OnPlace, on_place_too, has_too, has_on
 use Rattle.block_store.proofs.Taking.{found_too}
 use Rattle.dataset_snapshots.specs.Leaving.{IsReachExchanged}
 use Rattle.dnode_tree.proofs.SameBlocks.{same_as, counted, found}
-use Rattle.pool_commit.specs.Space.{AreInBlocks, WereReleasedBy}
+use Rattle.pool_commit.specs.Space.{AreInBlocks, IsFor, WereReleasedBy}
 
 -- ---- marks that are the same
 
@@ -125,6 +125,39 @@ settles_uses is group spaces after only shapes are at used =
         used = only was.0.pins (state before.0 at.sector) (subst is (one.states at.sector) used.used);
       }
     ]
+
+-- what isn't free, in some metaslabs that settled and in others that didn't, wasn't free before
+pub settled_not_free : (group : ℕ) (spaces after : List VdevSpace) → shapes_of after ≡ shapes_of spaces → AreSettledInSome group spaces after
+    → (at : SectorAt) → IsFor IsNotFree after filled_marks at → IsFor IsNotFree spaces filled_marks at
+settled_not_free group spaces after shapes are at used =
+    let was = found_too after spaces at.vdev used.space (sym shapes) used.found in
+    let settles = (are at.vdev was.0 used.space was.1 used.found).1 in
+    let inside : at.metaslab < length (filled_marks was.0) = omega (arith, slice_get_within (filled_marks used.space) at.metaslab used.metaslab used.there, settles.count) in
+    let before = slice_get_some (filled_marks was.0) at.metaslab inside in
+    elim (settles.each at.metaslab before.0 used.metaslab before.1 used.there) [
+      | inl same ↦ record { space = was.0; found = was.1; metaslab = used.metaslab; there = before.1 ∙ ap Some (sym same); used = used.used }
+      | inr one ↦ record {
+        space = was.0;
+        found = was.1;
+        metaslab = before.0;
+        there = before.1;
+        used = λ free. used.used (one.states at.sector ∙ ap (settled was.0.pins group) free);
+      }
+    ]
+
+-- marks that are the same are used for the same
+pub for_before : (is : State → Type 0) (spaces after : List VdevSpace) (marks later : Marks) (at : SectorAt) → shapes_of after ≡ shapes_of spaces
+    → HaveMarks spaces marks after later → IsFor is after later at → IsFor is spaces marks at
+for_before is spaces after marks later at shapes have used =
+    let was = found_too after spaces at.vdev used.space (sym shapes) used.found in
+    let same : later used.space ≡ marks was.0 = have at.vdev was.0 used.space was.1 used.found in
+    record {
+      space = was.0;
+      found = was.1;
+      metaslab = used.metaslab;
+      there = ap (λ (them : List Space). slice_get them at.metaslab) (sym same) ∙ used.there;
+      used = used.used;
+    }
 
 pub settled_in_blocks : (group : ℕ) (spaces after : List VdevSpace) (blocks : List Block) → shapes_of after ≡ shapes_of spaces → AreSettledInSome group spaces after
     → AreInBlocks spaces filled_marks blocks → AreInBlocks after filled_marks blocks

@@ -142,6 +142,7 @@ backs_after s store missing v reads backs =
 
 pub only_reads : (s : State) (store : Store) (missing : List ℕ) → OnlyReadsBlocks s.store store missing → OnlyReadsPool s (record s { store = store }) missing
 only_reads s store missing reads = record {
+  rest = ap (λ (t : Store). record s { store = t }) reads.rest;
   reads = reads.reads;
   untouched = reads.untouched;
   backs = λ v backs. backs_after s store missing v reads backs;

@@ -21,3 +21,4 @@ pub mod Unread
 pub mod Refusing
 pub mod Reopened
 pub mod Suspending
+pub mod Writing

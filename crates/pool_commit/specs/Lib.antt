@@ -17,3 +17,4 @@ pub mod Causes
 pub mod Room
 pub mod Space
 pub mod Suspension
+pub mod Writing

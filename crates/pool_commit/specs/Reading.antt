@@ -32,6 +32,7 @@ PoolAnswersTruly old new = IsHonestSince old.store.disks new.store.disks
 
 -- nothing was done but reads, none of them on a disk that is out or missing, and each view that was backed is backed
 pub record OnlyReadsPool (old new : State) (missing : List ℕ) : Type 0 where
+  pub rest : new ≡ record old { store = record old.store { disks = new.store.disks } }
   pub reads : OnlyReads old.store.disks new.store.disks
   pub untouched : AreUntouched (outs old.store ++ missing) old.store.disks new.store.disks
   pub backs : (v : View) → Backs old v → Backs new v

@@ -1,5 +1,6 @@
 -- What the sectors of a pool's blocks are used for.
-use Rattle.std.specs.Prelude.{ℕ, ◌≡◌, ◌≤◌, Bool, true, false, nat_lt, nat_le, ◌&&◌, Some, List, Contains}
+use Rattle.std.specs.Prelude.{ℕ, ◌≡◌, ◌≤◌, Bool, true, false, nat_lt, nat_le, ◌&&◌, Some, List, slice_get, Contains}
+use Rattle.metaslab.specs.Space.{Space, state}
 use Rattle.metaslab.specs.State.{State, Free, InUse, Released, is_in_use}
 use Rattle.block_pointer.specs.declared.block.Block.{Block}
 use Rattle.block_store.specs.Accounts.{SectorAt, IsUsed, HasSector}
@@ -33,6 +34,14 @@ AreInBlocks spaces marks blocks = (at : SectorAt) → IsUsed IsInUse spaces mark
 -- each sector that was released was so by this group or an earlier one
 abbrev pub WereReleasedBy : List VdevSpace → Marks → ℕ → Type 0
 WereReleasedBy spaces marks last = (group : ℕ) (at : SectorAt) → IsUsed (λ state. state ≡ Released group) spaces marks at → group ≤ last
+
+-- the metaslab is there, and this holds of what the sector is used for
+pub record IsFor (is : State → Type 0) (spaces : List VdevSpace) (marks : Marks) (at : SectorAt) : Type 0 where
+  pub space : VdevSpace
+  pub found : slice_get spaces at.vdev ≡ Some space
+  pub metaslab : Space
+  pub there : slice_get (marks space) at.metaslab ≡ Some metaslab
+  pub used : is (state metaslab at.sector)
 
 -- Blocks were given back with that group, or the first of them: where they are stored, what is planned stays so, and what held of the
 -- sectors of any other block that is planned holds still.

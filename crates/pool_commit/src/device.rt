@@ -3,6 +3,7 @@ ghost use Rattle.std.specs.Prelude.{◌≡◌, ◌<◌, ◌≤◌, ◌∷◌, �
 ghost use Rattle.std.specs.Prelude.{Some, None, OnOk, IfErr, IfSome, IfNone};
 ghost use Rattle.model_disk.specs.Call.{write_call};
 ghost use Rattle.model_disk.specs.Joint.{on};
+ghost use Rattle.model_disk.specs.Runs.{Makes, no_write};
 ghost use Rattle.block_store.specs.Plans.{KeepsPlans};
 ghost use Rattle.block_store.specs.Store.{IsOutToo};
 ghost use Rattle.uberblock_ring.specs.Slot.{slot_bytes};
@@ -18,6 +19,7 @@ ghost use Rattle.pool_commit.specs.declared.device.Progress.TheVariants as progr
 ghost use Rattle.pool_commit.specs.Progress.{Progresses, DropsPlan, CarriesOn, LeavesOut, with_plan};
 ghost use Rattle.pool_commit.specs.HasDisks.{AreBelow, AreSlotsBelow, HasDisks};
 ghost use Rattle.pool_commit.specs.Slots.{LabelsLieAside, place_of};
+ghost use Rattle.pool_commit.specs.Writing.{IsDueSlot, IsDueWrite, WritesPlan};
 
 use crate::commit::Commit;
 use crate::kept::{Planned, SlotWrite};
@@ -48,6 +50,7 @@ fn make_writes<D: Disk + Drop>(store: &mut BlockStore<D>) -> Result<(), FailedDi
     ensures grew { GrewTo store.old.disks store.new.disks }
     ensures made { OnOk result (MadeWrites store.old store.new (min (length store.old.due) 4)) }
     ensures failed { IfErr result (λ failed. FailedWrite store.old store.new failed.disk) }
+    ensures makes { Makes (IsDueWrite store.old.due) store.old.disks store.new.disks }
 {
     for _ in 0..store.due_count().min(MOST_CALLS) {
         if let Err(failed) = store.write_next() {
@@ -76,6 +79,7 @@ fn make_flushes<D: Disk + Drop>(
 
     // No byte of a disk changes.
     ensures content { KeepsContent store.old store.new }
+    ensures makes { Makes no_write store.old.disks store.new.disks }
 {
     for _ in 0..flushes.len().min(MOST_CALLS) {
         let Some(disk) = flushes.pop_front() else {
@@ -133,6 +137,8 @@ fn make_slots<D: Disk + Drop>(
         slots.new.items failed.disk) }
     ensures moved_but { IfErr result (λ failed. SlotsMoveBut failed.disk store.old store.new
         uberblock.now slots.old.items slots.new.items) }
+    ensures makes { Makes (IsDueSlot store.old.disks.starts uberblock.now slots.old.items)
+        store.old.disks store.new.disks }
 {
     for _ in 0..slots.len().min(MOST_CALLS) {
         let Some(write) = slots.pop_front() else {
@@ -157,6 +163,9 @@ impl<D: Disk + Drop> Commit<D> {
         ensures some { IfSome result (λ progress. (v : View) → Backs (state_of self.old) v
             → v.committed < 2 ^ 62 → (is_planned v.sync ≡ true)
             × Progresses (state_of self.old) progress (state_of self.new) v) }
+
+        // Byte for byte, what the plan writes: its blocks, and once they are flushed its uberblock in the slots.
+        ensures writes { WritesPlan (state_of self.old) (state_of self.new) }
     {
         let planned = self.planned.take()?;
         if self.store.due_count() > 0 {
@@ -180,6 +189,7 @@ impl<D: Disk + Drop> Commit<D> {
         ensures goes { (v : View) → Backs (with_plan (state_of self.old) planned) v
             → v.committed < 2 ^ 62
             → Progresses (state_of self.old) result (state_of self.new) v }
+        ensures writes { WritesPlan (with_plan (state_of self.old) planned) (state_of self.new) }
     {
         match make_writes(&mut self.store) {
             Ok(()) => self.go_on(planned, Phase::Blocks),
@@ -200,6 +210,7 @@ impl<D: Disk + Drop> Commit<D> {
         ensures goes { (v : View) → Backs (with_plan (state_of self.old) planned) v
             → v.committed < 2 ^ 62
             → Progresses (state_of self.old) result (state_of self.new) v }
+        ensures writes { WritesPlan (with_plan (state_of self.old) planned) (state_of self.new) }
     {
         match make_flushes(&mut self.store, &mut planned.behind.flushes) {
             Ok(()) => self.go_on(planned, Phase::BlocksFlush),
@@ -221,6 +232,7 @@ impl<D: Disk + Drop> Commit<D> {
         ensures goes { (v : View) → Backs (with_plan (state_of self.old) planned) v
             → v.committed < 2 ^ 62
             → Progresses (state_of self.old) result (state_of self.new) v }
+        ensures writes { WritesPlan (with_plan (state_of self.old) planned) (state_of self.new) }
     {
         match make_slots(
             &mut self.store,
@@ -246,6 +258,7 @@ impl<D: Disk + Drop> Commit<D> {
         ensures goes { (v : View) → Backs (with_plan (state_of self.old) planned) v
             → v.committed < 2 ^ 62
             → Progresses (state_of self.old) result (state_of self.new) v }
+        ensures writes { WritesPlan (with_plan (state_of self.old) planned) (state_of self.new) }
     {
         match make_flushes(&mut self.store, &mut planned.behind.slot_flushes) {
             Ok(()) => self.go_on(planned, Phase::SlotsFlush),

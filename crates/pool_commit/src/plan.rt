@@ -24,6 +24,7 @@ ghost use Rattle.pool_commit.specs.Room.{LacksRoom, IsNextRefused};
 ghost use Rattle.pool_commit.specs.Space.{GivesBack};
 ghost use Rattle.pool_commit.specs.State.{HasNoPlan};
 ghost use Rattle.pool_commit.specs.StateOf.{state_of, disks_in, outs_in};
+ghost use Rattle.pool_commit.specs.Writing.{PlansFrom};
 
 use crate::commit::Commit;
 use crate::config::config_of;
@@ -252,6 +253,7 @@ impl<D: Disk + Drop> Commit<D> {
         ensures reads { OnlyReads (disks_in self.old) (disks_in self.new) }
         ensures untouched { AreUntouched (outs_in self.old) (disks_in self.old)
             (disks_in self.new) }
+        ensures from { PlansFrom (state_of self.old) (state_of self.new) }
         ensures unplanned { OnErr result ((v : View) → Backs (state_of self.old) v
             → is_planned v.sync ≡ false → Backs (state_of self.new) v) }
         ensures dropped { OnErr result ((v : View) → Backs (state_of self.old) v

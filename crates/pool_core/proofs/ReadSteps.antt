@@ -135,7 +135,7 @@ refuses_now s commit v trusted name offset len refusal named is r reads none hon
 
 -- no call was made
 pub reads_nothing : (s : State) → OnlyReadsPool s s []
-reads_nothing s = record { reads = search rules; untouched = search rules; backs = λ v backs. backs }
+reads_nothing s = record { rest = refl; reads = search rules; untouched = search rules; backs = λ v backs. backs }
 
 pub lacks_memory : (s : CoreState) (v : View) (trusted : Bool) (name : List ℕ) (offset len : ℕ) → Represents s v → Goes s v trusted (Read name offset len) (Refused causes.NoMemory) s
 lacks_memory s v trusted name offset len r =

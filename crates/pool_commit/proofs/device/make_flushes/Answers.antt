@@ -8,6 +8,9 @@ use Rattle.pool_model.specs.declared.step.Phase.TheVariants as phases
 use Rattle.pool_commit.specs.Making.{flushes_left, MadeCalls, MadeFlushes, FailedFlush, FlushesMove, FlushesMoveBut}
 use Rattle.pool_commit.proofs.Made.{none_made, one_made, one_failed_before, flush_due, flush_made, flush_lost, below_four, err_is, some_to_flush, no_flushes, one_flushed, one_flushed_but}
 use Rattle.pool_commit.proofs.SlotWrites.{flush_keeps}
+use Rattle.model_disk.specs.Runs.{no_write}
+use Rattle.model_disk.proofs.RunLemmas.{Makes-none}
+use Rattle.pool_commit.proofs.Writing.{flush_makes}
 use Rattle.pool_commit.proofs.device.make_flushes.Goals as goal
 
 pub loop-init : goal.loop-init
@@ -18,6 +21,7 @@ loop-init g c = (
   c.requires,
   no_flushes c.args.store.now c.args.flushes.now.items,
   λ disk i. refl,
+  Makes-none no_write c.args.store.now.disks,
 )
 
 pub flush-requires : goal.flush-requires
@@ -65,7 +69,12 @@ loop-preserved g c = (
   one_flushed c.flush.result c.args.store.now c.loop.store c.flush.new.self c.args.flushes.now.items c.pop_front.new.self.items c.in-Some.disk (ap is_ok c.in_default-flush.is) c.flush.ensures.call
       (subst (λ (flushes : List ℕ). FlushesMove c.args.store.now c.loop.store c.args.flushes.now.items flushes) c.in-Some.ensures.items c.loop.invariant.4),
   flush_keeps c.flush.result c.args.store.now c.loop.store c.flush.new.self c.in-Some.disk c.flush.ensures.starts c.flush.ensures.call c.loop.invariant.5,
+  flush_makes c.flush.result c.args.store.now.disks c.loop.store.disks c.flush.new.self.disks c.in-Some.disk c.flush.ensures.starts c.flush.ensures.call c.loop.invariant.6,
 )
+
+pub returns-in-Err-clause-makes : goal.returns-in-Err-clause-makes
+returns-in-Err-clause-makes g c =
+    flush_makes c.flush.result c.args.store.now.disks c.loop.store.disks c.flush.new.self.disks c.in-Some.disk c.flush.ensures.starts c.flush.ensures.call c.loop.invariant.6
 
 -- as many were made as the loop counts
 all_made : (store : Store) (mid : Store) (flushes rest : List ℕ) (made least : ℕ) → made ≡ least → MadeFlushes store mid flushes rest made → MadeFlushes store mid flushes rest least

@@ -13,6 +13,9 @@ use Rattle.pool_commit.specs.Making.{slots_left, MadeCalls, FailedSlot, SlotsMov
 use Rattle.pool_commit.specs.Slots.{LabelsLieAside, place_of}
 use Rattle.pool_commit.proofs.Made.{none_made, one_made, one_failed_before, below_four, err_is, some_to_write}
 use Rattle.pool_commit.proofs.SlotWrites.{due_slot, slot_made, slot_lost, none_moved, one_moved, one_moved_but, there_first, there_later}
+use Rattle.model_disk.proofs.RunLemmas.{Makes-none}
+use Rattle.pool_commit.specs.Writing.{IsDueSlot}
+use Rattle.pool_commit.proofs.Writing.{rest_first, rest_next, slot_makes}
 use Rattle.pool_commit.proofs.device.make_slots.Goals as goal
 
 pub loop-init : goal.loop-init
@@ -23,6 +26,8 @@ loop-init g c = (
   refl,
   c.requires.there,
   none_moved c.args.store.now c.args.uberblock.now c.args.slots.now.items,
+  rest_first SlotWrite c.args.slots.now.items,
+  Makes-none (IsDueSlot c.args.store.now.disks.starts c.args.uberblock.now c.args.slots.now.items) c.args.store.now.disks,
 )
 
 pub write_slot-requires-clause-there : goal.write_slot-requires-clause-there
@@ -94,7 +99,15 @@ loop-preserved g c =
           (room 0 c.args.store.now.disks.starts c.loop.store.disks.starts c.args.store.now.spaces c.in-Some.write.disk c.loop.invariant.2 there.0 c.requires.aside) there.1
           (ap is_ok c.in_default-write_slot.is) c.write_slot.ensures.starts c.write_slot.ensures.call
           (subst (λ (left : List SlotWrite). SlotsMove c.args.store.now c.loop.store c.args.uberblock.now c.args.slots.now.items left) c.in-Some.ensures.items c.loop.invariant.5),
+      rest_next SlotWrite c.args.slots.now.items c.loop.slots.items c.pop_front.new.self.items c.in-Some.write c.in-Some.ensures.items c.loop.invariant.6,
+      slot_makes c.write_slot.result c.args.store.now.disks c.loop.store.disks c.write_slot.new.store.disks c.args.uberblock.now c.args.slots.now.items c.loop.slots.items
+          c.pop_front.new.self.items c.in-Some.write c.in-Some.ensures.items c.loop.invariant.2 c.write_slot.ensures.starts c.write_slot.ensures.call c.loop.invariant.6 c.loop.invariant.7,
     )
+
+pub returns-in-Err-clause-makes : goal.returns-in-Err-clause-makes
+returns-in-Err-clause-makes g c =
+    slot_makes c.write_slot.result c.args.store.now.disks c.loop.store.disks c.write_slot.new.store.disks c.args.uberblock.now c.args.slots.now.items c.loop.slots.items
+    c.pop_front.new.self.items c.in-Some.write c.in-Some.ensures.items c.loop.invariant.2 c.write_slot.ensures.starts c.write_slot.ensures.call c.loop.invariant.6 c.loop.invariant.7
 
 pub returns-clause-made : goal.returns-clause-made
 returns-clause-made g c counts =

@@ -5,6 +5,7 @@ use Rattle.pool_commit.specs.Backs.{Backs}
 use Rattle.pool_commit.specs.Progress.{with_plan}
 use Rattle.pool_commit.specs.State.{State}
 use Rattle.pool_commit.specs.StateOf.{state_of}
+use Rattle.pool_commit.specs.Writing.{WritesPlan}
 use Rattle.pool_commit.proofs.Progressing.{planned_either_way}
 use Rattle.pool_commit.proofs.commit.Commit.device.Goals as goal
 
@@ -42,3 +43,19 @@ pub returns-clause-some : goal.returns-clause-some
 returns-clause-some g c v backs low =
     let with_one = with_it (state_of c.args.self.now) c.in_ok-planned.planned v c.in_ok-planned.ensures.value backs in
     (ap is_planned with_one.blocks.plan.sync, planned_either_way (state_of c.args.self.now) c.take.new.self c.flush_slots.result (state_of c.flush_slots.new.self) v (c.flush_slots.ensures.goes v with_one low))
+
+-- the plan that was taken is the one that there was
+of_it : (s : State) (plan : Planned) (new : State) → Some plan ≡ s.planned → WritesPlan (with_plan s plan) new → WritesPlan s new
+of_it s plan new is writes = subst (λ (o : Option Planned). WritesPlan (record s { planned = o }) new) is writes
+
+pub returns-then-due_count-gt0-clause-writes : goal.returns-then-due_count-gt0-clause-writes
+returns-then-due_count-gt0-clause-writes g c = of_it (state_of c.args.self.now) c.in_ok-planned.planned (state_of c.write.new.self) c.in_ok-planned.ensures.value c.write.ensures.writes
+
+pub returns-then-not-is_empty-clause-writes : goal.returns-then-not-is_empty-clause-writes
+returns-then-not-is_empty-clause-writes g c = of_it (state_of c.args.self.now) c.in_ok-planned.planned (state_of c.flush.new.self) c.in_ok-planned.ensures.value c.flush.ensures.writes
+
+pub returns-then-not-is_empty-2-clause-writes : goal.returns-then-not-is_empty-2-clause-writes
+returns-then-not-is_empty-2-clause-writes g c = of_it (state_of c.args.self.now) c.in_ok-planned.planned (state_of c.write_slots.new.self) c.in_ok-planned.ensures.value c.write_slots.ensures.writes
+
+pub returns-clause-writes : goal.returns-clause-writes
+returns-clause-writes g c = of_it (state_of c.args.self.now) c.in_ok-planned.planned (state_of c.flush_slots.new.self) c.in_ok-planned.ensures.value c.flush_slots.ensures.writes

@@ -17,6 +17,7 @@ use Rattle.pool_commit.proofs.Labels.{labels_still}
 use Rattle.pool_commit.proofs.Phasing.{flushing, flushes_stay, none_due}
 use Rattle.pool_commit.proofs.Suspending.{still}
 use Rattle.pool_commit.proofs.Progressing.{AreFrom, goes_on, drops, behind_from, with_tail, failed_tail, some_few, carried_disks}
+use Rattle.pool_commit.proofs.Writing.{nothing_at_all, writes_dropped, writes_on}
 use Rattle.pool_commit.proofs.commit.Commit.flush.Goals as goal
 
 pub make_flushes-requires : goal.make_flushes-requires
@@ -102,3 +103,21 @@ pub returns-in-Err-clause-grew : goal.returns-in-Err-clause-grew
 returns-in-Err-clause-grew g c =
     let failed = (c.in-Err.ensures.failed phases.BlocksFlush (λ disk number. refl)).0 in
     subst (λ (disks : Disks). GrewTo c.args.self.now.store.disks disks) (sym c.drop_plan.ensures.store.disks) failed.same.grew
+
+pub returns-in-Ok-clause-writes : goal.returns-in-Ok-clause-writes
+returns-in-Ok-clause-writes g c =
+    let old : State = state_of c.args.self.now in
+    writes_on old c.make_flushes.new.store c.args.planned (flushing c.args.planned c.make_flushes.new.flushes) phases.BlocksFlush c.go_on.result (state_of c.go_on.new.self)
+    (record {
+      makes = nothing_at_all old c.args.planned c.make_flushes.new.store c.make_flushes.ensures.makes;
+      goes = record { uberblock = refl; leads = refl; flushes = c.in-Ok.ensures.flushed.flushed };
+      shapes = ap shapes_of (c.in-Ok.ensures.made phases.BlocksFlush (λ disk number. refl)).same.spaces;
+    }) c.go_on.ensures
+
+pub returns-in-Err-clause-writes : goal.returns-in-Err-clause-writes
+returns-in-Err-clause-writes g c =
+    let old : State = state_of c.args.self.now in
+    writes_dropped old c.make_flushes.new.store c.args.planned (state_of c.drop_plan.new.self)
+    (nothing_at_all old c.args.planned c.make_flushes.new.store c.make_flushes.ensures.makes)
+    (ap shapes_of (c.in-Err.ensures.failed phases.BlocksFlush (λ disk number. refl)).0.same.spaces)
+    c.drop_plan.ensures.store c.drop_plan.ensures.kept (c.drop_plan.ensures.planned ∙ c.requires.none) c.drop_plan.ensures.stamp

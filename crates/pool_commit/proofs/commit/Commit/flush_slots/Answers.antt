@@ -17,6 +17,7 @@ use Rattle.pool_commit.proofs.Labels.{labels_still}
 use Rattle.pool_commit.proofs.Phasing.{FailedEnd, ending, ends_stay, ends_left_out, none_to_show}
 use Rattle.pool_commit.proofs.Suspending.{still}
 use Rattle.pool_commit.proofs.Progressing.{AreFrom, goes_on, leaves_out, last_from_there, some_or_none, few_of, LeavesRest, carried_disks}
+use Rattle.pool_commit.proofs.Writing.{nothing_at_all, same_flushes, writes_on, writes_without}
 use Rattle.pool_commit.proofs.commit.Commit.flush_slots.Goals as goal
 
 pub make_flushes-requires : goal.make_flushes-requires
@@ -121,3 +122,25 @@ pub returns-in-Err-clause-grew : goal.returns-in-Err-clause-grew
 returns-in-Err-clause-grew g c =
     let failed = (c.in-Err.ensures.failed phases.SlotsFlush (λ disk number. refl)).0 in
     subst (λ (disks : Disks). GrewTo c.args.self.now.store.disks disks) (sym c.go_without.ensures.grew) failed.same.grew
+
+pub returns-in-Ok-clause-writes : goal.returns-in-Ok-clause-writes
+returns-in-Ok-clause-writes g c =
+    let old : State = state_of c.args.self.now in
+    let later : Planned = ending c.args.planned c.make_flushes.new.flushes in
+    writes_on old c.make_flushes.new.store c.args.planned later phases.SlotsFlush c.go_on.result (state_of c.go_on.new.self)
+    (record {
+      makes = nothing_at_all old c.args.planned c.make_flushes.new.store c.make_flushes.ensures.makes;
+      goes = same_flushes c.args.planned later c.make_flushes.new.store.disks refl refl refl;
+      shapes = ap shapes_of (c.in-Ok.ensures.made phases.SlotsFlush (λ disk number. refl)).same.spaces;
+    }) c.go_on.ensures
+
+pub returns-in-Err-clause-writes : goal.returns-in-Err-clause-writes
+returns-in-Err-clause-writes g c =
+    let old : State = state_of c.args.self.now in
+    let popped : Planned = ending c.args.planned c.make_flushes.new.flushes in
+    writes_without old c.make_flushes.new.store c.args.planned popped c.in-Err.failed.disk phases.SlotsFlush c.go_without.result (state_of c.go_without.new.self)
+    (record {
+      makes = nothing_at_all old c.args.planned c.make_flushes.new.store c.make_flushes.ensures.makes;
+      goes = same_flushes c.args.planned popped c.make_flushes.new.store.disks refl refl refl;
+      shapes = ap shapes_of (c.in-Err.ensures.failed phases.SlotsFlush (λ disk number. refl)).0.same.spaces;
+    }) c.requires.none c.go_without.ensures.goes

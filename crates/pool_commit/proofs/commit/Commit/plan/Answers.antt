@@ -1,4 +1,5 @@
 use Rattle.std.proofs.Common.{ℕ, suc, ◌≡◌, ◌≤◌, ⊎_elim, inl, inr, ◌-◌, ◌++◌, List, [], length, Some, None, refl, sym, ap, ◌∙◌, subst, arith}
+use Rattle.block_pointer.specs.declared.block.Block.{Block}
 use Rattle.model_disk.specs.Joint.{Disks}
 use Rattle.raidz_io.specs.Reads.{AreUntouched, IsHonestSince}
 use Rattle.block_store.specs.declared.refusal.Refusal.{Refusal as StoreRefusal}
@@ -20,6 +21,17 @@ use Rattle.pool_commit.specs.HasDisks.{AreDueOn, HasDisks, HasSpelling, IsPlanne
 use Rattle.pool_commit.proofs.Labels.{labels_still}
 use Rattle.pool_commit.proofs.Suspending.{still}
 use Rattle.pool_commit.proofs.Unread.{lost_for_plan}
+use Rattle.block_store.proofs.Planning.{marks_by_map}
+use Rattle.block_store.specs.Places.{filled as filled_marks}
+use Rattle.block_store.specs.Store.{Store}
+use Rattle.block_store.specs.Steps.{OnlyReadsAndPlans}
+use Rattle.block_store.specs.Places.{shapes_of}
+use Rattle.block_store.specs.Store.{is_out}
+use Rattle.std.specs.Prelude.{filter, not}
+use Rattle.pool_model.specs.View.{disks_of}
+use Rattle.pool_commit.proofs.Planning.{same_vdevs}
+use Rattle.pool_commit.specs.Writing.{PlansFrom, in_use_of}
+use Rattle.pool_commit.proofs.Writing.{from_begun, from_made, from_none, from_then}
 use Rattle.pool_commit.proofs.commit.Commit.plan.Given as given
 use Rattle.pool_commit.proofs.commit.Commit.plan.Goals as goal
 
@@ -237,3 +249,59 @@ invariant_of-self-in-Err-1 g c = record {
   labels = labels_still c.args.self.now.store c.group_after.new.store (c.in-Err.ensures.steps.reads.starts ∙ ap (λ (d : Disks). d.starts) c.begin_plan.ensures.disks) (c.in-Err.ensures.steps.shapes ∙ c.begin_plan.ensures.shapes) c.args.self.now.labels;
   claim = c.args.self.now.claim;
 }
+
+-- ---- what a plan leaves of what is committed
+
+-- a plan that was begun, and what was planned of it
+stepped : (s : State) (begun made : Store) (group : ℕ) → s.planned ≡ None → PlansFrom s (record s { store = begun }) → OnlyReadsAndPlans begun made []
+    → PlansFrom s (record s { store = made })
+stepped s begun made group none from steps = from_then s begun made none from steps.out steps.shapes (marks_by_map filled_marks begun.spaces made.spaces steps.filled)
+
+given_back : (s : State) (made mid : Store) (gone : List Block) (group : ℕ) → s.planned ≡ None → PlansFrom s (record s { store = made }) → GivesBack made mid gone group
+    → PlansFrom s (record s { store = mid })
+given_back s made mid gone group none from gives = from_then s made mid none from gives.out gives.shapes gives.filled_stays
+
+-- the disks in use are the same
+in_use_still : (s : State) (begun : Store) → begun.out ≡ s.store.out → shapes_of begun.spaces ≡ shapes_of s.store.spaces → in_use_of (record s { store = begun }) ≡ in_use_of s
+in_use_still s begun out shapes = λ i. filter (λ disk. not (is_out (out i) disk)) (disks_of (same_vdevs s.store.spaces begun.spaces shapes i))
+
+pub returns-then-group-gt-LAST_COUNT-clause-from : goal.returns-then-group-gt-LAST_COUNT-clause-from
+returns-then-group-gt-LAST_COUNT-clause-from g c = from_none (state_of c.args.self.now) c.requires.unplanned
+
+pub returns-in_err-begin_plan-clause-from : goal.returns-in_err-begin_plan-clause-from
+returns-in_err-begin_plan-clause-from g c =
+    from_begun (state_of c.args.self.now) c.begin_plan.new.self c.saturating_add-group.result c.requires.unplanned c.begin_plan.ensures.out c.begin_plan.ensures.shapes c.begin_plan.ensures.some
+
+pub returns-in_err-behind-clause-from : goal.returns-in_err-behind-clause-from
+returns-in_err-behind-clause-from g c =
+    from_begun (state_of c.args.self.now) c.begin_plan.new.self c.saturating_add-group.result c.requires.unplanned c.begin_plan.ensures.out c.begin_plan.ensures.shapes c.begin_plan.ensures.some
+
+pub returns-then-not-makes_good_volumes-clause-from : goal.returns-then-not-makes_good_volumes-clause-from
+returns-then-not-makes_good_volumes-clause-from g c =
+    from_begun (state_of c.args.self.now) c.begin_plan.new.self c.saturating_add-group.result c.requires.unplanned c.begin_plan.ensures.out c.begin_plan.ensures.shapes c.begin_plan.ensures.some
+
+pub returns-then-is_err-clause-from : goal.returns-then-is_err-clause-from
+returns-then-is_err-clause-from g c =
+    let s : State = state_of c.args.self.now in
+    let none = c.requires.unplanned in
+    let begun = from_begun s c.begin_plan.new.self c.saturating_add-group.result none c.begin_plan.ensures.out c.begin_plan.ensures.shapes c.begin_plan.ensures.some in
+    let made = stepped s c.begin_plan.new.self c.group_after.new.store c.saturating_add-group.result none begun c.in-Ok.ensures.steps in
+    from_then s c.give_back.new.store c.drop_plan.new.self none (given_back s c.group_after.new.store c.give_back.new.store _ c.saturating_add-group.result none made c.give_back.ensures.gives)
+    c.drop_plan.ensures.out c.drop_plan.ensures.shapes c.drop_plan.ensures.filled
+
+pub returns-else-is_err-clause-from : goal.returns-else-is_err-clause-from
+returns-else-is_err-clause-from g c =
+    let s : State = state_of c.args.self.now in
+    let none = c.requires.unplanned in
+    let begun = from_begun s c.begin_plan.new.self c.saturating_add-group.result none c.begin_plan.ensures.out c.begin_plan.ensures.shapes c.begin_plan.ensures.some in
+    let made = stepped s c.begin_plan.new.self c.group_after.new.store c.saturating_add-group.result none begun c.in-Ok.ensures.steps in
+    from_made s c.give_back.new.store (record { after = c.in-Ok.next.after; uberblock = c.uberblock-uberblock.result; behind = c.in_ok-behind.behind })
+    (given_back s c.group_after.new.store c.give_back.new.store _ c.saturating_add-group.result none made c.give_back.ensures.gives)
+    (c.in_ok-behind.ensures.are.flushes ∙ in_use_still s c.begin_plan.new.self c.begin_plan.ensures.out c.begin_plan.ensures.shapes)
+
+pub returns-in-Err-clause-from : goal.returns-in-Err-clause-from
+returns-in-Err-clause-from g c =
+    let s : State = state_of c.args.self.now in
+    let none = c.requires.unplanned in
+    let begun = from_begun s c.begin_plan.new.self c.saturating_add-group.result none c.begin_plan.ensures.out c.begin_plan.ensures.shapes c.begin_plan.ensures.some in
+    stepped s c.begin_plan.new.self c.group_after.new.store c.saturating_add-group.result none begun c.in-Err.ensures.steps

@@ -13,6 +13,7 @@ use Rattle.pool_commit.proofs.Labels.{labels_still}
 use Rattle.pool_commit.proofs.Phasing.{writes_stay}
 use Rattle.pool_commit.proofs.Suspending.{still}
 use Rattle.pool_commit.proofs.Progressing.{goes_on, drops, all_from_first, with_tail, failed_tail, some_few}
+use Rattle.pool_commit.proofs.Writing.{blocks_only, same_flushes, writes_dropped, writes_on}
 use Rattle.pool_commit.proofs.commit.Commit.write.Goals as goal
 
 pub invariant_of-self : goal.invariant_of-self
@@ -62,3 +63,20 @@ invariant_of-self-in-Err g c =
       labels = labels_still c.args.self.now.store c.make_writes.new.store failed.same.grew.starts (ap shapes_of failed.same.spaces) c.args.self.now.labels;
       claim = c.args.self.now.claim;
     }
+
+pub returns-in-Ok-clause-writes : goal.returns-in-Ok-clause-writes
+returns-in-Ok-clause-writes g c =
+    let old : State = state_of c.args.self.now in
+    writes_on old c.make_writes.new.store c.args.planned c.args.planned phases.Blocks c.go_on.result (state_of c.go_on.new.self)
+    (record {
+      makes = blocks_only old c.args.planned c.make_writes.new.store c.make_writes.ensures.makes;
+      goes = same_flushes c.args.planned c.args.planned c.make_writes.new.store.disks refl refl refl;
+      shapes = ap shapes_of (c.in-Ok.ensures.made (λ disk. 0)).1.same.spaces;
+    }) c.go_on.ensures
+
+pub returns-in-Err-clause-writes : goal.returns-in-Err-clause-writes
+returns-in-Err-clause-writes g c =
+    let old : State = state_of c.args.self.now in
+    writes_dropped old c.make_writes.new.store c.args.planned (state_of c.drop_plan.new.self)
+    (blocks_only old c.args.planned c.make_writes.new.store c.make_writes.ensures.makes) (ap shapes_of (c.in-Err.ensures.failed (λ disk. 0)).same.spaces)
+    c.drop_plan.ensures.store c.drop_plan.ensures.kept (c.drop_plan.ensures.planned ∙ c.requires.none) c.drop_plan.ensures.stamp

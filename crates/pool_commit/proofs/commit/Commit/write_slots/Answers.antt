@@ -21,6 +21,7 @@ use Rattle.pool_commit.proofs.Phasing.{FailedSlots, slotting, slots_stay, slots_
 use Rattle.pool_commit.proofs.Spellings.{spelled_fits}
 use Rattle.pool_commit.proofs.Suspending.{still}
 use Rattle.pool_commit.proofs.Progressing.{AreFrom, goes_on, leaves_out, slots_from_there, with_tail, failed_before, some_few, LeavesRest, carried_disks}
+use Rattle.pool_commit.proofs.Writing.{same_flushes, slots_only, writes_on, writes_without}
 use Rattle.pool_commit.proofs.commit.Commit.write_slots.Goals as goal
 
 pub make_slots-requires-clause-there : goal.make_slots-requires-clause-there
@@ -141,3 +142,25 @@ pub returns-in-Err-clause-grew : goal.returns-in-Err-clause-grew
 returns-in-Err-clause-grew g c =
     let failed = (c.in-Err.ensures.failed (λ disk. 0)).0 in
     subst (λ (disks : Disks). GrewTo c.args.self.now.store.disks disks) (sym c.go_without.ensures.grew) failed.same.grew
+
+pub returns-in-Ok-clause-writes : goal.returns-in-Ok-clause-writes
+returns-in-Ok-clause-writes g c =
+    let old : State = state_of c.args.self.now in
+    let later : Planned = slotting c.args.planned c.make_slots.new.slots in
+    writes_on old c.make_slots.new.store c.args.planned later phases.Slots c.go_on.result (state_of c.go_on.new.self)
+    (record {
+      makes = slots_only old c.args.planned c.make_slots.new.store c.requires.written c.requires.flushed c.make_slots.ensures.makes;
+      goes = same_flushes c.args.planned later c.make_slots.new.store.disks refl refl refl;
+      shapes = ap shapes_of (c.in-Ok.ensures.made (λ disk. 0)).1.same.spaces;
+    }) c.go_on.ensures
+
+pub returns-in-Err-clause-writes : goal.returns-in-Err-clause-writes
+returns-in-Err-clause-writes g c =
+    let old : State = state_of c.args.self.now in
+    let popped : Planned = slotting c.args.planned c.make_slots.new.slots in
+    writes_without old c.make_slots.new.store c.args.planned popped c.in-Err.failed.disk phases.Slots c.go_without.result (state_of c.go_without.new.self)
+    (record {
+      makes = slots_only old c.args.planned c.make_slots.new.store c.requires.written c.requires.flushed c.make_slots.ensures.makes;
+      goes = same_flushes c.args.planned popped c.make_slots.new.store.disks refl refl refl;
+      shapes = ap shapes_of (c.in-Err.ensures.failed (λ disk. 0)).0.same.spaces;
+    }) c.requires.none c.go_without.ensures.goes
