@@ -2,3 +2,4 @@ pub mod Fronting
 pub mod Phases
 pub mod ReadSteps
 pub mod Running
+pub mod Moving

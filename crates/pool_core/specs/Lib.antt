@@ -4,3 +4,4 @@ pub mod Represents
 pub mod Steps
 pub mod Runs
 pub mod Reading
+pub mod Moves

@@ -15,6 +15,7 @@ ghost use Rattle.pool_commit.specs.Calls.{GrewTo};
 ghost use Rattle.pool_commit.specs.Config.{vdevs_from};
 ghost use Rattle.pool_commit.specs.Started.{started_on_disks};
 ghost use Rattle.pool_commit.specs.State.{NoneIsOut};
+ghost use Rattle.pool_core.specs.Moves.{Moves};
 ghost use Rattle.pool_core.specs.Represents.{Represents};
 ghost use Rattle.pool_core.specs.StateOf.{disks_in, state_of};
 ghost use Rattle.pool_core.specs.Steps.{TakesStep, is_barred as barred_step};
@@ -121,6 +122,9 @@ impl<D: Disk + Drop> Core<D> {
     pub fn step(&mut self, step: Step) -> Reply
         ensures grew { GrewTo (disks_in self.old) (disks_in self.new) }
         ensures goes { TakesStep (state_of self.old) step result (state_of self.new) }
+
+        // Byte for byte, what it writes, and what it leaves as it was.
+        ensures moves { Moves step (state_of self.old).commit (state_of self.new).commit }
 
         // A read that one pending write has whole reads no disk.
         ensures covered { (v : View) (volume : PlainVolume) (name : List ℕ) (offset len : ℕ)

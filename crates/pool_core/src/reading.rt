@@ -1,5 +1,5 @@
 //! Reads.
-ghost use Rattle.std.specs.Prelude.{◌≡◌, ◌⊎◌, ◌+◌, ◌≤◌, Bool, Some, None, IfOk, IfErr};
+ghost use Rattle.std.specs.Prelude.{[], ◌≡◌, ◌⊎◌, ◌+◌, ◌≤◌, Bool, Some, None, IfOk, IfErr};
 ghost use Rattle.pool_model.specs.declared.step.Step.TheVariants as steps;
 ghost use Rattle.pool_model.specs.Machine.{AreBytesOf};
 ghost use Rattle.pool_model.specs.Refusals.{refusal_of};
@@ -26,6 +26,7 @@ impl<D: Disk + Drop> Core<D> {
         ensures grew { GrewTo (disks_in self.old) (disks_in self.new) }
         ensures goes { TakesStep (state_of self.old) (steps.Read name.now offset len) result
             (state_of self.new) }
+        ensures moves { OnlyReadsPool (state_of self.old).commit (state_of self.new).commit [] }
 
         // No disk is read where one pending write has every byte.
         ensures covered { (v : View) (volume : PlainVolume) → Represents (state_of self.old) v
@@ -82,6 +83,7 @@ impl<D: Disk + Drop> Core<D> {
         ensures grew { GrewTo (disks_in self.old) (disks_in self.new) }
         ensures goes { TakesStep (state_of self.old)
             (steps.ReadUnder group name.now offset len) result (state_of self.new) }
+        ensures moves { OnlyReadsPool (state_of self.old).commit (state_of self.new).commit [] }
     {
         match self.read_under(group, name, offset, len, &[]) {
             Ok(bytes) => Reply::Bytes(bytes),

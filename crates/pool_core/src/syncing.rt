@@ -8,6 +8,7 @@ ghost use Rattle.pool_model.specs.View.{View, is_syncing, is_suspended};
 ghost use Rattle.pool_commit.specs.Backs.{Backs};
 ghost use Rattle.pool_commit.specs.Calls.{GrewTo};
 ghost use Rattle.pool_intake.specs.Follows.{Follows};
+ghost use Rattle.pool_core.specs.Moves.{Moves};
 ghost use Rattle.pool_core.specs.StateOf.{disks_in, state_of};
 ghost use Rattle.pool_core.specs.Steps.{TakesStepUnlessSuspended};
 
@@ -22,6 +23,8 @@ impl<D: Disk + Drop> Core<D> {
         ensures grew { GrewTo (disks_in self.old) (disks_in self.new) }
         ensures goes { (time : ℕ) → TakesStepUnlessSuspended (state_of self.old)
             (steps.Plan time) result (state_of self.new) }
+        ensures moves { Moves (steps.Plan timestamp)
+            (state_of self.old).commit (state_of self.new).commit }
     {
         if self.commit.is_planned() {
             return Reply::Refused(Refusal::NotNow);
@@ -44,6 +47,7 @@ impl<D: Disk + Drop> Core<D> {
         ensures grew { GrewTo (disks_in self.old) (disks_in self.new) }
         ensures goes { TakesStepUnlessSuspended (state_of self.old) steps.Device result
             (state_of self.new) }
+        ensures moves { Moves steps.Device (state_of self.old).commit (state_of self.new).commit }
     {
         match self.commit.device() {
             None => Reply::Refused(Refusal::NotNow),

@@ -7,6 +7,7 @@ use Rattle.pool_commit.specs.StateOf.{state_of as commit_state}
 use Rattle.pool_core.specs.StateOf.{state_of}
 use Rattle.pool_core.specs.Steps.{Goes}
 use Rattle.pool_core.proofs.Phases.{idles, moves, commits, drops, group_low, ends_follows, ends_syncing}
+use Rattle.pool_commit.specs.Writing.{WritesPlan}
 use Rattle.pool_core.proofs.pool.Core.device.Goals as goal
 
 pub returns-in-None-clause-goes : goal.returns-in-None-clause-goes
@@ -36,3 +37,7 @@ returns-in-Some-Dropped-clause-goes g c v trusted r free honest plans =
     let p = c.in-Some-Dropped.ensures.some v r.backs (group_low c.args.self.now.intake v r.follows) in
     drops (state_of c.args.self.now) (commit_state c.device.new.self) v trusted c.in-Some-Dropped.disk c.replan.result r free
     (subst (λ (x : Progress). Progresses (commit_state c.args.self.now.commit) x (commit_state c.device.new.self) v) c.in-Some-Dropped.field-0-is p.1) c.in-Some-Dropped.ensures.grew c.replan.ensures
+
+pub returns-in-Some-Done-clause-moves : goal.returns-in-Some-Done-clause-moves
+returns-in-Some-Done-clause-moves g c =
+    subst (λ (commit : State). WritesPlan (commit_state c.args.self.now.commit) commit) (sym c.commit_group.ensures.commit) c.in-Some-Done.ensures.writes

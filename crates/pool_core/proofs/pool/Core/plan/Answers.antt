@@ -13,6 +13,7 @@ use Rattle.pool_commit.specs.StateOf.{state_of as commit_state}
 use Rattle.pool_core.specs.StateOf.{state_of}
 use Rattle.pool_core.proofs.Fronting.{refused}
 use Rattle.pool_core.proofs.Phases.{plan_planned, backs_taken, plan_spares, plans, plan_refused, group_after, group_low, takes_none}
+use Rattle.std.proofs.Common.{inl, inr}
 use Rattle.pool_core.proofs.pool.Core.plan.Goals as goal
 
 pub returns-then-is_planned-clause-goes : goal.returns-then-is_planned-clause-goes
@@ -59,9 +60,15 @@ returns-in-Err-plan-clause-goes g c timestamp v trusted r free honest plans_trus
     (subst (λ (entry : Entry). (c.in-Err-plan.refusal ≡ refusals.NoMemory)
     ⊎ (IsLostForPlan (taken v Unplanned) (commit_state c.args.self.now.commit) (commit_state c.plan.new.self) entry c.in-Err-plan.refusal ⊎ (c.in-Err-plan.refusal ≡ refusals.NoSpace))) items why)
 
+not_some : {A : Type 0} (o : Option A) → is_some o ≡ false → o ≡ None
+not_some None e = refl
+not_some (Some x) e = absurd (true≢false e)
+
 pub plan-requires : goal.plan-requires
 plan-requires g c = record { unplanned = not_some c.args.self.now.commit.planned (sym c.is_planned.ensures.planned ∙ c.if-is_planned.false) }
-  where
-    not_some : {A : Type 0} (o : Option A) → is_some o ≡ false → o ≡ None
-    not_some None e = refl
-    not_some (Some x) e = absurd (true≢false e)
+
+pub returns-in-Ok-plan-clause-moves : goal.returns-in-Ok-plan-clause-moves
+returns-in-Ok-plan-clause-moves g c = inr (record { unplanned = not_some c.args.self.now.commit.planned (sym c.is_planned.ensures.planned ∙ c.if-is_planned.false); reads = c.in-Ok-plan.ensures.reads; from = c.in-Ok-plan.ensures.from })
+
+pub returns-in-Err-plan-clause-moves : goal.returns-in-Err-plan-clause-moves
+returns-in-Err-plan-clause-moves g c = inr (record { unplanned = not_some c.args.self.now.commit.planned (sym c.is_planned.ensures.planned ∙ c.if-is_planned.false); reads = c.in-Err-plan.ensures.reads; from = c.in-Err-plan.ensures.from })

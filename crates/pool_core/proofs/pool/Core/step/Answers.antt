@@ -9,6 +9,9 @@ use Rattle.volume_rules.specs.Shapes.{shape_of}
 use Rattle.pool_core.specs.StateOf.{state_of}
 use Rattle.pool_core.specs.Steps.{Goes, is_barred}
 use Rattle.pool_core.proofs.Fronting.{front, refused, barred, not_barred, is_barred_then}
+use Rattle.pool_commit.specs.StateOf.{state_of as commit_state}
+use Rattle.pool_core.specs.Moves.{Moves}
+use Rattle.pool_core.proofs.Moving.{moves_nothing}
 use Rattle.pool_core.proofs.pool.Core.step.Goals as goal
 
 pub returns-then-is_refused-clause-goes : goal.returns-then-is_refused-clause-goes
@@ -74,3 +77,40 @@ returns-in-Read-clause-covered g c v volume name offset len r is found covered =
     (subst (λ n. IsCovered v c.in-Read.name (shape_of volume) c.in-Read.offset n) count
     (subst (λ o. IsCovered v c.in-Read.name (shape_of volume) o len) from
     (subst (λ (n : List ℕ). IsCovered v n (shape_of volume) offset len) called covered)))
+
+pub returns-then-is_refused-clause-moves : goal.returns-then-is_refused-clause-moves
+returns-then-is_refused-clause-moves g c = moves_nothing c.args.step (commit_state c.args.self.now.commit)
+
+pub returns-in-Hold-clause-moves : goal.returns-in-Hold-clause-moves
+returns-in-Hold-clause-moves g c = moves_nothing c.args.step (commit_state c.args.self.now.commit)
+
+pub returns-in-Write-clause-moves : goal.returns-in-Write-clause-moves
+returns-in-Write-clause-moves g c = moves_nothing c.args.step (commit_state c.args.self.now.commit)
+
+pub returns-in-Act-clause-moves : goal.returns-in-Act-clause-moves
+returns-in-Act-clause-moves g c = moves_nothing c.args.step (commit_state c.args.self.now.commit)
+
+pub returns-in-Release-clause-moves : goal.returns-in-Release-clause-moves
+returns-in-Release-clause-moves g c = moves_nothing c.args.step (commit_state c.args.self.now.commit)
+
+pub returns-in-Close-clause-moves : goal.returns-in-Close-clause-moves
+returns-in-Close-clause-moves g c = moves_nothing c.args.step (commit_state c.args.self.now.commit)
+
+pub returns-in-Quiesce-clause-moves : goal.returns-in-Quiesce-clause-moves
+returns-in-Quiesce-clause-moves g c = moves_nothing c.args.step (commit_state c.args.self.now.commit)
+
+pub returns-in-Plan-clause-moves : goal.returns-in-Plan-clause-moves
+returns-in-Plan-clause-moves g c =
+    subst (λ (s : Step). Moves s (commit_state c.args.self.now.commit) (commit_state c.plan.new.self.commit)) (sym c.in-Plan.is) c.plan.ensures.moves
+
+pub returns-in-Device-clause-moves : goal.returns-in-Device-clause-moves
+returns-in-Device-clause-moves g c =
+    subst (λ (s : Step). Moves s (commit_state c.args.self.now.commit) (commit_state c.device.new.self.commit)) (sym c.in-Device.is) c.device.ensures.moves
+
+pub returns-in-Read-clause-moves : goal.returns-in-Read-clause-moves
+returns-in-Read-clause-moves g c =
+    subst (λ (s : Step). Moves s (commit_state c.args.self.now.commit) (commit_state c.read.new.self.commit)) (sym c.in-Read.is) c.read.ensures.moves
+
+pub returns-in-ReadUnder-clause-moves : goal.returns-in-ReadUnder-clause-moves
+returns-in-ReadUnder-clause-moves g c =
+    subst (λ (s : Step). Moves s (commit_state c.args.self.now.commit) (commit_state c.reply_under.new.self.commit)) (sym c.in-ReadUnder.is) c.reply_under.ensures.moves
