@@ -3,16 +3,11 @@
 #![tactic(auto)]
 
 use clap::Command;
-use model_disk::MemDisk;
-use pool_core::Core;
-use programs::schedule;
+use programs::{PoolOnDisks, schedule};
 use std::alloc::Global;
 use std::io::{BufReader, BufWriter, ErrorKind};
 use std::process::ExitCode;
 use std::{env, io};
-
-/// The pools that schedules are run against.
-type Pool = Core<MemDisk>;
 
 const ABOUT: &str =
     "Runs a schedule from standard input against a storage pool, and prints a reply a line";
@@ -37,7 +32,7 @@ fn status_by_words(rt: &HostRuntime, alloc: Global) -> io::Result<Option<u8>> {
 fn run_schedule(rt: &HostRuntime, alloc: Global) -> io::Result<u8> {
     let input = BufReader::new(alloc, rt.reader())?;
     let mut output = BufWriter::new(alloc, io::writer(rt))?;
-    let status = schedule::<Pool, _, _, _>(alloc, input, &mut output, &mut rt.stderr());
+    let status = schedule::<PoolOnDisks, _, _, _>(alloc, input, &mut output, &mut rt.stderr());
     Ok(status.number())
 }
 

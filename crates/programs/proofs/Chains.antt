@@ -10,9 +10,11 @@ use Rattle.pool_core.specs.Represents.{Represents}
 use Rattle.pool_core.specs.Runs.{Chain}
 use Rattle.pool_core.specs.State.{CoreState}
 use Rattle.pool_core.proofs.Running.{run_of}
+use Rattle.programs.specs.declared.outcome.Outcome.{Outcome}
 use Rattle.programs.specs.Answers.{Leads, Goes as GoesOn, runs_on}
+use Rattle.programs.specs.Outcomes.{IsOutcomeText, Replies}
 use Rattle.programs.specs.Plays.{Plays}
-use Rattle.programs.specs.Runs.{StepsTruly, AreSteps, AreParts, IsOneRun}
+use Rattle.programs.specs.Runs.{StepsTruly, AreSteps, AreParts, IsOneRun, IsStoppedRun}
 
 -- a chain of the core, which is trusted
 pub record IsChain (old : CoreState) (v : View) (steps : List Step) (replies : List Reply) (new : CoreState) : Type 0 where
@@ -80,7 +82,7 @@ module _ {M : Type 0} (state : M → CoreState) where
 
   -- ---- all commands
 
-  pub plays_chain : (old : M) (v : View) (commands : List Command) (text : List ℕ) (new : M) → Represents (state old) v → Plays Truly old commands text new
+  pub plays_chain : (old : M) (v : View) (commands : List Command) (text : List ℕ) (new : M) → Represents (state old) v → Plays (Replies Truly) old commands text new
       → (steps : List Step) × (replies : List Reply) × AreParts commands steps replies text × IsChain (state old) v steps replies (state new)
   plays_chain old v [] text new r plays = (
     [],
@@ -89,29 +91,31 @@ module _ {M : Type 0} (state : M → CoreState) where
     subst (λ (m : M). IsChain (state old) v [] [] (state m)) plays.0 (record { givens = []; after = v; trust = tt; chain = (refl, refl); represents = r }),
   )
   plays_chain old v (command ∷ commands) text new r plays =
-      let one = command_chain old v (runs_on command) plays.4.0 plays.1 plays.0 r plays.4.2 in
+      let last = plays.4.0 in
+      let said = subst (λ (outcome : Outcome). IsOutcomeText outcome plays.2) plays.4.1 plays.5 in
+      let one = command_chain old v (runs_on command) plays.4.2.0 last plays.0 r plays.4.2.2 in
       let rest = plays_chain plays.0 one.3.after commands plays.3 new one.3.represents plays.6 in (
         one.1 ++ rest.0,
-        (one.0 ++ plays.1 ∷ []) ++ rest.1,
+        (one.0 ++ last ∷ []) ++ rest.1,
         (
           one.1,
           rest.0,
-          one.0 ++ plays.1 ∷ [],
+          one.0 ++ last ∷ [],
           rest.1,
-          plays.1,
+          last,
           plays.2,
           plays.3,
-          record { first = plays.4.0; front = one.0; begins = plays.4.1; follow = one.2; ends = refl },
-          plays.5,
+          record { first = plays.4.2.0; front = one.0; begins = plays.4.2.1; follow = one.2; ends = refl },
+          said,
           rest.2,
           refl,
           refl,
           plays.7,
         ),
-        chain_joins (state old) v one.1 (one.0 ++ plays.1 ∷ []) (state plays.0) rest.0 rest.1 (state new) one.3 rest.3,
+        chain_joins (state old) v one.1 (one.0 ++ last ∷ []) (state plays.0) rest.0 rest.1 (state new) one.3 rest.3,
       )
 
-  pub plays_run : (old : M) (v : View) (commands : List Command) (text : List ℕ) (new : M) → Represents (state old) v → Plays Truly old commands text new → IsOneRun (state old) v commands text (state new)
+  pub plays_run : (old : M) (v : View) (commands : List Command) (text : List ℕ) (new : M) → Represents (state old) v → Plays (Replies Truly) old commands text new → IsOneRun (state old) v commands text (state new)
   plays_run old v commands text new r plays =
       let all = plays_chain old v commands text new r plays in
       record {
@@ -125,3 +129,21 @@ module _ {M : Type 0} (state : M → CoreState) where
         headline = headline v all.0 all.3.givens all.1 all.3.after r.follows.sound (run_of (state old) v all.0 all.3.givens all.1 (state new) all.3.after all.3.chain);
         represents = all.3.represents;
       }
+
+-- ---- a commit that is stopped
+
+pub stopped_run : (old : CoreState) (v : View) (s : Step) (front : List Reply) (last : Reply) (new : CoreState) → Represents old v → Leads StepsTruly old s front last new → IsStoppedRun old v s new
+stopped_run old v s front last new r leads =
+    let all = leads_chain (λ (it : CoreState). it) old v s front last new r leads in
+    record {
+      steps = all.0;
+      givens = all.2.givens;
+      front = front;
+      last = last;
+      after = all.2.after;
+      follow = all.1;
+      trust = λ e. all.2.trust;
+      chain = all.2.chain;
+      headline = headline v all.0 all.2.givens (front ++ last ∷ []) all.2.after r.follows.sound (run_of old v all.0 all.2.givens (front ++ last ∷ []) new all.2.after all.2.chain);
+      represents = all.2.represents;
+    }

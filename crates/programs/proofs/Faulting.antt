@@ -4,19 +4,19 @@ use Rattle.std.proofs.lemmas.List.{append-nil}
 use Rattle.std.specs.Result.{IsErrAnd, IfErr}
 use Rattle.std.specs.Io.KnownBytes.{Appends, IsAtEnd}
 use Rattle.pool_model.specs.declared.refusal.Refusal.{Refusal as Cause}
-use Rattle.pool_model.specs.declared.step.Step.{Step}
-use Rattle.pool_model.specs.declared.step.Reply.{Reply}
 use Rattle.schedule_lines.specs.declared.command.Line.{Line}
 use Rattle.schedule_lines.specs.declared.command.Line.TheVariants.{Skipped, Command as CommandLine}
 use Rattle.schedule_lines.specs.declared.command.Command.{Command}
 use Rattle.schedule_lines.specs.declared.command.Command.TheVariants.{Pool, Hold, Release, Write as WriteCommand, Create, Close, Quiesced, Plan, Device, Commit, Sync, Read, Under, Stop, Reopen}
 use Rattle.schedule_lines.specs.declared.command.PoolLine.{PoolLine}
-use Rattle.schedule_lines.specs.Replies.{IsReplyText, refusal_text}
+use Rattle.schedule_lines.specs.Replies.{refusal_text}
 use Rattle.programs.specs.declared.refusal.Refusal.{Refusal}
 use Rattle.programs.specs.declared.refusal.Refusal.TheVariants.{Line as LineFault, Input, Output, Memory}
-use Rattle.programs.specs.Answers.{Answers, IsFirst, IsNoStep}
-use Rattle.programs.specs.Faults.{counted, SpellsNothing, NextIs, Skips, ReadsCommand, IsLineFault, IsNextFault, IsNoLine, StopsPool, IsPoolFault, CannotStand, StopsAtLine, IsFaultOf}
-use Rattle.programs.specs.Plays.{Plays, Prints, AnswersAll}
+use Rattle.programs.specs.declared.outcome.Outcome.{Outcome}
+use Rattle.programs.specs.Answers.{IsFirst}
+use Rattle.programs.specs.Faults.{counted, SpellsNothing, NextIs, Skips, ReadsCommand, IsLineFault, IsNextFault, IsNoLine, CannotGoOn, StopsPool, IsPoolFault, PrintsBefore, StopsAtLine, IsFaultOf}
+use Rattle.programs.specs.Outcomes.{IsOutcomeText}
+use Rattle.programs.specs.Plays.{Plays, AnswersAll}
 use Rattle.programs.specs.Reads.{ReadsLines, Reads, IsSchedule, commands_of}
 use Rattle.programs.proofs.Playing.{appends_more, plays_more, schedule_ends}
 use Rattle.programs.proofs.Reading.{reads_lines_more, commands_append}
@@ -90,14 +90,14 @@ on_fault (Err cause) P Q map is = map cause is
 
 -- ---- against a pool
 
-module _ {M : Type 0} (Steps : M → Step → Reply → M → Type 0) where
+module _ {M : Type 0} (Outcomes : M → Command → Outcome → M → Type 0) (Faults : M → Command → Type 0) where
   -- these lines were read, and their commands are so far answered with that text
   pub record RanSoFar (pool : M) (input : Option (List ℕ)) (k : ℕ) (old : Option (List ℕ)) (last : M) (rest : Option (List ℕ)) (n : ℕ) (new : Option (List ℕ)) : Type 0 where
     pub lines : List Line
     pub text : List ℕ
     pub read : ReadsLines input lines rest
     pub number : counted n ≡ counted (k + length lines)
-    pub plays : Plays Steps pool (commands_of lines) text last
+    pub plays : Plays Outcomes pool (commands_of lines) text last
     pub appends : Appends old new text
 
   pub ran_none : (pool : M) (input : Option (List ℕ)) (k : ℕ) (old : Option (List ℕ)) → RanSoFar pool input k old pool input k old
@@ -112,34 +112,34 @@ module _ {M : Type 0} (Steps : M → Step → Reply → M → Type 0) where
     text = ran.text;
     read = reads_lines_more input rest between ran.lines skips.0 ran.read skips.1;
     number = omega (arith, ran.number, skips.3, length-append ran.lines skips.0);
-    plays = subst (λ (c : List Command). Plays Steps pool c ran.text last)
+    plays = subst (λ (c : List Command). Plays Outcomes pool c ran.text last)
         (sym (commands_append ran.lines skips.0 ∙ (ap (λ (c : List Command). commands_of ran.lines ++ c) skips.2 ∙ append-nil (commands_of ran.lines)))) ran.plays;
     appends = ran.appends;
   }
 
   -- one command more
-  pub ran_more : (pool : M) (input : Option (List ℕ)) (k : ℕ) (old : Option (List ℕ)) (last after : M) (rest behind : Option (List ℕ)) (n j : ℕ) (new newer : Option (List ℕ)) (command : Command) (reply : Reply) (line : List ℕ)
-      → RanSoFar pool input k old last rest n new → ReadsCommand rest n command behind j → Answers Steps last command reply after → IsReplyText reply line → Appends new newer (line ++ 10 ∷ [])
+  pub ran_more : (pool : M) (input : Option (List ℕ)) (k : ℕ) (old : Option (List ℕ)) (last after : M) (rest behind : Option (List ℕ)) (n j : ℕ) (new newer : Option (List ℕ)) (command : Command) (outcome : Outcome) (line : List ℕ)
+      → RanSoFar pool input k old last rest n new → ReadsCommand rest n command behind j → Outcomes last command outcome after → IsOutcomeText outcome line → Appends new newer (line ++ 10 ∷ [])
       → RanSoFar pool input k old after behind j newer
-  ran_more pool input k old last after rest behind n j new newer command reply line ran found answered said told =
+  ran_more pool input k old last after rest behind n j new newer command outcome line ran found came said told =
       let upto = ran_skips pool input k old last rest found.0 n found.1 new ran found.2 in
       record {
         lines = upto.lines ++ CommandLine command ∷ [];
         text = upto.text ++ (line ++ 10 ∷ []);
         read = reads_lines_more input found.0 behind upto.lines (CommandLine command ∷ []) upto.read found.3;
         number = omega (arith, upto.number, found.4, length-append upto.lines (CommandLine command ∷ []));
-        plays = subst (λ (c : List Command). Plays Steps pool c (upto.text ++ (line ++ 10 ∷ [])) after) (sym (commands_append upto.lines (CommandLine command ∷ [])))
-            (plays_more Steps (commands_of upto.lines) pool last after upto.text command reply line upto.plays answered said);
+        plays = subst (λ (c : List Command). Plays Outcomes pool c (upto.text ++ (line ++ 10 ∷ [])) after) (sym (commands_append upto.lines (CommandLine command ∷ [])))
+            (plays_more Outcomes (commands_of upto.lines) pool last after upto.text command outcome line upto.plays came said);
         appends = appends_more old new newer upto.text (line ++ 10 ∷ []) upto.appends told;
       }
 
   pub ran_all : (pool : M) (input : Option (List ℕ)) (k : ℕ) (old : Option (List ℕ)) (last : M) (rest : Option (List ℕ)) (n : ℕ) (new : Option (List ℕ))
-      → RanSoFar pool input k old last rest n new → IsSchedule rest [] → AnswersAll Steps pool input old new
+      → RanSoFar pool input k old last rest n new → IsSchedule rest [] → AnswersAll Outcomes pool input old new
   ran_all pool input k old last rest n new ran ended =
       (commands_of ran.lines, ran.text, last, schedule_ends input rest (commands_of ran.lines) (ran.lines, ran.read, refl) ended, ran.plays, ran.appends)
 
   pub ran_fault : (pool : M) (input : Option (List ℕ)) (k : ℕ) (old : Option (List ℕ)) (last : M) (rest : Option (List ℕ)) (n : ℕ) (new : Option (List ℕ)) (cause : Refusal)
-      → RanSoFar pool input k old last rest n new → IsLineFault rest n cause → IsPoolFault Steps pool input k old new cause
+      → RanSoFar pool input k old last rest n new → IsLineFault rest n cause → IsPoolFault Outcomes Faults pool input k old new cause
   ran_fault pool input k old last rest n new (LineFault j) ran fault =
       let upto = ran_skips pool input k old last rest fault.0 n fault.1 new ran fault.2 in
       record { lines = upto.lines; rest = fault.0; text = upto.text; last = last; read = upto.read; number = omega (arith, upto.number, fault.4); plays = upto.plays; appends = upto.appends; cause = inl fault.3 }
@@ -147,14 +147,14 @@ module _ {M : Type 0} (Steps : M → Step → Reply → M → Type 0) where
   ran_fault pool input k old last rest n new Output ran fault = tt
   ran_fault pool input k old last rest n new Memory ran fault = tt
 
-  -- a command that is no step of a pool
+  -- a command that can't stand before the pool
   pub ran_misplaced : (pool : M) (input : Option (List ℕ)) (k : ℕ) (old : Option (List ℕ)) (last : M) (rest behind : Option (List ℕ)) (n j : ℕ) (new : Option (List ℕ)) (command : Command)
-      → RanSoFar pool input k old last rest n new → ReadsCommand rest n command behind j → IsNoStep command → StopsPool Steps pool input k old new j
+      → RanSoFar pool input k old last rest n new → ReadsCommand rest n command behind j → Faults last command → StopsPool Outcomes Faults pool input k old new j
   ran_misplaced pool input k old last rest behind n j new command ran found none =
       let upto = ran_skips pool input k old last rest found.0 n found.1 new ran found.2 in
       record { lines = upto.lines; rest = found.0; text = upto.text; last = last; read = upto.read; number = omega (arith, upto.number, found.4); plays = upto.plays; appends = upto.appends; cause = inr (command, (behind, found.3), none) }
 
-  pub no_pool_line : (pool : M) (input : Option (List ℕ)) (k : ℕ) (old new : Option (List ℕ)) (cause : Refusal) → IsNoLine cause → IsPoolFault Steps pool input k old new cause
+  pub no_pool_line : (pool : M) (input : Option (List ℕ)) (k : ℕ) (old new : Option (List ℕ)) (cause : Refusal) → IsNoLine cause → IsPoolFault Outcomes Faults pool input k old new cause
   no_pool_line pool input k old new (LineFault n) none = absurd none
   no_pool_line pool input k old new Input none = tt
   no_pool_line pool input k old new Output none = tt
@@ -162,38 +162,33 @@ module _ {M : Type 0} (Steps : M → Step → Reply → M → Type 0) where
 
 -- ---- a whole schedule
 
-cannot_stand : (Refuses : PoolLine → Cause → Type 0) (line : PoolLine) (commands : List Command) (text : List ℕ) (command : Command) → IsNoStep command → CannotStand Refuses (Pool line ∷ commands) text command
-cannot_stand Refuses line [] text command none = inl none
-cannot_stand Refuses line (other ∷ commands) text command none = none
-
-module _ {M : Type 0} (Creates : PoolLine → M → Type 0) (Refuses : PoolLine → Cause → Type 0) (Steps : M → Step → Reply → M → Type 0) where
-  pub no_line : (input old new : Option (List ℕ)) (cause : Refusal) → IsNoLine cause → IsFaultOf Creates Refuses Steps input old new cause
+module _ {M : Type 0} (Creates : PoolLine → M → Type 0) (Refuses : PoolLine → Cause → Type 0) (Outcomes : M → Command → Outcome → M → Type 0) (Faults : M → Command → Type 0) where
+  pub no_line : (input old new : Option (List ℕ)) (cause : Refusal) → IsNoLine cause → IsFaultOf Creates Refuses Outcomes Faults input old new cause
   no_line input old new (LineFault n) none = absurd none
   no_line input old new Input none = tt
   no_line input old new Output none = tt
   no_line input old new Memory none = tt
 
   first_lines : (input old between : Option (List ℕ)) (m j : ℕ) (skips : Skips input 0 between m) → j ≡ counted (m + 1)
-      → SpellsNothing between ⊎ ((command : Command) × NextIs between command × ¬ IsFirst command) → StopsAtLine Creates Refuses Steps input old old j
+      → CannotGoOn (λ command. ¬ IsFirst command) between → StopsAtLine Creates Refuses Outcomes Faults input old old j
   first_lines input old between m j skips number cause = record {
     lines = skips.0;
     rest = between;
     text = [];
     read = skips.1;
     number = omega (arith, skips.3, number);
-    prints = subst (λ (c : List Command). Prints Creates Refuses Steps c []) (sym skips.2) refl;
+    prints = subst (λ (c : List Command). PrintsBefore Creates Refuses Outcomes Faults c [] between) (sym skips.2) (refl, cause);
     appends = nothing_appended old;
-    cause = subst (λ (c : List Command). SpellsNothing between ⊎ ((command : Command) × NextIs between command × CannotStand Refuses c [] command)) (sym skips.2) cause;
   }
 
-  pub first_fault : (input old : Option (List ℕ)) (cause : Refusal) → IsLineFault input 0 cause → IsFaultOf Creates Refuses Steps input old old cause
+  pub first_fault : (input old : Option (List ℕ)) (cause : Refusal) → IsLineFault input 0 cause → IsFaultOf Creates Refuses Outcomes Faults input old old cause
   first_fault input old (LineFault j) fault = first_lines input old fault.0 fault.1 j fault.2 fault.4 (inl fault.3)
   first_fault input old Input fault = tt
   first_fault input old Output fault = tt
   first_fault input old Memory fault = tt
 
   -- the first command asks for no pool
-  pub first_misplaced : (input behind old : Option (List ℕ)) (j : ℕ) (command : Command) → ReadsCommand input 0 command behind j → ¬ IsFirst command → StopsAtLine Creates Refuses Steps input old old j
+  pub first_misplaced : (input behind old : Option (List ℕ)) (j : ℕ) (command : Command) → ReadsCommand input 0 command behind j → ¬ IsFirst command → StopsAtLine Creates Refuses Outcomes Faults input old old j
   first_misplaced input behind old j command found other = first_lines input old found.0 found.1 j found.2 found.4 (inr (command, (behind, found.3), other))
 
   -- the lines behind the one that asks for a pool
@@ -215,7 +210,7 @@ module _ {M : Type 0} (Creates : PoolLine → M → Type 0) (Refuses : PoolLine 
 
   -- behind a pool that was made
   pub behind_pool : (line : PoolLine) (pool : M) (input behind old between new : Option (List ℕ)) (k : ℕ) (cause : Refusal) → ReadsCommand input 0 (Pool line) behind k → Creates line pool
-      → Appends old between (codes "pool 3 claim 1" ++ 10 ∷ []) → IsPoolFault Steps pool behind k between new cause → IsFaultOf Creates Refuses Steps input old new cause
+      → Appends old between (codes "pool 3 claim 1" ++ 10 ∷ []) → IsPoolFault Outcomes Faults pool behind k between new cause → IsFaultOf Creates Refuses Outcomes Faults input old new cause
   behind_pool line pool input behind old between new k (LineFault n) found created told stops =
       let same = pool_commands input behind line stops.lines k found in
       let all = codes "pool 3 claim 1" ++ (10 ∷ stops.text) in
@@ -225,12 +220,8 @@ module _ {M : Type 0} (Creates : PoolLine → M → Type 0) (Refuses : PoolLine 
         text = all;
         read = pool_lines input behind stops.rest line stops.lines k found stops.read;
         number = pool_number input behind line stops.lines k n found stops.number;
-        prints = subst (λ (c : List Command). Prints Creates Refuses Steps c all) (sym same) (inl (pool, stops.last, stops.text, created, stops.plays, refl));
+        prints = subst (λ (c : List Command). PrintsBefore Creates Refuses Outcomes Faults c all stops.rest) (sym same) (inl (pool, stops.last, stops.text, created, stops.plays, refl, stops.cause));
         appends = appends_more old between new (codes "pool 3 claim 1" ++ 10 ∷ []) stops.text told stops.appends;
-        cause = elim stops.cause [
-          | inl nothing ↦ inl nothing
-          | inr next ↦ inr (next.0, next.1, subst (λ (c : List Command). CannotStand Refuses c all next.0) (sym same) (cannot_stand Refuses line (commands_of stops.lines) all next.0 next.2))
-        ];
       }
   behind_pool line pool input behind old between new k Input found created told stops = tt
   behind_pool line pool input behind old between new k Output found created told stops = tt
@@ -239,7 +230,7 @@ module _ {M : Type 0} (Creates : PoolLine → M → Type 0) (Refuses : PoolLine 
   -- behind a pool that was refused
   refused_lines : (line : PoolLine) (why : Cause) (input behind between old new : Option (List ℕ)) (k m j : ℕ) → ReadsCommand input 0 (Pool line) behind k → Refuses line why
       → Appends old new (refusal_text why ++ 10 ∷ []) → Skips behind k between m → j ≡ counted (m + 1)
-      → SpellsNothing between ⊎ ((command : Command) × NextIs between command) → StopsAtLine Creates Refuses Steps input old new j
+      → CannotGoOn (λ command. Unit {0}) between → StopsAtLine Creates Refuses Outcomes Faults input old new j
   refused_lines line why input behind between old new k m j found refused told skips number next =
       let same = pool_commands input behind line skips.0 k found ∙ ap (λ (c : List Command). Pool line ∷ c) skips.2 in
       let all = refusal_text why ++ (10 ∷ []) in
@@ -249,16 +240,12 @@ module _ {M : Type 0} (Creates : PoolLine → M → Type 0) (Refuses : PoolLine 
         text = all;
         read = pool_lines input behind between line skips.0 k found skips.1;
         number = pool_number input behind line skips.0 k j found (omega (arith, number, skips.3));
-        prints = subst (λ (c : List Command). Prints Creates Refuses Steps c all) (sym same) (inr (why, refused, refl, refl));
+        prints = subst (λ (c : List Command). PrintsBefore Creates Refuses Outcomes Faults c all between) (sym same) (inr (why, refused, refl, refl, next));
         appends = told;
-        cause = elim next [
-          | inl nothing ↦ inl nothing
-          | inr is ↦ inr (is.0, is.1, subst (λ (c : List Command). CannotStand Refuses c all is.0) (sym same) (inr (why, refused, refl)))
-        ];
       }
 
   pub refused_fault : (line : PoolLine) (why : Cause) (input behind old new : Option (List ℕ)) (k : ℕ) (cause : Refusal) → ReadsCommand input 0 (Pool line) behind k → Refuses line why
-      → Appends old new (refusal_text why ++ 10 ∷ []) → IsLineFault behind k cause → IsFaultOf Creates Refuses Steps input old new cause
+      → Appends old new (refusal_text why ++ 10 ∷ []) → IsLineFault behind k cause → IsFaultOf Creates Refuses Outcomes Faults input old new cause
   refused_fault line why input behind old new k (LineFault j) found refused told fault =
       refused_lines line why input behind fault.0 old new k fault.1 j found refused told fault.2 fault.4 (inl fault.3)
   refused_fault line why input behind old new k Input found refused told fault = tt
@@ -266,6 +253,6 @@ module _ {M : Type 0} (Creates : PoolLine → M → Type 0) (Refuses : PoolLine 
   refused_fault line why input behind old new k Memory found refused told fault = tt
 
   pub refused_misplaced : (line : PoolLine) (why : Cause) (input behind end old new : Option (List ℕ)) (k j : ℕ) (command : Command) → ReadsCommand input 0 (Pool line) behind k → Refuses line why
-      → Appends old new (refusal_text why ++ 10 ∷ []) → ReadsCommand behind k command end j → StopsAtLine Creates Refuses Steps input old new j
+      → Appends old new (refusal_text why ++ 10 ∷ []) → ReadsCommand behind k command end j → StopsAtLine Creates Refuses Outcomes Faults input old new j
   refused_misplaced line why input behind end old new k j command found refused told next =
-      refused_lines line why input behind next.0 old new k next.1 j found refused told next.2 next.4 (inr (command, (end, next.3)))
+      refused_lines line why input behind next.0 old new k next.1 j found refused told next.2 next.4 (inr (command, (end, next.3), tt))

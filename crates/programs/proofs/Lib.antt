@@ -1,6 +1,11 @@
 mod Chains
+mod DisksBack
 mod Faulting
 mod Leading
+mod MadeOn
+mod OneCore
 mod Playing
+mod Points
 mod Pools
 mod Reading
+mod StatesOf

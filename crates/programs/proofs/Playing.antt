@@ -3,13 +3,12 @@ use Rattle.std.proofs.Common.{◌≡◌, ℕ, List, [], ◌∷◌, ◌++◌, Opt
 use Rattle.std.proofs.lemmas.List.{append-nil}
 use Rattle.std.specs.Io.KnownBytes.{Appends}
 use Rattle.pool_model.specs.declared.refusal.Refusal.{Refusal}
-use Rattle.pool_model.specs.declared.step.Step.{Step}
-use Rattle.pool_model.specs.declared.step.Reply.{Reply}
 use Rattle.schedule_lines.specs.declared.command.Command.{Command}
 use Rattle.schedule_lines.specs.declared.command.Command.TheVariants.{Pool}
 use Rattle.schedule_lines.specs.declared.command.PoolLine.{PoolLine}
-use Rattle.schedule_lines.specs.Replies.{IsReplyText, refusal_text}
-use Rattle.programs.specs.Answers.{Answers}
+use Rattle.schedule_lines.specs.Replies.{refusal_text}
+use Rattle.programs.specs.declared.outcome.Outcome.{Outcome}
+use Rattle.programs.specs.Outcomes.{IsOutcomeText}
 use Rattle.programs.specs.Plays.{Plays, AnswersAll, RunsSchedule}
 use Rattle.programs.specs.Reads.{Reads, IsSchedule}
 use Rattle.programs.proofs.Reading.{schedule_behind}
@@ -21,25 +20,25 @@ appends_more (Some bytes) (Some longer) None text more h k = absurd k
 appends_more (Some bytes) (Some longer) (Some longest) text more h k = k ∙ (ap (λ (b : List ℕ). b ++ more) h ∙ append_assoc bytes text more)
 
 -- one command more
-pub plays_more : {M : Type 0} (Steps : M → Step → Reply → M → Type 0) (commands : List Command) (old between new : M) (text : List ℕ) (command : Command) (reply : Reply) (line : List ℕ) → Plays Steps old commands text between → Answers Steps between command reply new → IsReplyText reply line → Plays Steps old (commands ++ command ∷ []) (text ++ (line ++ 10 ∷ [])) new
-plays_more {M = M} Steps [] old between new text command reply line played answered said = (
+pub plays_more : {M : Type 0} (Outcomes : M → Command → Outcome → M → Type 0) (commands : List Command) (old between new : M) (text : List ℕ) (command : Command) (outcome : Outcome) (line : List ℕ) → Plays Outcomes old commands text between → Outcomes between command outcome new → IsOutcomeText outcome line → Plays Outcomes old (commands ++ command ∷ []) (text ++ (line ++ 10 ∷ [])) new
+plays_more {M = M} Outcomes [] old between new text command outcome line played answered said = (
   new,
-  reply,
+  outcome,
   line,
   [],
-  subst (λ (m : M). Answers Steps m command reply new) (sym played.0) answered,
+  subst (λ (m : M). Outcomes m command outcome new) (sym played.0) answered,
   said,
   (refl, refl),
   ap (λ (t : List ℕ). t ++ (line ++ 10 ∷ [])) played.1,
 )
-plays_more Steps (c ∷ commands) old between new text command reply line played answered said = (
+plays_more Outcomes (c ∷ commands) old between new text command outcome line played answered said = (
   played.0,
   played.1,
   played.2,
   played.3 ++ (line ++ 10 ∷ []),
   played.4,
   played.5,
-  plays_more Steps commands played.0 between new played.3 command reply line played.6 answered said,
+  plays_more Outcomes commands played.0 between new played.3 command outcome line played.6 answered said,
   ap (λ (t : List ℕ). t ++ (line ++ 10 ∷ [])) played.7 ∙ append_assoc played.2 (10 ∷ played.3) (line ++ 10 ∷ []),
 )
 
@@ -47,8 +46,8 @@ pub schedule_ends : (old between : Option (List ℕ)) (commands : List Command) 
 schedule_ends old between commands h k = subst (λ (c : List Command). IsSchedule old c) (append-nil commands) (schedule_behind old between commands [] h k)
 
 -- a pool was made, and answered all that follows
-pub runs_with_pool : {M : Type 0} (Creates : PoolLine → M → Type 0) (Refuses : PoolLine → Refusal → Type 0) (Steps : M → Step → Reply → M → Type 0) (line : PoolLine) (pool : M) (input behind old between new : Option (List ℕ)) → Reads input (Pool line ∷ []) behind → Creates line pool → Appends old between (codes "pool 3 claim 1" ++ 10 ∷ []) → AnswersAll Steps pool behind between new → RunsSchedule Creates Refuses Steps input old new
-runs_with_pool Creates Refuses Steps line pool input behind old between new first created told answered =
+pub runs_with_pool : {M : Type 0} (Creates : PoolLine → M → Type 0) (Refuses : PoolLine → Refusal → Type 0) (Outcomes : M → Command → Outcome → M → Type 0) (line : PoolLine) (pool : M) (input behind old between new : Option (List ℕ)) → Reads input (Pool line ∷ []) behind → Creates line pool → Appends old between (codes "pool 3 claim 1" ++ 10 ∷ []) → AnswersAll Outcomes pool behind between new → RunsSchedule Creates Refuses Outcomes input old new
+runs_with_pool Creates Refuses Outcomes line pool input behind old between new first created told answered =
     let text = answered.1 in (
       Pool line ∷ answered.0,
       codes "pool 3 claim 1" ++ (10 ∷ text),
@@ -58,8 +57,8 @@ runs_with_pool Creates Refuses Steps line pool input behind old between new firs
     )
 
 -- no pool was made, and nothing follows
-pub runs_without_pool : {M : Type 0} (Creates : PoolLine → M → Type 0) (Refuses : PoolLine → Refusal → Type 0) (Steps : M → Step → Reply → M → Type 0) (line : PoolLine) (cause : Refusal) (input behind old new : Option (List ℕ)) → Reads input (Pool line ∷ []) behind → Refuses line cause → IsSchedule behind [] → Appends old new (refusal_text cause ++ 10 ∷ []) → RunsSchedule Creates Refuses Steps input old new
-runs_without_pool Creates Refuses Steps line cause input behind old new first refused ended told = (
+pub runs_without_pool : {M : Type 0} (Creates : PoolLine → M → Type 0) (Refuses : PoolLine → Refusal → Type 0) (Outcomes : M → Command → Outcome → M → Type 0) (line : PoolLine) (cause : Refusal) (input behind old new : Option (List ℕ)) → Reads input (Pool line ∷ []) behind → Refuses line cause → IsSchedule behind [] → Appends old new (refusal_text cause ++ 10 ∷ []) → RunsSchedule Creates Refuses Outcomes input old new
+runs_without_pool Creates Refuses Outcomes line cause input behind old new first refused ended told = (
   Pool line ∷ [],
   refusal_text cause ++ 10 ∷ [],
   schedule_ends input behind (Pool line ∷ []) first ended,

@@ -1,10 +1,8 @@
 -- Where a schedule faults, and why.
-use Rattle.std.specs.Prelude.{◌≡◌, ◌≢◌, ◌⊎◌, ℕ, ◌+◌, ◌-◌, ◌^◌, min, List, [], ◌∷◌, ◌++◌, length, Option, Some, None}
+use Rattle.std.specs.Prelude.{◌≡◌, ◌≢◌, ◌⊎◌, ℕ, ◌+◌, ◌-◌, ◌^◌, min, List, [], ◌∷◌, ◌++◌, length, codes, Option, Some, None}
 use Rattle.std.specs.Io.BufRead.{first_piece}
 use Rattle.std.specs.Io.KnownBytes.{Appends}
 use Rattle.pool_model.specs.declared.refusal.Refusal.{Refusal as Cause}
-use Rattle.pool_model.specs.declared.step.Step.{Step}
-use Rattle.pool_model.specs.declared.step.Reply.{Reply}
 use Rattle.schedule_lines.specs.declared.command.Line.{Line}
 use Rattle.schedule_lines.specs.declared.command.Line.TheVariants.{Command as CommandLine}
 use Rattle.schedule_lines.specs.declared.command.Command.{Command}
@@ -16,8 +14,9 @@ use Rattle.programs.specs.declared.refusal.Refusal.{Refusal}
 use Rattle.programs.specs.declared.refusal.Refusal.TheVariants.{Line as LineFault}
 use Rattle.programs.specs.declared.status.ExitStatus.{ExitStatus}
 use Rattle.programs.specs.declared.status.ExitStatus.TheVariants.{Done, Fault}
-use Rattle.programs.specs.Answers.{IsFirst, IsNoStep}
-use Rattle.programs.specs.Plays.{Plays, Prints, RunsSchedule}
+use Rattle.programs.specs.declared.outcome.Outcome.{Outcome}
+use Rattle.programs.specs.Answers.{IsFirst}
+use Rattle.programs.specs.Plays.{Plays, RunsSchedule}
 use Rattle.programs.specs.Reads.{ReadsLines, commands_of}
 
 -- how many lines were read, as it is told: the count stops at the greatest number of 64 bits
@@ -57,49 +56,53 @@ abbrev pub IsNoLine : Refusal → Type 0
 IsNoLine (LineFault n) = ⊥
 IsNoLine _ = Unit {0}
 
--- Against a pool: line n can't be run, and those before it, of which k were read before the pool was asked, were. Their commands are
--- answered with that text, and the output grew by it. The line spells nothing, or it is no step of a pool.
-pub record StopsPool {M : Type 0} (Steps : M → Step → Reply → M → Type 0) (pool : M) (input : Option (List ℕ)) (k : ℕ) (old new : Option (List ℕ)) (n : ℕ) : Type 0 where
+-- the next line spells nothing, or it is a command that is misplaced there
+abbrev pub CannotGoOn : (Command → Type 0) → Option (List ℕ) → Type 0
+CannotGoOn Misplaced rest = SpellsNothing rest ⊎ ((command : Command) × NextIs rest command × Misplaced command)
+
+-- Against a pool: line n can't be run, and those before it, of which k were read before the pool was asked, were. Of their commands came
+-- that text, and the output grew by it. The line spells nothing, or it can't stand before the pool as it is then.
+pub record StopsPool {M : Type 0} (Outcomes : M → Command → Outcome → M → Type 0) (Faults : M → Command → Type 0) (pool : M) (input : Option (List ℕ)) (k : ℕ) (old new : Option (List ℕ)) (n : ℕ) : Type 0 where
   pub lines : List Line
   pub rest : Option (List ℕ)
   pub text : List ℕ
   pub last : M
   pub read : ReadsLines input lines rest
   pub number : n ≡ counted (k + length lines + 1)
-  pub plays : Plays Steps pool (commands_of lines) text last
+  pub plays : Plays Outcomes pool (commands_of lines) text last
   pub appends : Appends old new text
-  pub cause : SpellsNothing rest ⊎ ((command : Command) × NextIs rest command × IsNoStep command)
+  pub cause : CannotGoOn (Faults last) rest
 
-abbrev pub IsPoolFault : {M : Type 0} → (M → Step → Reply → M → Type 0) → M → Option (List ℕ) → ℕ → Option (List ℕ) → Option (List ℕ) → Refusal → Type 0
-IsPoolFault Steps pool input k old new (LineFault n) = StopsPool Steps pool input k old new n
-IsPoolFault Steps pool input k old new _ = Unit {0}
+abbrev pub IsPoolFault : {M : Type 0} → (M → Command → Outcome → M → Type 0) → (M → Command → Type 0) → M → Option (List ℕ) → ℕ → Option (List ℕ) → Option (List ℕ) → Refusal → Type 0
+IsPoolFault Outcomes Faults pool input k old new (LineFault n) = StopsPool Outcomes Faults pool input k old new n
+IsPoolFault Outcomes Faults pool input k old new _ = Unit {0}
 
--- A command can't stand behind these, of which that text was printed: the first one asks for a pool, each later one is a step of it, and
--- where none was made nothing is asked of it.
-abbrev pub CannotStand : (PoolLine → Cause → Type 0) → List Command → List ℕ → Command → Type 0
-CannotStand Refuses [] text command = ¬ IsFirst command
-CannotStand Refuses (Pool line ∷ []) text command =
-    IsNoStep command ⊎ ((cause : Cause) × Refuses line cause × (text ≡ refusal_text cause ++ (10 ∷ [])))
-CannotStand Refuses (_ ∷ commands) text command = IsNoStep command
+-- Of these commands came that text, and no more can be run: the first one asks for a pool, each later one stands before the pool as it
+-- is then, and where none was made nothing is asked of it.
+abbrev pub PrintsBefore : {M : Type 0} → (PoolLine → M → Type 0) → (PoolLine → Cause → Type 0) → (M → Command → Outcome → M → Type 0) → (M → Command → Type 0) → List Command → List ℕ → Option (List ℕ) → Type 0
+PrintsBefore Creates Refuses Outcomes Faults [] text rest = (text ≡ []) × CannotGoOn (λ command. ¬ IsFirst command) rest
+PrintsBefore {M = M} Creates Refuses Outcomes Faults (Pool line ∷ commands) text rest =
+    ((pool : M) × (last : M) × (told : List ℕ) × Creates line pool × Plays Outcomes pool commands told last × (text ≡ codes "pool 3 claim 1" ++ (10 ∷ told)) × CannotGoOn (Faults last) rest)
+    ⊎ ((cause : Cause) × Refuses line cause × (commands ≡ []) × (text ≡ refusal_text cause ++ (10 ∷ [])) × CannotGoOn (λ command. Unit {0}) rest)
+PrintsBefore Creates Refuses Outcomes Faults (_ ∷ commands) text rest = ⊥
 
 -- Line n can't be run, and those before it were: their commands have that text, and the output grew by it and nothing else. The line
 -- spells nothing, or it is a command that can't stand behind theirs.
-pub record StopsAtLine {M : Type 0} (Creates : PoolLine → M → Type 0) (Refuses : PoolLine → Cause → Type 0) (Steps : M → Step → Reply → M → Type 0) (input old new : Option (List ℕ)) (n : ℕ) : Type 0 where
+pub record StopsAtLine {M : Type 0} (Creates : PoolLine → M → Type 0) (Refuses : PoolLine → Cause → Type 0) (Outcomes : M → Command → Outcome → M → Type 0) (Faults : M → Command → Type 0) (input old new : Option (List ℕ)) (n : ℕ) : Type 0 where
   pub lines : List Line
   pub rest : Option (List ℕ)
   pub text : List ℕ
   pub read : ReadsLines input lines rest
   pub number : n ≡ counted (length lines + 1)
-  pub prints : Prints Creates Refuses Steps (commands_of lines) text
+  pub prints : PrintsBefore Creates Refuses Outcomes Faults (commands_of lines) text rest
   pub appends : Appends old new text
-  pub cause : SpellsNothing rest ⊎ ((command : Command) × NextIs rest command × CannotStand Refuses (commands_of lines) text command)
 
 -- why a schedule isn't run to its end: such a line; or else the reader failed, the writer did, or memory ran out
-abbrev pub IsFaultOf : {M : Type 0} → (PoolLine → M → Type 0) → (PoolLine → Cause → Type 0) → (M → Step → Reply → M → Type 0) → Option (List ℕ) → Option (List ℕ) → Option (List ℕ) → Refusal → Type 0
-IsFaultOf Creates Refuses Steps input old new (LineFault n) = StopsAtLine Creates Refuses Steps input old new n
-IsFaultOf Creates Refuses Steps input old new _ = Unit {0}
+abbrev pub IsFaultOf : {M : Type 0} → (PoolLine → M → Type 0) → (PoolLine → Cause → Type 0) → (M → Command → Outcome → M → Type 0) → (M → Command → Type 0) → Option (List ℕ) → Option (List ℕ) → Option (List ℕ) → Refusal → Type 0
+IsFaultOf Creates Refuses Outcomes Faults input old new (LineFault n) = StopsAtLine Creates Refuses Outcomes Faults input old new n
+IsFaultOf Creates Refuses Outcomes Faults input old new _ = Unit {0}
 
 -- how a schedule ends: its lines were run to the end, or there is a cause why not
-abbrev pub EndsAs : {M : Type 0} → (PoolLine → M → Type 0) → (PoolLine → Cause → Type 0) → (M → Step → Reply → M → Type 0) → Option (List ℕ) → Option (List ℕ) → Option (List ℕ) → ExitStatus → Type 0
-EndsAs Creates Refuses Steps input old new Done = RunsSchedule Creates Refuses Steps input old new
-EndsAs Creates Refuses Steps input old new (Fault cause) = IsFaultOf Creates Refuses Steps input old new cause
+abbrev pub EndsAs : {M : Type 0} → (PoolLine → M → Type 0) → (PoolLine → Cause → Type 0) → (M → Command → Outcome → M → Type 0) → (M → Command → Type 0) → Option (List ℕ) → Option (List ℕ) → Option (List ℕ) → ExitStatus → Type 0
+EndsAs Creates Refuses Outcomes Faults input old new Done = RunsSchedule Creates Refuses Outcomes input old new
+EndsAs Creates Refuses Outcomes Faults input old new (Fault cause) = IsFaultOf Creates Refuses Outcomes Faults input old new cause

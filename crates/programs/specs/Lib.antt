@@ -1,8 +1,13 @@
 pub mod Answers
+pub mod DisksKept
 pub mod Faults
 pub mod Lengths
+pub mod Making
+pub mod OnDisks
+pub mod Outcomes
 pub mod Plays
 pub mod Reads
 pub mod Runs
 pub mod Statuses
+pub mod Stops
 pub mod Vdevs

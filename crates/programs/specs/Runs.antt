@@ -49,3 +49,16 @@ pub record IsOneRun (old : CoreState) (v : View) (commands : List Command) (text
   pub chain : Chain old v steps givens replies new after
   pub headline : Headline v steps givens replies after
   pub represents : Represents new after
+
+-- So are the steps of a commit that is stopped, from its first one on.
+pub record IsStoppedRun (old : CoreState) (v : View) (first : Step) (new : CoreState) : Type 0 where
+  pub steps : List Step
+  pub givens : List Given
+  pub front : List Reply
+  pub last : Reply
+  pub after : View
+  pub follow : AreSteps first front steps
+  pub trust : AreTrusted true givens
+  pub chain : Chain old v steps givens (front ++ last ∷ []) new after
+  pub headline : Headline v steps givens (front ++ last ∷ []) after
+  pub represents : Represents new after

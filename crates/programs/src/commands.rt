@@ -63,7 +63,7 @@ fn under_step(line: UnderLine) -> Step
 }
 
 /// The first step of a command, or none where the command is no step of a pool.
-fn first_step(alloc: Global, command: Command) -> Result<Option<Step>, AllocError>
+pub(crate) fn first_step(alloc: Global, command: Command) -> Result<Option<Step>, AllocError>
     ensures { IfOk result (λ found. MatchOption found (IsNoStep command) (λ s. Begins command s)) }
 {
     Ok(Some(match command {
@@ -84,7 +84,7 @@ fn first_step(alloc: Global, command: Command) -> Result<Option<Step>, AllocErro
 }
 
 /// The step that brings the group of a reply on, unless it is committed or refused.
-fn next_step(reply: &Reply) -> Option<Step>
+pub(crate) fn next_step(reply: &Reply) -> Option<Step>
     ensures { result ≡ next_of reply.now }
 {
     match reply {
@@ -112,7 +112,7 @@ fn run_on<P: StepMachine>(pool: &mut P, step: Step) -> Reply
 }
 
 /// Whether a command goes on from its first step.
-fn runs_on(command: &Command) -> bool
+pub(crate) fn runs_on(command: &Command) -> bool
     ensures { result ≡ runs_on command.now }
 {
     matches!(command, Command::Commit | Command::Sync)

@@ -4,6 +4,7 @@ ghost use Rattle.std.specs.Option.{SomeIff};
 ghost use Rattle.pool_model.specs.View.{View};
 ghost use Rattle.pool_core.specs.Represents.{Represents};
 ghost use Rattle.pool_core.specs.StateOf.{state_of};
+ghost use Rattle.programs.specs.Outcomes.{Replies};
 ghost use Rattle.programs.specs.Plays.{Plays};
 ghost use Rattle.programs.specs.Runs.{StepsTruly, IsOneRun};
 ghost use Rattle.programs.specs.Vdevs.{AreAllowedSizes, IsAllowedPool, IsVdevOf, metaslabs_over};
@@ -32,7 +33,7 @@ fn metaslabs(vdev: VdevConfig, bytes: u64) -> Option<u64>
 }
 
 /// The vdev that the line asks for, where a pool may have it.
-fn vdev_of(line: &PoolLine) -> Option<VdevConfig>
+pub(crate) fn vdev_of(line: &PoolLine) -> Option<VdevConfig>
     ensures some { IfSome result (λ vdev. IsVdevOf line.now vdev) }
     ensures none { IfNone result (¬ IsAllowedPool line.now) }
 {
@@ -89,7 +90,7 @@ impl StepMachine for Core<MemDisk> {
 pub fn schedules_are_runs(first: &Core<MemDisk>)
     ensures { (last : _) (v : View) (commands : List Command) (text : List ℕ)
         → Represents (state_of first.now) v
-        → Plays (λ old step reply new. StepsTruly (state_of old) step reply (state_of new))
+        → Plays (Replies (λ old step reply new. StepsTruly (state_of old) step reply (state_of new)))
         first.now commands text last
         → IsOneRun (state_of first.now) v commands text (state_of last) }
 {

@@ -1,20 +1,29 @@
 //! The work of the programs, over readers and writers: `schedule` runs a schedule against any
-//! machine.
+//! pool.
 #![tactic(auto)]
 
 mod commands;
 mod disk_pool;
+mod disks_kept;
 mod lines;
 mod machine;
+mod making;
+mod outcome;
+mod pool_on_disks;
 mod refusal;
 mod running;
+mod schedule_pool;
 mod status;
+mod stopping;
 mod written;
 
 pub use commands::answer;
 pub use disk_pool::schedules_are_runs;
 pub use machine::StepMachine;
+pub use outcome::{Outcome, outcome_text};
+pub use pool_on_disks::{PoolOnDisks, commands_are_runs, stopped_commits_are_runs};
 pub use refusal::Refusal;
 pub use running::schedule;
+pub use schedule_pool::SchedulePool;
 pub use status::ExitStatus;
 pub use written::written_len;

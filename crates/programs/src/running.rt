@@ -1,17 +1,17 @@
 //! Running a schedule.
 ghost use Rattle.std.specs.Prelude.{ℕ, List, [], ◌∷◌, ◌++◌, OnOk, IfErr};
 ghost use Rattle.std.specs.Io.KnownBytes.{Appends};
-ghost use Rattle.schedule_lines.specs.Replies.{IsReplyText};
 ghost use Rattle.programs.specs.Faults.{EndsAs, IsFaultOf, IsNoLine, IsPoolFault};
+ghost use Rattle.programs.specs.Outcomes.{IsOutcomeText};
 ghost use Rattle.programs.specs.Plays.{AnswersAll, RunsSchedule};
 
-use crate::commands::answer;
 use crate::lines::Lines;
-use crate::machine::StepMachine;
+use crate::outcome::{Outcome, outcome_text};
 use crate::refusal::Refusal;
+use crate::schedule_pool::SchedulePool;
 use crate::status::ExitStatus;
 use pool_model::Reply;
-use schedule_lines::{Command, reply_text};
+use schedule_lines::Command;
 use std::alloc::Global;
 use std::io::{BufRead, Write};
 
@@ -27,25 +27,25 @@ fn print<W: Write>(output: &mut W, text: &str) -> Result<(), Refusal>
     output.flush().map_err(|_| Refusal::Output)
 }
 
-fn print_reply<W: Write>(alloc: Global, output: &mut W, reply: &Reply) -> Result<(), Refusal>
-    ensures ok { OnOk result ((line : List ℕ) × IsReplyText reply.now line
+fn print_reply<W: Write>(alloc: Global, output: &mut W, reply: &Outcome) -> Result<(), Refusal>
+    ensures ok { OnOk result ((line : List ℕ) × IsOutcomeText reply.now line
         × Appends (W.contents output.old) (W.contents output.new) (line ++ (10 ∷ []))) }
     ensures fault { IfErr result IsNoLine }
 {
-    let text = reply_text(alloc, reply)?;
+    let text = outcome_text(alloc, reply)?;
     print(output, text.as_str())
 }
 
 /// Runs the lines behind the first against a pool.
-fn run_lines<P: StepMachine, R: BufRead + Drop, W: Write>(
+fn run_lines<P: SchedulePool, R: BufRead + Drop, W: Write>(
     alloc: Global,
     mut pool: P,
     lines: &mut Lines<R>,
     output: &mut W,
 ) -> Result<(), Refusal>
-    ensures ok { OnOk result (AnswersAll P.steps pool (R.remaining lines.old.input)
+    ensures ok { OnOk result (AnswersAll P.outcomes pool (R.remaining lines.old.input)
         (W.contents output.old) (W.contents output.new)) }
-    ensures fault { IfErr result (IsPoolFault P.steps pool
+    ensures fault { IfErr result (IsPoolFault P.outcomes P.faults pool
         (R.remaining lines.old.input) lines.old.count
         (W.contents output.old) (W.contents output.new)) }
 {
@@ -53,7 +53,7 @@ fn run_lines<P: StepMachine, R: BufRead + Drop, W: Write>(
         let Some(command) = lines.next_command(alloc)? else {
             return Ok(());
         };
-        let Some(reply) = answer(alloc, &mut pool, command)? else {
+        let Some(reply) = pool.run_command(alloc, command)? else {
             return Err(lines.fault());
         };
         print_reply(alloc, output, &reply)?;
@@ -61,14 +61,14 @@ fn run_lines<P: StepMachine, R: BufRead + Drop, W: Write>(
     Err(Refusal::Input)
 }
 
-fn run_schedule<P: StepMachine, R: BufRead + Drop, W: Write>(
+fn run_schedule<P: SchedulePool, R: BufRead + Drop, W: Write>(
     alloc: Global,
     input: R,
     output: &mut W,
 ) -> Result<(), Refusal>
-    ensures ok { OnOk result (RunsSchedule P.creates P.refuses P.steps
+    ensures ok { OnOk result (RunsSchedule P.creates P.refuses P.outcomes
         (R.remaining input) (W.contents output.old) (W.contents output.new)) }
-    ensures fault { IfErr result (IsFaultOf P.creates P.refuses P.steps
+    ensures fault { IfErr result (IsFaultOf P.creates P.refuses P.outcomes P.faults
         (R.remaining input) (W.contents output.old) (W.contents output.new)) }
 {
     let mut lines = Lines::new(alloc, input);
@@ -84,7 +84,8 @@ fn run_schedule<P: StepMachine, R: BufRead + Drop, W: Write>(
             run_lines(alloc, pool, &mut lines, output)
         }
         Err(refusal) => {
-            print_reply(alloc, output, &Reply::Refused(refusal))?;
+            let refused = Outcome::Replied(Reply::Refused(refusal));
+            print_reply(alloc, output, &refused)?;
             let later = lines.next_command(alloc)?;
             match later {
                 None => Ok(()),
@@ -99,15 +100,15 @@ fn run_schedule<P: StepMachine, R: BufRead + Drop, W: Write>(
 /// It ends at the first fault, which is told on `errors` as `poolrun: line N`, where lines are counted from 1, or as
 /// `poolrun: input`, `poolrun: output` or `poolrun: out of memory`; what stands on the output by then stays. Where the pool
 /// can't be made, its refusal is printed, and each later line that isn't skipped is a fault.
-pub fn schedule<P: StepMachine, R: BufRead + Drop, W: Write, E: Write>(
+pub fn schedule<P: SchedulePool, R: BufRead + Drop, W: Write, E: Write>(
     alloc: Global,
     input: R,
     output: &mut W,
     errors: &mut E,
 ) -> ExitStatus
-    // The lines were read to their end, and what was printed is what the pool answers to them.
+    // The lines were read to their end, and what was printed is what comes of them.
     // Or there is a cause why not: a line that can't be run, behind lines that were.
-    ensures { EndsAs P.creates P.refuses P.steps
+    ensures { EndsAs P.creates P.refuses P.outcomes P.faults
         (R.remaining input) (W.contents output.old) (W.contents output.new) result }
 {
     match run_schedule::<P, R, W>(alloc, input, output) {

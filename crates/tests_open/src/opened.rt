@@ -1,6 +1,7 @@
 //! Pools that are opened again.
 use crate::pools::{
-    Opening, blank, blocks_of, made, make_volume, opening, pool_disks, present, sync, write_block,
+    Opening, blank, blocks_of, made, make_volume, making, opening, pool_disks, present, sync,
+    write_block,
 };
 use model_disk::MemDisk;
 use pool_model::Reply;
@@ -28,7 +29,7 @@ fn written(alloc: Global) -> Result<(Vec<MemDisk>, Shown), Fail> {
     write_block(alloc, &mut core, "v", 2, 0xaa)?;
     let group = committed(sync(&mut core));
     let blocks = blocks_of(alloc, &mut core, "v")?;
-    Ok((core.into_disks(), (group, blocks)))
+    Ok((present(alloc, core.into_disks())?, (group, blocks)))
 }
 
 /// The same pool opened: what it shows, and behind one more write.
@@ -112,5 +113,17 @@ fn other_disks_are_refused(rt: HostRuntime) -> Result<(), Fail> {
         disks.push(other)?;
     }
     assert_eq!(rt; opening(rt.alloc(), disks, 0), Err(Refusal::PoolMismatch));
+    Ok(())
+}
+
+/// A pool is made on blank disks (`pool_create::create`), and not where one of them has a label, or one is missing.
+#[test]
+fn disks_of_a_pool_make_no_other(rt: HostRuntime) -> Result<(), Fail> {
+    assert_eq!(rt; making(rt.alloc(), blank(rt.alloc())?, 1), Ok((3, 1)));
+    let disks = pool_disks(rt.alloc(), 1)?;
+    assert_eq!(rt; making(rt.alloc(), disks, 2), Err(Refusal::BadConfig));
+    let mut disks = blank(rt.alloc())?;
+    disks.pop();
+    assert_eq!(rt; making(rt.alloc(), disks, 1), Err(Refusal::BadConfig));
     Ok(())
 }

@@ -1,20 +1,13 @@
 //! Pools of three disks, and what is done to them.
-ghost use Rattle.std.specs.Prelude.{◌≡◌, length, IfOk, IsTrue};
-ghost use Rattle.pool_format.specs.Labels.{children_of};
-ghost use Rattle.pool_slots.specs.Slots.{HaveLabels};
-ghost use Rattle.uberblock_ring.specs.Uberblock.{IsNumber};
-ghost use Rattle.vdev_label.specs.Plain.{config_view};
-
-use block_store::{BlockStore, VdevShape};
-use model_disk::{Disk, DiskArray, MemDisk, Member};
-use pool_commit::{Stamp, labels_of_opened_lie};
+use model_disk::{Disk, MemDisk, Member};
 use pool_core::Core;
-use pool_format::{PoolIdentity, are_blank, write_labels};
+use pool_create::create;
+use pool_format::PoolIdentity;
 use pool_model::{Action, Bytes, Change, Name, Reply, Step, Write};
-use pool_open::{OpenedPool, Refusal, open, shapes_of};
+use pool_open::{OpenedPool, Refusal, open};
 use std::alloc::{AllocError, Global};
 use std::test::Fail;
-use vdev_label::{Config, Vdev, config_of_label_fits, read_label};
+use vdev_label::{Config, Vdev};
 
 /// Of each disk.
 const DISK_BYTES: usize = 0x80_0000;
@@ -39,100 +32,24 @@ fn config(alloc: Global, first: u64) -> Result<Config, AllocError> {
     })
 }
 
-/// Whether there is one vdev, with three disks.
-fn has_three(config: &Config) -> bool
-    ensures { IsTrue result → length (children_of (config_view config.now)) ≡ 3 }
-{
-    match config.vdevs.as_slice() {
-        [vdev] => vdev.children.len() == 3,
-        _ => false,
-    }
-}
-
-/// Labels the disks as those of a pool, where they may be.
-fn label(
-    alloc: Global,
-    disks: &mut DiskArray<MemDisk>,
-    pool: PoolIdentity,
-    config: Config,
-) -> Result<bool, pool_format::Refusal>
-    requires labels { HaveLabels disks.old.starts }
-    ensures starts { disks.new.starts ≡ disks.old.starts }
-{
-    if disks.len() != 3 || !has_three(&config) || !pool.has_good_name() {
-        return Ok(false);
-    }
-    if !config.is_allowed(alloc, pool.guid)? || !are_blank(alloc, disks)? {
-        return Ok(false);
-    }
-    write_labels(alloc, disks, pool, config, 1, 3)?;
-    Ok(true)
-}
-
-/// The disks, where they have room for labels.
-fn roomy(
+/// Makes a pool of this guid on three disks.
+pub(crate) fn make(
     alloc: Global,
     disks: Vec<MemDisk>,
-    shapes: &[VdevShape],
-) -> Result<DiskArray<MemDisk>, Fail>
-    ensures { IfOk result (λ disks. HaveLabels disks.starts) }
-{
-    labels_of_opened_lie();
-    let store = BlockStore::opened(alloc, DiskArray::new(disks), shapes, &[false; 3])?;
-    Ok(store.into_array())
-}
-
-/// A core with no volumes, in front of group 3.
-fn first_core(
-    alloc: Global,
-    disks: DiskArray<MemDisk>,
-    shapes: &[VdevShape],
-    stamp: Stamp,
-) -> Result<Core<MemDisk>, Fail>
-    requires claim { IsNumber stamp.claim }
-{
-    labels_of_opened_lie();
-    let store = BlockStore::opened(alloc, disks, shapes, &[false; 3])?;
-    Ok(Core::empty(alloc, store, stamp, 2)?)
-}
-
-/// The vdevs of a configuration, where a pool may have it.
-fn shapes(alloc: Global, config: &Config, guid: u64) -> Result<Vec<VdevShape>, Fail> {
-    if config.is_allowed(alloc, guid)? {
-        Ok(shapes_of(alloc, config)?)
-    } else {
-        Ok(Vec::new(alloc))
-    }
-}
-
-/// What the uberblocks of the pool have in common that the first disk's first label shows.
-fn stamp_on(alloc: Global, disks: &mut DiskArray<MemDisk>) -> Result<Stamp, Fail>
-    requires labels { HaveLabels disks.old.starts }
-    ensures starts { disks.new.starts ≡ disks.old.starts }
-    ensures claim { IfOk result (λ stamp. stamp.claim ≡ 1) }
-{
-    config_of_label_fits();
-    if disks.len() == 0 {
-        return Err(Fail::from(Refusal::BadConfig));
-    }
-    let label = read_label(alloc, disks, 0, 0)?;
-    Ok(Stamp {
-        guid_sum: label.config.guid_sum(),
-        claim: 1,
-        config_digest: label.config.digest(alloc)?,
-    })
-}
-
-/// A pool of this guid on three blank disks, of which group 3 is committed.
-pub(crate) fn made(alloc: Global, disks: Vec<MemDisk>, guid: u64) -> Result<Core<MemDisk>, Fail> {
+    guid: u64,
+) -> Result<OpenedPool<Member<MemDisk>>, Refusal> {
     let config = config(alloc, guid.saturating_mul(100))?;
-    let shapes = shapes(alloc, &config, guid)?;
     let name = String::from_str(alloc, "pool")?;
-    let mut disks = roomy(alloc, disks, &shapes)?;
-    label(alloc, &mut disks, PoolIdentity { name, guid }, config)?;
-    let stamp = stamp_on(alloc, &mut disks)?;
-    let mut core = first_core(alloc, disks, &shapes, stamp)?;
-    sync(&mut core);
+    create(alloc, disks, PoolIdentity { name, guid }, config)
+}
+
+/// Its core.
+pub(crate) fn made(
+    alloc: Global,
+    disks: Vec<MemDisk>,
+    guid: u64,
+) -> Result<Core<Member<MemDisk>>, Refusal> {
+    let OpenedPool { core, .. } = make(alloc, disks, guid)?;
     Ok(core)
 }
 
@@ -144,7 +61,7 @@ pub(crate) fn blank(alloc: Global) -> Result<Vec<MemDisk>, Fail> {
 /// The disks of a pool that was made on blank ones.
 pub(crate) fn pool_disks(alloc: Global, guid: u64) -> Result<Vec<MemDisk>, Fail> {
     let disks = blank(alloc)?;
-    Ok(made(alloc, disks, guid)?.into_disks())
+    present(alloc, made(alloc, disks, guid)?.into_disks())
 }
 
 /// The disks that are there, in order.
@@ -240,8 +157,14 @@ pub(crate) fn blocks_of<D: Disk + Drop>(
     })
 }
 
-/// The group and the claim of what is opened.
+/// The group and the claim of what is made or opened.
 pub(crate) type Opening = Result<(u64, u64), Refusal>;
+
+/// Makes a pool.
+pub(crate) fn making(alloc: Global, disks: Vec<MemDisk>, guid: u64) -> Opening {
+    let OpenedPool { uberblock, .. } = make(alloc, disks, guid)?;
+    Ok((uberblock.group, uberblock.claim))
+}
 
 /// Opens a pool.
 pub(crate) fn opening(alloc: Global, disks: Vec<MemDisk>, rewind: u64) -> Opening {

@@ -1,5 +1,5 @@
-//! Tests of the programs: lines and their texts, schedules with their whole output, over the machine in memory and the core over
-//! disks, and random ones on which the two agree. Nothing here is proved but that it is safe.
+//! Tests of the programs: lines and their texts, schedules with their whole output, over the machine in memory, the core over
+//! disks and pools that are opened again, and random ones on which the first two agree. Nothing here is proved but that it is safe.
 #![tactic(auto)]
 
 #[cfg(test)]
@@ -10,5 +10,7 @@ mod random_schedules;
 mod rows;
 #[cfg(test)]
 mod schedule_words;
+#[cfg(test)]
+mod stopped_pools;
 #[cfg(test)]
 mod telling;

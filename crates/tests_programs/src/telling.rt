@@ -1,6 +1,6 @@
 //! What running a schedule tells.
 use pool_model::{Refusal, Reply};
-use programs::{StepMachine, answer, schedule};
+use programs::{SchedulePool, StepMachine, answer, schedule};
 use schedule_lines::{Line, parse};
 use std::alloc::Global;
 use std::io::BufRead;
@@ -34,12 +34,15 @@ fn backs(alloc: Global, parts: &[&str]) -> Result<String, Fail> {
 }
 
 /// The output, then what is told of a fault, then the number that the process ends with.
-pub fn told<P: StepMachine>(alloc: Global, input: &str) -> Result<String, Fail> {
+pub fn told<P: SchedulePool>(alloc: Global, input: &str) -> Result<String, Fail> {
     told_of::<P, _>(alloc, input.as_bytes())
 }
 
 /// The same of any reader.
-pub fn told_of<P: StepMachine, R: BufRead + Drop>(alloc: Global, input: R) -> Result<String, Fail> {
+pub fn told_of<P: SchedulePool, R: BufRead + Drop>(
+    alloc: Global,
+    input: R,
+) -> Result<String, Fail> {
     let mut output = Vec::new(alloc);
     let mut errors = Vec::new(alloc);
     let status = schedule::<P, _, _, _>(alloc, input, &mut output, &mut errors);
@@ -49,7 +52,7 @@ pub fn told_of<P: StepMachine, R: BufRead + Drop>(alloc: Global, input: R) -> Re
 }
 
 /// What running rows tells, and what they say that it does.
-pub fn ran<P: StepMachine>(alloc: Global, parts: &[&str]) -> Result<(String, String), Fail> {
+pub fn ran<P: SchedulePool>(alloc: Global, parts: &[&str]) -> Result<(String, String), Fail> {
     let input = fronts(alloc, parts)?;
     let told = told::<P>(alloc, input.as_str())?;
     Ok((told, backs(alloc, parts)?))

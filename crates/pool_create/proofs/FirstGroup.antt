@@ -1,0 +1,152 @@
+-- What a run of the first steps leaves.
+use Rattle.std.proofs.Common.{◌≡◌, ℕ, zero, suc, ◌+◌, ◌++◌, ◌==◌, Bool, true, false, List, [], ◌∷◌, length, Some, None, Option, refl, sym, ap, ◌∙◌, subst, arith, if◌then◌else◌}
+use Rattle.std.specs.Prelude.{replicate}
+use Rattle.block_pointer.specs.declared.block.Block.{Block}
+use Rattle.block_store.specs.Blocks.{Contents}
+use Rattle.block_store.specs.Places.{shapes_of}
+use Rattle.block_store.specs.Store.{is_out}
+use Rattle.block_store.specs.declared.shape.VdevShape.{VdevShape}
+use Rattle.dataset_snapshots.specs.Pools.{SpellsPool}
+use Rattle.model_disk.specs.Joint.{Disks}
+use Rattle.pool_commit.specs.Backs.{SpellsGroup, SpellsKept, SpellsRoot, kept_pool}
+use Rattle.pool_commit.specs.Calls.{GrewTo}
+use Rattle.pool_commit.specs.State.{NoneIsOut, group_at}
+use Rattle.pool_commit.specs.declared.kept.Kept.{Kept}
+use Rattle.pool_commit.specs.declared.kept.KeptGroup.{KeptGroup}
+use Rattle.pool_core.specs.State.{CoreState, disks_of}
+use Rattle.pool_core.specs.Runs.{PlansAreTrusted}
+use Rattle.pool_model.specs.Accepted.{Accepted, accepted, ledger_with}
+use Rattle.pool_model.specs.Groups.{commits}
+use Rattle.pool_model.specs.Pools.{Entry, PlainPool, applied, no_items, no_volumes}
+use Rattle.pool_model.specs.View.{is_kept}
+use Rattle.pool_model.specs.declared.step.Reply.{Reply}
+use Rattle.pool_model.specs.declared.step.Step.{Step}
+use Rattle.pool_model.specs.declared.step.Step.TheVariants.{Close, Quiesce, Plan, Device}
+use Rattle.pool_open.proofs.Holding.{held_whole}
+use Rattle.pool_slots.specs.Opens.{AreKnown}
+use Rattle.raidz_io.specs.Reads.{IsHonestSince}
+use Rattle.pool_create.specs.FirstGroup.{AreFirstSteps, HasFirstGroup, IsCommitted, IsDone, IsInFront, KeepsKnown, SpellsNone, in_front}
+use Rattle.pool_create.specs.Planning.{none_out}
+use Rattle.pool_create.specs.declared.planning.NewPool.{NewPool}
+use Rattle.pool_create.proofs.Known.{chain_known}
+
+-- ---- no item is accepted
+
+none_by_device : (n : ℕ) (replies : List Reply) → accepted (replicate n Device) replies ≡ []
+none_by_device zero [] = refl
+none_by_device zero (reply ∷ replies) = refl
+none_by_device (suc n) [] = refl
+none_by_device (suc n) (reply ∷ replies) = none_by_device n replies
+
+none_by_first : (n : ℕ) (replies : List Reply) → accepted (Close ∷ Quiesce ∷ Plan 0 ∷ replicate n Device) replies ≡ []
+none_by_first n [] = refl
+none_by_first n (a ∷ []) = refl
+none_by_first n (a ∷ b ∷ []) = refl
+none_by_first n (a ∷ b ∷ c ∷ replies) = none_by_device n replies
+
+none_accepted : (steps : List Step) (replies : List Reply) → AreFirstSteps steps → accepted steps replies ≡ []
+none_accepted steps replies are = ap (λ (them : List Step). accepted them replies) are.1 ∙ none_by_first are.0 replies
+
+all_trusted : (replies : List Reply) → PlansAreTrusted true replies
+all_trusted [] = tt
+all_trusted (reply ∷ replies) = (λ planned. refl, all_trusted replies)
+
+devices_more : (n : ℕ) → replicate n Device ++ Device ∷ [] ≡ replicate (suc n) Device
+devices_more zero = refl
+devices_more (suc n) = ap (λ (steps : List Step). Device ∷ steps) (devices_more n)
+
+-- one step more
+pub steps_more : (steps later : List Step) → AreFirstSteps steps → later ≡ steps ++ Device ∷ [] → AreFirstSteps later
+steps_more steps later are more = (
+  suc are.0,
+  more ∙ ap (λ (them : List Step). them ++ Device ∷ []) are.1 ∙ ap (λ (them : List Step). Close ∷ Quiesce ∷ Plan 0 ∷ them) (devices_more are.0),
+)
+
+-- ---- no disk is out
+
+pub none_marked : (n disk : ℕ) → is_out (none_out n) disk ≡ false
+none_marked zero disk = refl
+none_marked (suc n) zero = refl
+none_marked (suc n) (suc disk) = none_marked n disk
+
+pub none_marked_in : (out : List Bool) (n disk : ℕ) → out ≡ none_out n → is_out out disk ≡ false
+none_marked_in out n disk same = ap (λ (flags : List Bool). is_out flags disk) same ∙ none_marked n disk
+
+-- ---- the committed group
+
+last_at : (kept : Kept) (group : ℕ) → kept.committed ≡ 3 → group_at kept 3 ≡ Some kept.last
+last_at kept group is =
+    ap (λ (n : ℕ). if 3 == n then Some kept.last else (if 4 == n then kept.before else (if 5 == n then kept.earliest else None))) is
+
+spelled_if : (stored : Contents) (group : ℕ) (last : KeptGroup) (kept : Bool) (pool : PlainPool) → SpellsKept stored group (Some last) (if kept then Some pool else None) → SpellsGroup stored group last pool
+spelled_if stored group last true pool it = it
+spelled_if stored group last false pool it = absurd it
+
+spelled_root : (stored : Contents) (group : ℕ) (root : Option Block) (b : Block) (pool : PlainPool) → root ≡ Some b → pool ≡ no_volumes → SpellsRoot stored group root pool → SpellsPool stored group b no_volumes
+spelled_root stored group root b pool is none it =
+    subst (λ (p : PlainPool). SpellsPool stored group b p) none (subst (λ (r : Option Block). SpellsRoot stored group r pool) is it)
+
+pub spells_none : (old : Disks) (it : NewPool) (before after : CoreState) (root : Block) → it.out.items ≡ none_out (length old.starts) → IsInFront old it before → IsCommitted it before after root
+    → SpellsNone old it (disks_of after) root
+spells_none old it before after root none in_front_of done honest =
+    let ran = done.ran in
+    let here : IsHonestSince (disks_of before) (disks_of after) = subst (λ (d : Disks). IsHonestSince d (disks_of after)) (sym in_front_of.disks_are) honest in
+    let replies = ran.ran.0 in
+    let all = ran.ran.3 (in_front it) true in_front_of.represents (λ e. here) (all_trusted replies) in
+    let w = all.0.after in
+    let head = all.2 in
+    let one : length (commits replies) ≡ 1 = ap (λ (them : List Reply). length (commits them)) (sym ran.ran.1) ∙ done.done.0 in
+    let at_end : w.committed ≡ 2 + length (commits replies) = head.committed in
+    let committed : w.committed ≡ 3 = omega (arith, at_end, one) in
+    let entry : w.ledger 3 ≡ no_items =
+    head.once.ledger 3 ∙ ap (λ (items : List Accepted). ledger_with (in_front it).ledger items 3) (none_accepted ran.steps replies ran.are) in
+    let pool : w.pools 3 ≡ no_volumes = head.pools 3 (omega (arith, committed)) ∙ ap (λ (e : Entry). applied 3 no_volumes e) entry in
+    let backs = all.0.represents.backs in
+    let blocks = backs.blocks in
+    let kept = after.commit.kept in
+    let at = last_at kept 3 (backs.committed ∙ committed) in
+    let spelled = spelled_if blocks.stored 3 kept.last (is_kept w 3) (w.pools 3)
+    (subst (λ (g : Option KeptGroup). SpellsKept blocks.stored 3 g (kept_pool w 3)) at (blocks.kept 3)) in (
+      blocks.stored,
+      λ store over. held_whole after.commit.store store blocks.stored over.disks_are (over.shapes_are ∙ sym done.done.2) done.done.1
+          (λ disk. none_marked_in store.out (length old.starts) disk (over.out_is ∙ none)) blocks.plans.held,
+      spelled_root blocks.stored 3 kept.last.root root (w.pools 3) done.root_is pool spelled.root,
+    )
+
+-- and no byte of the disks is lost
+pub keeps_known : (old : Disks) (it : NewPool) (before after : CoreState) (root : Block) → IsInFront old it before → IsCommitted it before after root → KeepsKnown old it (disks_of after)
+keeps_known old it before after root in_front_of done honest known =
+    let ran = done.ran in
+    let here : IsHonestSince (disks_of before) (disks_of after) = subst (λ (d : Disks). IsHonestSince d (disks_of after)) (sym in_front_of.disks_are) honest in
+    let replies = ran.ran.0 in
+    let all = ran.ran.3 (in_front it) true in_front_of.represents (λ e. here) (all_trusted replies) in
+    let links = all.0 in
+    let kept = chain_known it.out.items before (in_front it) ran.steps links.givens replies after links.after (in_front it).out links.after.out links.chain all.2.outs
+    (λ disk. links.represents.backs.out disk ∙ done.done.1 disk) in
+    kept.1 (subst (λ (d : Disks). AreKnown it.out.items d) (sym in_front_of.disks_are) known)
+
+pub first_of : (old : Disks) (it : NewPool) (before after : CoreState) (root : Block) (new : Disks) → it.out.items ≡ none_out (length old.starts) → IsInFront old it before → IsCommitted it before after root
+    → new ≡ disks_of after → HasFirstGroup old it new root
+first_of old it before after root new none in_front_of done same =
+    let grew : GrewTo old (disks_of after) = subst (λ (d : Disks). GrewTo d (disks_of after)) in_front_of.disks_are done.ran.ran.2 in
+    let known = keeps_known old it before after root in_front_of done in
+    let spells = spells_none old it before after root none in_front_of done in
+    record {
+      grew = subst (λ (d : Disks). GrewTo old d) (sym same) grew;
+      committed = record { before = before; in_front_of = in_front_of; after = after; done = done; disks_are = same };
+      known = subst (λ (d : Disks). KeepsKnown old it d) (sym same) known;
+      spells = subst (λ (d : Disks). SpellsNone old it d root) (sym same) spells;
+    }
+
+-- ---- what the code knows of it
+
+-- what is tested is what is asked
+pub done_of : (it : NewPool) (new : CoreState) (replies tested : List Reply) (shapes before after : List VdevShape) → tested ≡ replies → before ≡ it.shapes.items → after ≡ shapes
+    → shapes ≡ shapes_of new.commit.store.spaces → (length (commits tested) ≡ 1) × NoneIsOut new.commit × (after ≡ before) → IsDone it new replies
+done_of it new replies tested shapes before after same is_before is_after are test =
+    (ap (λ (them : List Reply). length (commits them)) (sym same) ∙ test.0, test.1, sym are ∙ sym is_after ∙ test.2 ∙ is_before)
+
+pub tested_of : (it : NewPool) (new : CoreState) (replies tested : List Reply) (shapes before after : List VdevShape) → tested ≡ replies → before ≡ it.shapes.items → after ≡ shapes
+    → shapes ≡ shapes_of new.commit.store.spaces → IsDone it new replies → (length (commits tested) ≡ 1) × NoneIsOut new.commit × (after ≡ before)
+tested_of it new replies tested shapes before after same is_before is_after are done =
+    (ap (λ (them : List Reply). length (commits them)) same ∙ done.0, done.1, is_after ∙ are ∙ done.2 ∙ sym is_before)

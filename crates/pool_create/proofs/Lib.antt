@@ -1,0 +1,10 @@
+pub mod Grown
+pub mod Fitting
+pub mod Stamps
+pub mod Causes
+pub mod Known
+pub mod FirstGroup
+pub mod Labels
+pub mod Showing
+pub mod Backs
+pub mod Stages

@@ -1,0 +1,222 @@
+-- A pool that is made, stage by stage.
+use Rattle.std.proofs.Common.{◌≡◌, ◌⊎◌, inl, inr, ℕ, Bool, true, false, List, length, refl, sym, ap, ◌∙◌, subst}
+use Rattle.std.specs.Prelude.{Ok}
+use Rattle.block_pointer.specs.declared.block.Block.{Block}
+use Rattle.block_store.specs.Elsewhere.{WritesElsewhereKeep}
+use Rattle.block_store.specs.Opened.{MayBeOpened}
+use Rattle.block_store.specs.Store.{is_out}
+use Rattle.model_disk.specs.Joint.{Disks}
+use Rattle.model_disk.specs.Runs.{AreSettled, Makes, no_write}
+use Rattle.model_disk.proofs.RunLemmas.{AreSettled-kept}
+use Rattle.pool_commit.specs.Calls.{GrewTo}
+use Rattle.pool_core.specs.Represents.{Represents}
+use Rattle.pool_core.specs.State.{CoreState, disks_of}
+use Rattle.pool_core.proofs.Running.{GrewTo-on, true_after, true_before}
+use Rattle.pool_format.specs.Blank.{TellsBlank}
+use Rattle.pool_format.specs.Labels.{AreLabeled, IsLabelWrite, children_of, labels_of}
+use Rattle.pool_format.specs.declared.labeling.PoolIdentity.{PoolIdentity}
+use Rattle.pool_model.specs.Pools.{no_volumes}
+use Rattle.pool_model.specs.View.{opened_as}
+use Rattle.pool_open.specs.Held.{IsLaidOver}
+use Rattle.pool_open.specs.Words.{vdevs_in}
+use Rattle.pool_open.specs.declared.refusal.Refusal.{Refusal}
+use Rattle.pool_open.specs.declared.refusal.Refusal.TheVariants.{NoMemory, DiskFault, BadConfig}
+use Rattle.pool_slots.specs.Failures.{HasFailedOn}
+use Rattle.pool_slots.specs.Opens.{AreKnown, IsHighestShown}
+use Rattle.pool_slots.specs.Slots.{HaveLabels}
+use Rattle.pool_slots.proofs.Finding.{known_later}
+use Rattle.raidz_io.specs.Reads.{IsHonestSince}
+use Rattle.uberblock_ring.specs.declared.uberblock.Uberblock.{Uberblock}
+use Rattle.vdev_label.specs.Plain.{config_view}
+use Rattle.vdev_label.specs.declared.label.Config.{Config}
+use Rattle.pool_create.specs.Creating.{CreateRefuses, HasFault, IsCreated, IsFirst, IsShownSince}
+use Rattle.pool_create.specs.FirstGroup.{HasFirstGroup, LacksFirstGroup}
+use Rattle.pool_create.specs.Planning.{IsAllowedPool, IsNewPool, nobody}
+use Rattle.pool_create.specs.ReadingBack.{IsReadBack, IsUnread, first_uberblock}
+use Rattle.pool_create.specs.Stages.{IsFit, IsLaid, IsMade, IsUnfit, IsUnmade}
+use Rattle.pool_create.specs.declared.planning.NewPool.{NewPool}
+use Rattle.pool_create.proofs.Fitting.{may_be_made, may_not_be_made}
+use Rattle.pool_create.proofs.Grown.{fails_in, made_grew}
+use Rattle.pool_create.proofs.Known.{known_unfailed}
+use Rattle.pool_create.proofs.Showing.{taken_shown}
+use Rattle.pool_create.proofs.Labels.{held_behind_labels, labeled_later, laid_later}
+use Rattle.pool_commit.proofs.Made.{GrewTo-none}
+
+-- ---- disks that the pool fits
+
+pub laid_still : (old new : Disks) (it : NewPool) → new.starts ≡ old.starts → IsLaid old it → IsLaid new it
+laid_still old new it starts is = record {
+  may = subst (λ (them : List (List ℕ)). MayBeOpened them it.shapes.items it.out.items) (sym starts) is.may;
+  labels = subst HaveLabels (sym starts) is.labels;
+  laid = laid_later old new it.shapes.items it.out.items starts is.laid;
+}
+
+pub new_still : (config : Config) (it : NewPool) (old new : Disks) → new.starts ≡ old.starts → IsNewPool config (length old.starts) it → IsNewPool config (length new.starts) it
+new_still config it old new starts is = subst (λ (them : List (List ℕ)). IsNewPool config (length them) it) (sym starts) is
+
+pub fit_of : (old new : Disks) (it : NewPool) → MayBeOpened old.starts it.shapes.items it.out.items → HaveLabels old.starts → IsLaidOver old it.shapes.items it.out.items → Makes no_write old new
+    → TellsBlank old new (Ok true) → IsFit old it new
+fit_of old new it may labels laid only tells = record {
+  only = only;
+  blank = tells;
+  is_laid = laid_still old new it only.starts (record { may = may; labels = labels; laid = laid });
+}
+
+-- the disks show a pool, or can't be read
+pub unfit_of : (old new : Disks) (it : NewPool) (refusal : Refusal) → Makes no_write old new
+    → (refusal ≡ NoMemory) ⊎ (((refusal ≡ BadConfig) × TellsBlank old new (Ok false)) ⊎ ((refusal ≡ DiskFault) × ((which : ℕ) × HasFailedOn old new which))) → IsUnfit old it refusal
+unfit_of old new it refusal only (inl memory) = inl memory
+unfit_of old new it refusal only (inr (inl used)) = inr (inl (used.0, inr (record { new = new; grew = made_grew no_write old new only; holds = used.1 })))
+unfit_of old new it refusal only (inr (inr fault)) = inr (inr (fault.0, record { new = new; grew = made_grew no_write old new only; holds = fault.1 }))
+
+pub unfit_at_once : (old : Disks) (it : NewPool) (refusal : Refusal) → (refusal ≡ NoMemory) ⊎ ((refusal ≡ BadConfig) × ¬ MayBeOpened old.starts it.shapes.items it.out.items) → IsUnfit old it refusal
+unfit_at_once old it refusal (inl memory) = inl memory
+unfit_at_once old it refusal (inr bad) = inr (inl (bad.0, inl bad.1))
+
+-- ---- the pool is made
+
+pub is_first : (config : Config) (count : ℕ) (it : NewPool) (root : Block) (u : Uberblock) → IsNewPool config count it → u ≡ first_uberblock it root → IsFirst config u
+is_first config count it root u new is = subst (λ (v : Uberblock). IsFirst config v) (sym is) (record {
+  group_is = refl;
+  claim_is = new.stamp_is.claim_is;
+  guids = new.stamp_is.guids;
+  digest = new.stamp_is.digest;
+})
+
+-- the first group's disks, the labeled ones, and the core that was read of them
+pub record AreStages (old first labeled : Disks) (pool : PoolIdentity) (config : Config) (it : NewPool) (root : Block) (u : Uberblock) (core : CoreState) : Type 0 where
+  pub new : IsNewPool config (length old.starts) it
+  pub laid : IsLaid old it
+  pub count : length (children_of (config_view config)) ≡ length old.starts
+  pub group : HasFirstGroup old it first root
+  pub labels : Makes (IsLabelWrite first.starts (labels_of pool config 1 3)) first labeled
+  pub show : AreLabeled labeled (labels_of pool config 1 3)
+  pub settled : AreSettled labeled
+  pub unfailed : (disk : ℕ) → ¬ HasFailedOn first labeled disk
+  pub back : IsReadBack labeled it root u core
+
+grew_labels : (old first labeled : Disks) (pool : PoolIdentity) (config : Config) (it : NewPool) (root : Block) (u : Uberblock) (core : CoreState) → AreStages old first labeled pool config it root u core
+    → GrewTo old labeled
+grew_labels old first labeled pool config it root u core are =
+    GrewTo-on old first labeled are.group.grew (made_grew (IsLabelWrite first.starts (labels_of pool config 1 3)) first labeled are.labels)
+
+grew_first : (old first labeled : Disks) (pool : PoolIdentity) (config : Config) (it : NewPool) (root : Block) (u : Uberblock) (core : CoreState) → AreStages old first labeled pool config it root u core
+    → GrewTo first (disks_of core)
+grew_first old first labeled pool config it root u core are =
+    GrewTo-on first labeled (disks_of core) (made_grew (IsLabelWrite first.starts (labels_of pool config 1 3)) first labeled are.labels)
+    (made_grew no_write labeled (disks_of core) are.back.only)
+
+represents_none : WritesElsewhereKeep → (old first labeled : Disks) (pool : PoolIdentity) (config : Config) (it : NewPool) (root : Block) (u : Uberblock) (core : CoreState)
+    → AreStages old first labeled pool config it root u core → IsHonestSince old (disks_of core)
+    → Represents core (opened_as (vdevs_in it.shapes.items) (is_out it.out.items) 3 no_volumes)
+represents_none keep old first labeled pool config it root u core are honest =
+    let spelled = are.group.spells (true_before old first (disks_of core) (grew_first old first labeled pool config it root u core are) honest) in
+    let laid = laid_later old first it.shapes.items it.out.items are.group.grew.starts are.laid.laid in
+    let count = are.count ∙ ap length (sym are.group.grew.starts) in
+    let hold = held_behind_labels keep first labeled it.shapes.items it.out.items pool config spelled.0 laid count are.labels are.show spelled.1 in
+    are.back.represents spelled.0 hold spelled.2 (true_after old labeled (disks_of core) (grew_labels old first labeled pool config it root u core are) honest)
+
+shown_since : (old first labeled : Disks) (pool : PoolIdentity) (config : Config) (it : NewPool) (root : Block) (u : Uberblock) (core : CoreState)
+    → AreStages old first labeled pool config it root u core → IsShownSince old (disks_of core) u
+shown_since old first labeled pool config it root u core are known honest =
+    let out = it.out.items in
+    let known_here : AreKnown out old = subst (λ (flags : List Bool). AreKnown flags old) (sym are.new.none_is_out) known in
+    let known_first = are.group.known (true_before old first (disks_of core) (grew_first old first labeled pool config it root u core are) honest) known_here in
+    let known_last = known_unfailed out first labeled (made_grew (IsLabelWrite first.starts (labels_of pool config 1 3)) first labeled are.labels) are.unfailed known_first in
+    let honest_last = true_after old labeled (disks_of core) (grew_labels old first labeled pool config it root u core are) honest in
+    subst (λ (flags : List Bool). IsHighestShown flags (disks_of core) u) are.new.none_is_out
+    (taken_shown labeled (disks_of core) (disks_of core) out u are.back.taken are.back.only known_last honest_last)
+
+pub made_of : WritesElsewhereKeep → (old first labeled : Disks) (pool : PoolIdentity) (config : Config) (it : NewPool) (root : Block) (u : Uberblock) (core : CoreState)
+    → AreStages old first labeled pool config it root u core → IsMade old pool config it u core
+made_of keep old first labeled pool config it root u core are = record {
+  grew = GrewTo-on old labeled (disks_of core) (grew_labels old first labeled pool config it root u core are) (made_grew no_write labeled (disks_of core) are.back.only);
+  first = is_first config (length old.starts) it root u are.new are.back.is;
+  labeled = labeled_later labeled (disks_of core) (labels_of pool config 1 3) are.back.only are.show;
+  settled = AreSettled-kept labeled (disks_of core) are.back.only are.settled;
+  shown = shown_since old first labeled pool config it root u core are;
+  stamped = are.back.stamped;
+  root = are.back.root_is;
+  represents = represents_none keep old first labeled pool config it root u core are;
+}
+
+pub created_of : (old blank : Disks) (pool : PoolIdentity) (config : Config) (it : NewPool) (u : Uberblock) (core : CoreState) → IsAllowedPool pool config → IsNewPool config (length old.starts) it
+    → IsFit old it blank → IsMade blank pool config it u core → IsCreated old pool config u core
+created_of old blank pool config it u core allowed new fit made =
+    let first = made_grew no_write old blank fit.only in
+    let before = laid_still blank old it (sym fit.only.starts) fit.is_laid in
+    record {
+      may = may_be_made old.starts pool config it allowed new before.may;
+      shapes = it.shapes.items;
+      shapes_are = new.shapes_are;
+      grew = GrewTo-on old blank (disks_of core) first made.grew;
+      blank = λ which there known honest. fit.blank which there known (true_before old blank (disks_of core) made.grew honest);
+      first = made.first;
+      labeled = made.labeled;
+      settled = made.settled;
+      shown = λ known honest.
+          let here = known_later (nobody old.starts) old blank fit.only known in
+          let S : List (List ℕ) → Type 0 = λ starts. AreKnown (nobody starts) blank → IsHighestShown (nobody starts) (disks_of core) u in
+          subst S fit.only.starts (λ is. made.shown is (true_after old blank (disks_of core) first honest)) here;
+      stamped = made.stamped;
+      root = made.root;
+      represents = λ honest.
+          subst (λ (out : List Bool). Represents core (opened_as (vdevs_in it.shapes.items) (is_out out) 3 no_volumes)) new.none_is_out
+          (made.represents (true_after old blank (disks_of core) first honest));
+    }
+
+-- ---- the pool isn't made
+
+pub unmade_group : (old : Disks) (pool : PoolIdentity) (config : Config) (it : NewPool) (refusal : Refusal) → (refusal ≡ NoMemory) ⊎ LacksFirstGroup old it refusal → IsUnmade old pool config it refusal
+unmade_group old pool config it refusal (inl memory) = inl memory
+unmade_group old pool config it refusal (inr lacks) = inr (inr (inl lacks))
+
+pub unmade_labels : (old first labeled : Disks) (pool : PoolIdentity) (config : Config) (it : NewPool) (refusal : Refusal) → GrewTo old first
+    → Makes (IsLabelWrite first.starts (labels_of pool config 1 3)) first labeled → (refusal ≡ NoMemory) ⊎ ((refusal ≡ DiskFault) × ((which : ℕ) × HasFailedOn first labeled which))
+    → IsUnmade old pool config it refusal
+unmade_labels old first labeled pool config it refusal grew makes (inl memory) = inl memory
+unmade_labels old first labeled pool config it refusal grew makes (inr fault) =
+    let later = made_grew (IsLabelWrite first.starts (labels_of pool config 1 3)) first labeled makes in
+    inr (inl (
+      fault.0,
+      record {
+        new = labeled;
+        grew = GrewTo-on old first labeled grew later;
+        holds = (fault.1.0, fails_in old first labeled labeled fault.1.0 grew (GrewTo-none labeled) fault.1.1);
+      },
+    ))
+
+pub unmade_back : (old first labeled : Disks) (pool : PoolIdentity) (config : Config) (it : NewPool) (root : Block) (refusal : Refusal) → HasFirstGroup old it first root
+    → Makes (IsLabelWrite first.starts (labels_of pool config 1 3)) first labeled → AreLabeled labeled (labels_of pool config 1 3) → IsUnread labeled it root refusal → IsUnmade old pool config it refusal
+unmade_back old first labeled pool config it root refusal group makes show unread =
+    inr (inr (inr (record { first = first; root = root; group = group; labeled = labeled; labels = makes; show = show; unread = unread })))
+
+-- ---- the pool is refused
+
+pub refused_plan : (old : Disks) (pool : PoolIdentity) (config : Config) (refusal : Refusal)
+    → (refusal ≡ NoMemory) ⊎ ((refusal ≡ BadConfig) × ¬ IsAllowedPool pool config) → CreateRefuses old pool config refusal
+refused_plan old pool config refusal (inl memory) = inl memory
+refused_plan old pool config refusal (inr bad) = inr (inl (bad.0, inl (λ may. bad.1 (may.name, may.allowed))))
+
+pub refused_fit : (old : Disks) (pool : PoolIdentity) (config : Config) (it : NewPool) (refusal : Refusal) → IsNewPool config (length old.starts) it → IsUnfit old it refusal
+    → CreateRefuses old pool config refusal
+refused_fit old pool config it refusal new (inl memory) = inl memory
+refused_fit old pool config it refusal new (inr (inl (bad, inl none))) = inr (inl (bad, inl (may_not_be_made old.starts pool config it new none)))
+refused_fit old pool config it refusal new (inr (inl (bad, inr used))) = inr (inl (bad, inr used))
+refused_fit old pool config it refusal new (inr (inr fault)) = inr (inr (inl fault))
+
+fault_on : (old blank : Disks) → GrewTo old blank → HasFault blank → HasFault old
+fault_on old blank grew it = record {
+  new = it.new;
+  grew = GrewTo-on old blank it.new grew it.grew;
+  holds = (it.holds.0, fails_in old blank it.new it.new it.holds.0 grew (GrewTo-none it.new) it.holds.1);
+}
+
+pub refused_make : (old blank : Disks) (pool : PoolIdentity) (config : Config) (it : NewPool) (refusal : Refusal) → IsNewPool config (length old.starts) it → GrewTo old blank
+    → IsUnmade blank pool config it refusal → CreateRefuses old pool config refusal
+refused_make old blank pool config it refusal new grew (inl memory) = inl memory
+refused_make old blank pool config it refusal new grew (inr (inl fault)) = inr (inr (inl (fault.0, fault_on old blank grew fault.1)))
+refused_make old blank pool config it refusal new grew (inr (inr (inl lacks))) =
+    inr (inr (inr (inl (it, new, record { new = blank; grew = grew; holds = lacks }))))
+refused_make old blank pool config it refusal new grew (inr (inr (inr unread))) =
+    inr (inr (inr (inr (it, new, record { new = blank; grew = grew; holds = unread }))))

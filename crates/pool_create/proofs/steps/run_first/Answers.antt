@@ -1,0 +1,12 @@
+use Rattle.std.proofs.Common.{List, subst}
+use Rattle.pool_core.specs.Runs.{Ran}
+use Rattle.pool_core.specs.StateOf.{state_of}
+use Rattle.pool_model.specs.declared.step.Reply.{Reply}
+use Rattle.pool_create.proofs.steps.run_first.Goals as goal
+
+pub returns-in-Ok-clause-ran : goal.returns-in-Ok-clause-ran
+returns-in-Ok-clause-ran g c = record {
+  steps = c.in_ok-steps.steps.items;
+  are = c.in_ok-steps.ensures;
+  ran = subst (λ (xs : List Reply). Ran (state_of c.args.core.now) c.in_ok-steps.steps.items xs (state_of c.run.new.core) c.run.new.replies.items) c.new-replies.ensures.items c.in-Ok.ensures.all;
+}

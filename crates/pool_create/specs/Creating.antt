@@ -1,0 +1,102 @@
+-- A pool that is made on disks.
+use Rattle.std.specs.Prelude.{ℕ, ◌≡◌, ◌⊎◌, true, false, Some, List, length, Ok}
+use Rattle.block_pointer.specs.declared.block.Block.{Block}
+use Rattle.block_store.specs.Store.{is_out}
+use Rattle.block_store.specs.declared.shape.VdevShape.{VdevShape}
+use Rattle.model_disk.specs.Joint.{Disks}
+use Rattle.model_disk.specs.Runs.{AreSettled, Makes}
+use Rattle.pool_commit.specs.Calls.{GrewTo}
+use Rattle.pool_core.specs.Represents.{Represents}
+use Rattle.pool_core.specs.State.{CoreState, disks_of}
+use Rattle.pool_format.specs.Blank.{TellsBlank}
+use Rattle.pool_format.specs.Labels.{AreLabeled, IsLabelWrite, labels_of}
+use Rattle.pool_format.specs.declared.labeling.PoolIdentity.{PoolIdentity}
+use Rattle.pool_model.specs.Pools.{no_volumes}
+use Rattle.pool_model.specs.View.{opened_as}
+use Rattle.pool_open.specs.Shapes.{AreShapesOf}
+use Rattle.pool_open.specs.Words.{stamp_of, vdevs_in}
+use Rattle.pool_open.specs.declared.refusal.Refusal.{Refusal}
+use Rattle.pool_open.specs.declared.refusal.Refusal.TheVariants.{NoMemory, DiskFault, BadConfig}
+use Rattle.pool_slots.specs.Failures.{HasFailedOn}
+use Rattle.pool_slots.specs.Opens.{AreKnown, IsHighestShown}
+use Rattle.raidz_io.specs.Reads.{IsHonestSince}
+use Rattle.sha2.specs.Sha256.{sha256}
+use Rattle.uberblock_ring.specs.declared.uberblock.Uberblock.{Uberblock}
+use Rattle.vdev_label.specs.Config.{config_bytes, guid_sum}
+use Rattle.vdev_label.specs.Plain.{config_view}
+use Rattle.vdev_label.specs.declared.label.Config.{Config}
+use Rattle.pool_create.specs.FirstGroup.{HasFirstGroup, LacksFirstGroup}
+use Rattle.pool_create.specs.Planning.{MayBeMade, IsNewPool, nobody}
+use Rattle.pool_create.specs.ReadingBack.{IsUnread}
+use Rattle.pool_create.specs.declared.planning.NewPool.{NewPool}
+
+-- ---- a pool that was made
+
+-- what the uberblock of a new pool is
+pub record IsFirst (config : Config) (u : Uberblock) : Type 0 where
+  pub group_is : u.group ≡ 3
+  pub claim_is : u.claim ≡ 1
+  pub guids : u.guid_sum ≡ guid_sum (config_view config)
+  pub digest : u.config_digest ≡ sha256 (config_bytes (config_view config))
+
+-- where the bytes of these disks were known and all answers since were true, it is what an open would take
+abbrev pub IsShownSince : Disks → Disks → Uberblock → Type 0
+IsShownSince old new u = AreKnown (nobody old.starts) old → IsHonestSince old new → IsHighestShown (nobody old.starts) new u
+
+-- The pool was made: no disk showed one before, then its first group was committed, and then all disks were labeled.
+pub record IsCreated (old : Disks) (pool : PoolIdentity) (config : Config) (u : Uberblock) (core : CoreState) : Type 0 where
+  pub may : MayBeMade old.starts pool config
+  pub shapes : List VdevShape
+  pub shapes_are : AreShapesOf (config_view config) 0 shapes
+  pub grew : GrewTo old (disks_of core)
+  pub blank : TellsBlank old (disks_of core) (Ok true)
+  pub first : IsFirst config u
+  pub labeled : AreLabeled (disks_of core) (labels_of pool config 1 3)
+  pub settled : AreSettled (disks_of core)
+  pub shown : IsShownSince old (disks_of core) u
+  pub stamped : core.commit.stamp ≡ stamp_of u
+  pub root : core.commit.kept.last.root ≡ Some u.root
+  pub represents : IsHonestSince old (disks_of core)
+      → Represents core (opened_as (vdevs_in shapes) (is_out (nobody old.starts)) 3 no_volumes)
+
+-- ---- a pool that was not
+
+-- the disks grew to these
+pub record GoesTo (old : Disks) (P : Disks → Type 0) : Type 0 where
+  pub new : Disks
+  pub grew : GrewTo old new
+  pub holds : P new
+
+-- it may not be made on them, or one of them shows a pool
+abbrev pub IsNoPlace : Disks → PoolIdentity → Config → Type 0
+IsNoPlace old pool config = (¬ MayBeMade old.starts pool config) ⊎ GoesTo old (λ new. TellsBlank old new (Ok false))
+
+-- a call on one of them failed
+abbrev pub HasFault : Disks → Type 0
+HasFault old = GoesTo old (λ new. (which : ℕ) × HasFailedOn old new which)
+
+-- on blank disks the first group was not committed
+abbrev pub IsNotBegun : Disks → Config → Refusal → Type 0
+IsNotBegun old config refusal =
+    (it : NewPool) × IsNewPool config (length old.starts) it × GoesTo old (λ blank. LacksFirstGroup blank it refusal)
+
+-- it was, the disks were labeled, and what was read of them was refused
+pub record IsBackRefused (old : Disks) (pool : PoolIdentity) (config : Config) (it : NewPool) (refusal : Refusal) : Type 0 where
+  pub first : Disks
+  pub root : Block
+  pub group : HasFirstGroup old it first root
+  pub labeled : Disks
+  pub labels : Makes (IsLabelWrite first.starts (labels_of pool config 1 3)) first labeled
+  pub show : AreLabeled labeled (labels_of pool config 1 3)
+  pub unread : IsUnread labeled it root refusal
+
+abbrev pub IsNotReadBack : Disks → PoolIdentity → Config → Refusal → Type 0
+IsNotReadBack old pool config refusal =
+    (it : NewPool) × IsNewPool config (length old.starts) it × GoesTo old (λ blank. IsBackRefused blank pool config it refusal)
+
+abbrev pub CreateRefuses : Disks → PoolIdentity → Config → Refusal → Type 0
+CreateRefuses old pool config refusal =
+    (refusal ≡ NoMemory)
+    ⊎ (((refusal ≡ BadConfig) × IsNoPlace old pool config)
+    ⊎ (((refusal ≡ DiskFault) × HasFault old)
+    ⊎ (IsNotBegun old config refusal ⊎ IsNotReadBack old pool config refusal)))

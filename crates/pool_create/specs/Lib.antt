@@ -1,0 +1,6 @@
+pub mod Planning
+pub mod FirstGroup
+pub mod ReadingBack
+pub mod Creating
+pub mod Stages
+pub mod Creates

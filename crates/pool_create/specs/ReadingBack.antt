@@ -1,0 +1,94 @@
+-- Reading a new pool as an open does.
+use Rattle.std.specs.Prelude.{ℕ, ◌≡◌, ◌≢◌, ◌⊎◌, ◌-◌, ◌^◌, Bool, List, Some}
+use Rattle.block_pointer.specs.declared.block.Block.{Block}
+use Rattle.block_store.specs.Blocks.{Contents}
+use Rattle.block_store.specs.Store.{is_out}
+use Rattle.block_store.specs.declared.refusal.Refusal.{Refusal as StoreRefusal}
+use Rattle.dataset_snapshots.specs.Pools.{SpellsPool}
+use Rattle.dataset_snapshots.specs.declared.contents.RootContents.{RootContents}
+use Rattle.model_disk.specs.Joint.{Disks}
+use Rattle.model_disk.specs.Runs.{Makes, no_write}
+use Rattle.pool_commit.specs.Slots.{uberblock_of}
+use Rattle.pool_core.specs.Represents.{Represents}
+use Rattle.pool_core.specs.State.{CoreState, disks_of}
+use Rattle.pool_model.specs.Pools.{no_volumes}
+use Rattle.pool_model.specs.View.{opened_as}
+use Rattle.pool_open.specs.Causes.{of_slots, of_store}
+use Rattle.pool_open.specs.Held.{HoldOver}
+use Rattle.pool_open.specs.Opening.{IsBlockMisplaced}
+use Rattle.pool_open.specs.Roots.{IsReadOfRoot, RootRefuses}
+use Rattle.pool_open.specs.Words.{stamp_of, vdevs_in}
+use Rattle.pool_open.specs.declared.refusal.Refusal.{Refusal}
+use Rattle.pool_open.specs.declared.refusal.Refusal.TheVariants.{NoMemory, DiskFault, NoUberblock, BadPointer}
+use Rattle.pool_slots.specs.Failures.{HasFailedOn}
+use Rattle.pool_slots.specs.Present.{IsNoFault}
+use Rattle.pool_slots.specs.Surveys.{Surveyed, IsSurveyed, IsWholeOf, SurveyRefuses}
+use Rattle.pool_slots.specs.declared.refusal.Refusal.{Refusal as SlotsRefusal}
+use Rattle.raidz_io.specs.Reads.{IsHonestSince}
+use Rattle.uberblock_ring.specs.declared.uberblock.Uberblock.{Uberblock}
+use Rattle.pool_create.specs.declared.planning.NewPool.{NewPool}
+
+-- the uberblock of the first group with this root
+abbrev pub first_uberblock : NewPool → Block → Uberblock
+first_uberblock it root = uberblock_of it.stamp 3 root 0
+
+-- a survey of all disks took this uberblock
+pub record IsTakenOf (old new : Disks) (out : List Bool) (u : Uberblock) : Type 0 where
+  pub s : Surveyed
+  pub whole : IsWholeOf out old.starts s
+  pub surveyed : IsSurveyed out 0 old new s
+  pub taken_is : u ≡ s.taken
+
+-- the core that was read of disks on which a pool's first group is
+pub record IsReadBack (old : Disks) (it : NewPool) (root : Block) (u : Uberblock) (core : CoreState) : Type 0 where
+  pub only : Makes no_write old (disks_of core)
+  pub is : u ≡ first_uberblock it root
+  pub taken : IsTakenOf old (disks_of core) it.out.items u
+  pub stamped : core.commit.stamp ≡ stamp_of u
+  pub root_is : core.commit.kept.last.root ≡ Some u.root
+  pub represents : (stored : Contents) → HoldOver old it.shapes.items it.out.items stored → SpellsPool stored 3 root no_volumes
+      → IsHonestSince old (disks_of core) → Represents core (opened_as (vdevs_in it.shapes.items) (is_out it.out.items) 3 no_volumes)
+
+-- the slots or labels of the disks in use were refused
+pub record IsSurveyRefused (old new : Disks) (refusal : Refusal) : Type 0 where
+  pub later : List Bool
+  pub cause : SlotsRefusal
+  pub same : refusal ≡ of_slots cause
+  pub why : SurveyRefuses later 0 old new cause
+  pub no_fault : IsNoFault cause
+
+-- what the disks show isn't the first uberblock
+abbrev pub IsOther : Disks → Disks → NewPool → Block → Type 0
+IsOther old new it root = (u : Uberblock) × IsTakenOf old new it.out.items u × (u ≢ first_uberblock it root)
+
+-- they show that one
+pub record IsFirstTaken (old surveyed : Disks) (it : NewPool) (root : Block) : Type 0 where
+  pub u : Uberblock
+  pub taken : IsTakenOf old surveyed it.out.items u
+  pub is : u ≡ first_uberblock it root
+
+-- its root can't be read
+pub record IsRootUnread (now : Disks) (it : NewPool) (root : Block) (refusal : Refusal) : Type 0 where
+  pub cause : StoreRefusal
+  pub same : refusal ≡ of_store cause
+  pub why : RootRefuses now it.shapes.items it.out.items 3 root (2 ^ 64 - 1) cause
+
+-- two of its blocks share a sector, or one has no place
+pub record IsMisplaced (old new : Disks) (it : NewPool) (root : Block) : Type 0 where
+  pub contents : RootContents
+  pub reads : IsReadOfRoot old new it.shapes.items it.out.items 3 root contents
+  pub why : IsBlockMisplaced new it.shapes.items it.out.items contents
+
+-- why there is no core: memory, a read that failed, or what was read
+abbrev pub IsCauseOfReading : Disks → Disks → NewPool → Block → Refusal → Type 0
+IsCauseOfReading old new it root refusal =
+    (refusal ≡ NoMemory)
+    ⊎ (((refusal ≡ DiskFault) × ((which : ℕ) × HasFailedOn old new which))
+    ⊎ (IsSurveyRefused old new refusal
+    ⊎ (((refusal ≡ NoUberblock) × IsOther old new it root)
+    ⊎ (((surveyed : Disks) × IsFirstTaken old surveyed it root × IsRootUnread surveyed it root refusal)
+    ⊎ ((refusal ≡ BadPointer) × ((surveyed : Disks) × IsFirstTaken old surveyed it root × IsMisplaced surveyed new it root))))))
+
+-- the disks were only read by then
+abbrev pub IsUnread : Disks → NewPool → Block → Refusal → Type 0
+IsUnread old it root refusal = (new : Disks) × Makes no_write old new × IsCauseOfReading old new it root refusal

@@ -1,0 +1,16 @@
+//! Making a pool on disks that show none: its first group is committed, and then their labels are written.
+#![tactic(auto)]
+
+mod first_group;
+mod guids;
+mod handing_in;
+mod judging;
+mod labeling;
+mod making;
+mod planning;
+mod reading_back;
+mod steps;
+mod surveying;
+
+pub use handing_in::create;
+pub use making::create_over;

@@ -1,0 +1,50 @@
+//! Laws of the bytes that are filled, and of where the disks stand with them: what each ensures follows from the definitions alone.
+ghost use Rattle.pool_stops.specs.Filled.{BlocksAreFilled, FilledBytesAreForBlocks, FreePlacesAreUnfilled};
+ghost use Rattle.pool_stops.specs.Standing.{BlocksKeepWhatIsFilled, CommitsEndFilled, SlotsBeginBehindBlocks, SlotsKeepWhatIsForBlocks};
+
+use pool_slots::stepwise::{blocks_phase, slots_phase};
+
+/// Each byte of a block whose sectors are taken is filled.
+pub fn blocks_are_filled()
+    ensures { BlocksAreFilled }
+{}
+
+/// No byte of a place whose sectors are free is filled, so that a plan which writes there changes none that is.
+pub fn free_places_are_unfilled()
+    ensures { FreePlacesAreUnfilled }
+{}
+
+/// Each byte that is filled lies in the sectors for blocks, and so beside labels.
+pub fn filled_bytes_are_for_blocks()
+    ensures { FilledBytesAreForBlocks }
+{}
+
+/// While blocks are written, and between commits.
+pub fn blocks_keep_what_is_filled()
+    ensures { BlocksKeepWhatIsFilled }
+{
+    blocks_phase();
+}
+
+/// Behind the flush of the blocks.
+pub fn slots_begin_behind_blocks()
+    ensures { SlotsBeginBehindBlocks }
+{
+    blocks_phase();
+    slots_phase();
+}
+
+/// While slots are written and flushed.
+pub fn slots_keep_what_is_for_blocks()
+    ensures { SlotsKeepWhatIsForBlocks }
+{
+    slots_phase();
+}
+
+/// As the group is committed.
+pub fn commits_end_filled()
+    ensures { CommitsEndFilled }
+{
+    blocks_phase();
+    slots_phase();
+}

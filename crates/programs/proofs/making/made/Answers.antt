@@ -1,0 +1,25 @@
+use Rattle.std.proofs.Common.{inr}
+use Rattle.pool_core.specs.StateOf.{state_of}
+use Rattle.programs.proofs.MadeOn.{is_made}
+use Rattle.programs.proofs.making.made.Goals as goal
+
+pub returns-in-Ok-create-clause-made : goal.returns-in-Ok-create-clause-made
+returns-in-Ok-create-clause-made c =
+    let disks = c.in-Ok-several.ensures in
+    is_made c.args.line.now c.in-Ok-several.disks.items c.in-Ok.pool c.in-Ok.config c.in-Ok-create.opened.uberblock (state_of c.in-Ok-create.opened.core)
+    (record { count = disks.count; sizes = disks.sizes; zeros = disks.zeros; fresh = disks.fresh }) c.in-Ok.ensures c.in-Ok-create.ensures.created
+    (λ old. c.answers_are_true.ensures old)
+
+pub returns-in-Err-clause-refused : goal.returns-in-Err-clause-refused
+returns-in-Err-clause-refused c =
+    let disks = c.in-Ok-several.ensures in
+    inr (record {
+      disks = c.in-Ok-several.disks.items;
+      blank = record { count = disks.count; sizes = disks.sizes; zeros = disks.zeros; fresh = disks.fresh };
+      pool = c.in-Ok.pool;
+      config = c.in-Ok.config;
+      asked = c.in-Ok.ensures;
+      refusal = c.in-Err.refusal;
+      refused = c.in-Err.ensures.refused;
+      same = c.cause_of.ensures;
+    })

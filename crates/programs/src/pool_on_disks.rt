@@ -1,0 +1,214 @@
+//! Pools on disks that outlive them: they can be stopped, and their disks opened again.
+ghost use Rattle.std.specs.Prelude.{◌≡◌, ◌<◌, ◌⊎◌, ℕ, List, None, Some, IfOk, MatchOption};
+ghost use Rattle.std.specs.List.{AllByRecursion};
+ghost use Rattle.pool_core.specs.Represents.{Represents};
+ghost use Rattle.pool_core.specs.State.{CoreState};
+ghost use Rattle.pool_model.specs.View.{View};
+ghost use Rattle.schedule_lines.specs.declared.command.Command.{Command};
+ghost use Rattle.programs.specs.Answers.{IsNoStep};
+ghost use Rattle.programs.specs.OnDisks.{Closes, ComesOf, PoolState, Reopens, RunsShort, RunsWhole};
+ghost use Rattle.programs.specs.OnDisks.{StopsThere, TakesSteps, point_of, state_of};
+ghost use Rattle.programs.specs.Plays.{Plays};
+ghost use Rattle.programs.specs.Runs.{IsOneRun, IsStoppedRun};
+ghost use Rattle.programs.specs.declared.outcome.Outcome.{Outcome as Printed};
+
+use crate::commands::{answer, first_step, runs_on};
+use crate::disks_kept::{copies, put_back};
+use crate::machine::StepMachine;
+use crate::outcome::Outcome;
+use crate::schedule_pool::SchedulePool;
+use crate::stopping::{Point, commit_point, run_to};
+use model_disk::{MemDisk, Member};
+use pool_core::Core;
+use pool_model::Refusal;
+use pool_open::{OpenedPool, open};
+use schedule_lines::{Command, PoolLine, ReopenLine, StopPoint};
+use std::alloc::{AllocError, Global};
+
+/// A pool on disks in memory that outlive it.
+#[derive(Drop)]
+pub struct PoolOnDisks {
+    /// The pool, while it runs.
+    core: Option<Core<Member<MemDisk>>>,
+    /// All disks, by number. Those that a core has are as they were when it was made or opened.
+    disks: Vec<MemDisk>,
+    /// The numbers of the disks that are left out.
+    absent: Vec<u32>,
+    /// Where the next commit stops.
+    stop: Option<StopPoint>,
+}
+
+impl PoolOnDisks {
+    /// Where this command stops.
+    fn point_of(&self, command: &Command) -> Option<Point>
+        ensures { result ≡ point_of (state_of self.now) command.now }
+    {
+        if runs_on(command) {
+            commit_point(self.disks.len(), &self.absent, self.stop)
+        } else {
+            None
+        }
+    }
+
+    /// Drops the core, where one runs, and keeps its disks.
+    fn close(&mut self)
+        ensures core { (state_of self.new).core ≡ None }
+        ensures disks { Closes (state_of self.old).core (state_of self.old).disks
+            (state_of self.new).disks }
+        ensures absent { (state_of self.new).absent ≡ (state_of self.old).absent }
+        ensures stop { (state_of self.new).stop ≡ (state_of self.old).stop }
+    {
+        if let Some(core) = self.core.take() {
+            put_back(&mut self.disks, core.into_disks());
+        }
+    }
+
+    /// Runs a command for which no stop is set.
+    fn run_whole(&mut self, alloc: Global, command: Command) -> Result<Option<Outcome>, AllocError>
+        requires step { IsNoStep command → ⊥ }
+        requires unset { point_of (state_of self.old) command ≡ None }
+        ensures { IfOk result (λ found. MatchOption found ((state_of self.old).core ≡ None)
+            (λ outcome. RunsWhole (state_of self.old) command outcome (state_of self.new))) }
+    {
+        match &mut self.core {
+            None => Ok(None),
+            Some(core) => match answer(alloc, core, command)? {
+                None => Ok(None),
+                Some(reply) => Ok(Some(Outcome::Replied(reply))),
+            },
+        }
+    }
+
+    /// Runs a commit to the point at which it stops.
+    fn run_to_point(
+        &mut self,
+        alloc: Global,
+        command: Command,
+        point: Point,
+    ) -> Result<Option<Outcome>, AllocError>
+        requires step { IsNoStep command → ⊥ }
+        requires set { point_of (state_of self.old) command ≡ Some point }
+        ensures { IfOk result (λ found. MatchOption found ((state_of self.old).core ≡ None)
+            (λ outcome. RunsShort (state_of self.old) command outcome (state_of self.new)
+            ⊎ StopsThere (state_of self.old) command outcome (state_of self.new))) }
+    {
+        let Some(step) = first_step(alloc, command)? else {
+            return Ok(None);
+        };
+        let Some(core) = &mut self.core else {
+            return Ok(None);
+        };
+        let Some(reply) = run_to(core, step, point) else {
+            self.close();
+            self.stop = None;
+            return Ok(Some(Outcome::Stopped));
+        };
+        Ok(Some(Outcome::Replied(reply)))
+    }
+
+    /// Runs a command that is a step of the pool: none where no pool runs.
+    fn run_steps(&mut self, alloc: Global, command: Command) -> Result<Option<Outcome>, AllocError>
+        requires step { IsNoStep command → ⊥ }
+        ensures { IfOk result (λ found. MatchOption found ((state_of self.old).core ≡ None)
+            (λ outcome. TakesSteps (state_of self.old) command outcome (state_of self.new))) }
+    {
+        match self.point_of(&command) {
+            None => self.run_whole(alloc, command),
+            Some(point) => self.run_to_point(alloc, command, point),
+        }
+    }
+
+    /// Opens the disks again.
+    fn reopen(&mut self, alloc: Global, line: ReopenLine) -> Result<Outcome, AllocError>
+        requires { line.rewind < 3 }
+        ensures { IfOk result (λ outcome.
+            Reopens (state_of self.old) line outcome (state_of self.new)) }
+    {
+        self.close();
+        self.absent = line.absent.into_vec();
+        let handed_in = copies(alloc, &self.disks, &self.absent)?;
+        match open(alloc, handed_in, line.rewind) {
+            Ok(OpenedPool { core, uberblock }) => {
+                self.core = Some(core);
+                Ok(Outcome::Opened {
+                    group: uberblock.group,
+                    claim: uberblock.claim,
+                })
+            }
+            Err(refusal) => Ok(Outcome::Unopened(refusal)),
+        }
+    }
+}
+
+impl SchedulePool for PoolOnDisks {
+    ghost use Rattle.programs.specs.Making.{IsMadePool, RefusesOnDisks};
+    ghost use Rattle.programs.specs.OnDisks.{CannotStand, ComesOf, state_of};
+
+    ghost creates = { λ line pool. IsMadePool line (state_of pool) };
+
+    ghost refuses = { RefusesOnDisks };
+
+    ghost outcomes = { λ old command outcome new.
+        ComesOf (state_of old) command outcome (state_of new) };
+
+    ghost faults = { λ pool command. CannotStand (state_of pool) command };
+
+    fn create(alloc: Global, line: &PoolLine) -> Result<PoolOnDisks, Refusal> {
+        let core = <Core<Member<MemDisk>> as StepMachine>::create(alloc, line)?;
+        let Ok(disks) = MemDisk::several(alloc, line.disks as usize, line.bytes as usize) else {
+            return Err(Refusal::NoMemory);
+        };
+        Ok(PoolOnDisks {
+            core: Some(core),
+            disks,
+            absent: Vec::new(alloc),
+            stop: None,
+        })
+    }
+
+    fn run_command(
+        &mut self,
+        alloc: Global,
+        command: Command,
+    ) -> Result<Option<Outcome>, AllocError> {
+        match command {
+            Command::Pool(_) | Command::Stop(StopPoint::Claim { .. }) => Ok(None),
+            Command::Stop(point) => {
+                self.stop = Some(point);
+                Ok(Some(Outcome::StopIsSet))
+            }
+            Command::Reopen(line) => {
+                if line.rewind >= 3 {
+                    return Ok(None);
+                }
+                Ok(Some(self.reopen(alloc, line)?))
+            }
+            other => self.run_steps(alloc, other),
+        }
+    }
+}
+
+/// A law: where no stop is set, the commands that a pool on disks answers up to the next reopening are one run of its core, from each
+/// view that it represents, with the whole headline.
+pub fn commands_are_runs(first: &PoolOnDisks)
+    ensures { (last : _) (core : CoreState) (v : View) (commands : List Command) (text : List ℕ)
+        → (state_of first.now).core ≡ Some core → (state_of first.now).stop ≡ None
+        → Represents core v → AllByRecursion (λ command. ¬ IsNoStep command) commands
+        → Plays (λ old command outcome new. ComesOf (state_of old) command outcome (state_of new))
+        first.now commands text last
+        → (end : CoreState) × ((state_of last).core ≡ Some end)
+        × IsOneRun core v commands text end }
+{
+    let _ = first;
+}
+
+/// A law: the steps of a commit that is stopped are one run of the core too, and its disks are those that are kept.
+pub fn stopped_commits_are_runs(first: &PoolOnDisks)
+    ensures { (core : CoreState) (v : View) (command : Command) (outcome : Printed) (new : PoolState)
+        → (state_of first.now).core ≡ Some core → Represents core v
+        → (stops : StopsThere (state_of first.now) command outcome new)
+        → IsStoppedRun core v stops.first stops.later
+        × Closes (Some stops.later) (state_of first.now).disks new.disks }
+{
+    let _ = first;
+}
