@@ -1,3 +1,4 @@
 pub mod Filled
 pub mod Standing
 pub mod Trees
+pub mod Holding

@@ -34,7 +34,7 @@ sides : (at n i : ℕ) → (i < at) ⊎ ((at + n ≤ i) ⊎ ((at ≤ i) × (i < 
 sides at n i = grind arith
 
 -- the disk is there
-its_disk : (starts : List (List ℕ)) (spaces : List VdevSpace) (disk i : ℕ) → IsLaidOut starts spaces → IsForBlocks spaces disk i → disk < length starts
+pub its_disk : (starts : List (List ℕ)) (spaces : List VdevSpace) (disk i : ℕ) → IsLaidOut starts spaces → IsForBlocks spaces disk i → disk < length starts
 its_disk starts spaces disk i laid is = omega (arith, (laid.room is.v is.space is.found).disks, is.last)
 
 off_labels : (starts : List (List ℕ)) (spaces : List VdevSpace) (disk i : ℕ) → LieBesideLabels starts spaces → IsForBlocks spaces disk i

@@ -1,18 +1,23 @@
 -- Where the disks of a running pool stand, with what is filled as the tree of each root: no list of blocks is needed.
-use Rattle.std.specs.Prelude.{ℕ, ◌≡◌, ◌∷◌, Bool, true, false, List, length}
+use Rattle.std.specs.Prelude.{ℕ, ◌≡◌, ◌∷◌, Bool, true, false, Some, List, length}
 use Rattle.model_disk.specs.Contents.{covers}
 use Rattle.model_disk.specs.Joint.{Disks, content}
 use Rattle.model_disk.specs.Runs.{Makes, no_write}
 use Rattle.uberblock_ring.specs.Uberblock.{Fits}
 use Rattle.uberblock_ring.specs.declared.uberblock.Uberblock.{Uberblock}
+use Rattle.block_pointer.specs.declared.block.Block.{Block}
+use Rattle.raidz_io.specs.Stands.{ExtentStands}
+use Rattle.raidz_io.specs.declared.vdev.Extent.{Extent}
+use Rattle.block_store.specs.Blocks.{Contents}
 use Rattle.block_store.specs.Elsewhere.{IsForBlocks}
-use Rattle.block_store.specs.Places.{IsLaidOut}
+use Rattle.block_store.specs.Places.{IsCopy, IsLaidOut}
+use Rattle.block_store.specs.Store.{Store, Stores, outs}
 use Rattle.block_store.specs.Spaces.{VdevSpace}
 use Rattle.pool_commit.specs.Slots.{LabelsLieAside}
 use Rattle.pool_slots.specs.Commits.{LeadAlways, last_or, only_last}
 use Rattle.pool_slots.specs.Lives.{IsNextGroup}
 use Rattle.pool_slots.specs.Phases.{AreInBlocks, AreInSlots}
-use Rattle.pool_slots.specs.Possible.{Trees}
+use Rattle.pool_slots.specs.Possible.{TreeStands, Trees}
 use Rattle.pool_slots.specs.Slots.{AreSettled}
 use Rattle.pool_slots.specs.Writes.{IsSlotWrite, SlotsStand, in_use}
 use Rattle.pool_stops.specs.Filled.{all_picked, is_filled, is_for_blocks}
@@ -37,7 +42,19 @@ pub record LieBesideLabels (starts : List (List ℕ)) (spaces : List VdevSpace) 
   pub laid : IsLaidOut starts spaces
   pub labels : LabelsLieAside starts spaces
 
+-- of each copy of a stored block the columns stand on the disks that are not out
+abbrev pub AllStand : Store → Contents → Disks → Type 0
+AllStand store stored disks =
+    (block : Block) (bytes : List ℕ) (i : ℕ) (extent : Extent) → stored block ≡ Some bytes → IsCopy store.spaces block i extent
+    → ExtentStands (content disks) (outs store) extent bytes
+
 -- ---- laws
+
+-- Wherever all that a store has filled stands, on disks in use, its blocks do.
+abbrev pub FilledTreesHoldBlocks : Type 0
+FilledTreesHoldBlocks =
+    (store : Store) (stored : Contents) (disks : Disks) (root : Block) → LieBesideLabels store.disks.starts store.spaces → length store.out ≡ length store.disks.starts
+    → Stores store stored → TreeStands (filled_trees store.spaces store.disks) store.out (content disks) root → AllStand store stored disks
 
 -- In the blocks phase what isn't filled may be written, whatever the plan, and less may be filled from then on: the phase goes on, and stopped at any
 -- moment the disks lead to the last uberblock.

@@ -1,6 +1,6 @@
 //! Laws of the bytes that are filled, and of where the disks stand with them: what each ensures follows from the definitions alone.
 ghost use Rattle.pool_stops.specs.Filled.{BlocksAreFilled, FilledBytesAreForBlocks, FreePlacesAreUnfilled};
-ghost use Rattle.pool_stops.specs.Standing.{BlocksKeepWhatIsFilled, CommitsEndFilled, SlotsBeginBehindBlocks, SlotsKeepWhatIsForBlocks};
+ghost use Rattle.pool_stops.specs.Standing.{BlocksKeepWhatIsFilled, CommitsEndFilled, FilledTreesHoldBlocks, SlotsBeginBehindBlocks, SlotsKeepWhatIsForBlocks};
 
 use pool_slots::stepwise::{blocks_phase, slots_phase};
 
@@ -17,6 +17,11 @@ pub fn free_places_are_unfilled()
 /// Each byte that is filled lies in the sectors for blocks, and so beside labels.
 pub fn filled_bytes_are_for_blocks()
     ensures { FilledBytesAreForBlocks }
+{}
+
+/// Where all that is filled stands on disks in use, each stored block may be read of them.
+pub fn filled_trees_hold_blocks()
+    ensures { FilledTreesHoldBlocks }
 {}
 
 /// While blocks are written, and between commits.

@@ -1,0 +1,65 @@
+-- Blocks stand where what is filled stands.
+use Rattle.std.proofs.Common.{ℕ, zero, suc, ◌≡◌, ◌⊎◌, inl, inr, ◌+◌, ◌<◌, Bool, true, false, List, [], ◌∷◌, length, Some, None, Contains, refl, sym, ap, subst, ◌∙◌, arith}
+use Rattle.std.specs.List.{slice_get}
+use Rattle.model_disk.specs.Joint.{content}
+use Rattle.raidz_io.specs.Elsewhere.{IsOfExtent}
+use Rattle.raidz_io.specs.Places.{disk_of, offset_of}
+use Rattle.raidz_io.specs.Stands.{all_columns}
+use Rattle.raidz_io.proofs.Written.{size_at, slice_get_some}
+use Rattle.block_store.specs.Elsewhere.{IsForBlocks}
+use Rattle.block_store.specs.Store.{Store, is_out, lost, outs}
+use Rattle.block_store.proofs.Lost.{lost_is_out}
+use Rattle.block_store.proofs.Outs.{out_from}
+use Rattle.pool_slots.specs.Slots.{InUse}
+use Rattle.pool_stops.specs.Filled.{is_filled}
+use Rattle.pool_stops.specs.Standing.{FilledTreesHoldBlocks}
+use Rattle.pool_stops.proofs.Filled.{blocks_are_filled, filled_bytes_are_for_blocks}
+use Rattle.pool_stops.proofs.Standing.{its_disk}
+use Rattle.pool_stops.proofs.Trees.{if_so}
+
+-- a disk that is there and not out is in use
+get_in_use : (out : List Bool) (disk : ℕ) → disk < length out → is_out out disk ≡ false → slice_get out disk ≡ Some false
+get_in_use [] disk there not = absurd (omega (arith, there))
+get_in_use (flag ∷ out) zero there not = ap Some not
+get_in_use (flag ∷ out) (suc disk) there not = get_in_use out disk (omega (arith, there)) not
+
+flag_is : (flag : Bool) → (flag ≡ true) ⊎ (flag ≡ false)
+flag_is true = inl refl
+flag_is false = inr refl
+
+used : (store : Store) (disk : ℕ) → disk < length store.out → ¬ Contains (outs store) disk → InUse store.out disk
+used store disk there present = elim (flag_is (is_out store.out disk)) [
+  | inl out ↦ absurd (present (let same : 0 + disk ≡ disk = omega arith in subst (λ (n : ℕ). Contains (outs store) n) same (out_from store.out 0 disk out)))
+  | inr not ↦ get_in_use store.out disk there not
+]
+
+pub filled_trees_hold_blocks : FilledTreesHoldBlocks
+filled_trees_hold_blocks store stored disks root lie count stores tree block bytes i extent known copy =
+    let stands = stores.held.stand block bytes i extent known copy in
+    let taken = stores.placed.places block bytes i copy.place known copy.is_copy in
+    record {
+      layout = stands.layout;
+      columns = stands.columns;
+      is_layout = stands.is_layout;
+      are_bytes = stands.are_bytes;
+      stand = λ k column column_bytes at at' present j within.
+          let disk : ℕ = disk_of extent.vdev column in
+          let place : ℕ = offset_of column + j in
+          let of : IsOfExtent extent disk place = record {
+            k = k;
+            column = column;
+            is_column = stands.is_layout.places k column at;
+            which = refl;
+            from_first = omega arith;
+            before_end = omega (arith, within, size_at (all_columns stands.columns) stands.layout k column column_bytes stands.are_bytes.sizes at at');
+          } in
+          let filled : is_filled store.spaces disk place ≡ true = blocks_are_filled store.spaces block.property.sectors copy.place extent disk place taken copy.extent_is of in
+          let for_blocks : IsForBlocks store.spaces disk place = filled_bytes_are_for_blocks store.spaces disk place filled in
+          let there : disk < length store.out = omega (arith, its_disk store.disks.starts store.spaces disk place lie.laid for_blocks, count) in
+          let held : content store.disks disk place ≡ slice_get column_bytes j =
+          stands.stand k column column_bytes at at' (λ gone. present (lost_is_out store block.birth disk gone)) j within in
+          let value = slice_get_some column_bytes j within in
+          tree disk place value.0 (used store disk there present)
+          (if_so (is_filled store.spaces disk place) (content store.disks disk place) None filled ∙ held ∙ value.1)
+          ∙ sym value.1;
+    }
