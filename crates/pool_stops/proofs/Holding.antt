@@ -1,5 +1,5 @@
--- Blocks stand where what is filled stands.
-use Rattle.std.proofs.Common.{ℕ, zero, suc, ◌≡◌, ◌⊎◌, inl, inr, ◌+◌, ◌<◌, Bool, true, false, List, [], ◌∷◌, length, Some, None, Contains, refl, sym, ap, subst, ◌∙◌, arith}
+-- Blocks stand where what is filled stands, and plans write beside it.
+use Rattle.std.proofs.Common.{ℕ, zero, suc, ◌≡◌, ◌⊎◌, inl, inr, ◌+◌, ◌<◌, ◌≤◌, Bool, true, false, List, [], ◌∷◌, length, Some, None, Contains, refl, sym, ap, subst, ◌∙◌, arith}
 use Rattle.std.specs.List.{slice_get}
 use Rattle.model_disk.specs.Joint.{content}
 use Rattle.raidz_io.specs.Elsewhere.{IsOfExtent}
@@ -10,10 +10,15 @@ use Rattle.block_store.specs.Elsewhere.{IsForBlocks}
 use Rattle.block_store.specs.Store.{Store, is_out, lost, outs}
 use Rattle.block_store.proofs.Lost.{lost_is_out}
 use Rattle.block_store.proofs.Outs.{out_from}
+use Rattle.block_store.proofs.Sectors.{lie_in_sectors}
+use Rattle.block_store.proofs.Writing.{found_at}
+use Rattle.model_disk.specs.Contents.{covers}
+use Rattle.raidz_io.proofs.Kept.{written_of}
+use Rattle.std.proofs.lemmas.Bool.Decides.{nat_tests}
 use Rattle.pool_slots.specs.Slots.{InUse}
 use Rattle.pool_stops.specs.Filled.{is_filled}
-use Rattle.pool_stops.specs.Standing.{FilledTreesHoldBlocks}
-use Rattle.pool_stops.proofs.Filled.{blocks_are_filled, filled_bytes_are_for_blocks}
+use Rattle.pool_stops.specs.Standing.{DueWritesAreUnfilled, FilledTreesHoldBlocks}
+use Rattle.pool_stops.proofs.Filled.{blocks_are_filled, filled_bytes_are_for_blocks, free_places_are_unfilled}
 use Rattle.pool_stops.proofs.Standing.{its_disk}
 use Rattle.pool_stops.proofs.Trees.{if_so}
 
@@ -63,3 +68,24 @@ filled_trees_hold_blocks store stored disks root lie count stores tree block byt
           (if_so (is_filled store.spaces disk place) (content store.disks disk place) None filled ∙ held ∙ value.1)
           ∙ sym value.1;
     }
+
+-- ---- plans
+
+covered : (at n i : ℕ) → covers at n i ≡ true → (at ≤ i) × (i < at + n)
+covered at n i is = (grind (arith, nat_tests, is), grind (arith, nat_tests, is))
+
+pub due_writes_are_unfilled : DueWritesAreUnfilled
+due_writes_are_unfilled store stored planned lie plans free which at bytes due i is =
+    let of = plans.due due.write due.is_due in
+    let way = plans.on_the_way of.block of.bytes of.i of.extent of.is_planned of.is_new of.is_copy in
+    let at_k = found_at (plans.writes_of of.block of.i) due.write of.is_of_copy in
+    let column = way.columns at_k.0 due.write at_k.1 in
+    let inside : (at ≤ i) × (i < at + length bytes) = covered at (length bytes) i is in
+    let byte : IsOfExtent of.extent which i =
+    written_of of.extent at_k.0 due.write which i column
+    (record { which = due.disk; from_first = omega (arith, inside.0, due.place); before_end = omega (arith, inside.1, due.place, ap length due.same) }) in
+    let lies = free of.block of.bytes of.is_planned of.is_new of.i of.is_copy.place of.is_copy.is_copy in (
+      lie_in_sectors store.spaces of.block.property.sectors of.is_copy.place of.extent which i
+          (record { space = lies.space; found = lies.found; is_place = lies.is_place }) of.is_copy.extent_is byte,
+      free_places_are_unfilled store.disks.starts store.spaces of.block.property.sectors of.is_copy.place of.extent which i lie.laid lies of.is_copy.extent_is byte,
+    )

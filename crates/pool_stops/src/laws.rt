@@ -1,6 +1,7 @@
 //! Laws of the bytes that are filled, and of where the disks stand with them: what each ensures follows from the definitions alone.
 ghost use Rattle.pool_stops.specs.Filled.{BlocksAreFilled, FilledBytesAreForBlocks, FreePlacesAreUnfilled};
-ghost use Rattle.pool_stops.specs.Standing.{BlocksKeepWhatIsFilled, CommitsEndFilled, FilledTreesHoldBlocks, SlotsBeginBehindBlocks, SlotsKeepWhatIsForBlocks};
+ghost use Rattle.pool_stops.specs.Standing.{BlocksKeepWhatIsFilled, CommitsEndFilled, DueWritesAreUnfilled};
+ghost use Rattle.pool_stops.specs.Standing.{FilledTreesHoldBlocks, SlotsBeginBehindBlocks, SlotsKeepWhatIsForBlocks};
 
 use pool_slots::stepwise::{blocks_phase, slots_phase};
 
@@ -22,6 +23,11 @@ pub fn filled_bytes_are_for_blocks()
 /// Where all that is filled stands on disks in use, each stored block may be read of them.
 pub fn filled_trees_hold_blocks()
     ensures { FilledTreesHoldBlocks }
+{}
+
+/// A plan whose blocks lie in places that are free without it writes beside all that is filled.
+pub fn due_writes_are_unfilled()
+    ensures { DueWritesAreUnfilled }
 {}
 
 /// While blocks are written, and between commits.
