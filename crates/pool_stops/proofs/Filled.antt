@@ -17,12 +17,14 @@ use Rattle.raidz_io.specs.declared.vdev.Vdev.{Vdev}
 use Rattle.raidz_io.proofs.Written.{same_some}
 use Rattle.space_map.specs.Sectors.{names}
 use Rattle.block_store.specs.Elsewhere.{IsForBlocks}
-use Rattle.block_store.specs.Places.{EachSector, IsExtentAt, IsFree, IsLaidOut, IsNotFree, IsTaken, filled, run_at}
+use Rattle.block_store.specs.Places.{EachSector, IsExtentAt, IsFree, IsLaidOut, IsNotFree, IsTaken, filled, run_at, shapes_of}
 use Rattle.block_store.specs.Shapes.{IsPlace, metaslab_of, metaslab_sectors, sector_of, vdev_sectors}
 use Rattle.block_store.specs.Spaces.{VdevSpace}
 use Rattle.block_store.specs.Uses.{LiesOn}
 use Rattle.block_store.specs.declared.shape.VdevShape.{VdevShape}
-use Rattle.block_store.proofs.Taking.{ends_before}
+use Rattle.block_store.proofs.Taking.{ends_before, found_too}
+use Rattle.block_store.specs.Accounts.{SectorAt}
+use Rattle.pool_commit.specs.Space.{IsFor}
 use Rattle.pool_stops.specs.Filled.{BlocksAreFilled, FilledBytesAreForBlocks, FreePlacesAreUnfilled, is_filled, is_filled_sector, is_for_blocks, is_in_vdev, is_taken, is_taken_in, sector_at}
 
 -- ---- tests
@@ -282,3 +284,53 @@ picked_are_for_blocks spaces disk i is =
     let some = any_from (λ (s : VdevSpace). is_in_vdev s.shape disk i) spaces is in
     let inside = in_vdev_told some.1 disk i some.3 in
     record { v = some.0; space = some.1; found = some.2; first = inside.0; last = inside.1; from = inside.2; before = inside.3 }
+
+-- ---- other marks
+
+-- a sector that is taken isn't free
+taken_is_not_free : (s : State) → is_taken s ≡ true → s ≢ Free
+taken_is_not_free Free is = absurd (true≢false (sym is))
+taken_is_not_free InUse is = λ free. cc
+taken_is_not_free (Released group) is = λ free. cc
+
+some_taken : (o : Option Space) (sector : ℕ) → is_taken_in o sector ≡ true → (metaslab : Space) × (o ≡ Some metaslab) × (is_taken (state metaslab sector) ≡ true)
+some_taken None sector is = absurd (true≢false (sym is))
+some_taken (Some metaslab) sector is = (metaslab, refl, is)
+
+-- where no sector is filled that was free, no byte is
+pub filled_no_more : (spaces later : List VdevSpace) → shapes_of later ≡ shapes_of spaces
+    → ((at : SectorAt) → IsFor IsNotFree later filled at → IsFor IsNotFree spaces filled at) → (disk i : ℕ) → is_filled later disk i ≡ true → is_filled spaces disk i ≡ true
+filled_no_more spaces later shapes fewer disk i is =
+    let some = any_from (λ (s : VdevSpace). is_in_vdev s.shape disk i && is_filled_sector s (sector_at s.shape disk i)) later is in
+    let space : VdevSpace = some.1 in
+    let t : ℕ = sector_at space.shape disk i in
+    let inside : is_in_vdev space.shape disk i ≡ true = first_of (is_in_vdev space.shape disk i) (is_filled_sector space t) some.3 in
+    let sector : is_filled_sector space t ≡ true = second_of (is_in_vdev space.shape disk i) (is_filled_sector space t) some.3 in
+    let metaslab : ℕ = t / metaslab_sectors space.shape in
+    let at : SectorAt = record { vdev = some.0; metaslab = metaslab; sector = t % metaslab_sectors space.shape } in
+    let taken = some_taken (slice_get (filled space) metaslab) (t % metaslab_sectors space.shape) sector in
+    let before = fewer at (record {
+      space = space;
+      found = some.2;
+      metaslab = taken.0;
+      there = taken.1;
+      used = taken_is_not_free (state taken.0 (t % metaslab_sectors space.shape)) taken.2;
+    }) in
+    let was = found_too later spaces some.0 space (sym shapes) some.2 in
+    let same : before.space ≡ was.0 = same_some before.space was.0 (sym before.found ∙ was.1) in
+    let shape : before.space.shape ≡ space.shape = ap (λ (s : VdevSpace). s.shape) same ∙ was.2 in
+    let holds : is_taken_in (slice_get (filled before.space) metaslab) (t % metaslab_sectors space.shape) ≡ true =
+    ap (λ (o : Option Space). is_taken_in o (t % metaslab_sectors space.shape)) before.there
+    ∙ taken_not_free (state before.metaslab (t % metaslab_sectors space.shape)) before.used in
+    any_at (λ (s : VdevSpace). is_in_vdev s.shape disk i && is_filled_sector s (sector_at s.shape disk i)) spaces some.0 before.space before.found
+    (both (is_in_vdev before.space.shape disk i) (is_filled_sector before.space (sector_at before.space.shape disk i))
+    (ap (λ (s : VdevShape). is_in_vdev s disk i) shape ∙ inside)
+    (ap (λ (s : VdevShape). is_taken_in (slice_get (filled before.space) (sector_at s disk i / metaslab_sectors s)) (sector_at s disk i % metaslab_sectors s)) shape ∙ holds))
+
+-- what is filled is for blocks of vdevs of the same shapes
+pub filled_for_blocks : (spaces later : List VdevSpace) (disk i : ℕ) → shapes_of later ≡ shapes_of spaces → is_filled later disk i ≡ true → is_for_blocks spaces disk i ≡ true
+filled_for_blocks spaces later disk i shapes is =
+    let some = any_from (λ (s : VdevSpace). is_in_vdev s.shape disk i && is_filled_sector s (sector_at s.shape disk i)) later is in
+    let inside : is_in_vdev some.1.shape disk i ≡ true = first_of (is_in_vdev some.1.shape disk i) (is_filled_sector some.1 (sector_at some.1.shape disk i)) some.3 in
+    let was = found_too later spaces some.0 some.1 (sym shapes) some.2 in
+    any_at (λ (s : VdevSpace). is_in_vdev s.shape disk i) spaces some.0 was.0 was.1 (ap (λ (s : VdevShape). is_in_vdev s disk i) was.2 ∙ inside)

@@ -2,3 +2,4 @@ pub mod Filled
 pub mod Standing
 pub mod Trees
 pub mod Holding
+pub mod Phases

@@ -1,9 +1,10 @@
 //! Laws of the bytes that are filled, and of where the disks stand with them: what each ensures follows from the definitions alone.
 ghost use Rattle.pool_stops.specs.Filled.{BlocksAreFilled, FilledBytesAreForBlocks, FreePlacesAreUnfilled};
+ghost use Rattle.pool_stops.specs.Phases.{PhasesEnd, PhasesGoOn, PlansKeepThePhase};
 ghost use Rattle.pool_stops.specs.Standing.{BlocksKeepWhatIsFilled, CommitsEndFilled, DueWritesAreUnfilled};
 ghost use Rattle.pool_stops.specs.Standing.{FilledTreesHoldBlocks, SlotsBeginBehindBlocks, SlotsKeepWhatIsForBlocks};
 
-use pool_slots::stepwise::{blocks_phase, slots_phase};
+use pool_slots::stepwise::{blocks_phase, reads_and_flushes_keep, slots_phase};
 
 /// Each byte of a block whose sectors are taken is filled.
 pub fn blocks_are_filled()
@@ -58,4 +59,29 @@ pub fn commits_end_filled()
 {
     blocks_phase();
     slots_phase();
+}
+
+/// With the device calls of a plan, as long as no disk goes out.
+pub fn phases_go_on()
+    ensures { PhasesGoOn }
+{
+    blocks_keep_what_is_filled();
+    slots_begin_behind_blocks();
+    slots_keep_what_is_for_blocks();
+    reads_and_flushes_keep();
+}
+
+/// As a group is planned, or refused.
+pub fn plans_keep_the_phase()
+    ensures { PlansKeepThePhase }
+{
+    blocks_keep_what_is_filled();
+}
+
+/// With the last device calls of a plan.
+pub fn phases_end()
+    ensures { PhasesEnd }
+{
+    slots_keep_what_is_for_blocks();
+    commits_end_filled();
 }

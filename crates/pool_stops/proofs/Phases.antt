@@ -1,0 +1,165 @@
+-- The phase of a plan goes on with its device calls.
+use Rattle.std.proofs.Common.{ℕ, ◌≡◌, ◌⊎◌, ⊎_elim, inl, inr, ◌<◌, Bool, List, [], ◌∷◌, length, Some, Contains, refl, sym, ap, subst, ◌∙◌, arith}
+use Rattle.std.proofs.Common.{All}
+use Rattle.std.proofs.lemmas.List.Elements.{All-cons, All-nil}
+use Rattle.model_disk.specs.Call.{Call, Read, FailedRead, Wrote, FailedWrite, Flushed, FailedFlush}
+use Rattle.model_disk.specs.Joint.{Disks, JointCall, bytes_of, calls_on}
+use Rattle.model_disk.specs.Runs.{IsSettled, Makes, WritesOnly, no_write}
+use Rattle.model_disk.proofs.RunLemmas.{Makes-wider}
+use Rattle.raidz_io.specs.Reads.{AreReads, IsRead, OnlyReads}
+use Rattle.pool_stops.proofs.Filled.{filled_for_blocks, filled_no_more}
+use Rattle.uberblock_ring.specs.Slot.{slot_number}
+use Rattle.uberblock_ring.specs.declared.uberblock.Uberblock.{Uberblock}
+use Rattle.block_store.specs.Spaces.{VdevSpace}
+use Rattle.pool_commit.specs.declared.kept.Planned.{Planned}
+use Rattle.pool_commit.specs.State.{State}
+use Rattle.pool_commit.specs.Writing.{IsDueSlot, IsDueWrite, may_write}
+use Rattle.pool_slots.specs.Commits.{LeadAlways, last_or, only_last}
+use Rattle.pool_slots.specs.PhaseLaws.{ReadsAndFlushesKeep}
+use Rattle.pool_slots.specs.Phases.{AreInBlocks, AreInSlots}
+use Rattle.pool_slots.specs.Slots.{AreSettled, InUse, slot_at, spelled}
+use Rattle.pool_slots.specs.Writes.{IsSlotWrite, in_use}
+use Rattle.pool_stops.specs.Phases.{GoesOn, IsBeforeSlots, IsInPhase, IsInSlots, MayBeMade, Ends, PhasesEnd, PhasesGoOn, PlansKeepThePhase, StopsWell}
+use Rattle.pool_stops.specs.Standing.{BlocksKeepWhatIsFilled, CommitsEndFilled, SlotsBeginBehindBlocks, SlotsKeepWhatIsForBlocks, block_trees, filled_trees, unfilled_write}
+
+-- ---- which writes
+
+none_among : {A : Type 0} (x : A) → ¬ Contains [] x
+none_among x (k, within, is) = absurd (omega (arith, within))
+
+-- a slot of the plan's uberblock that is due
+slot_write : (s : State) (plan : Planned) (last : Uberblock) (which at : ℕ) (bytes : List ℕ) → MayBeMade s plan last
+    → IsDueSlot s.store.disks.starts plan.uberblock plan.behind.slots.items which at bytes → IsSlotWrite s.store.disks.starts plan.uberblock (in_use s.store.out) which at bytes
+unfolding slot_at spelled
+slot_write s plan last which at bytes may due =
+    let it = may.slots due.write due.is_due in
+    record {
+      label = due.write.label;
+      is_label = it.0;
+      picked = subst (λ (n : ℕ). InUse s.store.out n) (sym due.disk) it.1;
+      place = due.place ∙ ap (λ (n : ℕ). slot_at (length (bytes_of s.store.disks.starts n)) due.write.label (slot_number plan.uberblock.group)) (sym due.disk);
+      spells = due.same;
+    }
+
+is_empty : {A : Type 0} (xs : List A) → (xs ≡ []) ⊎ ¬ (xs ≡ [])
+is_empty [] = inl refl
+is_empty (x ∷ xs) = inr (λ is. cc)
+
+-- in the slots phase a plan's step writes slots alone
+slots_alone : (old new : State) (plan : Planned) (last : Uberblock) (before : List Uberblock) → MayBeMade old plan last → IsInSlots old plan last before
+    → Makes (may_write old plan) old.store.disks new.store.disks → Makes (IsSlotWrite old.store.disks.starts plan.uberblock (in_use old.store.out)) old.store.disks new.store.disks
+slots_alone old new plan last before may phase writes =
+    Makes-wider (may_write old plan) (IsSlotWrite old.store.disks.starts plan.uberblock (in_use old.store.out)) old.store.disks new.store.disks
+    (λ which at bytes is. ⊎_elim
+    (λ block. absurd (none_among block.write (subst (λ xs. Contains xs block.write) phase.written block.is_due)))
+    (λ slot. slot_write old plan last which at bytes may slot.2) is) writes
+
+-- ---- the slots phase
+
+in_slots : SlotsKeepWhatIsForBlocks → (old new : State) (plan after : Planned) (last : Uberblock) (before : List Uberblock) → MayBeMade old plan last → GoesOn old plan new after
+    → IsInSlots old plan last before → IsInPhase new after last before × StopsWell old plan new last before
+in_slots law old new plan after last before may goes phase =
+    let slots = slots_alone old new plan last before may phase (goes.writes.makes plan goes.planned) in
+    let went = law old.store.spaces old.store.out old.store.disks new.store.disks last before plan.uberblock may.lie may.fits phase.slots slots in
+    let same : after.uberblock ≡ plan.uberblock = (goes.writes.goes_on plan after goes.planned goes.still).uberblock in (
+      inr (record {
+        written = goes.due phase.written;
+        begun = goes.begun phase.begun;
+        slots = subst (λ (u : Uberblock). AreInSlots (block_trees new.store.spaces new.store.disks) new.store.out new.store.disks last before u) (sym same)
+            (subst (λ (out : List Bool). AreInSlots (block_trees new.store.spaces new.store.disks) out new.store.disks last before plan.uberblock) (sym goes.out)
+            (subst (λ (spaces : List VdevSpace). AreInSlots (block_trees spaces new.store.disks) old.store.out new.store.disks last before plan.uberblock) (sym goes.spaces) went.0));
+      }),
+      inr went.1,
+    )
+
+-- ---- before the slots
+
+-- with nothing due and no disk to be flushed, the slots phase has begun
+begins : SlotsBeginBehindBlocks → (s : State) (plan : Planned) (last : Uberblock) (before : List Uberblock) → MayBeMade s plan last → s.store.due ≡ []
+    → plan.behind.flushes.items ≡ [] → IsBeforeSlots s plan last before → IsInSlots s plan last before
+begins law s plan last before may due flushes phase =
+    let settled : AreSettled s.store.out s.store.disks.calls = λ disk used. ⊎_elim
+    (λ still. absurd (none_among disk (subst (λ xs. Contains xs disk) flushes still))) (λ done. done.1) (phase.flushed disk used) in
+    record {
+      written = due;
+      begun = flushes;
+      slots = law s.store.spaces s.store.out s.store.disks last before plan.uberblock may.lie phase.blocks settled may.next may.fits;
+    }
+
+-- blocks are written or disks flushed
+in_blocks : BlocksKeepWhatIsFilled → ReadsAndFlushesKeep → (old new : State) (plan after : Planned) (last : Uberblock) (before : List Uberblock) → MayBeMade old plan last
+    → GoesOn old plan new after → ¬ ((old.store.due ≡ []) × (plan.behind.flushes.items ≡ [])) → IsBeforeSlots old plan last before
+    → IsInPhase new after last before × StopsWell old plan new last before
+in_blocks law keep old new plan after last before may goes early phase =
+    let writes : Makes (may_write old plan) old.store.disks new.store.disks = goes.writes.makes plan goes.planned in
+    let blocks : Makes (IsDueWrite old.store.due) old.store.disks new.store.disks =
+    Makes-wider (may_write old plan) (IsDueWrite old.store.due) old.store.disks new.store.disks
+    (λ which at bytes is. ⊎_elim (λ block. block) (λ slot. absurd (early (slot.0, slot.1))) is) writes in
+    let unfilled : Makes (unfilled_write old.store.spaces) old.store.disks new.store.disks =
+    Makes-wider (IsDueWrite old.store.due) (unfilled_write old.store.spaces) old.store.disks new.store.disks may.unfilled blocks in
+    let went = law old.store.spaces old.store.spaces old.store.out old.store.disks new.store.disks last before may.lie (λ disk i is. is) phase.blocks unfilled in (
+      inl (record {
+        blocks = subst (λ (out : List Bool). AreInBlocks (filled_trees new.store.spaces new.store.disks) out new.store.disks last before) (sym goes.out)
+            (subst (λ (spaces : List VdevSpace). AreInBlocks (filled_trees spaces new.store.disks) old.store.out new.store.disks last before) (sym goes.spaces) went.0);
+        flushed = λ disk used. ⊎_elim (goes.flushed disk)
+            (λ done. inr (
+              goes.due done.0,
+              (keep (filled_trees old.store.spaces old.store.disks) old.store.out old.store.disks new.store.disks last before
+                  (Makes-wider (IsDueWrite old.store.due) (λ which at bytes. ⊥) old.store.disks new.store.disks
+                  (λ which at bytes block. none_among block.write (subst (λ xs. Contains xs block.write) done.0 block.is_due)) blocks)).settled disk done.1,
+            ))
+            (phase.flushed disk (subst (λ (out : List Bool). InUse out disk) goes.out used));
+      }),
+      inl went.1,
+    )
+
+pub phases_go_on : BlocksKeepWhatIsFilled → SlotsBeginBehindBlocks → SlotsKeepWhatIsForBlocks → ReadsAndFlushesKeep → PhasesGoOn
+phases_go_on blocks begin slots keep old new plan after last before may goes phase = ⊎_elim
+    (λ early. ⊎_elim
+    (λ due. ⊎_elim
+    (λ flushes. in_slots slots old new plan after last before may goes (begins begin old plan last before may due flushes early))
+    (λ some. in_blocks blocks keep old new plan after last before may goes (λ none. some none.1) early)
+    (is_empty plan.behind.flushes.items))
+    (λ some. in_blocks blocks keep old new plan after last before may goes (λ none. some none.0) early)
+    (is_empty old.store.due))
+    (in_slots slots old new plan after last before may goes) phase
+
+-- ---- plans
+
+block_read_made : (call : Call) → IsRead call → WritesOnly (λ at bytes. ⊥) call
+block_read_made (Read at bytes) is = tt
+block_read_made (FailedRead at n) is = tt
+block_read_made (Wrote at bytes) is = absurd is
+block_read_made (FailedWrite at bytes) is = absurd is
+block_read_made Flushed is = absurd is
+block_read_made FailedFlush is = absurd is
+
+reads_made : (calls : List JointCall) → AreReads calls → All (λ made. WritesOnly (λ at bytes. ⊥) made.call) calls
+reads_made [] reads = All-nil (λ it. WritesOnly (λ at bytes. ⊥) it.call)
+reads_made (made ∷ calls) reads =
+    All-cons (λ it. WritesOnly (λ at bytes. ⊥) it.call) made calls (block_read_made made.call reads.0) (reads_made calls reads.1)
+
+read_only : (spaces : List VdevSpace) (old new : Disks) → OnlyReads old new → Makes (unfilled_write spaces) old new
+read_only spaces old new reads =
+    Makes-wider no_write (unfilled_write spaces) old new (λ which at bytes is. absurd is)
+    (record { starts = reads.starts; newer = reads.newer; calls = reads.calls; writes = reads_made reads.newer reads.are_reads })
+
+pub plans_keep : BlocksKeepWhatIsFilled → PlansKeepThePhase
+plans_keep law old new last before lie from reads phase =
+    let went = law old.store.spaces new.store.spaces old.store.out old.store.disks new.store.disks last before lie
+    (filled_no_more old.store.spaces new.store.spaces from.shapes from.filled) phase (read_only old.store.spaces old.store.disks new.store.disks reads) in (
+      subst (λ (out : List Bool). AreInBlocks (filled_trees new.store.spaces new.store.disks) out new.store.disks last before) (sym from.out) went.0,
+      went.1,
+    )
+
+-- ---- the end
+
+pub phases_end : SlotsKeepWhatIsForBlocks → CommitsEndFilled → PhasesEnd
+phases_end law end old new plan last before may ends phase =
+    let slots = slots_alone old new plan last before may phase (ends.writes.makes plan ends.planned) in
+    let went = law old.store.spaces old.store.out old.store.disks new.store.disks last before plan.uberblock may.lie may.fits phase.slots slots in (
+      subst (λ (out : List Bool). AreInBlocks (filled_trees new.store.spaces new.store.disks) out new.store.disks plan.uberblock (last ∷ before)) (sym ends.out)
+          (end old.store.spaces new.store.spaces old.store.out new.store.disks last before plan.uberblock
+          (λ disk i is. filled_for_blocks old.store.spaces new.store.spaces disk i ends.writes.shapes is) went.0 ends.stand ends.settled),
+      went.1,
+    )
