@@ -19,7 +19,7 @@ use Rattle.pool_slots.specs.PhaseLaws.{ReadsAndFlushesKeep}
 use Rattle.pool_slots.specs.Phases.{AreInBlocks, AreInSlots}
 use Rattle.pool_slots.specs.Slots.{AreSettled, InUse, slot_at, spelled}
 use Rattle.pool_slots.specs.Writes.{IsSlotWrite, in_use}
-use Rattle.pool_stops.specs.Phases.{GoesOn, IsBeforeSlots, IsInPhase, IsInSlots, MayBeMade, Ends, PhasesEnd, PhasesGoOn, PlansKeepThePhase, StopsWell}
+use Rattle.pool_stops.specs.Phases.{StepGoesOn, IsBeforeSlots, IsInPhase, IsInSlots, IsGoodPlan, StepEnds, PhasesEnd, PhasesGoOn, PlansKeepThePhase, StopsWell}
 use Rattle.pool_stops.specs.Standing.{BlocksKeepWhatIsFilled, CommitsEndFilled, SlotsBeginBehindBlocks, SlotsKeepWhatIsForBlocks, block_trees, filled_trees, unfilled_write}
 
 -- ---- which writes
@@ -28,7 +28,7 @@ none_among : {A : Type 0} (x : A) → ¬ Contains [] x
 none_among x (k, within, is) = absurd (omega (arith, within))
 
 -- a slot of the plan's uberblock that is due
-slot_write : (s : State) (plan : Planned) (last : Uberblock) (which at : ℕ) (bytes : List ℕ) → MayBeMade s plan last
+slot_write : (s : State) (plan : Planned) (last : Uberblock) (which at : ℕ) (bytes : List ℕ) → IsGoodPlan s plan last
     → IsDueSlot s.store.disks.starts plan.uberblock plan.behind.slots.items which at bytes → IsSlotWrite s.store.disks.starts plan.uberblock (in_use s.store.out) which at bytes
 unfolding slot_at spelled
 slot_write s plan last which at bytes may due =
@@ -46,7 +46,7 @@ is_empty [] = inl refl
 is_empty (x ∷ xs) = inr (λ is. cc)
 
 -- in the slots phase a plan's step writes slots alone
-slots_alone : (old new : State) (plan : Planned) (last : Uberblock) (before : List Uberblock) → MayBeMade old plan last → IsInSlots old plan last before
+slots_alone : (old new : State) (plan : Planned) (last : Uberblock) (before : List Uberblock) → IsGoodPlan old plan last → IsInSlots old plan last before
     → Makes (may_write old plan) old.store.disks new.store.disks → Makes (IsSlotWrite old.store.disks.starts plan.uberblock (in_use old.store.out)) old.store.disks new.store.disks
 slots_alone old new plan last before may phase writes =
     Makes-wider (may_write old plan) (IsSlotWrite old.store.disks.starts plan.uberblock (in_use old.store.out)) old.store.disks new.store.disks
@@ -56,7 +56,7 @@ slots_alone old new plan last before may phase writes =
 
 -- ---- the slots phase
 
-in_slots : SlotsKeepWhatIsForBlocks → (old new : State) (plan after : Planned) (last : Uberblock) (before : List Uberblock) → MayBeMade old plan last → GoesOn old plan new after
+in_slots : SlotsKeepWhatIsForBlocks → (old new : State) (plan after : Planned) (last : Uberblock) (before : List Uberblock) → IsGoodPlan old plan last → StepGoesOn old plan new after
     → IsInSlots old plan last before → IsInPhase new after last before × StopsWell old plan new last before
 in_slots law old new plan after last before may goes phase =
     let slots = slots_alone old new plan last before may phase (goes.writes.makes plan goes.planned) in
@@ -75,7 +75,7 @@ in_slots law old new plan after last before may goes phase =
 -- ---- before the slots
 
 -- with nothing due and no disk to be flushed, the slots phase has begun
-begins : SlotsBeginBehindBlocks → (s : State) (plan : Planned) (last : Uberblock) (before : List Uberblock) → MayBeMade s plan last → s.store.due ≡ []
+begins : SlotsBeginBehindBlocks → (s : State) (plan : Planned) (last : Uberblock) (before : List Uberblock) → IsGoodPlan s plan last → s.store.due ≡ []
     → plan.behind.flushes.items ≡ [] → IsBeforeSlots s plan last before → IsInSlots s plan last before
 begins law s plan last before may due flushes phase =
     let settled : AreSettled s.store.out s.store.disks.calls = λ disk used. ⊎_elim
@@ -87,8 +87,8 @@ begins law s plan last before may due flushes phase =
     }
 
 -- blocks are written or disks flushed
-in_blocks : BlocksKeepWhatIsFilled → ReadsAndFlushesKeep → (old new : State) (plan after : Planned) (last : Uberblock) (before : List Uberblock) → MayBeMade old plan last
-    → GoesOn old plan new after → ¬ ((old.store.due ≡ []) × (plan.behind.flushes.items ≡ [])) → IsBeforeSlots old plan last before
+in_blocks : BlocksKeepWhatIsFilled → ReadsAndFlushesKeep → (old new : State) (plan after : Planned) (last : Uberblock) (before : List Uberblock) → IsGoodPlan old plan last
+    → StepGoesOn old plan new after → ¬ ((old.store.due ≡ []) × (plan.behind.flushes.items ≡ [])) → IsBeforeSlots old plan last before
     → IsInPhase new after last before × StopsWell old plan new last before
 in_blocks law keep old new plan after last before may goes early phase =
     let writes : Makes (may_write old plan) old.store.disks new.store.disks = goes.writes.makes plan goes.planned in

@@ -32,7 +32,7 @@ abbrev pub IsInPhase : State → Planned → Uberblock → List Uberblock → Ty
 IsInPhase s plan last before = IsBeforeSlots s plan last before ⊎ IsInSlots s plan last before
 
 -- The plan is of the next group, and may be made: its blocks lie beside what is filled, and its slots are on disks in use.
-pub record MayBeMade (s : State) (plan : Planned) (last : Uberblock) : Type 0 where
+pub record IsGoodPlan (s : State) (plan : Planned) (last : Uberblock) : Type 0 where
   pub lie : LieBesideLabels s.store.disks.starts s.store.spaces
   pub unfilled : (which at : ℕ) (bytes : List ℕ) → IsDueWrite s.store.due which at bytes → unfilled_write s.store.spaces which at bytes
   pub next : IsNextGroup last plan.uberblock
@@ -40,7 +40,7 @@ pub record MayBeMade (s : State) (plan : Planned) (last : Uberblock) : Type 0 wh
   pub slots : (write : SlotWrite) → Contains plan.behind.slots.items write → (write.label < 4) × InUse s.store.out write.disk
 
 -- A step of its device calls was made with no disk going out, and some are left.
-pub record GoesOn (old : State) (plan : Planned) (new : State) (after : Planned) : Type 0 where
+pub record StepGoesOn (old : State) (plan : Planned) (new : State) (after : Planned) : Type 0 where
   pub writes : WritesPlan old new
   pub planned : old.planned ≡ Some plan
   pub still : new.planned ≡ Some after
@@ -63,7 +63,7 @@ StopsWell old plan new last before =
 -- so the plan's phase goes on
 abbrev pub PhasesGoOn : Type 0
 PhasesGoOn =
-    (old new : State) (plan after : Planned) (last : Uberblock) (before : List Uberblock) → MayBeMade old plan last → GoesOn old plan new after
+    (old new : State) (plan after : Planned) (last : Uberblock) (before : List Uberblock) → IsGoodPlan old plan last → StepGoesOn old plan new after
     → IsInPhase old plan last before → IsInPhase new after last before × StopsWell old plan new last before
 
 -- A plan that is made or refused leaves the disks in the blocks phase.
@@ -76,7 +76,7 @@ PlansKeepThePhase =
     × LeadAlways (filled_trees old.store.spaces old.store.disks) old.store.out old.store.disks new.store.disks (only_last last before)
 
 -- The last of a plan's device calls were made with no disk going out: its slots stand on each disk in use, flushed.
-pub record Ends (old : State) (plan : Planned) (new : State) : Type 0 where
+pub record StepEnds (old : State) (plan : Planned) (new : State) : Type 0 where
   pub writes : WritesPlan old new
   pub planned : old.planned ≡ Some plan
   pub out : new.store.out ≡ old.store.out
@@ -86,6 +86,6 @@ pub record Ends (old : State) (plan : Planned) (new : State) : Type 0 where
 -- Then the plan's uberblock is the last one, and stopped at any moment of it the disks lead to that or to the one before.
 abbrev pub PhasesEnd : Type 0
 PhasesEnd =
-    (old new : State) (plan : Planned) (last : Uberblock) (before : List Uberblock) → MayBeMade old plan last → Ends old plan new → IsInSlots old plan last before
+    (old new : State) (plan : Planned) (last : Uberblock) (before : List Uberblock) → IsGoodPlan old plan last → StepEnds old plan new → IsInSlots old plan last before
     → AreInBlocks (filled_trees new.store.spaces new.store.disks) new.store.out new.store.disks plan.uberblock (last ∷ before)
     × LeadAlways (block_trees old.store.spaces old.store.disks) old.store.out old.store.disks new.store.disks (last_or last before plan.uberblock)
