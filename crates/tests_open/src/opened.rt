@@ -1,35 +1,20 @@
 //! Pools that are opened again.
 use crate::pools::{
-    Opening, blank, blocks_of, made, make_volume, making, opening, pool_disks, present, sync,
-    write_block,
+    Opening, Shown, blank, blocks_of, committed, fill, made, making, opening, pool_disks, present,
+    sync, write_block,
 };
 use model_disk::MemDisk;
-use pool_model::Reply;
 use pool_open::{OpenedPool, Refusal, open};
 use std::alloc::Global;
 use std::test::*;
 use vdev_label::Breach;
 
-/// What a pool with a volume shows: the group of the sync, and the volume's blocks.
-type Shown = (Option<u64>, Option<(u8, u8)>);
-
-fn committed(reply: Reply) -> Option<u64> {
-    match reply {
-        Reply::Committed(group) => Some(group),
-        _ => None,
-    }
-}
-
-/// Group 4 makes a volume, group 5 writes its second block; the disks then.
+/// A pool that was filled: its disks, and what it shows.
 fn written(alloc: Global) -> Result<(Vec<MemDisk>, Shown), Fail> {
     let disks = blank(alloc)?;
     let mut core = made(alloc, disks, 1)?;
-    make_volume(alloc, &mut core, "v")?;
-    sync(&mut core);
-    write_block(alloc, &mut core, "v", 2, 0xaa)?;
-    let group = committed(sync(&mut core));
-    let blocks = blocks_of(alloc, &mut core, "v")?;
-    Ok((present(alloc, core.into_disks())?, (group, blocks)))
+    let shown = fill(alloc, &mut core)?;
+    Ok((present(alloc, core.into_disks())?, shown))
 }
 
 /// The same pool opened: what it shows, and behind one more write.

@@ -10,7 +10,7 @@ use std::test::Fail;
 use vdev_label::{Config, Vdev};
 
 /// Of each disk.
-const DISK_BYTES: usize = 0x80_0000;
+pub(crate) const DISK_BYTES: usize = 0x80_0000;
 
 /// One vdev of these three disks, with one parity and five metaslabs, two of them for the pool's own blocks.
 fn config(alloc: Global, first: u64) -> Result<Config, AllocError> {
@@ -33,22 +33,22 @@ fn config(alloc: Global, first: u64) -> Result<Config, AllocError> {
 }
 
 /// Makes a pool of this guid on three disks.
-pub(crate) fn make(
+pub(crate) fn make<D: Disk + Drop>(
     alloc: Global,
-    disks: Vec<MemDisk>,
+    disks: Vec<D>,
     guid: u64,
-) -> Result<OpenedPool<Member<MemDisk>>, Refusal> {
+) -> Result<OpenedPool<Member<D>>, Refusal> {
     let config = config(alloc, guid.saturating_mul(100))?;
     let name = String::from_str(alloc, "pool")?;
     create(alloc, disks, PoolIdentity { name, guid }, config)
 }
 
 /// Its core.
-pub(crate) fn made(
+pub(crate) fn made<D: Disk + Drop>(
     alloc: Global,
-    disks: Vec<MemDisk>,
+    disks: Vec<D>,
     guid: u64,
-) -> Result<Core<Member<MemDisk>>, Refusal> {
+) -> Result<Core<Member<D>>, Refusal> {
     let OpenedPool { core, .. } = make(alloc, disks, guid)?;
     Ok(core)
 }
@@ -155,6 +155,25 @@ pub(crate) fn blocks_of<D: Disk + Drop>(
     } else {
         None
     })
+}
+
+/// What a pool with a volume shows: the group of the sync, and the volume's blocks.
+pub(crate) type Shown = (Option<u64>, Option<(u8, u8)>);
+
+pub(crate) fn committed(reply: Reply) -> Option<u64> {
+    match reply {
+        Reply::Committed(group) => Some(group),
+        _ => None,
+    }
+}
+
+/// Group 4 of a new pool makes a volume, group 5 writes its second block.
+pub(crate) fn fill<D: Disk + Drop>(alloc: Global, core: &mut Core<D>) -> Result<Shown, AllocError> {
+    make_volume(alloc, core, "v")?;
+    sync(core);
+    write_block(alloc, core, "v", 2, 0xaa)?;
+    let group = committed(sync(core));
+    Ok((group, blocks_of(alloc, core, "v")?))
 }
 
 /// The group and the claim of what is made or opened.
