@@ -1,5 +1,6 @@
 mod Chains
 mod DisksBack
+mod DisksTold
 mod Faulting
 mod Leading
 mod MadeOn
@@ -8,4 +9,5 @@ mod Playing
 mod Points
 mod Pools
 mod Reading
+mod Reopening
 mod StatesOf

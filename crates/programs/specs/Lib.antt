@@ -1,4 +1,5 @@
 pub mod Answers
+pub mod ClaimStops
 pub mod DisksKept
 pub mod Faults
 pub mod Lengths

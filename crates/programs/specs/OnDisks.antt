@@ -1,5 +1,5 @@
 -- A pool on disks that outlive it: what comes of the commands of a schedule.
-use Rattle.std.specs.Prelude.{◌≡◌, ◌⊎◌, ℕ, ◌≤◌, true, List, map, length, Option, Some, None, option_map, if◌then◌else◌}
+use Rattle.std.specs.Prelude.{◌≡◌, ◌⊎◌, ℕ, ◌≤◌, List, map, length, Option, Some, None, option_map, if◌then◌else◌}
 use Rattle.model_disk.specs.Joint.{calls_on, log_of}
 use Rattle.model_disk.specs.Member.{start_of, calls_of}
 use Rattle.model_disk.specs.contracts.memory.MemDiskDisk.TheImpl.{ghosts}
@@ -21,6 +21,7 @@ use Rattle.programs.specs.declared.outcome.Outcome.TheVariants.{Replied, StopIsS
 use Rattle.programs.specs.declared.pool_on_disks.PoolOnDisks.{PoolOnDisks}
 use Rattle.programs.specs.declared.stopping.Point.{Point}
 use Rattle.programs.specs.Answers.{Begins, IsFirst, IsNoStep, runs_on}
+use Rattle.programs.specs.ClaimStops.{AreKept, AreTold, EndsInClaim, ToldDisk, told_ghosts}
 use Rattle.programs.specs.DisksKept.{AreCopies, present, put_back}
 use Rattle.programs.specs.Outcomes.{Replies}
 use Rattle.programs.specs.Runs.{StepsTruly}
@@ -104,7 +105,13 @@ Opens disks rewind (Opened group claim) core =
 Opens disks rewind (Unopened refusal) core = (core ≡ None) × OpenRefuses ghosts disks rewind refusal
 Opens disks rewind _ core = ⊥
 
--- The core is dropped, and what it hadn't committed. Copies of all disks but the absent ones are opened; all are kept.
+-- a stop in a claim is set, after so many disks
+abbrev pub claim_stop : Option StopPoint → Option ℕ
+claim_stop (Some (Claim disks)) = Some disks
+claim_stop _ = None
+
+-- The core is dropped, and what it hadn't committed. Copies of all disks but the absent ones are opened, where no stop in a claim is set, or they
+-- are refused; all are kept.
 pub record Reopens (old : PoolState) (line : ReopenLine) (outcome : Outcome) (new : PoolState) : Type 0 where
   pub disks : List MemDisk
   pub closes : Closes old.core old.disks disks
@@ -112,7 +119,38 @@ pub record Reopens (old : PoolState) (line : ReopenLine) (outcome : Outcome) (ne
   pub copied : AreCopies (present line.absent disks) copies
   pub core : Option CoreState
   pub opens : Opens copies line.rewind outcome core
+  pub endless : (core ≡ None) ⊎ (claim_stop old.stop ≡ None)
   pub same : new ≡ record { core = core; disks = disks; absent = line.absent; stop = old.stop }
+
+-- Of copies that fail in their claim, the first ones at a later write, the disks are kept as it leaves them.
+pub record KeepsClaim (old : PoolState) (reached rewind : ℕ) (outcome : Outcome) (new : PoolState) : Type 0 where
+  pub told : List ToldDisk
+  pub are_told : AreTold reached 0 (present old.absent old.disks) told
+  pub left : List (Member ToldDisk)
+  pub ends : EndsInClaim told_ghosts told rewind left
+  pub members : List (Member MemDisk)
+  pub kept : AreKept left members
+  pub stopped : outcome ≡ Stopped
+  pub same : new ≡ record old { disks = put_back old.disks members; stop = None }
+
+-- a pool that was opened goes on, or a stop in a claim is set
+abbrev pub GoesOn : PoolState → CoreState → Uberblock → ℕ → Outcome → PoolState → Type 0
+GoesOn old core claimed rewind outcome new =
+    ((claim_stop old.stop ≡ None) × (outcome ≡ Opened claimed.group claimed.claim) × (new ≡ record old { core = Some core }))
+    ⊎ ((reached : ℕ) × (claim_stop old.stop ≡ Some reached) × KeepsClaim old reached rewind outcome new)
+
+-- The core is dropped, and copies of all disks but the absent ones would be opened; but a stop in a claim is set.
+pub record StopsInClaim (old : PoolState) (line : ReopenLine) (outcome : Outcome) (new : PoolState) : Type 0 where
+  pub disks : List MemDisk
+  pub closes : Closes old.core old.disks disks
+  pub copies : List MemDisk
+  pub copied : AreCopies (present line.absent disks) copies
+  pub core : CoreState
+  pub claimed : Uberblock
+  pub opens : IsOpened ghosts copies line.rewind claimed core
+  pub reached : ℕ
+  pub set : claim_stop old.stop ≡ Some reached
+  pub keeps : KeepsClaim (record { core = None; disks = disks; absent = line.absent; stop = old.stop }) reached line.rewind outcome new
 
 -- ---- commands
 
@@ -120,14 +158,12 @@ pub record Reopens (old : PoolState) (line : ReopenLine) (outcome : Outcome) (ne
 abbrev pub ComesOf : PoolState → Command → Outcome → PoolState → Type 0
 ComesOf old command outcome new =
     ((point : StopPoint) × (command ≡ Stop point) × (outcome ≡ StopIsSet) × (new ≡ record old { stop = Some point }))
-    ⊎ (((line : ReopenLine) × (command ≡ Reopen line) × Reopens old line outcome new)
+    ⊎ (((line : ReopenLine) × (command ≡ Reopen line) × (Reopens old line outcome new ⊎ StopsInClaim old line outcome new))
     ⊎ ((¬ IsNoStep command) × TakesSteps old command outcome new))
 
--- The commands that can't stand there: one for a first line; a step where nothing runs; a stop in a claim, which isn't made; and a
--- reopening that goes back further than a line can say.
+-- The commands that can't stand there: one for a first line; a step where nothing runs; and a reopening that goes back further than a line can say.
 abbrev pub CannotStand : PoolState → Command → Type 0
 CannotStand pool command =
     IsFirst command
     ⊎ (((¬ IsNoStep command) × (pool.core ≡ None))
-    ⊎ (((disks : ℕ) × (command ≡ Stop (Claim disks)))
-    ⊎ ((line : ReopenLine) × (command ≡ Reopen line) × (3 ≤ line.rewind))))
+    ⊎ ((line : ReopenLine) × (command ≡ Reopen line) × (3 ≤ line.rewind)))

@@ -31,7 +31,7 @@ pub(crate) fn put_back(disks: &mut Vec<MemDisk>, members: Vec<Member<MemDisk>>)
 }
 
 /// A disk with the same bytes.
-fn copy_of(alloc: Global, disk: &MemDisk) -> Result<MemDisk, AllocError>
+pub(crate) fn copy_of(alloc: Global, disk: &MemDisk) -> Result<MemDisk, AllocError>
     ensures { IfOk result (λ copy. IsCopyOf disk.now copy) }
 {
     Ok(MemDisk::holding(Vec::from_slice(alloc, disk.bytes())?))

@@ -2,6 +2,7 @@
 //! pool.
 #![tactic(auto)]
 
+mod claim_stops;
 mod commands;
 mod disk_pool;
 mod disks_kept;

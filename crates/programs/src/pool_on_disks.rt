@@ -3,15 +3,17 @@ ghost use Rattle.std.specs.Prelude.{◌≡◌, ◌<◌, ◌⊎◌, ℕ, List, No
 ghost use Rattle.std.specs.List.{AllByRecursion};
 ghost use Rattle.pool_core.specs.Represents.{Represents};
 ghost use Rattle.pool_core.specs.State.{CoreState};
+ghost use Rattle.pool_core.specs.StateOf.{state_of as core_state};
 ghost use Rattle.pool_model.specs.View.{View};
 ghost use Rattle.schedule_lines.specs.declared.command.Command.{Command};
 ghost use Rattle.programs.specs.Answers.{IsNoStep};
-ghost use Rattle.programs.specs.OnDisks.{Closes, ComesOf, PoolState, Reopens, RunsShort, RunsWhole};
-ghost use Rattle.programs.specs.OnDisks.{StopsThere, TakesSteps, point_of, state_of};
+ghost use Rattle.programs.specs.OnDisks.{Closes, ComesOf, GoesOn, KeepsClaim, PoolState, Reopens, RunsShort, RunsWhole};
+ghost use Rattle.programs.specs.OnDisks.{StopsInClaim, StopsThere, TakesSteps, claim_stop, point_of, state_of};
 ghost use Rattle.programs.specs.Plays.{Plays};
 ghost use Rattle.programs.specs.Runs.{IsOneRun, IsStoppedRun};
 ghost use Rattle.programs.specs.declared.outcome.Outcome.{Outcome as Printed};
 
+use crate::claim_stops::{all_kept, all_told, failed_claim};
 use crate::commands::{answer, first_step, runs_on};
 use crate::disks_kept::{copies, put_back};
 use crate::machine::StepMachine;
@@ -25,6 +27,16 @@ use pool_open::{OpenedPool, open};
 use schedule_lines::{Command, PoolLine, ReopenLine, StopPoint};
 use std::alloc::{AllocError, Global};
 
+/// How many disks get to their slots in the claim that is to stop.
+fn claim_stop(stop: Option<StopPoint>) -> Option<u32>
+    ensures { result ≡ claim_stop stop }
+{
+    match stop {
+        Some(StopPoint::Claim { disks }) => Some(disks),
+        _ => None,
+    }
+}
+
 /// A pool on disks in memory that outlive it.
 #[derive(Drop)]
 pub struct PoolOnDisks {
@@ -34,7 +46,7 @@ pub struct PoolOnDisks {
     disks: Vec<MemDisk>,
     /// The numbers of the disks that are left out.
     absent: Vec<u32>,
-    /// Where the next commit stops.
+    /// Where the next commit or reopening stops.
     stop: Option<StopPoint>,
 }
 
@@ -118,23 +130,60 @@ impl PoolOnDisks {
         }
     }
 
+    /// Lets a claim of copies of the disks in use fail once it got to so many of them, and keeps those as it leaves them.
+    fn stop_claim(
+        &mut self,
+        alloc: Global,
+        reached: u32,
+        rewind: u64,
+    ) -> Result<Outcome, AllocError>
+        requires { rewind < 3 }
+        ensures { IfOk result (λ outcome. KeepsClaim
+            (state_of self.old) reached rewind outcome (state_of self.new)) }
+    {
+        let told = all_told(alloc, &self.disks, &self.absent, reached)?;
+        let left = failed_claim(alloc, told, rewind)?;
+        let members = all_kept(alloc, left)?;
+        put_back(&mut self.disks, members);
+        self.stop = None;
+        Ok(Outcome::Stopped)
+    }
+
+    /// Goes on with the pool that was opened, unless it is to stop in its claim.
+    fn go_on(
+        &mut self,
+        alloc: Global,
+        opened: OpenedPool<Member<MemDisk>>,
+        rewind: u64,
+    ) -> Result<Outcome, AllocError>
+        requires { rewind < 3 }
+        ensures { IfOk result (λ outcome. GoesOn (state_of self.old) (core_state opened.core)
+            opened.uberblock rewind outcome (state_of self.new)) }
+    {
+        match claim_stop(self.stop) {
+            Some(reached) => self.stop_claim(alloc, reached, rewind),
+            None => {
+                self.core = Some(opened.core);
+                Ok(Outcome::Opened {
+                    group: opened.uberblock.group,
+                    claim: opened.uberblock.claim,
+                })
+            }
+        }
+    }
+
     /// Opens the disks again.
     fn reopen(&mut self, alloc: Global, line: ReopenLine) -> Result<Outcome, AllocError>
         requires { line.rewind < 3 }
         ensures { IfOk result (λ outcome.
-            Reopens (state_of self.old) line outcome (state_of self.new)) }
+            Reopens (state_of self.old) line outcome (state_of self.new)
+            ⊎ StopsInClaim (state_of self.old) line outcome (state_of self.new)) }
     {
         self.close();
         self.absent = line.absent.into_vec();
         let handed_in = copies(alloc, &self.disks, &self.absent)?;
         match open(alloc, handed_in, line.rewind) {
-            Ok(OpenedPool { core, uberblock }) => {
-                self.core = Some(core);
-                Ok(Outcome::Opened {
-                    group: uberblock.group,
-                    claim: uberblock.claim,
-                })
-            }
+            Ok(opened) => self.go_on(alloc, opened, line.rewind),
             Err(refusal) => Ok(Outcome::Unopened(refusal)),
         }
     }
@@ -172,7 +221,7 @@ impl SchedulePool for PoolOnDisks {
         command: Command,
     ) -> Result<Option<Outcome>, AllocError> {
         match command {
-            Command::Pool(_) | Command::Stop(StopPoint::Claim { .. }) => Ok(None),
+            Command::Pool(_) => Ok(None),
             Command::Stop(point) => {
                 self.stop = Some(point);
                 Ok(Some(Outcome::StopIsSet))

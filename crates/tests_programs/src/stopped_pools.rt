@@ -70,6 +70,27 @@ read v 0 512 -> refused 8 NoSuchName
 reopen 1 -> refused 19 NoUberblock
 reopen 0 -> opened 3 claim 3";
 
+/// The first disk alone has the slot of group 9, and then the claim of it; without that disk the claim is taken again, and one more
+/// with it.
+const CLAIM_OF_ONE: &str = "stop slots 1 -> stop
+sync -> stopped
+stop claim 1 -> stop
+reopen 0 -> stopped
+reopen 0 0 -> opened 8 claim 3
+reopen 0 -> opened 8 claim 4";
+
+/// No slot has the claim, but the labels show it.
+const CLAIM_OF_NONE: &str = "stop claim 0 -> stop
+reopen 0 -> stopped
+reopen 0 -> opened 8 claim 3";
+
+/// All have it. A reopening that is refused doesn't stop, and the next one does.
+const CLAIM_OF_ALL: &str = "stop claim 9 -> stop
+reopen 0 0 1 -> refused 22 TooManyMissing
+reopen 0 1 -> stopped
+reopen 0 0 -> opened 8 claim 3
+sync -> committed 9";
+
 /// Whether a pool at group 8 gives these rows.
 fn at_eight(alloc: Global, rows: &str) -> Result<bool, Fail> {
     let (told, wanted) = ran::<PoolOnDisks>(alloc, &[EIGHT, rows])?;
@@ -107,6 +128,24 @@ fn all_disks_have_the_slot(rt: HostRuntime) -> Result<(), Fail> {
 }
 
 #[test]
+fn one_disk_has_the_claim(rt: HostRuntime) -> Result<(), Fail> {
+    assert!(rt; at_eight(rt.alloc(), CLAIM_OF_ONE)?);
+    Ok(())
+}
+
+#[test]
+fn no_disk_has_the_claim(rt: HostRuntime) -> Result<(), Fail> {
+    assert!(rt; at_eight(rt.alloc(), CLAIM_OF_NONE)?);
+    Ok(())
+}
+
+#[test]
+fn all_disks_have_the_claim(rt: HostRuntime) -> Result<(), Fail> {
+    assert!(rt; at_eight(rt.alloc(), CLAIM_OF_ALL)?);
+    Ok(())
+}
+
+#[test]
 fn a_refused_commit_does_not_stop(rt: HostRuntime) -> Result<(), Fail> {
     assert!(rt; at_eight(rt.alloc(), REFUSED)?);
     Ok(())
@@ -134,8 +173,8 @@ const MISPLACED: [(&str, &str); 4] = [
         "pool 3 claim 1\nrefused 19 NoUberblock\npoolrun: line 3\n2",
     ),
     (
-        "pool 1 3 8388608 12 2\nstop claim 1\n",
-        "pool 3 claim 1\npoolrun: line 2\n2",
+        "pool 1 3 8388608 12 2\nstop claim 1\nreopen 0\nsync\n",
+        "pool 3 claim 1\nstop\nstopped\npoolrun: line 4\n2",
     ),
 ];
 
