@@ -23,7 +23,7 @@ use Rattle.pool_stops.proofs.Standing.{its_disk}
 use Rattle.pool_stops.proofs.Trees.{if_so}
 
 -- a disk that is there and not out is in use
-get_in_use : (out : List Bool) (disk : ℕ) → disk < length out → is_out out disk ≡ false → slice_get out disk ≡ Some false
+pub get_in_use : (out : List Bool) (disk : ℕ) → disk < length out → is_out out disk ≡ false → slice_get out disk ≡ Some false
 get_in_use [] disk there not = absurd (omega (arith, there))
 get_in_use (flag ∷ out) zero there not = ap Some not
 get_in_use (flag ∷ out) (suc disk) there not = get_in_use out disk (omega (arith, there)) not

@@ -3,3 +3,4 @@ pub mod Standing
 pub mod Trees
 pub mod Holding
 pub mod Phases
+pub mod Backed

@@ -6,15 +6,18 @@ use Rattle.uberblock_ring.specs.Uberblock.{Fits}
 use Rattle.uberblock_ring.specs.declared.uberblock.Uberblock.{Uberblock}
 use Rattle.pool_commit.specs.declared.kept.Planned.{Planned}
 use Rattle.pool_commit.specs.declared.kept.SlotWrite.{SlotWrite}
+use Rattle.pool_commit.specs.Backs.{Backs}
+use Rattle.pool_commit.specs.HasDisks.{HasDisks}
 use Rattle.pool_commit.specs.State.{State}
 use Rattle.pool_commit.specs.Writing.{IsDueWrite, PlansFrom, WritesPlan}
+use Rattle.pool_model.specs.View.{View}
 use Rattle.pool_slots.specs.Commits.{LeadAlways, last_or, only_last}
 use Rattle.pool_slots.specs.Lives.{IsNextGroup}
 use Rattle.pool_slots.specs.Phases.{AreInBlocks, AreInSlots}
 use Rattle.pool_slots.specs.Slots.{AreSettled, InUse}
 use Rattle.pool_slots.specs.Writes.{SlotsStand, in_use}
 use Rattle.raidz_io.specs.Reads.{OnlyReads}
-use Rattle.pool_stops.specs.Standing.{LieBesideLabels, block_trees, filled_trees, unfilled_write}
+use Rattle.pool_stops.specs.Standing.{AreInFreePlaces, LieBesideLabels, block_trees, filled_trees, unfilled_write}
 
 -- No slot of the plan is written: each disk in use is to be flushed still, or no block is due and nothing on it is unflushed.
 pub record IsBeforeSlots (s : State) (plan : Planned) (last : Uberblock) (before : List Uberblock) : Type 0 where
@@ -59,6 +62,13 @@ StopsWell old plan new last before =
     ⊎ LeadAlways (block_trees old.store.spaces old.store.disks) old.store.out old.store.disks new.store.disks (last_or last before plan.uberblock)
 
 -- ---- laws
+
+-- A plan of a state that backs a view may be made: behind the committed group's uberblock, where its blocks lie in places that are free without it.
+abbrev pub BackedPlansAreGood : Type 0
+BackedPlansAreGood =
+    (s : State) (v : View) (plan : Planned) (last : Uberblock) → (backs : Backs s v) → s.planned ≡ Some plan → HasDisks (length s.store.disks.starts) s.planned
+    → length s.store.out ≡ length s.store.disks.starts → LieBesideLabels s.store.disks.starts s.store.spaces
+    → AreInFreePlaces s.store.spaces backs.blocks.stored backs.blocks.planned → last.claim ≡ s.stamp.claim → last.group ≡ v.committed → IsGoodPlan s plan last
 
 -- so the plan's phase goes on
 abbrev pub PhasesGoOn : Type 0

@@ -1,6 +1,6 @@
 //! Laws of the bytes that are filled, and of where the disks stand with them: what each ensures follows from the definitions alone.
 ghost use Rattle.pool_stops.specs.Filled.{BlocksAreFilled, FilledBytesAreForBlocks, FreePlacesAreUnfilled};
-ghost use Rattle.pool_stops.specs.Phases.{PhasesEnd, PhasesGoOn, PlansKeepThePhase};
+ghost use Rattle.pool_stops.specs.Phases.{BackedPlansAreGood, PhasesEnd, PhasesGoOn, PlansKeepThePhase};
 ghost use Rattle.pool_stops.specs.Standing.{BlocksKeepWhatIsFilled, CommitsEndFilled, DueWritesAreUnfilled};
 ghost use Rattle.pool_stops.specs.Standing.{FilledTreesHoldBlocks, SlotsBeginBehindBlocks, SlotsKeepWhatIsForBlocks};
 
@@ -60,6 +60,11 @@ pub fn commits_end_filled()
     blocks_phase();
     slots_phase();
 }
+
+/// Of a state that backs a view.
+pub fn backed_plans_are_good()
+    ensures { BackedPlansAreGood }
+{}
 
 /// With the device calls of a plan, as long as no disk goes out.
 pub fn phases_go_on()
