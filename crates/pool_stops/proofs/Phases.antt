@@ -9,6 +9,7 @@ use Rattle.model_disk.proofs.RunLemmas.{Makes-wider}
 use Rattle.raidz_io.specs.Reads.{AreReads, IsRead, OnlyReads}
 use Rattle.pool_stops.proofs.Filled.{filled_for_blocks, filled_no_more}
 use Rattle.uberblock_ring.specs.Slot.{slot_number}
+use Rattle.uberblock_ring.specs.Uberblock.{Fits}
 use Rattle.uberblock_ring.specs.declared.uberblock.Uberblock.{Uberblock}
 use Rattle.block_store.specs.Spaces.{VdevSpace}
 use Rattle.pool_commit.specs.declared.kept.Planned.{Planned}
@@ -19,8 +20,8 @@ use Rattle.pool_slots.specs.PhaseLaws.{ReadsAndFlushesKeep}
 use Rattle.pool_slots.specs.Phases.{AreInBlocks, AreInSlots}
 use Rattle.pool_slots.specs.Slots.{AreSettled, InUse, slot_at, spelled}
 use Rattle.pool_slots.specs.Writes.{IsSlotWrite, in_use}
-use Rattle.pool_stops.specs.Phases.{StepGoesOn, IsBeforeSlots, IsInPhase, IsInSlots, IsGoodPlan, StepEnds, PhasesEnd, PhasesGoOn, PlansKeepThePhase, StopsWell}
-use Rattle.pool_stops.specs.Standing.{BlocksKeepWhatIsFilled, CommitsEndFilled, SlotsBeginBehindBlocks, SlotsKeepWhatIsForBlocks, block_trees, filled_trees, unfilled_write}
+use Rattle.pool_stops.specs.Phases.{StepGoesOn, IsBeforeSlots, IsInPhase, IsInSlots, IsGoodPlan, StepEnds, PhasesEnd, PhasesGoOn, PlansKeepThePhase, ReadsKeepThePhase, StopsWell}
+use Rattle.pool_stops.specs.Standing.{BlocksKeepWhatIsFilled, CommitsEndFilled, LieBesideLabels, SlotsBeginBehindBlocks, SlotsKeepWhatIsForBlocks, block_trees, filled_trees, unfilled_write}
 
 -- ---- which writes
 
@@ -151,6 +152,44 @@ plans_keep law old new last before lie from reads phase =
       subst (λ (out : List Bool). AreInBlocks (filled_trees new.store.spaces new.store.disks) out new.store.disks last before) (sym from.out) went.0,
       went.1,
     )
+
+-- ---- reads
+
+-- of the same state with other disks
+abbrev with_disks : State → Disks → State
+with_disks s disks = record s { store = record s.store { disks = disks } }
+
+no_writes : (may : ℕ → ℕ → List ℕ → Type 0) (old new : Disks) → OnlyReads old new → Makes may old new
+no_writes may old new reads =
+    Makes-wider no_write may old new (λ which at bytes is. absurd is)
+    (record { starts = reads.starts; newer = reads.newer; calls = reads.calls; writes = reads_made reads.newer reads.are_reads })
+
+read_before : BlocksKeepWhatIsFilled → ReadsAndFlushesKeep → (s : State) (disks : Disks) (plan : Planned) (last : Uberblock) (before : List Uberblock)
+    → LieBesideLabels s.store.disks.starts s.store.spaces → OnlyReads s.store.disks disks → IsBeforeSlots s plan last before
+    → IsInPhase (with_disks s disks) plan last before × StopsWell s plan (with_disks s disks) last before
+read_before law keep s disks plan last before lie reads phase =
+    let went = law s.store.spaces s.store.spaces s.store.out s.store.disks disks last before lie (λ disk i is. is) phase.blocks
+    (no_writes (unfilled_write s.store.spaces) s.store.disks disks reads) in
+    let kept = keep (filled_trees s.store.spaces s.store.disks) s.store.out s.store.disks disks last before (no_writes no_write s.store.disks disks reads) in (
+      inl (record {
+        blocks = went.0;
+        flushed = λ disk used. ⊎_elim inl (λ done. inr (done.0, kept.settled disk done.1)) (phase.flushed disk used);
+      }),
+      inl went.1,
+    )
+
+read_in : SlotsKeepWhatIsForBlocks → (s : State) (disks : Disks) (plan : Planned) (last : Uberblock) (before : List Uberblock)
+    → LieBesideLabels s.store.disks.starts s.store.spaces → Fits plan.uberblock → OnlyReads s.store.disks disks → IsInSlots s plan last before
+    → IsInPhase (with_disks s disks) plan last before × StopsWell s plan (with_disks s disks) last before
+read_in law s disks plan last before lie fits reads phase =
+    let went = law s.store.spaces s.store.out s.store.disks disks last before plan.uberblock lie fits phase.slots
+    (no_writes (IsSlotWrite s.store.disks.starts plan.uberblock (in_use s.store.out)) s.store.disks disks reads) in
+    (inr (record { written = phase.written; begun = phase.begun; slots = went.0 }), inr went.1)
+
+pub reads_keep : BlocksKeepWhatIsFilled → SlotsKeepWhatIsForBlocks → ReadsAndFlushesKeep → ReadsKeepThePhase
+reads_keep blocks slots keep old new plan last before lie fits reads rest phase =
+    subst (λ (s : State). IsInPhase s plan last before × StopsWell old plan s last before) (sym rest)
+    (⊎_elim (read_before blocks keep old new.store.disks plan last before lie reads) (read_in slots old new.store.disks plan last before lie fits reads) phase)
 
 -- ---- the end
 

@@ -76,6 +76,13 @@ PhasesGoOn =
     (old new : State) (plan after : Planned) (last : Uberblock) (before : List Uberblock) → IsGoodPlan old plan last → StepGoesOn old plan new after
     → IsInPhase old plan last before → IsInPhase new after last before × StopsWell old plan new last before
 
+-- whatever is read meanwhile
+abbrev pub ReadsKeepThePhase : Type 0
+ReadsKeepThePhase =
+    (old new : State) (plan : Planned) (last : Uberblock) (before : List Uberblock) → LieBesideLabels old.store.disks.starts old.store.spaces → Fits plan.uberblock
+    → OnlyReads old.store.disks new.store.disks → new ≡ record old { store = record old.store { disks = new.store.disks } }
+    → IsInPhase old plan last before → IsInPhase new plan last before × StopsWell old plan new last before
+
 -- A plan that is made or refused leaves the disks in the blocks phase.
 abbrev pub PlansKeepThePhase : Type 0
 PlansKeepThePhase =

@@ -1,6 +1,6 @@
 //! Laws of the bytes that are filled, and of where the disks stand with them: what each ensures follows from the definitions alone.
 ghost use Rattle.pool_stops.specs.Filled.{BlocksAreFilled, FilledBytesAreForBlocks, FreePlacesAreUnfilled};
-ghost use Rattle.pool_stops.specs.Phases.{BackedPlansAreGood, PhasesEnd, PhasesGoOn, PlansKeepThePhase};
+ghost use Rattle.pool_stops.specs.Phases.{BackedPlansAreGood, PhasesEnd, PhasesGoOn, PlansKeepThePhase, ReadsKeepThePhase};
 ghost use Rattle.pool_stops.specs.Standing.{BlocksKeepWhatIsFilled, CommitsEndFilled, DueWritesAreUnfilled};
 ghost use Rattle.pool_stops.specs.Standing.{FilledTreesHoldBlocks, SlotsBeginBehindBlocks, SlotsKeepWhatIsForBlocks};
 
@@ -72,6 +72,15 @@ pub fn phases_go_on()
 {
     blocks_keep_what_is_filled();
     slots_begin_behind_blocks();
+    slots_keep_what_is_for_blocks();
+    reads_and_flushes_keep();
+}
+
+/// As the pool is read.
+pub fn reads_keep_the_phase()
+    ensures { ReadsKeepThePhase }
+{
+    blocks_keep_what_is_filled();
     slots_keep_what_is_for_blocks();
     reads_and_flushes_keep();
 }

@@ -7,6 +7,6 @@ mod laws;
 pub use laws::{
     backed_plans_are_good, blocks_are_filled, blocks_keep_what_is_filled, commits_end_filled,
     due_writes_are_unfilled, filled_bytes_are_for_blocks, filled_trees_hold_blocks,
-    free_places_are_unfilled, phases_end, phases_go_on, plans_keep_the_phase,
+    free_places_are_unfilled, phases_end, phases_go_on, plans_keep_the_phase, reads_keep_the_phase,
     slots_begin_behind_blocks, slots_keep_what_is_for_blocks,
 };
