@@ -18,17 +18,19 @@ use Rattle.raidz_io.proofs.Placed.{extent_fits}
 use Rattle.raidz_io.proofs.Written.{same_some, slice_get_some}
 use Rattle.block_store.specs.Blocks.{Contents, Adds, IsWrittenAs}
 use Rattle.block_store.specs.Spaces.{VdevSpace}
-use Rattle.block_store.specs.Places.{shapes_of, IsTaken, IsPlaceIn, IsCopy, IsExtentAt, ArePlacesApart, AreChosen}
+use Rattle.block_store.specs.Places.{shapes_of, IsFree, IsTaken, IsPlaceIn, IsCopy, IsExtentAt, ArePlacesApart, AreChosen}
 use Rattle.block_store.specs.Places.{filled as filled_marks, planned as planned_marks}
 use Rattle.block_store.specs.Plans.{Plans, KeepsPlans, IsOnTheWay, IsDueFor, AreWritesAt}
 use Rattle.block_store.specs.Store.{Store, Spans, Keeps, KeepsStored, IsStore, outs, outs_from, ArePlaced}
 use Rattle.block_store.proofs.Accounting.{chosen_uses, used_after, has_too, has_sector, on_place_too}
+use Rattle.block_store.proofs.Beside.{chosen_beside, chosen_free, lies_still}
 use Rattle.block_store.proofs.Lost.{lose_same}
 use Rattle.block_store.proofs.Planning.{IsSameBut, grows_by, holds_by, keeps_by, marks_by_map, some_or_none, stores_grown}
 use Rattle.block_store.proofs.ReadingPlaces.{place_fits}
 use Rattle.block_store.proofs.SameBlock.{same_block, block_is, block_itself}
 use Rattle.block_store.proofs.Sizes.{asize_some}
 use Rattle.block_store.proofs.Taking.{AreTakenToo, Grows, are_taken, taken_some, taken_too, placed_too, copy_too, turned}
+use Rattle.block_store.proofs.TakenIn.{lies_by}
 use Rattle.block_store.specs.Uses.{LiesOn, IsInUse}
 use Rattle.block_store.proofs.Uses.{lies_chosen, chosen_in_use}
 use Rattle.block_store.proofs.Writing.{found_at}
@@ -270,6 +272,19 @@ added old new block bytes places writes stored planned is plans =
                 (on_place_too old.spaces new.spaces one.place at taken.grows.shapes one.on);
           })
         ];
+        fresh = λ other known found unknown. elim (this_or_known block other bytes known planned found) [
+          | inl (this, same) ↦ λ i place at.
+              let here : slice_get places i ≡ Some place = ap (λ xs. slice_get xs i) (sym is.copies_at) ∙ ap (λ (b : Block). slice_get (dvas b.copies) i) (sym this) ∙ at in
+              let lies : LiesOn IsFree old.spaces filled_marks block.property.sectors place =
+              chosen_free old.spaces [] block.property.sectors places new.spaces is.written.fits.property.not_empty is.chosen plans.beside i place here in
+              subst (λ (b : Block). LiesOn IsFree new.spaces filled_marks b.property.sectors place) (sym this)
+              (lies_by IsFree old.spaces new.spaces filled_marks filled_marks taken.grows.shapes (marks_by_map filled_marks old.spaces new.spaces taken.filled_stays)
+              block.property.sectors place lies)
+          | inr was ↦
+              lies_still IsFree old.spaces new.spaces taken.grows.shapes (marks_by_map filled_marks old.spaces new.spaces taken.filled_stays) other
+              (plans.fresh other known was unknown)
+        ];
+        beside = chosen_beside old.spaces [] block.property.sectors places new.spaces is.chosen plans.beside;
         writes_of = of_copies;
         on_the_way = λ other known i extent found unknown copy. elim (this_or_known block other bytes known planned found) [
           | inl (this, same) ↦
@@ -370,6 +385,10 @@ took_keeps_plans old new sectors places took stray stored planned plans =
       in_use = λ block bytes known fresh i place at.
           lies_chosen IsInUse old.spaces [] sectors places new.spaces took.chosen refl block.property.sectors place (plans.in_use block bytes known fresh i place at);
       accounted = λ none. absurd (let e : true ≡ false = sym stray ∙ none in cc);
+      fresh = λ block bytes known fresh.
+          lies_still IsFree old.spaces new.spaces taken.grows.shapes (marks_by_map filled_marks old.spaces new.spaces taken.filled_stays) block
+          (plans.fresh block bytes known fresh);
+      beside = chosen_beside old.spaces [] sectors places new.spaces took.chosen plans.beside;
       writes_of = plans.writes_of;
       on_the_way = λ block bytes i extent known fresh copy.
           let way = plans.on_the_way block bytes i extent known fresh (copy_too new.spaces old.spaces block i extent (sym taken.grows.shapes) copy) in

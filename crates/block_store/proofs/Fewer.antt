@@ -68,6 +68,9 @@ fewer_planned store stored planned fewer left forgets plans = record {
       has = of.has;
     })
   ];
+  fresh = λ block bytes known fresh.
+      plans.fresh block bytes (forgets.of_planned block bytes known) (left_is_new store stored planned fewer left forgets plans.kept block bytes known fresh);
+  beside = plans.beside;
   writes_of = plans.writes_of;
   on_the_way = λ block bytes i extent known fresh copy.
       plans.on_the_way block bytes i extent (forgets.of_planned block bytes known) (left_is_new store stored planned fewer left forgets plans.kept block bytes known fresh) copy;

@@ -17,7 +17,7 @@ use Rattle.block_store.specs.declared.refusal.Refusal.{Refusal}
 use Rattle.block_store.specs.declared.refusal.Refusal.TheVariants.{NoMemory, BadPointer}
 use Rattle.block_store.specs.Blocks.{Contents, AreStored, AreDistinct}
 use Rattle.block_store.specs.Spaces.{VdevSpace}
-use Rattle.block_store.specs.Places.{Marks, shapes_of, HaveMarks, run_at, EachSector, IsNotFree, IsTaken, ArePlacesApart}
+use Rattle.block_store.specs.Places.{Marks, shapes_of, HaveMarks, run_at, EachSector, IsFree, IsNotFree, IsTaken, ArePlacesApart}
 use Rattle.block_store.specs.Places.{filled as filled_marks, planned as planned_marks}
 use Rattle.block_store.specs.Plans.{Plans}
 use Rattle.block_store.specs.Releases.{CopyAt, copies_at, copies_of, copies_of_all, IsReleased, AreReleased, AreReleasedInPart, IsNotReleasable, AreAllInUse}
@@ -25,6 +25,7 @@ use Rattle.block_store.specs.Shapes.{metaslab_of, IsPlace}
 use Rattle.block_store.specs.Store.{Store, Spans, outs, outs_from, ArePlaced}
 use Rattle.block_store.specs.Uses.{LiesOn, CopiesLieOn, Passes, IsInUse}
 use Rattle.block_store.proofs.Accounting.{in_use_before, used_after, has_too}
+use Rattle.block_store.proofs.Beside.{lies_still, released_beside}
 use Rattle.block_store.proofs.Planning.{IsSameBut, same_but, keeps_by, stored_by, stores_kept, marks_by_map, no_contents}
 use Rattle.block_store.proofs.Taking.{map-set_same, copy_too}
 use Rattle.block_store.proofs.Uses.{lies_released}
@@ -152,6 +153,10 @@ released_plans old new blocks copies group stored planned is of stored_are plans
               has = has_too old.spaces new.spaces of.block at shapes of.has;
             })
           ];
+      fresh = λ block bytes known fresh.
+          lies_still IsFree old.spaces new.spaces shapes (marks_by_map filled_marks old.spaces new.spaces (released_fills old.spaces copies group new.spaces is.released))
+          block (plans.fresh block bytes known fresh);
+      beside = released_beside old.spaces copies group new.spaces is.released plans.beside;
       writes_of = plans.writes_of;
       on_the_way = λ block bytes i extent known fresh copy.
           let way = plans.on_the_way block bytes i extent known fresh (copy_too new.spaces old.spaces block i extent (sym shapes) copy) in

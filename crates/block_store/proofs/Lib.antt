@@ -1,5 +1,6 @@
 pub mod Accounting
 pub mod Adding
+pub mod Beside
 pub mod Calling
 pub mod Choosing
 pub mod Copies

@@ -21,6 +21,7 @@ use Rattle.block_store.specs.Places.{filled as filled_marks, planned as planned_
 use Rattle.block_store.specs.Plans.{Plans}
 use Rattle.block_store.specs.Store.{Store, IsStore, ArePlaced, Holds, Stores}
 use Rattle.block_store.proofs.Accounting.{none_new}
+use Rattle.block_store.proofs.Beside.{none_beside}
 
 -- the disks from the first on and before the end are of allowed sizes, and so many sectors are the fewest of one of them
 pub record AreMeasured (starts : List (List ℕ)) (first end sectors : ℕ) : Type 0 where
@@ -250,6 +251,8 @@ plans_nothing store due empty = record {
   born = λ block bytes is new. absurd (cc);
   in_use = λ block bytes is new. absurd (cc);
   accounted = λ none. none_new store.spaces nothing_stored nothing_stored (same_marks store.spaces empty);
+  fresh = λ block bytes is new. absurd (cc);
+  beside = none_beside store.spaces (same_marks store.spaces empty);
   writes_of = λ block i. [];
   on_the_way = λ block bytes i extent is new copy. absurd (cc);
   due = λ write among. let P : List ColumnWrite → Type 0 = λ xs. Contains xs write in absurd (omega (arith, (subst P due among).1));

@@ -23,6 +23,7 @@ use Rattle.block_store.specs.Store.{Store, outs, lost, ArePlaced, Stores, Keeps,
 use Rattle.raidz_io.proofs.Kept.{more_absent}
 use Rattle.block_store.proofs.Lost.{LoseMore, lose_same, is_lost}
 use Rattle.block_store.proofs.Accounting.{none_new}
+use Rattle.block_store.proofs.Beside.{none_beside}
 use Rattle.block_store.proofs.Taking.{Grows, MoreTaken, placed_too, copy_too, found_too, slice_get-set_same, slice_get-set_other}
 use Rattle.block_store.proofs.Writing.{found_at}
 
@@ -178,20 +179,25 @@ begun old new same planned none stored stores = record {
   placed = placed_too old.spaces new.spaces filled_marks planned_marks stored (grows_by old.spaces new.spaces filled_marks planned_marks same.shapes planned) stores.placed;
   born = λ block bytes known fresh. absurd (no_contents bytes (stored block) known fresh);
   in_use = λ block bytes known fresh. absurd (no_contents bytes (stored block) known fresh);
-  accounted = λ none. none_new new.spaces stored stored (λ v space later found found'.
-      let there = found_too new.spaces old.spaces v space (sym same.shapes) found in
-      planned v there.0 later there.1 found' ∙ sym (same.are v there.0 space there.1 found));
+  accounted = λ none. none_new new.spaces stored stored nothing_new;
+  fresh = λ block bytes known fresh. absurd (no_contents bytes (stored block) known fresh);
+  beside = none_beside new.spaces nothing_new;
   writes_of = λ block i. [];
   on_the_way = λ block bytes i extent known fresh copy. absurd (no_contents bytes (stored block) known fresh);
   due = λ write held. absurd (nothing write (subst (λ xs. Contains xs write) none held));
 }
+  where
+    nothing_new : HaveMarks new.spaces filled_marks new.spaces planned_marks
+    nothing_new v space later found found' =
+        let there = found_too new.spaces old.spaces v space (sym same.shapes) found in
+        planned v there.0 later there.1 found' ∙ sym (same.are v there.0 space there.1 found)
 
 pub some_or_none : {X : Type 0} (found : Option X) → ((x : X) × (found ≡ Some x)) ⊎ (found ≡ None)
 some_or_none (Some x) = inl (x, refl)
 some_or_none None = inr refl
 
 -- what is on the way stands once nothing is due
-arrived : (store : Store) (writes : List ColumnWrite) (extent : Extent) (bytes : List ℕ) → store.due ≡ [] → IsOnTheWay store writes extent bytes
+pub arrived : (store : Store) (writes : List ColumnWrite) (extent : Extent) (bytes : List ℕ) → store.due ≡ [] → IsOnTheWay store writes extent bytes
     → ExtentStands (content store.disks) (outs store) extent bytes
 arrived store writes extent bytes none way =
     way.would_store (content store.disks) (outs store) (all_done writes (λ write of present. elim (way.each write of present) [

@@ -20,6 +20,7 @@ use Rattle.block_store.specs.Releases.{AreSettledIn, AreSettledInSome, AreSpared
 use Rattle.block_store.specs.Store.{Store, Stores, ArePlaced}
 use Rattle.block_store.specs.Uses.{LiesOn, IsSpared, SettlesTo}
 use Rattle.block_store.proofs.Accounting.{none_new}
+use Rattle.block_store.proofs.Beside.{none_beside}
 use Rattle.block_store.proofs.GivenBack.{taken_of}
 use Rattle.block_store.proofs.Lost.{LoseMore}
 use Rattle.block_store.proofs.Planning.{holds_by, grows_by, no_contents, nothing}
@@ -171,6 +172,8 @@ begun_settled group old new disks more_lost shapes some free none stored stores 
       born = λ block bytes known fresh. absurd (no_contents bytes (stored block) known fresh);
       in_use = λ block bytes known fresh. absurd (no_contents bytes (stored block) known fresh);
       accounted = λ strays. none_new new.spaces stored stored free;
+      fresh = λ block bytes known fresh. absurd (no_contents bytes (stored block) known fresh);
+      beside = none_beside new.spaces free;
       writes_of = λ block i. [];
       on_the_way = λ block bytes i extent known fresh copy. absurd (no_contents bytes (stored block) known fresh);
       due = λ write held. absurd (nothing write (subst (λ xs. Contains xs write) none held));

@@ -18,12 +18,12 @@ use Rattle.block_store.specs.Places.{filled as filled_marks, planned as planned_
 use Rattle.block_store.specs.Releases.{CopyAt, copies_at, copies_of, copies_of_all}
 use Rattle.block_store.specs.Spaces.{VdevSpace}
 use Rattle.block_store.specs.Store.{Store, ArePlaced, Stores, Keeps, KeepsStored}
-use Rattle.block_store.specs.Uses.{CopiesLieOn, IsInUse}
+use Rattle.block_store.specs.Uses.{LiesOn, CopiesLieOn, IsInUse}
 use Rattle.block_store.proofs.Accounting.{on_place_too, has_sector, has_on_place, used_before, used_after}
 use Rattle.block_store.proofs.Lost.{lose_same}
 use Rattle.block_store.proofs.Planning.{grows_by, holds_by, stores_by, stores_grown}
 use Rattle.block_store.proofs.Taking.{Grows, grows_on, taken_too, taken_some, placed_too, turned}
-use Rattle.block_store.proofs.TakenIn.{OnCopy, Picks, picks_filled, TakeAll, viewed, viewed_shapes, into_view, out_of_view, viewed_all, lies_by, first_or_later, all_grow, all_taken, all_apart, all_some, all_lie, all_in_use, all_stay, all_were_free, all_only, all_rest}
+use Rattle.block_store.proofs.TakenIn.{OnCopy, Picks, picks_filled, picks_planned, TakeAll, viewed, viewed_shapes, into_view, out_of_view, viewed_all, lies_by, first_or_later, all_grow, all_taken, all_apart, all_some, all_lie, all_spare, all_in_use, all_stay, all_were_free, all_only, all_rest}
 
 -- ---- the copies of blocks
 
@@ -200,6 +200,19 @@ taken_lies is marks picks spaces copies after taken holds block lies i place at 
     lies_by is (viewed marks after) after planned_marks marks (sym (viewed_shapes marks after)) (out_of_view marks after) block.property.sectors place
     (all_lie is (viewed marks spaces) copies (viewed marks after) (viewed_all marks picks spaces copies after taken) holds block.property.sectors place
     (lies_by is spaces (viewed marks spaces) marks planned_marks (viewed_shapes marks spaces) (into_view marks spaces) block.property.sectors place (lies i place at)))
+
+-- what holds of the sectors of a place that isn't free in the plan holds still
+pub taken_spares : (is : State → Type 0) (spaces : List VdevSpace) (copies : List CopyAt) (after : List VdevSpace) → TakeIn spaces copies after
+    → (sectors : ℕ) (place : Dva) → 0 < place.allocated → IsTaken spaces planned_marks sectors place
+    → LiesOn is spaces filled_marks sectors place → LiesOn is after filled_marks sectors place
+taken_spares is spaces copies after taken sectors place some there lies =
+    lies_by is (viewed filled_marks after) after planned_marks filled_marks (sym (viewed_shapes filled_marks after)) (out_of_view filled_marks after) sectors place
+    (all_spare is (viewed filled_marks spaces) copies (viewed filled_marks after) (viewed_all filled_marks picks_filled spaces copies after taken) sectors place
+    (λ copy held.
+    all_apart (viewed planned_marks spaces) copies (viewed planned_marks after) (viewed_all planned_marks picks_planned spaces copies after taken) copy held sectors place some
+    (taken_too spaces (viewed planned_marks spaces) planned_marks planned_marks sectors place
+    (grows_by spaces (viewed planned_marks spaces) planned_marks planned_marks (viewed_shapes planned_marks spaces) (into_view planned_marks spaces)) there))
+    (lies_by is spaces (viewed filled_marks spaces) filled_marks planned_marks (viewed_shapes filled_marks spaces) (into_view filled_marks spaces) sectors place lies))
 
 -- all sectors of the blocks are in use
 pub taken_in_use : (marks : Marks) → Picks marks → (spaces : List VdevSpace) (blocks : List Block) (after : List VdevSpace) → TakeIn spaces (copies_of_all blocks) after

@@ -182,6 +182,9 @@ all_some spaces (first ∷ copies) after (some, chosen, mid, too, rest) copy hel
   | inr later ↦ all_some mid copies after rest copy later
 ]
 
+later_one : (first : CopyAt) (copies : List CopyAt) (copy : CopyAt) → Contains copies copy → Contains (first ∷ copies) copy
+later_one first copies copy (k, within, is) = (suc k, omega (arith, within), is)
+
 -- what holds of a place's sectors, and of those in use, holds still
 pub all_lie : (is : State → Type 0) (spaces : List VdevSpace) (copies : List CopyAt) (after : List VdevSpace) → TakeAll spaces copies after → is InUse
     → (sectors : ℕ) (place : Dva) → LiesOn is spaces planned_marks sectors place → LiesOn is after planned_marks sectors place
@@ -189,6 +192,15 @@ all_lie is spaces [] after same holds sectors place lies = subst (λ xs. LiesOn 
 all_lie is spaces (copy ∷ copies) after (some, chosen, mid, too, rest) holds sectors place lies =
     all_lie is mid copies after rest holds sectors place
     (lies_after is spaces mid copy.place Free InUse (take_changes spaces mid copy.place too) sectors place (inl holds) lies)
+
+-- so does what holds of the sectors of a place that is apart from all of them
+pub all_spare : (is : State → Type 0) (spaces : List VdevSpace) (copies : List CopyAt) (after : List VdevSpace) → TakeAll spaces copies after
+    → (sectors : ℕ) (place : Dva) → ((copy : CopyAt) → Contains copies copy → ArePlacesApart copy.place place)
+    → LiesOn is spaces planned_marks sectors place → LiesOn is after planned_marks sectors place
+all_spare is spaces [] after same sectors place apart lies = subst (λ xs. LiesOn is xs planned_marks sectors place) (sym same) lies
+all_spare is spaces (copy ∷ copies) after (some, chosen, mid, too, rest) sectors place apart lies =
+    all_spare is mid copies after rest sectors place (λ later held. apart later (later_one copy copies later held))
+    (lies_after is spaces mid copy.place Free InUse (take_changes spaces mid copy.place too) sectors place (inr (apart copy (0, omega arith, refl))) lies)
 
 pub all_in_use : (spaces : List VdevSpace) (copies : List CopyAt) (after : List VdevSpace) → TakeAll spaces copies after → (copy : CopyAt) → Contains copies copy
     → LiesOn IsInUse after planned_marks copy.sectors copy.place

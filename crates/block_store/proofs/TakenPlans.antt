@@ -1,22 +1,23 @@
 -- Plans go on as blocks are taken in.
-use Rattle.std.proofs.Common.{◌≡◌, inl, inr, List, [], Option, Some, None, refl, sym, ap, subst, ◌∙◌, arith}
+use Rattle.std.proofs.Common.{◌≡◌, ◌<◌, inl, inr, List, [], Option, Some, None, refl, sym, ap, subst, ◌∙◌, arith}
 use Rattle.std.specs.Prelude.{Contains}
 use Rattle.model_disk.specs.Joint.{Disks, content}
 use Rattle.raidz_io.specs.Stands.{IsDone}
 use Rattle.block_store.specs.Blocks.{Contents}
 use Rattle.block_pointer.specs.declared.block.Block.{Block}
 use Rattle.block_store.specs.Opened.{AreFound, TakeIn, TakeInPart}
-use Rattle.block_store.specs.Places.{shapes_of}
+use Rattle.block_store.specs.Places.{shapes_of, IsFree, IsTaken}
 use Rattle.block_store.specs.Places.{filled as filled_marks, planned as planned_marks}
 use Rattle.block_store.specs.Plans.{Plans, KeepsPlans}
 use Rattle.block_store.specs.Releases.{CopyAt, copies_of_all}
 use Rattle.block_store.specs.Store.{Store, Spans, Stores, outs, outs_from}
 use Rattle.block_store.specs.Uses.{IsInUse}
 use Rattle.block_store.proofs.Accounting.{has_too}
+use Rattle.block_store.proofs.Beside.{taken_in_beside}
 use Rattle.block_store.proofs.Planning.{stored_by}
-use Rattle.block_store.proofs.Taking.{copy_too, placed_too}
+use Rattle.block_store.proofs.Taking.{copy_too, placed_too, taken_some}
 use Rattle.block_store.proofs.TakenIn.{picks_filled, picks_planned}
-use Rattle.block_store.proofs.TakenBlocks.{AreOf, placed_in, taken_holds, taken_grows, taken_shapes, taken_lies, taken_keeps, taken_stores, filled_copies, only_copies, others_stay}
+use Rattle.block_store.proofs.TakenBlocks.{AreOf, placed_in, taken_holds, taken_grows, taken_shapes, taken_lies, taken_spares, taken_keeps, taken_stores, filled_copies, only_copies, others_stay}
 
 -- copies are taken in, and nothing else changes
 pub record OnlyTakesIn (old new : Store) (copies : List CopyAt) : Type 0 where
@@ -51,6 +52,12 @@ taken_plans old new copies stored planned is plans =
         ]
         | inr of ↦ inl (filled_copies filled_marks picks_filled old.spaces copies new.spaces is.taken at of).1
       ];
+      fresh = λ block bytes known fresh i place at.
+          let there : IsTaken old.spaces planned_marks block.property.sectors place = plans.placed.places block bytes i place known at in
+          let some : 0 < place.allocated =
+          taken_some old.spaces planned_marks block.property.sectors place (plans.placed.blocks block bytes known).fits.property.not_empty there in
+          taken_spares IsFree old.spaces copies new.spaces is.taken block.property.sectors place some there (plans.fresh block bytes known fresh i place at);
+      beside = taken_in_beside old.spaces copies new.spaces is.taken plans.beside;
       writes_of = plans.writes_of;
       on_the_way = λ block bytes i extent known fresh copy.
           let way = plans.on_the_way block bytes i extent known fresh (copy_too new.spaces old.spaces block i extent (sym shapes) copy) in
@@ -111,6 +118,8 @@ opened_plans old new blocks is before stored plans found =
         ]
         | inr on ↦ inl (filled_copies filled_marks picks_filled old.spaces (copies_of_all blocks) new.spaces is.taken at on).1
       ];
+      fresh = λ block bytes known fresh. absurd (not_both (stored block) bytes known fresh);
+      beside = taken_in_beside old.spaces (copies_of_all blocks) new.spaces is.taken plans.beside;
       writes_of = λ block i. [];
       on_the_way = λ block bytes i extent known fresh copy. absurd (not_both (stored block) bytes known fresh);
       due = λ write held.

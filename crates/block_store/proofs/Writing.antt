@@ -134,6 +134,8 @@ write_keeps laws old new write stored planned laid makes plans =
       born = λ block bytes known fresh. omega (arith, plans.born block bytes known fresh, makes.group);
       in_use = λ block bytes known fresh. rw makes.spaces (plans.in_use block bytes known fresh);
       accounted = λ none. rw makes.spaces (plans.accounted (sym makes.stray ∙ none));
+      fresh = λ block bytes known fresh. rw makes.spaces (plans.fresh block bytes known fresh);
+      beside = rw makes.spaces plans.beside;
       writes_of = plans.writes_of;
       on_the_way = λ block bytes i extent known fresh copy.
           still_on_the_way laws old new write stored planned laid makes plans due block bytes i extent known fresh (rw (sym makes.spaces) copy);

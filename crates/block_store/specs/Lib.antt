@@ -1,4 +1,5 @@
 pub mod Accounts
+pub mod Beside
 pub mod Blocks
 pub mod Config
 pub mod Demands

@@ -7,6 +7,7 @@ use Rattle.raidz_io.specs.declared.vdev.Extent.{Extent}
 use Rattle.raidz_io.specs.declared.writes.ColumnWrite.{ColumnWrite}
 use Rattle.raidz_io.specs.Stands.{WouldStore, AreColumnWrites, IsDone}
 use Rattle.block_store.specs.Accounts.{AreAccounted}
+use Rattle.block_store.specs.Beside.{AreFreeBeside, AreInFreePlaces}
 use Rattle.block_store.specs.Blocks.{Contents, Extends, Adds}
 use Rattle.block_store.specs.Places.{filled, IsCopy, IsExtentAt}
 use Rattle.block_store.specs.Places.{planned as planned_marks}
@@ -54,6 +55,9 @@ pub record Plans (store : Store) (stored planned : Contents) : Type 0 where
   pub in_use : (block : Block) (bytes : List ℕ) → planned block ≡ Some bytes → stored block ≡ None → CopiesLieOn IsInUse store.spaces planned_marks block
   -- each sector that the plan takes into use is in a block that it adds, unless a block took places and was not planned
   pub accounted : store.stray ≡ false → AreAccounted store.spaces stored planned
+  -- what is new lies in places that are free without the plan, and so does what it may take
+  pub fresh : AreInFreePlaces store.spaces stored planned
+  pub beside : AreFreeBeside store.spaces
   -- the writes of each copy that is new
   pub writes_of : Block → ℕ → List ColumnWrite
   pub on_the_way : (block : Block) (bytes : List ℕ) (i : ℕ) (extent : Extent) → planned block ≡ Some bytes → stored block ≡ None
