@@ -68,7 +68,7 @@ in_filter test (y ∷ xs) x is held =
     in_front (test y) y x (filter test xs) (λ same. subst (λ (z : ℕ). test z ≡ true) same is)
     (⊎_elim inl (λ later. inr (in_filter test xs x is later)) (Contains-cases y xs x held))
 
-in_counted : (first n child : ℕ) → child < n → Contains (counted first n) (first + child)
+pub in_counted : (first n child : ℕ) → child < n → Contains (counted first n) (first + child)
 in_counted first zero child below = absurd (omega arith)
 in_counted first (suc n) child below =
     ⊎_elim (λ less. Contains-append_left (counted first n) ((first + n) ∷ []) (first + child) (in_counted first n child less))

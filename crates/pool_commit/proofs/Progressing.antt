@@ -24,6 +24,7 @@ use Rattle.pool_model.proofs.Answering.{none_planned}
 use Rattle.pool_model.proofs.Plans.{same_elements, all_append}
 use Rattle.pool_commit.specs.declared.device.Progress.{Progress}
 use Rattle.pool_commit.specs.declared.device.Progress.TheVariants.{Moved, Done, Dropped}
+use Rattle.block_pointer.specs.declared.block.Block.{Block}
 use Rattle.pool_commit.specs.declared.kept.Behind.{Behind}
 use Rattle.pool_commit.specs.declared.kept.Kept.{Kept}
 use Rattle.pool_commit.specs.declared.kept.Planned.{Planned}
@@ -274,6 +275,15 @@ shown_at_end s plan v new backs none disks stamp write in_use label =
     (λ held. absurd (in_none plan.behind.slots.items write (no_length plan.behind.slots.items (omega (arith, none))) held))
     (λ shown. shown.1) (backs.blocks.plan.shown write in_use label))))
 
+-- the uberblock of what is left of a plan is that of the plan
+its_uberblock : (plan later other : Planned) (new old : State) (group : ℕ) (root : Block) (timestamp : ℕ) → later.uberblock ≡ plan.uberblock
+    → later.uberblock ≡ uberblock_of old.stamp group root timestamp → new.stamp ≡ old.stamp → Some plan ≡ Some other
+    → other.uberblock ≡ uberblock_of new.stamp group root timestamp
+its_uberblock plan later other new old group root timestamp same is stamp that =
+    let it : plan ≡ other = cc in
+    subst (λ (p : Planned). p.uberblock ≡ uberblock_of new.stamp group root timestamp) it
+    (sym same ∙ is ∙ ap (λ (x : Stamp). uberblock_of x group root timestamp) (sym stamp))
+
 -- what a plan's calls have left to flush, and to show, is so still
 pub record StaysOn (old : State) (mid : Store) (plan later : Planned) (v : View) (out : ℕ → Bool) : Type 0 where
   pub after : later.after ≡ plan.after
@@ -309,10 +319,10 @@ module _ (old : State) (mid : Store) (plan later : Planned) (v : View) (phase : 
   made_so disks = are_made old.store mid.disks new.store.disks v left so.made rest backs.out disks so.order backs.blocks.plan.in_use so.seen so.unread so.called
 
   pub goes_on : (progress : Progress) → v.committed < 2 ^ 62 → (0 < n) ⊎ (left ≡ []) → CarriesOn (record old { store = mid; planned = None }) later phase progress new
-      → Progresses old progress new v
+      → Progresses (with_plan old plan) progress new v
   goes_on (Moved moved) low some goes =
       let after : State = record old { store = mid; planned = Some later } in
-      subst (λ (s : State). Progresses old (Moved moved) s v) (sym goes.2) (
+      subst (λ (s : State). Progresses (with_plan old plan) (Moved moved) s v) (sym goes.2) (
         record v { sync = Due rest },
         record {
           made = so.made;
@@ -348,6 +358,8 @@ module _ (old : State) (mid : Store) (plan later : Planned) (v : View) (phase : 
           root = on.blocks.plan.uberblock.root;
           is_root = ap (λ (g : KeptGroup). g.root) goes.2.last ∙ on.blocks.plan.uberblock.is_root;
           timestamp = on.blocks.plan.uberblock.timestamp;
+          planned = λ other is. its_uberblock plan later other new old (suc v.committed) on.blocks.plan.uberblock.root on.blocks.plan.uberblock.timestamp
+              stays.uberblock on.blocks.plan.uberblock.is goes.4 is;
           shown = shown_at_end s later (record v { sync = Due rest }) new on goes.0 goes.1.disks goes.4;
         },
         finishes s later (record v { sync = Due rest }) new on low goes.1 goes.2 goes.3,
@@ -360,13 +372,6 @@ module _ (old : State) (mid : Store) (plan later : Planned) (v : View) (phase : 
       makes_all (inl above) = inr (phase, makes_front left so.made [] phase from (rest_none ∙ sym (append-nil so.made)) (omega (arith, so.count, above)) (omega (arith, so.count, few)) so.in_phase)
       makes_all (inr none) = inl (none, sym rest_none ∙ none)
   goes_on (Dropped disk) low some goes = absurd goes
-
--- only the disks of the state before matter
-pub planned_either_way : (old : State) (planned : Option Planned) (progress : Progress) (new : State) (v : View)
-    → Progresses (record old { planned = planned }) progress new v → Progresses old progress new v
-planned_either_way old planned (Moved phase) new v goes = goes
-planned_either_way old planned Done new v goes = goes
-planned_either_way old planned (Dropped disk) new v goes = goes
 
 -- what carries on calls no device
 pub carried_disks : (old : State) (plan : Planned) (phase : Phase) (progress : Progress) (new : State) → CarriesOn old plan phase progress new → new.store.disks ≡ old.store.disks
@@ -402,7 +407,7 @@ pub drops : (old : State) (mid : Store) (plan : Planned) (v : View) (phase : Pha
     → FailedCall old.store mid (left_calls backs.blocks.plan.counts backs.blocks.plan.slot_counts old.store.due plan.behind) phase disk
     → AreFrom phase (left_calls backs.blocks.plan.counts backs.blocks.plan.slot_counts old.store.due plan.behind)
     → (is_suspended (dropped v disk) ≡ false → is_late phase ≡ false)
-    → DropsPlan mid new.store → new.kept ≡ old.kept → new.planned ≡ None → Progresses old (Dropped disk) new v
+    → DropsPlan mid new.store → new.kept ≡ old.kept → new.planned ≡ None → Progresses (with_plan old plan) (Dropped disk) new v
 drops old mid plan v phase disk new backs failed from early drop kept none =
     let has = backs.blocks.plan in
     let left : List DueCall = left_calls has.counts has.slot_counts old.store.due plan.behind in
@@ -586,9 +591,9 @@ module _ (old : State) (mid : Store) (plan later : Planned) (v : View) (phase : 
   made_then disks = are_made old.store mid.disks new.store.disks v due_before failed.made failed.rest backs.out disks failed.order backs.blocks.plan.in_use failed.seen failed.unread failed.called
 
   carries : (progress : Progress) → v.committed < 2 ^ 62 → lacks_disks mid ≡ false → CarriesOn (record old { store = mid; planned = None }) later phase progress new
-      → Progresses old progress new v
+      → Progresses (with_plan old plan) progress new v
   carries (Moved moved) low enough goes =
-      subst (λ (s : State). Progresses old (Moved moved) s v) (sym goes.2) (
+      subst (λ (s : State). Progresses (with_plan old plan) (Moved moved) s v) (sym goes.2) (
         record (without_disk v disk) { sync = Due due_after },
         record {
           made = failed.made;
@@ -616,6 +621,8 @@ module _ (old : State) (mid : Store) (plan later : Planned) (v : View) (phase : 
           root = on_others.blocks.plan.uberblock.root;
           is_root = ap (λ (g : KeptGroup). g.root) goes.2.last ∙ on_others.blocks.plan.uberblock.is_root;
           timestamp = on_others.blocks.plan.uberblock.timestamp;
+          planned = λ other is. its_uberblock plan later other new old (suc v.committed) on_others.blocks.plan.uberblock.root
+              on_others.blocks.plan.uberblock.timestamp stays.uberblock on_others.blocks.plan.uberblock.is goes.4 is;
           shown = shown_at_end s later w new on_others goes.0 goes.1.disks goes.4;
         },
         finishes s later w new on_others low goes.1 goes.2 goes.3,
@@ -635,10 +642,10 @@ pub leaves_out : (old : State) (mid : Store) (plan popped : Planned) (v : View) 
     → (failed : FailedCall old.store mid (left_calls backs.blocks.plan.counts backs.blocks.plan.slot_counts old.store.due plan.behind) phase disk)
     → AreFrom phase (left_calls backs.blocks.plan.counts backs.blocks.plan.slot_counts old.store.due plan.behind) → is_late phase ≡ true
     → ((behind : Behind) → LeftOut disk popped.behind behind → LeavesRest old mid plan (record popped { behind = behind }) v disk failed.rest)
-    → LeavesOut (record old { store = mid; planned = None }) popped disk phase progress new → Progresses old progress new v
+    → LeavesOut (record old { store = mid; planned = None }) popped disk phase progress new → Progresses (with_plan old plan) progress new v
 leaves_out old mid plan popped v phase disk progress new backs low failed from late leaves (inl (lacks, is, drop, kept, none, stamp)) =
     let vdevs : v.vdevs ≡ vdevs_of mid.spaces = backs.vdevs ∙ ap (λ (spaces : List VdevSpace). vdevs_of spaces) (sym failed.same.spaces) in
-    subst (λ (p : Progress). Progresses old p new v) (sym is)
+    subst (λ (p : Progress). Progresses (with_plan old plan) p new v) (sym is)
     (drops old mid plan v phase disk new backs failed from
     (λ enough. absurd (true≢false (sym lacks ∙ sym (suspended_is mid v disk vdevs (outs_are old mid v disk backs.out failed.out)) ∙ enough))) drop kept none)
 leaves_out old mid plan popped v phase disk progress new backs low failed from late leaves (inr (enough, behind, left, goes)) =

@@ -50,17 +50,18 @@ pub record MovesOn (old new : Disks) (v : View) (phase : Phase) (w : View) : Typ
   pub are_made : AreMade old new v made
 
 -- All that was left of the plan was made, from the slots on with or without the disk of the last call. Each disk in use is flushed behind
--- its last write, and shows the group's uberblock in each of its four labels.
-pub record EndsWell (old : Disks) (new : State) (v w : View) : Type 0 where
+-- its last write, and shows the plan's uberblock, which is that of its group, in each of its four labels.
+pub record EndsWell (old new : State) (v w : View) : Type 0 where
   pub made : List DueCall
   pub fault : Option DueCall
   pub ends : Ends v (given_calls made fault) w
-  pub faults : faults_between old new.store.disks ≡ map disk_call (fault_list fault)
-  pub are_made : AreMade old new.store.disks v made
+  pub faults : faults_between old.store.disks new.store.disks ≡ map disk_call (fault_list fault)
+  pub are_made : AreMade old.store.disks new.store.disks v made
   pub flushed : (disk : ℕ) → Contains (disks_in_use w) disk → IsFlushed new.store.disks disk
   pub root : Block
   pub is_root : new.kept.last.root ≡ Some root
   pub timestamp : ℕ
+  pub planned : (plan : Planned) → old.planned ≡ Some plan → plan.uberblock ≡ uberblock_of new.stamp (suc v.committed) root timestamp
   pub shown : (write : SlotWrite) → Contains (disks_in_use w) write.disk → write.label < 4
       → ShowsIn new.store.disks (uberblock_of new.stamp (suc v.committed) root timestamp) write
 
@@ -84,7 +85,7 @@ pub record FailsAt (old new : Disks) (v : View) (disk : ℕ) : Type 0 where
 -- disks are out, the plan is dropped; where none is left the group is committed.
 abbrev pub Progresses : State → Progress → State → View → Type 0
 Progresses old (Moved phase) new v = (w : View) × MovesOn old.store.disks new.store.disks v phase w × Backs new w
-Progresses old Done new v = (w : View) × EndsWell old.store.disks new v w × Backs new (committed_next w)
+Progresses old Done new v = (w : View) × EndsWell old new v w × Backs new (committed_next w)
 Progresses old (Dropped disk) new v = FailsAt old.store.disks new.store.disks v disk × Backs new (dropped v disk)
 
 -- the state with this plan

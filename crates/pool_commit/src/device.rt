@@ -188,7 +188,7 @@ impl<D: Disk + Drop> Commit<D> {
         ensures grew { GrewTo self.old.store.disks self.new.store.disks }
         ensures goes { (v : View) → Backs (with_plan (state_of self.old) planned) v
             → v.committed < 2 ^ 62
-            → Progresses (state_of self.old) result (state_of self.new) v }
+            → Progresses (with_plan (state_of self.old) planned) result (state_of self.new) v }
         ensures writes { WritesPlan (with_plan (state_of self.old) planned) (state_of self.new) }
     {
         match make_writes(&mut self.store) {
@@ -209,7 +209,7 @@ impl<D: Disk + Drop> Commit<D> {
         ensures grew { GrewTo self.old.store.disks self.new.store.disks }
         ensures goes { (v : View) → Backs (with_plan (state_of self.old) planned) v
             → v.committed < 2 ^ 62
-            → Progresses (state_of self.old) result (state_of self.new) v }
+            → Progresses (with_plan (state_of self.old) planned) result (state_of self.new) v }
         ensures writes { WritesPlan (with_plan (state_of self.old) planned) (state_of self.new) }
     {
         match make_flushes(&mut self.store, &mut planned.behind.flushes) {
@@ -231,7 +231,7 @@ impl<D: Disk + Drop> Commit<D> {
         ensures grew { GrewTo self.old.store.disks self.new.store.disks }
         ensures goes { (v : View) → Backs (with_plan (state_of self.old) planned) v
             → v.committed < 2 ^ 62
-            → Progresses (state_of self.old) result (state_of self.new) v }
+            → Progresses (with_plan (state_of self.old) planned) result (state_of self.new) v }
         ensures writes { WritesPlan (with_plan (state_of self.old) planned) (state_of self.new) }
     {
         match make_slots(
@@ -257,7 +257,7 @@ impl<D: Disk + Drop> Commit<D> {
         ensures grew { GrewTo self.old.store.disks self.new.store.disks }
         ensures goes { (v : View) → Backs (with_plan (state_of self.old) planned) v
             → v.committed < 2 ^ 62
-            → Progresses (state_of self.old) result (state_of self.new) v }
+            → Progresses (with_plan (state_of self.old) planned) result (state_of self.new) v }
         ensures writes { WritesPlan (with_plan (state_of self.old) planned) (state_of self.new) }
     {
         match make_flushes(&mut self.store, &mut planned.behind.slot_flushes) {

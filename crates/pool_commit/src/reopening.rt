@@ -2,7 +2,7 @@
 ghost use Rattle.std.specs.Prelude.{◌≡◌, ◌⊎◌, ℕ, List, Some, IfOk, IfErr};
 ghost use Rattle.block_store.specs.Blocks.{Contents, nothing_stored};
 ghost use Rattle.block_store.specs.Opened.{CannotTakeIn};
-ghost use Rattle.block_store.specs.Places.{AreEmpty};
+ghost use Rattle.block_store.specs.Places.{AreEmpty, shapes_of};
 ghost use Rattle.block_store.specs.Plans.{Plans};
 ghost use Rattle.block_store.specs.Releases.{copies_of_all};
 ghost use Rattle.block_store.specs.Spaces.{VdevSpace};
@@ -113,6 +113,9 @@ impl<D: Disk + Drop> Commit<D> {
         ensures disks { IfOk result (λ commit. disks_in commit ≡ store.disks) }
         ensures stamp { IfOk result (λ commit. (state_of commit).stamp ≡ stamp) }
         ensures root { IfOk result (λ commit. (state_of commit).kept.last.root ≡ Some root) }
+        ensures out { IfOk result (λ commit. (state_of commit).store.out ≡ store.out) }
+        ensures shapes { IfOk result (λ commit.
+            shapes_of (state_of commit).store.spaces ≡ shapes_of store.spaces) }
 
         // Where the store's disks have the blocks, and the root spells a pool, that pool is committed as the group.
         ensures backs { IfOk result (λ commit. (stored : Contents) (pool : PlainPool)

@@ -101,13 +101,15 @@ loop-preserved g c =
           (subst (λ (left : List SlotWrite). SlotsMove c.args.store.now c.loop.store c.args.uberblock.now c.args.slots.now.items left) c.in-Some.ensures.items c.loop.invariant.5),
       rest_next SlotWrite c.args.slots.now.items c.loop.slots.items c.pop_front.new.self.items c.in-Some.write c.in-Some.ensures.items c.loop.invariant.6,
       slot_makes c.write_slot.result c.args.store.now.disks c.loop.store.disks c.write_slot.new.store.disks c.args.uberblock.now c.args.slots.now.items c.loop.slots.items
-          c.pop_front.new.self.items c.in-Some.write c.in-Some.ensures.items c.loop.invariant.2 c.write_slot.ensures.starts c.write_slot.ensures.call c.loop.invariant.6 c.loop.invariant.7,
+          c.pop_front.new.self.items c.in-Some.write c.in-Some.ensures.items c.loop.invariant.2 c.write_slot.ensures.starts c.write_slot.ensures.call c.loop.invariant.6 there c.loop.invariant.7,
     )
 
 pub returns-in-Err-clause-makes : goal.returns-in-Err-clause-makes
 returns-in-Err-clause-makes g c =
     slot_makes c.write_slot.result c.args.store.now.disks c.loop.store.disks c.write_slot.new.store.disks c.args.uberblock.now c.args.slots.now.items c.loop.slots.items
-    c.pop_front.new.self.items c.in-Some.write c.in-Some.ensures.items c.loop.invariant.2 c.write_slot.ensures.starts c.write_slot.ensures.call c.loop.invariant.6 c.loop.invariant.7
+    c.pop_front.new.self.items c.in-Some.write c.in-Some.ensures.items c.loop.invariant.2 c.write_slot.ensures.starts c.write_slot.ensures.call c.loop.invariant.6
+    (c.loop.invariant.4 c.in-Some.write (subst (λ (xs : List SlotWrite). Contains xs c.in-Some.write) (sym c.in-Some.ensures.items) (there_first c.in-Some.write c.pop_front.new.self.items)))
+    c.loop.invariant.7
 
 pub returns-clause-made : goal.returns-clause-made
 returns-clause-made g c counts =

@@ -5,7 +5,7 @@ use Rattle.pool_commit.specs.declared.device.Progress.{Progress}
 use Rattle.pool_commit.specs.declared.kept.Planned.{Planned}
 use Rattle.pool_commit.specs.HasDisks.{HasDisks, IsPlannedOn}
 use Rattle.pool_commit.specs.Making.{flushes_left, slots_left, MadeCalls, FailedCall}
-use Rattle.pool_commit.specs.Progress.{Progresses, CarriesOn}
+use Rattle.pool_commit.specs.Progress.{Progresses, CarriesOn, with_plan}
 use Rattle.pool_commit.specs.Backs.{left_calls}
 use Rattle.block_store.specs.Store.{Store}
 use Rattle.pool_model.specs.View.{DueCall}
@@ -15,9 +15,10 @@ use Rattle.pool_model.specs.declared.step.Phase.TheVariants as phases
 use Rattle.block_store.specs.Places.{shapes_of}
 use Rattle.pool_commit.proofs.Labels.{labels_still}
 use Rattle.pool_commit.proofs.Phasing.{flushing, flushes_stay, none_due}
+use Rattle.pool_commit.proofs.Spellings.{spelled_fits}
 use Rattle.pool_commit.proofs.Suspending.{still}
 use Rattle.pool_commit.proofs.Progressing.{AreFrom, goes_on, drops, behind_from, with_tail, failed_tail, some_few, carried_disks}
-use Rattle.pool_commit.proofs.Writing.{nothing_at_all, writes_dropped, writes_on}
+use Rattle.pool_commit.proofs.Writing.{flushed_now, no_items, none_goes_out, nothing_at_all, writes_dropped, writes_on}
 use Rattle.pool_commit.proofs.commit.Commit.flush.Goals as goal
 
 pub make_flushes-requires : goal.make_flushes-requires
@@ -75,7 +76,7 @@ returns-in-Err-clause-goes g c v backs low =
     let counts : ℕ → ℕ = backs.blocks.plan.counts in
     let slot_counts : ℕ → ℕ = backs.blocks.plan.slot_counts in
     let tail : List DueCall = slots_left slot_counts plan.behind.slots.items ++ flushes_left phases.SlotsFlush plan.behind.slot_flushes.items in
-    subst (λ (p : Progress). Progresses old p (state_of c.drop_plan.new.self) v) (sym c.drop_plan.ensures.result)
+    subst (λ (p : Progress). Progresses (with_plan old c.args.planned) p (state_of c.drop_plan.new.self) v) (sym c.drop_plan.ensures.result)
     (drops old mid plan v phases.BlocksFlush c.in-Err.failed.disk (state_of c.drop_plan.new.self) backs
     (none_due (λ (left : List DueCall). FailedCall store mid left phases.BlocksFlush c.in-Err.failed.disk) counts slot_counts store plan.behind c.requires.written
     (failed_tail store mid (flushes_left phases.BlocksFlush plan.behind.flushes.items) tail phases.BlocksFlush c.in-Err.failed.disk
@@ -108,16 +109,26 @@ pub returns-in-Ok-clause-writes : goal.returns-in-Ok-clause-writes
 returns-in-Ok-clause-writes g c =
     let old : State = state_of c.args.self.now in
     writes_on old c.make_flushes.new.store c.args.planned (flushing c.args.planned c.make_flushes.new.flushes) phases.BlocksFlush c.go_on.result (state_of c.go_on.new.self)
+    (spelled_fits c.args.planned.uberblock (c.requires.there c.args.planned refl).fits)
     (record {
       makes = nothing_at_all old c.args.planned c.make_flushes.new.store c.make_flushes.ensures.makes;
-      goes = record { uberblock = refl; leads = refl; flushes = c.in-Ok.ensures.flushed.flushed };
-      shapes = ap shapes_of (c.in-Ok.ensures.made phases.BlocksFlush (λ disk number. refl)).same.spaces;
+      goes = record {
+        uberblock = refl;
+        leads = refl;
+        spaces = (c.in-Ok.ensures.made phases.BlocksFlush (λ disk number. refl)).same.spaces;
+        written = λ none. c.make_flushes.ensures.due ∙ none;
+        begun = λ none. absurd (no_items c.args.planned.behind.flushes.items c.requires.some none);
+        flushes = λ disk due. flushed_now c.make_flushes.new.store c.make_flushes.new.flushes.items disk (c.make_flushes.ensures.due ∙ c.requires.written)
+            (c.in-Ok.ensures.flushed.flushed disk due);
+      };
+      out = none_goes_out c.args.self.now.store.out c.make_flushes.new.store.out (c.in-Ok.ensures.made phases.BlocksFlush (λ disk number. refl)).out;
     }) c.go_on.ensures
 
 pub returns-in-Err-clause-writes : goal.returns-in-Err-clause-writes
 returns-in-Err-clause-writes g c =
     let old : State = state_of c.args.self.now in
-    writes_dropped old c.make_flushes.new.store c.args.planned (state_of c.drop_plan.new.self)
+    writes_dropped old c.make_flushes.new.store c.args.planned c.in-Err.failed.disk (state_of c.drop_plan.new.self) (spelled_fits c.args.planned.uberblock (c.requires.there c.args.planned refl).fits)
     (nothing_at_all old c.args.planned c.make_flushes.new.store c.make_flushes.ensures.makes)
-    (ap shapes_of (c.in-Err.ensures.failed phases.BlocksFlush (λ disk number. refl)).0.same.spaces)
+    (c.in-Err.ensures.failed phases.BlocksFlush (λ disk number. refl)).0.same.spaces
+    (c.in-Err.ensures.failed phases.BlocksFlush (λ disk number. refl)).0.out
     c.drop_plan.ensures.store c.drop_plan.ensures.kept (c.drop_plan.ensures.planned ∙ c.requires.none) c.drop_plan.ensures.stamp

@@ -15,9 +15,10 @@ use Rattle.pool_model.specs.declared.step.Phase.TheVariants as phases
 use Rattle.block_store.specs.Places.{shapes_of}
 use Rattle.pool_commit.proofs.Labels.{labels_still}
 use Rattle.pool_commit.proofs.Phasing.{FailedEnd, ending, ends_stay, ends_left_out, none_to_show}
+use Rattle.pool_commit.proofs.Spellings.{spelled_fits}
 use Rattle.pool_commit.proofs.Suspending.{still}
 use Rattle.pool_commit.proofs.Progressing.{AreFrom, goes_on, leaves_out, last_from_there, some_or_none, few_of, LeavesRest, carried_disks}
-use Rattle.pool_commit.proofs.Writing.{nothing_at_all, same_flushes, writes_on, writes_without}
+use Rattle.pool_commit.proofs.Writing.{none_goes_out, nothing_at_all, one_goes_out, same_flushes, writes_on, writes_without}
 use Rattle.pool_commit.proofs.commit.Commit.flush_slots.Goals as goal
 
 pub make_flushes-requires : goal.make_flushes-requires
@@ -128,10 +129,12 @@ returns-in-Ok-clause-writes g c =
     let old : State = state_of c.args.self.now in
     let later : Planned = ending c.args.planned c.make_flushes.new.flushes in
     writes_on old c.make_flushes.new.store c.args.planned later phases.SlotsFlush c.go_on.result (state_of c.go_on.new.self)
+    (spelled_fits c.args.planned.uberblock (c.requires.there c.args.planned refl).fits)
     (record {
       makes = nothing_at_all old c.args.planned c.make_flushes.new.store c.make_flushes.ensures.makes;
-      goes = same_flushes c.args.planned later c.make_flushes.new.store.disks refl refl refl;
-      shapes = ap shapes_of (c.in-Ok.ensures.made phases.SlotsFlush (λ disk number. refl)).same.spaces;
+      goes = same_flushes c.args.self.now.store c.args.planned c.make_flushes.new.store later
+          (c.in-Ok.ensures.made phases.SlotsFlush (λ disk number. refl)).same.spaces (λ none. c.make_flushes.ensures.due ∙ none) refl refl refl;
+      out = none_goes_out c.args.self.now.store.out c.make_flushes.new.store.out (c.in-Ok.ensures.made phases.SlotsFlush (λ disk number. refl)).out;
     }) c.go_on.ensures
 
 pub returns-in-Err-clause-writes : goal.returns-in-Err-clause-writes
@@ -139,8 +142,11 @@ returns-in-Err-clause-writes g c =
     let old : State = state_of c.args.self.now in
     let popped : Planned = ending c.args.planned c.make_flushes.new.flushes in
     writes_without old c.make_flushes.new.store c.args.planned popped c.in-Err.failed.disk phases.SlotsFlush c.go_without.result (state_of c.go_without.new.self)
+    (spelled_fits c.args.planned.uberblock (c.requires.there c.args.planned refl).fits)
     (record {
       makes = nothing_at_all old c.args.planned c.make_flushes.new.store c.make_flushes.ensures.makes;
-      goes = same_flushes c.args.planned popped c.make_flushes.new.store.disks refl refl refl;
-      shapes = ap shapes_of (c.in-Err.ensures.failed phases.SlotsFlush (λ disk number. refl)).0.same.spaces;
-    }) c.requires.none c.go_without.ensures.goes
+      goes = same_flushes c.args.self.now.store c.args.planned c.make_flushes.new.store popped
+          (c.in-Err.ensures.failed phases.SlotsFlush (λ disk number. refl)).0.same.spaces (λ none. c.make_flushes.ensures.due ∙ none) refl refl refl;
+      out = one_goes_out c.args.self.now.store.out c.in-Err.failed.disk c.make_flushes.new.store.out
+          (c.in-Err.ensures.failed phases.SlotsFlush (λ disk number. refl)).0.out;
+    }) (c.in-Err.ensures.failed phases.SlotsFlush (λ disk number. refl)).0.out c.requires.none c.go_without.ensures.goes

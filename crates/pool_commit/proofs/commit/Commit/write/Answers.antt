@@ -3,7 +3,7 @@ use Rattle.pool_commit.specs.declared.device.Progress.{Progress}
 use Rattle.pool_commit.specs.declared.kept.Planned.{Planned}
 use Rattle.pool_commit.specs.HasDisks.{HasDisks}
 use Rattle.pool_commit.specs.Making.{behind_left, writes_left}
-use Rattle.pool_commit.specs.Progress.{Progresses, CarriesOn}
+use Rattle.pool_commit.specs.Progress.{Progresses, CarriesOn, with_plan}
 use Rattle.pool_commit.specs.Backs.{left_calls}
 use Rattle.pool_commit.specs.State.{State}
 use Rattle.pool_commit.specs.StateOf.{state_of}
@@ -11,9 +11,10 @@ use Rattle.pool_model.specs.declared.step.Phase.TheVariants as phases
 use Rattle.block_store.specs.Places.{shapes_of}
 use Rattle.pool_commit.proofs.Labels.{labels_still}
 use Rattle.pool_commit.proofs.Phasing.{writes_stay}
+use Rattle.pool_commit.proofs.Spellings.{spelled_fits}
 use Rattle.pool_commit.proofs.Suspending.{still}
 use Rattle.pool_commit.proofs.Progressing.{goes_on, drops, all_from_first, with_tail, failed_tail, some_few}
-use Rattle.pool_commit.proofs.Writing.{blocks_only, same_flushes, writes_dropped, writes_on}
+use Rattle.pool_commit.proofs.Writing.{blocks_only, no_due, none_goes_out, same_flushes, writes_dropped, writes_on}
 use Rattle.pool_commit.proofs.commit.Commit.write.Goals as goal
 
 pub invariant_of-self : goal.invariant_of-self
@@ -48,7 +49,7 @@ returns-in-Err-clause-goes g c v backs low =
     let old : State = state_of c.args.self.now in
     let counts : ℕ → ℕ = backs.blocks.plan.counts in
     let slot_counts : ℕ → ℕ = backs.blocks.plan.slot_counts in
-    subst (λ (p : Progress). Progresses old p (state_of c.drop_plan.new.self) v) (sym c.drop_plan.ensures.result)
+    subst (λ (p : Progress). Progresses (with_plan old c.args.planned) p (state_of c.drop_plan.new.self) v) (sym c.drop_plan.ensures.result)
     (drops old c.make_writes.new.store c.args.planned v phases.Blocks c.in-Err.failed.disk (state_of c.drop_plan.new.self) backs
     (failed_tail c.args.self.now.store c.make_writes.new.store (writes_left counts c.args.self.now.store.due) (behind_left slot_counts c.args.planned.behind) phases.Blocks c.in-Err.failed.disk
     (c.in-Err.ensures.failed counts))
@@ -68,15 +69,18 @@ pub returns-in-Ok-clause-writes : goal.returns-in-Ok-clause-writes
 returns-in-Ok-clause-writes g c =
     let old : State = state_of c.args.self.now in
     writes_on old c.make_writes.new.store c.args.planned c.args.planned phases.Blocks c.go_on.result (state_of c.go_on.new.self)
+    (spelled_fits c.args.planned.uberblock (c.requires.there c.args.planned refl).fits)
     (record {
       makes = blocks_only old c.args.planned c.make_writes.new.store c.make_writes.ensures.makes;
-      goes = same_flushes c.args.planned c.args.planned c.make_writes.new.store.disks refl refl refl;
-      shapes = ap shapes_of (c.in-Ok.ensures.made (λ disk. 0)).1.same.spaces;
+      goes = same_flushes c.args.self.now.store c.args.planned c.make_writes.new.store c.args.planned (c.in-Ok.ensures.made (λ disk. 0)).1.same.spaces
+          (λ none. absurd (no_due c.args.self.now.store c.requires.some none)) refl refl refl;
+      out = none_goes_out c.args.self.now.store.out c.make_writes.new.store.out (c.in-Ok.ensures.made (λ disk. 0)).1.out;
     }) c.go_on.ensures
 
 pub returns-in-Err-clause-writes : goal.returns-in-Err-clause-writes
 returns-in-Err-clause-writes g c =
     let old : State = state_of c.args.self.now in
-    writes_dropped old c.make_writes.new.store c.args.planned (state_of c.drop_plan.new.self)
-    (blocks_only old c.args.planned c.make_writes.new.store c.make_writes.ensures.makes) (ap shapes_of (c.in-Err.ensures.failed (λ disk. 0)).same.spaces)
+    writes_dropped old c.make_writes.new.store c.args.planned c.in-Err.failed.disk (state_of c.drop_plan.new.self) (spelled_fits c.args.planned.uberblock (c.requires.there c.args.planned refl).fits)
+    (blocks_only old c.args.planned c.make_writes.new.store c.make_writes.ensures.makes) (c.in-Err.ensures.failed (λ disk. 0)).same.spaces
+    (c.in-Err.ensures.failed (λ disk. 0)).out
     c.drop_plan.ensures.store c.drop_plan.ensures.kept (c.drop_plan.ensures.planned ∙ c.requires.none) c.drop_plan.ensures.stamp

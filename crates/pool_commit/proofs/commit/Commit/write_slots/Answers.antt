@@ -21,7 +21,7 @@ use Rattle.pool_commit.proofs.Phasing.{FailedSlots, slotting, slots_stay, slots_
 use Rattle.pool_commit.proofs.Spellings.{spelled_fits}
 use Rattle.pool_commit.proofs.Suspending.{still}
 use Rattle.pool_commit.proofs.Progressing.{AreFrom, goes_on, leaves_out, slots_from_there, with_tail, failed_before, some_few, LeavesRest, carried_disks}
-use Rattle.pool_commit.proofs.Writing.{same_flushes, slots_only, writes_on, writes_without}
+use Rattle.pool_commit.proofs.Writing.{none_goes_out, one_goes_out, same_flushes, slots_only, writes_on, writes_without}
 use Rattle.pool_commit.proofs.commit.Commit.write_slots.Goals as goal
 
 pub make_slots-requires-clause-there : goal.make_slots-requires-clause-there
@@ -148,10 +148,12 @@ returns-in-Ok-clause-writes g c =
     let old : State = state_of c.args.self.now in
     let later : Planned = slotting c.args.planned c.make_slots.new.slots in
     writes_on old c.make_slots.new.store c.args.planned later phases.Slots c.go_on.result (state_of c.go_on.new.self)
+    (spelled_fits c.args.planned.uberblock (c.requires.there c.args.planned refl).fits)
     (record {
       makes = slots_only old c.args.planned c.make_slots.new.store c.requires.written c.requires.flushed c.make_slots.ensures.makes;
-      goes = same_flushes c.args.planned later c.make_slots.new.store.disks refl refl refl;
-      shapes = ap shapes_of (c.in-Ok.ensures.made (λ disk. 0)).1.same.spaces;
+      goes = same_flushes c.args.self.now.store c.args.planned c.make_slots.new.store later (c.in-Ok.ensures.made (λ disk. 0)).1.same.spaces
+          (λ none. c.make_slots.ensures.due ∙ none) refl refl refl;
+      out = none_goes_out c.args.self.now.store.out c.make_slots.new.store.out (c.in-Ok.ensures.made (λ disk. 0)).1.out;
     }) c.go_on.ensures
 
 pub returns-in-Err-clause-writes : goal.returns-in-Err-clause-writes
@@ -159,8 +161,10 @@ returns-in-Err-clause-writes g c =
     let old : State = state_of c.args.self.now in
     let popped : Planned = slotting c.args.planned c.make_slots.new.slots in
     writes_without old c.make_slots.new.store c.args.planned popped c.in-Err.failed.disk phases.Slots c.go_without.result (state_of c.go_without.new.self)
+    (spelled_fits c.args.planned.uberblock (c.requires.there c.args.planned refl).fits)
     (record {
       makes = slots_only old c.args.planned c.make_slots.new.store c.requires.written c.requires.flushed c.make_slots.ensures.makes;
-      goes = same_flushes c.args.planned popped c.make_slots.new.store.disks refl refl refl;
-      shapes = ap shapes_of (c.in-Err.ensures.failed (λ disk. 0)).0.same.spaces;
-    }) c.requires.none c.go_without.ensures.goes
+      goes = same_flushes c.args.self.now.store c.args.planned c.make_slots.new.store popped (c.in-Err.ensures.failed (λ disk. 0)).0.same.spaces
+          (λ none. c.make_slots.ensures.due ∙ none) refl refl refl;
+      out = one_goes_out c.args.self.now.store.out c.in-Err.failed.disk c.make_slots.new.store.out (c.in-Err.ensures.failed (λ disk. 0)).0.out;
+    }) (c.in-Err.ensures.failed (λ disk. 0)).0.out c.requires.none c.go_without.ensures.goes
