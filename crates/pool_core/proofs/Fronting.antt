@@ -125,10 +125,10 @@ front_commits_none v given step (Committed group) w new is s = absurd (⊎_elim 
 front_commits_none v given step (Held group) w new is s = tt
 front_commits_none v given step reply w new is s = tt
 
-pub front_shows_none : (v : View) (given : Given) (step : Step) (reply : Reply) (w : View) (new : CoreState) → IsFrontStep step → StepOf v given step reply w → ShowsGroup reply w new
-front_shows_none v given step (Committed group) w new is s = absurd (⊎_elim (λ r. let e = r.answer in cc) (λ o. ⊎_elim (λ l. let e = l.answer in cc) (λ g. answers_commit_none v given step group w is g.answered) o) s)
-front_shows_none v given step (Held group) w new is s = tt
-front_shows_none v given step reply w new is s = tt
+pub front_shows_none : (v : View) (given : Given) (step : Step) (reply : Reply) (old : CoreState) (w : View) (new : CoreState) → IsFrontStep step → StepOf v given step reply w → ShowsGroup reply old w new
+front_shows_none v given step (Committed group) old w new is s = absurd (⊎_elim (λ r. let e = r.answer in cc) (λ o. ⊎_elim (λ l. let e = l.answer in cc) (λ g. answers_commit_none v given step group w is g.answered) o) s)
+front_shows_none v given step (Held group) old w new is s = tt
+front_shows_none v given step reply old w new is s = tt
 
 -- a step of the intake
 pub front : (s : CoreState) (intake : Intake) (v : View) (trusted : Bool) (step : Step) (reply : Reply) → Represents s v → IsFrontStep step
@@ -143,7 +143,7 @@ front s intake v trusted step reply r is_front goes = record {
     is_step = goes.1;
     represents = record { follows = goes.2; backs = backs_kept s.commit v goes.0 goes.3 r.backs };
     flushed = front_commits_none v nothing_given step reply goes.0 (record s { intake = intake }) is_front goes.1;
-    shown = front_shows_none v nothing_given step reply goes.0 (record s { intake = intake }) is_front goes.1;
+    shown = front_shows_none v nothing_given step reply s goes.0 (record s { intake = intake }) is_front goes.1;
     untouched = λ disk away. refl;
     only = front_calls step s nothing_given (record s { intake = intake }) is_front;
   };

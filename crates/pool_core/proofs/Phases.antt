@@ -285,7 +285,7 @@ ends_flow v w given (inl (done, same)) = ap (λ (u : View). flow_of (committed_n
 ends_flow v w given (inr (phase, without)) = ap (λ (u : View). flow_of (committed_next u)) without.after
 
 pub commits : (s : CoreState) (intake : Intake) (commit : State) (v w : View) (trusted : Bool) (reply : Reply) → Represents s v → is_suspended v ≡ false
-    → EndsWell (disks_of s) commit v w → Backs commit (committed_next w) → GrewTo (disks_of s) commit.store.disks
+    → EndsWell s.commit commit v w → Backs commit (committed_next w) → GrewTo (disks_of s) commit.store.disks
     → reply ≡ Committed (suc w.committed) → Follows intake (committed_next w) → Goes s v trusted Device reply (record { intake = intake; commit = commit })
 commits s intake commit v w trusted reply r free ends backs grew is f =
     let new : CoreState = record { intake = intake; commit = commit } in
@@ -300,7 +300,7 @@ commits s intake commit v w trusted reply r free ends backs grew is f =
         is_step = inr (inr (record { none = device_free v free planned; answered = ((syncing_if v.sync planned, refl, ends_flow v w given ends.ends), w, ends.ends, refl); calls = refl }));
         represents = record { follows = f; backs = backs };
         flushed = ends.flushed;
-        shown = (ends.root, ends.is_root, ends.timestamp, ends.shown);
+        shown = (ends.root, ends.is_root, ends.timestamp, ends.planned, ends.shown);
         untouched = device_spares s new v ends.made grew ends.are_made;
         only = ends.are_made.called;
       };
@@ -335,7 +335,7 @@ drops s commit v trusted disk reply r free p grew is = go (is_suspended (dropped
     after : Represents new (dropped v disk)
     after = record { follows = follows_on s.intake v (without_plan v.sync) (dropped v disk).out r.follows (ap is_syncing p.0.planned) (syncs_without_plan v.sync ∙ ap is_syncing p.0.planned); backs = p.1 }
 
-    goes : (answer : Reply) → StepOf v given Device answer (dropped v disk) → AreFlushed answer (dropped v disk) new → ShowsGroup answer (dropped v disk) new
+    goes : (answer : Reply) → StepOf v given Device answer (dropped v disk) → AreFlushed answer (dropped v disk) new → ShowsGroup answer s (dropped v disk) new
         → Goes s v trusted Device answer new
     goes answer step flushed shown = record {
       given = given;

@@ -65,7 +65,7 @@ read_goes s commit v lost trusted step reply r reads is_front loses is_step = re
     is_step = is_step;
     represents = record { follows = r.follows; backs = reads.backs v r.backs };
     flushed = front_commits_none v (given_by_reads s (record s { commit = commit }) lost trusted false) step reply v (record s { commit = commit }) is_front is_step;
-    shown = front_shows_none v (given_by_reads s (record s { commit = commit }) lost trusted false) step reply v (record s { commit = commit }) is_front is_step;
+    shown = front_shows_none v (given_by_reads s (record s { commit = commit }) lost trusted false) step reply s v (record s { commit = commit }) is_front is_step;
     untouched = spares_outs s commit s.intake v [] r reads.untouched;
     only = front_calls step s (given_by_reads s (record s { commit = commit }) lost trusted false) (record s { commit = commit }) is_front;
   };

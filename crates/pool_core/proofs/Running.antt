@@ -14,6 +14,7 @@ use Rattle.pool_commit.specs.Calls.{GrewTo}
 use Rattle.pool_commit.proofs.Made.{GrewTo-none, GrewTo-length}
 use Rattle.pool_commit.proofs.Accounted.{no_room_is_lost}
 use Rattle.pool_core.specs.Runs.{Chain, RunsTo, Ran}
+use Rattle.pool_core.specs.Moves.{Moves}
 use Rattle.pool_core.specs.State.{CoreState, disks_of}
 use Rattle.pool_core.specs.Steps.{IsPlanned, Link, TakesStep}
 
@@ -38,21 +39,23 @@ true_after old mid new first honest = parts_are_honest new.starts (length old.ca
 
 chain_more : (old : CoreState) (v : View) (steps : List Step) (givens : List Given) (replies : List Reply) (mid : CoreState) (between : View) (step : Step) (given : Given) (reply : Reply) (new : CoreState) (w : View)
     → Chain old v steps givens replies mid between → GrewTo (disks_of mid) (disks_of new) → Link mid between step given reply new w
+    → Moves step mid.commit new.commit
     → Chain old v (steps ++ step ∷ []) (givens ++ given ∷ []) (replies ++ reply ∷ []) new w
-chain_more old v [] [] [] mid between step given reply new w chain grew link = (
+chain_more old v [] [] [] mid between step given reply new w chain grew link moves = (
   new,
   w,
   subst (λ (s : CoreState). GrewTo (disks_of s) (disks_of new)) (sym chain.0) grew,
   subst (λ (p : CoreState × View). Link p.0 p.1 step given reply new w) (λ i. (sym chain.0 i, sym chain.1 i)) link,
+  subst (λ (s : CoreState). Moves step s.commit new.commit) (sym chain.0) moves,
   (refl, refl),
 )
-chain_more old v (x ∷ steps) (y ∷ givens) (z ∷ replies) mid between step given reply new w chain grew link =
-    (chain.0, chain.1, chain.2, chain.3, chain_more chain.0 chain.1 steps givens replies mid between step given reply new w chain.4 grew link)
-chain_more old v steps givens replies mid between step given reply new w chain grew link = absurd chain
+chain_more old v (x ∷ steps) (y ∷ givens) (z ∷ replies) mid between step given reply new w chain grew link moves =
+    (chain.0, chain.1, chain.2, chain.3, chain.4, chain_more chain.0 chain.1 steps givens replies mid between step given reply new w chain.5 grew link moves)
+chain_more old v steps givens replies mid between step given reply new w chain grew link moves = absurd chain
 
 pub run_of : (old : CoreState) (v : View) (steps : List Step) (givens : List Given) (replies : List Reply) (new : CoreState) (w : View) → Chain old v steps givens replies new w → Run v steps givens replies w
 run_of old v [] [] [] new w chain = sym chain.1
-run_of old v (step ∷ steps) (given ∷ givens) (reply ∷ replies) new w chain = (chain.1, chain.3.is_step, run_of chain.0 chain.1 steps givens replies new w chain.4)
+run_of old v (step ∷ steps) (given ∷ givens) (reply ∷ replies) new w chain = (chain.1, chain.3.is_step, run_of chain.0 chain.1 steps givens replies new w chain.5)
 run_of old v steps givens replies new w chain = absurd chain
 
 all_front : {A : Type 0} (P : A → Type 0) (xs ys : List A) → AllByRecursion P (xs ++ ys) → AllByRecursion P xs
@@ -76,8 +79,8 @@ runs_none old before = (
 )
 
 pub runs_on : (old : CoreState) (steps : List Step) (before : List Reply) (mid : CoreState) (now : List Reply) (step : Step) (reply : Reply) (new : CoreState)
-    → RunsTo old steps before mid now → GrewTo (disks_of mid) (disks_of new) → TakesStep mid step reply new → RunsTo old (steps ++ step ∷ []) before new (now ++ reply ∷ [])
-runs_on old steps before mid now step reply new runs grew goes = (
+    → RunsTo old steps before mid now → GrewTo (disks_of mid) (disks_of new) → TakesStep mid step reply new → Moves step mid.commit new.commit → RunsTo old (steps ++ step ∷ []) before new (now ++ reply ∷ [])
+runs_on old steps before mid now step reply new runs grew goes moves = (
   runs.0 ++ reply ∷ [],
   ap (λ xs. xs ++ reply ∷ []) runs.1 ∙ append_assoc before runs.0 (reply ∷ []),
   GrewTo-on (disks_of old) (disks_of mid) (disks_of new) runs.2 grew,
@@ -89,7 +92,7 @@ runs_on old steps before mid now step reply new runs grew goes = (
         givens = so_far.givens ++ one.given ∷ [];
         trust = λ e. all_more (λ (given : Given). given.trusted ≡ true) so_far.givens one.given (so_far.trust e) (one.trust e);
         after = one.after;
-        chain = chain_more old v steps so_far.givens runs.0 mid so_far.after step one.given reply new one.after so_far.chain grew one.link;
+        chain = chain_more old v steps so_far.givens runs.0 mid so_far.after step one.given reply new one.after so_far.chain grew one.link moves;
         represents = one.link.represents;
       },
 )

@@ -16,7 +16,7 @@ pub record ReadsAndPlans (old new : State) : Type 0 where
 -- Plan reads, and may make a plan; Device writes the plan; the reads read; all other steps change nothing, nor do those that are refused at once.
 abbrev pub Moves : Step → State → State → Type 0
 Moves (Plan timestamp) old new = (new ≡ old) ⊎ ReadsAndPlans old new
-Moves Device old new = WritesPlan old new
+Moves Device old new = (new ≡ old) ⊎ WritesPlan old new
 Moves (Read name offset len) old new = OnlyReadsPool old new []
 Moves (ReadUnder group name offset len) old new = OnlyReadsPool old new []
 Moves step old new = new ≡ old

@@ -8,15 +8,17 @@ use Rattle.pool_model.specs.Machine.{Run}
 use Rattle.pool_model.specs.Headline.{Headline}
 use Rattle.pool_commit.specs.Accounted.{HasAllRoom}
 use Rattle.pool_commit.specs.Calls.{GrewTo}
+use Rattle.pool_core.specs.Moves.{Moves}
 use Rattle.pool_core.specs.State.{CoreState, disks_of}
 use Rattle.pool_core.specs.Represents.{Represents}
 use Rattle.pool_core.specs.Steps.{PoolAnswersTruly, IsPlanned, Link}
 
--- One chain: each link leads from a core state and a view to the next ones, and the last are those of the end.
+-- One chain: each link leads from a core state and a view to the next ones, and writes what its step may write; the last are those of the end.
 abbrev pub Chain : CoreState → View → List Step → List Given → List Reply → CoreState → View → Type 0
 Chain old v [] [] [] new w = (old ≡ new) × (v ≡ w)
 Chain old v (step ∷ steps) (given ∷ givens) (reply ∷ replies) new w =
-    (mid : CoreState) × (between : View) × GrewTo (disks_of old) (disks_of mid) × Link old v step given reply mid between × Chain mid between steps givens replies new w
+    (mid : CoreState) × (between : View) × GrewTo (disks_of old) (disks_of mid) × Link old v step given reply mid between
+    × Moves step old.commit mid.commit × Chain mid between steps givens replies new w
 Chain old v steps givens replies new w = ⊥
 
 -- what was given is trusted, where the answers of the disks are known to be true

@@ -11,6 +11,7 @@ use Rattle.pool_model.specs.View.{View, Vdev, Given, DueCall, is_away, disks_in_
 use Rattle.pool_model.specs.Machine.{StepOf}
 use Rattle.pool_commit.specs.Calls.{disk_call, made_between, faults_between, unread_between, called_between, IsFlushed}
 use Rattle.pool_commit.specs.Progress.{fault_list}
+use Rattle.pool_commit.specs.declared.kept.Planned.{Planned as GroupPlan}
 use Rattle.pool_commit.specs.declared.kept.SlotWrite.{SlotWrite}
 use Rattle.pool_commit.specs.Slots.{ShowsIn, uberblock_of}
 use Rattle.pool_commit.specs.Room.{LacksRoom}
@@ -55,12 +56,13 @@ abbrev pub AreFlushed : Reply → View → CoreState → Type 0
 AreFlushed (Committed group) w new = (disk : ℕ) → Contains (disks_in_use w) disk → IsFlushed (disks_of new) disk
 AreFlushed reply w new = Unit {0}
 
--- and its uberblock stands in each of the four labels of these disks
-abbrev pub ShowsGroup : Reply → View → CoreState → Type 0
-ShowsGroup (Committed group) w new = (root : Block) × (new.commit.kept.last.root ≡ Some root) × (timestamp : ℕ)
+-- and its uberblock, which was planned, stands in each of the four labels of these disks
+abbrev pub ShowsGroup : Reply → CoreState → View → CoreState → Type 0
+ShowsGroup (Committed group) old w new = (root : Block) × (new.commit.kept.last.root ≡ Some root) × (timestamp : ℕ)
+    × ((plan : GroupPlan) → old.commit.planned ≡ Some plan → plan.uberblock ≡ uberblock_of new.commit.stamp group root timestamp)
     × ((write : SlotWrite) → Contains (disks_in_use w) write.disk → write.label < 4
     → ShowsIn (disks_of new) (uberblock_of new.commit.stamp group root timestamp) write)
-ShowsGroup reply w new = Unit {0}
+ShowsGroup reply old w new = Unit {0}
 
 -- no disk that is away is called
 abbrev pub AwayIsUntouched : CoreState → View → CoreState → Type 0
@@ -77,7 +79,7 @@ pub record Link (old : CoreState) (v : View) (step : Step) (given : Given) (repl
   pub is_step : StepOf v given step reply w
   pub represents : Represents new w
   pub flushed : AreFlushed reply w new
-  pub shown : ShowsGroup reply w new
+  pub shown : ShowsGroup reply old w new
   pub untouched : AwayIsUntouched old v new
   pub only : OnlyWritesAndFlushes step old given new
 

@@ -2,7 +2,7 @@
 ghost use Rattle.std.specs.Prelude.{◌≡◌, ◌⊎◌, ◌<◌, List, Some, IfOk, IfErr};
 ghost use Rattle.block_store.specs.Blocks.{Contents, nothing_stored};
 ghost use Rattle.block_store.specs.Opened.{CannotTakeIn};
-ghost use Rattle.block_store.specs.Places.{AreEmpty};
+ghost use Rattle.block_store.specs.Places.{AreEmpty, shapes_of};
 ghost use Rattle.block_store.specs.Plans.{Plans};
 ghost use Rattle.block_store.specs.Releases.{copies_of_all};
 ghost use Rattle.block_store.specs.Spaces.{VdevSpace};
@@ -77,6 +77,9 @@ impl<D: Disk + Drop> Core<D> {
         ensures disks { IfOk result (λ core. disks_in core ≡ store.disks) }
         ensures stamp { IfOk result (λ core. (state_of core).commit.stamp ≡ stamp) }
         ensures root { IfOk result (λ core. (state_of core).commit.kept.last.root ≡ Some root) }
+        ensures out { IfOk result (λ core. (state_of core).commit.store.out ≡ store.out) }
+        ensures shapes { IfOk result (λ core.
+            shapes_of (state_of core).commit.store.spaces ≡ shapes_of store.spaces) }
 
         // Where the store's disks have the blocks, and the root spells a pool whose volumes were made by then, the core is sound, and
         // represents that pool, committed as the group.

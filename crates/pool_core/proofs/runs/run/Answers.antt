@@ -29,7 +29,7 @@ taking-preserved g c =
       subst (λ (xs : List Reply). RunsTo (state_of c.args.core.now) (i.0 ++ c.in-Some.step ∷ []) c.args.replies.now.items (state_of c.step-reply.new.self) xs)
           (sym (c.in-Ok.ensures.items ∙ ap (λ (xs : List Reply). xs ++ c.step-reply.result ∷ []) c.try_reserve.ensures.items))
           (runs_on (state_of c.args.core.now) i.0 c.args.replies.now.items (state_of c.taking.core) c.taking.replies.items c.in-Some.step c.step-reply.result (state_of c.step-reply.new.self)
-          i.2 c.step-reply.ensures.grew c.step-reply.ensures.goes),
+          i.2 c.step-reply.ensures.grew c.step-reply.ensures.goes c.step-reply.ensures.moves),
     )
 
 pub returns-clause-all : goal.returns-clause-all

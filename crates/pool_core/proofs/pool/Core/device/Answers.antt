@@ -1,4 +1,4 @@
-use Rattle.std.proofs.Common.{sym, subst}
+use Rattle.std.proofs.Common.{inr, sym, subst}
 use Rattle.pool_model.specs.declared.step.Step.TheVariants as steps
 use Rattle.pool_commit.specs.declared.device.Progress.{Progress}
 use Rattle.pool_commit.specs.Progress.{Progresses, given_calls}
@@ -40,4 +40,4 @@ returns-in-Some-Dropped-clause-goes g c v trusted r free honest plans =
 
 pub returns-in-Some-Done-clause-moves : goal.returns-in-Some-Done-clause-moves
 returns-in-Some-Done-clause-moves g c =
-    subst (λ (commit : State). WritesPlan (commit_state c.args.self.now.commit) commit) (sym c.commit_group.ensures.commit) c.in-Some-Done.ensures.writes
+    inr (subst (λ (commit : State). WritesPlan (commit_state c.args.self.now.commit) commit) (sym c.commit_group.ensures.commit) c.in-Some-Done.ensures.writes)
