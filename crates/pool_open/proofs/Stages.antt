@@ -167,13 +167,16 @@ pub record IsMadeCore (later : List Bool) (new : Disks) (shapes : List VdevShape
   pub disks : disks_of core ≡ new
   pub stamped : core.commit.stamp ≡ stamp_of u
   pub root : core.commit.kept.last.root ≡ Some u.root
+  pub outs : core.commit.store.out ≡ later
+  pub vdevs : shapes_of core.commit.store.spaces ≡ shapes
   pub represents : CoreRepresents new shapes later u contents core
 
 pub opened_over : WritesElsewhereKeep → (out later : List Bool) (rewind : ℕ) (old surveyed read new : Disks) (shapes : List VdevShape) (s : Surveyed) (contents : RootContents) (core : CoreState)
-    → rewind < 3 → IsLaidOver old shapes out → is_tolerable (vdevs_in shapes) (is_out later) ≡ true → AreSurveyed out later rewind old surveyed s → AreReadBeside later surveyed read
+    → rewind < 3 → MayBeOpened old.starts shapes out → IsLaidOver old shapes out → is_tolerable (vdevs_in shapes) (is_out later) ≡ true
+    → AreSurveyed out later rewind old surveyed s → AreReadBeside later surveyed read
     → IsReadOfRoot surveyed read shapes later s.claimed.group s.claimed.root contents → AreBegun later s read new → AreDone later s read new
     → IsMadeCore later new shapes s.claimed contents core → IsOpenedOver old shapes out rewind s.claimed core
-opened_over keep out later rewind old surveyed read new shapes s contents core few laid tolerable are blocks root begun done made =
+opened_over keep out later rewind old surveyed read new shapes s contents core few may laid tolerable are blocks root begun done made =
     let is = still out later rewind old surveyed read s are blocks in
     let here : AreBegun later s read (disks_of core) = subst (λ (d : Disks). AreBegun later s read d) (sym made.disks) begun in
     let ended : AreDone later s read (disks_of core) = subst (λ (d : Disks). AreDone later s read d) (sym made.disks) done in
@@ -191,6 +194,9 @@ opened_over keep out later rewind old surveyed read new shapes s contents core f
       tolerable = tolerable;
       stamped = made.stamped;
       root = made.root;
+      may = may;
+      outs = made.outs;
+      vdevs = made.vdevs;
       represents = represents;
       possible = opens_possible (IsClaimWrite read.starts later s.claimed) old read new shapes later rewind s core few are.whole.found_on is begun.makes.makes made.disks represents;
     }

@@ -4,7 +4,7 @@ use Rattle.model_disk.specs.Joint.{Disks}
 use Rattle.raidz_io.specs.Reads.{IsHonestSince}
 use Rattle.block_store.specs.Blocks.{Contents}
 use Rattle.block_store.specs.Opened.{CannotTakeIn, MayBeOpened}
-use Rattle.block_store.specs.Places.{AreEmpty}
+use Rattle.block_store.specs.Places.{AreEmpty, shapes_of}
 use Rattle.block_store.specs.Releases.{copies_of_all}
 use Rattle.block_store.specs.Spaces.{VdevSpace}
 use Rattle.block_store.specs.Store.{Store, is_out}
@@ -78,6 +78,10 @@ pub record IsOpenedOver (old : Disks) (shapes : List VdevShape) (out : List Bool
   pub tolerable : is_tolerable (vdevs_in shapes) (is_out later) ≡ true
   pub stamped : core.commit.stamp ≡ stamp_of claimed
   pub root : core.commit.kept.last.root ≡ Some claimed.root
+  -- the vdevs take the disks in order, and the core has them and the disks that are out
+  pub may : MayBeOpened old.starts shapes out
+  pub outs : core.commit.store.out ≡ later
+  pub vdevs : shapes_of core.commit.store.spaces ≡ shapes
   pub represents : RepresentsRoot old shapes later claimed core
   pub possible : OpensPossible old shapes later rewind claimed core
 

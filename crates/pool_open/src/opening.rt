@@ -2,6 +2,7 @@
 ghost use Rattle.std.specs.Prelude.{◌≡◌, ◌⊎◌, ◌<◌, List, length, Some, true, IfErr, IfOk};
 ghost use Rattle.block_store.specs.Blocks.{Contents};
 ghost use Rattle.block_store.specs.Opened.{MayBeOpened};
+ghost use Rattle.block_store.specs.Places.{shapes_of};
 ghost use Rattle.block_store.specs.Store.{is_out};
 ghost use Rattle.dataset_snapshots.specs.Contents.{AreContentsOf};
 ghost use Rattle.pool_core.specs.Represents.{Represents};
@@ -119,6 +120,9 @@ pub fn core_over<D: Disk + Drop>(
     ensures stamped { IfOk result (λ core. (state_of core).commit.stamp ≡ stamp_of claimed.now) }
     ensures root { IfOk result (λ core.
         (state_of core).commit.kept.last.root ≡ Some claimed.now.root) }
+    ensures out { IfOk result (λ core. (state_of core).commit.store.out ≡ out.now) }
+    ensures shapes { IfOk result (λ core.
+        shapes_of (state_of core).commit.store.spaces ≡ shapes.now) }
     ensures represents { IfOk result (λ core. (stored : Contents) (pool : PlainPool)
         → HoldOver disks shapes.now out.now stored
         → AreContentsOf stored claimed.now.group claimed.now.root pool contents

@@ -131,10 +131,12 @@ returns-clause-opened g c =
       disks = c.in_ok-core.ensures.disks;
       stamped = c.in_ok-core.ensures.stamped;
       root = c.in_ok-core.ensures.root;
+      outs = c.in_ok-core.ensures.out;
+      vdevs = c.in_ok-core.ensures.shapes;
       represents = c.in_ok-core.ensures.represents;
     } in
     let made = subst (λ (u : Uberblock). M later u) c.in_ok-claimed.ensures.answer
     (subst (λ (xs : List Bool). M xs c.in_ok-claimed.claimed) c.deref-3.ensures.value is) in
     subst (λ (u : Uberblock). IsOpenedOver c.args.disks shapes c.args.out.items c.args.rewind u core) (sym c.in_ok-claimed.ensures.answer)
-    (opened_over c.writes_elsewhere_keep.ensures c.args.out.items later c.args.rewind c.args.disks surveyed read new shapes s contents core c.requires.rewind c.requires.laid
+    (opened_over c.writes_elsewhere_keep.ensures c.args.out.items later c.args.rewind c.args.disks surveyed read new shapes s contents core c.requires.rewind c.requires.may c.requires.laid
     c.in_ok-survey.ensures.tolerable are blocks root begun done made)
