@@ -6,12 +6,11 @@ use Rattle.pool_commit.specs.Backs.{Backs, HasPlan, IsPlanOf}
 use Rattle.pool_commit.specs.Making.{behind_left, flushes_left, slots_left, writes_left}
 use Rattle.pool_commit.specs.declared.kept.Planned.{Planned}
 use Rattle.pool_commit.specs.declared.kept.SlotWrite.{SlotWrite}
-use Rattle.pool_commit.proofs.Spellings.{spelled_fits}
 use Rattle.pool_model.specs.Flow.{counted_on}
 use Rattle.pool_model.specs.View.{DueCall}
 use Rattle.pool_model.specs.declared.step.Phase.TheVariants.{BlocksFlush, SlotsFlush}
 use Rattle.pool_stops.specs.Phases.{BackedPlansAreGood}
-use Rattle.pool_stops.proofs.Holding.{due_writes_are_unfilled, get_in_use}
+use Rattle.pool_stops.proofs.Holding.{due_writes_are_unfilled}
 
 all_back : {A : Type 0} (P : A → Type 0) (xs ys : List A) → AllByRecursion P (xs ++ ys) → AllByRecursion P ys
 all_back P [] ys all = all
@@ -30,9 +29,8 @@ slot_used out counts (first ∷ slots) write all (suc k, within, is) =
     slot_used out (counted_on counts first.disk) slots write all.1 (k, omega (arith, within), is)
 
 pub backed_plans_are_good : BackedPlansAreGood
-backed_plans_are_good s v plan last backs is disks count lie free claim group =
+backed_plans_are_good s v plan last backs is count lie claim group =
     let has : HasPlan s backs.blocks.planned plan v = subst (λ (o : Option Planned). IsPlanOf s backs.blocks.planned o v) is backs.blocks.plan in
-    let there = disks plan is in
     let P : DueCall → Type 0 = λ call. is_out s.store.out call.disk ≡ false in
     let writes : List DueCall = writes_left has.counts s.store.due in
     let flushes : List DueCall = flushes_left BlocksFlush plan.behind.flushes.items in
@@ -42,10 +40,8 @@ backed_plans_are_good s v plan last backs is disks count lie free claim group =
     all_front P slots last_of_all (all_back P flushes (slots ++ last_of_all) (all_back P writes (behind_left has.slot_counts plan.behind) has.in_use)) in
     record {
       lie = lie;
-      unfilled = due_writes_are_unfilled s.store backs.blocks.stored backs.blocks.planned lie backs.blocks.plans free;
+      count = count;
+      unfilled = due_writes_are_unfilled s.store backs.blocks.stored backs.blocks.planned lie backs.blocks.plans;
       next = (ap (λ u. u.claim) has.uberblock.is ∙ sym claim, ap (λ u. u.group) has.uberblock.is ∙ ap suc (sym group));
-      fits = spelled_fits plan.uberblock there.fits;
-      slots = λ write among.
-          let at = there.behind.slots write among in
-          (at.1, get_in_use s.store.out write.disk (omega (arith, at.0, count)) (slot_used s.store.out has.slot_counts plan.behind.slots.items write used among));
+      slots = λ write among. slot_used s.store.out has.slot_counts plan.behind.slots.items write used among;
     }

@@ -288,6 +288,10 @@ picked_are_for_blocks spaces disk i is =
 -- ---- other marks
 
 -- a sector that is taken isn't free
+pub for_blocks_picked : (spaces : List VdevSpace) (disk i : ℕ) → IsForBlocks spaces disk i → is_for_blocks spaces disk i ≡ true
+for_blocks_picked spaces disk i is =
+    any_at (λ (s : VdevSpace). is_in_vdev s.shape disk i) spaces is.v is.space is.found (in_vdev_yes is.space disk i is.first is.last is.from is.before)
+
 taken_is_not_free : (s : State) → is_taken s ≡ true → s ≢ Free
 taken_is_not_free Free is = absurd (true≢false (sym is))
 taken_is_not_free InUse is = λ free. cc

@@ -75,7 +75,7 @@ covered : (at n i : ℕ) → covers at n i ≡ true → (at ≤ i) × (i < at + 
 covered at n i is = (grind (arith, nat_tests, is), grind (arith, nat_tests, is))
 
 pub due_writes_are_unfilled : DueWritesAreUnfilled
-due_writes_are_unfilled store stored planned lie plans free which at bytes due i is =
+due_writes_are_unfilled store stored planned lie plans which at bytes due i is =
     let of = plans.due due.write due.is_due in
     let way = plans.on_the_way of.block of.bytes of.i of.extent of.is_planned of.is_new of.is_copy in
     let at_k = found_at (plans.writes_of of.block of.i) due.write of.is_of_copy in
@@ -84,7 +84,7 @@ due_writes_are_unfilled store stored planned lie plans free which at bytes due i
     let byte : IsOfExtent of.extent which i =
     written_of of.extent at_k.0 due.write which i column
     (record { which = due.disk; from_first = omega (arith, inside.0, due.place); before_end = omega (arith, inside.1, due.place, ap length due.same) }) in
-    let lies = free of.block of.bytes of.is_planned of.is_new of.i of.is_copy.place of.is_copy.is_copy in (
+    let lies = plans.fresh of.block of.bytes of.is_planned of.is_new of.i of.is_copy.place of.is_copy.is_copy in (
       lie_in_sectors store.spaces of.block.property.sectors of.is_copy.place of.extent which i
           (record { space = lies.space; found = lies.found; is_place = lies.is_place }) of.is_copy.extent_is byte,
       free_places_are_unfilled store.disks.starts store.spaces of.block.property.sectors of.is_copy.place of.extent which i lie.laid lies of.is_copy.extent_is byte,

@@ -4,3 +4,8 @@ pub mod Trees
 pub mod Holding
 pub mod Phases
 pub mod Backed
+pub mod Kept
+pub mod Steps
+pub mod Commits
+pub mod Runs
+pub mod Reopening

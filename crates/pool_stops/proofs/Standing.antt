@@ -56,7 +56,7 @@ off_slot_writes starts spaces u out disk i lie is fits at bytes write =
     ∙ covers-outside (slot_at size write.label (slot_number u.group)) 1024 i apart
 
 -- picked bytes are off labels, where they are for blocks
-picked_off : (picks : ℕ → ℕ → Bool) (held : ℕ → ℕ → Option ℕ) (starts : List (List ℕ)) (spaces : List VdevSpace) (out : List Bool) → LieBesideLabels starts spaces
+pub picked_off : (picks : ℕ → ℕ → Bool) (held : ℕ → ℕ → Option ℕ) (starts : List (List ℕ)) (spaces : List VdevSpace) (out : List Bool) → LieBesideLabels starts spaces
     → ((disk i : ℕ) → picks disk i ≡ true → IsForBlocks spaces disk i) → AreOffLabels (all_picked picks held) out starts
 picked_off picks held starts spaces out lie are root which i value used is =
     off_labels starts spaces which i lie (are which i (is_so (picks which i) (held which i) value is).0)

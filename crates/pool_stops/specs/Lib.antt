@@ -1,3 +1,5 @@
 pub mod Filled
 pub mod Standing
 pub mod Phases
+pub mod Running
+pub mod Reopening

@@ -1,13 +1,12 @@
 -- Where a plan stands between the steps of its device calls.
-use Rattle.std.specs.Prelude.{ℕ, ◌≡◌, ◌⊎◌, ◌<◌, List, [], ◌∷◌, length, Some, Contains}
+use Rattle.std.specs.Prelude.{ℕ, ◌≡◌, ◌⊎◌, false, List, [], ◌∷◌, length, Some, Contains}
 use Rattle.model_disk.specs.Joint.{calls_on, content}
 use Rattle.model_disk.specs.Runs.{IsSettled}
-use Rattle.uberblock_ring.specs.Uberblock.{Fits}
 use Rattle.uberblock_ring.specs.declared.uberblock.Uberblock.{Uberblock}
 use Rattle.pool_commit.specs.declared.kept.Planned.{Planned}
 use Rattle.pool_commit.specs.declared.kept.SlotWrite.{SlotWrite}
+use Rattle.block_store.specs.Store.{is_out}
 use Rattle.pool_commit.specs.Backs.{Backs}
-use Rattle.pool_commit.specs.HasDisks.{HasDisks}
 use Rattle.pool_commit.specs.State.{State}
 use Rattle.pool_commit.specs.Writing.{IsDueWrite, PlansFrom, WritesPlan}
 use Rattle.pool_model.specs.View.{View}
@@ -17,7 +16,7 @@ use Rattle.pool_slots.specs.Phases.{AreInBlocks, AreInSlots}
 use Rattle.pool_slots.specs.Slots.{AreSettled, InUse}
 use Rattle.pool_slots.specs.Writes.{SlotsStand, in_use}
 use Rattle.raidz_io.specs.Reads.{OnlyReads}
-use Rattle.pool_stops.specs.Standing.{AreInFreePlaces, LieBesideLabels, block_trees, filled_trees, unfilled_write}
+use Rattle.pool_stops.specs.Standing.{LieBesideLabels, block_trees, filled_trees, unfilled_write}
 
 -- No slot of the plan is written: each disk in use is to be flushed still, or no block is due and nothing on it is unflushed.
 pub record IsBeforeSlots (s : State) (plan : Planned) (last : Uberblock) (before : List Uberblock) : Type 0 where
@@ -34,13 +33,13 @@ pub record IsInSlots (s : State) (plan : Planned) (last : Uberblock) (before : L
 abbrev pub IsInPhase : State → Planned → Uberblock → List Uberblock → Type 0
 IsInPhase s plan last before = IsBeforeSlots s plan last before ⊎ IsInSlots s plan last before
 
--- The plan is of the next group, and may be made: its blocks lie beside what is filled, and its slots are on disks in use.
+-- The plan is of the next group, and may be made: its blocks lie beside what is filled, and its slots are on no disk that is out.
 pub record IsGoodPlan (s : State) (plan : Planned) (last : Uberblock) : Type 0 where
   pub lie : LieBesideLabels s.store.disks.starts s.store.spaces
+  pub count : length s.store.out ≡ length s.store.disks.starts
   pub unfilled : (which at : ℕ) (bytes : List ℕ) → IsDueWrite s.store.due which at bytes → unfilled_write s.store.spaces which at bytes
   pub next : IsNextGroup last plan.uberblock
-  pub fits : Fits plan.uberblock
-  pub slots : (write : SlotWrite) → Contains plan.behind.slots.items write → (write.label < 4) × InUse s.store.out write.disk
+  pub slots : (write : SlotWrite) → Contains plan.behind.slots.items write → is_out s.store.out write.disk ≡ false
 
 -- A step of its device calls was made with no disk going out, and some are left.
 pub record StepGoesOn (old : State) (plan : Planned) (new : State) (after : Planned) : Type 0 where
@@ -48,27 +47,21 @@ pub record StepGoesOn (old : State) (plan : Planned) (new : State) (after : Plan
   pub planned : old.planned ≡ Some plan
   pub still : new.planned ≡ Some after
   pub out : new.store.out ≡ old.store.out
-  pub spaces : new.store.spaces ≡ old.store.spaces
-  pub due : old.store.due ≡ [] → new.store.due ≡ []
-  pub begun : plan.behind.flushes.items ≡ [] → after.behind.flushes.items ≡ []
-  -- a disk is flushed only where no block is due
-  pub flushed : (disk : ℕ) → Contains plan.behind.flushes.items disk
-      → Contains after.behind.flushes.items disk ⊎ ((new.store.due ≡ []) × IsSettled (calls_on disk new.store.disks.calls))
 
 -- Stopped at any moment of it the disks lead to the last uberblock; or from the slots on to that or to the plan's.
 abbrev pub StopsWell : State → Planned → State → Uberblock → List Uberblock → Type 0
 StopsWell old plan new last before =
     LeadAlways (filled_trees old.store.spaces old.store.disks) old.store.out old.store.disks new.store.disks (only_last last before)
-    ⊎ LeadAlways (block_trees old.store.spaces old.store.disks) old.store.out old.store.disks new.store.disks (last_or last before plan.uberblock)
+    ⊎ ((old.store.due ≡ [])
+    × LeadAlways (block_trees old.store.spaces old.store.disks) old.store.out old.store.disks new.store.disks (last_or last before plan.uberblock))
 
 -- ---- laws
 
--- A plan of a state that backs a view may be made: behind the committed group's uberblock, where its blocks lie in places that are free without it.
+-- A plan of a state that backs a view may be made, behind the committed group's uberblock.
 abbrev pub BackedPlansAreGood : Type 0
 BackedPlansAreGood =
-    (s : State) (v : View) (plan : Planned) (last : Uberblock) → (backs : Backs s v) → s.planned ≡ Some plan → HasDisks (length s.store.disks.starts) s.planned
-    → length s.store.out ≡ length s.store.disks.starts → LieBesideLabels s.store.disks.starts s.store.spaces
-    → AreInFreePlaces s.store.spaces backs.blocks.stored backs.blocks.planned → last.claim ≡ s.stamp.claim → last.group ≡ v.committed → IsGoodPlan s plan last
+    (s : State) (v : View) (plan : Planned) (last : Uberblock) → Backs s v → s.planned ≡ Some plan → length s.store.out ≡ length s.store.disks.starts
+    → LieBesideLabels s.store.disks.starts s.store.spaces → last.claim ≡ s.stamp.claim → last.group ≡ v.committed → IsGoodPlan s plan last
 
 -- so the plan's phase goes on
 abbrev pub PhasesGoOn : Type 0
@@ -79,7 +72,7 @@ PhasesGoOn =
 -- whatever is read meanwhile
 abbrev pub ReadsKeepThePhase : Type 0
 ReadsKeepThePhase =
-    (old new : State) (plan : Planned) (last : Uberblock) (before : List Uberblock) → LieBesideLabels old.store.disks.starts old.store.spaces → Fits plan.uberblock
+    (old new : State) (plan : Planned) (last : Uberblock) (before : List Uberblock) → LieBesideLabels old.store.disks.starts old.store.spaces
     → OnlyReads old.store.disks new.store.disks → new ≡ record old { store = record old.store { disks = new.store.disks } }
     → IsInPhase old plan last before → IsInPhase new plan last before × StopsWell old plan new last before
 

@@ -1,5 +1,5 @@
 -- Where the disks of a running pool stand, with what is filled as the tree of each root: no list of blocks is needed.
-use Rattle.std.specs.Prelude.{ℕ, ◌≡◌, ◌∷◌, Bool, true, false, Some, None, List, length}
+use Rattle.std.specs.Prelude.{ℕ, ◌≡◌, ◌∷◌, Bool, true, false, Some, List, length}
 use Rattle.model_disk.specs.Contents.{covers}
 use Rattle.model_disk.specs.Joint.{Disks, content}
 use Rattle.model_disk.specs.Runs.{Makes, no_write}
@@ -10,11 +10,10 @@ use Rattle.raidz_io.specs.Stands.{ExtentStands}
 use Rattle.raidz_io.specs.declared.vdev.Extent.{Extent}
 use Rattle.block_store.specs.Blocks.{Contents}
 use Rattle.block_store.specs.Elsewhere.{IsForBlocks}
-use Rattle.block_store.specs.Places.{IsCopy, IsFree, IsLaidOut, filled}
+use Rattle.block_store.specs.Places.{IsCopy, IsLaidOut}
 use Rattle.block_store.specs.Plans.{Plans}
 use Rattle.block_store.specs.Store.{Store, Stores, outs}
 use Rattle.block_store.specs.Spaces.{VdevSpace}
-use Rattle.block_store.specs.Uses.{CopiesLieOn}
 use Rattle.pool_commit.specs.Slots.{LabelsLieAside}
 use Rattle.pool_commit.specs.Writing.{IsDueWrite}
 use Rattle.pool_slots.specs.Commits.{LeadAlways, last_or, only_last}
@@ -51,17 +50,12 @@ AllStand store stored disks =
     (block : Block) (bytes : List ℕ) (i : ℕ) (extent : Extent) → stored block ≡ Some bytes → IsCopy store.spaces block i extent
     → ExtentStands (content disks) (outs store) extent bytes
 
--- each copy of a block that a plan adds lies in a place that is free without it
-abbrev pub AreInFreePlaces : List VdevSpace → Contents → Contents → Type 0
-AreInFreePlaces spaces stored planned =
-    (block : Block) (bytes : List ℕ) → planned block ≡ Some bytes → stored block ≡ None → CopiesLieOn IsFree spaces filled block
-
 -- ---- laws
 
--- then the writes of it that are due change nothing that is filled
+-- the writes of a plan that are due change nothing that is filled
 abbrev pub DueWritesAreUnfilled : Type 0
 DueWritesAreUnfilled =
-    (store : Store) (stored planned : Contents) → LieBesideLabels store.disks.starts store.spaces → Plans store stored planned → AreInFreePlaces store.spaces stored planned
+    (store : Store) (stored planned : Contents) → LieBesideLabels store.disks.starts store.spaces → Plans store stored planned
     → (which at : ℕ) (bytes : List ℕ) → IsDueWrite store.due which at bytes → unfilled_write store.spaces which at bytes
 
 -- Wherever all that a store has filled stands, on disks in use, its blocks do.

@@ -1,6 +1,9 @@
 //! Laws of the bytes that are filled, and of where the disks stand with them: what each ensures follows from the definitions alone.
 ghost use Rattle.pool_stops.specs.Filled.{BlocksAreFilled, FilledBytesAreForBlocks, FreePlacesAreUnfilled};
 ghost use Rattle.pool_stops.specs.Phases.{BackedPlansAreGood, PhasesEnd, PhasesGoOn, PlansKeepThePhase, ReadsKeepThePhase};
+ghost use Rattle.pool_stops.specs.Reopening.{LedDisksOpen, RunsOutliveStops, StoppedOpensLead};
+ghost use Rattle.pool_stops.specs.Reopening.{StoppedStepsLead};
+ghost use Rattle.pool_stops.specs.Running.{RunningPoolsStepOn, RunsStopWell};
 ghost use Rattle.pool_stops.specs.Standing.{BlocksKeepWhatIsFilled, CommitsEndFilled, DueWritesAreUnfilled};
 ghost use Rattle.pool_stops.specs.Standing.{FilledTreesHoldBlocks, SlotsBeginBehindBlocks, SlotsKeepWhatIsForBlocks};
 
@@ -98,4 +101,51 @@ pub fn phases_end()
 {
     slots_keep_what_is_for_blocks();
     commits_end_filled();
+}
+
+/// A pool that runs, with no disk out, runs on with each step in which none goes out. Stopped at any moment of it the disks lead to the last
+/// committed group, or from its slots on to that or the planned one.
+pub fn running_pools_step_on()
+    ensures { RunningPoolsStepOn }
+{
+    blocks_phase();
+    blocks_keep_what_is_filled();
+    slots_begin_behind_blocks();
+    phases_go_on();
+    reads_keep_the_phase();
+    plans_keep_the_phase();
+    phases_end();
+}
+
+/// So it is of each step of a whole run, where no disk is out by the end of that step.
+pub fn runs_stop_well()
+    ensures { RunsStopWell }
+{
+    running_pools_step_on();
+}
+
+/// Wherever a step is stopped, what is left may be opened, and leads to the pool of the last committed group, or of the one that was begun.
+pub fn stopped_steps_lead()
+    ensures { StoppedStepsLead }
+{}
+
+/// So it is wherever an open is stopped.
+pub fn stopped_opens_lead()
+    ensures { StoppedOpensLead }
+{}
+
+/// An open that is done gives a core of one of these pools, which runs on.
+pub fn led_disks_open()
+    ensures { LedDisksOpen }
+{
+    blocks_phase();
+}
+
+/// **A pool outlives a stop at any moment of a run**, inside a step and inside a device call too, as long as no disk is out: its disks, opened anew,
+/// give a core of the last committed group, or of the one whose slots were begun, and it runs on.
+pub fn runs_outlive_stops()
+    ensures { RunsOutliveStops }
+{
+    runs_stop_well();
+    led_disks_open();
 }

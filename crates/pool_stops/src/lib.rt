@@ -1,5 +1,5 @@
-//! What a stop leaves of a pool that runs: which bytes of its disks are filled, and the phases of a commit with those bytes as the tree of each
-//! root. So far these are laws of their own: the steps of a core aren't tied to them yet.
+//! What a stop leaves of a pool that runs with no disk out, and what an open makes of it. The bytes that are filled are the tree of each root: with
+//! them each step of a core goes through the phases of a commit, at any moment of which the disks lead to the pool.
 #![tactic(auto)]
 
 mod laws;
@@ -7,6 +7,8 @@ mod laws;
 pub use laws::{
     backed_plans_are_good, blocks_are_filled, blocks_keep_what_is_filled, commits_end_filled,
     due_writes_are_unfilled, filled_bytes_are_for_blocks, filled_trees_hold_blocks,
-    free_places_are_unfilled, phases_end, phases_go_on, plans_keep_the_phase, reads_keep_the_phase,
-    slots_begin_behind_blocks, slots_keep_what_is_for_blocks,
+    free_places_are_unfilled, led_disks_open, phases_end, phases_go_on, plans_keep_the_phase,
+    reads_keep_the_phase, running_pools_step_on, runs_outlive_stops, runs_stop_well,
+    slots_begin_behind_blocks, slots_keep_what_is_for_blocks, stopped_opens_lead,
+    stopped_steps_lead,
 };

@@ -1,0 +1,190 @@
+-- The tree below the uberblock of a kept group, and of one that is planned.
+use Rattle.std.proofs.Common.{ℕ, zero, suc, ◌≡◌, ◌⊎◌, inl, inr, ⊎_elim, ◌+◌, ◌<◌, ◌≤◌, Bool, true, false, List, [], ◌∷◌, length, Option, Some, None, Contains, refl, sym, ap, subst, ◌∙◌, arith, true≢false}
+use Rattle.std.specs.Prelude.{if◌then◌else◌, filter, nat_le, replicate, slice_index}
+use Rattle.std.specs.List.{slice_get}
+use Rattle.model_disk.specs.Joint.{Disks, content}
+use Rattle.block_pointer.specs.Copies.{dvas}
+use Rattle.block_pointer.specs.declared.block.Block.{Block}
+use Rattle.raidz_io.specs.declared.vdev.Extent.{Extent}
+use Rattle.raidz_io.specs.Elsewhere.{IsOfExtent}
+use Rattle.raidz_io.specs.Places.{disk_of, offset_of}
+use Rattle.raidz_io.specs.Stands.{ExtentStands, all_columns}
+use Rattle.raidz_io.proofs.Written.{same_some, size_at, slice_get_some}
+use Rattle.block_store.specs.Blocks.{Contents, IsWrittenAs}
+use Rattle.block_store.specs.Elsewhere.{IsForBlocks}
+use Rattle.block_store.specs.Places.{ArePlacesIn, IsCopy, shapes_of}
+use Rattle.block_store.specs.Places.{planned as planned_marks}
+use Rattle.block_store.specs.Plans.{Plans}
+use Rattle.block_store.specs.Spaces.{VdevSpace}
+use Rattle.block_store.specs.Store.{Store, is_out, lost, outs, outs_from}
+use Rattle.block_store.proofs.Planning.{arrived, is_among, placed_lies, some_or_none, stored_by}
+use Rattle.block_store.proofs.Sectors.{lie_in_sectors}
+use Rattle.dataset_snapshots.specs.Pools.{SpellsPool}
+use Rattle.uberblock_ring.specs.declared.uberblock.Uberblock.{Uberblock}
+use Rattle.pool_commit.specs.declared.kept.KeptGroup.{KeptGroup}
+use Rattle.pool_commit.specs.declared.kept.Planned.{Planned}
+use Rattle.pool_commit.specs.Backs.{Backs, HasPlan, IsPlanOf, SpellsKept, SpellsRoot, kept_pool, pool_after}
+use Rattle.pool_commit.specs.State.{NoneIsOut, State, group_at}
+use Rattle.pool_model.specs.Pools.{PlainPool}
+use Rattle.pool_model.specs.View.{View, is_kept}
+use Rattle.pool_open.specs.Held.{HoldOver, IsStoreOver}
+use Rattle.pool_open.specs.Trees.{IsTreeOf}
+use Rattle.pool_open.proofs.Holding.{alike_stores_hold_alike}
+use Rattle.pool_slots.specs.Possible.{TreeStands, Trees}
+use Rattle.pool_slots.specs.Slots.{InUse}
+use Rattle.volume_rules.specs.NowMoves.{IsMadeBy}
+use Rattle.volume_rules.proofs.Overlays.{made_by_applied}
+use Rattle.pool_stops.specs.Filled.{is_filled, is_for_blocks}
+use Rattle.pool_stops.specs.Running.{IsOfKept, IsWhole}
+use Rattle.pool_stops.specs.Standing.{LieBesideLabels, block_trees, filled_trees}
+use Rattle.pool_stops.proofs.Filled.{filled_for_blocks, for_blocks_picked}
+use Rattle.pool_stops.proofs.Holding.{filled_trees_hold_blocks, get_in_use}
+use Rattle.pool_stops.proofs.Standing.{its_disk}
+use Rattle.pool_stops.proofs.Trees.{if_so, is_so}
+
+-- ---- stores that hold blocks
+
+none_from : (out : List Bool) (first : ℕ) → ((disk : ℕ) → is_out out disk ≡ false) → outs_from first out ≡ []
+none_from [] first none = refl
+none_from (flag ∷ out) first none =
+    ap (λ b. if b then first ∷ outs_from (suc first) out else outs_from (suc first) out) (none 0) ∙ none_from out (suc first) (λ disk. none (suc disk))
+
+-- with no disk out none is lost
+pub no_outs : (s : State) → NoneIsOut s → outs s.store ≡ []
+no_outs s none = none_from s.store.out 0 none
+
+-- whatever store is over these disks holds what stands on all of them
+hold_over : (store : Store) (disks : Disks) (held : Contents) → outs store ≡ [] → ((block : Block) (bytes : List ℕ) → held block ≡ Some bytes → IsWrittenAs block bytes)
+    → ((block : Block) (bytes : List ℕ) → held block ≡ Some bytes → ArePlacesIn store.spaces block.property.sectors (dvas block.copies))
+    → ((block : Block) (bytes : List ℕ) (i : ℕ) (extent : Extent) → held block ≡ Some bytes → IsCopy store.spaces block i extent → ExtentStands (content disks) [] extent bytes)
+    → HoldOver disks (shapes_of store.spaces) store.out held
+hold_over store disks held none written places stand =
+    let over : Store = record store { disks = disks; spans = record { since = replicate (length disks.starts) 0; group = 0 } } in
+    alike_stores_hold_alike disks (shapes_of store.spaces) store.out held over (record { disks_are = refl; shapes_are = refl; out_is = refl; since = refl })
+    (record {
+      blocks = written;
+      places = places;
+      stand = λ block bytes i extent known copy.
+          subst (λ (them : List ℕ). ExtentStands (content disks) (filter (λ disk. nat_le (slice_index over.spans.since disk) block.birth) them) extent bytes) (sym none)
+          (stand block bytes i extent known copy);
+    })
+
+-- ---- a kept group
+
+spells_root : (stored : Contents) (group : ℕ) (root : Block) (found : Option Block) (pool : PlainPool) → found ≡ Some root → SpellsRoot stored group found pool
+    → SpellsPool stored group root pool
+spells_root stored group root found pool is spells = subst (λ (o : Option Block). SpellsRoot stored group o pool) is spells
+
+spells_kept : (stored : Contents) (group : ℕ) (root : Block) (found : Option KeptGroup) (kept : KeptGroup) (pool : PlainPool) (here : Bool) → found ≡ Some kept
+    → kept.root ≡ Some root → SpellsKept stored group found (if here then Some pool else None) → SpellsPool stored group root pool
+spells_kept stored group root found kept pool true is root_is spells =
+    spells_root stored group root kept.root pool root_is (subst (λ (o : Option KeptGroup). SpellsKept stored group o (Some pool)) is spells).root
+spells_kept stored group root found kept pool false is root_is spells = absurd (subst (λ (o : Option KeptGroup). SpellsKept stored group o None) is spells)
+
+-- all that is filled is the tree of each kept group
+pub kept_tree : (s : State) (v : View) (u : Uberblock) → Backs s v → IsWhole s → IsOfKept s v u
+    → IsTreeOf (filled_trees s.store.spaces s.store.disks) s.store.disks.starts (shapes_of s.store.spaces) s.store.out u (v.pools u.group)
+kept_tree s v u backs whole of =
+    let none : outs s.store ≡ [] = no_outs s whole.none in
+    let stored : Contents = backs.blocks.stored in
+    let stores = stored_by s.store stored backs.blocks.planned backs.blocks.plans in
+    record {
+      stored = stored;
+      spells = spells_kept stored u.group u.root (group_at s.kept u.group) of.kept (v.pools u.group) (is_kept v u.group) of.is of.root (backs.blocks.kept u.group);
+      made = of.made;
+      held = λ disks same tree.
+          hold_over s.store disks stored none stores.held.blocks stores.held.places
+          (λ block bytes i extent known copy.
+          subst (λ (absent : List ℕ). ExtentStands (content disks) absent extent bytes) none
+          (filled_trees_hold_blocks s.store stored disks u.root whole.lie whole.count stores tree block bytes i extent known copy));
+    }
+
+-- ---- all bytes for blocks
+
+-- they are no fewer than those that are filled
+more_stand : (s : State) (disks : Disks) (root : Block) → TreeStands (block_trees s.store.spaces s.store.disks) s.store.out (content disks) root
+    → TreeStands (filled_trees s.store.spaces s.store.disks) s.store.out (content disks) root
+more_stand s disks root tree which i value used is =
+    let so = is_so (is_filled s.store.spaces which i) (content s.store.disks which i) value is in
+    tree which i value used
+    (if_so (is_for_blocks s.store.spaces which i) (content s.store.disks which i) None (filled_for_blocks s.store.spaces s.store.spaces which i refl so.0) ∙ so.1)
+
+-- so they are the tree of each kept group too
+pub kept_tree_too : (s : State) (u : Uberblock) (pool : PlainPool)
+    → IsTreeOf (filled_trees s.store.spaces s.store.disks) s.store.disks.starts (shapes_of s.store.spaces) s.store.out u pool
+    → IsTreeOf (block_trees s.store.spaces s.store.disks) s.store.disks.starts (shapes_of s.store.spaces) s.store.out u pool
+kept_tree_too s u pool tree = record {
+  stored = tree.stored;
+  spells = tree.spells;
+  made = tree.made;
+  held = λ disks same stands. tree.held disks same (more_stand s disks u.root stands);
+}
+
+-- what stands on all disks stands wherever all bytes for blocks do
+stands_too : (s : State) (disks : Disks) (root block : Block) (bytes : List ℕ) (i : ℕ) (extent : Extent) → IsWhole s
+    → ArePlacesIn s.store.spaces block.property.sectors (dvas block.copies) → IsCopy s.store.spaces block i extent → TreeStands (block_trees s.store.spaces s.store.disks) s.store.out (content disks) root
+    → ExtentStands (content s.store.disks) [] extent bytes → ExtentStands (content disks) [] extent bytes
+stands_too s disks root block bytes i extent whole places copy tree stands = record {
+  layout = stands.layout;
+  columns = stands.columns;
+  is_layout = stands.is_layout;
+  are_bytes = stands.are_bytes;
+  stand = λ k column column_bytes at at' present j within.
+      let disk : ℕ = disk_of extent.vdev column in
+      let place : ℕ = offset_of column + j in
+      let of : IsOfExtent extent disk place = record {
+        k = k;
+        column = column;
+        is_column = stands.is_layout.places k column at;
+        which = refl;
+        from_first = omega arith;
+        before_end = omega (arith, within, size_at (all_columns stands.columns) stands.layout k column column_bytes stands.are_bytes.sizes at at');
+      } in
+      let for_blocks : IsForBlocks s.store.spaces disk place =
+      lie_in_sectors s.store.spaces block.property.sectors copy.place extent disk place
+      (places copy.place (is_among (dvas block.copies) i copy.place copy.is_copy)) copy.extent_is of in
+      let there : disk < length s.store.out = omega (arith, its_disk s.store.disks.starts s.store.spaces disk place whole.lie.laid for_blocks, whole.count) in
+      let value = slice_get_some column_bytes j within in
+      let was : content s.store.disks disk place ≡ Some value.0 = stands.stand k column column_bytes at at' present j within ∙ value.1 in
+      tree disk place value.0 (get_in_use s.store.out disk there (whole.none disk))
+      (if_so (is_for_blocks s.store.spaces disk place) (content s.store.disks disk place) None (for_blocks_picked s.store.spaces disk place for_blocks) ∙ was)
+      ∙ sym value.1;
+}
+
+-- ---- a planned group
+
+-- once no write is due the blocks of a plan stand on all disks
+planned_stand : (s : State) (stored planned : Contents) (block : Block) (bytes : List ℕ) (i : ℕ) (extent : Extent) → outs s.store ≡ [] → s.store.due ≡ []
+    → Plans s.store stored planned → planned block ≡ Some bytes → IsCopy s.store.spaces block i extent → ExtentStands (content s.store.disks) [] extent bytes
+planned_stand s stored planned block bytes i extent none written plans known copy = ⊎_elim
+    (λ (was, is).
+    let same : was ≡ bytes = same_some was bytes (sym (plans.kept block was is) ∙ known) in
+    subst (λ (b : List ℕ). ExtentStands (content s.store.disks) [] extent b) same
+    (subst (λ (them : List ℕ). ExtentStands (content s.store.disks) (filter (λ disk. nat_le (slice_index s.store.spans.since disk) block.birth) them) extent was) none
+    (plans.held.stand block was i extent is copy)))
+    (λ new.
+    subst (λ (absent : List ℕ). ExtentStands (content s.store.disks) absent extent bytes) none
+    (arrived s.store (plans.writes_of block i) extent bytes written (plans.on_the_way block bytes i extent known new copy)))
+    (some_or_none (stored block))
+
+-- all bytes for blocks are the tree of a planned group, once no write is due
+pub plan_tree : (s : State) (v : View) (plan : Planned) → Backs s v → IsWhole s → s.planned ≡ Some plan → s.store.due ≡ [] → IsMadeBy v.committed (v.pools v.committed)
+    → IsTreeOf (block_trees s.store.spaces s.store.disks) s.store.disks.starts (shapes_of s.store.spaces) s.store.out plan.uberblock (pool_after v)
+plan_tree s v plan backs whole is written made =
+    let has : HasPlan s backs.blocks.planned plan v = subst (λ (o : Option Planned). IsPlanOf s backs.blocks.planned o v) is backs.blocks.plan in
+    let none : outs s.store ≡ [] = no_outs s whole.none in
+    let planned : Contents = backs.blocks.planned in
+    let plans : Plans s.store backs.blocks.stored planned = backs.blocks.plans in
+    let places = placed_lies s.store.spaces planned_marks planned plans.placed in
+    record {
+      stored = planned;
+      spells = subst (λ (u : Uberblock). SpellsPool planned u.group u.root (pool_after v)) (sym has.uberblock.is)
+          (spells_root planned (suc v.committed) has.uberblock.root plan.after.root (pool_after v) has.uberblock.is_root has.spells.root);
+      made = subst (λ (u : Uberblock). IsMadeBy u.group (pool_after v)) (sym has.uberblock.is)
+          (made_by_applied v.committed (v.pools v.committed) (v.ledger (suc v.committed)) made);
+      held = λ disks same tree.
+          hold_over s.store disks planned none plans.placed.blocks places
+          (λ block bytes i extent known copy.
+          stands_too s disks plan.uberblock.root block bytes i extent whole (places block bytes known) copy tree
+          (planned_stand s backs.blocks.stored planned block bytes i extent none written plans known copy));
+    }

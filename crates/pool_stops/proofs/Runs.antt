@@ -1,0 +1,119 @@
+-- Runs of a pool, of which no step puts a disk out.
+use Rattle.std.proofs.Common.{ℕ, ◌≡◌, ◌⊎◌, inl, inr, ⊎_elim, Bool, true, false, List, [], ◌∷◌, Option, Some, None, refl, sym, ap, subst, ◌∙◌, true≢false}
+use Rattle.block_store.specs.Store.{is_out}
+use Rattle.uberblock_ring.specs.declared.uberblock.Uberblock.{Uberblock}
+use Rattle.pool_commit.specs.declared.kept.Planned.{Planned}
+use Rattle.pool_commit.specs.Progress.{IsShifted}
+use Rattle.pool_commit.specs.State.{NoneIsOut, State}
+use Rattle.pool_commit.specs.Writing.{IsDropped, WritesPlan}
+use Rattle.pool_core.specs.Moves.{Moves}
+use Rattle.pool_core.specs.Runs.{Chain}
+use Rattle.pool_core.specs.State.{CoreState}
+use Rattle.pool_core.specs.Steps.{Link}
+use Rattle.pool_model.specs.View.{Given, View}
+use Rattle.pool_model.specs.declared.step.Reply.{Reply}
+use Rattle.pool_model.specs.declared.step.Step.{Step}
+use Rattle.pool_model.specs.declared.step.Step.TheVariants.{Hold, Write, Act, Release, Close, Quiesce, Plan, Device, Read, ReadUnder}
+use Rattle.pool_stops.specs.Running.{IsLastStep, IsRunning, RunStopsAt, RunningPoolsStepOn, RunsStopWell, StepsOn}
+use Rattle.pool_stops.proofs.Commits.{commits}
+use Rattle.pool_stops.proofs.Steps.{PhaseLaws, goes_on, plans_on, read_steps, stays}
+
+-- ---- one step
+
+-- with a plan, which is there afterwards or not
+with_plan : (old new : CoreState) (v w : View) (given : Given) (reply : Reply) (plan : Planned) (later : Option Planned) (last : Uberblock) (before : List Uberblock) → PhaseLaws
+    → IsRunning old v last before → Link old v Device given reply new w → WritesPlan old.commit new.commit → NoneIsOut new.commit → old.commit.planned ≡ Some plan
+    → new.commit.planned ≡ later → StepsOn old v new w last before
+with_plan old new v w given reply plan (Some after) last before laws runs link writes none is still =
+    goes_on old new v w Device given reply plan after last before laws runs link writes none is still
+with_plan old new v w given reply plan None last before laws runs link writes none is gone = ⊎_elim
+    (λ dropped. absurd (true≢false (sym dropped.out ∙ none dropped.disk)))
+    (λ shifted. commits old new v w given reply plan last before laws runs link writes none is gone shifted)
+    (writes.ends plan is gone)
+
+writes_on : (old new : CoreState) (v w : View) (given : Given) (reply : Reply) (planned : Option Planned) (last : Uberblock) (before : List Uberblock) → PhaseLaws
+    → IsRunning old v last before → Link old v Device given reply new w → WritesPlan old.commit new.commit → NoneIsOut new.commit → old.commit.planned ≡ planned
+    → StepsOn old v new w last before
+writes_on old new v w given reply None last before laws runs link writes none is = stays old new v w Device given reply last before laws runs link (writes.idle is)
+writes_on old new v w given reply (Some plan) last before laws runs link writes none is =
+    with_plan old new v w given reply plan new.commit.planned last before laws runs link writes none is refl
+
+pub steps_on : PhaseLaws → RunningPoolsStepOn
+steps_on laws old new v w (Hold x) given reply last before runs link moves none = stays old new v w (Hold x) given reply last before laws runs link moves
+steps_on laws old new v w (Write x) given reply last before runs link moves none = stays old new v w (Write x) given reply last before laws runs link moves
+steps_on laws old new v w (Act x) given reply last before runs link moves none = stays old new v w (Act x) given reply last before laws runs link moves
+steps_on laws old new v w (Release x) given reply last before runs link moves none = stays old new v w (Release x) given reply last before laws runs link moves
+steps_on laws old new v w Close given reply last before runs link moves none = stays old new v w Close given reply last before laws runs link moves
+steps_on laws old new v w Quiesce given reply last before runs link moves none = stays old new v w Quiesce given reply last before laws runs link moves
+steps_on laws old new v w (Plan t) given reply last before runs link moves none = ⊎_elim
+    (λ same. stays old new v w (Plan t) given reply last before laws runs link same)
+    (λ plans. plans_on old new v w (Plan t) given reply last before laws runs link plans) moves
+steps_on laws old new v w Device given reply last before runs link moves none = ⊎_elim
+    (λ same. stays old new v w Device given reply last before laws runs link same)
+    (λ writes. writes_on old new v w given reply old.commit.planned last before laws runs link writes none refl) moves
+steps_on laws old new v w (Read a b c) given reply last before runs link moves none =
+    read_steps old new v w (Read a b c) given reply last before laws runs link moves.reads moves.rest
+steps_on laws old new v w (ReadUnder g a b c) given reply last before runs link moves none =
+    read_steps old new v w (ReadUnder g a b c) given reply last before laws runs link moves.reads moves.rest
+
+-- ---- disks that are out stay so
+
+not_true : (b : Bool) → ¬ (b ≡ true) → b ≡ false
+not_true true isnt = absurd (isnt refl)
+not_true false isnt = refl
+
+same_out : (old new : State) → new.store.out ≡ old.store.out → NoneIsOut new → NoneIsOut old
+same_out old new same none disk = ap (λ out. is_out out disk) (sym same) ∙ none disk
+
+pub none_was_out : (step : Step) (old new : State) → Moves step old new → NoneIsOut new → NoneIsOut old
+none_was_out (Hold x) old new moves none = same_out old new (ap (λ s. s.store.out) moves) none
+none_was_out (Write x) old new moves none = same_out old new (ap (λ s. s.store.out) moves) none
+none_was_out (Act x) old new moves none = same_out old new (ap (λ s. s.store.out) moves) none
+none_was_out (Release x) old new moves none = same_out old new (ap (λ s. s.store.out) moves) none
+none_was_out Close old new moves none = same_out old new (ap (λ s. s.store.out) moves) none
+none_was_out Quiesce old new moves none = same_out old new (ap (λ s. s.store.out) moves) none
+none_was_out (Plan t) old new moves none = ⊎_elim (λ same. same_out old new (ap (λ s. s.store.out) same) none) (λ plans. same_out old new plans.from.out none) moves
+none_was_out Device old new moves none = ⊎_elim
+    (λ same. same_out old new (ap (λ s. s.store.out) same) none)
+    (λ writes. λ disk. not_true (is_out old.store.out disk) (λ out. true≢false (sym (writes.out.still disk out) ∙ none disk))) moves
+none_was_out (Read a b c) old new moves none = same_out old new (ap (λ s. s.store.out) moves.rest) none
+none_was_out (ReadUnder g a b c) old new moves none = same_out old new (ap (λ s. s.store.out) moves.rest) none
+
+-- ---- a run
+
+-- a chain of steps
+pub record RunsTo (mid : CoreState) (between : View) : Type 0 where
+  pub last : Uberblock
+  pub earlier : List Uberblock
+  pub runs : IsRunning mid between last earlier
+
+none_before : (old : CoreState) (v : View) (steps : List Step) (givens : List Given) (replies : List Reply) (mid : CoreState) (between : View)
+    → Chain old v steps givens replies mid between → NoneIsOut mid.commit → NoneIsOut old.commit
+none_before old v [] [] [] mid between chain none = subst (λ (s : CoreState). NoneIsOut s.commit) (sym chain.0) none
+none_before old v (step ∷ steps) (given ∷ givens) (reply ∷ replies) mid between chain none =
+    none_was_out step old.commit chain.0.commit chain.4 (none_before chain.0 chain.1 steps givens replies mid between chain.5 none)
+none_before old v steps givens replies mid between chain none = absurd chain
+
+chain_runs : RunningPoolsStepOn → (old : CoreState) (v : View) (steps : List Step) (givens : List Given) (replies : List Reply) (mid : CoreState) (between : View)
+    (last : Uberblock) (before : List Uberblock) → IsRunning old v last before → Chain old v steps givens replies mid between → NoneIsOut mid.commit → RunsTo mid between
+chain_runs law old v [] [] [] mid between last before runs chain none = record {
+  last = last;
+  earlier = before;
+  runs = subst (λ (p : CoreState × View). IsRunning p.0 p.1 last before) (λ i. (chain.0 i, chain.1 i)) runs;
+}
+chain_runs law old v (step ∷ steps) (given ∷ givens) (reply ∷ replies) mid between last before runs chain none =
+    let one = law old chain.0 v chain.1 step given reply last before runs chain.3 chain.4
+    (none_before chain.0 chain.1 steps givens replies mid between chain.5 none) in
+    chain_runs law chain.0 chain.1 steps givens replies mid between one.later one.earlier one.runs chain.5 none
+chain_runs law old v steps givens replies mid between last before runs chain none = absurd chain
+
+pub runs_stop : RunningPoolsStepOn → RunsStopWell
+runs_stop law old mid new v between w steps replies step reply last before runs end none =
+    let was : NoneIsOut mid.commit = none_was_out step mid.commit new.commit end.moves none in
+    let led = chain_runs law old v steps end.givens replies mid between last before runs end.before was in
+    record {
+      last = led.last;
+      earlier = led.earlier;
+      runs = led.runs;
+      steps = law mid new between w step end.given reply led.last led.earlier led.runs end.link end.moves none;
+    }
