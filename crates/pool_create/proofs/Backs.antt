@@ -30,13 +30,15 @@ use Rattle.pool_slots.proofs.Phases.{both_made}
 use Rattle.raidz_io.specs.Reads.{IsHonestSince}
 use Rattle.uberblock_ring.specs.declared.uberblock.Uberblock.{Uberblock}
 use Rattle.volume_rules.specs.NowMoves.{IsMadeBy}
+use Rattle.pool_create.specs.Alone.{AreReadAlone, IsCrowded, IsRefusedAlone}
 use Rattle.pool_create.specs.Planning.{none_out}
 use Rattle.pool_create.specs.ReadingBack.{IsCauseOfReading, IsFirstTaken, IsReadBack, IsSurveyRefused, IsTakenOf, IsUnread, first_uberblock}
 use Rattle.pool_create.specs.declared.planning.NewPool.{NewPool}
+use Rattle.pool_create.proofs.Alone.{all_alone_more, all_refused_since}
 
 -- ---- a survey in which no disk may go out
 
-used_at : (n which : ℕ) → which < n → InUse (none_out n) which
+pub used_at : (n which : ℕ) → which < n → InUse (none_out n) which
 used_at zero which below = absurd (omega (arith, below))
 used_at (suc n) zero below = refl
 used_at (suc n) (suc which) below = used_at n which (omega (arith, below))
@@ -61,6 +63,28 @@ untaken old new it root refusal (inl memory) = inl memory
 untaken old new it root refusal (inr (inl fault)) = inr (inl fault)
 untaken old new it root refusal (inr (inr why)) = inr (inr (inl why))
 
+-- ---- slots that show it alone
+
+pub taken_still : (old mid new : Disks) (out : List Bool) (u : Uberblock) → IsTakenOf old mid out u → Makes no_write mid new → IsTakenOf old new out u
+taken_still old mid new out u taken makes = record { s = taken.s; whole = taken.whole; surveyed = surveyed_still out 0 old mid new taken.s taken.surveyed makes; taken_is = taken.taken_is }
+
+-- one disk doesn't
+pub among_others : (old mid new : Disks) (it : NewPool) (root : Block) (u : Uberblock) (refusal : Refusal) → IsTakenOf old mid it.out.items u → u ≡ first_uberblock it root → Makes no_write old mid
+    → Makes no_write mid new → IsRefusedAlone u mid new refusal → IsCauseOfReading old new it root refusal
+among_others old mid new it root u refusal taken is before after why =
+    let since = all_refused_since u old mid new refusal before why in
+    elim since.2 [
+      | inl memory ↦ inl memory
+      | inr (inl fault) ↦ inr (inl (fault.0, (since.0, fault.1)))
+      | inr (inr crowded) ↦ inr (inr (inr (inl (
+        crowded.0,
+        inr (
+          record { u = u; taken = taken_still old mid new it.out.items u taken after; is = is },
+          subst (λ (v : Uberblock). IsCrowded v old new) is (since.0, since.1, crowded.1),
+        ),
+      ))))
+    ]
+
 -- ---- the core
 
 none_made_by : (group : ℕ) → IsMadeBy group no_volumes
@@ -72,6 +96,7 @@ pub record AreRead (old surveyed read : Disks) (it : NewPool) (root : Block) (u 
   pub only : Makes no_write old surveyed
   pub taken : IsTakenOf old surveyed it.out.items u
   pub is : u ≡ first_uberblock it root
+  pub alone : AreReadAlone u old surveyed
   pub beside : AreReadBeside it.out.items surveyed read
   pub contents_are : IsReadOfRoot surveyed read it.shapes.items it.out.items 3 root contents
 
@@ -90,12 +115,14 @@ back_of keep old surveyed read it root u contents core are made =
     let shapes = it.shapes.items in
     let out = it.out.items in
     let both = both_read old surveyed read it root u contents are in
-    let still = surveyed_still out 0 old surveyed read are.taken.s are.taken.surveyed (block_reads_made surveyed read are.beside.only) in
+    let reads = block_reads_made surveyed read are.beside.only in
+    let still : IsTakenOf old read out u × AreReadAlone u old read = (taken_still old surveyed read out u are.taken reads, all_alone_more u old surveyed read reads are.alone) in
     let at : CoreRepresents read shapes out (first_uberblock it root) contents core = subst (λ (v : Uberblock). CoreRepresents read shapes out v contents core) are.is made.represents in
     record {
       only = subst (λ (d : Disks). Makes no_write old d) (sym made.disks) both;
       is = are.is;
-      taken = subst (λ (d : Disks). IsTakenOf old d out u) (sym made.disks) (record { s = are.taken.s; whole = are.taken.whole; surveyed = still; taken_is = are.taken.taken_is });
+      taken = subst (λ (d : Disks). IsTakenOf old d out u) (sym made.disks) still.0;
+      alone = subst (λ (d : Disks). AreReadAlone u old d) (sym made.disks) still.1;
       stamped = made.stamped;
       root_is = made.root_is;
       represents = λ stored hold spells honest.

@@ -1,5 +1,5 @@
 -- Vdevs of a configuration on disks.
-use Rattle.std.proofs.Common.{◌≡◌, Bool, ℕ, suc, ◌+◌, ◌*◌, ◌/◌, ◌^◌, ◌≤◌, List, [], ◌∷◌, length, refl, sym, ap, ◌∙◌, subst, arith}
+use Rattle.std.proofs.Common.{◌≡◌, Bool, ℕ, suc, ◌+◌, ◌*◌, ◌/◌, ◌^◌, ◌≤◌, ◌<◌, List, All, [], ◌∷◌, length, refl, sym, ap, ◌∙◌, subst, arith}
 use Rattle.std.proofs.lemmas.List.{length-append}
 use Rattle.block_store.specs.Config.{sectors_of, size_of}
 use Rattle.block_store.specs.Opened.{FitsDisks, LieOn, MayBeOpened}
@@ -8,6 +8,7 @@ use Rattle.block_store.specs.declared.shape.VdevShape.{VdevShape}
 use Rattle.pool_format.specs.Labels.{children_of, children_with}
 use Rattle.pool_format.specs.declared.labeling.PoolIdentity.{PoolIdentity}
 use Rattle.pool_open.specs.Shapes.{AreShapesOf, IsShapeOf}
+use Rattle.vdev_label.specs.Limits.{IsAllowedVdev}
 use Rattle.vdev_label.specs.Plain.{PlainVdev, config_view}
 use Rattle.vdev_label.specs.declared.label.Config.{Config}
 use Rattle.pool_create.specs.Planning.{IsAllowedPool, IsNewPool, MayBeMade, nobody}
@@ -32,6 +33,16 @@ counted (v ∷ vs) starts first (s ∷ ss) are lie =
 pub all_counted : (config : Config) (starts : List (List ℕ)) (shapes : List VdevShape) → AreShapesOf (config_view config) 0 shapes → LieOn starts 0 shapes
     → length (children_of (config_view config)) ≡ length starts
 all_counted config starts shapes are lie = omega (arith, counted (config_view config) starts 0 shapes are lie)
+
+-- an allowed configuration has a child
+some_in : (vdevs : List PlainVdev) → 1 ≤ length vdevs → All IsAllowedVdev vdevs → 0 < length (children_of vdevs)
+some_in [] some each = absurd (omega (arith, some))
+some_in (v ∷ vs) some each =
+    let first : IsAllowedVdev v = each 0 v (omega arith) in
+    omega (arith, first.children_from, length-append (children_with v.guid v.children) (children_of vs), children_count v.guid v.children)
+
+pub some_children : (config : Config) (pool : PoolIdentity) → IsAllowedPool pool config → 0 < length (children_of (config_view config))
+some_children config pool allowed = some_in (config_view config) allowed.1.vdevs_from allowed.1.each
 
 -- a vdev that a configuration describes fits as another one does
 same_fit : (v : PlainVdev) (starts : List (List ℕ)) (first : ℕ) (one other : VdevShape) → IsShapeOf v first one → IsShapeOf v first other → FitsDisks starts one → FitsDisks starts other

@@ -6,5 +6,6 @@ pub mod Known
 pub mod FirstGroup
 pub mod Labels
 pub mod Showing
+pub mod Alone
 pub mod Backs
 pub mod Stages

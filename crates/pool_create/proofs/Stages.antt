@@ -1,5 +1,5 @@
 -- A pool that is made, stage by stage.
-use Rattle.std.proofs.Common.{◌≡◌, ◌⊎◌, inl, inr, ℕ, Bool, true, false, List, length, refl, sym, ap, ◌∙◌, subst}
+use Rattle.std.proofs.Common.{◌≡◌, ◌⊎◌, inl, inr, ℕ, Bool, true, false, List, length, refl, sym, ap, ◌∙◌, subst, arith}
 use Rattle.std.specs.Prelude.{Ok}
 use Rattle.block_pointer.specs.declared.block.Block.{Block}
 use Rattle.block_store.specs.Elsewhere.{WritesElsewhereKeep}
@@ -29,16 +29,16 @@ use Rattle.raidz_io.specs.Reads.{IsHonestSince}
 use Rattle.uberblock_ring.specs.declared.uberblock.Uberblock.{Uberblock}
 use Rattle.vdev_label.specs.Plain.{config_view}
 use Rattle.vdev_label.specs.declared.label.Config.{Config}
-use Rattle.pool_create.specs.Creating.{CreateRefuses, HasFault, IsCreated, IsFirst, IsShownSince}
+use Rattle.pool_create.specs.Creating.{CreateRefuses, HasFault, IsCreated, IsFirst, IsShownAlone, IsShownAloneSince, IsShownSince}
 use Rattle.pool_create.specs.FirstGroup.{HasFirstGroup, LacksFirstGroup}
-use Rattle.pool_create.specs.Planning.{IsAllowedPool, IsNewPool, nobody}
+use Rattle.pool_create.specs.Planning.{IsAllowedPool, IsNewPool, nobody, none_out}
 use Rattle.pool_create.specs.ReadingBack.{IsReadBack, IsUnread, first_uberblock}
 use Rattle.pool_create.specs.Stages.{IsFit, IsLaid, IsMade, IsUnfit, IsUnmade}
 use Rattle.pool_create.specs.declared.planning.NewPool.{NewPool}
-use Rattle.pool_create.proofs.Fitting.{may_be_made, may_not_be_made}
+use Rattle.pool_create.proofs.Fitting.{may_be_made, may_not_be_made, some_children}
 use Rattle.pool_create.proofs.Grown.{fails_in, made_grew}
 use Rattle.pool_create.proofs.Known.{known_unfailed}
-use Rattle.pool_create.proofs.Showing.{taken_shown}
+use Rattle.pool_create.proofs.Showing.{alone_fits, alone_shown, taken_shown}
 use Rattle.pool_create.proofs.Labels.{held_behind_labels, labeled_later, laid_later}
 use Rattle.pool_commit.proofs.Made.{GrewTo-none}
 
@@ -87,6 +87,7 @@ is_first config count it root u new is = subst (λ (v : Uberblock). IsFirst conf
 pub record AreStages (old first labeled : Disks) (pool : PoolIdentity) (config : Config) (it : NewPool) (root : Block) (u : Uberblock) (core : CoreState) : Type 0 where
   pub new : IsNewPool config (length old.starts) it
   pub laid : IsLaid old it
+  pub allowed : IsAllowedPool pool config
   pub count : length (children_of (config_view config)) ≡ length old.starts
   pub group : HasFirstGroup old it first root
   pub labels : Makes (IsLabelWrite first.starts (labels_of pool config 1 3)) first labeled
@@ -116,16 +117,32 @@ represents_none keep old first labeled pool config it root u core are honest =
     let hold = held_behind_labels keep first labeled it.shapes.items it.out.items pool config spelled.0 laid count are.labels are.show spelled.1 in
     are.back.represents spelled.0 hold spelled.2 (true_after old labeled (disks_of core) (grew_labels old first labeled pool config it root u core are) honest)
 
+-- what was known of the old disks is known of the labeled ones, and the reads of these were true
+since_labels : (old first labeled : Disks) (pool : PoolIdentity) (config : Config) (it : NewPool) (root : Block) (u : Uberblock) (core : CoreState)
+    → AreStages old first labeled pool config it root u core → AreKnown (nobody old.starts) old → IsHonestSince old (disks_of core)
+    → AreKnown it.out.items labeled × IsHonestSince labeled (disks_of core)
+since_labels old first labeled pool config it root u core are known honest =
+    let out = it.out.items in
+    let known_here : AreKnown out old = subst (λ (flags : List Bool). AreKnown flags old) (sym are.new.none_is_out) known in
+    let known_first = are.group.known (true_before old first (disks_of core) (grew_first old first labeled pool config it root u core are) honest) known_here in (
+      known_unfailed out first labeled (made_grew (IsLabelWrite first.starts (labels_of pool config 1 3)) first labeled are.labels) are.unfailed known_first,
+      true_after old labeled (disks_of core) (grew_labels old first labeled pool config it root u core are) honest,
+    )
+
 shown_since : (old first labeled : Disks) (pool : PoolIdentity) (config : Config) (it : NewPool) (root : Block) (u : Uberblock) (core : CoreState)
     → AreStages old first labeled pool config it root u core → IsShownSince old (disks_of core) u
 shown_since old first labeled pool config it root u core are known honest =
-    let out = it.out.items in
-    let known_here : AreKnown out old = subst (λ (flags : List Bool). AreKnown flags old) (sym are.new.none_is_out) known in
-    let known_first = are.group.known (true_before old first (disks_of core) (grew_first old first labeled pool config it root u core are) honest) known_here in
-    let known_last = known_unfailed out first labeled (made_grew (IsLabelWrite first.starts (labels_of pool config 1 3)) first labeled are.labels) are.unfailed known_first in
-    let honest_last = true_after old labeled (disks_of core) (grew_labels old first labeled pool config it root u core are) honest in
+    let last = since_labels old first labeled pool config it root u core are known honest in
     subst (λ (flags : List Bool). IsHighestShown flags (disks_of core) u) are.new.none_is_out
-    (taken_shown labeled (disks_of core) (disks_of core) out u are.back.taken are.back.only known_last honest_last)
+    (taken_shown labeled (disks_of core) (disks_of core) it.out.items u are.back.taken are.back.only last.0 last.1)
+
+alone_since : (old first labeled : Disks) (pool : PoolIdentity) (config : Config) (it : NewPool) (root : Block) (u : Uberblock) (core : CoreState)
+    → AreStages old first labeled pool config it root u core → IsShownAloneSince old (disks_of core) u
+alone_since old first labeled pool config it root u core are known honest =
+    let last = since_labels old first labeled pool config it root u core are known honest in
+    let grew = grew_labels old first labeled pool config it root u core are in
+    subst (λ (starts : List (List ℕ)). IsShownAlone (length starts) (disks_of core) u) grew.starts
+    (alone_shown labeled (disks_of core) it.out.items u are.back.only (are.new.none_is_out ∙ ap (λ (starts : List (List ℕ)). none_out (length starts)) (sym grew.starts)) are.back.alone last.0 last.1)
 
 pub made_of : WritesElsewhereKeep → (old first labeled : Disks) (pool : PoolIdentity) (config : Config) (it : NewPool) (root : Block) (u : Uberblock) (core : CoreState)
     → AreStages old first labeled pool config it root u core → IsMade old pool config it u core
@@ -135,6 +152,9 @@ made_of keep old first labeled pool config it root u core are = record {
   labeled = labeled_later labeled (disks_of core) (labels_of pool config 1 3) are.back.only are.show;
   settled = AreSettled-kept labeled (disks_of core) are.back.only are.settled;
   shown = shown_since old first labeled pool config it root u core are;
+  fits = alone_fits labeled (disks_of core) u
+      (omega (arith, some_children config pool are.allowed, are.count, ap length (grew_labels old first labeled pool config it root u core are).starts)) are.back.alone;
+  alone = alone_since old first labeled pool config it root u core are;
   stamped = are.back.stamped;
   root = are.back.root_is;
   represents = represents_none keep old first labeled pool config it root u core are;
@@ -158,6 +178,11 @@ created_of old blank pool config it u core allowed new fit made =
           let here = known_later (nobody old.starts) old blank fit.only known in
           let S : List (List ℕ) → Type 0 = λ starts. AreKnown (nobody starts) blank → IsHighestShown (nobody starts) (disks_of core) u in
           subst S fit.only.starts (λ is. made.shown is (true_after old blank (disks_of core) first honest)) here;
+      fits = made.fits;
+      alone = λ known honest.
+          let here = known_later (nobody old.starts) old blank fit.only known in
+          let S : List (List ℕ) → Type 0 = λ starts. AreKnown (nobody starts) blank → IsShownAlone (length starts) (disks_of core) u in
+          subst S fit.only.starts (λ is. made.alone is (true_after old blank (disks_of core) first honest)) here;
       stamped = made.stamped;
       root = made.root;
       represents = λ honest.

@@ -1,9 +1,9 @@
 -- A pool that is made on disks.
-use Rattle.std.specs.Prelude.{ℕ, ◌≡◌, ◌⊎◌, true, false, Some, List, length, Ok}
+use Rattle.std.specs.Prelude.{ℕ, ◌≡◌, ◌⊎◌, ◌<◌, true, false, Some, List, length, Ok}
 use Rattle.block_pointer.specs.declared.block.Block.{Block}
 use Rattle.block_store.specs.Store.{is_out}
 use Rattle.block_store.specs.declared.shape.VdevShape.{VdevShape}
-use Rattle.model_disk.specs.Joint.{Disks}
+use Rattle.model_disk.specs.Joint.{Disks, bytes_of, content}
 use Rattle.model_disk.specs.Runs.{AreSettled, Makes}
 use Rattle.pool_commit.specs.Calls.{GrewTo}
 use Rattle.pool_core.specs.Represents.{Represents}
@@ -18,9 +18,11 @@ use Rattle.pool_open.specs.Words.{stamp_of, vdevs_in}
 use Rattle.pool_open.specs.declared.refusal.Refusal.{Refusal}
 use Rattle.pool_open.specs.declared.refusal.Refusal.TheVariants.{NoMemory, DiskFault, BadConfig}
 use Rattle.pool_slots.specs.Failures.{HasFailedOn}
-use Rattle.pool_slots.specs.Opens.{AreKnown, IsHighestShown}
+use Rattle.pool_slots.specs.Opens.{AreKnown, IsHighestShown, IsShownOn}
+use Rattle.pool_slots.specs.Slots.{IsSlot, Shows, slot_at}
 use Rattle.raidz_io.specs.Reads.{IsHonestSince}
 use Rattle.sha2.specs.Sha256.{sha256}
+use Rattle.uberblock_ring.specs.Uberblock.{Fits}
 use Rattle.uberblock_ring.specs.declared.uberblock.Uberblock.{Uberblock}
 use Rattle.vdev_label.specs.Config.{config_bytes, guid_sum}
 use Rattle.vdev_label.specs.Plain.{config_view}
@@ -43,6 +45,16 @@ pub record IsFirst (config : Config) (u : Uberblock) : Type 0 where
 abbrev pub IsShownSince : Disks → Disks → Uberblock → Type 0
 IsShownSince old new u = AreKnown (nobody old.starts) old → IsHonestSince old new → IsHighestShown (nobody old.starts) new u
 
+-- each slot of each of so many disks shows the uberblock or none, and each disk shows it
+pub record IsShownAlone (count : ℕ) (disks : Disks) (u : Uberblock) : Type 0 where
+  pub only : (which label slot : ℕ) (v : Uberblock) → which < count → IsSlot label slot
+      → Shows (content disks which) (slot_at (length (bytes_of disks.starts which)) label slot) slot v → v ≡ u
+  pub each : (which : ℕ) → which < count → IsShownOn (length (bytes_of disks.starts which)) (content disks which) u
+
+-- where the bytes of the old disks were known and all answers since were true, each of the new ones shows it, and no other
+abbrev pub IsShownAloneSince : Disks → Disks → Uberblock → Type 0
+IsShownAloneSince old new u = AreKnown (nobody old.starts) old → IsHonestSince old new → IsShownAlone (length old.starts) new u
+
 -- The pool was made: no disk showed one before, then its first group was committed, and then all disks were labeled.
 pub record IsCreated (old : Disks) (pool : PoolIdentity) (config : Config) (u : Uberblock) (core : CoreState) : Type 0 where
   pub may : MayBeMade old.starts pool config
@@ -54,6 +66,8 @@ pub record IsCreated (old : Disks) (pool : PoolIdentity) (config : Config) (u : 
   pub labeled : AreLabeled (disks_of core) (labels_of pool config 1 3)
   pub settled : AreSettled (disks_of core)
   pub shown : IsShownSince old (disks_of core) u
+  pub fits : Fits u
+  pub alone : IsShownAloneSince old (disks_of core) u
   pub stamped : core.commit.stamp ≡ stamp_of u
   pub root : core.commit.kept.last.root ≡ Some u.root
   pub represents : IsHonestSince old (disks_of core)

@@ -1,5 +1,6 @@
 pub mod Planning
 pub mod FirstGroup
+pub mod Alone
 pub mod ReadingBack
 pub mod Creating
 pub mod Stages

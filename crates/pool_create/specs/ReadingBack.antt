@@ -26,6 +26,7 @@ use Rattle.pool_slots.specs.Surveys.{Surveyed, IsSurveyed, IsWholeOf, SurveyRefu
 use Rattle.pool_slots.specs.declared.refusal.Refusal.{Refusal as SlotsRefusal}
 use Rattle.raidz_io.specs.Reads.{IsHonestSince}
 use Rattle.uberblock_ring.specs.declared.uberblock.Uberblock.{Uberblock}
+use Rattle.pool_create.specs.Alone.{AreReadAlone, IsCrowded}
 use Rattle.pool_create.specs.declared.planning.NewPool.{NewPool}
 
 -- the uberblock of the first group with this root
@@ -44,6 +45,7 @@ pub record IsReadBack (old : Disks) (it : NewPool) (root : Block) (u : Uberblock
   pub only : Makes no_write old (disks_of core)
   pub is : u ≡ first_uberblock it root
   pub taken : IsTakenOf old (disks_of core) it.out.items u
+  pub alone : AreReadAlone u old (disks_of core)
   pub stamped : core.commit.stamp ≡ stamp_of u
   pub root_is : core.commit.kept.last.root ≡ Some u.root
   pub represents : (stored : Contents) → HoldOver old it.shapes.items it.out.items stored → SpellsPool stored 3 root no_volumes
@@ -61,11 +63,15 @@ pub record IsSurveyRefused (old new : Disks) (refusal : Refusal) : Type 0 where
 abbrev pub IsOther : Disks → Disks → NewPool → Block → Type 0
 IsOther old new it root = (u : Uberblock) × IsTakenOf old new it.out.items u × (u ≢ first_uberblock it root)
 
--- they show that one
+-- it is that one
 pub record IsFirstTaken (old surveyed : Disks) (it : NewPool) (root : Block) : Type 0 where
   pub u : Uberblock
   pub taken : IsTakenOf old surveyed it.out.items u
   pub is : u ≡ first_uberblock it root
+
+-- it is, and one of the disks shows another too, or another alone, or none
+abbrev pub IsAmongOthers : Disks → Disks → NewPool → Block → Type 0
+IsAmongOthers old new it root = IsFirstTaken old new it root × IsCrowded (first_uberblock it root) old new
 
 -- its root can't be read
 pub record IsRootUnread (now : Disks) (it : NewPool) (root : Block) (refusal : Refusal) : Type 0 where
@@ -85,7 +91,7 @@ IsCauseOfReading old new it root refusal =
     (refusal ≡ NoMemory)
     ⊎ (((refusal ≡ DiskFault) × ((which : ℕ) × HasFailedOn old new which))
     ⊎ (IsSurveyRefused old new refusal
-    ⊎ (((refusal ≡ NoUberblock) × IsOther old new it root)
+    ⊎ (((refusal ≡ NoUberblock) × (IsOther old new it root ⊎ IsAmongOthers old new it root))
     ⊎ (((surveyed : Disks) × IsFirstTaken old surveyed it root × IsRootUnread surveyed it root refusal)
     ⊎ ((refusal ≡ BadPointer) × ((surveyed : Disks) × IsFirstTaken old surveyed it root × IsMisplaced surveyed new it root))))))
 

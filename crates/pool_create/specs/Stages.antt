@@ -18,9 +18,10 @@ use Rattle.pool_open.specs.declared.refusal.Refusal.{Refusal}
 use Rattle.pool_open.specs.declared.refusal.Refusal.TheVariants.{NoMemory, DiskFault, BadConfig}
 use Rattle.pool_slots.specs.Slots.{HaveLabels}
 use Rattle.raidz_io.specs.Reads.{IsHonestSince}
+use Rattle.uberblock_ring.specs.Uberblock.{Fits}
 use Rattle.uberblock_ring.specs.declared.uberblock.Uberblock.{Uberblock}
 use Rattle.vdev_label.specs.declared.label.Config.{Config}
-use Rattle.pool_create.specs.Creating.{GoesTo, IsBackRefused, HasFault, IsFirst, IsShownSince}
+use Rattle.pool_create.specs.Creating.{GoesTo, IsBackRefused, HasFault, IsFirst, IsShownAloneSince, IsShownSince}
 use Rattle.pool_create.specs.FirstGroup.{LacksFirstGroup}
 use Rattle.pool_create.specs.declared.planning.NewPool.{NewPool}
 
@@ -49,6 +50,8 @@ pub record IsMade (old : Disks) (pool : PoolIdentity) (config : Config) (it : Ne
   pub labeled : AreLabeled (disks_of core) (labels_of pool config 1 3)
   pub settled : AreSettled (disks_of core)
   pub shown : IsShownSince old (disks_of core) u
+  pub fits : Fits u
+  pub alone : IsShownAloneSince old (disks_of core) u
   pub stamped : core.commit.stamp ≡ stamp_of u
   pub root : core.commit.kept.last.root ≡ Some u.root
   pub represents : IsHonestSince old (disks_of core)

@@ -27,7 +27,8 @@ fn array_of<D: Disk + Drop>(
 
 /// Makes a pool of that name, guid and configuration on disks that show none: they are the children of the configuration's vdevs, in
 /// order. Its first group, of number 3, has no volumes. It is committed under claim 1, and then each disk is given its labels and
-/// flushed. At last the pool is read as an open reads it, without a claim, and goes on from there.
+/// flushed. At last the pool is read as an open reads it, without a claim, and all slots of all disks are read, which must show its uberblock
+/// and no other. It goes on from there.
 ///
 /// `BadConfig` where a pool may not have the name, or one of that guid the configuration; where the vdevs don't take all disks, or don't
 /// lie on them; and where a disk shows a label or an uberblock. Until then nothing was written, and after any other refusal the disks may

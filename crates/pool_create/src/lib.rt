@@ -9,6 +9,7 @@ mod labeling;
 mod making;
 mod planning;
 mod reading_back;
+mod slots;
 mod steps;
 mod surveying;
 

@@ -9,7 +9,7 @@ ghost use Rattle.pool_slots.specs.Slots.{HaveLabels};
 ghost use Rattle.uberblock_ring.specs.Uberblock.{IsNumber};
 
 use crate::planning::NewPool;
-use crate::surveying::survey_first;
+use crate::surveying::survey_alone;
 use block_pointer::Block;
 use block_store::writes_elsewhere_keep;
 use model_disk::{Disk, DiskArray};
@@ -34,7 +34,7 @@ pub(crate) fn read_back<D: Disk + Drop>(
 {
     writes_elsewhere_keep();
     let mut disks = disks;
-    let taken = survey_first(alloc, &mut disks, pool, root)?;
+    let taken = survey_alone(alloc, &mut disks, pool, root)?;
     let read = read_root(alloc, disks, &pool.shapes, &pool.out, &root, 3, u64::MAX)?;
     let ReadRoot { disks, contents } = read;
     let core = core_over(alloc, disks, &pool.shapes, &pool.out, &taken, contents)?;

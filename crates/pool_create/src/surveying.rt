@@ -1,13 +1,15 @@
 //! What a new pool's disks show.
-ghost use Rattle.std.specs.Prelude.{◌≡◌, ◌⊎◌, ◌↔◌, ℕ, true, length, slice_get, Some, IsTrue, IfErr, IfOk};
+ghost use Rattle.std.specs.Prelude.{◌≡◌, ◌⊎◌, ℕ, true, length, slice_get, Some, IfErr, IfOk};
 ghost use Rattle.std.specs.Bool.{OnFalse, OnTrue};
 ghost use Rattle.model_disk.specs.Runs.{Makes, no_write};
+ghost use Rattle.pool_create.specs.Alone.{AreReadAlone};
 ghost use Rattle.pool_create.specs.Planning.{none_out};
 ghost use Rattle.pool_create.specs.ReadingBack.{IsCauseOfReading, IsSurveyRefused, IsTakenOf, first_uberblock};
 ghost use Rattle.pool_slots.specs.Failures.{HasFailedOn};
 ghost use Rattle.pool_slots.specs.Slots.{HaveLabels};
 
 use crate::planning::{NewPool, none_out};
+use crate::slots::{is_same, require_alone};
 use block_pointer::Block;
 use model_disk::{Disk, DiskArray};
 use pool_open::Refusal;
@@ -44,13 +46,6 @@ fn first_uberblock(pool: &NewPool, root: Block) -> Uberblock
     }
 }
 
-/// Whether two uberblocks are the same.
-fn is_same(one: Uberblock, other: Uberblock) -> bool
-    ensures { IsTrue result ↔ (one ≡ other) }
-{
-    one == other
-}
-
 /// The uberblock that an open would take. `DiskFault` where a disk can't be read.
 fn taken_uberblock<D: Disk + Drop>(
     alloc: Global,
@@ -74,7 +69,7 @@ fn taken_uberblock<D: Disk + Drop>(
 }
 
 /// The same, which must be that of the first group.
-pub(crate) fn survey_first<D: Disk + Drop>(
+fn survey_first<D: Disk + Drop>(
     alloc: Global,
     disks: &mut DiskArray<D>,
     pool: &NewPool,
@@ -91,5 +86,25 @@ pub(crate) fn survey_first<D: Disk + Drop>(
     if !is_same(taken, first_uberblock(pool, root)) {
         return Err(Refusal::NoUberblock);
     }
+    Ok(taken)
+}
+
+/// The same, which must be the only one that each disk's slots show.
+pub(crate) fn survey_alone<D: Disk + Drop>(
+    alloc: Global,
+    disks: &mut DiskArray<D>,
+    pool: &NewPool,
+    root: Block,
+) -> Result<Uberblock, Refusal>
+    requires labels { HaveLabels disks.old.starts }
+    requires out { pool.now.out.items ≡ none_out (length disks.old.starts) }
+    ensures only { Makes no_write disks.old disks.new }
+    ensures taken { IfOk result (IsTakenOf disks.old disks.new pool.now.out.items) }
+    ensures is { IfOk result (λ u. u ≡ first_uberblock pool.now root) }
+    ensures alone { IfOk result (λ u. AreReadAlone u disks.old disks.new) }
+    ensures refused { IfErr result (IsCauseOfReading disks.old disks.new pool.now root) }
+{
+    let taken = survey_first(alloc, disks, pool, root)?;
+    require_alone(alloc, disks, taken)?;
     Ok(taken)
 }

@@ -60,6 +60,7 @@ returns-clause-made g c =
     let are : AreStages c.args.disks first.disks labeled c.args.pool c.args.config it first.root opened.uberblock (state_of opened.core) = record {
       new = c.requires.new;
       laid = c.requires.laid;
+      allowed = c.requires.allowed;
       count = c.requires.count;
       group = c.in_ok-first.ensures.first;
       labels = c.label.ensures.makes;

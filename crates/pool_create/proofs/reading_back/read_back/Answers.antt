@@ -16,34 +16,35 @@ pub returns-in_err-taken-clause-refused : goal.returns-in_err-taken-clause-refus
 returns-in_err-taken-clause-refused g c =
     let cause = c.in_err-taken.field-0.0 in
     if_err_is c.from_residual.result cause (IsUnread c.args.disks c.args.pool.now c.args.root) c.from_residual.ensures.1
-    (c.survey_first.new.disks, c.survey_first.ensures.only, c.in_err-taken.ensures.refused)
+    (c.survey_alone.new.disks, c.survey_alone.ensures.only, c.in_err-taken.ensures.refused)
 
 pub returns-in_err-read-clause-refused : goal.returns-in_err-read-clause-refused
 returns-in_err-read-clause-refused g c =
     let cause = c.in_err-read.field-0.0 in
     let it = c.args.pool.now in
-    let surveyed = c.survey_first.new.disks in
+    let surveyed = c.survey_alone.new.disks in
     let dropped = subst (λ (xs : List Bool). WereReadBeside xs surveyed) c.deref-2.ensures.value c.in_err-read.ensures.dropped in
     let W : List VdevShape → List Bool → Type 0 = λ ss xs. (cause ≡ store.NoMemory) ⊎ RootRefuses surveyed ss xs 3 c.args.root (2 ^ 64 - 1) cause in
     let why = subst (λ (ss : List VdevShape). W ss it.out.items) c.deref.ensures.value
     (subst (λ (xs : List Bool). W c.deref.result.now xs) c.deref-2.ensures.value c.in_err-read.ensures.refused) in
     if_err_is c.from_residual-in_err-read.result (of_store cause) (IsUnread c.args.disks it c.args.root) c.from_residual-in_err-read.ensures.1
-    (unread_root c.args.disks surveyed it c.args.root cause c.survey_first.ensures.only
+    (unread_root c.args.disks surveyed it c.args.root cause c.survey_alone.ensures.only
     (record { u = c.in_ok-taken.taken; taken = c.in_ok-taken.ensures.taken; is = c.in_ok-taken.ensures.is }) dropped why)
 
 pub returns-in_err-core-clause-refused : goal.returns-in_err-core-clause-refused
 returns-in_err-core-clause-refused g c =
     let cause = c.in_err-core.field-0.0 in
     let it = c.args.pool.now in
-    let surveyed = c.survey_first.new.disks in
+    let surveyed = c.survey_alone.new.disks in
     let read = c.in_ok-read.read.disks in
     let contents = c.in_ok-read.read.contents in
     let R : List VdevShape → List Bool → Type 0 = λ ss xs. IsReadOfRoot surveyed read ss xs 3 c.args.root contents in
     let are : AreRead c.args.disks surveyed read it c.args.root c.in_ok-taken.taken contents = record {
       laid = c.requires.laid;
-      only = c.survey_first.ensures.only;
+      only = c.survey_alone.ensures.only;
       taken = c.in_ok-taken.ensures.taken;
       is = c.in_ok-taken.ensures.is;
+      alone = c.in_ok-taken.ensures.alone;
       beside = subst (λ (xs : List Bool). AreReadBeside xs surveyed read) c.deref-2.ensures.value c.in_ok-read.ensures.only;
       contents_are = subst (λ (ss : List VdevShape). R ss it.out.items) c.deref.ensures.value (subst (λ (xs : List Bool). R c.deref.result.now xs) c.deref-2.ensures.value c.in_ok-read.ensures.contents);
     } in
@@ -56,7 +57,7 @@ returns-in_err-core-clause-refused g c =
 pub returns-clause-read : goal.returns-clause-read
 returns-clause-read g c =
     let it = c.args.pool.now in
-    let surveyed = c.survey_first.new.disks in
+    let surveyed = c.survey_alone.new.disks in
     let read = c.in_ok-read.read.disks in
     let contents = c.in_ok-read.read.contents in
     let core = state_of c.in_ok-core.core in
@@ -64,9 +65,10 @@ returns-clause-read g c =
     let R : List VdevShape → List Bool → Type 0 = λ ss xs. IsReadOfRoot surveyed read ss xs 3 c.args.root contents in
     let are : AreRead c.args.disks surveyed read it c.args.root u contents = record {
       laid = c.requires.laid;
-      only = c.survey_first.ensures.only;
+      only = c.survey_alone.ensures.only;
       taken = c.in_ok-taken.ensures.taken;
       is = c.in_ok-taken.ensures.is;
+      alone = c.in_ok-taken.ensures.alone;
       beside = subst (λ (xs : List Bool). AreReadBeside xs surveyed read) c.deref-2.ensures.value c.in_ok-read.ensures.only;
       contents_are = subst (λ (ss : List VdevShape). R ss it.out.items) c.deref.ensures.value (subst (λ (xs : List Bool). R c.deref.result.now xs) c.deref-2.ensures.value c.in_ok-read.ensures.contents);
     } in

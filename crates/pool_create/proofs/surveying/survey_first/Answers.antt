@@ -19,7 +19,7 @@ returns-then-not-is_same-clause-refused g c =
     let u = c.in_ok-taken.taken in
     inr (inr (inr (inl (
       refl,
-      (
+      inl (
         u,
         subst (λ (flags : List Bool). IsTakenOf old new flags u) (sym c.requires.out) c.in_ok-taken.ensures.taken,
         λ same. let yes = c.is_same.ensures.1 (same ∙ sym c.first_uberblock.ensures) in let fails = c.if-not-is_same.true in cc,
