@@ -1,0 +1,25 @@
+//! Tests of pools that are stopped at any device call of a commit or of an open, and opened again.
+#![tactic(auto)]
+
+#[cfg(test)]
+mod commits;
+#[cfg(test)]
+mod history;
+#[cfg(test)]
+mod images;
+#[cfg(test)]
+mod judging;
+#[cfg(test)]
+mod openings;
+#[cfg(test)]
+mod pools;
+#[cfg(test)]
+mod recording;
+#[cfg(test)]
+mod reopening;
+#[cfg(test)]
+mod runs;
+#[cfg(test)]
+mod stages;
+#[cfg(test)]
+mod stopping;

@@ -1,0 +1,256 @@
+//! Pools of three disks with two volumes, and what they show.
+use model_disk::{Disk, MemDisk, Member};
+use pool_core::Core;
+use pool_create::create;
+use pool_format::PoolIdentity;
+use pool_model::{Action, Bytes, Change, Name, Reply, Step, Write};
+use pool_open::{OpenedPool, Refusal, open};
+use std::alloc::{AllocError, Global};
+use vdev_label::{Config, Vdev};
+
+/// Of each disk.
+const DISK_BYTES: usize = 0x80_0000;
+
+/// Of each volume.
+const BLOCKS: usize = 4;
+
+const BLOCK_BYTES: usize = 512;
+
+#[derive(Clone, Copy, Debug)]
+pub(crate) enum Which {
+    V,
+    W,
+}
+
+/// What a group does.
+#[derive(Clone, Copy, Debug)]
+pub(crate) enum Doing {
+    /// Makes the volume, whose blocks are zeros.
+    Makes(Which),
+    /// Fills a block of it with that byte.
+    Fills(Which, usize, u8),
+}
+
+/// A volume as it is read.
+#[derive(Clone, Copy, Debug, PartialEq, Eq)]
+pub(crate) enum Volume {
+    /// There is none of this name.
+    Absent,
+    /// The byte that each block is filled with.
+    Blocks([u8; BLOCKS]),
+    /// It can't be read, or some block isn't filled with one byte.
+    Lost,
+}
+
+/// What a pool shows: its group and its volumes.
+#[derive(Clone, Copy, Debug, PartialEq, Eq)]
+pub(crate) struct Shown {
+    pub(crate) group: u64,
+    pub(crate) v: Volume,
+    pub(crate) w: Volume,
+}
+
+impl Volume {
+    fn done(self, doing: Doing) -> Volume {
+        match (self, doing) {
+            (Volume::Absent, Doing::Makes(_)) => Volume::Blocks([0; BLOCKS]),
+            (Volume::Blocks(blocks), Doing::Fills(_, block, byte)) => {
+                let mut blocks = blocks;
+                if block < BLOCKS {
+                    blocks[block] = byte;
+                }
+                Volume::Blocks(blocks)
+            }
+            (volume, _) => volume,
+        }
+    }
+}
+
+fn which_of(doing: Doing) -> Which {
+    match doing {
+        Doing::Makes(which) | Doing::Fills(which, _, _) => which,
+    }
+}
+
+impl Shown {
+    /// What it shows once this is done.
+    pub(crate) fn done(self, doing: Doing) -> Shown {
+        match which_of(doing) {
+            Which::V => Shown {
+                v: self.v.done(doing),
+                ..self
+            },
+            Which::W => Shown {
+                w: self.w.done(doing),
+                ..self
+            },
+        }
+    }
+
+    /// What the next group shows which does that.
+    pub(crate) fn next(self, doings: &[Doing]) -> Shown {
+        let mut shown = self;
+        for doing in doings {
+            shown = shown.done(*doing);
+        }
+        shown.group = shown.group.saturating_add(1);
+        shown
+    }
+}
+
+/// One vdev of these three disks, with one parity and five metaslabs, two of them for the pool's own blocks.
+fn config(alloc: Global) -> Result<Config, AllocError> {
+    let vdev = Vdev {
+        guid: 100,
+        parity: 1,
+        child_sectors: 7168,
+        slab_shift: 12,
+        meta_slabs: 2,
+        children: vec![in alloc; 101, 102, 103]?,
+    };
+    Ok(Config {
+        vdevs: vec![in alloc; vdev]?,
+    })
+}
+
+/// The bytes of the disks that are there, in order.
+pub(crate) fn bytes_of(
+    alloc: Global,
+    members: Vec<Member<MemDisk>>,
+) -> Result<Vec<Vec<u8>>, AllocError> {
+    let mut all = Vec::new(alloc);
+    for member in members {
+        if let Some(disk) = member.into_disk() {
+            all.push(disk.into_bytes())?;
+        }
+    }
+    Ok(all)
+}
+
+/// The disks of a new pool.
+pub(crate) fn made(alloc: Global) -> Result<Vec<Vec<u8>>, Refusal> {
+    let disks = MemDisk::several(alloc, 3, DISK_BYTES)?;
+    let name = String::from_str(alloc, "pool")?;
+    let config = config(alloc)?;
+    let OpenedPool { core, .. } = create(alloc, disks, PoolIdentity { name, guid: 1 }, config)?;
+    Ok(bytes_of(alloc, core.into_disks())?)
+}
+
+/// Opens the pool on these disks.
+pub(crate) fn opened<D: Disk + Drop>(
+    alloc: Global,
+    disks: Vec<D>,
+) -> Result<OpenedPool<Member<D>>, Refusal> {
+    open(alloc, disks, 0)
+}
+
+fn name_of(alloc: Global, which: Which) -> Result<Name, AllocError> {
+    let text = match which {
+        Which::V => "v",
+        Which::W => "w",
+    };
+    Ok(Name::new(Vec::from_slice(alloc, text.as_bytes())?))
+}
+
+/// What writer 1 does as its item of that number.
+fn step_of(alloc: Global, doing: Doing, number: u64) -> Result<Step, AllocError> {
+    let name = name_of(alloc, which_of(doing))?;
+    Ok(match doing {
+        Doing::Makes(_) => Step::Act(Action {
+            writer: 1,
+            number,
+            change: Change::Create {
+                name,
+                size: 2048,
+                block_size: 512,
+            },
+        }),
+        Doing::Fills(_, block, byte) => Step::Write(Write {
+            writer: 1,
+            number,
+            volume: name,
+            offset: (block as u64).saturating_mul(512),
+            bytes: Bytes::new(vec![in alloc; byte; BLOCK_BYTES]?),
+        }),
+    })
+}
+
+/// The open group does these things, as items of writer 1 from that number on.
+pub(crate) fn do_all<D: Disk + Drop>(
+    alloc: Global,
+    core: &mut Core<D>,
+    doings: &[Doing],
+    first: u64,
+) -> Result<(), AllocError> {
+    core.step(Step::Hold(1));
+    let mut number = first;
+    for doing in doings {
+        core.step(step_of(alloc, *doing, number)?);
+        number = number.saturating_add(1);
+    }
+    core.step(Step::Release(1));
+    Ok(())
+}
+
+/// Closes the open group and plans its commit.
+pub(crate) fn plan<D: Disk + Drop>(core: &mut Core<D>) -> Reply {
+    core.step(Step::Close);
+    core.step(Step::Quiesce);
+    core.step(Step::Plan { timestamp: 0 })
+}
+
+/// The byte that a block is filled with.
+fn byte_of(block: &[u8]) -> Option<u8> {
+    let first = *block.first()?;
+    if block.iter().all(|byte| *byte == first) {
+        Some(first)
+    } else {
+        None
+    }
+}
+
+/// What each block is filled with.
+fn blocks_of(bytes: &[u8]) -> Option<[u8; BLOCKS]> {
+    let mut blocks = [0; BLOCKS];
+    if bytes.len() != BLOCKS * BLOCK_BYTES {
+        return None;
+    }
+    for block in 0..BLOCKS {
+        let first = block * BLOCK_BYTES;
+        blocks[block] = byte_of(&bytes[first..first + BLOCK_BYTES])?;
+    }
+    Some(blocks)
+}
+
+fn volume_in<D: Disk + Drop>(
+    alloc: Global,
+    core: &mut Core<D>,
+    which: Which,
+) -> Result<Volume, AllocError> {
+    let step = Step::Read {
+        name: name_of(alloc, which)?,
+        offset: 0,
+        len: 2048,
+    };
+    Ok(match core.step(step) {
+        Reply::Bytes(bytes) => match blocks_of(bytes.as_slice()) {
+            Some(blocks) => Volume::Blocks(blocks),
+            None => Volume::Lost,
+        },
+        Reply::Refused(pool_model::Refusal::NoSuchName) => Volume::Absent,
+        _ => Volume::Lost,
+    })
+}
+
+/// What a pool shows that stands at that group.
+pub(crate) fn shown_in<D: Disk + Drop>(
+    alloc: Global,
+    core: &mut Core<D>,
+    group: u64,
+) -> Result<Shown, AllocError> {
+    Ok(Shown {
+        group,
+        v: volume_in(alloc, core, Which::V)?,
+        w: volume_in(alloc, core, Which::W)?,
+    })
+}
