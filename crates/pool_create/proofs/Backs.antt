@@ -3,6 +3,7 @@ use Rattle.std.proofs.Common.{◌≡◌, ◌⊎◌, inl, inr, ℕ, zero, suc, �
 use Rattle.std.specs.Prelude.{slice_get}
 use Rattle.std.proofs.lemmas.Option.{slice_get_within}
 use Rattle.block_pointer.specs.declared.block.Block.{Block}
+use Rattle.block_store.specs.Places.{shapes_of}
 use Rattle.block_store.specs.Elsewhere.{WritesElsewhereKeep}
 use Rattle.block_store.specs.declared.refusal.Refusal.{Refusal as StoreRefusal}
 use Rattle.block_store.specs.declared.refusal.Refusal.TheVariants as store
@@ -104,6 +105,8 @@ pub record IsCoreOf (read : Disks) (it : NewPool) (u : Uberblock) (contents : Ro
   pub disks : disks_of core ≡ read
   pub stamped : core.commit.stamp ≡ stamp_of u
   pub root_is : core.commit.kept.last.root ≡ Some u.root
+  pub outs : core.commit.store.out ≡ it.out.items
+  pub vdevs : shapes_of core.commit.store.spaces ≡ it.shapes.items
   pub represents : CoreRepresents read it.shapes.items it.out.items u contents core
 
 both_read : (old surveyed read : Disks) (it : NewPool) (root : Block) (u : Uberblock) (contents : RootContents) → AreRead old surveyed read it root u contents → Makes no_write old read
@@ -125,6 +128,8 @@ back_of keep old surveyed read it root u contents core are made =
       alone = subst (λ (d : Disks). AreReadAlone u old d) (sym made.disks) still.1;
       stamped = made.stamped;
       root_is = made.root_is;
+      outs = made.outs;
+      vdevs = made.vdevs;
       represents = λ stored hold spells honest.
           let honest_read = subst (λ (d : Disks). IsHonestSince old d) made.disks honest in
           let within = honest_within no_write old surveyed read read are.only (Makes-none no_write read) honest_read in

@@ -157,6 +157,8 @@ made_of keep old first labeled pool config it root u core are = record {
   alone = alone_since old first labeled pool config it root u core are;
   stamped = are.back.stamped;
   root = are.back.root_is;
+  outs = are.back.outs;
+  vdevs = are.back.vdevs;
   represents = represents_none keep old first labeled pool config it root u core are;
 }
 
@@ -185,6 +187,8 @@ created_of old blank pool config it u core allowed new fit made =
           subst S fit.only.starts (λ is. made.alone is (true_after old blank (disks_of core) first honest)) here;
       stamped = made.stamped;
       root = made.root;
+      outs = made.outs ∙ new.none_is_out;
+      vdevs = made.vdevs;
       represents = λ honest.
           subst (λ (out : List Bool). Represents core (opened_as (vdevs_in it.shapes.items) (is_out out) 3 no_volumes)) new.none_is_out
           (made.represents (true_after old blank (disks_of core) first honest));

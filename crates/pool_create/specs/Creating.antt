@@ -1,6 +1,7 @@
 -- A pool that is made on disks.
 use Rattle.std.specs.Prelude.{ℕ, ◌≡◌, ◌⊎◌, ◌<◌, true, false, Some, List, length, Ok}
 use Rattle.block_pointer.specs.declared.block.Block.{Block}
+use Rattle.block_store.specs.Places.{shapes_of}
 use Rattle.block_store.specs.Store.{is_out}
 use Rattle.block_store.specs.declared.shape.VdevShape.{VdevShape}
 use Rattle.model_disk.specs.Joint.{Disks, bytes_of, content}
@@ -70,6 +71,9 @@ pub record IsCreated (old : Disks) (pool : PoolIdentity) (config : Config) (u : 
   pub alone : IsShownAloneSince old (disks_of core) u
   pub stamped : core.commit.stamp ≡ stamp_of u
   pub root : core.commit.kept.last.root ≡ Some u.root
+  -- the core has these vdevs, and no disk is out
+  pub outs : core.commit.store.out ≡ nobody old.starts
+  pub vdevs : shapes_of core.commit.store.spaces ≡ shapes
   pub represents : IsHonestSince old (disks_of core)
       → Represents core (opened_as (vdevs_in shapes) (is_out (nobody old.starts)) 3 no_volumes)
 

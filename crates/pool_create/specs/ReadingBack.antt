@@ -1,6 +1,7 @@
 -- Reading a new pool as an open does.
 use Rattle.std.specs.Prelude.{ℕ, ◌≡◌, ◌≢◌, ◌⊎◌, ◌-◌, ◌^◌, Bool, List, Some}
 use Rattle.block_pointer.specs.declared.block.Block.{Block}
+use Rattle.block_store.specs.Places.{shapes_of}
 use Rattle.block_store.specs.Blocks.{Contents}
 use Rattle.block_store.specs.Store.{is_out}
 use Rattle.block_store.specs.declared.refusal.Refusal.{Refusal as StoreRefusal}
@@ -48,6 +49,8 @@ pub record IsReadBack (old : Disks) (it : NewPool) (root : Block) (u : Uberblock
   pub alone : AreReadAlone u old (disks_of core)
   pub stamped : core.commit.stamp ≡ stamp_of u
   pub root_is : core.commit.kept.last.root ≡ Some u.root
+  pub outs : core.commit.store.out ≡ it.out.items
+  pub vdevs : shapes_of core.commit.store.spaces ≡ it.shapes.items
   pub represents : (stored : Contents) → HoldOver old it.shapes.items it.out.items stored → SpellsPool stored 3 root no_volumes
       → IsHonestSince old (disks_of core) → Represents core (opened_as (vdevs_in it.shapes.items) (is_out it.out.items) 3 no_volumes)
 

@@ -1,5 +1,6 @@
 -- Stages of making a pool.
 use Rattle.std.specs.Prelude.{◌≡◌, ◌⊎◌, true, false, Some, Ok}
+use Rattle.block_store.specs.Places.{shapes_of}
 use Rattle.block_store.specs.Opened.{MayBeOpened}
 use Rattle.block_store.specs.Store.{is_out}
 use Rattle.model_disk.specs.Joint.{Disks}
@@ -54,6 +55,8 @@ pub record IsMade (old : Disks) (pool : PoolIdentity) (config : Config) (it : Ne
   pub alone : IsShownAloneSince old (disks_of core) u
   pub stamped : core.commit.stamp ≡ stamp_of u
   pub root : core.commit.kept.last.root ≡ Some u.root
+  pub outs : core.commit.store.out ≡ it.out.items
+  pub vdevs : shapes_of core.commit.store.spaces ≡ it.shapes.items
   pub represents : IsHonestSince old (disks_of core)
       → Represents core (opened_as (vdevs_in it.shapes.items) (is_out it.out.items) 3 no_volumes)
 

@@ -77,6 +77,8 @@ returns-clause-read g c =
       disks = c.in_ok-core.ensures.disks;
       stamped = c.in_ok-core.ensures.stamped;
       root_is = c.in_ok-core.ensures.root;
+      outs = c.in_ok-core.ensures.out ∙ c.deref-4.ensures.value;
+      vdevs = c.in_ok-core.ensures.shapes ∙ c.deref-3.ensures.value;
       represents = subst (λ (ss : List VdevShape). M ss it.out.items) c.deref-3.ensures.value
           (subst (λ (xs : List Bool). M c.deref-3.result.now xs) c.deref-4.ensures.value c.in_ok-core.ensures.represents);
     } in
