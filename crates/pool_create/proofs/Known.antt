@@ -181,7 +181,7 @@ chain_known marked old v [] [] [] new w out after chain outs none = (
   λ known. subst (λ (s : CoreState). AreKnown marked (disks_of s)) chain.0 known,
 )
 chain_known marked old v (step ∷ steps) (given ∷ givens) (reply ∷ replies) new w out after chain outs none =
-    let rest = chain_known marked chain.0 chain.1 steps givens replies new w outs.0 after chain.4 outs.2 none in
+    let rest = chain_known marked chain.0 chain.1 steps givens replies new w outs.0 after chain.5 outs.2 none in
     let here = step_well v given step reply chain.1 out outs.0 chain.3.is_step outs.1 rest.0 in
     let well : faults_between (disks_of old) (disks_of chain.0) ≡ [] =
     sym chain.3.is_given.fault ∙ ap (λ (fault : Option DueCall). map disk_call (fault_list fault)) here.1 in

@@ -26,12 +26,12 @@ pub record IsChain (old : CoreState) (v : View) (steps : List Step) (replies : L
 
 chain_one : (old : CoreState) (v : View) (step : Step) (reply : Reply) (new : CoreState) → Represents old v → StepsTruly old step reply new → IsChain old v (step ∷ []) (reply ∷ []) new
 chain_one old v step reply new r truly =
-    let goes = truly.1 v r in
+    let goes = truly.2 v r in
     record {
       givens = goes.given ∷ [];
       after = goes.after;
       trust = (goes.trust refl, tt);
-      chain = (new, goes.after, truly.0, goes.link, (refl, refl));
+      chain = (new, goes.after, truly.0, goes.link, truly.1, (refl, refl));
       represents = goes.link.represents;
     }
 
@@ -40,7 +40,7 @@ joined : (old : CoreState) (v : View) (steps : List Step) (givens : List Given) 
 joined old v [] [] [] mid between others later answers new w first rest =
     subst (λ (p : CoreState × View). Chain p.0 p.1 others later answers new w) (λ i. (sym first.0 i, sym first.1 i)) rest
 joined old v (step ∷ steps) (given ∷ givens) (reply ∷ replies) mid between others later answers new w first rest =
-    (first.0, first.1, first.2, first.3, joined first.0 first.1 steps givens replies mid between others later answers new w first.4 rest)
+    (first.0, first.1, first.2, first.3, first.4, joined first.0 first.1 steps givens replies mid between others later answers new w first.5 rest)
 joined old v steps givens replies mid between others later answers new w first rest = absurd first
 
 all_joined : {A : Type 0} (P : A → Type 0) (xs ys : List A) → AllByRecursion P xs → AllByRecursion P ys → AllByRecursion P (xs ++ ys)

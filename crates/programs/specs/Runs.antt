@@ -8,6 +8,7 @@ use Rattle.schedule_lines.specs.declared.command.Command.{Command}
 use Rattle.schedule_lines.specs.Replies.{IsReplyText}
 use Rattle.pool_commit.specs.Calls.{GrewTo}
 use Rattle.pool_core.specs.Represents.{Represents}
+use Rattle.pool_core.specs.Moves.{Moves}
 use Rattle.pool_core.specs.Runs.{AreTrusted, Chain}
 use Rattle.pool_core.specs.State.{CoreState, disks_of}
 use Rattle.pool_core.specs.Steps.{Goes}
@@ -15,7 +16,7 @@ use Rattle.programs.specs.Answers.{Begins, next_of}
 
 -- a step of a core whose disks answer truly
 abbrev pub StepsTruly : CoreState → Step → Reply → CoreState → Type 0
-StepsTruly old step reply new = GrewTo (disks_of old) (disks_of new) × ((v : View) → Represents old v → Goes old v true step reply new)
+StepsTruly old step reply new = GrewTo (disks_of old) (disks_of new) × Moves step old.commit new.commit × ((v : View) → Represents old v → Goes old v true step reply new)
 
 -- the steps from this one on: each next one follows from the reply to the one before it
 abbrev pub AreSteps : Step → List Reply → List Step → Type 0
