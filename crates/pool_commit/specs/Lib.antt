@@ -5,6 +5,7 @@ pub mod Directories
 pub mod Slots
 pub mod Started
 pub mod HasDisks
+pub mod Last
 pub mod State
 pub mod StateOf
 pub mod Backs

@@ -7,6 +7,7 @@ mod config;
 mod device;
 mod honest;
 mod kept;
+mod last;
 mod laws;
 mod plan;
 mod reading;

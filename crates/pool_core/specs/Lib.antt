@@ -5,3 +5,4 @@ pub mod Steps
 pub mod Runs
 pub mod Reading
 pub mod Moves
+pub mod Exporting

@@ -2,6 +2,7 @@
 //! headline.
 #![tactic(auto)]
 
+mod exporting;
 mod honest;
 mod pool;
 mod reading;

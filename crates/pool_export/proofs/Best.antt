@@ -4,7 +4,7 @@ use Rattle.std.specs.Prelude.{Vec}
 use Rattle.std.specs.declared.alloc.Global.{Global}
 use Rattle.std.proofs.lemmas.Bool.{cases_lt}
 use Rattle.uberblock_ring.specs.declared.uberblock.Uberblock.{Uberblock}
-use Rattle.uberblock_ring.specs.Uberblock.{Fits}
+use Rattle.uberblock_ring.specs.Uberblock.{IsNumber}
 use Rattle.model_disk.specs.Call.{FailedRead}
 use Rattle.model_disk.specs.Joint.{Disks, bytes_of, content, AreHonestSince}
 use Rattle.model_disk.specs.Runs.{Makes, no_write}
@@ -217,29 +217,29 @@ best_done digest first now which n (Some b) all it = (
 
 -- ---- its area
 
-pub exported_valid : (l : PlainLabel) (u : Uberblock) → IsValid l → Fits u → IsValid (exported l u)
-exported_valid l u valid fits =
+pub exported_valid : (l : PlainLabel) (u : Uberblock) → IsValid l → IsNumber u.claim → IsNumber u.group → IsValid (exported l u)
+exported_valid l u valid claim group =
     record {
       in_range = record {
-        claim_from = omega (arith, fits.claim.0);
-        claim_to = fits.claim.1;
-        group_from = omega (arith, fits.group.0);
-        group_to = fits.group.1;
+        claim_from = omega (arith, claim.0);
+        claim_to = claim.1;
+        group_from = omega (arith, group.0);
+        group_to = group.1;
         name = valid.in_range.name;
       };
-      room = relabeled_has_room l u.claim u.group Exported fits.claim.1 fits.group.1 valid.room;
+      room = relabeled_has_room l u.claim u.group Exported claim.1 group.1 valid.room;
     }
 
 pub inscribed_area : {E : Type 0} (r : Result (Vec ℕ Global) E) (l : PlainLabel) → IfOk r (λ area. area.items ≡ area_of l) → IfOk r (λ area. area.items ≡ inscribed l)
 inscribed_area (Ok area) l spells = spells ∙ inscribed_is l
 inscribed_area (Err e) l spells = tt
 
-pub area_read : (u : Uberblock) (old new : Disks) (which : ℕ) (it : Label) (area : Vec ℕ Global) → Fits u → ReadsBest u.config_digest old new which (Ok (Some it))
+pub area_read : (u : Uberblock) (old new : Disks) (which : ℕ) (it : Label) (area : Vec ℕ Global) → IsNumber u.claim → IsNumber u.group → ReadsBest u.config_digest old new which (Ok (Some it))
     → area.items ≡ inscribed (exported (label_view it) u) → ReadsArea u old new which (Ok area)
-area_read u old new which it area fits best spells = (
+area_read u old new which it area claim group best spells = (
   (
     exported (label_view it) u,
-    record { valid = exported_valid (label_view it) u best.0 fits; config = best.1; claim = refl; group = refl; state = refl; spells = spells },
+    record { valid = exported_valid (label_view it) u best.0 claim group; config = best.1; claim = refl; group = refl; state = refl; spells = spells },
   ),
   λ known honest. let taken = best.2 known honest in record { number = taken.0; label = label_view it; taken = taken.1; spells = spells },
 )

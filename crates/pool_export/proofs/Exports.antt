@@ -1,7 +1,7 @@
 -- An export: the reads, and then the writes.
 use Rattle.std.proofs.Common.{inl, inr, ◌≤◌, ◌∙◌, ℕ, Bool, List, length, slice_get, Err, sym, ap, subst, arith}
 use Rattle.uberblock_ring.specs.declared.uberblock.Uberblock.{Uberblock}
-use Rattle.uberblock_ring.specs.Uberblock.{Fits}
+use Rattle.uberblock_ring.specs.Uberblock.{IsNumber}
 use Rattle.model_disk.specs.Joint.{Disks, bytes_of, content, AreHonestSince}
 use Rattle.model_disk.specs.Runs.{EachSince, Makes, no_write}
 use Rattle.model_disk.proofs.RunLemmas.{Makes-more, Makes-wider}
@@ -85,10 +85,10 @@ export_takes out u areas old read new reads made makes = λ known honest.
 
 -- ---- what is shown
 
-pub are_exported : (out : List Bool) (u : Uberblock) (areas : Areas) (old read new : Disks) → Fits u → AreasOn out areas → Makes no_write old read
+pub are_exported : (out : List Bool) (u : Uberblock) (areas : Areas) (old read new : Disks) → IsNumber u.claim → IsNumber u.group → AreasOn out areas → Makes no_write old read
     → (AreKnown out old → AreHonestSince (length old.calls) read.starts read.calls → AreMadeOf u old areas) → Makes (IsAreaWrite read.starts areas is_any) read new
     → AreasStand (content new) read.starts areas is_any → AreExported out old u new
-are_exported out u areas old read new fits on reads made makes stand known honest which used =
+are_exported out u areas old read new claim group on reads made makes stand known honest which used =
     let area = (on which).0 used in
     let it = made known (honest_before (length old.calls) (IsAreaWrite read.starts areas is_any) read new makes honest) which area.0 area.1 in
     let P : List (List ℕ) → Type 0 = λ starts. AreasStand (content new) starts areas is_any in
@@ -98,7 +98,7 @@ are_exported out u areas old read new fits on reads made makes stand known hones
       taken = it.taken;
       each = λ other is. record {
         is_label = is;
-        valid = exported_valid it.label u it.taken.shown.valid fits;
+        valid = exported_valid it.label u it.taken.shown.valid claim group;
         bytes = λ i below. (subst P (sym makes.starts) stand) which area.0 area.1 other is is i below ∙ ap (λ (them : List ℕ). slice_get them i) it.spells;
       };
     }

@@ -1,6 +1,6 @@
 //! The export of the labels.
 ghost use Rattle.std.specs.Prelude.{◌≡◌, length, IfErr, OnOk};
-ghost use Rattle.uberblock_ring.specs.Uberblock.{Fits};
+ghost use Rattle.uberblock_ring.specs.Uberblock.{IsNumber};
 ghost use Rattle.pool_slots.specs.Slots.{AreSettled, HaveLabels, InUse, MakesOn};
 ghost use Rattle.pool_export.specs.Moments.{ExportConfigures, ExportKeeps, ExportLeads, ExportMarks};
 ghost use Rattle.pool_export.specs.Refusals.{ExportRefuses};
@@ -33,7 +33,8 @@ pub fn export_labels<D: Disk + Drop>(
 ) -> Result<(), Refusal>
     requires out { length out.now ≡ length disks.old.starts }
     requires labels { HaveLabels disks.old.starts }
-    requires fits { Fits uberblock.now }
+    requires claim { IsNumber uberblock.now.claim }
+    requires group { IsNumber uberblock.now.group }
 
     // No disk that is out is called, and all that is written are exported labels with the uberblock's configuration, claim and group.
     ensures makes { MakesOn (InUse out.now)

@@ -1,7 +1,7 @@
 //! The areas that are to be written, read from the labels of the disks.
 ghost use Rattle.std.specs.Prelude.{◌≡◌, ◌≤◌, ◌<◌, length, IfOk};
 ghost use Rattle.model_disk.specs.Joint.{bytes_of};
-ghost use Rattle.uberblock_ring.specs.Uberblock.{Fits};
+ghost use Rattle.uberblock_ring.specs.Uberblock.{IsNumber};
 ghost use Rattle.vdev_label.specs.Plain.{label_view};
 ghost use Rattle.pool_slots.specs.Labels.{IsValid, inscribed};
 ghost use Rattle.pool_slots.specs.Reads.{OnlyReads};
@@ -20,7 +20,8 @@ use vdev_label::{Label, State, encode_area, relabeled_has_room};
 /// The area of a label as it is put away, with the claim and group of an uberblock.
 fn put_away(alloc: Global, label: Label, uberblock: &Uberblock) -> Result<Vec<u8>, AllocError>
     requires valid { IsValid (label_view label) }
-    requires fits { Fits uberblock.now }
+    requires claim { IsNumber uberblock.now.claim }
+    requires group { IsNumber uberblock.now.group }
     ensures { IfOk result (λ area. area.items
         ≡ inscribed (exported (label_view label) uberblock.now)) }
 {
@@ -43,7 +44,8 @@ fn read_area<D: Disk + Drop>(
 ) -> Result<Vec<u8>, Refusal>
     requires which { which < length disks.old.starts }
     requires room { 1048576 ≤ length (bytes_of disks.old.starts which) }
-    requires fits { Fits uberblock.now }
+    requires claim { IsNumber uberblock.now.claim }
+    requires group { IsNumber uberblock.now.group }
     ensures only { OnlyReads (is_disk which) (IsFaultOf result) disks.old disks.new }
     ensures reads { ReadsArea uberblock.now disks.old disks.new which result }
 {
@@ -64,7 +66,8 @@ fn read_if_used<D: Disk + Drop>(
     requires which { which < length disks.old.starts }
     requires out { length out.now ≡ length disks.old.starts }
     requires labels { HaveLabels disks.old.starts }
-    requires fits { Fits uberblock.now }
+    requires claim { IsNumber uberblock.now.claim }
+    requires group { IsNumber uberblock.now.group }
     ensures only { OnlyReads (InUse out.now) (IsFaultOf result) disks.old disks.new }
     ensures reads { ReadsIfUsed out.now uberblock.now disks.old disks.new which result }
 {
@@ -83,7 +86,8 @@ pub(crate) fn read_areas<D: Disk + Drop>(
 ) -> Result<Vec<Option<Vec<u8>>>, Refusal>
     requires out { length out.now ≡ length disks.old.starts }
     requires labels { HaveLabels disks.old.starts }
-    requires fits { Fits uberblock.now }
+    requires claim { IsNumber uberblock.now.claim }
+    requires group { IsNumber uberblock.now.group }
     ensures only { OnlyReads (InUse out.now) (IsFaultOf result) disks.old disks.new }
     ensures reads { ReadsAreas out.now uberblock.now disks.old disks.new result }
 {

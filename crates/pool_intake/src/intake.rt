@@ -33,6 +33,7 @@ impl Intake {
     ghost use Rattle.volume_rules.specs.NowMoves.{IsMadeBy};
     ghost use Rattle.volume_rules.specs.Overlay.{base_of, HasRange};
     ghost use Rattle.pool_intake.specs.Follows.{Follows, TakesStep, TakesStepUnlessSuspended};
+    ghost use Rattle.pool_intake.specs.Rest.{IsAtRest};
 
     /// An intake over an empty pool that is committed as group 3.
     pub fn new(alloc: Global) -> Intake
@@ -164,6 +165,19 @@ impl Intake {
         ensures { (v : View) → Follows self.now v → result ≡ v.committed }
     {
         self.pipeline.committed_group()
+    }
+
+    /// Whether all that was accepted is committed: no group is synced or waits, and none above the committed one has accepted anything.
+    pub fn is_at_rest(&self) -> bool
+        ensures { (v : View) → Follows self.now v → IsTrue result ↔ IsAtRest v }
+    {
+        if self.pipeline.is_syncing() {
+            return false;
+        }
+        if self.pipeline.waiting().is_some() {
+            return false;
+        }
+        self.pipeline.open_items().is_empty()
     }
 
     /// The group that is synced is committed, and its items are let go.

@@ -6,4 +6,4 @@ mod intake;
 mod laws;
 
 pub use intake::Intake;
-pub use laws::views_are_followed_by_their_groups;
+pub use laws::{now_is_committed, views_are_followed_by_their_groups};

@@ -10,3 +10,5 @@ pub mod Trees
 pub mod Stops
 pub mod Counting
 pub mod Stages
+pub mod ExportStops
+pub mod PutAway

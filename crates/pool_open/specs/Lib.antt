@@ -10,3 +10,5 @@ pub mod Trees
 pub mod Opening
 pub mod Opens
 pub mod Stops
+pub mod Exporting
+pub mod ExportStops

@@ -1,5 +1,6 @@
 //! Laws of what is on the disks of a pool that is opened: what each ensures follows from the definitions alone.
 ghost use Rattle.pool_open.specs.Claims.{ClaimsSpareBlocks};
+ghost use Rattle.pool_open.specs.ExportStops.{ExportsMayBeReopened};
 ghost use Rattle.pool_open.specs.Held.{AlikeStoresHoldAlike, ClaimsKeepWhatIsHeld};
 ghost use Rattle.pool_open.specs.Stops.{StoppedCanBeOpened};
 
@@ -25,4 +26,9 @@ pub fn claims_keep_what_is_held()
 /// Where the disks that a stop leaves lead to possible uberblocks, they may be opened.
 pub fn stopped_can_be_opened()
     ensures { StoppedCanBeOpened }
+{}
+
+/// Wherever an export is stopped, and once it is done: what that leaves may be opened, and comes to what the disks led to before.
+pub fn exports_may_be_reopened()
+    ensures { ExportsMayBeReopened }
 {}

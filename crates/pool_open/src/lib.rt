@@ -2,6 +2,7 @@
 #![tactic(auto)]
 
 mod children;
+mod exporting;
 mod finding;
 mod handed_in;
 mod laws;
@@ -12,10 +13,12 @@ mod shapes;
 mod tolerance;
 
 pub use children::children_of;
+pub use exporting::{NotExported, export};
 pub use finding::{FoundPool, find};
 pub use handed_in::open;
 pub use laws::{
-    alike_stores_hold_alike, claims_keep_what_is_held, claims_spare_blocks, stopped_can_be_opened,
+    alike_stores_hold_alike, claims_keep_what_is_held, claims_spare_blocks,
+    exports_may_be_reopened, stopped_can_be_opened,
 };
 pub use opening::{OpenedPool, core_over, open_over};
 pub use refusal::Refusal;

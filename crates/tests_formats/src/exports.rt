@@ -1,7 +1,7 @@
 //! Labels of a pool that is put away.
 ghost use Rattle.std.specs.Prelude.{◌≡◌, ◌<◌, length};
 ghost use Rattle.pool_slots.specs.Slots.{HaveLabels};
-ghost use Rattle.uberblock_ring.specs.Uberblock.{Fits};
+ghost use Rattle.uberblock_ring.specs.Uberblock.{IsNumber};
 
 use crate::claims::FIRST;
 use crate::labels::{first_label, numbers_of};
@@ -43,7 +43,8 @@ type Outcome = (Result<(), Refusal>, [([u64; 5], State); 4]);
 /// What an export of three disks that were labeled answers, where the last has this fault and the second is out;
 /// and what labels then say, each in another place.
 fn exported(alloc: Global, fault: Fault, uberblock: &Uberblock) -> Result<Outcome, Fail>
-    requires { Fits uberblock.now }
+    requires claim { IsNumber uberblock.now.claim }
+    requires group { IsNumber uberblock.now.group }
 {
     let label = first_label(alloc)?;
     let mut disks = empty_disks(alloc, fault)?;

@@ -107,7 +107,7 @@ returns-clause-exported g c =
     let given = c.in_ok-areas.ensures.reads in
     let M : Areas → Type 0 = λ areas. MakesOn (InUse out) (IsAreaWrite read.starts areas is_any) read new in
     let S : Areas → Type 0 = λ areas. AreasStand (content new) read.starts areas is_any in
-    are_exported out u c.in_ok-areas.areas.items old read new c.requires.fits given.1 (reads_made c.read_areas.ensures.only) given.3
+    are_exported out u c.in_ok-areas.areas.items old read new c.requires.claim c.requires.group given.1 (reads_made c.read_areas.ensures.only) given.3
     (subst M c.deref.ensures.value c.settle_labels.ensures.makes).makes (subst S c.deref.ensures.value c.in_ok-settle_labels.ensures.stand)
 
 pub returns-clause-keeps : goal.returns-clause-keeps

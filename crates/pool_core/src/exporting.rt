@@ -1,0 +1,55 @@
+//! What an export of a pool asks of its core.
+ghost use Rattle.std.specs.Prelude.{◌≡◌, length, None, IfOk, IfSome};
+ghost use Rattle.pool_commit.specs.Last.{IsLastUberblock, LacksUberblock};
+ghost use Rattle.pool_core.specs.Exporting.{IsAgainstExport, IsExportable};
+ghost use Rattle.pool_core.specs.StateOf.{disks_in, state_of};
+ghost use Rattle.pool_slots.specs.Slots.{HaveLabels};
+
+use crate::pool::Core;
+use model_disk::Disk;
+use pool_model::Refusal;
+use std::alloc::{AllocError, Global};
+use uberblock_ring::Uberblock;
+
+impl<D: Disk + Drop> Core<D> {
+    /// Why the pool is not exported now, if it isn't: `Suspended`, or `NotNow` while a group is synced or waits, or the open one has
+    /// accepted something. A hold of the open group is nothing that it has accepted.
+    pub fn export_refusal(&self) -> Option<Refusal>
+        ensures some { IfSome result (IsAgainstExport (state_of self.now)) }
+        ensures none { result ≡ None → IsExportable (state_of self.now) }
+    {
+        if self.commit.is_suspended() {
+            return Some(Refusal::Suspended);
+        }
+        if !self.intake.is_at_rest() {
+            return Some(Refusal::NotNow);
+        }
+        None
+    }
+
+    /// The uberblock of the committed group, but for its timestamp: that isn't kept, and 0 stands for it. None where the group has no
+    /// root, or where its number is 0 or above 2^62.
+    pub fn last_uberblock(&self) -> Option<Uberblock>
+        ensures last { IfSome result (IsLastUberblock (state_of self.now).commit) }
+        ensures none { result ≡ None → LacksUberblock (state_of self.now).commit }
+    {
+        self.commit.last_uberblock()
+    }
+
+    /// Of each disk, whether it is out.
+    pub fn marks(&self, alloc: Global) -> Result<Vec<bool>, AllocError>
+        ensures { IfOk result (λ marks.
+            marks.items ≡ (state_of self.now).commit.store.out) }
+    {
+        self.commit.marks(alloc)
+    }
+
+    /// A law: there is a mark for each disk, and each disk has room for four labels.
+    pub fn disks_have_labels(&self)
+        ensures count { length (state_of self.now).commit.store.out
+            ≡ length (disks_in self.now).starts }
+        ensures labels { HaveLabels (disks_in self.now).starts }
+    {
+        self.commit.disks_have_labels();
+    }
+}
