@@ -15,8 +15,6 @@ use Rattle.block_store.specs.Store.{Store}
 use Rattle.dnode.specs.declared.object_set.ObjectSet.{ObjectSet}
 use Rattle.dnode_tree.specs.Writes.{IsForRoom}
 use Rattle.meta_objset.specs.declared.directory.DirectoryRow.{DirectoryRow}
-use Rattle.meta_objset.specs.Found.{AreDirectoryRows, IsDirectoryFound, IsRowsRefused}
-use Rattle.meta_objset.specs.Reading.{directory_kind}
 use Rattle.objset.specs.declared.changes.ObjectChange.{ObjectChange}
 use Rattle.objset.specs.declared.changes.SetCopies.{SetCopies}
 use Rattle.objset.specs.Demands.{HasDemands, LacksRoom}
@@ -28,7 +26,7 @@ use Rattle.volume.specs.Demands.{empty_set}
 use Rattle.dataset_snapshots.specs.declared.groups.Opened.{Opened}
 use Rattle.dataset_snapshots.specs.declared.making.Making.{Making}
 use Rattle.dataset_snapshots.specs.Demands.{AreAsked, AreGroupChanges, AreMade, AreNewObjects, AreVolumesRefused, HasActionDemands, HasGroupDemands, HasGroupPlaces, HasRootDemands, HasRootPlaces, HasVolumeDemands, HasVolumePlaces, HavePlacesFor, IsActionRefused, IsGroupRefused, IsRootRefused, IsVolumeUnplaced, IsWithDirectory, MakesAll, MakesObjectsOf, WritesDirectory, WritesRecord, demand_of_root, first_number}
-use Rattle.dataset_snapshots.specs.Finding.{AreRowsFound, IsMetaFound}
+use Rattle.dataset_snapshots.specs.Finding.{IsMetaFound}
 use Rattle.dataset_snapshots.specs.Groups.{objects_of}
 use Rattle.dataset_snapshots.specs.Opening.{IsGroupFound, IsGroupUnread, IsOneUnread}
 use Rattle.dataset_snapshots.specs.Writing.{IsWritten}
@@ -91,24 +89,20 @@ objects_refused old new set group copies changes refusal same (inr (inr why)) = 
 
 -- ---- what was read
 
-pub rows_found : (old mid : Store) (birth : ℕ) (root : Block) (set : ObjectSet) (rows : List DirectoryRow) → OnlyReadsBlocks old mid [] → IsMetaFound old.spaces birth root set
-    → IsDirectoryFound mid.spaces set root.birth rows → AreRowsFound old.spaces birth root set rows
-rows_found old mid birth root set rows reads meta found =
-    record { meta = meta; directory = subst (λ (spaces : List VdevSpace). IsDirectoryFound spaces set root.birth rows) (ap (λ (s : Store). s.spaces) reads.rest) found }
-
-pub directory_refused : (old mid new : Store) (birth : ℕ) (root : Block) (writes : List Write) (set : ObjectSet) (refusal : Refusal) → OnlyReadsBlocks old mid [] → IsMetaFound old.spaces birth root set
-    → (refusal ≡ NoMemory) ⊎ IsRowsRefused mid new [] set root.birth directory_kind 1 AreDirectoryRows refusal
-    → (refusal ≡ NoMemory) ⊎ IsGroupUnread old new birth root writes refusal
-directory_refused old mid new birth root writes set refusal reads meta (inl memory) = inl memory
-directory_refused old mid new birth root writes set refusal reads meta (inr why) =
-    inr (inr (inl (record { set = set; meta = meta; mid = mid; before = reads; why = why })))
-
-pub volume_unread : (old mid new : Store) (birth : ℕ) (root : Block) (writes : List Write) (set : ObjectSet) (rows : List DirectoryRow) (objects : List ℕ) (refusal : Refusal)
-    → OnlyReadsBlocks old mid [] → AreRowsFound old.spaces birth root set rows → ((object : ℕ) → Contains objects object ↔ IsWritten rows writes object)
-    → (refusal ≡ NoMemory) ⊎ IsOneUnread mid new set root.birth writes rows objects refusal → (refusal ≡ NoMemory) ⊎ IsGroupUnread old new birth root writes refusal
-volume_unread old mid new birth root writes set rows objects refusal reads read which (inl memory) = inl memory
-volume_unread old mid new birth root writes set rows objects refusal reads read which (inr why) =
-    inr (inr (inr (record { set = set; rows = rows; read = read; objects = objects; which = which; mid = mid; before = reads; why = why })))
+pub volume_unread : (old mid new : Store) (birth : ℕ) (root : Block) (rows kept : List DirectoryRow) (writes : List Write) (set : ObjectSet) (objects : List ℕ) (refusal : Refusal)
+    → OnlyReadsBlocks old mid [] → IsMetaFound old.spaces birth root set → rows ≡ kept → ((object : ℕ) → Contains objects object ↔ IsWritten rows writes object)
+    → (refusal ≡ NoMemory) ⊎ IsOneUnread mid new set root.birth writes rows objects refusal → (refusal ≡ NoMemory) ⊎ IsGroupUnread old new birth root kept writes refusal
+volume_unread old mid new birth root rows kept writes set objects refusal reads meta same which (inl memory) = inl memory
+volume_unread old mid new birth root rows kept writes set objects refusal reads meta same which (inr why) =
+    inr (inr (record {
+      set = set;
+      meta = meta;
+      objects = objects;
+      which = subst (λ (list : List DirectoryRow). (object : ℕ) → Contains objects object ↔ IsWritten list writes object) same which;
+      mid = mid;
+      before = reads;
+      why = subst (λ (list : List DirectoryRow). IsOneUnread mid new set root.birth writes list objects refusal) same why;
+    }))
 
 -- ---- the volumes
 
@@ -189,13 +183,13 @@ module _ (old mid new : Store) (group : ℕ) (opened : Opened) (first : Making) 
 
 -- ---- the group
 
-module _ (old first second new : Store) (root : Block) (group : ℕ) (items : Entry) (opened : Opened) (reads : OnlyReadsBlocks old first [])
-    (found : IsGroupFound old.spaces (group - 1) root items.writes opened) where
-  pub group_volumes_refused : (refusal : Refusal) → AreVolumesRefused first new group opened items.actions refusal → IsGroupRefused old new root group items refusal
+module _ (old first second new : Store) (root : Block) (rows : List DirectoryRow) (group : ℕ) (items : Entry) (opened : Opened) (reads : OnlyReadsBlocks old first [])
+    (found : IsGroupFound old.spaces (group - 1) root rows items.writes opened) where
+  pub group_volumes_refused : (refusal : Refusal) → AreVolumesRefused first new group opened items.actions refusal → IsGroupRefused old new root rows group items refusal
   group_volumes_refused refusal why = inr (inr (record { opened = opened; found = found; mid = first; before = reads; why = inl why }))
 
   pub group_changes_refused : (changes : List ObjectChange) (refusal : Refusal) → OnlyReadsAndPlans first second [] → HasVolumePlaces first second group opened items.actions changes
-      → IsRootRefused second new opened.set group changes refusal → IsGroupRefused old new root group items refusal
+      → IsRootRefused second new opened.set group changes refusal → IsGroupRefused old new root rows group items refusal
   group_changes_refused changes refusal steps volumes why =
       inr (inr (record {
         opened = opened;
@@ -206,7 +200,7 @@ module _ (old first second new : Store) (root : Block) (group : ℕ) (items : En
       }))
 
   pub group_has : (changes : List ObjectChange) → OnlyReadsAndPlans first second [] → HasVolumePlaces first second group opened items.actions changes
-      → HasRootPlaces second new opened.set group changes → HasGroupPlaces old new root group items
+      → HasRootPlaces second new opened.set group changes → HasGroupPlaces old new root rows group items
   group_has changes steps volumes (of_root, root_asks, root_has) =
       let same : first.spaces ≡ old.spaces = ap (λ (s : Store). s.spaces) reads.rest in
       let demands : List Demand = (volumes.of_written ++ volumes.of_made) ++ of_root in
@@ -236,7 +230,8 @@ module _ (old first second new : Store) (root : Block) (group : ℕ) (items : En
         places = subst (λ (spaces : List VdevSpace). HavePlaces spaces demands new.spaces) same have;
       }
 
-pub group_unread : (old new : Store) (root : Block) (group : ℕ) (items : Entry) (writes : List Write) (refusal : Refusal) → writes ≡ items.writes
-    → (refusal ≡ NoMemory) ⊎ IsGroupUnread old new (group - 1) root writes refusal → IsGroupRefused old new root group items refusal
-group_unread old new root group items writes refusal same (inl memory) = inl memory
-group_unread old new root group items writes refusal same (inr why) = inr (inl (subst (λ (ws : List Write). IsGroupUnread old new (group - 1) root ws refusal) same why))
+pub group_unread : (old new : Store) (root : Block) (rows : List DirectoryRow) (group : ℕ) (items : Entry) (writes : List Write) (refusal : Refusal) → writes ≡ items.writes
+    → (refusal ≡ NoMemory) ⊎ IsGroupUnread old new (group - 1) root rows writes refusal → IsGroupRefused old new root rows group items refusal
+group_unread old new root rows group items writes refusal same (inl memory) = inl memory
+group_unread old new root rows group items writes refusal same (inr why) =
+    inr (inl (subst (λ (ws : List Write). IsGroupUnread old new (group - 1) root rows ws refusal) same why))

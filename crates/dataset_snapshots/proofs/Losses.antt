@@ -52,10 +52,10 @@ blocks_lost old new set birth writes row refusal (inr (inr (inl of_record))) is 
 blocks_lost old new set birth writes row refusal (inr (inr (inr unread))) is =
     lost_behind_reads old unread.mid new [] unread.before (read_lost unread.mid new [] unread.dataset.volume birth _ refusal unread.why.2 is)
 
-unread_lost : (old new : Store) (birth : ℕ) (root : Block) (writes : List Write) (refusal : Refusal) → IsGroupUnread old new birth root writes refusal → refusal ≡ DiskFault → IsBlockLost old new []
-unread_lost old new birth root writes refusal (inl refused) is = meta_lost old new [] birth root refusal refused is
-unread_lost old new birth root writes refusal (inr (inl directory)) is = directory_lost old new [] birth root refusal directory is
-unread_lost old new birth root writes refusal (inr (inr volume)) is =
+unread_lost : (old new : Store) (birth : ℕ) (root : Block) (rows : List DirectoryRow) (writes : List Write) (refusal : Refusal) → IsGroupUnread old new birth root rows writes refusal
+    → refusal ≡ DiskFault → IsBlockLost old new []
+unread_lost old new birth root rows writes refusal (inl refused) is = meta_lost old new [] birth root refusal refused is
+unread_lost old new birth root rows writes refusal (inr volume) is =
     let one = volume.why in
     lost_behind_reads old volume.mid new [] volume.before
     (lost_behind_reads volume.mid one.mid new [] one.before (blocks_lost one.mid new volume.set root.birth writes one.row refusal one.why is))
@@ -87,9 +87,9 @@ root_lost old new set group changes refusal (inr (inl (space, lacks))) is = absu
 root_lost old new set group changes refusal (inr (inr refused)) is = change_lost old new [] set group changes refusal refused is
 
 pub losses_of_groups : LossesOfGroups
-losses_of_groups old new root group items refusal (inl memory) is = absurd (cc)
-losses_of_groups old new root group items refusal (inr (inl unread)) is = unread_lost old new _ root items.writes refusal unread is
-losses_of_groups old new root group items refusal (inr (inr unplanned)) is =
+losses_of_groups old new root rows group items refusal (inl memory) is = absurd (cc)
+losses_of_groups old new root rows group items refusal (inr (inl unread)) is = unread_lost old new _ root rows items.writes refusal unread is
+losses_of_groups old new root rows group items refusal (inr (inr unplanned)) is =
     lost_behind_reads old unplanned.mid new [] unplanned.before (elim unplanned.why [
       | inl volumes ↦ volumes_lost unplanned.mid new group unplanned.opened items.actions refusal volumes is
       | inr changes ↦ lost_later unplanned.mid changes.mid new [] changes.before (root_lost changes.mid new unplanned.opened.set group changes.changes refusal changes.why is)

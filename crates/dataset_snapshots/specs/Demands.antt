@@ -338,10 +338,10 @@ pub record HasGroupDemands (spaces : List VdevSpace) (group : ℕ) (opened : Ope
   pub is : demands ≡ of_written ++ of_made ++ of_root
 
 -- the root was read, and then places were taken for what the group asks, and for nothing else
-pub record HasGroupPlaces (old new : Store) (root : Block) (group : ℕ) (items : Entry)
-    : Type 0 where
+pub record HasGroupPlaces (old new : Store) (root : Block) (rows : List DirectoryRow) (group : ℕ)
+    (items : Entry) : Type 0 where
   pub opened : Opened
-  pub found : IsGroupFound old.spaces (group - 1) root items.writes opened
+  pub found : IsGroupFound old.spaces (group - 1) root rows items.writes opened
   pub demands : List Demand
   pub ask : HasGroupDemands old.spaces group opened items.actions demands
   pub places : HavePlaces old.spaces demands new.spaces
@@ -356,19 +356,20 @@ pub record AreChangesRefused (old new : Store) (group : ℕ) (opened : Opened) (
   pub why : IsRootRefused mid new opened.set group changes refusal
 
 -- the root was read, and then the group's volumes were refused, or its changes
-pub record IsGroupUnplanned (old new : Store) (root : Block) (group : ℕ) (items : Entry)
-    (refusal : Refusal) : Type 0 where
+pub record IsGroupUnplanned (old new : Store) (root : Block) (rows : List DirectoryRow) (group : ℕ)
+    (items : Entry) (refusal : Refusal) : Type 0 where
   pub opened : Opened
-  pub found : IsGroupFound old.spaces (group - 1) root items.writes opened
+  pub found : IsGroupFound old.spaces (group - 1) root rows items.writes opened
   pub mid : Store
   pub before : OnlyReadsBlocks old mid []
   pub why : AreVolumesRefused mid new group opened items.actions refusal
       ⊎ AreChangesRefused mid new group opened items.actions refusal
 
--- why the root after a group was not planned: the root before was not read, or behind it a volume,
--- or there was no memory, or a part of the group was refused
-abbrev pub IsGroupRefused : Store → Store → Block → ℕ → Entry → Refusal → Type 0
-IsGroupRefused old new root group items refusal =
+-- why the root after a group was not planned, by the rows of the directory before: the root before
+-- was not read, or behind it a volume, or there was no memory, or a part of the group was refused
+abbrev pub IsGroupRefused :
+    Store → Store → Block → List DirectoryRow → ℕ → Entry → Refusal → Type 0
+IsGroupRefused old new root rows group items refusal =
     (refusal ≡ NoMemory)
-    ⊎ (IsGroupUnread old new (group - 1) root items.writes refusal
-    ⊎ IsGroupUnplanned old new root group items refusal)
+    ⊎ (IsGroupUnread old new (group - 1) root rows items.writes refusal
+    ⊎ IsGroupUnplanned old new root rows group items refusal)

@@ -18,7 +18,7 @@ use Rattle.volume.specs.Writing.{AreBlocksOf, HasId, IsChanged, IsCovered, Needs
 use Rattle.dataset_snapshots.specs.declared.finding.Dataset.{Dataset}
 use Rattle.dataset_snapshots.specs.declared.groups.Opened.{Opened}
 use Rattle.dataset_snapshots.specs.declared.writing.WrittenVolume.{WrittenVolume}
-use Rattle.dataset_snapshots.specs.Finding.{AreRowsFound, IsDirectoryRefused, IsMetaRefused, IsVolumeOf}
+use Rattle.dataset_snapshots.specs.Finding.{IsMetaFound, IsMetaRefused, IsVolumeOf}
 use Rattle.dataset_snapshots.specs.Groups.{IsOpened, objects_of}
 use Rattle.dataset_snapshots.specs.Writing.{HasRow, IsWritten}
 
@@ -93,32 +93,31 @@ pub record IsOneUnread (old new : Store) (set : ObjectSet) (birth : ℕ) (writes
   pub before : OnlyReadsBlocks old mid []
   pub why : IsWrittenRefused mid new set birth writes row refusal
 
--- the root was read, its directory, and the volumes that the writes name, no others
-pub record IsGroupFound (spaces : List VdevSpace) (birth : ℕ) (root : Block) (writes : List Write)
-    (opened : Opened) : Type 0 where
-  pub rows : AreRowsFound spaces birth root opened.set opened.directory
+-- by the rows of the directory that is kept: the root was read, and the volumes that the writes
+-- name, no others
+pub record IsGroupFound (spaces : List VdevSpace) (birth : ℕ) (root : Block)
+    (rows : List DirectoryRow) (writes : List Write) (opened : Opened) : Type 0 where
+  pub meta : IsMetaFound spaces birth root opened.set
+  pub by_rows : opened.directory ≡ rows
   pub is : IsOpened writes opened
-  pub which : (object : ℕ) → Contains (objects_of opened) object
-      ↔ IsWritten opened.directory writes object
-  pub each : All (IsWrittenOf spaces opened.set root.birth writes opened.directory)
-      opened.written.items
+  pub which : (object : ℕ) → Contains (objects_of opened) object ↔ IsWritten rows writes object
+  pub each : All (IsWrittenOf spaces opened.set root.birth writes rows) opened.written.items
 
--- the root and its directory were read, and then one of the volumes that the writes name was not
-pub record IsVolumeUnread (old new : Store) (birth : ℕ) (root : Block) (writes : List Write)
-    (refusal : Refusal) : Type 0 where
+-- the root was read, and then one of the volumes that the writes name by these rows was not
+pub record IsVolumeUnread (old new : Store) (birth : ℕ) (root : Block) (rows : List DirectoryRow)
+    (writes : List Write) (refusal : Refusal) : Type 0 where
   pub set : ObjectSet
-  pub rows : List DirectoryRow
-  pub read : AreRowsFound old.spaces birth root set rows
+  pub meta : IsMetaFound old.spaces birth root set
   pub objects : List ℕ
   pub which : (object : ℕ) → Contains objects object ↔ IsWritten rows writes object
   pub mid : Store
   pub before : OnlyReadsBlocks old mid []
   pub why : IsOneUnread mid new set root.birth writes rows objects refusal
 
--- why a group's root was not read for its writes
+-- why a group's root was not read for its writes, by these rows: nothing of the directory's blocks is
+-- read
 abbrev pub IsGroupUnread :
-    Store → Store → ℕ → Block → List Write → Refusal → Type 0
-IsGroupUnread old new birth root writes refusal =
+    Store → Store → ℕ → Block → List DirectoryRow → List Write → Refusal → Type 0
+IsGroupUnread old new birth root rows writes refusal =
     IsMetaRefused old new [] birth root refusal
-    ⊎ (IsDirectoryRefused old new [] birth root refusal
-    ⊎ IsVolumeUnread old new birth root writes refusal)
+    ⊎ IsVolumeUnread old new birth root rows writes refusal

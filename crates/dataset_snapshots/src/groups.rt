@@ -39,7 +39,7 @@ use crate::writing::{WrittenVolume, place_written, read_written, written_objects
 use block_pointer::Block;
 use block_store::{BlockStore, Refusal};
 use dnode::ObjectSet;
-use meta_objset::{Directory, read_directory};
+use meta_objset::Directory;
 use model_disk::Disk;
 use objset::{ObjectChange, plan_set};
 use pool_model::Action;
@@ -74,10 +74,11 @@ pub(crate) const MOST_NAMES: usize = 1 << 40;
 pub(crate) const FIRST_OBJECT: u64 = 5;
 
 /// Plans the root of a pool after the items of the transaction group `group`: its writes, and then the volumes that it makes. `root`
-/// is the root of the group before. Each block that a write reaches is read, and then each of them is planned anew: so where
-/// one can't be read that is the answer, whether or not there is room. A volume without writes isn't looked at. All changes of
-/// the meta object set are planned at once; its own block is new in each group. `BadConfig` where a volume can't have its name or
-/// its sizes.
+/// is the root of the group before, and `directory` the one under it, which is kept in memory: none of its blocks is read. Each
+/// block that a write reaches is read, and then each of them is planned anew: so where one can't be read that is the answer,
+/// whether or not there is room. Of a volume without writes neither the record nor anything behind it is read. All changes of the
+/// meta object set are planned at once; its own block is new in each group. `BadConfig` where a volume can't have its name or its
+/// sizes.
 ///
 /// After an error blocks may be planned that no root has: begin another plan.
 pub fn after_group<D: Disk + Drop>(
@@ -85,6 +86,7 @@ pub fn after_group<D: Disk + Drop>(
     store: &mut BlockStore<D>,
     alloc: Global,
     group: u64,
+    directory: &Directory,
     items: &Pending,
 ) -> Result<NextRoot, Refusal>
     requires born { 0 < group }
@@ -95,12 +97,12 @@ pub fn after_group<D: Disk + Drop>(
         after.root.property ≡ (asked_of_set group).property) }
     ensures copies { IfOk result (λ after. length (dvas after.root.copies) ≡ 3) }
 
-    // It spells the pool after the group, once the plan is stored, and has the other tables that there were. The blocks that
-    // gave way are those that the root before leads to and this one doesn't; what is planned is what it leads to besides. The
-    // directory is the one that it spells the pool by.
+    // Where the directory is the root's, it spells the pool after the group, once the plan is stored, and has the other tables
+    // that there were. The blocks that gave way are those that the root before leads to and this one doesn't; what is planned
+    // is what it leads to besides. The directory then is the one that it spells the pool by.
     ensures value { IfOk result (λ after. (stored planned : Contents) (pool : PlainPool)
         → Plans store.old stored planned → (is : SpellsPool stored (group - 1) root.now pool)
-        → AnswersAreTrue store.old store.new
+        → directory.now ≡ is.rows → AnswersAreTrue store.old store.new
         → (later : Contents) × Plans store.new stored later × Extends planned later
         × (then : SpellsPool later group after.root (applied group pool items.now))
         × ((vdevs : List PlainVdev) → HasFirstTables is.objects vdevs
@@ -111,16 +113,18 @@ pub fn after_group<D: Disk + Drop>(
 
     // Over disks that answer truly, and where all may be made, only room is wanting, or disks.
     ensures known { IfErr result (λ refusal. (stored planned : Contents) (pool : PlainPool)
-        → Plans store.old stored planned → SpellsPool stored (group - 1) root.now pool
-        → AnswersAreTrue store.old store.new → AreGoodCreations items.now.actions
+        → Plans store.old stored planned → (is : SpellsPool stored (group - 1) root.now pool)
+        → directory.now ≡ is.rows → AnswersAreTrue store.old store.new
+        → AreGoodCreations items.now.actions
         → IsForRoom refusal ⊎ (refusal ≡ Refusal.DiskFault)) }
 
-    // Whatever the root is: what places are taken for, and on a refusal its cause.
-    ensures places { OnOk result (HasGroupPlaces store.old store.new root.now group items.now) }
+    // Whatever the root and the directory are: what places are taken for, and on a refusal its cause.
+    ensures places { OnOk result
+        (HasGroupPlaces store.old store.new root.now directory.now group items.now) }
     ensures refused { IfErr result
-        (IsGroupRefused store.old store.new root.now group items.now) }
+        (IsGroupRefused store.old store.new root.now directory.now group items.now) }
 {
-    let opened = open_group(root, store, alloc, group - 1, items)?;
+    let opened = open_group(root, store, alloc, group - 1, directory, items)?;
     let set = opened.set;
     let mut replaced = only(root, alloc)?;
     let made = changes_of(opened, store, alloc, group, items.actions(), &mut replaced)?;
@@ -141,12 +145,14 @@ fn only(block: &Block, alloc: Global) -> Result<Vec<Block>, AllocError>
     Ok(blocks)
 }
 
-/// Reads what the group is planned from. The root was born in the transaction group `birth` or before.
+/// Reads what the group is planned from, by the directory under the root that is kept. The root was born in the transaction group
+/// `birth` or before.
 fn open_group<D: Disk + Drop>(
     root: &Block,
     store: &mut BlockStore<D>,
     alloc: Global,
     birth: u64,
+    kept: &Directory,
     items: &Pending,
 ) -> Result<Opened, Refusal>
     ensures reads { OnlyReadsBlocks store.old store.new [] }
@@ -155,17 +161,18 @@ fn open_group<D: Disk + Drop>(
     ensures early { IfOk result (λ opened. root.now.birth ≤ birth) }
     ensures value { IfOk result (λ opened. (stored : Contents) (pool : PlainPool)
         → Holds store.old stored → (is : SpellsPool stored birth root.now pool)
-        → AnswersAreTrue store.old store.new
+        → kept.now ≡ is.rows → AnswersAreTrue store.old store.new
         → IsOpenedFrom stored birth root.now pool is items.now.writes opened) }
     ensures known { IfErr result (λ refusal. (stored : Contents) (pool : PlainPool)
-        → Holds store.old stored → SpellsPool stored birth root.now pool
-        → AnswersAreTrue store.old store.new → IsForLoss refusal) }
-    ensures found { IfOk result (IsGroupFound store.old.spaces birth root.now items.now.writes) }
+        → Holds store.old stored → (is : SpellsPool stored birth root.now pool)
+        → kept.now ≡ is.rows → AnswersAreTrue store.old store.new → IsForLoss refusal) }
+    ensures found { IfOk result
+        (IsGroupFound store.old.spaces birth root.now kept.now items.now.writes) }
     ensures refused { IfErr result (λ refusal. (refusal ≡ Refusal.NoMemory)
-        ⊎ IsGroupUnread store.old store.new birth root.now items.now.writes refusal) }
+        ⊎ IsGroupUnread store.old store.new birth root.now kept.now items.now.writes refusal) }
 {
+    let directory = kept.copied()?;
     let set = read_meta(root, store, alloc, birth, &[])?;
-    let directory = read_directory(&set, store, alloc, root.birth, &[])?;
     let objects = written_objects(&directory, alloc, items.writes())?;
     let written = read_written(&set, store, alloc, root.birth, &directory, &objects, items)?;
     Ok(Opened {

@@ -16,22 +16,25 @@ use std::time::Instant;
 
 type Pool = Core<MemDisk>;
 
-/// Groups of writes to a volume.
+/// Groups of writes to one of a pool's volumes.
 #[derive(Clone, Copy)]
 struct Load {
+    /// In the pool, all of one size.
+    volumes: u64,
     groups: u64,
     /// In each group.
     writes: u64,
     /// Of each write, in bytes.
     len: u64,
-    /// Of the volume, in bytes.
+    /// Of a volume, in bytes.
     size: u64,
     /// In bytes.
     block_size: u64,
 }
 
-const LOADS: [Load; 4] = [
+const LOADS: [Load; 7] = [
     Load {
+        volumes: 1,
         groups: 100,
         writes: 100,
         len: 512,
@@ -39,6 +42,7 @@ const LOADS: [Load; 4] = [
         block_size: 8192,
     },
     Load {
+        volumes: 1,
         groups: 100,
         writes: 20,
         len: 131_072,
@@ -46,6 +50,7 @@ const LOADS: [Load; 4] = [
         block_size: 131_072,
     },
     Load {
+        volumes: 1,
         groups: 100,
         writes: 20,
         len: 8192,
@@ -53,11 +58,36 @@ const LOADS: [Load; 4] = [
         block_size: 8192,
     },
     Load {
+        volumes: 1,
         groups: 20,
         writes: 100,
         len: 512,
         size: 1 << 20,
         block_size: 512,
+    },
+    Load {
+        volumes: 3,
+        groups: 100,
+        writes: 1,
+        len: 8192,
+        size: 1 << 20,
+        block_size: 8192,
+    },
+    Load {
+        volumes: 100,
+        groups: 100,
+        writes: 1,
+        len: 8192,
+        size: 1 << 20,
+        block_size: 8192,
+    },
+    Load {
+        volumes: 1000,
+        groups: 100,
+        writes: 1,
+        len: 8192,
+        size: 1 << 20,
+        block_size: 8192,
     },
 ];
 
@@ -66,8 +96,14 @@ const DISK_SIZE: usize = 1 << 28;
 
 const DISKS: u32 = 5;
 
-fn volume(alloc: Global) -> Result<Name, AllocError> {
-    Ok(Name::new(vec![in alloc; b'v'; 1]?))
+/// The name of the volume of that number: `v` and four digits.
+fn volume(alloc: Global, number: u64) -> Result<Name, AllocError> {
+    let mut name = vec![in alloc; b'v'; 1]?;
+    for unit in [1000, 100, 10, 1] {
+        let digit = number.checked_div(unit).unwrap_or(0) % 10;
+        name.push(b'0' + digit as u8)?;
+    }
+    Ok(Name::new(name))
 }
 
 fn disks(alloc: Global) -> Result<Vec<MemDisk>, AllocError> {
@@ -106,11 +142,12 @@ fn does(alloc: Global, pool: &mut Pool, command: Command) -> bool {
     }
 }
 
-fn creation(alloc: Global, load: Load) -> Result<Command, AllocError> {
+/// Makes the volume of that number.
+fn creation(alloc: Global, load: Load, number: u64) -> Result<Command, AllocError> {
     Ok(Command::Create(CreateLine {
         writer: 1,
-        number: 1,
-        volume: volume(alloc)?,
+        number: number.wrapping_add(1),
+        volume: volume(alloc, number)?,
         size: load.size,
         block_size: load.block_size,
     }))
@@ -130,7 +167,7 @@ fn write(alloc: Global, load: Load, number: u64) -> Result<Command, AllocError> 
     Ok(Command::Write(WriteLine {
         writer: 1,
         number,
-        volume: volume(alloc)?,
+        volume: volume(alloc, 0)?,
         offset: place(load, number),
         len: load.len,
         byte: (number % 251) as u8,
@@ -139,7 +176,7 @@ fn write(alloc: Global, load: Load, number: u64) -> Result<Command, AllocError> 
 
 fn read(alloc: Global, load: Load, number: u64) -> Result<Command, AllocError> {
     Ok(Command::Read(ReadLine {
-        name: volume(alloc)?,
+        name: volume(alloc, 0)?,
         offset: place(load, number),
         len: load.len,
     }))
@@ -156,9 +193,25 @@ fn group(alloc: Global, items: Vec<Command>) -> Result<Vec<Command>, AllocError>
     Ok(commands)
 }
 
+/// Makes the volumes of a load.
+fn creations(alloc: Global, load: Load) -> Result<Vec<Command>, AllocError> {
+    let mut items = Vec::new(alloc);
+    for number in 0..load.volumes {
+        items.push(creation(alloc, load, number)?)?;
+    }
+    group(alloc, items)
+}
+
+/// The number of the first write of a load, behind those that make its volumes.
+fn first_write(load: Load) -> u64 {
+    load.volumes.wrapping_add(1)
+}
+
 /// The writes of group `index` of a load. Its numbers go on from those of the group before.
 fn writes(alloc: Global, load: Load, index: u64) -> Result<Vec<Command>, AllocError> {
-    let first = index.wrapping_mul(load.writes).wrapping_add(2);
+    let first = index
+        .wrapping_mul(load.writes)
+        .wrapping_add(first_write(load));
     let mut items = Vec::new(alloc);
     for k in 0..load.writes {
         items.push(write(alloc, load, first.wrapping_add(k))?)?;
@@ -170,7 +223,7 @@ fn writes(alloc: Global, load: Load, index: u64) -> Result<Vec<Command>, AllocEr
 fn reads(alloc: Global, load: Load) -> Result<Vec<Command>, AllocError> {
     let mut commands = Vec::new(alloc);
     for k in 0..load.groups.wrapping_mul(load.writes) {
-        commands.push(read(alloc, load, k.wrapping_add(2))?)?;
+        commands.push(read(alloc, load, k.wrapping_add(first_write(load)))?)?;
     }
     Ok(commands)
 }
@@ -193,9 +246,9 @@ fn commits(alloc: Global, pool: &mut Pool, load: Load) -> Result<bool, AllocErro
     Ok(done)
 }
 
-/// A pool with the volume of the load.
+/// A pool with the volumes of the load.
 fn prepared(alloc: Global, load: Load) -> io::Result<Pool> {
-    let commands = group(alloc, vec![in alloc; creation(alloc, load)?]?)?;
+    let commands = creations(alloc, load)?;
     let mut pool = pool(alloc)?;
     if does_all(alloc, &mut pool, commands) {
         Ok(pool)
@@ -230,8 +283,8 @@ fn measure(rt: &impl Runtime, alloc: Global, load: Load) -> io::Result<()> {
     let (written, read) = timed(rt, alloc, &mut pool, load)?;
     let count = load.groups.wrapping_mul(load.writes);
     eprintln!(rt;
-        "{count} of {} bytes, {} a group, volume of {} in blocks of {}: writes {written} ms, reads {read} ms",
-        load.len, load.writes, load.size, load.block_size
+        "{count} of {} bytes, {} a group, {} volumes of {} in blocks of {}: writes {written} ms, reads {read} ms",
+        load.len, load.writes, load.volumes, load.size, load.block_size
     )
 }
 

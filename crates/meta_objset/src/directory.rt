@@ -108,6 +108,15 @@ impl Directory {
         }
     }
 
+    /// The same rows once more.
+    pub fn copied(&self) -> Result<Directory, AllocError>
+        ensures { IfOk result (λ copy. copy ≡ self.now) }
+    {
+        Ok(Directory {
+            rows: self.rows.clone()?,
+        })
+    }
+
     /// The rows in the order of their names.
     pub fn rows(&self) -> &[DirectoryRow]
         ensures value { result.now ≡ self.now }

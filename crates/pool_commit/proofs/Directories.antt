@@ -1,17 +1,21 @@
 -- Directories that are kept, where other blocks are known.
-use Rattle.std.proofs.Common.{◌≡◌, ℕ, List, Option, Some, None, sym, ◌∙◌, subst, arith}
+use Rattle.std.proofs.Common.{◌≡◌, ℕ, List, [], Option, Some, None, sym, ◌∙◌, subst, arith}
 use Rattle.block_pointer.specs.declared.block.Block.{Block}
 use Rattle.block_store.specs.Blocks.{Contents, Extends}
+use Rattle.block_store.specs.declared.refusal.Refusal.{Refusal as StoreRefusal}
+use Rattle.block_store.specs.Store.{Store}
 use Rattle.dataset_snapshots.proofs.Readings.{roots_spell_one_pool}
 use Rattle.dataset_snapshots.proofs.Standing.{roots_stand}
+use Rattle.dataset_snapshots.specs.Demands.{IsGroupRefused}
 use Rattle.dataset_snapshots.specs.Laws.{KeepsEach}
 use Rattle.dataset_snapshots.specs.Pools.{SpellsPool}
 use Rattle.dataset_snapshots.specs.Reach.{reach_of}
 use Rattle.meta_objset.specs.declared.directory.DirectoryRow.{DirectoryRow}
-use Rattle.pool_model.specs.Pools.{PlainPool}
+use Rattle.pool_model.specs.Pools.{Entry, PlainPool}
 use Rattle.pool_commit.specs.declared.kept.KeptGroup.{KeptGroup}
 use Rattle.pool_commit.specs.Backs.{LeadsTo, SpellsGroup}
 use Rattle.pool_commit.specs.Directories.{SpellsBy}
+use Rattle.pool_commit.specs.Room.{IsNextRefused}
 
 -- the rows are those of the root still where the blocks that it leads to stay known
 pub spells_by_stands : (old new : Contents) (group : ℕ) (root : Option Block) (pool : PlainPool) (rows : List DirectoryRow) (blocks : List Block) → KeepsEach old new blocks
@@ -37,3 +41,24 @@ pub rows_spelled : (stored : Contents) (group : ℕ) (kept : KeptGroup) (pool : 
 rows_spelled stored group kept pool root rows spells is same =
     let by = subst (λ (o : Option Block). SpellsBy stored group o pool kept.directory.value) is spells.directory in
     (by.0, same ∙ by.1)
+
+-- and so has any way in which the root spells its pool
+pub rows_led : (stored : Contents) (group : ℕ) (kept : KeptGroup) (pool : PlainPool) (root : Block) (rows : List DirectoryRow) (is : SpellsPool stored group root pool)
+    → SpellsGroup stored group kept pool → kept.root ≡ Some root → rows ≡ kept.directory.value → rows ≡ is.rows
+rows_led stored group kept pool root rows is spells same by =
+    let there = rows_spelled stored group kept pool root rows spells same by in
+    let one = roots_spell_one_pool stored group group root pool pool there.0 is in
+    there.1 ∙ one.2
+
+-- ---- why the next group is refused, by the directory that is kept
+
+pub next_refused : (old new : Store) (kept : KeptGroup) (group : ℕ) (items : Entry) (refusal : StoreRefusal) (root : Block) (rows : List DirectoryRow) → kept.root ≡ Some root
+    → rows ≡ kept.directory.value → IsGroupRefused old new root rows group items refusal → IsNextRefused old new kept.root kept.directory.value group items refusal
+next_refused old new kept group items refusal root rows is same why =
+    subst (λ (o : Option Block). IsNextRefused old new o kept.directory.value group items refusal) (sym is)
+    (subst (λ (list : List DirectoryRow). IsGroupRefused old new root list group items refusal) same why)
+
+pub first_refused : (old new : Store) (kept : KeptGroup) (group : ℕ) (items : Entry) (refusal : StoreRefusal) → kept.root ≡ None → IsNextRefused old new None [] group items refusal
+    → IsNextRefused old new kept.root kept.directory.value group items refusal
+first_refused old new kept group items refusal is why =
+    subst (λ (o : Option Block). IsNextRefused old new o kept.directory.value group items refusal) (sym is) why

@@ -1,5 +1,5 @@
 -- Room for the blocks of a group that is to be planned.
-use Rattle.std.specs.Prelude.{ℕ, suc, ◌≡◌, ◌<◌, ◌^◌, Option, Some, None}
+use Rattle.std.specs.Prelude.{ℕ, suc, ◌≡◌, ◌<◌, ◌^◌, List, Option, Some, None}
 use Rattle.block_pointer.specs.declared.block.Block.{Block}
 use Rattle.block_store.specs.declared.refusal.Refusal.{Refusal as StoreRefusal}
 use Rattle.block_store.specs.declared.refusal.Refusal.TheVariants as store
@@ -8,6 +8,7 @@ use Rattle.block_store.specs.Releases.{AreSettledIn}
 use Rattle.block_store.specs.Store.{Store}
 use Rattle.dataset_snapshots.specs.Demands.{IsGroupRefused}
 use Rattle.dataset_snapshots.specs.FirstGroup.{IsFirstRefused}
+use Rattle.meta_objset.specs.declared.directory.DirectoryRow.{DirectoryRow}
 use Rattle.pool_model.specs.Pools.{Entry}
 use Rattle.pool_commit.specs.Configs.{configs_from}
 use Rattle.pool_commit.specs.State.{State}
@@ -20,10 +21,12 @@ pub record IsBegun (group : ℕ) (old begun : Store) : Type 0 where
   pub settled : AreSettledIn group old.spaces begun.spaces
   pub free : HaveMarks begun.spaces filled begun.spaces planned
 
--- why the root after a group is not planned: behind the last one, or as the first of a pool of these vdevs
-abbrev pub IsNextRefused : Store → Store → Option Block → ℕ → Entry → StoreRefusal → Type 0
-IsNextRefused old new (Some root) group items refusal = IsGroupRefused old new root group items refusal
-IsNextRefused old new None group items refusal =
+-- why the root after a group is not planned: behind the last one by the directory that is kept, or as the first of a pool of these vdevs
+abbrev pub IsNextRefused :
+    Store → Store → Option Block → List DirectoryRow → ℕ → Entry → StoreRefusal → Type 0
+IsNextRefused old new (Some root) rows group items refusal =
+    IsGroupRefused old new root rows group items refusal
+IsNextRefused old new None rows group items refusal =
     IsFirstRefused old new group (configs_from 100 (shapes_of old.spaces)) items refusal
 
 -- from where a plan was begun, the root after the items was refused
@@ -32,7 +35,8 @@ pub record IsPlanRefused (old : State) (new : Store) (items : Entry) (refusal : 
   pub group : ℕ
   pub is_begun : IsBegun group old.store begun
   pub is_next : old.kept.committed < 2 ^ 62 → group ≡ suc old.kept.committed
-  pub why : IsNextRefused begun new old.kept.last.root group items refusal
+  pub why : IsNextRefused begun new old.kept.last.root old.kept.last.directory.value group items
+      refusal
 
 -- There is no room for a block that the group makes of the committed root, behind what is stored and others of these blocks; or no
 -- two numbers are left for the objects of a volume that it makes.

@@ -64,7 +64,7 @@ fn first_root<D: Disk + Drop>(
         → Plans store.old stored planned → AnswersAreTrue store.old store.new
         → MakesGoodVolumes items.now → IsForRoom refusal ⊎ (refusal ≡ lost_blocks.DiskFault)) }
     ensures refused { IfErr result
-        (IsNextRefused store.old store.new None group items.now) }
+        (IsNextRefused store.old store.new None [] group items.now) }
 {
     let config = config_of(alloc, store)?;
     first_group(store, alloc, &config, group, items)
@@ -78,7 +78,8 @@ struct PlannedRoot {
     replaced: Vec<RootBlock>,
 }
 
-/// Plans the root of the transaction group `group` after its items, behind the last one; or the first root of a pool.
+/// Plans the root of the transaction group `group` after its items, behind the last one, by the directory that is kept of it; or the
+/// first root of a pool.
 fn root_after<D: Disk + Drop>(
     last: &KeptGroup,
     store: &mut BlockStore<D>,
@@ -91,7 +92,7 @@ fn root_after<D: Disk + Drop>(
     ensures root { IfOk result (λ next. IsRoot group next.root × FitsBlock next.root) }
     ensures value { IfOk result (λ next. (stored planned : Contents) (pool : PlainPool)
         (before : List Block)
-        → Plans store.old stored planned → SpellsRoot stored (group - 1) last.now.root pool
+        → Plans store.old stored planned → SpellsGroup stored (group - 1) last.now pool
         → LeadsTo stored (group - 1) last.now.root pool before
         → AnswersAreTrue store.old store.new
         → (later : Contents) × Plans store.new stored later × Extends planned later
@@ -102,15 +103,15 @@ fn root_after<D: Disk + Drop>(
         × SpellsBy later group (Some next.root) (applied group pool items.now)
         next.directory) }
     ensures known { IfErr result (λ refusal. (stored planned : Contents) (pool : PlainPool)
-        → Plans store.old stored planned → SpellsRoot stored (group - 1) last.now.root pool
+        → Plans store.old stored planned → SpellsGroup stored (group - 1) last.now pool
         → AnswersAreTrue store.old store.new → MakesGoodVolumes items.now
         → IsForRoom refusal ⊎ (refusal ≡ lost_blocks.DiskFault)) }
-    ensures refused { IfErr result
-        (IsNextRefused store.old store.new last.now.root group items.now) }
+    ensures refused { IfErr result (IsNextRefused store.old store.new last.now.root
+        last.now.directory.value group items.now) }
 {
     match &last.root {
         Some(root) => {
-            let next = after_group(root, store, alloc, group, items)?;
+            let next = after_group(root, store, alloc, group, last.directory(), items)?;
             Ok(PlannedRoot {
                 root: next.root,
                 directory: next.directory,
@@ -193,8 +194,8 @@ fn group_after<D: Disk + Drop>(
         → Plans store.old stored planned → SpellsGroup stored (group - 1) last.now pool
         → AnswersAreTrue store.old store.new → MakesGoodVolumes items.now
         → IsForRoom refusal ⊎ (refusal ≡ lost_blocks.DiskFault)) }
-    ensures refused { IfErr result
-        (IsNextRefused store.old store.new last.now.root group items.now) }
+    ensures refused { IfErr result (IsNextRefused store.old store.new last.now.root
+        last.now.directory.value group items.now) }
 {
     let names = names_after(&last.names, alloc, group, items)?;
     let next = root_after(last, store, alloc, group, items)?;

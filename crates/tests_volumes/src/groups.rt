@@ -2,7 +2,7 @@
 use crate::roots::{create_empty, find_letter, first_root};
 use crate::stores::{Store, new_store, store_plan};
 use block_pointer::Block;
-use dataset_snapshots::{NextRoot, Refusal, VolumeRange, after_group, read_range};
+use dataset_snapshots::{NextRoot, Refusal, VolumeRange, after_group, directory_under, read_range};
 use pool_model::{Action, Bytes, Change, Item, Name, Write};
 use std::alloc::Global;
 use std::test::Fail;
@@ -52,7 +52,7 @@ pub(crate) fn accept(pipeline: &mut Pipeline, item: Item) -> Result<(), Fail> {
 }
 
 /// A group that has accepted one item.
-fn group_of(alloc: Global, item: Item) -> Result<Pipeline, Fail> {
+pub(crate) fn group_of(alloc: Global, item: Item) -> Result<Pipeline, Fail> {
     let mut pipeline = Pipeline::new(alloc, 3);
     accept(&mut pipeline, item)?;
     Ok(pipeline)
@@ -68,7 +68,7 @@ pub(crate) fn next_root(
     Ok(next_group(root, store, alloc, item)?.root)
 }
 
-/// And the blocks that it replaced, and its directory.
+/// And the blocks that it replaced, and its directory. It is planned by the directory under the root before.
 pub(crate) fn next_group(
     root: &Block,
     store: &mut Store,
@@ -77,8 +77,9 @@ pub(crate) fn next_group(
 ) -> Result<NextRoot, Fail> {
     let group = root.birth.saturating_add(1);
     let pipeline = group_of(alloc, item)?;
+    let directory = directory_under(root, store, alloc, root.birth, &[])?;
     store.drop_plan(group);
-    let next = after_group(root, store, alloc, group, pipeline.open_items())?;
+    let next = after_group(root, store, alloc, group, &directory, pipeline.open_items())?;
     store_plan(store);
     Ok(next)
 }

@@ -1,6 +1,7 @@
 //! Directories that are kept in memory.
 use crate::groups::{
-    FROM, LEN, SIZE, accept, creation, group_of_three, is_after, is_bad, next_group, write,
+    FROM, LEN, SIZE, accept, creation, group_of, group_of_three, is_after, is_bad, next_group,
+    write,
 };
 use crate::roots::first_with;
 use crate::sets::name_of;
@@ -8,7 +9,7 @@ use crate::stores::{Store, new_store, store_of};
 use block_pointer::Block;
 use block_store::BlockStore;
 use dataset_snapshots::{
-    FirstRoot, NextRoot, Refusal, VolumeRange, directory_under, find_in, read_range_in,
+    FirstRoot, NextRoot, Refusal, VolumeRange, after_group, directory_under, find_in, read_range_in,
 };
 use meta_objset::Directory;
 use model_disk::{Disk, DiskError, MemDisk};
@@ -271,5 +272,44 @@ fn counts(alloc: Global) -> Result<[u64; 4], Fail> {
 #[test]
 fn reads_do_not_grow_with_the_names(rt: HostRuntime) -> Result<(), Fail> {
     assert_eq!(rt; counts(rt.alloc())?, [13, 17, 17, 39]);
+    Ok(())
+}
+
+/// The root after a group that writes to the last of so many volumes.
+fn written_of_many(store: &mut CountedStore, alloc: Global, count: u8) -> Result<NextRoot, Fail> {
+    let first = root_of_many(store, alloc, count)?;
+    let pipeline = group_of(alloc, write(alloc, 1, count)?)?;
+    let directory = &first.directory;
+    store.drop_plan(2);
+    Ok(after_group(
+        &first.root,
+        store,
+        alloc,
+        2,
+        directory,
+        pipeline.open_items(),
+    )?)
+}
+
+/// How many reads of disks the plan of that group takes.
+fn plan_reads_among(alloc: Global, count: u8) -> Result<u64, Fail> {
+    let mut store = counted_store(alloc)?;
+    let next = written_of_many(&mut store, alloc, count)?;
+    let reads = reads_of(store);
+    Ok(if next.root.birth == 2 { reads } else { 0 })
+}
+
+/// Among 20 or more volumes an indirect block lies above the set's dnodes, on each way to one of them. Nothing else grows.
+fn plan_counts(alloc: Global) -> Result<[u64; 3], Fail> {
+    Ok([
+        plan_reads_among(alloc, 3)?,
+        plan_reads_among(alloc, 20)?,
+        plan_reads_among(alloc, 70)?,
+    ])
+}
+
+#[test]
+fn plans_do_not_grow_with_the_names(rt: HostRuntime) -> Result<(), Fail> {
+    assert_eq!(rt; plan_counts(rt.alloc())?, [25, 35, 35]);
     Ok(())
 }

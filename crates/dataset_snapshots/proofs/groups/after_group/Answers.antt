@@ -33,7 +33,7 @@ returns-in_err-opened-clause-steps g c = steps_read _ _ _ c.in_err-opened.ensure
 
 pub returns-in_err-opened-clause-known : goal.returns-in_err-opened-clause-known
 returns-in_err-opened-clause-known g c =
-    passed_on _ _ _ c.from_residual.ensures.1 (λ stored planned pool plans is honest good. loss_in_plan _ (c.in_err-opened.ensures.known stored pool plans.held is honest))
+    passed_on _ _ _ c.from_residual.ensures.1 (λ stored planned pool plans is same honest good. loss_in_plan _ (c.in_err-opened.ensures.known stored pool plans.held is same honest))
 
 pub returns-in_err-made-clause-steps : goal.returns-in_err-made-clause-steps
 returns-in_err-made-clause-steps g c = steps_on _ _ _ _ (steps_read _ _ _ c.in_ok-opened.ensures.reads) c.changes_of.ensures.steps
@@ -41,11 +41,11 @@ returns-in_err-made-clause-steps g c = steps_on _ _ _ _ (steps_read _ _ _ c.in_o
 pub returns-in_err-made-clause-known : goal.returns-in_err-made-clause-known
 returns-in_err-made-clause-known g c =
     let first = c.in_ok-opened.ensures.reads in
-    passed_on _ _ _ c.from_residual-in_err-made.ensures.1 (λ stored planned pool plans is honest good.
+    passed_on _ _ _ c.from_residual-in_err-made.ensures.1 (λ stored planned pool plans is same honest good.
     let before = true_before c.args.store.now c.open_group.new.store c.changes_of.new.store c.changes_of.ensures.steps.reads honest in
     let after = true_after c.args.store.now c.open_group.new.store c.changes_of.new.store first.reads honest in
     c.in_err-made.ensures.known stored planned _ c.args.root.now pool _ (first.plans stored planned plans) is (omega (arith, c.in_ok-opened.ensures.early)) c.in_ok-opened.ensures.opened
-    (c.in_ok-opened.ensures.value stored pool plans.held is before) after (subst AreGoodCreations (sym c.actions.ensures) good))
+    (c.in_ok-opened.ensures.value stored pool plans.held is same before) after (subst AreGoodCreations (sym c.actions.ensures) good))
 
 pub returns-clause-steps : goal.returns-clause-steps
 returns-clause-steps g c = steps_on _ _ _ _ (steps_on _ _ _ _ (steps_read _ _ _ c.in_ok-opened.ensures.reads) c.in_ok-made.ensures.steps) c.plan_root.ensures.steps
@@ -56,10 +56,10 @@ returns-clause-value g c =
     let second = c.in_ok-made.ensures.steps in
     let both = steps_on c.args.store.now c.open_group.new.store c.changes_of.new.store [] (steps_read c.args.store.now c.open_group.new.store [] first) second in
     let root = c.in_ok-next.next in
-    λ stored planned pool plans is honest.
+    λ stored planned pool plans is same honest.
     let so_far = true_before c.args.store.now c.changes_of.new.store c.plan_root.new.store c.plan_root.ensures.steps.reads honest in
     let le : c.args.root.now.birth ≤ c.args.group = omega (arith, c.in_ok-opened.ensures.early) in
-    let from = c.in_ok-opened.ensures.value stored pool plans.held is (true_before c.args.store.now c.open_group.new.store c.changes_of.new.store second.reads so_far) in
+    let from = c.in_ok-opened.ensures.value stored pool plans.held is same (true_before c.args.store.now c.open_group.new.store c.changes_of.new.store second.reads so_far) in
     let changes = c.in_ok-made.ensures.value stored planned _ c.args.root.now pool _ (first.plans stored planned plans) is le c.in_ok-opened.ensures.opened from
     (true_after c.args.store.now c.open_group.new.store c.changes_of.new.store first.reads so_far) in
     let are = are_of_root stored _ c.args.root.now pool c.in_ok-opened.opened.set is from.set in
@@ -101,10 +101,10 @@ returns-in_err-next-clause-known g c =
     let first = c.in_ok-opened.ensures.reads in
     let second = c.in_ok-made.ensures.steps in
     let both = steps_on c.args.store.now c.open_group.new.store c.changes_of.new.store [] (steps_read c.args.store.now c.open_group.new.store [] first) second in
-    passed_on _ _ _ c.from_residual-in_err-next.ensures.1 (λ stored planned pool plans is honest good.
+    passed_on _ _ _ c.from_residual-in_err-next.ensures.1 (λ stored planned pool plans is same honest good.
     let so_far = true_before c.args.store.now c.changes_of.new.store c.plan_root.new.store c.plan_root.ensures.steps.reads honest in
     let le : c.args.root.now.birth ≤ c.args.group = omega (arith, c.in_ok-opened.ensures.early) in
-    let from = c.in_ok-opened.ensures.value stored pool plans.held is (true_before c.args.store.now c.open_group.new.store c.changes_of.new.store second.reads so_far) in
+    let from = c.in_ok-opened.ensures.value stored pool plans.held is same (true_before c.args.store.now c.open_group.new.store c.changes_of.new.store second.reads so_far) in
     let changes = c.in_ok-made.ensures.value stored planned _ c.args.root.now pool _ (first.plans stored planned plans) is le c.in_ok-opened.ensures.opened from
     (true_after c.args.store.now c.open_group.new.store c.changes_of.new.store first.reads so_far) in
     let are = are_of_root stored _ c.args.root.now pool c.in_ok-opened.opened.set is from.set in
@@ -115,7 +115,7 @@ returns-in_err-next-clause-known g c =
 pub returns-in_err-opened-clause-refused : goal.returns-in_err-opened-clause-refused
 returns-in_err-opened-clause-refused g c =
     passed_on _ _ _ c.from_residual.ensures.1
-    (group_unread c.args.store.now c.open_group.new.store c.args.root.now c.args.group c.args.items.now c.args.items.now.writes _ refl c.in_err-opened.ensures.refused)
+    (group_unread c.args.store.now c.open_group.new.store c.args.root.now c.args.directory.now c.args.group c.args.items.now c.args.items.now.writes _ refl c.in_err-opened.ensures.refused)
 
 pub returns-in_err-made-clause-refused : goal.returns-in_err-made-clause-refused
 returns-in_err-made-clause-refused g c =
@@ -123,7 +123,7 @@ returns-in_err-made-clause-refused g c =
     let found = c.in_ok-opened.ensures.found in
     IfErr-weaker c.from_residual-in_err-made.result _ _
     (λ refusal why.
-    group_volumes_refused c.args.store.now c.open_group.new.store c.open_group.new.store c.changes_of.new.store c.args.root.now c.args.group c.args.items.now opened c.in_ok-opened.ensures.reads found refusal
+    group_volumes_refused c.args.store.now c.open_group.new.store c.open_group.new.store c.changes_of.new.store c.args.root.now c.args.directory.now c.args.group c.args.items.now opened c.in_ok-opened.ensures.reads found refusal
     (subst (λ (actions : List Action). AreVolumesRefused c.open_group.new.store c.changes_of.new.store c.args.group opened actions refusal) c.actions.ensures why))
     (passed_on _ _ _ c.from_residual-in_err-made.ensures.1 c.in_err-made.ensures.refused)
 
@@ -137,7 +137,7 @@ returns-clause-places g c =
     let list : List ObjectChange = c.in_ok-made.made.changes.items in
     let found = c.in_ok-opened.ensures.found in
     let volumes = subst (λ (actions : List Action). HasVolumePlaces c.open_group.new.store c.changes_of.new.store c.args.group opened actions list) c.actions.ensures c.in_ok-made.ensures.places in
-    group_has c.args.store.now c.open_group.new.store c.changes_of.new.store c.plan_root.new.store c.args.root.now c.args.group c.args.items.now opened c.in_ok-opened.ensures.reads found list
+    group_has c.args.store.now c.open_group.new.store c.changes_of.new.store c.plan_root.new.store c.args.root.now c.args.directory.now c.args.group c.args.items.now opened c.in_ok-opened.ensures.reads found list
     c.in_ok-made.ensures.steps volumes
     (subst (λ (cs : List ObjectChange). HasRootPlaces c.changes_of.new.store c.plan_root.new.store opened.set c.args.group cs) c.deref.ensures.value c.in_ok-next.ensures.places)
 
@@ -149,7 +149,7 @@ returns-in_err-next-clause-refused g c =
     let volumes = subst (λ (actions : List Action). HasVolumePlaces c.open_group.new.store c.changes_of.new.store c.args.group opened actions list) c.actions.ensures c.in_ok-made.ensures.places in
     IfErr-weaker c.from_residual-in_err-next.result _ _
     (λ refusal why.
-    group_changes_refused c.args.store.now c.open_group.new.store c.changes_of.new.store c.plan_root.new.store c.args.root.now c.args.group c.args.items.now opened c.in_ok-opened.ensures.reads found list refusal
+    group_changes_refused c.args.store.now c.open_group.new.store c.changes_of.new.store c.plan_root.new.store c.args.root.now c.args.directory.now c.args.group c.args.items.now opened c.in_ok-opened.ensures.reads found list refusal
     c.in_ok-made.ensures.steps volumes
     (subst (λ (cs : List ObjectChange). IsRootRefused c.changes_of.new.store c.plan_root.new.store opened.set c.args.group cs refusal) c.deref.ensures.value why))
     (passed_on _ _ _ c.from_residual-in_err-next.ensures.1 c.in_err-next.ensures.refused)

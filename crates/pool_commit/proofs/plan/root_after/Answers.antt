@@ -9,12 +9,14 @@ use Rattle.dataset_snapshots.specs.Reach.{reach_of}
 use Rattle.meta_objset.specs.declared.directory.DirectoryRow.{DirectoryRow}
 use Rattle.pool_commit.specs.Backs.{LeadsTo, SpellsRoot}
 use Rattle.pool_commit.specs.Directories.{SpellsBy}
+use Rattle.pool_commit.proofs.Directories.{first_refused, next_refused, rows_led, rows_spelled}
 use Rattle.pool_commit.proofs.plan.root_after.Goals as goal
 
 pub returns-in_ok-next-in-Some-clause-value : goal.returns-in_ok-next-in-Some-clause-value
 returns-in_ok-next-in-Some-clause-value g c = λ stored planned pool before plans spells leads honest.
     let led = subst (λ (o : Option Block). LeadsTo stored (c.args.group - 1) o pool before) c.in-Some.is leads in
-    let there = c.in_ok-next-in-Some.ensures.value stored planned pool plans led.0 honest in (
+    let by = rows_led stored (c.args.group - 1) c.args.last.now pool _ _ led.0 spells c.in-Some.is c.directory.ensures in
+    let there = c.in_ok-next-in-Some.ensures.value stored planned pool plans led.0 by honest in (
       there.0,
       there.1,
       there.2,
@@ -29,8 +31,14 @@ pub returns-in_err-next-in-Some-clause-known : goal.returns-in_err-next-in-Some-
 returns-in_err-next-in-Some-clause-known g c =
     passed_on _ _ _ c.from_residual.ensures.1
     (λ stored planned pool plans spells honest good.
-    c.in_err-next-in-Some.ensures.known stored planned pool plans (subst (λ (o : Option Block). SpellsRoot stored (c.args.group - 1) o pool) c.in-Some.is spells) honest
-    (good_changes_may_be_made c.args.items.now good))
+    let by = rows_spelled stored (c.args.group - 1) c.args.last.now pool _ _ spells c.in-Some.is c.directory.ensures in
+    c.in_err-next-in-Some.ensures.known stored planned pool plans by.0 by.1 honest (good_changes_may_be_made c.args.items.now good))
+
+pub returns-in_err-next-in-Some-clause-refused : goal.returns-in_err-next-in-Some-clause-refused
+returns-in_err-next-in-Some-clause-refused g c =
+    passed_on _ _ _ c.from_residual.ensures.1
+    (next_refused c.args.store.now c.after_group.new.store c.args.last.now c.args.group c.args.items.now _ _ _ c.in-Some.is c.directory.ensures
+    c.in_err-next-in-Some.ensures.refused)
 
 -- a root was planned where there was none
 abbrev IsFirst : Contents → Contents → ℕ → Block → List DirectoryRow → Entry → PlainPool → Type 0
@@ -43,7 +51,7 @@ pub returns-in_ok-first-in-None-clause-value : goal.returns-in_ok-first-in-None-
 returns-in_ok-first-in-None-clause-value g c = λ stored planned pool before plans spells leads honest.
     let root : Block = c.in_ok-first-in-None.first.root in
     let rows : List DirectoryRow = c.in_ok-first-in-None.first.directory in
-    let empty : pool ≡ no_volumes = subst (λ (o : Option Block). SpellsRoot stored (c.args.group - 1) o pool) c.in-None.is spells in
+    let empty : pool ≡ no_volumes = subst (λ (o : Option Block). SpellsRoot stored (c.args.group - 1) o pool) c.in-None.is spells.root in
     let nothing : before ≡ [] = subst (λ (o : Option Block). LeadsTo stored (c.args.group - 1) o pool before) c.in-None.is leads in
     let there = c.in_ok-first-in-None.ensures.value stored planned plans honest in
     let first : IsFirst planned there.0 c.args.group root rows c.args.items.now pool =
@@ -62,3 +70,8 @@ returns-in_ok-first-in-None-clause-value g c = λ stored planned pool before pla
 pub returns-in_err-first-in-None-clause-known : goal.returns-in_err-first-in-None-clause-known
 returns-in_err-first-in-None-clause-known g c =
     passed_on _ _ _ c.from_residual-in_err-first-in-None.ensures.1 (λ stored planned pool plans spells honest good. c.in_err-first-in-None.ensures.known stored planned plans honest good)
+
+pub returns-in_err-first-in-None-clause-refused : goal.returns-in_err-first-in-None-clause-refused
+returns-in_err-first-in-None-clause-refused g c =
+    passed_on _ _ _ c.from_residual-in_err-first-in-None.ensures.1
+    (first_refused c.args.store.now c.first_root.new.store c.args.last.now c.args.group c.args.items.now _ c.in-None.is c.in_err-first-in-None.ensures.refused)

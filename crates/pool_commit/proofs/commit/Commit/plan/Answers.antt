@@ -179,7 +179,7 @@ refused g c = record {
       c.in_ok-begin_plan.ensures.settled c.begin_plan.ensures.free;
   group = c.saturating_add-group.result;
   is_next = λ few. let same = c.committed.ensures in omega arith;
-  why = subst (λ (kept : KeptGroup). IsNextRefused c.begin_plan.new.self c.group_after.new.store kept.root c.saturating_add-group.result c.args.items.now c.in-Err.refusal)
+  why = subst (λ (kept : KeptGroup). IsNextRefused c.begin_plan.new.self c.group_after.new.store kept.root kept.directory.value c.saturating_add-group.result c.args.items.now c.in-Err.refusal)
       c.last-last.ensures c.in-Err.ensures.refused;
 }
 
