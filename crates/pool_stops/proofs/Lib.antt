@@ -9,3 +9,4 @@ pub mod Steps
 pub mod Commits
 pub mod Runs
 pub mod Reopening
+pub mod Created

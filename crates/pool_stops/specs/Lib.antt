@@ -3,3 +3,4 @@ pub mod Standing
 pub mod Phases
 pub mod Running
 pub mod Reopening
+pub mod Created

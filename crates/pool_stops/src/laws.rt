@@ -1,4 +1,5 @@
 //! Laws of the bytes that are filled, and of where the disks stand with them: what each ensures follows from the definitions alone.
+ghost use Rattle.pool_stops.specs.Created.{CreatedPoolsRun};
 ghost use Rattle.pool_stops.specs.Filled.{BlocksAreFilled, FilledBytesAreForBlocks, FreePlacesAreUnfilled};
 ghost use Rattle.pool_stops.specs.Phases.{BackedPlansAreGood, PhasesEnd, PhasesGoOn, PlansKeepThePhase, ReadsKeepThePhase};
 ghost use Rattle.pool_stops.specs.Reopening.{LedDisksOpen, RunsOutliveStops, StoppedOpensLead};
@@ -148,4 +149,11 @@ pub fn runs_outlive_stops()
 {
     runs_stop_well();
     led_disks_open();
+}
+
+/// A pool that was just made runs behind its first uberblock.
+pub fn created_pools_run()
+    ensures { CreatedPoolsRun }
+{
+    blocks_phase();
 }
