@@ -24,6 +24,7 @@ use Rattle.pool_model.specs.declared.step.Step.TheVariants as steps
 use Rattle.pool_slots.specs.Commits.{only_last}
 use Rattle.pool_slots.specs.Phases.{AreInBlocks}
 use Rattle.pool_slots.specs.Possible.{IsBefore, IsInReach}
+use Rattle.pool_slots.specs.Slots.{AreSettled}
 use Rattle.volume_rules.specs.NowMoves.{IsMadeBy}
 use Rattle.pool_stops.specs.Phases.{IsGoodPlan, IsInPhase, IsInSlots, StepEnds}
 use Rattle.pool_stops.specs.Running.{IsOfKept, IsRunning, IsWhole, StandAt, StepsOn}
@@ -155,6 +156,8 @@ commits old new v w given reply plan last before laws runs link writes none is g
     let ends : StepEnds old.commit plan new.commit =
     record { writes = writes; planned = is; out = out; stand = slots_stand old.commit new.commit plan has; settled = has.settled } in
     let went = laws.ends old.commit new.commit plan last before (good old v plan last before runs is) ends slots in
+    let settled : AreSettled new.commit.store.out new.commit.store.disks.calls =
+    subst (λ (flags : List Bool). AreSettled flags new.commit.store.disks.calls) (sym out) has.settled in
     record {
       later = plan.uberblock;
       earlier = last ∷ before;
@@ -167,7 +170,7 @@ commits old new v w given reply plan last before laws runs link writes none is g
             (λ same. let e = ap (λ (x : Uberblock). x.group) same in omega (arith, e, runs.group, so.group))
             (λ rest. let low = runs.lower u rest (claim ∙ so.claim) in omega (arith, low, runs.group, so.group)) (first_or last before u among);
         kept = λ u reach. now_kept old new v w plan last before u runs so reach;
-        stand = subst (λ (o : Option Planned). StandAt new.commit o plan.uberblock (last ∷ before)) (sym gone) went.0;
+        stand = subst (λ (o : Option Planned). StandAt new.commit o plan.uberblock (last ∷ before)) (sym gone) (record { blocks = went.0; settled = settled });
       };
       stops = stops_in_slots old v new.commit.store.disks plan last before runs is so.group slots.written went.1;
     }

@@ -17,7 +17,7 @@ use Rattle.pool_slots.specs.Commits.{AreAt, only_last}
 use Rattle.pool_slots.specs.PhaseLaws.{BlocksBegin}
 use Rattle.pool_slots.specs.Phases.{AreInBlocks}
 use Rattle.pool_slots.specs.Possible.{IsInReach, IsPossible, LeadsOn, TreeStands, Trees}
-use Rattle.pool_slots.specs.Slots.{InUse}
+use Rattle.pool_slots.specs.Slots.{AreSettled, InUse}
 use Rattle.volume_rules.specs.NowMoves.{IsMadeBy}
 use Rattle.pool_stops.specs.Created.{CreatedPoolsRun}
 use Rattle.pool_stops.specs.Filled.{is_filled}
@@ -79,6 +79,7 @@ created_pools_run begin old pool config u core is known honest some few =
     let unplanned : s.planned ≡ None = no_plan s v s.planned backs refl refl in
     let phase : AreInBlocks trees s.store.out s.store.disks u [] =
     subst (λ (them : List Bool). AreInBlocks trees them s.store.disks u []) (sym is.outs) (begin trees out s.store.disks u [] at) in
+    let settled : AreSettled s.store.out s.store.disks.calls = subst (λ (them : List Bool). AreSettled them s.store.disks.calls) (sym is.outs) at.settled in
     record {
       represents = represents;
       whole = whole;
@@ -91,5 +92,5 @@ created_pools_run begin old pool config u core is known honest some few =
         root = is.root;
         made = subst (λ n. IsMadeBy n no_volumes) (sym is.first.group_is) represents.follows.made;
       });
-      stand = subst (λ (o : Option Planned). StandAt s o u []) (sym unplanned) phase;
+      stand = subst (λ (o : Option Planned). StandAt s o u []) (sym unplanned) (record { blocks = phase; settled = settled });
     }

@@ -200,7 +200,7 @@ plans_keep law old new last before lie from reads phase =
 abbrev with_disks : State → Disks → State
 with_disks s disks = record s { store = record s.store { disks = disks } }
 
-no_writes : (may : ℕ → ℕ → List ℕ → Type 0) (old new : Disks) → OnlyReads old new → Makes may old new
+pub no_writes : (may : ℕ → ℕ → List ℕ → Type 0) (old new : Disks) → OnlyReads old new → Makes may old new
 no_writes may old new reads =
     Makes-wider no_write may old new (λ which at bytes is. absurd is)
     (record { starts = reads.starts; newer = reads.newer; calls = reads.calls; writes = reads_made reads.newer reads.are_reads })

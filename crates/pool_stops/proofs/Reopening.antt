@@ -1,5 +1,5 @@
 -- Disks that a stop leaves, and what an open makes of them.
-use Rattle.std.proofs.Common.{ℕ, zero, suc, ◌≡◌, ◌⊎◌, inl, inr, ⊎_elim, ◌+◌, ◌<◌, ◌≤◌, Bool, false, List, [], ◌∷◌, length, Option, Some, None, Contains, refl, sym, ap, subst, ◌∙◌, arith}
+use Rattle.std.proofs.Common.{ℕ, zero, suc, ◌≡◌, ◌⊎◌, inl, inr, ⊎_elim, ◌+◌, ◌<◌, ◌≤◌, Bool, false, List, [], ◌∷◌, length, Option, Some, None, Contains, refl, sym, ap, subst, ◌∙◌, arith, true≢false}
 use Rattle.std.specs.Prelude.{◌-◌, ◌^◌, map, replicate, unwrap_or}
 use Rattle.std.proofs.lemmas.List.{length-replicate}
 use Rattle.std.proofs.lemmas.List.Elements.{Contains-append_left, Contains-append_right}
@@ -22,7 +22,8 @@ use Rattle.pool_commit.proofs.Labels.{labels_of_opened_lie}
 use Rattle.pool_commit.proofs.Planning.{in_counted}
 use Rattle.pool_core.specs.State.{CoreState, disks_of}
 use Rattle.pool_model.specs.Pools.{PlainPool}
-use Rattle.pool_model.specs.View.{View, Idle, counted, opened_as}
+use Rattle.pool_export.specs.Moments.{IsLeading}
+use Rattle.pool_model.specs.View.{View, Idle, counted, is_syncing, opened_as}
 use Rattle.pool_model.specs.View.{disks_of as disks_in_vdevs}
 use Rattle.pool_open.specs.Opening.{IsOpenedOver}
 use Rattle.pool_open.specs.Stops.{fresh}
@@ -32,18 +33,20 @@ use Rattle.pool_open.proofs.Stops.{stopped_can_be_opened}
 use Rattle.pool_open.proofs.Through.{through_made}
 use Rattle.pool_slots.specs.Commits.{AreAt, AreOffLabels, LeadAlways, only_last}
 use Rattle.pool_slots.specs.Opens.{CanOpen, IsClaimOf, OpenGives, also_begun}
-use Rattle.pool_slots.specs.PhaseLaws.{BlocksBegin}
+use Rattle.pool_slots.specs.PhaseLaws.{BlocksBegin, BlocksEnd}
 use Rattle.pool_slots.specs.Phases.{AreInBlocks}
 use Rattle.pool_slots.specs.Possible.{IsBefore, IsInReach, Leads, Possible, TreeStands, Trees, held_by}
-use Rattle.pool_slots.specs.Slots.{AreThere, InUse, IsOffLabels}
+use Rattle.pool_slots.specs.Slots.{AreSettled, AreThere, InUse, IsOffLabels}
 use Rattle.volume_rules.specs.NowMoves.{IsMadeBy}
 use Rattle.pool_stops.specs.Filled.{is_filled}
-use Rattle.pool_stops.specs.Reopening.{AreByGroup, IsOpenedWell, IsPossibleBehind, LeadToPools, LeavesImages, LedDisksOpen, RunsOutliveStops, StoppedOpensLead, StoppedStepsLead}
-use Rattle.pool_stops.specs.Running.{IsOfKept, IsRunning, IsWhole, RunsStopWell, StandAt, StopsAt, pool_of}
+use Rattle.pool_stops.specs.Reopening.{AreByGroup, IsOpenedWell, IsPossibleBehind, LeadToPools, LeavesImages, LedDisksOpen, RunsOutliveStops, StoppedExportsLead, StoppedOpensLead, StoppedStepsLead}
+use Rattle.pool_stops.specs.Running.{IsBetween, IsOfKept, IsRunning, IsWhole, RunsStopWell, StandAt, StopsAt, pool_of}
 use Rattle.pool_stops.specs.Standing.{filled_trees}
 use Rattle.pool_stops.proofs.Commits.{group_at_last}
 use Rattle.pool_stops.proofs.Holding.{get_in_use}
-use Rattle.pool_stops.proofs.Steps.{first_or, is_last_or_before, used_below}
+use Rattle.pool_stops.proofs.Filled.{filled_bytes_are_for_blocks}
+use Rattle.pool_stops.proofs.Standing.{picked_off}
+use Rattle.pool_stops.proofs.Steps.{first_or, is_last_or_before, tree_with, used_below}
 use Rattle.pool_stops.proofs.Trees.{at_with, picked_stand}
 
 -- ---- images are as long as the disks
@@ -245,7 +248,10 @@ led_disks_open begin old shapes out rewind p pools claimed core led is all none 
           root = is.root;
           made = subst (λ n. IsMadeBy n (pools opened.claim.taken)) (sym group) opened.represents.follows.made;
         });
-        stand = subst (λ (o : Option Planned). StandAt s o claimed []) (sym unplanned) phase;
+        stand = subst (λ (o : Option Planned). StandAt s o claimed []) (sym unplanned) (record {
+          blocks = phase;
+          settled = subst (λ (them : List Bool). AreSettled them s.store.disks.calls) (sym out_is) here.settled;
+        });
       };
     }
 
@@ -265,4 +271,33 @@ runs_outlive stops opens old mid new v between w steps replies step reply last b
       which = stop.which;
       opened = opens (fresh images) (shapes_of s.store.spaces) s.store.out rewind stop.p (pool_of between) claimed core led reopened.opened reopened.all
           at.runs.whole.none reopened.few reopened.honest;
+    }
+
+-- ---- exports
+
+is_planned_so : (s : State) (v : View) (planned : Option Planned) → (backs : Backs s v) → s.planned ≡ planned → is_syncing v.sync ≡ false → s.planned ≡ None
+is_planned_so s v None backs is at_rest = is
+is_planned_so s v (Some plan) backs is at_rest =
+    let has : HasPlan s backs.blocks.planned plan v = subst (λ (o : Option Planned). IsPlanOf s backs.blocks.planned o v) is backs.blocks.plan in
+    absurd (true≢false (sym (ap is_syncing has.sync) ∙ at_rest))
+
+pub stopped_exports_lead : BlocksEnd → StoppedExportsLead
+stopped_exports_lead ends core v last before u new images runs begun leaves =
+    let s : State = core.commit in
+    let out : List Bool = s.store.out in
+    let trees : Trees = filled_trees s.store.spaces s.store.disks in
+    let none : s.planned ≡ None = is_planned_so s v s.planned runs.represents.backs refl (begun.exportable v runs.represents).at_rest.unsynced in
+    let between : IsBetween s last before = subst (λ (o : Option Planned). StandAt s o last before) none runs.stand in
+    let at : AreAt trees out s.store.disks last before = ends trees out s.store.disks last before between.blocks between.settled in
+    let off : AreOffLabels trees out s.store.disks.starts =
+    picked_off (is_filled s.store.spaces) (content s.store.disks) s.store.disks.starts s.store.spaces out runs.whole.lie (filled_bytes_are_for_blocks s.store.spaces) in
+    let used : InUse out 0 = get_in_use out 0 (omega (arith, runs.whole.some, runs.whole.count)) (runs.whole.none 0) in
+    let leading : IsLeading trees out s.store.disks (only_last last before) = record { off_labels = off; settled = at.settled; leads = at.leads } in
+    record {
+      trees = trees;
+      can = lead_on trees out s.store.disks.starts leaves.calls images (only_last last before) (0, used) runs.whole.count leaves.left off
+          (begun.leads trees (only_last last before) leading leaves.calls leaves.moment images leaves.left leaves.untorn);
+      tree = λ w reach.
+          tree_on trees s.store.disks.starts images (shapes_of s.store.spaces) out w (pool_of v w) (left_sizes s.store.disks.starts leaves.calls images leaves.left)
+          (tree_with s v last before core refl runs w reach);
     }

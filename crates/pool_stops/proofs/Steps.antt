@@ -3,7 +3,7 @@ use Rattle.std.proofs.Common.{ℕ, zero, suc, ◌≡◌, ◌⊎◌, inl, inr, �
 use Rattle.std.specs.Prelude.{◌==◌, if◌then◌else◌, filter, nat_le, not}
 use Rattle.std.proofs.lemmas.Bool.Decides.{nat_tests}
 use Rattle.model_disk.specs.Joint.{Disks, bytes_of, content}
-use Rattle.model_disk.specs.Runs.{Makes}
+use Rattle.model_disk.specs.Runs.{Makes, no_write}
 use Rattle.model_disk.proofs.RunLemmas.{Makes-wider}
 use Rattle.raidz_io.specs.Reads.{OnlyReads}
 use Rattle.block_store.specs.Places.{IsLaidOut, shapes_of}
@@ -45,7 +45,7 @@ use Rattle.pool_model.specs.declared.step.Step.TheVariants as steps
 use Rattle.pool_model.proofs.Committing.{told_pools}
 use Rattle.pool_open.specs.Trees.{IsTreeOf}
 use Rattle.pool_slots.specs.Commits.{LeadAlways, last_or, only_last}
-use Rattle.pool_slots.specs.PhaseLaws.{NextIsUnseen}
+use Rattle.pool_slots.specs.PhaseLaws.{NextIsUnseen, ReadsAndFlushesKeep}
 use Rattle.pool_slots.specs.Phases.{AreInBlocks}
 use Rattle.pool_slots.specs.Possible.{IsBefore, IsInReach}
 use Rattle.pool_slots.specs.Slots.{AreSettled, InUse, Shows, slot_at, spelled}
@@ -59,7 +59,7 @@ use Rattle.pool_stops.proofs.Backed.{backed_plans_are_good}
 use Rattle.pool_stops.proofs.Filled.{filled_bytes_are_for_blocks, picked_are_for_blocks}
 use Rattle.pool_stops.proofs.Holding.{get_in_use}
 use Rattle.pool_stops.proofs.Kept.{kept_tree, kept_tree_too, plan_tree}
-use Rattle.pool_stops.proofs.Phases.{begins, flushed_settled, is_empty, read_only}
+use Rattle.pool_stops.proofs.Phases.{begins, flushed_settled, is_empty, no_writes, read_only}
 use Rattle.pool_stops.proofs.Standing.{picked_off}
 
 -- the laws of phases that a step rests on
@@ -71,6 +71,7 @@ pub record PhaseLaws : Type 0 where
   pub reads : ReadsKeepThePhase
   pub plans : PlansKeepThePhase
   pub ends : PhasesEnd
+  pub keep : ReadsAndFlushesKeep
 
 -- ---- lists
 
@@ -142,7 +143,7 @@ pool_of_next v u same = ap (λ b. if b then pool_after v else v.pools u.group) (
 
 -- ---- what a stop leads to
 
-tree_with : (s : State) (v : View) (last : Uberblock) (before : List Uberblock) (core : CoreState) → core.commit ≡ s → IsRunning core v last before → (u : Uberblock)
+pub tree_with : (s : State) (v : View) (last : Uberblock) (before : List Uberblock) (core : CoreState) → core.commit ≡ s → IsRunning core v last before → (u : Uberblock)
     → IsInReach (only_last last before) u
     → IsTreeOf (filled_trees s.store.spaces s.store.disks) s.store.disks.starts (shapes_of s.store.spaces) s.store.out u (pool_of v u)
 tree_with s v last before core is runs u reach =
@@ -266,15 +267,21 @@ pub its_group : (old : CoreState) (v : View) (plan : Planned) (last : Uberblock)
     → plan.uberblock.group ≡ suc v.committed
 its_group old v plan last before runs is = (good old v plan last before runs is).next.1 ∙ ap suc runs.group
 
+-- reads leave nothing unflushed
+still_settled : PhaseLaws → (s : State) (disks : Disks) (last : Uberblock) (before : List Uberblock) → OnlyReads s.store.disks disks → AreSettled s.store.out s.store.disks.calls
+    → AreSettled s.store.out disks.calls
+still_settled laws s disks last before reads settled disk used =
+    (laws.keep (filled_trees s.store.spaces s.store.disks) s.store.out s.store.disks disks last before (no_writes no_write s.store.disks disks reads)).settled disk (settled disk used)
+
 -- disks were read, or nothing was done
 reads_by : (old : CoreState) (v : View) (disks : Disks) (last : Uberblock) (before : List Uberblock) (planned : Option Planned) → PhaseLaws → IsRunning old v last before
     → OnlyReads old.commit.store.disks disks → old.commit.planned ≡ planned → StandAt old.commit planned last before
     → StandAt (with_disks old.commit disks) planned last before × StopsAt old.commit v disks last before
 reads_by old v disks last before None laws runs reads is phase =
     let spaces : List VdevSpace = old.commit.store.spaces in
-    let went = laws.blocks spaces spaces old.commit.store.out old.commit.store.disks disks last before runs.whole.lie (λ disk i filled. filled) phase
+    let went = laws.blocks spaces spaces old.commit.store.out old.commit.store.disks disks last before runs.whole.lie (λ disk i filled. filled) phase.blocks
     (read_only spaces old.commit.store.disks disks reads) in
-    (went.0, stops_filled old v disks last before runs went.1)
+    (record { blocks = went.0; settled = still_settled laws old.commit disks last before reads phase.settled }, stops_filled old v disks last before runs went.1)
 reads_by old v disks last before (Some plan) laws runs reads is phase =
     let went = laws.reads old.commit (with_disks old.commit disks) plan last before runs.whole.lie reads refl phase in
     (went.0, stops_either old v (with_disks old.commit disks) plan last before runs is (its_group old v plan last before runs is) went.1)
@@ -324,9 +331,9 @@ used_below (flag ∷ out) (suc disk) used = let rest = used_below out disk used 
 
 plan_stands : (old : CoreState) (v : View) (new : State) (last : Uberblock) (before : List Uberblock) (planned : Option Planned) → IsRunning old v last before
     → PlansFrom old.commit new → new.planned ≡ planned → AreInBlocks (filled_trees new.store.spaces new.store.disks) new.store.out new.store.disks last before
-    → StandAt new planned last before
-plan_stands old v new last before None runs from is phase = phase
-plan_stands old v new last before (Some plan) runs from is phase = inl (record {
+    → AreSettled new.store.out new.store.disks.calls → StandAt new planned last before
+plan_stands old v new last before None runs from is phase settled = record { blocks = phase; settled = settled }
+plan_stands old v new last before (Some plan) runs from is phase settled = inl (record {
   blocks = phase;
   flushed = λ disk used.
       let below : disk < length old.commit.store.out = used_below old.commit.store.out disk (subst (λ (out : List Bool). InUse out disk) from.out used) in
@@ -339,14 +346,17 @@ pub plans_on : (old new : CoreState) (v w : View) (step : Step) (given : Given) 
 plans_on old new v w step given reply last before laws runs link plans =
     let from : PlansFrom old.commit new.commit = plans.from in
     let phase : StandAt old.commit None last before = subst (λ (o : Option Planned). StandAt old.commit o last before) plans.unplanned runs.stand in
-    let went = laws.plans old.commit new.commit last before runs.whole.lie from plans.reads phase in
+    let went = laws.plans old.commit new.commit last before runs.whole.lie from plans.reads phase.blocks in
+    let settled : AreSettled new.commit.store.out new.commit.store.disks.calls =
+    subst (λ (out : List Bool). AreSettled out new.commit.store.disks.calls) (sym from.out)
+    (still_settled laws old.commit new.commit.store.disks last before plans.reads phase.settled) in
     let none : NoneIsOut new.commit = λ disk. ap (λ out. is_out out disk) from.out ∙ runs.whole.none disk in
     record {
       later = last;
       earlier = before;
       runs = runs_still old new v w step given reply last before runs link
           (whole_still old.commit new.commit runs.whole none (ap length from.out) plans.reads.starts from.shapes) from.stamp from.kept
-          (plan_stands old v new.commit last before new.commit.planned runs from refl went.0);
+          (plan_stands old v new.commit last before new.commit.planned runs from refl went.0 settled);
       stops = stops_filled old v new.commit.store.disks last before runs went.1;
     }
 

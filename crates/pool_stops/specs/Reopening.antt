@@ -13,10 +13,12 @@ use Rattle.pool_model.specs.Pools.{PlainPool}
 use Rattle.pool_model.specs.View.{View, opened_as}
 use Rattle.pool_model.specs.declared.step.Reply.{Reply}
 use Rattle.pool_model.specs.declared.step.Step.{Step}
+use Rattle.pool_open.specs.Exporting.{IsExportBegun}
 use Rattle.pool_open.specs.Opening.{IsKeptThrough, IsOpenedOver}
 use Rattle.pool_open.specs.Stops.{fresh}
 use Rattle.pool_open.specs.Trees.{IsOpenedFor, IsTreeOf}
 use Rattle.pool_open.specs.Words.{vdevs_in}
+use Rattle.pool_slots.specs.Commits.{only_last}
 use Rattle.pool_slots.specs.Opens.{CanOpen, IsClaimOf, also_begun}
 use Rattle.pool_slots.specs.Possible.{IsInReach, Possible, Trees}
 use Rattle.pool_slots.specs.Slots.{AreUntorn}
@@ -71,6 +73,13 @@ LedDisksOpen =
     (old : Disks) (shapes : List VdevShape) (out : List Bool) (rewind : ℕ) (p : Possible) (pools : Uberblock → PlainPool) (claimed : Uberblock) (core : CoreState)
     → LeadToPools old shapes out p pools → (is : IsOpenedOver old shapes out rewind claimed core) → is.later ≡ out → ((disk : ℕ) → is_out out disk ≡ false)
     → length old.starts ≤ 2 ^ 64 → IsHonestSince old (disks_of core) → IsOpenedWell p pools shapes out rewind claimed core
+
+-- Wherever an export of a pool that runs is stopped, and once it is done: what is left may be opened, and leads to the pool of the committed group.
+abbrev pub StoppedExportsLead : Type 0
+StoppedExportsLead =
+    (core : CoreState) (v : View) (last : Uberblock) (before : List Uberblock) (u : Uberblock) (new : Disks) (images : List (List ℕ)) → IsRunning core v last before
+    → IsExportBegun core u new → LeavesImages core.commit.store.out (disks_of core) new images
+    → LeadToPools (fresh images) (shapes_of core.commit.store.spaces) core.commit.store.out (only_last last before) (pool_of v)
 
 -- ---- the whole
 

@@ -22,6 +22,7 @@ use Rattle.pool_open.specs.Trees.{IsTreeOf}
 use Rattle.pool_slots.specs.Commits.{AreOffLabels, LeadAlways, last_or, only_last}
 use Rattle.pool_slots.specs.Phases.{AreInBlocks}
 use Rattle.pool_slots.specs.Possible.{IsInReach, Possible, Trees}
+use Rattle.pool_slots.specs.Slots.{AreSettled}
 use Rattle.volume_rules.specs.NowMoves.{IsMadeBy}
 use Rattle.pool_stops.specs.Phases.{IsInPhase}
 use Rattle.pool_stops.specs.Standing.{LieBesideLabels, filled_trees}
@@ -43,9 +44,14 @@ pub record IsOfKept (s : State) (v : View) (u : Uberblock) : Type 0 where
   pub root : kept.root ≡ Some u.root
   pub made : IsMadeBy u.group (v.pools u.group)
 
+-- With no plan nothing is unflushed.
+pub record IsBetween (s : State) (last : Uberblock) (before : List Uberblock) : Type 0 where
+  pub blocks : AreInBlocks (filled_trees s.store.spaces s.store.disks) s.store.out s.store.disks last before
+  pub settled : AreSettled s.store.out s.store.disks.calls
+
 -- between commits, and while a plan's blocks are written, the disks lead to the last uberblock; once its slots are, to that or the plan's
 abbrev pub StandAt : State → Option Planned → Uberblock → List Uberblock → Type 0
-StandAt s None last before = AreInBlocks (filled_trees s.store.spaces s.store.disks) s.store.out s.store.disks last before
+StandAt s None last before = IsBetween s last before
 StandAt s (Some plan) last before = IsInPhase s plan last before
 
 -- The committed group has this uberblock, behind those. An open that goes back from it comes to none but kept groups.

@@ -3,7 +3,7 @@ ghost use Rattle.pool_stops.specs.Created.{CreatedPoolsRun};
 ghost use Rattle.pool_stops.specs.Filled.{BlocksAreFilled, FilledBytesAreForBlocks, FreePlacesAreUnfilled};
 ghost use Rattle.pool_stops.specs.Phases.{BackedPlansAreGood, PhasesEnd, PhasesGoOn, PlansKeepThePhase, ReadsKeepThePhase};
 ghost use Rattle.pool_stops.specs.Reopening.{LedDisksOpen, RunsOutliveStops, StoppedOpensLead};
-ghost use Rattle.pool_stops.specs.Reopening.{StoppedStepsLead};
+ghost use Rattle.pool_stops.specs.Reopening.{StoppedExportsLead, StoppedStepsLead};
 ghost use Rattle.pool_stops.specs.Running.{RunningPoolsStepOn, RunsStopWell};
 ghost use Rattle.pool_stops.specs.Standing.{BlocksKeepWhatIsFilled, CommitsEndFilled, DueWritesAreUnfilled};
 ghost use Rattle.pool_stops.specs.Standing.{FilledTreesHoldBlocks, SlotsBeginBehindBlocks, SlotsKeepWhatIsForBlocks};
@@ -116,6 +116,7 @@ pub fn running_pools_step_on()
     reads_keep_the_phase();
     plans_keep_the_phase();
     phases_end();
+    reads_and_flushes_keep();
 }
 
 /// So it is of each step of a whole run, where no disk is out by the end of that step.
@@ -154,6 +155,13 @@ pub fn runs_outlive_stops()
 /// A pool that was just made runs behind its first uberblock.
 pub fn created_pools_run()
     ensures { CreatedPoolsRun }
+{
+    blocks_phase();
+}
+
+/// Wherever an export is stopped, and once it is done.
+pub fn stopped_exports_lead()
+    ensures { StoppedExportsLead }
 {
     blocks_phase();
 }

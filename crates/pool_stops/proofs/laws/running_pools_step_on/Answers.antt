@@ -10,4 +10,5 @@ returns c = steps_on (record {
   reads = c.reads_keep_the_phase.ensures;
   plans = c.plans_keep_the_phase.ensures;
   ends = c.phases_end.ensures;
+  keep = c.reads_and_flushes_keep.ensures;
 })
