@@ -1,19 +1,17 @@
 -- Disks that show one uberblock and no other.
-use Rattle.std.proofs.Common.{◌≡◌, ◌⊎◌, inl, inr, ◌<◌, ◌≤◌, ◌∙◌, ℕ, zero, suc, ◌+◌, ◌*◌, ◌/◌, ◌%◌, Bool, List, length, slice_get, get_or, Option, Some, None, Ok, Err, refl, sym, ap, subst, arith}
-use Rattle.std.specs.Prelude.{Vec, IsTrue, ◌↔◌, IfSome, IfNone}
+use Rattle.std.proofs.Common.{◌≡◌, inl, inr, ◌<◌, ◌≤◌, ◌∙◌, ℕ, ◌+◌, ◌*◌, ◌/◌, ◌%◌, List, length, get_or, Option, Some, None, Ok, Err, refl, sym, ap, subst, arith}
+use Rattle.std.specs.Prelude.{Vec}
 use Rattle.std.specs.declared.alloc.Global.{Global}
 use Rattle.std.proofs.lemmas.Bool.{cases_lt}
 use Rattle.std.proofs.lemmas.List.{get_or_past}
-use Rattle.model_disk.specs.Joint.{Disks, bytes_of, content}
+use Rattle.model_disk.specs.Joint.{Disks, content}
 use Rattle.model_disk.specs.Runs.{Makes, no_write}
 use Rattle.model_disk.proofs.LawLemmas.{same_bytes}
 use Rattle.model_disk.proofs.RunLemmas.{Makes-none}
-use Rattle.pool_format.specs.Blank.{IsToldOf, is_there, isnt}
-use Rattle.pool_format.proofs.Blanks.{told_as, told_more, told_since}
+use Rattle.pool_format.specs.Blank.{IsToldOf, isnt}
+use Rattle.pool_format.proofs.Blanks.{told_more, told_since}
 use Rattle.pool_open.specs.declared.refusal.Refusal.{Refusal}
-use Rattle.pool_slots.specs.Failures.{HasFailedOn}
-use Rattle.pool_slots.specs.Opens.{FindsOn, IsShownOn}
-use Rattle.pool_slots.specs.Slots.{HaveLabels, IsSlot, Shows, slot_at, spelled}
+use Rattle.pool_slots.specs.Slots.{IsSlot, Shows, slot_at, spelled}
 use Rattle.pool_slots.proofs.Failing.{fails_later}
 use Rattle.pool_slots.proofs.Places.{length-spelled}
 use Rattle.pool_slots.proofs.Reading.{AreRead, IsRead, are_read, read_is, slots_refused}

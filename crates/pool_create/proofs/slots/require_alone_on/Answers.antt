@@ -1,4 +1,4 @@
-use Rattle.std.proofs.Common.{◌≡◌, inr, List, Option, Err, refl, sym, subst}
+use Rattle.std.proofs.Common.{inr, List, Option, refl, sym, subst}
 use Rattle.pool_open.specs.declared.refusal.Refusal.{Refusal}
 use Rattle.pool_slots.proofs.ReadRuns.{reads_made}
 use Rattle.pool_slots.proofs.Reading.{slots_not_read, slots_read}

@@ -1,4 +1,3 @@
-use Rattle.std.proofs.Common.{subst}
 use Rattle.model_disk.specs.Runs.{no_write}
 use Rattle.pool_slots.proofs.Phases.{both_made}
 use Rattle.pool_slots.proofs.Results.{if_err_is}
