@@ -1,5 +1,5 @@
 -- An export of a core's disks, by what is said of their labels.
-use Rattle.std.proofs.Common.{◌≡◌, Bool, List, subst, sym}
+use Rattle.std.proofs.Common.{◌≡◌, Bool, List, subst}
 use Rattle.model_disk.specs.Joint.{Disks}
 use Rattle.model_disk.specs.declared.disk.Disk as disk
 use Rattle.pool_commit.specs.Last.{IsLastUberblock}
