@@ -56,8 +56,8 @@ was_free : (old new : List Space) (metaslab : ℕ) (run : Run) (from to : State)
 was_free old new metaslab run from to taken change m s before later found found' free = elim (cases_eq m metaslab) [
   | inr other ↦ (
     let is : later ≡ before = same_some later before (sym found' ∙ ap (λ xs. slice_get xs m) change.rest
-    ∙ slice_get-set_other old metaslab m change.later (λ same. other (sym same)) ∙ found) in
-    subst (λ (x : Space). state x s ≡ Free) is free,
+        ∙ slice_get-set_other old metaslab m change.later (λ same. other (sym same)) ∙ found) in
+        subst (λ (x : Space). state x s ≡ Free) is free,
     λ this. absurd (other this),
   )
   | inl this ↦
