@@ -1,8 +1,8 @@
 -- Plans of states that back a view.
-use Rattle.std.proofs.Common.{ℕ, zero, suc, ◌≡◌, ◌<◌, Bool, false, List, [], ◌∷◌, ◌++◌, Option, Some, Contains, refl, sym, ap, subst, ◌∙◌, arith}
+use Rattle.std.proofs.Common.{ℕ, zero, suc, ◌≡◌, Bool, false, List, [], ◌∷◌, ◌++◌, Option, Contains, sym, ap, subst, ◌∙◌, arith}
 use Rattle.std.specs.List.{AllByRecursion}
 use Rattle.block_store.specs.Store.{is_out}
-use Rattle.pool_commit.specs.Backs.{Backs, HasPlan, IsPlanOf}
+use Rattle.pool_commit.specs.Backs.{HasPlan, IsPlanOf}
 use Rattle.pool_commit.specs.Making.{behind_left, flushes_left, slots_left, writes_left}
 use Rattle.pool_commit.specs.declared.kept.Planned.{Planned}
 use Rattle.pool_commit.specs.declared.kept.SlotWrite.{SlotWrite}

@@ -1,18 +1,13 @@
 -- The step of a pool that runs with which a group is committed.
-use Rattle.std.proofs.Common.{ℕ, suc, ◌≡◌, ◌⊎◌, inl, inr, ⊎_elim, ◌+◌, ◌<◌, ◌≤◌, Bool, true, false, List, [], ◌∷◌, length, Option, Some, None, Contains, refl, sym, ap, subst, ◌∙◌, arith, true≢false}
+use Rattle.std.proofs.Common.{ℕ, suc, ◌≡◌, inl, inr, ⊎_elim, ◌<◌, ◌≤◌, Bool, true, false, List, ◌∷◌, length, Option, Some, None, refl, sym, ap, subst, ◌∙◌, arith}
 use Rattle.std.specs.Prelude.{◌==◌, if◌then◌else◌}
 use Rattle.std.proofs.lemmas.Bool.Decides.{nat_tests}
-use Rattle.model_disk.specs.Joint.{Disks}
-use Rattle.raidz_io.proofs.Written.{same_some}
-use Rattle.block_pointer.specs.declared.block.Block.{Block}
-use Rattle.block_store.specs.Store.{is_out}
 use Rattle.uberblock_ring.specs.declared.uberblock.Uberblock.{Uberblock}
 use Rattle.pool_commit.specs.declared.kept.Kept.{Kept}
-use Rattle.pool_commit.specs.declared.kept.KeptGroup.{KeptGroup}
 use Rattle.pool_commit.specs.declared.kept.Planned.{Planned}
 use Rattle.pool_commit.specs.Backs.{Backs, HasPlan, IsPlanOf}
 use Rattle.pool_commit.specs.Progress.{IsShifted}
-use Rattle.pool_commit.specs.State.{NoneIsOut, State, group_at}
+use Rattle.pool_commit.specs.State.{NoneIsOut, group_at}
 use Rattle.pool_commit.specs.Writing.{WritesPlan}
 use Rattle.pool_core.specs.State.{CoreState}
 use Rattle.pool_core.specs.Steps.{Link}
@@ -22,13 +17,11 @@ use Rattle.pool_model.specs.View.{Given, View}
 use Rattle.pool_model.specs.declared.step.Reply.{Reply}
 use Rattle.pool_model.specs.declared.step.Step.TheVariants as steps
 use Rattle.pool_slots.specs.Commits.{only_last}
-use Rattle.pool_slots.specs.Phases.{AreInBlocks}
-use Rattle.pool_slots.specs.Possible.{IsBefore, IsInReach}
+use Rattle.pool_slots.specs.Possible.{IsInReach}
 use Rattle.pool_slots.specs.Slots.{AreSettled}
 use Rattle.volume_rules.specs.NowMoves.{IsMadeBy}
-use Rattle.pool_stops.specs.Phases.{IsGoodPlan, IsInPhase, IsInSlots, StepEnds}
+use Rattle.pool_stops.specs.Phases.{IsInPhase, IsInSlots, StepEnds}
 use Rattle.pool_stops.specs.Running.{IsOfKept, IsRunning, IsWhole, StandAt, StepsOn}
-use Rattle.pool_stops.specs.Standing.{filled_trees}
 use Rattle.pool_stops.proofs.Steps.{HasShown, PhaseLaws, committed_so, first_or, good, has_shown, is_last_or_before, its_group, pools_stay, same_flags, slots_stand, stops_in_slots, was_in_slots, whole_still}
 
 -- ---- kept groups by their numbers

@@ -1,5 +1,5 @@
 -- A pool that was just made runs.
-use Rattle.std.proofs.Common.{ℕ, zero, suc, ◌≡◌, inl, inr, ◌<◌, ◌≤◌, Bool, false, List, [], ◌∷◌, length, Option, None, refl, sym, ap, subst, ◌∙◌, arith}
+use Rattle.std.proofs.Common.{ℕ, zero, suc, ◌≡◌, inr, ◌<◌, Bool, false, List, [], length, Option, None, refl, sym, ap, subst, ◌∙◌, arith}
 use Rattle.model_disk.specs.Joint.{Disks, bytes_of, content}
 use Rattle.block_store.specs.Opened.{MayBeOpened}
 use Rattle.block_store.specs.Store.{is_out}
@@ -7,10 +7,9 @@ use Rattle.uberblock_ring.specs.declared.uberblock.Uberblock.{Uberblock}
 use Rattle.pool_commit.specs.declared.kept.Planned.{Planned}
 use Rattle.pool_commit.specs.Backs.{Backs}
 use Rattle.pool_commit.specs.State.{State}
-use Rattle.pool_core.specs.State.{CoreState, disks_of}
-use Rattle.pool_create.specs.Creating.{IsCreated, IsShownAlone}
+use Rattle.pool_create.specs.Creating.{IsShownAlone}
 use Rattle.pool_create.specs.Planning.{nobody, none_out}
-use Rattle.pool_model.specs.Pools.{PlainPool, no_volumes}
+use Rattle.pool_model.specs.Pools.{no_volumes}
 use Rattle.pool_model.specs.View.{View, opened_as}
 use Rattle.pool_open.specs.Words.{vdevs_in}
 use Rattle.pool_slots.specs.Commits.{AreAt, only_last}

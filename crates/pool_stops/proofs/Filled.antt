@@ -17,7 +17,7 @@ use Rattle.raidz_io.specs.declared.vdev.Vdev.{Vdev}
 use Rattle.raidz_io.proofs.Written.{same_some}
 use Rattle.space_map.specs.Sectors.{names}
 use Rattle.block_store.specs.Elsewhere.{IsForBlocks}
-use Rattle.block_store.specs.Places.{EachSector, IsExtentAt, IsFree, IsLaidOut, IsNotFree, IsTaken, filled, run_at, shapes_of}
+use Rattle.block_store.specs.Places.{EachSector, IsExtentAt, IsFree, IsLaidOut, IsNotFree, filled, run_at, shapes_of}
 use Rattle.block_store.specs.Shapes.{IsPlace, metaslab_of, metaslab_sectors, sector_of, vdev_sectors}
 use Rattle.block_store.specs.Spaces.{VdevSpace}
 use Rattle.block_store.specs.Uses.{LiesOn}

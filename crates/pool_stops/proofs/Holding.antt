@@ -7,7 +7,7 @@ use Rattle.raidz_io.specs.Places.{disk_of, offset_of}
 use Rattle.raidz_io.specs.Stands.{all_columns}
 use Rattle.raidz_io.proofs.Written.{size_at, slice_get_some}
 use Rattle.block_store.specs.Elsewhere.{IsForBlocks}
-use Rattle.block_store.specs.Store.{Store, is_out, lost, outs}
+use Rattle.block_store.specs.Store.{Store, is_out, outs}
 use Rattle.block_store.proofs.Lost.{lost_is_out}
 use Rattle.block_store.proofs.Outs.{out_from}
 use Rattle.block_store.proofs.Sectors.{lie_in_sectors}

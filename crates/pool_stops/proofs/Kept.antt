@@ -1,7 +1,6 @@
 -- The tree below the uberblock of a kept group, and of one that is planned.
-use Rattle.std.proofs.Common.{ℕ, zero, suc, ◌≡◌, ◌⊎◌, inl, inr, ⊎_elim, ◌+◌, ◌<◌, ◌≤◌, Bool, true, false, List, [], ◌∷◌, length, Option, Some, None, Contains, refl, sym, ap, subst, ◌∙◌, arith, true≢false}
+use Rattle.std.proofs.Common.{ℕ, suc, ◌≡◌, ⊎_elim, ◌+◌, ◌<◌, Bool, true, false, List, [], ◌∷◌, length, Option, Some, None, refl, sym, ap, subst, ◌∙◌, arith}
 use Rattle.std.specs.Prelude.{if◌then◌else◌, filter, nat_le, replicate, slice_index}
-use Rattle.std.specs.List.{slice_get}
 use Rattle.model_disk.specs.Joint.{Disks, content}
 use Rattle.block_pointer.specs.Copies.{dvas}
 use Rattle.block_pointer.specs.declared.block.Block.{Block}
@@ -15,28 +14,26 @@ use Rattle.block_store.specs.Elsewhere.{IsForBlocks}
 use Rattle.block_store.specs.Places.{ArePlacesIn, IsCopy, shapes_of}
 use Rattle.block_store.specs.Places.{planned as planned_marks}
 use Rattle.block_store.specs.Plans.{Plans}
-use Rattle.block_store.specs.Spaces.{VdevSpace}
-use Rattle.block_store.specs.Store.{Store, is_out, lost, outs, outs_from}
+use Rattle.block_store.specs.Store.{Store, is_out, outs, outs_from}
 use Rattle.block_store.proofs.Planning.{arrived, is_among, placed_lies, some_or_none, stored_by}
 use Rattle.block_store.proofs.Sectors.{lie_in_sectors}
 use Rattle.dataset_snapshots.specs.Pools.{SpellsPool}
 use Rattle.uberblock_ring.specs.declared.uberblock.Uberblock.{Uberblock}
 use Rattle.pool_commit.specs.declared.kept.KeptGroup.{KeptGroup}
 use Rattle.pool_commit.specs.declared.kept.Planned.{Planned}
-use Rattle.pool_commit.specs.Backs.{Backs, HasPlan, IsPlanOf, SpellsKept, SpellsRoot, kept_pool, pool_after}
+use Rattle.pool_commit.specs.Backs.{Backs, HasPlan, IsPlanOf, SpellsKept, SpellsRoot, pool_after}
 use Rattle.pool_commit.specs.State.{NoneIsOut, State, group_at}
 use Rattle.pool_model.specs.Pools.{PlainPool}
 use Rattle.pool_model.specs.View.{View, is_kept}
-use Rattle.pool_open.specs.Held.{HoldOver, IsStoreOver}
+use Rattle.pool_open.specs.Held.{HoldOver}
 use Rattle.pool_open.specs.Trees.{IsTreeOf}
 use Rattle.pool_open.proofs.Holding.{alike_stores_hold_alike}
-use Rattle.pool_slots.specs.Possible.{TreeStands, Trees}
-use Rattle.pool_slots.specs.Slots.{InUse}
+use Rattle.pool_slots.specs.Possible.{TreeStands}
 use Rattle.volume_rules.specs.NowMoves.{IsMadeBy}
 use Rattle.volume_rules.proofs.Overlays.{made_by_applied}
 use Rattle.pool_stops.specs.Filled.{is_filled, is_for_blocks}
 use Rattle.pool_stops.specs.Running.{IsOfKept, IsWhole}
-use Rattle.pool_stops.specs.Standing.{LieBesideLabels, block_trees, filled_trees}
+use Rattle.pool_stops.specs.Standing.{block_trees, filled_trees}
 use Rattle.pool_stops.proofs.Filled.{filled_for_blocks, for_blocks_picked}
 use Rattle.pool_stops.proofs.Holding.{filled_trees_hold_blocks, get_in_use}
 use Rattle.pool_stops.proofs.Standing.{its_disk}

@@ -1,9 +1,9 @@
 -- The phase of a plan goes on with its device calls.
-use Rattle.std.proofs.Common.{ℕ, ◌≡◌, ◌⊎◌, ⊎_elim, inl, inr, ◌<◌, Bool, true, false, true≢false, List, [], ◌∷◌, ◌++◌, length, Some, Contains, refl, sym, ap, subst, ◌∙◌, arith}
+use Rattle.std.proofs.Common.{ℕ, ◌≡◌, ◌⊎◌, ⊎_elim, inl, inr, Bool, true, false, List, [], ◌∷◌, ◌++◌, length, Contains, refl, sym, ap, subst, ◌∙◌, arith}
 use Rattle.std.proofs.Common.{All}
 use Rattle.std.proofs.lemmas.List.Elements.{All-cons, All-nil}
 use Rattle.model_disk.specs.Call.{Call, Read, FailedRead, Wrote, FailedWrite, Flushed, FailedFlush}
-use Rattle.std.specs.Prelude.{◌==◌, ◌||◌, if◌then◌else◌}
+use Rattle.std.specs.Prelude.{◌==◌, if◌then◌else◌}
 use Rattle.std.specs.List.{AllByRecursion}
 use Rattle.std.proofs.lemmas.Bool.Decides.{nat_tests}
 use Rattle.model_disk.specs.Contents.{is_dirty}
@@ -22,12 +22,11 @@ use Rattle.pool_commit.specs.Calls.{IsFlushed, IsWrite}
 use Rattle.pool_commit.specs.State.{State}
 use Rattle.pool_commit.specs.Writing.{IsDueSlot, IsDueWrite, may_write}
 use Rattle.pool_slots.proofs.Writing.{flush_settles}
-use Rattle.pool_slots.specs.Commits.{LeadAlways, last_or, only_last}
 use Rattle.pool_slots.specs.PhaseLaws.{ReadsAndFlushesKeep}
 use Rattle.pool_slots.specs.Phases.{AreInBlocks, AreInSlots}
 use Rattle.pool_slots.specs.Slots.{AreSettled, InUse, slot_at, spelled}
 use Rattle.pool_slots.specs.Writes.{IsSlotWrite, in_use}
-use Rattle.pool_stops.specs.Phases.{StepGoesOn, IsBeforeSlots, IsInPhase, IsInSlots, IsGoodPlan, StepEnds, PhasesEnd, PhasesGoOn, PlansKeepThePhase, ReadsKeepThePhase, StopsWell}
+use Rattle.pool_stops.specs.Phases.{StepGoesOn, IsBeforeSlots, IsInPhase, IsInSlots, IsGoodPlan, PhasesEnd, PhasesGoOn, PlansKeepThePhase, ReadsKeepThePhase, StopsWell}
 use Rattle.pool_stops.specs.Standing.{BlocksKeepWhatIsFilled, CommitsEndFilled, LieBesideLabels, SlotsBeginBehindBlocks, SlotsKeepWhatIsForBlocks, block_trees, filled_trees, unfilled_write}
 
 -- ---- which writes

@@ -1,11 +1,9 @@
 -- Disks that a stop leaves, and what an open makes of them.
-use Rattle.std.proofs.Common.{ℕ, zero, suc, ◌≡◌, ◌⊎◌, inl, inr, ⊎_elim, ◌+◌, ◌<◌, ◌≤◌, Bool, false, List, [], ◌∷◌, length, Option, Some, None, Contains, refl, sym, ap, subst, ◌∙◌, arith, true≢false}
-use Rattle.std.specs.Prelude.{◌-◌, ◌^◌, map, replicate, unwrap_or}
+use Rattle.std.proofs.Common.{ℕ, suc, ◌≡◌, ◌⊎◌, inl, inr, ⊎_elim, ◌+◌, ◌<◌, ◌≤◌, Bool, false, List, [], ◌∷◌, length, Option, Some, None, Contains, refl, sym, ap, subst, ◌∙◌, arith, true≢false}
+use Rattle.std.specs.Prelude.{◌-◌, ◌^◌, map, replicate}
 use Rattle.std.proofs.lemmas.List.{length-replicate}
 use Rattle.std.proofs.lemmas.List.Elements.{Contains-append_left, Contains-append_right}
-use Rattle.std.specs.List.{slice_get}
-use Rattle.model_disk.specs.Joint.{Disks, JointCall, MayLeaveAll, bytes_of, content}
-use Rattle.raidz_io.specs.Reads.{IsHonestSince}
+use Rattle.model_disk.specs.Joint.{JointCall, MayLeaveAll, bytes_of, content}
 use Rattle.block_pointer.specs.declared.block.Block.{Block}
 use Rattle.block_store.specs.Places.{shapes_of}
 use Rattle.block_store.specs.Opened.{LieOn, MayBeOpened}
@@ -17,30 +15,29 @@ use Rattle.uberblock_ring.specs.declared.uberblock.Uberblock.{Uberblock}
 use Rattle.dataset_snapshots.specs.Pools.{SpellsPool}
 use Rattle.pool_commit.specs.declared.kept.Planned.{Planned}
 use Rattle.pool_commit.specs.Backs.{Backs, HasPlan, IsPlanOf}
-use Rattle.pool_commit.specs.State.{State, group_at}
+use Rattle.pool_commit.specs.State.{State}
 use Rattle.pool_commit.proofs.Labels.{labels_of_opened_lie}
 use Rattle.pool_commit.proofs.Planning.{in_counted}
-use Rattle.pool_core.specs.State.{CoreState, disks_of}
+use Rattle.pool_core.specs.State.{disks_of}
 use Rattle.pool_model.specs.Pools.{PlainPool}
 use Rattle.pool_export.specs.Moments.{IsLeading}
 use Rattle.pool_model.specs.View.{View, Idle, counted, is_syncing, opened_as}
 use Rattle.pool_model.specs.View.{disks_of as disks_in_vdevs}
-use Rattle.pool_open.specs.Opening.{IsOpenedOver}
 use Rattle.pool_open.specs.Stops.{fresh}
 use Rattle.pool_open.specs.Trees.{IsOpenedFor, IsTreeOf, OpensPossible}
 use Rattle.pool_open.specs.Words.{vdevs_in}
 use Rattle.pool_open.proofs.Stops.{stopped_can_be_opened}
 use Rattle.pool_open.proofs.Through.{through_made}
 use Rattle.pool_slots.specs.Commits.{AreAt, AreOffLabels, LeadAlways, only_last}
-use Rattle.pool_slots.specs.Opens.{CanOpen, IsClaimOf, OpenGives, also_begun}
+use Rattle.pool_slots.specs.Opens.{CanOpen, OpenGives, also_begun}
 use Rattle.pool_slots.specs.PhaseLaws.{BlocksBegin, BlocksEnd}
 use Rattle.pool_slots.specs.Phases.{AreInBlocks}
-use Rattle.pool_slots.specs.Possible.{IsBefore, IsInReach, Leads, Possible, TreeStands, Trees, held_by}
-use Rattle.pool_slots.specs.Slots.{AreSettled, AreThere, InUse, IsOffLabels}
+use Rattle.pool_slots.specs.Possible.{IsInReach, Leads, Possible, TreeStands, Trees, held_by}
+use Rattle.pool_slots.specs.Slots.{AreSettled, InUse, IsOffLabels}
 use Rattle.volume_rules.specs.NowMoves.{IsMadeBy}
 use Rattle.pool_stops.specs.Filled.{is_filled}
-use Rattle.pool_stops.specs.Reopening.{AreByGroup, IsOpenedWell, IsPossibleBehind, LeadToPools, LeavesImages, LedDisksOpen, RunsOutliveStops, StoppedExportsLead, StoppedOpensLead, StoppedStepsLead}
-use Rattle.pool_stops.specs.Running.{IsBetween, IsOfKept, IsRunning, IsWhole, RunsStopWell, StandAt, StopsAt, pool_of}
+use Rattle.pool_stops.specs.Reopening.{LedDisksOpen, RunsOutliveStops, StoppedExportsLead, StoppedOpensLead, StoppedStepsLead}
+use Rattle.pool_stops.specs.Running.{IsBetween, IsOfKept, IsWhole, RunsStopWell, StandAt, StopsAt, pool_of}
 use Rattle.pool_stops.specs.Standing.{filled_trees}
 use Rattle.pool_stops.proofs.Commits.{group_at_last}
 use Rattle.pool_stops.proofs.Holding.{get_in_use}

@@ -1,11 +1,10 @@
 -- Runs of a pool, of which no step puts a disk out.
-use Rattle.std.proofs.Common.{ℕ, ◌≡◌, ◌⊎◌, inl, inr, ⊎_elim, Bool, true, false, List, [], ◌∷◌, Option, Some, None, refl, sym, ap, subst, ◌∙◌, true≢false}
+use Rattle.std.proofs.Common.{◌≡◌, ⊎_elim, Bool, true, false, List, [], ◌∷◌, Option, Some, None, refl, sym, ap, subst, ◌∙◌, true≢false}
 use Rattle.block_store.specs.Store.{is_out}
 use Rattle.uberblock_ring.specs.declared.uberblock.Uberblock.{Uberblock}
 use Rattle.pool_commit.specs.declared.kept.Planned.{Planned}
-use Rattle.pool_commit.specs.Progress.{IsShifted}
 use Rattle.pool_commit.specs.State.{NoneIsOut, State}
-use Rattle.pool_commit.specs.Writing.{IsDropped, WritesPlan}
+use Rattle.pool_commit.specs.Writing.{WritesPlan}
 use Rattle.pool_core.specs.Moves.{Moves}
 use Rattle.pool_core.specs.Runs.{Chain}
 use Rattle.pool_core.specs.State.{CoreState}
@@ -14,7 +13,7 @@ use Rattle.pool_model.specs.View.{Given, View}
 use Rattle.pool_model.specs.declared.step.Reply.{Reply}
 use Rattle.pool_model.specs.declared.step.Step.{Step}
 use Rattle.pool_model.specs.declared.step.Step.TheVariants.{Hold, Write, Act, Release, Close, Quiesce, Plan, Device, Read, ReadUnder}
-use Rattle.pool_stops.specs.Running.{IsLastStep, IsRunning, RunStopsAt, RunningPoolsStepOn, RunsStopWell, StepsOn}
+use Rattle.pool_stops.specs.Running.{IsRunning, RunningPoolsStepOn, RunsStopWell, StepsOn}
 use Rattle.pool_stops.proofs.Commits.{commits}
 use Rattle.pool_stops.proofs.Steps.{PhaseLaws, goes_on, plans_on, read_steps, stays}
 

@@ -6,7 +6,6 @@ use Rattle.model_disk.specs.Joint.{Disks, bytes_of, content}
 use Rattle.model_disk.specs.Runs.{IsOff, Makes}
 use Rattle.model_disk.proofs.ContentsLemmas.{covers-outside}
 use Rattle.model_disk.proofs.RunLemmas.{Makes-wider, off_content}
-use Rattle.block_pointer.specs.declared.block.Block.{Block}
 use Rattle.uberblock_ring.specs.Slot.{slot_number}
 use Rattle.uberblock_ring.specs.Uberblock.{Fits}
 use Rattle.uberblock_ring.specs.declared.uberblock.Uberblock.{Uberblock}
@@ -14,18 +13,17 @@ use Rattle.vdev_label.specs.Place.{label_at}
 use Rattle.block_store.specs.Elsewhere.{IsForBlocks}
 use Rattle.block_store.specs.Places.{IsLaidOut}
 use Rattle.block_store.specs.Spaces.{VdevSpace}
-use Rattle.pool_commit.specs.Slots.{LabelsLieAside}
-use Rattle.pool_slots.specs.Commits.{AreAt, AreOffLabels, LeadAlways, last_or, only_last}
+use Rattle.pool_slots.specs.Commits.{AreAt, AreOffLabels}
 use Rattle.pool_slots.specs.PhaseLaws.{BlocksBegin, BlocksEnd, BlocksGoOn, SlotsBegin, SlotsEnd, SlotsGoOn}
-use Rattle.pool_slots.specs.Phases.{AreInBlocks, AreInSlots, IsFree, free_writes, slot_writes}
-use Rattle.pool_slots.specs.Possible.{IsInReach, Trees}
-use Rattle.pool_slots.specs.Slots.{AreThere, InUse, IsOffLabels, IsSlot, slot_at}
+use Rattle.pool_slots.specs.Phases.{AreInBlocks, AreInSlots, free_writes, slot_writes}
+use Rattle.pool_slots.specs.Possible.{Trees}
+use Rattle.pool_slots.specs.Slots.{IsOffLabels, IsSlot, slot_at}
 use Rattle.pool_slots.specs.Writes.{IsSlotWrite, in_use}
-use Rattle.pool_slots.proofs.Places.{length-spelled, off_slot, range_off_slot}
+use Rattle.pool_slots.proofs.Places.{length-spelled, off_slot}
 use Rattle.pool_slots.proofs.Writing.{slot_number_small}
 use Rattle.pool_stops.specs.Filled.{all_picked, is_filled, is_for_blocks}
 use Rattle.pool_stops.specs.Standing.{BlocksKeepWhatIsFilled, CommitsEndFilled, IsFilledNoMore, LieBesideLabels, SlotsBeginBehindBlocks, SlotsKeepWhatIsForBlocks, block_trees, filled_trees, unfilled_write}
-use Rattle.pool_stops.proofs.Filled.{filled_bytes_are_for_blocks, picked_are_for_blocks}
+use Rattle.pool_stops.proofs.Filled.{picked_are_for_blocks}
 use Rattle.pool_stops.proofs.Trees.{HaveMore, at_with, blocks_fewer, if_not, is_so, picked_stand, same_picked}
 
 -- ---- bytes for blocks lie beside labels

@@ -1,5 +1,5 @@
 -- Steps of a pool that runs, of which none puts a disk out.
-use Rattle.std.proofs.Common.{ℕ, zero, suc, ◌≡◌, ◌⊎◌, inl, inr, ⊎_elim, ◌+◌, ◌<◌, ◌≤◌, ◌^◌, Bool, true, false, List, [], ◌∷◌, length, Option, Some, None, Contains, refl, sym, ap, subst, ◌∙◌, arith, true≢false}
+use Rattle.std.proofs.Common.{ℕ, zero, suc, ◌≡◌, ◌⊎◌, inl, inr, ⊎_elim, ◌<◌, ◌≤◌, Bool, true, false, List, [], ◌∷◌, length, Option, Some, None, Contains, refl, sym, ap, subst, ◌∙◌, arith, true≢false}
 use Rattle.std.specs.Prelude.{◌==◌, if◌then◌else◌, filter, nat_le, not}
 use Rattle.std.proofs.lemmas.Bool.Decides.{nat_tests}
 use Rattle.model_disk.specs.Joint.{Disks, bytes_of, content}
@@ -8,36 +8,29 @@ use Rattle.model_disk.proofs.RunLemmas.{Makes-wider}
 use Rattle.raidz_io.specs.Reads.{OnlyReads}
 use Rattle.block_store.specs.Places.{IsLaidOut, shapes_of}
 use Rattle.block_store.specs.Spaces.{VdevSpace}
-use Rattle.block_store.specs.Store.{Store, is_out}
+use Rattle.block_store.specs.Store.{is_out}
 use Rattle.block_store.proofs.Taking.{laid_out_too}
-use Rattle.uberblock_ring.specs.Slot.{slot_bytes, slot_number}
+use Rattle.uberblock_ring.specs.Slot.{slot_number}
 use Rattle.uberblock_ring.specs.Uberblock.{Fits}
 use Rattle.uberblock_ring.specs.declared.uberblock.Uberblock.{Uberblock}
 use Rattle.pool_commit.specs.declared.kept.Kept.{Kept}
-use Rattle.pool_commit.specs.declared.kept.KeptGroup.{KeptGroup}
 use Rattle.pool_commit.specs.declared.kept.Planned.{Planned}
-use Rattle.pool_commit.specs.declared.kept.SlotWrite.{SlotWrite}
-use Rattle.pool_commit.specs.Backs.{Backs, pool_after}
+use Rattle.pool_commit.specs.Backs.{pool_after}
 use Rattle.pool_commit.specs.Config.{vdevs_of}
-use Rattle.pool_commit.specs.Progress.{IsShifted}
-use Rattle.pool_commit.specs.Reading.{OnlyReadsPool}
-use Rattle.pool_commit.specs.Slots.{ShowsIn, uberblock_of}
+use Rattle.pool_commit.specs.Slots.{ShowsIn}
 use Rattle.pool_commit.specs.State.{NoneIsOut, State, group_at}
-use Rattle.pool_commit.specs.Writing.{IsDropped, IsDueWrite, PlansFrom, WritesPlan, in_use_of, may_write}
+use Rattle.pool_commit.specs.Writing.{PlansFrom, WritesPlan, in_use_of, may_write}
 use Rattle.pool_commit.proofs.Labels.{labels_still}
 use Rattle.pool_commit.proofs.Progressing.{vdevs_by_shapes}
-use Rattle.pool_core.specs.Moves.{Moves, ReadsAndPlans}
+use Rattle.pool_core.specs.Moves.{ReadsAndPlans}
 use Rattle.pool_core.specs.State.{CoreState}
-use Rattle.pool_core.specs.State.{disks_of as disks_in}
 use Rattle.pool_core.specs.Steps.{AreFlushed, Link, ShowsGroup}
-use Rattle.pool_core.proofs.Phases.{group_low}
 use Rattle.pool_model.specs.Machine.{GoesOn, MayAnswer, StepOf}
 use Rattle.pool_model.specs.Pools.{PlainPool, upto}
 use Rattle.pool_model.specs.Sound.{IsSound}
 use Rattle.pool_model.specs.View.{DueCall, Given, View, Vdev, disks_in_use, disks_of}
 use Rattle.pool_model.specs.declared.step.Phase.{Phase}
 use Rattle.volume_rules.specs.NowMoves.{IsMadeBy}
-use Rattle.pool_model.specs.declared.refusal.Refusal.{Refusal}
 use Rattle.pool_model.specs.declared.step.Reply.{Reply}
 use Rattle.pool_model.specs.declared.step.Reply.TheVariants.{Held, Receipt, Released, Closed, Quiesced, Planned as PlannedReply, Moved, Replan, Committed, Bytes, Refused}
 use Rattle.pool_model.specs.declared.step.Step.{Step}
@@ -52,9 +45,9 @@ use Rattle.pool_slots.specs.Slots.{AreSettled, InUse, Shows, slot_at, spelled}
 use Rattle.pool_slots.specs.Writes.{SlotsStand, in_use}
 use Rattle.pool_slots.proofs.Writing.{slot_number_small}
 use Rattle.pool_stops.specs.Filled.{is_filled, is_for_blocks}
-use Rattle.pool_stops.specs.Phases.{IsBeforeSlots, IsGoodPlan, IsInPhase, IsInSlots, PhasesEnd, PhasesGoOn, PlansKeepThePhase, ReadsKeepThePhase, StepEnds, StopsWell}
+use Rattle.pool_stops.specs.Phases.{IsGoodPlan, IsInPhase, IsInSlots, PhasesEnd, PhasesGoOn, PlansKeepThePhase, ReadsKeepThePhase, StopsWell}
 use Rattle.pool_stops.specs.Running.{IsOfKept, IsRunning, IsWhole, StandAt, StepsOn, StopsAt, pool_of}
-use Rattle.pool_stops.specs.Standing.{BlocksKeepWhatIsFilled, LieBesideLabels, SlotsBeginBehindBlocks, block_trees, filled_trees, unfilled_write}
+use Rattle.pool_stops.specs.Standing.{BlocksKeepWhatIsFilled, SlotsBeginBehindBlocks, block_trees, filled_trees, unfilled_write}
 use Rattle.pool_stops.proofs.Backed.{backed_plans_are_good}
 use Rattle.pool_stops.proofs.Filled.{filled_bytes_are_for_blocks, picked_are_for_blocks}
 use Rattle.pool_stops.proofs.Holding.{get_in_use}

@@ -1,15 +1,13 @@
 -- Phases with other trees.
-use Rattle.std.proofs.Common.{ℕ, ◌≡◌, ◌⊎◌, ⊎_elim, inl, inr, Bool, true, false, List, length, Option, Some, None, refl, sym, ap, ◌∙◌, true≢false}
+use Rattle.std.proofs.Common.{ℕ, ◌≡◌, ⊎_elim, inl, inr, Bool, true, false, List, length, Option, Some, None, refl, sym, true≢false}
 use Rattle.std.specs.Prelude.{if◌then◌else◌}
 use Rattle.model_disk.specs.Joint.{Disks, bytes_of, content}
-use Rattle.model_disk.specs.Runs.{Makes}
 use Rattle.model_disk.proofs.RunLemmas.{Makes-wider}
 use Rattle.block_pointer.specs.declared.block.Block.{Block}
 use Rattle.uberblock_ring.specs.declared.uberblock.Uberblock.{Uberblock}
 use Rattle.pool_slots.specs.Commits.{AreAt, only_last}
 use Rattle.pool_slots.specs.Phases.{AreInBlocks, free_writes}
 use Rattle.pool_slots.specs.Possible.{IsPossible, LeadsOn, TreeStands, Trees}
-use Rattle.pool_slots.specs.Slots.{InUse}
 use Rattle.pool_stops.specs.Filled.{all_picked}
 
 -- ---- picked bytes

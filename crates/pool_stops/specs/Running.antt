@@ -1,5 +1,5 @@
 -- A pool that runs, with no disk out: where its disks stand between two steps, and what they lead to wherever a step is stopped.
-use Rattle.std.specs.Prelude.{ℕ, suc, ◌≡◌, ◌⊎◌, ◌<◌, ◌==◌, if◌then◌else◌, Bool, List, length, Option, Some, None, Contains}
+use Rattle.std.specs.Prelude.{ℕ, suc, ◌≡◌, ◌⊎◌, ◌<◌, ◌==◌, if◌then◌else◌, List, length, Option, Some, None, Contains}
 use Rattle.model_disk.specs.Joint.{Disks}
 use Rattle.block_store.specs.Places.{shapes_of}
 use Rattle.uberblock_ring.specs.declared.uberblock.Uberblock.{Uberblock}

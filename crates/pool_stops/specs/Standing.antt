@@ -2,7 +2,7 @@
 use Rattle.std.specs.Prelude.{ℕ, ◌≡◌, ◌∷◌, Bool, true, false, Some, List, length}
 use Rattle.model_disk.specs.Contents.{covers}
 use Rattle.model_disk.specs.Joint.{Disks, content}
-use Rattle.model_disk.specs.Runs.{Makes, no_write}
+use Rattle.model_disk.specs.Runs.{Makes}
 use Rattle.uberblock_ring.specs.Uberblock.{Fits}
 use Rattle.uberblock_ring.specs.declared.uberblock.Uberblock.{Uberblock}
 use Rattle.block_pointer.specs.declared.block.Block.{Block}
