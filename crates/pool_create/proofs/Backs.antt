@@ -16,7 +16,7 @@ use Rattle.pool_model.specs.Pools.{no_volumes}
 use Rattle.pool_open.specs.Causes.{of_slots, of_store}
 use Rattle.pool_open.specs.Held.{IsLaidOver}
 use Rattle.pool_open.specs.Opening.{IsBlockMisplaced}
-use Rattle.pool_open.specs.Roots.{AreReadBeside, IsReadOfRoot, RootRefuses, WereReadBeside}
+use Rattle.pool_open.specs.Roots.{AreReadBeside, IsReadOfRoot, IsRootNotRead}
 use Rattle.pool_open.specs.Words.{stamp_of}
 use Rattle.pool_open.specs.declared.refusal.Refusal.{Refusal}
 use Rattle.pool_open.specs.declared.refusal.Refusal.TheVariants.{NoMemory, DiskFault, BadPointer}
@@ -139,12 +139,12 @@ back_of keep old surveyed read it root u contents core are made =
 
 -- ---- there is none
 
-pub unread_root : (old surveyed : Disks) (it : NewPool) (root : Block) (cause : StoreRefusal) → Makes no_write old surveyed → IsFirstTaken old surveyed it root → WereReadBeside it.out.items surveyed
-    → (cause ≡ store.NoMemory) ⊎ RootRefuses surveyed it.shapes.items it.out.items 3 root (2 ^ 64 - 1) cause → IsUnread old it root (of_store cause)
-unread_root old surveyed it root cause only taken beside why = (
-  beside.0,
-  both_made no_write old surveyed beside.0 only (block_reads_made surveyed beside.0 beside.1.only),
-  elim why [
+pub unread_root : (old surveyed : Disks) (it : NewPool) (root : Block) (cause : StoreRefusal) → Makes no_write old surveyed → IsFirstTaken old surveyed it root
+    → IsRootNotRead surveyed it.shapes.items it.out.items 3 root (2 ^ 64 - 1) cause → IsUnread old it root (of_store cause)
+unread_root old surveyed it root cause only taken unread = (
+  unread.new,
+  both_made no_write old surveyed unread.new only (block_reads_made surveyed unread.new unread.only.only),
+  elim unread.why [
     | inl memory ↦ inl (ap of_store memory)
     | inr refused ↦ inr (inr (inr (inr (inl (surveyed, taken, record { cause = cause; same = refl; why = refused })))))
   ],

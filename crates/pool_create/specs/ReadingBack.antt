@@ -77,10 +77,10 @@ abbrev pub IsAmongOthers : Disks → Disks → NewPool → Block → Type 0
 IsAmongOthers old new it root = IsFirstTaken old new it root × IsCrowded (first_uberblock it root) old new
 
 -- its root can't be read
-pub record IsRootUnread (now : Disks) (it : NewPool) (root : Block) (refusal : Refusal) : Type 0 where
+pub record IsRootUnread (now new : Disks) (it : NewPool) (root : Block) (refusal : Refusal) : Type 0 where
   pub cause : StoreRefusal
   pub same : refusal ≡ of_store cause
-  pub why : RootRefuses now it.shapes.items it.out.items 3 root (2 ^ 64 - 1) cause
+  pub why : RootRefuses now new it.shapes.items it.out.items 3 root (2 ^ 64 - 1) cause
 
 -- two of its blocks share a sector, or one has no place
 pub record IsMisplaced (old new : Disks) (it : NewPool) (root : Block) : Type 0 where
@@ -95,7 +95,7 @@ IsCauseOfReading old new it root refusal =
     ⊎ (((refusal ≡ DiskFault) × ((which : ℕ) × HasFailedOn old new which))
     ⊎ (IsSurveyRefused old new refusal
     ⊎ (((refusal ≡ NoUberblock) × (IsOther old new it root ⊎ IsAmongOthers old new it root))
-    ⊎ (((surveyed : Disks) × IsFirstTaken old surveyed it root × IsRootUnread surveyed it root refusal)
+    ⊎ (((surveyed : Disks) × IsFirstTaken old surveyed it root × IsRootUnread surveyed new it root refusal)
     ⊎ ((refusal ≡ BadPointer) × ((surveyed : Disks) × IsFirstTaken old surveyed it root × IsMisplaced surveyed new it root))))))
 
 -- the disks were only read by then

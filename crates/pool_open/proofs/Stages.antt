@@ -69,6 +69,7 @@ refused_at_once out rewind disks shapes refusal count why =
     let through = through_survey out out disks disks (none_goes out disks) in
     record {
       later = out;
+      count = count;
       new = disks;
       kept = kept_by_reads out out rewind disks disks through count;
       cause = inl (through, elim why [ inl memory ↦ inl memory | inr bad ↦ inr (inl bad) ]);
@@ -80,7 +81,7 @@ pub refused_by_survey : (out later : List Bool) (rewind : ℕ) (old new : Disks)
     → length later ≡ length old.starts → IsSurveyRefused shapes later rewind old new refusal → IsNotOpenedOver old shapes out rewind refusal
 refused_by_survey out later rewind old new shapes refusal absent count why =
     let through = through_survey out later old new absent in
-    record { later = later; new = new; kept = kept_by_reads out later rewind old new through count; cause = inl (through, inr (inr (inl why))) }
+    record { later = later; count = count; new = new; kept = kept_by_reads out later rewind old new through count; cause = inl (through, inr (inr (inl why))) }
 
 -- what was surveyed
 pub record AreSurveyed (out later : List Bool) (rewind : ℕ) (old surveyed : Disks) (s : Surveyed) : Type 0 where
@@ -90,17 +91,18 @@ pub record AreSurveyed (out later : List Bool) (rewind : ℕ) (old surveyed : Di
   pub is : IsSurveyed later rewind old surveyed s
 
 root_cause : (out later : List Bool) (rewind : ℕ) (old surveyed new : Disks) (shapes : List VdevShape) (s : Surveyed) (cause : StoreRefusal) → IsSurveyed later rewind old surveyed s
-    → (cause ≡ store.NoMemory) ⊎ RootRefuses surveyed shapes later s.claimed.group s.claimed.root (most_blocks shapes) cause → IsCauseOfReading old new shapes out later rewind (of_store cause)
+    → (cause ≡ store.NoMemory) ⊎ RootRefuses surveyed new shapes later s.claimed.group s.claimed.root (most_blocks shapes) cause → IsCauseOfReading old surveyed new shapes out later rewind (of_store cause)
 root_cause out later rewind old surveyed new shapes s cause is (inl memory) = inl (ap of_store memory)
-root_cause out later rewind old surveyed new shapes s cause is (inr why) = inr (inr (inr (record { surveyed = surveyed; s = s; is = is; cause = cause; same = refl; why = why })))
+root_cause out later rewind old surveyed new shapes s cause is (inr why) = inr (inr (inr (record { s = s; is = is; cause = cause; same = refl; why = why })))
 
 pub refused_by_root : (out later : List Bool) (rewind : ℕ) (old surveyed new : Disks) (shapes : List VdevShape) (s : Surveyed) (cause : StoreRefusal) → AreSurveyed out later rewind old surveyed s
-    → AreReadBeside later surveyed new → (cause ≡ store.NoMemory) ⊎ RootRefuses surveyed shapes later s.claimed.group s.claimed.root (most_blocks shapes) cause
+    → AreReadBeside later surveyed new → (cause ≡ store.NoMemory) ⊎ RootRefuses surveyed new shapes later s.claimed.group s.claimed.root (most_blocks shapes) cause
     → IsNotOpenedOver old shapes out rewind (of_store cause)
 refused_by_root out later rewind old surveyed new shapes s cause are blocks why =
     let through : AreReadThrough out later old new = record { surveyed = surveyed; absent = are.absent; blocks = blocks } in
     record {
       later = later;
+      count = are.count;
       new = new;
       kept = kept_by_reads out later rewind old new through are.count;
       cause = inl (through, root_cause out later rewind old surveyed new shapes s cause are.is why);
@@ -138,6 +140,7 @@ pub refused_by_claim : (out later : List Bool) (rewind : ℕ) (old surveyed read
     → AreSurveyed out later rewind old surveyed s → AreReadBeside later surveyed read → AreBegun later s read new → HasFailedOn read new which → IsNotOpenedOver old shapes out rewind DiskFault
 refused_by_claim out later rewind old surveyed read new shapes s which few are blocks begun failed = record {
   later = later;
+  count = are.count;
   new = new;
   kept = kept_by_claim later rewind old read new s few (still out later rewind old surveyed read s are blocks) begun;
   cause = inr (s.claimed, claimed_through out later rewind old surveyed read new s are blocks begun, inr (inl (refl, (which, failed))));
@@ -149,6 +152,7 @@ pub refused_by_core : (out later : List Bool) (rewind : ℕ) (old surveyed read 
     → (refusal ≡ NoMemory) ⊎ ((refusal ≡ BadPointer) × IsBlockMisplaced new shapes later contents) → IsNotOpenedOver old shapes out rewind refusal
 refused_by_core out later rewind old surveyed read new shapes s contents refusal few are blocks begun root why = record {
   later = later;
+  count = are.count;
   new = new;
   kept = kept_by_claim later rewind old read new s few (still out later rewind old surveyed read s are blocks) begun;
   cause = inr (
@@ -156,7 +160,7 @@ refused_by_core out later rewind old surveyed read new shapes s contents refusal
     claimed_through out later rewind old surveyed read new s are blocks begun,
     elim why [
       | inl memory ↦ inl memory
-      | inr it ↦ inr (inr (it.0, record { surveyed = surveyed; s = s; is = are.is; read = read; contents = contents; reads = root; why = it.1 }))
+      | inr it ↦ inr (inr (it.0, record { s = s; is = are.is; contents = contents; reads = root; why = it.1 }))
     ],
   );
 }

@@ -1,5 +1,5 @@
 -- Opening a pool whose disks are in order.
-use Rattle.std.specs.Prelude.{ℕ, ◌≡◌, ◌⊎◌, ◌≤◌, Bool, true, false, Some, List}
+use Rattle.std.specs.Prelude.{ℕ, ◌≡◌, ◌⊎◌, ◌≤◌, Bool, true, false, Some, List, length}
 use Rattle.model_disk.specs.Joint.{Disks}
 use Rattle.raidz_io.specs.Reads.{IsHonestSince}
 use Rattle.block_store.specs.Blocks.{Contents}
@@ -95,13 +95,12 @@ IsSurveyRefused shapes later rewind old new refusal =
     ⊎ ((refusal ≡ TooManyMissing) × (is_tolerable (vdevs_in shapes) (is_out later) ≡ false)))
 
 -- what was surveyed has a root that was refused
-pub record IsRootUnread (old : Disks) (shapes : List VdevShape) (later : List Bool) (rewind : ℕ) (refusal : Refusal) : Type 0 where
-  pub surveyed : Disks
+pub record IsRootUnread (old surveyed new : Disks) (shapes : List VdevShape) (later : List Bool) (rewind : ℕ) (refusal : Refusal) : Type 0 where
   pub s : Surveyed
   pub is : IsSurveyed later rewind old surveyed s
   pub cause : StoreRefusal
   pub same : refusal ≡ of_store cause
-  pub why : RootRefuses surveyed shapes later s.claimed.group s.claimed.root (most_blocks shapes) cause
+  pub why : RootRefuses surveyed new shapes later s.claimed.group s.claimed.root (most_blocks shapes) cause
 
 -- a copy of a block has no place of the pool, or shares a sector with another
 pub record IsBlockMisplaced (disks : Disks) (shapes : List VdevShape) (later : List Bool) (contents : RootContents) : Type 0 where
@@ -112,38 +111,38 @@ pub record IsBlockMisplaced (disks : Disks) (shapes : List VdevShape) (later : L
   pub cannot : CannotTakeIn store.spaces (copies_of_all contents.blocks.items) after
 
 -- of what was read of the root that was surveyed
-pub record IsReadMisplaced (old new : Disks) (shapes : List VdevShape) (later : List Bool) (rewind : ℕ) : Type 0 where
-  pub surveyed : Disks
+pub record IsReadMisplaced (old surveyed read new : Disks) (shapes : List VdevShape) (later : List Bool) (rewind : ℕ) : Type 0 where
   pub s : Surveyed
   pub is : IsSurveyed later rewind old surveyed s
-  pub read : Disks
   pub contents : RootContents
   pub reads : IsReadOfRoot surveyed read shapes later s.claimed.group s.claimed.root contents
   pub why : IsBlockMisplaced new shapes later contents
 
 -- Before anything was written: want of memory; the vdevs don't lie on the disks; slots, labels or absent disks; the root.
-abbrev pub IsCauseOfReading : Disks → Disks → List VdevShape → List Bool → List Bool → ℕ → Refusal → Type 0
-IsCauseOfReading old new shapes out later rewind refusal =
+abbrev pub IsCauseOfReading : Disks → Disks → Disks → List VdevShape → List Bool → List Bool → ℕ → Refusal → Type 0
+IsCauseOfReading old surveyed new shapes out later rewind refusal =
     (refusal ≡ NoMemory)
     ⊎ (((refusal ≡ BadConfig) × ¬ MayBeOpened old.starts shapes out)
     ⊎ (IsSurveyRefused shapes later rewind old new refusal
-    ⊎ IsRootUnread old shapes later rewind refusal))
+    ⊎ IsRootUnread old surveyed new shapes later rewind refusal))
 
 -- Once a claim was begun: want of memory; a write or flush of it failed; two blocks share a sector.
-abbrev pub IsCauseOfClaim : Disks → Disks → Disks → List VdevShape → List Bool → ℕ → Refusal → Type 0
-IsCauseOfClaim old read new shapes later rewind refusal =
+abbrev pub IsCauseOfClaim : Disks → Disks → Disks → Disks → List VdevShape → List Bool → ℕ → Refusal → Type 0
+IsCauseOfClaim old surveyed read new shapes later rewind refusal =
     (refusal ≡ NoMemory)
     ⊎ (((refusal ≡ DiskFault) × ((which : ℕ) × HasFailedOn read new which))
-    ⊎ ((refusal ≡ BadPointer) × IsReadMisplaced old new shapes later rewind))
+    ⊎ ((refusal ≡ BadPointer) × IsReadMisplaced old surveyed read new shapes later rewind))
 
 abbrev pub IsOpenCause : Disks → Disks → List VdevShape → List Bool → List Bool → ℕ → Refusal → Type 0
 IsOpenCause old new shapes out later rewind refusal =
-    (AreReadThrough out later old new × IsCauseOfReading old new shapes out later rewind refusal)
-    ⊎ ((claimed : Uberblock) × (through : AreClaimedThrough out later claimed old new) × IsCauseOfClaim old through.read new shapes later rewind refusal)
+    ((through : AreReadThrough out later old new) × IsCauseOfReading old through.surveyed new shapes out later rewind refusal)
+    ⊎ ((claimed : Uberblock) × (through : AreClaimedThrough out later claimed old new)
+    × IsCauseOfClaim old through.before.surveyed through.read new shapes later rewind refusal)
 
 -- The disks are as a stop in the open might leave them, and there is a cause.
 pub record IsNotOpenedOver (old : Disks) (shapes : List VdevShape) (out : List Bool) (rewind : ℕ) (refusal : Refusal) : Type 0 where
   pub later : List Bool
+  pub count : length later ≡ length old.starts
   pub new : Disks
   pub kept : IsKeptThrough later rewind old new
   pub cause : IsOpenCause old new shapes out later rewind refusal

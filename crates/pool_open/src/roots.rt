@@ -1,6 +1,6 @@
 //! Reading the root of a pool before it is claimed.
-ghost use Rattle.std.specs.Prelude.{◌≡◌, ◌⊎◌, IfErr, IfOk};
-ghost use Rattle.pool_open.specs.Roots.{AreReadBeside, IsReadOfRoot, RootRefuses, WereReadBeside};
+ghost use Rattle.std.specs.Prelude.{IfErr, IfOk};
+ghost use Rattle.pool_open.specs.Roots.{AreReadBeside, IsReadOfRoot, IsRootNotRead};
 
 use block_pointer::Block;
 use block_store::{BlockStore, Refusal, VdevShape};
@@ -30,11 +30,10 @@ pub fn read_root<D: Disk + Drop>(
     left: u64,
 ) -> Result<ReadRoot<D>, Refusal>
     ensures only { IfOk result (λ read. AreReadBeside out.now disks read.disks) }
-    ensures dropped { IfErr result (λ _. WereReadBeside out.now disks) }
     ensures contents { IfOk result (λ read.
         IsReadOfRoot disks read.disks shapes.now out.now group root.now read.contents) }
-    ensures refused { IfErr result (λ refusal. (refusal ≡ Refusal.NoMemory)
-        ⊎ RootRefuses disks shapes.now out.now group root.now left refusal) }
+    ensures refused { IfErr result
+        (IsRootNotRead disks shapes.now out.now group root.now left) }
 {
     let mut store = BlockStore::opened(alloc, disks, shapes, out)?;
     let mut left = left;

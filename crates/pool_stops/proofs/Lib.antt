@@ -10,3 +10,7 @@ pub mod Commits
 pub mod Runs
 pub mod Reopening
 pub mod Created
+pub mod Counting
+pub mod FreePlaces
+pub mod Lost
+pub mod Unhindered

@@ -4,3 +4,4 @@ pub mod Phases
 pub mod Running
 pub mod Reopening
 pub mod Created
+pub mod Unhindered

@@ -10,5 +10,5 @@ pub use laws::{
     filled_trees_hold_blocks, free_places_are_unfilled, led_disks_open, phases_end, phases_go_on,
     plans_keep_the_phase, reads_keep_the_phase, running_pools_step_on, runs_outlive_stops,
     runs_stop_well, slots_begin_behind_blocks, slots_keep_what_is_for_blocks, stopped_exports_lead,
-    stopped_opens_lead, stopped_steps_lead,
+    stopped_opens_lead, stopped_steps_lead, unhindered_opens_are_done,
 };

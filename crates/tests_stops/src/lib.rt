@@ -10,6 +10,8 @@ mod images;
 #[cfg(test)]
 mod judging;
 #[cfg(test)]
+mod lives;
+#[cfg(test)]
 mod openings;
 #[cfg(test)]
 mod pools;

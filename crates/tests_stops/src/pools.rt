@@ -9,7 +9,7 @@ use std::alloc::{AllocError, Global};
 use vdev_label::{Config, Vdev};
 
 /// Of each disk.
-const DISK_BYTES: usize = 0x80_0000;
+pub(crate) const DISK_BYTES: usize = 0x80_0000;
 
 /// Of each volume.
 const BLOCKS: usize = 4;
@@ -99,7 +99,7 @@ impl Shown {
 }
 
 /// One vdev of these three disks, with one parity and five metaslabs, two of them for the pool's own blocks.
-fn config(alloc: Global) -> Result<Config, AllocError> {
+pub(crate) fn config(alloc: Global) -> Result<Config, AllocError> {
     let vdev = Vdev {
         guid: 100,
         parity: 1,

@@ -1,10 +1,9 @@
 use Rattle.std.proofs.Common.{◌∙◌, ◌≡◌, ◌⊎◌, ◌-◌, ◌^◌, Bool, List, subst}
-use Rattle.block_store.specs.declared.refusal.Refusal.TheVariants as store
 use Rattle.block_store.specs.declared.shape.VdevShape.{VdevShape}
 use Rattle.pool_core.specs.StateOf.{state_of}
 use Rattle.pool_open.specs.Causes.{of_store}
 use Rattle.pool_open.specs.Opening.{IsBlockMisplaced}
-use Rattle.pool_open.specs.Roots.{AreReadBeside, IsReadOfRoot, RootRefuses, WereReadBeside}
+use Rattle.pool_open.specs.Roots.{AreReadBeside, IsReadOfRoot, IsRootNotRead}
 use Rattle.pool_open.specs.declared.refusal.Refusal.TheVariants.{NoMemory, BadPointer}
 use Rattle.pool_slots.proofs.Results.{if_err_is}
 use Rattle.pool_open.proofs.Representing.{CoreRepresents}
@@ -23,13 +22,12 @@ returns-in_err-read-clause-refused g c =
     let cause = c.in_err-read.field-0.0 in
     let it = c.args.pool.now in
     let surveyed = c.survey_alone.new.disks in
-    let dropped = subst (λ (xs : List Bool). WereReadBeside xs surveyed) c.deref-2.ensures.value c.in_err-read.ensures.dropped in
-    let W : List VdevShape → List Bool → Type 0 = λ ss xs. (cause ≡ store.NoMemory) ⊎ RootRefuses surveyed ss xs 3 c.args.root (2 ^ 64 - 1) cause in
+    let W : List VdevShape → List Bool → Type 0 = λ ss xs. IsRootNotRead surveyed ss xs 3 c.args.root (2 ^ 64 - 1) cause in
     let why = subst (λ (ss : List VdevShape). W ss it.out.items) c.deref.ensures.value
     (subst (λ (xs : List Bool). W c.deref.result.now xs) c.deref-2.ensures.value c.in_err-read.ensures.refused) in
     if_err_is c.from_residual-in_err-read.result (of_store cause) (IsUnread c.args.disks it c.args.root) c.from_residual-in_err-read.ensures.1
     (unread_root c.args.disks surveyed it c.args.root cause c.survey_alone.ensures.only
-    (record { u = c.in_ok-taken.taken; taken = c.in_ok-taken.ensures.taken; is = c.in_ok-taken.ensures.is }) dropped why)
+    (record { u = c.in_ok-taken.taken; taken = c.in_ok-taken.ensures.taken; is = c.in_ok-taken.ensures.is }) why)
 
 pub returns-in_err-core-clause-refused : goal.returns-in_err-core-clause-refused
 returns-in_err-core-clause-refused g c =

@@ -1,11 +1,10 @@
 use Rattle.std.proofs.Common.{◌≡◌, ◌⊎◌, ℕ, Bool, List, sym, subst}
-use Rattle.block_store.specs.declared.refusal.Refusal.TheVariants as store
 use Rattle.pool_core.specs.StateOf.{state_of}
 use Rattle.pool_slots.proofs.Results.{if_err_is}
 use Rattle.uberblock_ring.specs.declared.uberblock.Uberblock.{Uberblock}
 use Rattle.pool_open.specs.Causes.{of_store}
 use Rattle.pool_open.specs.Opening.{IsBlockMisplaced, IsNotOpenedOver, IsOpenedOver}
-use Rattle.pool_open.specs.Roots.{AreReadBeside, IsReadOfRoot, RootRefuses, WereReadBeside}
+use Rattle.pool_open.specs.Roots.{AreReadBeside, IsReadOfRoot, IsRootNotRead}
 use Rattle.pool_open.specs.Words.{most_blocks}
 use Rattle.pool_open.specs.declared.refusal.Refusal.TheVariants.{NoMemory, DiskFault, BadPointer}
 use Rattle.pool_open.proofs.Stages.{AreBegun, AreDone, AreSurveyed, IsMadeCore, opened_over, refused_by_claim, refused_by_core, refused_by_root, refused_by_survey}
@@ -30,13 +29,12 @@ returns-in_err-read-clause-refused g c =
       whole = c.in_ok-survey.ensures.whole;
       is = c.in_ok-survey.ensures.surveyed;
     } in
-    let dropped = subst (λ (xs : List Bool). WereReadBeside xs surveyed) c.deref.ensures.value c.in_err-read.ensures.dropped in
-    let W : List Bool → Uberblock → ℕ → Type 0 = λ xs u n. (cause ≡ store.NoMemory) ⊎ RootRefuses surveyed c.args.shapes.now xs u.group u.root n cause in
-    let why = subst (λ (xs : List Bool). W xs s.claimed (most_blocks c.args.shapes.now)) c.deref.ensures.value
+    let W : List Bool → Uberblock → ℕ → Type 0 = λ xs u n. IsRootNotRead surveyed c.args.shapes.now xs u.group u.root n cause in
+    let unread = subst (λ (xs : List Bool). W xs s.claimed (most_blocks c.args.shapes.now)) c.deref.ensures.value
     (subst (λ (u : Uberblock). W c.deref.result.now u (most_blocks c.args.shapes.now)) c.claimed-taken.ensures
     (subst (λ (n : ℕ). W c.deref.result.now c.claimed-taken.result n) c.count_sectors-left.ensures c.in_err-read.ensures.refused)) in
     if_err_is c.from_residual-in_err-read.result (of_store cause) (IsNotOpenedOver c.args.disks c.args.shapes.now c.args.out.items c.args.rewind) c.from_residual-in_err-read.ensures.1
-    (refused_by_root c.args.out.items later c.args.rewind c.args.disks surveyed dropped.0 c.args.shapes.now s cause are dropped.1 why)
+    (refused_by_root c.args.out.items later c.args.rewind c.args.disks surveyed unread.new c.args.shapes.now s cause are unread.only unread.why)
 
 pub returns-in_err-claimed-clause-refused : goal.returns-in_err-claimed-clause-refused
 returns-in_err-claimed-clause-refused g c =

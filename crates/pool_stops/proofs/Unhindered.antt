@@ -1,0 +1,283 @@
+-- Opens that nothing hinders are refused for want of memory alone.
+use Rattle.std.proofs.Common.{ℕ, zero, suc, ◌≡◌, ◌⊎◌, inl, inr, ⊎_elim, ◌+◌, ◌<◌, ◌≤◌, Bool, true, false, List, [], ◌∷◌, length, map, Some, Contains, IsTrue, refl, sym, ap, subst, ◌∙◌, arith, true≢false, slice_get, if◌then◌else◌, nat_le, ◌&&◌}
+use Rattle.std.proofs.lemmas.Bool.Decides.{nat_tests}
+use Rattle.model_disk.specs.Joint.{Disks, JointCall, bytes_of, content, failed_since}
+use Rattle.model_disk.specs.Runs.{Makes, no_write}
+use Rattle.model_disk.proofs.FailureLemmas.{kept_through}
+use Rattle.raidz_io.specs.Reads.{IsHonestSince}
+use Rattle.block_store.specs.Blocks.{Contents}
+use Rattle.block_store.specs.Losses.{LossesAreNotTolerable}
+use Rattle.block_store.specs.Opened.{CannotTakeIn, MayBeOpened}
+use Rattle.block_store.specs.Places.{shapes_of}
+use Rattle.block_store.specs.Releases.{copies_of_all}
+use Rattle.block_store.specs.Store.{is_out}
+use Rattle.block_store.specs.declared.refusal.Refusal.{Refusal as StoreRefusal}
+use Rattle.block_store.specs.declared.refusal.Refusal.TheVariants as store
+use Rattle.block_store.specs.declared.shape.VdevShape.{VdevShape}
+use Rattle.block_pointer.specs.declared.block.Block.{Block}
+use Rattle.dataset_snapshots.proofs.Readings.{roots_spell_one_pool}
+use Rattle.dataset_snapshots.specs.Pools.{SpellsPool}
+use Rattle.dataset_snapshots.specs.Reach.{reach_of}
+use Rattle.dnode_tree.specs.Rewriting.{AreDistinct}
+use Rattle.pool_model.specs.Pools.{PlainPool}
+use Rattle.pool_model.specs.Refusals.{greatest}
+use Rattle.pool_model.specs.View.{Vdev, is_tolerable, lost_in}
+use Rattle.pool_open.specs.Causes.{of_slots, of_store}
+use Rattle.pool_open.specs.Held.{HoldOver}
+use Rattle.pool_open.specs.Opening.{AreClaimedThrough, AreReadThrough, IsCauseOfClaim, IsCauseOfReading, IsReadMisplaced, IsRootUnread, IsSurveyRefused}
+use Rattle.pool_open.specs.Roots.{IsRootRefused, IsSmallRoot, RootRefuses}
+use Rattle.pool_open.specs.Trees.{IsTreeOf}
+use Rattle.pool_open.specs.Words.{most_blocks, vdevs_in}
+use Rattle.pool_open.specs.declared.refusal.Refusal.{Refusal}
+use Rattle.pool_open.specs.declared.refusal.Refusal.TheVariants.{NoMemory}
+use Rattle.pool_open.proofs.Through.{block_reads_made, honest_within, through_made}
+use Rattle.pool_slots.specs.Failures.{HasFailedOn}
+use Rattle.pool_slots.specs.LabelReads.{LacksLabel}
+use Rattle.pool_slots.specs.Opens.{CanOpen, IsHighestShown, IsRead, IsShown}
+use Rattle.pool_slots.specs.Possible.{IsBefore, IsInReach, IsPossible, Possible, TreeStands, Trees}
+use Rattle.pool_slots.specs.Present.{GoOut, IsNoFault}
+use Rattle.pool_slots.specs.Slots.{InUse, IsOutOfReach}
+use Rattle.pool_slots.specs.Surveys.{IsSurveyOf, IsSurveyed, SurveyRefuses, Surveyed}
+use Rattle.pool_slots.specs.declared.refusal.Refusal.{Refusal as SlotsRefusal}
+use Rattle.pool_slots.specs.declared.refusal.Refusal.TheVariants as slots
+use Rattle.pool_slots.proofs.Failing.{fails_later}
+use Rattle.pool_slots.proofs.OpenSteps.{cause_of}
+use Rattle.model_disk.proofs.RunLemmas.{Makes-none}
+use Rattle.pool_slots.proofs.Phases.{none_same}
+use Rattle.pool_slots.proofs.ReadRuns.{reads_made}
+use Rattle.uberblock_ring.proofs.Ranks.{ranks_through}
+use Rattle.uberblock_ring.specs.Ranking.{IsRewound, RanksUpTo}
+use Rattle.uberblock_ring.specs.declared.uberblock.Uberblock.{Uberblock}
+use Rattle.pool_stops.specs.Reopening.{LeadToPools}
+use Rattle.pool_stops.specs.Unhindered.{IsUnhindered, IsWholeTree, LeadToWholePools, LieApart, UnhinderedOpensAreDone}
+use Rattle.pool_stops.proofs.Counting.{blocks_fit}
+use Rattle.pool_stops.proofs.FreePlaces.{can_take_in}
+use Rattle.pool_stops.proofs.Holding.{get_in_use}
+use Rattle.pool_stops.proofs.Lost.{not_for_loss}
+use Rattle.pool_stops.proofs.Steps.{used_below}
+
+-- ---- no disk goes out
+
+fails_before : (may : ℕ → ℕ → List ℕ → Type 0) (old mid new : Disks) (disk : ℕ) → Makes may mid new → HasFailedOn old mid disk → HasFailedOn old new disk
+fails_before may old mid new disk makes failed =
+    subst (λ (calls : List JointCall). Contains (failed_since (length old.calls) calls) disk) (sym makes.calls)
+    (kept_through (length old.calls) makes.newer mid.calls disk failed)
+
+same_flags : (out later : List Bool) → length later ≡ length out → ((disk : ℕ) → is_out out disk ≡ false) → ((disk : ℕ) → disk < length later → is_out later disk ≡ false) → later ≡ out
+same_flags [] [] count none none' = refl
+same_flags [] (flag ∷ later) count none none' = absurd (cc)
+same_flags (flag ∷ out) [] count none none' = absurd (cc)
+same_flags (flag ∷ out) (other ∷ later) count none none' =
+    let rest : length later ≡ length out = omega (arith, count) in
+    let first : other ≡ flag = none' 0 (omega arith) ∙ sym (none 0) in
+    (λ i. first i ∷ same_flags out later rest (λ disk. none (suc disk)) (λ disk below. none' (suc disk) (omega (arith, below))) i)
+
+flag_is : (flag : Bool) → (flag ≡ true) ⊎ (flag ≡ false)
+flag_is true = inl refl
+flag_is false = inr refl
+
+not_used : (flags : List Bool) (disk : ℕ) → is_out flags disk ≡ true → ¬ InUse flags disk
+not_used [] disk out used = absurd (cc)
+not_used (flag ∷ flags) zero out used = true≢false (sym out ∙ (let same : flag ≡ false = (cc) in same))
+not_used (flag ∷ flags) (suc disk) out used = not_used flags disk out used
+
+all_stay : (out later : List Bool) (old surveyed new : Disks) (may : ℕ → ℕ → List ℕ → Type 0) → length later ≡ length out → ((disk : ℕ) → is_out out disk ≡ false)
+    → ((disk : ℕ) → ¬ HasFailedOn old new disk) → GoOut out later old surveyed → Makes may surveyed new → later ≡ out
+all_stay out later old surveyed new may count none well gone makes =
+    same_flags out later count none (λ disk below. ⊎_elim
+    (λ away. absurd (well disk (fails_before may old surveyed new disk makes
+    (gone.failed disk (get_in_use out disk (omega (arith, below, count)) (none disk)) (not_used later disk away)))))
+    (λ there. there)
+    (flag_is (is_out later disk)))
+
+-- ---- all disks are there
+
+none_lost : (lost : ℕ → Bool) (first n : ℕ) → ((disk : ℕ) → lost disk ≡ false) → lost_in lost first n ≡ 0
+none_lost lost first zero none = refl
+none_lost lost first (suc n) none =
+    let one : ◌≡◌ {A = ℕ} (if lost (first + n) then 1 else 0) 0 = ap (λ flag. if flag then 1 else 0) (none (first + n)) in
+    omega (arith, none_lost lost first n none, one)
+
+zero_up_to : (n : ℕ) → nat_le 0 n ≡ true
+zero_up_to n = grind (arith, nat_tests)
+
+none_is_tolerable : (vdevs : List Vdev) (lost : ℕ → Bool) → ((disk : ℕ) → lost disk ≡ false) → is_tolerable vdevs lost ≡ true
+none_is_tolerable [] lost none = refl
+none_is_tolerable (vdev ∷ vdevs) lost none =
+    let first : nat_le (lost_in lost vdev.first vdev.children) vdev.parity ≡ true = ap (λ n. nat_le n vdev.parity) (none_lost lost vdev.first vdev.children none) ∙ zero_up_to vdev.parity in
+    ap (λ flag. flag && is_tolerable vdevs lost) first ∙ none_is_tolerable vdevs lost none
+
+-- ---- what is taken
+
+higher_than_last : (last u v : Uberblock) → RanksUpTo last u → (v.claim ≡ u.claim) × (u.group ≤ v.group + 2) → IsOutOfReach v last → ⊥
+higher_than_last last u v (inl a) near (inl b) = omega (arith, near.0)
+higher_than_last last u v (inl a) near (inr b) = omega (arith, near.0, b.0)
+higher_than_last last u v (inr a) near (inl b) = omega (arith, near.0, a.0)
+higher_than_last last u v (inr a) near (inr b) = omega (arith, near.1, a.1, b.1)
+
+-- what stands no groups below one that is no lower than the last is in reach, and its tree stands
+taken_is : (trees : Trees) (out : List Bool) (disks : Disks) (p : Possible) (highest taken : Uberblock) → CanOpen trees out disks p → RanksUpTo p.last highest
+    → IsRewound highest 0 taken → IsRead out disks taken → IsPossible trees out (content disks) p taken
+taken_is trees out disks p highest taken can rank rewound read =
+    let on = read.on.on in
+    let it = (can.leads read.which read.used).only on.label on.slot on.is_slot taken on.shows in
+    let P : Uberblock → Type 0 = λ w. IsOutOfReach w p.last ⊎ IsPossible trees out (content disks) p w in
+    ⊎_elim
+    (λ far. absurd (higher_than_last p.last highest taken rank (rewound.0, omega (arith, rewound.1)) far))
+    (λ possible. possible)
+    (subst P (read.on.alone it.u it.shows) it.rank)
+
+rank_of_top : (trees : Trees) (out : List Bool) (disks : Disks) (p : Possible) (highest : Uberblock) → CanOpen trees out disks p → IsHighestShown out disks highest → RanksUpTo p.last highest
+rank_of_top trees out disks p highest can top =
+    let it = (can.leads can.some.0 can.some.1).top in
+    let shown : IsShown out disks it.u = record { which = can.some.0; used = can.some.1; on = record { label = it.label; slot = it.slot; is_slot = it.is_slot; shows = it.shows } } in
+    ranks_through p.last it.u highest it.rank (top.greatest it.u shown)
+
+-- what was surveyed
+surveyed_is : (trees : Trees) (out : List Bool) (disks : Disks) (p : Possible) (s : Surveyed) → CanOpen trees out disks p → IsSurveyOf out 0 disks s → IsPossible trees out (content disks) p s.taken
+surveyed_is trees out disks p s can says =
+    let one = says.highest in
+    let mine = says.found one.which (Some one.found) one.at in
+    let top = (can.leads one.which mine.0).top in
+    let rank : RanksUpTo p.last s.highest = subst (λ (u : Uberblock). RanksUpTo p.last u) (sym one.is)
+    (ranks_through p.last top.u one.found.uberblock top.rank (mine.1.greatest top.label top.slot top.is_slot top.u top.shows)) in
+    taken_is trees out disks p s.highest s.taken can rank says.rewound says.taken
+
+-- ---- before anything is read of the root
+
+survey_case : (old new : Disks) (shapes : List VdevShape) (out : List Bool) (p : Possible) (pools : Uberblock → PlainPool) (refusal : Refusal) → LeadToWholePools old shapes out p pools
+    → IsUnhindered old new shapes out p → IsSurveyRefused shapes out 0 old new refusal → refusal ≡ NoMemory
+survey_case old new shapes out p pools refusal led free (inr (inl (barred, (s, is, most)))) =
+    let can = led.led.can in
+    let says : IsSurveyOf out 0 old s = is.says can.known free.honest in
+    let possible = surveyed_is led.led.trees out old p s can says in
+    let group : s.claimed.group ≡ s.taken.group = ap (λ (u : Uberblock). u.group) says.claimed in
+    absurd (omega (arith, most, group, free.groups s.taken possible.0))
+survey_case old new shapes out p pools refusal led free (inr (inr (barred, lost))) =
+    absurd (true≢false (sym (none_is_tolerable (vdevs_in shapes) (is_out out) free.none) ∙ lost))
+survey_case old new shapes out p pools refusal led free (inl (slots.NoMemory, same, refuses, no_fault)) = same
+survey_case old new shapes out p pools refusal led free (inl (slots.DiskFault disk, same, refuses, no_fault)) = absurd (no_fault disk refl)
+survey_case old new shapes out p pools refusal led free (inl (slots.NoUberblock, same, refuses, no_fault)) =
+    let it = cause_of led.led.trees out 0 old new p slots.NoUberblock led.led.can free.honest refuses in absurd (omega (arith, it.0))
+survey_case old new shapes out p pools refusal led free (inl (slots.NoLabel, same, refuses, no_fault)) =
+    let can = led.led.can in
+    let it = refuses can.known free.honest in
+    let rank = rank_of_top led.led.trees out old p it.1.highest can it.1.top in
+    let possible = taken_is led.led.trees out old p it.1.highest it.0 can rank it.1.rewound it.1.shown in
+    let config = led.configured it.0 possible.0 it.2.which it.2.used in
+    absurd (it.2.without config.number config.label config.shown config.config)
+survey_case old new shapes out p pools refusal led free (inl (slots.UsedUp, same, refuses, no_fault)) =
+    let it = refuses led.led.can.known free.honest in absurd (free.claims it.0 it.1 it.2)
+
+-- ---- the root
+
+-- what the root of an uberblock leads to, over these disks
+record AtRoot (disks : Disks) (shapes : List VdevShape) (out : List Bool) (pool : PlainPool) (u : Uberblock) : Type 0 where
+  pub stored : Contents
+  pub spells : SpellsPool stored u.group u.root pool
+  pub once : AreDistinct (reach_of spells)
+  pub apart : LieApart shapes (reach_of spells)
+  pub hold : HoldOver disks shapes out stored
+
+at_root : (old surveyed new : Disks) (shapes : List VdevShape) (out : List Bool) (p : Possible) (pools : Uberblock → PlainPool) (s : Surveyed) → LeadToWholePools old shapes out p pools
+    → IsUnhindered old new shapes out p → Makes no_write old surveyed → IsHonestSince old surveyed → IsSurveyed out 0 old surveyed s → AtRoot surveyed shapes out (pools s.taken) s.claimed
+at_root old surveyed new shapes out p pools s led free makes honest is =
+    let can = led.led.can in
+    let says : IsSurveyOf out 0 old s = is.says can.known honest in
+    let possible = surveyed_is led.led.trees out old p s can says in
+    let tree : IsTreeOf led.led.trees old.starts shapes out s.taken (pools s.taken) = led.led.tree s.taken possible.0 in
+    let whole : IsWholeTree tree = led.whole s.taken possible.0 in
+    let stands : TreeStands led.led.trees out (content surveyed) s.taken.root = λ which i value used at. none_same old surveyed which i makes ∙ possible.1 which i value used at in
+    let sizes : map length surveyed.starts ≡ map length old.starts = ap (map length) makes.starts in
+    let here : AtRoot surveyed shapes out (pools s.taken) (record s.taken { claim = s.claimed.claim }) = record {
+      stored = tree.stored;
+      spells = tree.spells;
+      once = whole.once;
+      apart = whole.apart;
+      hold = tree.held surveyed sizes stands;
+    } in
+    subst (λ (u : Uberblock). AtRoot surveyed shapes out (pools s.taken) u) (sym says.claimed) here
+
+root_case : LossesAreNotTolerable → (old surveyed new : Disks) (shapes : List VdevShape) (out : List Bool) (p : Possible) (pools : Uberblock → PlainPool) (refusal : Refusal)
+    → LeadToWholePools old shapes out p pools → IsUnhindered old new shapes out p → Makes no_write old surveyed → Makes no_write surveyed new
+    → IsRootUnread old surveyed new shapes out 0 refusal → refusal ≡ NoMemory
+root_case law old surveyed new shapes out p pools refusal led free makes reads unread =
+    let honest : IsHonestSince old surveyed = honest_within no_write old old surveyed new (Makes-none no_write old) reads free.honest in
+    let later : IsHonestSince surveyed new = honest_within no_write old surveyed new new makes (Makes-none no_write new) free.honest in
+    let at = at_root old surveyed new shapes out p pools unread.s led free makes honest unread.is in
+    let u : Uberblock = unread.s.claimed in
+    let memory : unread.cause ≡ store.NoMemory = ⊎_elim
+    (λ (bad, not). absurd (not (subst (λ (starts : List (List ℕ)). MayBeOpened starts shapes out) (sym makes.starts) free.may)))
+    (λ (it : IsRootRefused surveyed new shapes out u.group u.root (most_blocks shapes) unread.cause).
+    let small : IsSmallRoot at.stored u.group u.root (pools unread.s.taken) (most_blocks shapes) = record {
+      is = at.spells;
+      once = at.once;
+      few = blocks_fit it.store.spaces shapes (reach_of at.spells) it.over.shapes_are free.may.few at.apart;
+    } in
+    not_for_loss law it.store it.later u.group u.root (most_blocks shapes) it.after unread.cause it.cause
+    (λ disk. ap (λ flags. is_out flags disk) it.over.out_is ∙ free.none disk)
+    (λ disk failed.
+    let P : Disks → Disks → Type 0 = λ a b. HasFailedOn a b disk in
+    let here : HasFailedOn surveyed new disk = subst (λ (b : Disks). P surveyed b) it.now (subst (λ (a : Disks). P a it.later.disks) it.over.disks_are failed) in
+    free.none_failed disk (fails_later no_write old surveyed new makes disk here))
+    (it.whole at.stored (pools unread.s.taken) at.hold small later))
+    unread.why in
+    unread.same ∙ ap of_store memory
+
+reading_case : LossesAreNotTolerable → (old new : Disks) (shapes : List VdevShape) (out : List Bool) (p : Possible) (pools : Uberblock → PlainPool) (refusal : Refusal)
+    → LeadToWholePools old shapes out p pools → IsUnhindered old new shapes out p → (through : AreReadThrough out out old new)
+    → IsCauseOfReading old through.surveyed new shapes out out 0 refusal → refusal ≡ NoMemory
+reading_case law old new shapes out p pools refusal led free through (inl memory) = memory
+reading_case law old new shapes out p pools refusal led free through (inr (inl (bad, not))) = absurd (not free.may)
+reading_case law old new shapes out p pools refusal led free through (inr (inr (inl survey))) = survey_case old new shapes out p pools refusal led free survey
+reading_case law old new shapes out p pools refusal led free through (inr (inr (inr unread))) =
+    root_case law old through.surveyed new shapes out p pools refusal led free (reads_made through.absent.only) (block_reads_made through.surveyed new through.blocks.only) unread
+
+-- ---- the claim
+
+misplaced_case : (old surveyed read new : Disks) (shapes : List VdevShape) (out : List Bool) (p : Possible) (pools : Uberblock → PlainPool) (may : ℕ → ℕ → List ℕ → Type 0)
+    → LeadToWholePools old shapes out p pools → IsUnhindered old new shapes out p → Makes no_write old surveyed → Makes no_write surveyed read → Makes may read new
+    → IsReadMisplaced old surveyed read new shapes out 0 → ⊥
+misplaced_case old surveyed read new shapes out p pools may led free makes reads claims it =
+    let all : IsHonestSince old read = honest_within may old old read new (Makes-none no_write old) claims free.honest in
+    let honest : IsHonestSince old surveyed = honest_within no_write old old surveyed read (Makes-none no_write old) reads all in
+    let later : IsHonestSince surveyed read = honest_within may old surveyed read new makes claims free.honest in
+    let at = at_root old surveyed new shapes out p pools it.s led free makes honest it.is in
+    let u : Uberblock = it.s.claimed in
+    let are = it.reads at.stored (pools it.s.taken) at.hold at.spells later in
+    let same = (roots_spell_one_pool at.stored u.group u.group u.root (pools it.s.taken) (pools it.s.taken) are.is at.spells).1 in
+    let cannot : CannotTakeIn it.why.store.spaces (copies_of_all (reach_of at.spells)) it.why.after =
+    subst (λ (them : List Block). CannotTakeIn it.why.store.spaces (copies_of_all them) it.why.after) (are.blocks ∙ same) it.why.cannot in
+    can_take_in it.why.store.spaces it.why.after shapes (reach_of at.spells) it.why.over.shapes_are it.why.empty at.apart cannot
+
+claim_case : (old new : Disks) (shapes : List VdevShape) (out : List Bool) (p : Possible) (pools : Uberblock → PlainPool) (claimed : Uberblock) (refusal : Refusal)
+    → LeadToWholePools old shapes out p pools → IsUnhindered old new shapes out p → (through : AreClaimedThrough out out claimed old new)
+    → IsCauseOfClaim old through.before.surveyed through.read new shapes out 0 refusal → refusal ≡ NoMemory
+claim_case old new shapes out p pools claimed refusal led free through (inl memory) = memory
+claim_case old new shapes out p pools claimed refusal led free through (inr (inl (fault, (which, failed)))) =
+    absurd (free.none_failed which (fails_later no_write old through.read new (through_made out out old through.read through.before) which failed))
+claim_case old new shapes out p pools claimed refusal led free through (inr (inr (bad, misplaced))) =
+    absurd (misplaced_case old through.before.surveyed through.read new shapes out p pools _ led free (reads_made through.before.absent.only)
+    (block_reads_made through.before.surveyed through.read through.before.blocks.only) through.claims.makes misplaced)
+
+-- ---- the law
+
+pub unhindered_opens_are_done : LossesAreNotTolerable → UnhinderedOpensAreDone
+unhindered_opens_are_done law old shapes out p pools refusal led is free =
+    let count : length is.later ≡ length out = is.count ∙ sym free.may.flags in
+    let R : List Bool → Type 0 = λ later. (through : AreReadThrough out later old is.new) × IsCauseOfReading old through.surveyed is.new shapes out later 0 refusal in
+    let C : List Bool → Type 0 = λ later. (claimed : Uberblock) × (through : AreClaimedThrough out later claimed old is.new)
+    × IsCauseOfClaim old through.before.surveyed through.read is.new shapes later 0 refusal in
+    ⊎_elim
+    (λ (it : R is.later).
+    let all = all_stay out is.later old it.0.surveyed is.new no_write count free.none free.none_failed it.0.absent (block_reads_made it.0.surveyed is.new it.0.blocks.only) in
+    let at : R out = subst R all it in
+    reading_case law old is.new shapes out p pools refusal led free at.0 at.1)
+    (λ (it : C is.later).
+    let through = it.1 in
+    let gone : (disk : ℕ) → ¬ HasFailedOn old through.read disk = λ disk failed. free.none_failed disk (fails_before _ old through.read is.new disk through.claims.makes failed) in
+    let all = all_stay out is.later old through.before.surveyed through.read no_write count free.none gone through.before.absent
+    (block_reads_made through.before.surveyed through.read through.before.blocks.only) in
+    let at : C out = subst C all it in
+    claim_case old is.new shapes out p pools at.0 refusal led free at.1 at.2)
+    is.cause

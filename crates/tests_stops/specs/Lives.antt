@@ -1,0 +1,31 @@
+-- Pools that are made and opened, and run from then on.
+use Rattle.std.specs.Prelude.{ℕ, ◌≡◌, ◌≤◌, ◌<◌, ◌^◌, Bool, false, List, [], length}
+use Rattle.model_disk.specs.Joint.{Disks}
+use Rattle.raidz_io.specs.Reads.{IsHonestSince}
+use Rattle.block_store.specs.Store.{is_out}
+use Rattle.block_store.specs.declared.shape.VdevShape.{VdevShape}
+use Rattle.uberblock_ring.specs.declared.uberblock.Uberblock.{Uberblock}
+use Rattle.pool_core.specs.State.{CoreState, disks_of}
+use Rattle.pool_create.specs.Planning.{nobody}
+use Rattle.pool_model.specs.Pools.{PlainPool}
+use Rattle.pool_model.specs.View.{View}
+use Rattle.pool_slots.specs.Opens.{AreKnown}
+use Rattle.pool_slots.specs.Possible.{Possible}
+use Rattle.pool_stops.specs.Reopening.{IsOpenedWell, LeadToPools}
+use Rattle.pool_stops.specs.Running.{IsRunning}
+
+-- the answers were true, and there are some disks and not too many
+pub record AreSound (old new : Disks) : Type 0 where
+  pub some : 0 < length old.starts
+  pub few : length old.starts ≤ 2 ^ 64
+  pub honest : IsHonestSince old new
+
+-- a pool that was just made runs behind its first uberblock
+abbrev pub RunsAtFirst : Disks → Uberblock → CoreState → Type 0
+RunsAtFirst old u core = AreKnown (nobody old.starts) old → AreSound old (disks_of core) → (v : View) × IsRunning core v u []
+
+-- one that was opened with all its disks has the pool of an uberblock that they led to, and runs on
+abbrev pub OpensWell : Disks → List VdevShape → List Bool → Uberblock → CoreState → Type 0
+OpensWell old shapes out claimed core =
+    (p : Possible) (pools : Uberblock → PlainPool) → LeadToPools old shapes out p pools → core.commit.store.out ≡ out
+    → ((disk : ℕ) → is_out out disk ≡ false) → AreSound old (disks_of core) → IsOpenedWell p pools shapes out 0 claimed core

@@ -1,0 +1,83 @@
+//! Pools that run, by what the calls promise that make and open them.
+ghost use Rattle.std.specs.Prelude.{◌≡◌, length, IfOk};
+ghost use Rattle.pool_core.specs.StateOf.{state_of};
+ghost use Rattle.tests_stops.specs.Lives.{OpensWell, RunsAtFirst};
+
+use crate::pools::{DISK_BYTES, config};
+use block_store::VdevShape;
+use model_disk::{DiskArray, MemDisk};
+use pool_create::create_over;
+use pool_format::PoolIdentity;
+use pool_open::{OpenedPool, Refusal, open_over};
+use pool_stops::{created_pools_run, led_disks_open};
+use raidz_io::Vdev;
+use raidz_map::Geometry;
+use std::alloc::Global;
+use std::test::*;
+use vdev_label::Config;
+
+/// Makes a pool, which runs behind its first uberblock.
+fn created(
+    alloc: Global,
+    disks: DiskArray<MemDisk>,
+    pool: PoolIdentity,
+    config: Config,
+) -> Result<OpenedPool<MemDisk>, Refusal>
+    ensures { IfOk result (λ opened. RunsAtFirst disks opened.uberblock (state_of opened.core)) }
+{
+    created_pools_run();
+    let opened = create_over(alloc, disks, pool, config)?;
+    Ok(opened)
+}
+
+/// Opens it, and it runs on.
+fn reopened(
+    alloc: Global,
+    disks: DiskArray<MemDisk>,
+    shapes: &[VdevShape],
+    out: Vec<bool>,
+) -> Result<OpenedPool<MemDisk>, Refusal>
+    requires out { length out.items ≡ length disks.starts }
+    ensures { IfOk result (λ opened.
+        OpensWell disks shapes.now out.items opened.uberblock (state_of opened.core)) }
+{
+    led_disks_open();
+    let opened = open_over(alloc, disks, shapes, out, 0)?;
+    Ok(opened)
+}
+
+/// The vdev of the pools of these tests.
+fn shape() -> Result<VdevShape, Refusal> {
+    let Ok(geometry) = Geometry::new(3, 1, 9) else {
+        return Err(Refusal::BadConfig);
+    };
+    let vdev = Vdev { geometry, first: 0 };
+    Ok(VdevShape {
+        vdev,
+        child_sectors: 7168,
+        metaslab_shift: 12,
+    })
+}
+
+/// The claims of a pool that was made, and then opened on the disks of its core.
+fn claims(alloc: Global) -> Result<[u64; 2], Refusal> {
+    let disks = DiskArray::new(MemDisk::several(alloc, 3, DISK_BYTES)?);
+    let name = String::from_str(alloc, "pool")?;
+    let config = config(alloc)?;
+    let shapes = vec![in alloc; shape()?]?;
+    let OpenedPool { core, uberblock } = created(
+        alloc,
+        disks,
+        PoolIdentity { name, guid: 1 },
+        config,
+    )?;
+    let disks = core.into_array();
+    let out = vec![in alloc; false; disks.len()]?;
+    let again = reopened(alloc, disks, &shapes, out)?;
+    Ok([uberblock.claim, again.uberblock.claim])
+}
+
+#[test]
+fn a_new_pool_runs_and_is_opened(rt: HostRuntime) {
+    assert_eq!(rt; claims(rt.alloc()), Ok([1, 2]));
+}
