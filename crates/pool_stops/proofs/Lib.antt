@@ -14,3 +14,5 @@ pub mod Counting
 pub mod FreePlaces
 pub mod Lost
 pub mod Unhindered
+pub mod Labels
+pub mod LabelStops

@@ -272,7 +272,7 @@ runs_outlive stops opens old mid new v between w steps replies step reply last b
 
 -- ---- exports
 
-is_planned_so : (s : State) (v : View) (planned : Option Planned) → (backs : Backs s v) → s.planned ≡ planned → is_syncing v.sync ≡ false → s.planned ≡ None
+pub is_planned_so : (s : State) (v : View) (planned : Option Planned) → (backs : Backs s v) → s.planned ≡ planned → is_syncing v.sync ≡ false → s.planned ≡ None
 is_planned_so s v None backs is at_rest = is
 is_planned_so s v (Some plan) backs is at_rest =
     let has : HasPlan s backs.blocks.planned plan v = subst (λ (o : Option Planned). IsPlanOf s backs.blocks.planned o v) is backs.blocks.plan in

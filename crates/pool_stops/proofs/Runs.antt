@@ -86,7 +86,7 @@ pub record RunsTo (mid : CoreState) (between : View) : Type 0 where
   pub earlier : List Uberblock
   pub runs : IsRunning mid between last earlier
 
-none_before : (old : CoreState) (v : View) (steps : List Step) (givens : List Given) (replies : List Reply) (mid : CoreState) (between : View)
+pub none_before : (old : CoreState) (v : View) (steps : List Step) (givens : List Given) (replies : List Reply) (mid : CoreState) (between : View)
     → Chain old v steps givens replies mid between → NoneIsOut mid.commit → NoneIsOut old.commit
 none_before old v [] [] [] mid between chain none = subst (λ (s : CoreState). NoneIsOut s.commit) (sym chain.0) none
 none_before old v (step ∷ steps) (given ∷ givens) (reply ∷ replies) mid between chain none =

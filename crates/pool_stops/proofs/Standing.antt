@@ -61,7 +61,7 @@ picked_off picks held starts spaces out lie are root which i value used is =
 
 -- ---- the blocks phase
 
-either : (test : Bool) → (test ≡ true) ⊎ (test ≡ false)
+pub either : (test : Bool) → (test ≡ true) ⊎ (test ≡ false)
 either true = inl refl
 either false = inr refl
 

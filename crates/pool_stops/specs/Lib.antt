@@ -5,3 +5,4 @@ pub mod Running
 pub mod Reopening
 pub mod Created
 pub mod Unhindered
+pub mod Configured

@@ -2,8 +2,14 @@
 //! them each step of a core goes through the phases of a commit, at any moment of which the disks lead to the pool.
 #![tactic(auto)]
 
+mod configured;
 mod laws;
 
+pub use configured::{
+    created_pools_are_configured, exports_stay_configured, held_labels_are_left,
+    held_labels_stay_held, left_disks_are_configured, opened_pools_are_configured,
+    opens_stay_configured, runs_stay_configured, steps_stay_configured,
+};
 pub use laws::{
     backed_plans_are_good, blocks_are_filled, blocks_keep_what_is_filled, commits_end_filled,
     created_pools_run, due_writes_are_unfilled, filled_bytes_are_for_blocks,

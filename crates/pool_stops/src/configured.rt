@@ -1,0 +1,57 @@
+//! Laws of the labels, which show the pool's configuration wherever a step, an open or an export is stopped: what each ensures follows from the
+//! definitions alone.
+ghost use Rattle.pool_stops.specs.Configured.{CreatedPoolsAreConfigured, ExportsStayConfigured};
+ghost use Rattle.pool_stops.specs.Configured.{HeldLabelsAreLeft, HeldLabelsStayHeld};
+ghost use Rattle.pool_stops.specs.Configured.{LeftDisksAreConfigured, OpenedPoolsAreConfigured};
+ghost use Rattle.pool_stops.specs.Configured.{OpensStayConfigured, RunsStayConfigured};
+ghost use Rattle.pool_stops.specs.Configured.{StepsStayConfigured};
+
+use crate::laws::running_pools_step_on;
+
+/// Labels that are flushed show after a stop what they showed before.
+pub fn held_labels_are_left()
+    ensures { HeldLabelsAreLeft }
+{}
+
+/// All of them hold it on the disks that a stop leaves.
+pub fn held_labels_stay_held()
+    ensures { HeldLabelsStayHeld }
+{}
+
+/// What a stop leaves shows the configuration after another stop too.
+pub fn left_disks_are_configured()
+    ensures { LeftDisksAreConfigured }
+{}
+
+/// A step of a core writes no byte that a label is read of.
+pub fn steps_stay_configured()
+    ensures { StepsStayConfigured }
+{}
+
+/// Nor does any step of a run.
+pub fn runs_stay_configured()
+    ensures { RunsStayConfigured }
+{
+    running_pools_step_on();
+    steps_stay_configured();
+}
+
+/// A pool that was just made has its configuration in each label.
+pub fn created_pools_are_configured()
+    ensures { CreatedPoolsAreConfigured }
+{}
+
+/// Wherever an open is stopped.
+pub fn opens_stay_configured()
+    ensures { OpensStayConfigured }
+{}
+
+/// Once it is done, each label has it.
+pub fn opened_pools_are_configured()
+    ensures { OpenedPoolsAreConfigured }
+{}
+
+/// Wherever an export is stopped.
+pub fn exports_stay_configured()
+    ensures { ExportsStayConfigured }
+{}
