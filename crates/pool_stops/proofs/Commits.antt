@@ -154,6 +154,7 @@ commits old new v w given reply plan last before laws runs link writes none is g
     record {
       later = plan.uberblock;
       earlier = last ∷ before;
+      next = inr (plan, is, refl, refl);
       runs = record {
         represents = link.represents;
         whole = whole;

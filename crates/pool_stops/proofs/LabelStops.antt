@@ -1,5 +1,5 @@
 -- The configuration of pools that are made, run, opened and exported.
-use Rattle.std.proofs.Common.{ℕ, ◌≡◌, ◌⊎◌, ⊎_elim, inl, inr, ◌<◌, Bool, false, List, [], ◌∷◌, length, slice_get, Option, Some, None, refl, sym, ap, subst, ◌∙◌, arith}
+use Rattle.std.proofs.Common.{ℕ, ◌≡◌, ◌⊎◌, ⊎_elim, inl, inr, ◌<◌, Bool, false, List, [], length, slice_get, Option, Some, None, refl, sym, ap, subst, ◌∙◌, arith}
 use Rattle.std.proofs.lemmas.List.{length-replicate}
 use Rattle.std.proofs.lemmas.Option.{slice_get-map}
 use Rattle.std.specs.Prelude.{map, option_map}
@@ -13,15 +13,11 @@ use Rattle.uberblock_ring.proofs.Ranks.{ranks_through}
 use Rattle.vdev_label.specs.Plain.{config_view}
 use Rattle.vdev_label.specs.Room.{relabeled}
 use Rattle.vdev_label.specs.declared.label.State.TheVariants.{Active}
-use Rattle.pool_commit.specs.State.{NoneIsOut, State}
+use Rattle.pool_commit.specs.State.{State}
 use Rattle.pool_commit.specs.declared.kept.Planned.{Planned}
-use Rattle.pool_core.specs.Runs.{Chain}
-use Rattle.pool_core.specs.State.{CoreState, disks_of}
+use Rattle.pool_core.specs.State.{disks_of}
 use Rattle.pool_create.specs.Planning.{nobody}
 use Rattle.pool_format.specs.Labels.{children_of, label_of}
-use Rattle.pool_model.specs.View.{Given, View}
-use Rattle.pool_model.specs.declared.step.Reply.{Reply}
-use Rattle.pool_model.specs.declared.step.Step.{Step}
 use Rattle.pool_slots.specs.Commits.{AreAt}
 use Rattle.pool_slots.specs.Configs.{LeavesConfigured, of_config}
 use Rattle.pool_slots.specs.Labels.{IsShownAs}
@@ -29,11 +25,10 @@ use Rattle.pool_slots.specs.Opens.{CanOpen, IsHighestShown, IsRead}
 use Rattle.pool_slots.specs.Possible.{IsInReach, IsPossible, Possible, Trees}
 use Rattle.pool_slots.specs.Relabels.{IsRelabeled}
 use Rattle.pool_slots.specs.Slots.{InUse, IsOutOfReach}
-use Rattle.pool_stops.specs.Configured.{CreatedPoolsAreConfigured, ExportsStayConfigured, HoldConfigured, OpenedPoolsAreConfigured, OpensStayConfigured, RunsStayConfigured, ShowsConfigured, StayConfigured, StepsStayConfigured}
-use Rattle.pool_stops.specs.Running.{IsBetween, IsRunning, IsWhole, RunningPoolsStepOn, StandAt}
-use Rattle.pool_stops.proofs.Labels.{kept_byte, same_starts}
+use Rattle.pool_stops.specs.Configured.{CreatedPoolsAreConfigured, ExportsStayConfigured, HoldConfigured, OpenedPoolsAreConfigured, OpensStayConfigured, ShowsConfigured, StayConfigured}
+use Rattle.pool_stops.specs.Running.{IsBetween, IsWhole, StandAt}
+use Rattle.pool_stops.proofs.Labels.{kept_byte}
 use Rattle.pool_stops.proofs.Reopening.{is_planned_so}
-use Rattle.pool_stops.proofs.Runs.{none_before, none_was_out}
 use Rattle.pool_stops.proofs.Steps.{same_flags, used_below}
 
 -- ---- pools that were just made
@@ -148,10 +143,10 @@ exports_stay_configured core v last before u new runs begun shows =
           record { number = 0; even = inl refl; label = it.0; shown = it.1.shown; has = it.2 };
     })
 
--- ---- runs
+-- ---- steps
 
 -- with the same disks out
-shows_still : (old new : State) (digest : List ℕ) → IsWhole old → IsWhole new → new.store.disks.starts ≡ old.store.disks.starts
+pub shows_still : (old new : State) (digest : List ℕ) → IsWhole old → IsWhole new → new.store.disks.starts ≡ old.store.disks.starts
     → EachSince (length old.store.disks.calls) (HoldConfigured old.store.out old.store.disks.starts digest) new.store.disks.calls → ShowsConfigured new digest
 shows_still old new digest whole also starts each =
     let count : length new.store.out ≡ length old.store.out = also.count ∙ ap length starts ∙ sym whole.count in
@@ -159,35 +154,3 @@ shows_still old new digest whole also starts each =
     subst (λ (them : List Bool). HoldConfigured them new.store.disks.starts digest new.store.disks.calls) (sym out)
     (subst (λ (them : List (List ℕ)). HoldConfigured old.store.out them digest new.store.disks.calls) (sym starts)
     (each new.store.disks.calls (record { newer = []; is = refl; since = inl refl })))
-
--- a pool that runs, with its configuration shown
-record RunsShown (core : CoreState) (v : View) (digest : List ℕ) : Type 0 where
-  pub last : Uberblock
-  pub before : List Uberblock
-  pub runs : IsRunning core v last before
-  pub shows : ShowsConfigured core.commit digest
-
-chain_shows : RunningPoolsStepOn → StepsStayConfigured → (old : CoreState) (v : View) (steps : List Step) (givens : List Given) (replies : List Reply)
-    (mid : CoreState) (between : View) (last : Uberblock) (before : List Uberblock) (digest : List ℕ) → IsRunning old v last before → Chain old v steps givens replies mid between
-    → NoneIsOut mid.commit → ShowsConfigured old.commit digest → RunsShown mid between digest
-chain_shows law stay old v [] [] [] mid between last before digest runs chain none shows = record {
-  last = last;
-  before = before;
-  runs = subst (λ (p : CoreState × View). IsRunning p.0 p.1 last before) (λ i. (chain.0 i, chain.1 i)) runs;
-  shows = subst (λ (core : CoreState). ShowsConfigured core.commit digest) chain.0 shows;
-}
-chain_shows law stay old v (step ∷ steps) (given ∷ givens) (reply ∷ replies) mid between last before digest runs chain none shows =
-    let one = law old chain.0 v chain.1 step given reply last before runs chain.3 chain.4
-    (none_before chain.0 chain.1 steps givens replies mid between chain.5 none) in
-    let each = stay old.commit chain.0.commit v step digest runs.whole runs.represents.backs chain.4 shows in
-    chain_shows law stay chain.0 chain.1 steps givens replies mid between one.later one.earlier digest one.runs chain.5 none
-    (shows_still old.commit chain.0.commit digest runs.whole one.runs.whole (same_starts step old.commit chain.0.commit chain.4) each)
-chain_shows law stay old v steps givens replies mid between last before digest runs chain none shows = absurd chain
-
-pub runs_stay_configured : RunningPoolsStepOn → StepsStayConfigured → RunsStayConfigured
-runs_stay_configured law stay old mid new v between w steps replies step reply last before digest runs end none shows =
-    let was : NoneIsOut mid.commit = none_was_out step mid.commit new.commit end.moves none in
-    let led = chain_shows law stay old v steps end.givens replies mid between last before digest runs end.before was shows in
-    let each = stay mid.commit new.commit between step digest led.runs.whole led.runs.represents.backs end.moves led.shows in
-    let on = law mid new between w step end.given reply led.last led.before led.runs end.link end.moves none in
-    (each, shows_still mid.commit new.commit digest led.runs.whole on.runs.whole (same_starts step mid.commit new.commit end.moves) each)

@@ -16,3 +16,4 @@ pub mod Lost
 pub mod Unhindered
 pub mod Labels
 pub mod LabelStops
+pub mod OneConfigs

@@ -113,7 +113,7 @@ claimed_tree trees starts shapes out taken u pool is tree =
       held = λ disks same stands. tree.held disks same (subst (λ (b : Block). TreeStands trees out (content disks) b) root stands);
     }
 
-reach_behind : (p : Possible) (u w : Uberblock) → IsInReach (also_begun u p) w → (w ≡ u) ⊎ IsInReach p w
+pub reach_behind : (p : Possible) (u w : Uberblock) → IsInReach (also_begun u p) w → (w ≡ u) ⊎ IsInReach p w
 reach_behind p u w (inr before) = inr (inr before)
 reach_behind p u w (inl among) = ⊎_elim
     (λ same. inr (inl (0, omega arith, sym same)))

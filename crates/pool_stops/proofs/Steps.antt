@@ -290,6 +290,7 @@ read_steps old new v w step given reply last before laws runs link reads rest =
     record {
       later = last;
       earlier = before;
+      next = inl (refl, refl);
       runs = runs_still old new v w step given reply last before runs link
           (whole_still old.commit new.commit runs.whole none (ap (λ s. length s.store.out) rest) reads.starts (ap (λ s. shapes_of s.store.spaces) rest))
           (ap (λ s. s.stamp) rest) (ap (λ s. s.kept) rest) (subst (λ (s : State). StandAt s s.planned last before) (sym rest) went.0);
@@ -347,6 +348,7 @@ plans_on old new v w step given reply last before laws runs link plans =
     record {
       later = last;
       earlier = before;
+      next = inl (refl, refl);
       runs = runs_still old new v w step given reply last before runs link
           (whole_still old.commit new.commit runs.whole none (ap length from.out) plans.reads.starts from.shapes) from.stamp from.kept
           (plan_stands old v new.commit last before new.commit.planned runs from refl went.0 settled);
@@ -368,6 +370,7 @@ goes_on old new v w step given reply plan after last before laws runs link write
     record {
       later = last;
       earlier = before;
+      next = inl (refl, refl);
       runs = runs_still old new v w step given reply last before runs link
           (whole_still old.commit new.commit runs.whole none writes.out.count (writes.makes plan is).starts writes.shapes) writes.stamp (writes.stays plan after is still)
           (subst (λ (o : Option Planned). StandAt new.commit o last before) (sym still) went.0);

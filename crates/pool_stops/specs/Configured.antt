@@ -9,13 +9,12 @@ use Rattle.uberblock_ring.specs.declared.uberblock.Uberblock.{Uberblock}
 use Rattle.vdev_label.specs.Plain.{PlainLabel}
 use Rattle.vdev_label.specs.declared.label.Config.{Config}
 use Rattle.pool_commit.specs.Backs.{Backs}
-use Rattle.pool_commit.specs.State.{NoneIsOut, State}
+use Rattle.pool_commit.specs.State.{State}
 use Rattle.pool_core.specs.Moves.{Moves}
 use Rattle.pool_core.specs.State.{CoreState, disks_of}
 use Rattle.pool_create.specs.Creating.{IsCreated}
 use Rattle.pool_format.specs.declared.labeling.PoolIdentity.{PoolIdentity}
 use Rattle.pool_model.specs.View.{View}
-use Rattle.pool_model.specs.declared.step.Reply.{Reply}
 use Rattle.pool_model.specs.declared.step.Step.{Step}
 use Rattle.pool_open.specs.Exporting.{IsExportBegun}
 use Rattle.pool_open.specs.Opening.{IsKeptThrough, IsOpenedOver}
@@ -25,7 +24,7 @@ use Rattle.pool_slots.specs.Labels.{IsLabelShown, area_place}
 use Rattle.pool_slots.specs.Opens.{CanOpen}
 use Rattle.pool_slots.specs.Possible.{IsInReach, Possible, Trees}
 use Rattle.pool_slots.specs.Slots.{AreThere, InUse}
-use Rattle.pool_stops.specs.Running.{IsLastStep, IsRunning, IsWhole}
+use Rattle.pool_stops.specs.Running.{IsRunning, IsWhole}
 
 -- ---- what labels show
 
@@ -79,15 +78,6 @@ abbrev pub StepsStayConfigured : Type 0
 StepsStayConfigured =
     (old new : State) (v : View) (step : Step) (digest : List ℕ) → IsWhole old → Backs old v → Moves step old new → ShowsConfigured old digest
     → EachSince (length old.store.disks.calls) (HoldConfigured old.store.out old.store.disks.starts digest) new.store.disks.calls
-
--- So it is of each step of a run, where no disk is out by the end of that step.
-abbrev pub RunsStayConfigured : Type 0
-RunsStayConfigured =
-    (old mid new : CoreState) (v between w : View) (steps : List Step) (replies : List Reply) (step : Step) (reply : Reply) (last : Uberblock)
-    (before : List Uberblock) (digest : List ℕ) → IsRunning old v last before → IsLastStep old mid new v between w steps replies step reply
-    → NoneIsOut new.commit → ShowsConfigured old.commit digest
-    → EachSince (length (disks_of mid).calls) (HoldConfigured mid.commit.store.out (disks_of mid).starts digest) (disks_of new).calls
-    × ShowsConfigured new.commit digest
 
 -- the disks of a pool that was just made show its configuration
 abbrev pub CreatedPoolsAreConfigured : Type 0

@@ -6,3 +6,4 @@ pub mod Reopening
 pub mod Created
 pub mod Unhindered
 pub mod Configured
+pub mod OneConfig

@@ -1,5 +1,5 @@
 -- A pool that runs, with no disk out: where its disks stand between two steps, and what they lead to wherever a step is stopped.
-use Rattle.std.specs.Prelude.{ℕ, suc, ◌≡◌, ◌⊎◌, ◌<◌, ◌==◌, if◌then◌else◌, List, length, Option, Some, None, Contains}
+use Rattle.std.specs.Prelude.{ℕ, suc, ◌≡◌, ◌⊎◌, ◌<◌, ◌==◌, if◌then◌else◌, List, ◌∷◌, length, Option, Some, None, Contains}
 use Rattle.model_disk.specs.Joint.{Disks}
 use Rattle.block_store.specs.Places.{shapes_of}
 use Rattle.uberblock_ring.specs.declared.uberblock.Uberblock.{Uberblock}
@@ -86,10 +86,16 @@ pub record StopsAt (s : State) (v : View) (new : Disks) (last : Uberblock) (befo
 
 -- ---- laws
 
+-- behind the step the last uberblock is the same, or the plan's behind it
+abbrev pub IsNextOf : State → Uberblock → List Uberblock → Uberblock → List Uberblock → Type 0
+IsNextOf s last before later earlier =
+    ((later ≡ last) × (earlier ≡ before)) ⊎ ((plan : Planned) × (s.planned ≡ Some plan) × (later ≡ plan.uberblock) × (earlier ≡ last ∷ before))
+
 -- A step of a pool that runs, where no disk goes out, is stopped well; and the pool runs on.
 pub record StepsOn (old : CoreState) (v : View) (new : CoreState) (w : View) (last : Uberblock) (before : List Uberblock) : Type 0 where
   pub later : Uberblock
   pub earlier : List Uberblock
+  pub next : IsNextOf old.commit last before later earlier
   pub runs : IsRunning new w later earlier
   pub stops : StopsAt old.commit v (disks_in new) last before
 

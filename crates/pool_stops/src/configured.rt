@@ -3,10 +3,11 @@
 ghost use Rattle.pool_stops.specs.Configured.{CreatedPoolsAreConfigured, ExportsStayConfigured};
 ghost use Rattle.pool_stops.specs.Configured.{HeldLabelsAreLeft, HeldLabelsStayHeld};
 ghost use Rattle.pool_stops.specs.Configured.{LeftDisksAreConfigured, OpenedPoolsAreConfigured};
-ghost use Rattle.pool_stops.specs.Configured.{OpensStayConfigured, RunsStayConfigured};
-ghost use Rattle.pool_stops.specs.Configured.{StepsStayConfigured};
+ghost use Rattle.pool_stops.specs.Configured.{OpensStayConfigured, StepsStayConfigured};
+ghost use Rattle.pool_stops.specs.OneConfig.{CreatedPoolsRunAs, OpenedPoolsRunAs, RunsStopAs};
+ghost use Rattle.pool_stops.specs.OneConfig.{StoppedOpensAreOfConfig, StoppedRunsShowConfig};
 
-use crate::laws::running_pools_step_on;
+use crate::laws::{created_pools_run, led_disks_open, running_pools_step_on};
 
 /// Labels that are flushed show after a stop what they showed before.
 pub fn held_labels_are_left()
@@ -28,14 +29,6 @@ pub fn steps_stay_configured()
     ensures { StepsStayConfigured }
 {}
 
-/// Nor does any step of a run.
-pub fn runs_stay_configured()
-    ensures { RunsStayConfigured }
-{
-    running_pools_step_on();
-    steps_stay_configured();
-}
-
 /// A pool that was just made has its configuration in each label.
 pub fn created_pools_are_configured()
     ensures { CreatedPoolsAreConfigured }
@@ -54,4 +47,36 @@ pub fn opened_pools_are_configured()
 /// Wherever an export is stopped.
 pub fn exports_stay_configured()
     ensures { ExportsStayConfigured }
+{}
+
+/// A pool of one configuration runs on as one, and all that its disks lead to has it, wherever a step is stopped.
+pub fn runs_stop_as()
+    ensures { RunsStopAs }
+{
+    running_pools_step_on();
+    steps_stay_configured();
+}
+
+/// So what is left shows the configuration of whatever an open of it may come to.
+pub fn stopped_runs_show_config()
+    ensures { StoppedRunsShowConfig }
+{}
+
+/// A pool that was just made is of one.
+pub fn created_pools_run_as()
+    ensures { CreatedPoolsRunAs }
+{
+    created_pools_run();
+}
+
+/// So is one that was opened from disks that lead to one.
+pub fn opened_pools_run_as()
+    ensures { OpenedPoolsRunAs }
+{
+    led_disks_open();
+}
+
+/// And so are the disks wherever that is stopped.
+pub fn stopped_opens_are_of_config()
+    ensures { StoppedOpensAreOfConfig }
 {}

@@ -6,9 +6,10 @@ mod configured;
 mod laws;
 
 pub use configured::{
-    created_pools_are_configured, exports_stay_configured, held_labels_are_left,
-    held_labels_stay_held, left_disks_are_configured, opened_pools_are_configured,
-    opens_stay_configured, runs_stay_configured, steps_stay_configured,
+    created_pools_are_configured, created_pools_run_as, exports_stay_configured,
+    held_labels_are_left, held_labels_stay_held, left_disks_are_configured,
+    opened_pools_are_configured, opened_pools_run_as, opens_stay_configured, runs_stop_as,
+    steps_stay_configured, stopped_opens_are_of_config, stopped_runs_show_config,
 };
 pub use laws::{
     backed_plans_are_good, blocks_are_filled, blocks_keep_what_is_filled, commits_end_filled,

@@ -1,0 +1,199 @@
+-- Pools that run with one configuration.
+use Rattle.std.proofs.Common.{◌≡◌, ⊎_elim, inl, inr, ℕ, Bool, List, [], ◌∷◌, length, Option, Some, sym, ap, subst, ◌∙◌, arith}
+use Rattle.model_disk.specs.Runs.{EachSince}
+use Rattle.uberblock_ring.specs.declared.uberblock.Uberblock.{Uberblock}
+use Rattle.pool_commit.specs.Backs.{Backs, HasPlan, IsPlanOf}
+use Rattle.pool_commit.specs.State.{NoneIsOut, State}
+use Rattle.pool_commit.specs.declared.kept.Planned.{Planned}
+use Rattle.pool_core.specs.Moves.{Moves}
+use Rattle.pool_core.specs.Runs.{Chain}
+use Rattle.pool_core.specs.State.{CoreState, disks_of}
+use Rattle.pool_core.specs.Steps.{Link}
+use Rattle.pool_model.specs.View.{Given, View}
+use Rattle.pool_model.specs.declared.step.Reply.{Reply}
+use Rattle.pool_model.specs.declared.step.Step.{Step}
+use Rattle.pool_model.specs.declared.step.Step.TheVariants.{Hold, Write, Act, Release, Close, Quiesce, Plan, Device, Read, ReadUnder}
+use Rattle.pool_slots.specs.Commits.{only_last}
+use Rattle.pool_slots.specs.Opens.{CanOpen, IsClaimOf}
+use Rattle.pool_slots.specs.Possible.{Possible}
+use Rattle.pool_slots.specs.Slots.{AreThere}
+use Rattle.pool_stops.specs.Configured.{HoldConfigured, ShowsConfigured, StepsStayConfigured}
+use Rattle.pool_stops.specs.Created.{CreatedPoolsRun}
+use Rattle.pool_stops.specs.OneConfig.{AreOfConfig, CreatedPoolsRunAs, IsRunningAs, OpenedPoolsRunAs, RunsStopAs, StoppedOpensAreOfConfig, StoppedRunsShowConfig}
+use Rattle.pool_stops.specs.Reopening.{LedDisksOpen}
+use Rattle.pool_stops.specs.Running.{IsNextOf, IsPossibleOf, RunningPoolsStepOn, StepsOn}
+use Rattle.pool_stops.proofs.LabelStops.{created_pools_are_configured, opened_pools_are_configured, shows_still}
+use Rattle.pool_stops.proofs.Labels.{held_labels_are_left, same_starts}
+use Rattle.pool_stops.proofs.Reopening.{alone, reach_behind}
+use Rattle.pool_stops.proofs.Runs.{none_before, none_was_out}
+use Rattle.pool_stops.proofs.Steps.{first_or, good, is_last_or_before, last_in_reach, used_below}
+
+-- ---- the configuration of uberblocks
+
+same_stamp : (step : Step) (old new : State) → Moves step old new → new.stamp ≡ old.stamp
+same_stamp (Hold x) old new moves = ap (λ s. s.stamp) moves
+same_stamp (Write x) old new moves = ap (λ s. s.stamp) moves
+same_stamp (Act x) old new moves = ap (λ s. s.stamp) moves
+same_stamp (Release x) old new moves = ap (λ s. s.stamp) moves
+same_stamp Close old new moves = ap (λ s. s.stamp) moves
+same_stamp Quiesce old new moves = ap (λ s. s.stamp) moves
+same_stamp (Plan t) old new moves = ⊎_elim (λ same. ap (λ s. s.stamp) same) (λ plans. plans.from.stamp) moves
+same_stamp Device old new moves = ⊎_elim (λ same. ap (λ s. s.stamp) same) (λ writes. writes.stamp) moves
+same_stamp (Read a b c) old new moves = ap (λ s. s.stamp) moves.rest
+same_stamp (ReadUnder g a b c) old new moves = ap (λ s. s.stamp) moves.rest
+
+-- a plan's uberblock has that of the stamp
+planned_config : (digest : List ℕ) (old : CoreState) (v : View) (last : Uberblock) (before : List Uberblock) (plan : Planned)
+    → IsRunningAs digest old v last before → old.commit.planned ≡ Some plan → plan.uberblock.config_digest ≡ digest
+planned_config digest old v last before plan so is =
+    let s : State = old.commit in
+    let backs : Backs s v = so.runs.represents.backs in
+    let has : HasPlan s backs.blocks.planned plan v = subst (λ (o : Option Planned). IsPlanOf s backs.blocks.planned o v) is backs.blocks.plan in
+    ap (λ (u : Uberblock). u.config_digest) has.uberblock.is ∙ so.stamped
+
+-- so has all that an open may come to behind the next group
+behind_plan : (digest : List ℕ) (old : CoreState) (v : View) (last : Uberblock) (before : List Uberblock) (plan : Planned)
+    → IsRunningAs digest old v last before → old.commit.planned ≡ Some plan → AreOfConfig digest (only_last plan.uberblock (last ∷ before))
+behind_plan digest old v last before plan so is u reach =
+    let next = (good old v plan last before so.runs is).next in
+    ⊎_elim
+    (λ same. ap (λ (x : Uberblock). x.config_digest) same ∙ planned_config digest old v last before plan so is)
+    (λ earlier. ⊎_elim
+    (λ same. ap (λ (x : Uberblock). x.config_digest) same ∙ so.one last (last_in_reach last before))
+    (λ among.
+    let claim : u.claim ≡ last.claim = earlier.claim ∙ next.0 in
+    let low = so.runs.lower u among claim in
+    so.one u (inr (record { among = among; claim = claim; lower = low; near = omega (arith, next.1, earlier.near) })))
+    (first_or last before u earlier.among))
+    (is_last_or_before plan.uberblock (last ∷ before) u reach)
+
+behind_step : (digest : List ℕ) (old : CoreState) (v : View) (last : Uberblock) (before : List Uberblock) (later : Uberblock) (earlier : List Uberblock)
+    → IsRunningAs digest old v last before → IsNextOf old.commit last before later earlier → AreOfConfig digest (only_last later earlier)
+behind_step digest old v last before later earlier so (inl (last_is, before_is)) =
+    subst (λ (u : Uberblock). AreOfConfig digest (only_last u earlier)) (sym last_is)
+    (subst (λ (us : List Uberblock). AreOfConfig digest (only_last last us)) (sym before_is) so.one)
+behind_step digest old v last before later earlier so (inr (plan, is, last_is, before_is)) =
+    subst (λ (u : Uberblock). AreOfConfig digest (only_last u earlier)) (sym last_is)
+    (subst (λ (us : List Uberblock). AreOfConfig digest (only_last plan.uberblock us)) (sym before_is) (behind_plan digest old v last before plan so is))
+
+-- and all that the disks lead to within a step
+within_step : (digest : List ℕ) (old : CoreState) (v : View) (last : Uberblock) (before : List Uberblock) (p : Possible) → IsRunningAs digest old v last before
+    → IsPossibleOf old.commit last before p → AreOfConfig digest p
+within_step digest old v last before p so (inl is) = subst (λ (q : Possible). AreOfConfig digest q) (sym is) so.one
+within_step digest old v last before p so (inr (plan, planned, is)) =
+    subst (λ (q : Possible). AreOfConfig digest q) (sym is)
+    (λ u reach. ⊎_elim
+    (λ among. ⊎_elim
+    (λ same. ap (λ (x : Uberblock). x.config_digest) same ∙ so.one last (last_in_reach last before))
+    (λ rest. ⊎_elim
+    (λ same. ap (λ (x : Uberblock). x.config_digest) same ∙ planned_config digest old v last before plan so planned)
+    (λ none. absurd (omega (arith, none.1)))
+    (first_or plan.uberblock [] u rest))
+    (first_or last (plan.uberblock ∷ []) u among))
+    (λ is_before. so.one u (inr is_before)) reach)
+
+-- ---- steps and runs
+
+record StepsAs (digest : List ℕ) (old : CoreState) (v : View) (new : CoreState) (w : View) (last : Uberblock) (before : List Uberblock) : Type 0 where
+  pub on : StepsOn old v new w last before
+  pub held : EachSince (length (disks_of old).calls) (HoldConfigured old.commit.store.out (disks_of old).starts digest) (disks_of new).calls
+  pub so : IsRunningAs digest new w on.later on.earlier
+
+steps_as : RunningPoolsStepOn → StepsStayConfigured → (digest : List ℕ) (old new : CoreState) (v w : View) (step : Step) (given : Given) (reply : Reply)
+    (last : Uberblock) (before : List Uberblock) → IsRunningAs digest old v last before → Link old v step given reply new w
+    → Moves step old.commit new.commit → NoneIsOut new.commit → StepsAs digest old v new w last before
+steps_as law stay digest old new v w step given reply last before so link moves none =
+    let on = law old new v w step given reply last before so.runs link moves none in
+    let held = stay old.commit new.commit v step digest so.runs.whole so.runs.represents.backs moves so.shows in
+    record {
+      on = on;
+      held = held;
+      so = record {
+        runs = on.runs;
+        stamped = ap (λ st. st.config_digest) (same_stamp step old.commit new.commit moves) ∙ so.stamped;
+        one = behind_step digest old v last before on.later on.earlier so on.next;
+        shows = shows_still old.commit new.commit digest so.runs.whole on.runs.whole (same_starts step old.commit new.commit moves) held;
+      };
+    }
+
+-- a chain of steps
+record RunsAs (digest : List ℕ) (core : CoreState) (v : View) : Type 0 where
+  pub last : Uberblock
+  pub before : List Uberblock
+  pub so : IsRunningAs digest core v last before
+
+chain_as : RunningPoolsStepOn → StepsStayConfigured → (digest : List ℕ) (old : CoreState) (v : View) (steps : List Step) (givens : List Given)
+    (replies : List Reply) (mid : CoreState) (between : View) (last : Uberblock) (before : List Uberblock) → IsRunningAs digest old v last before
+    → Chain old v steps givens replies mid between → NoneIsOut mid.commit → RunsAs digest mid between
+chain_as law stay digest old v [] [] [] mid between last before so chain none = record {
+  last = last;
+  before = before;
+  so = subst (λ (p : CoreState × View). IsRunningAs digest p.0 p.1 last before) (λ i. (chain.0 i, chain.1 i)) so;
+}
+chain_as law stay digest old v (step ∷ steps) (given ∷ givens) (reply ∷ replies) mid between last before so chain none =
+    let one = steps_as law stay digest old chain.0 v chain.1 step given reply last before so chain.3 chain.4
+    (none_before chain.0 chain.1 steps givens replies mid between chain.5 none) in
+    chain_as law stay digest chain.0 chain.1 steps givens replies mid between one.on.later one.on.earlier one.so chain.5 none
+chain_as law stay digest old v steps givens replies mid between last before so chain none = absurd chain
+
+pub runs_stop_as : RunningPoolsStepOn → StepsStayConfigured → RunsStopAs
+runs_stop_as law stay old mid new v between w steps replies step reply last before digest so end none =
+    let was : NoneIsOut mid.commit = none_was_out step mid.commit new.commit end.moves none in
+    let led = chain_as law stay digest old v steps end.givens replies mid between last before so end.before was in
+    let last_step = steps_as law stay digest mid new between w step end.given reply led.last led.before led.so end.link end.moves none in
+    record {
+      at = record { last = led.last; earlier = led.before; runs = led.so.runs; steps = last_step.on };
+      one = within_step digest mid between led.last led.before last_step.on.stops.p led.so last_step.on.stops.which;
+      held = last_step.held;
+      on = last_step.so;
+    }
+
+pub stopped_runs_show_config : StoppedRunsShowConfig
+stopped_runs_show_config digest mid between new w images u which stops leaves reach used =
+    let s : State = mid.commit in
+    let there : AreThere s.store.out s.store.disks.starts = λ disk in_use. omega (arith, used_below s.store.out disk in_use, stops.at.runs.whole.count) in
+    let held = stops.held leaves.calls leaves.moment in
+    let it = held_labels_are_left s.store.out s.store.disks.starts digest leaves.calls there held images leaves.left which used in
+    record {
+      number = it.number;
+      label = it.label;
+      shown = record { is_label = it.shown.is_label; valid = it.shown.valid; bytes = λ i below. it.shown.bytes i below };
+      config = it.config ∙ sym (stops.one u reach);
+    }
+
+-- ---- where runs begin
+
+pub created_pools_run_as : CreatedPoolsRun → CreatedPoolsRunAs
+created_pools_run_as law old pool config u core is known honest some few = record {
+  runs = law old pool config u core is known honest some few;
+  stamped = ap (λ st. st.config_digest) is.stamped;
+  one = λ w reach. ap (λ (x : Uberblock). x.config_digest) (alone u w reach);
+  shows = created_pools_are_configured old pool config u core is;
+}
+
+claim_config : (digest : List ℕ) (p : Possible) (rewind : ℕ) (u : Uberblock) → AreOfConfig digest p → IsClaimOf p rewind u → u.config_digest ≡ digest
+claim_config digest p rewind u one claim = ap (λ (x : Uberblock). x.config_digest) claim.is ∙ one claim.taken claim.reached
+
+pub opened_pools_run_as : LedDisksOpen → OpenedPoolsRunAs
+opened_pools_run_as law old shapes out rewind p pools claimed core digest one led is all none few honest =
+    let well = law old shapes out rewind p pools claimed core led is all none few honest in
+    let same : claimed.config_digest ≡ digest = claim_config digest p rewind claimed one well.opened.claim in
+    let can : CanOpen led.trees is.later old p = subst (λ (flags : List Bool). CanOpen led.trees flags old p) (sym all) led.can in
+    record {
+      well = well;
+      runs = record {
+        runs = well.runs;
+        stamped = ap (λ st. st.config_digest) is.stamped ∙ same;
+        one = λ w reach. ap (λ (x : Uberblock). x.config_digest) (alone claimed w reach) ∙ same;
+        shows = subst (λ (d : List ℕ). ShowsConfigured core.commit d) same
+            (opened_pools_are_configured led.trees old shapes out rewind p claimed core is can honest);
+      };
+    }
+
+pub stopped_opens_are_of_config : StoppedOpensAreOfConfig
+stopped_opens_are_of_config p later rewind digest one (inl same) = subst (λ (q : Possible). AreOfConfig digest q) (sym same) one
+stopped_opens_are_of_config p later rewind digest one (inr (u, claim, same)) =
+    subst (λ (q : Possible). AreOfConfig digest q) (sym same)
+    (λ w reach. ⊎_elim
+    (λ is. ap (λ (x : Uberblock). x.config_digest) is ∙ claim_config digest p rewind u one claim)
+    (λ was. one w was) (reach_behind p u w reach))

@@ -1,0 +1,92 @@
+-- Pools that run with one configuration: each label shows it, and each uberblock that an open may come to has it.
+use Rattle.std.specs.Prelude.{ℕ, ◌≡◌, ◌<◌, ◌≤◌, ◌^◌, Bool, false, List, [], length}
+use Rattle.model_disk.specs.Joint.{Disks, bytes_of, content}
+use Rattle.model_disk.specs.Runs.{EachSince}
+use Rattle.raidz_io.specs.Reads.{IsHonestSince}
+use Rattle.block_store.specs.Store.{is_out}
+use Rattle.block_store.specs.declared.shape.VdevShape.{VdevShape}
+use Rattle.uberblock_ring.specs.declared.uberblock.Uberblock.{Uberblock}
+use Rattle.vdev_label.specs.declared.label.Config.{Config}
+use Rattle.pool_commit.specs.State.{NoneIsOut}
+use Rattle.pool_core.specs.State.{CoreState, disks_of}
+use Rattle.pool_create.specs.Creating.{IsCreated}
+use Rattle.pool_create.specs.Planning.{nobody}
+use Rattle.pool_format.specs.declared.labeling.PoolIdentity.{PoolIdentity}
+use Rattle.pool_model.specs.Pools.{PlainPool, no_volumes}
+use Rattle.pool_model.specs.View.{View, opened_as}
+use Rattle.pool_model.specs.declared.step.Reply.{Reply}
+use Rattle.pool_model.specs.declared.step.Step.{Step}
+use Rattle.pool_open.specs.Opening.{IsOpenedOver}
+use Rattle.pool_open.specs.Stops.{fresh}
+use Rattle.pool_open.specs.Words.{vdevs_in}
+use Rattle.pool_slots.specs.Commits.{only_last}
+use Rattle.pool_slots.specs.Configs.{IsConfigured}
+use Rattle.pool_slots.specs.Opens.{AreKnown}
+use Rattle.pool_slots.specs.Possible.{IsInReach, Possible}
+use Rattle.pool_slots.specs.Slots.{InUse}
+use Rattle.pool_stops.specs.Configured.{HoldConfigured, ShowsConfigured}
+use Rattle.pool_stops.specs.Reopening.{IsOpenedWell, IsPossibleBehind, LeadToPools, LeavesImages}
+use Rattle.pool_stops.specs.Running.{IsLastStep, IsRunning, RunStopsAt}
+
+-- each uberblock that an open may come to has the configuration of this digest
+abbrev pub AreOfConfig : List ℕ → Possible → Type 0
+AreOfConfig digest p = (u : Uberblock) → IsInReach p u → u.config_digest ≡ digest
+
+-- The pool runs, with the committed group's uberblock behind those. Whatever an open may come to has the configuration, so will uberblocks to come, and
+-- each label shows it.
+pub record IsRunningAs (digest : List ℕ) (s : CoreState) (v : View) (last : Uberblock) (before : List Uberblock) : Type 0 where
+  pub runs : IsRunning s v last before
+  pub stamped : s.commit.stamp.config_digest ≡ digest
+  pub one : AreOfConfig digest (only_last last before)
+  pub shows : ShowsConfigured s.commit digest
+
+-- The last step of a run is stopped well: whatever the disks lead to has the configuration, and each label holds it at each moment. The pool runs on so.
+pub record RunStopsAs (digest : List ℕ) (mid : CoreState) (between : View) (new : CoreState) (w : View) : Type 0 where
+  pub at : RunStopsAt mid between new w
+  pub one : AreOfConfig digest at.steps.stops.p
+  pub held : EachSince (length (disks_of mid).calls) (HoldConfigured mid.commit.store.out (disks_of mid).starts digest) (disks_of new).calls
+  pub on : IsRunningAs digest new w at.steps.later at.steps.earlier
+
+-- ---- laws
+
+-- So it is of each step of a run of such a pool, as long as no disk is out by its end.
+abbrev pub RunsStopAs : Type 0
+RunsStopAs =
+    (old mid new : CoreState) (v between w : View) (steps : List Step) (replies : List Reply) (step : Step) (reply : Reply) (last : Uberblock)
+    (before : List Uberblock) (digest : List ℕ) → IsRunningAs digest old v last before → IsLastStep old mid new v between w steps replies step reply
+    → NoneIsOut new.commit → RunStopsAs digest mid between new w
+
+-- What a stop in such a step leaves shows, on each disk in use, the configuration of each uberblock that an open may come to.
+abbrev pub StoppedRunsShowConfig : Type 0
+StoppedRunsShowConfig =
+    (digest : List ℕ) (mid : CoreState) (between : View) (new : CoreState) (w : View) (images : List (List ℕ)) (u : Uberblock) (which : ℕ)
+    → (stops : RunStopsAs digest mid between new w) → LeavesImages mid.commit.store.out (disks_of mid) (disks_of new) images
+    → IsInReach stops.at.steps.stops.p u → InUse mid.commit.store.out which
+    → IsConfigured (length (bytes_of images which)) (content (fresh images) which) u.config_digest
+
+-- a pool that was just made is one
+abbrev pub CreatedPoolsRunAs : Type 0
+CreatedPoolsRunAs =
+    (old : Disks) (pool : PoolIdentity) (config : Config) (u : Uberblock) (core : CoreState) → (is : IsCreated old pool config u core)
+    → AreKnown (nobody old.starts) old → IsHonestSince old (disks_of core) → 0 < length old.starts → length old.starts ≤ 2 ^ 64
+    → IsRunningAs u.config_digest core (opened_as (vdevs_in is.shapes) (is_out (nobody old.starts)) 3 no_volumes) u []
+
+-- such a pool was opened, well
+pub record IsOpenedAs (digest : List ℕ) (p : Possible) (pools : Uberblock → PlainPool) (shapes : List VdevShape) (out : List Bool) (rewind : ℕ)
+    (claimed : Uberblock) (core : CoreState) : Type 0 where
+  pub well : IsOpenedWell p pools shapes out rewind claimed core
+  pub runs : IsRunningAs digest core
+      (opened_as (vdevs_in shapes) (is_out out) well.opened.claim.taken.group (pools well.opened.claim.taken)) claimed []
+
+-- a pool that was opened with no disk out is one, if whatever the disks lead to has the configuration
+abbrev pub OpenedPoolsRunAs : Type 0
+OpenedPoolsRunAs =
+    (old : Disks) (shapes : List VdevShape) (out : List Bool) (rewind : ℕ) (p : Possible) (pools : Uberblock → PlainPool) (claimed : Uberblock)
+    (core : CoreState) (digest : List ℕ) → AreOfConfig digest p → LeadToPools old shapes out p pools → (is : IsOpenedOver old shapes out rewind claimed core)
+    → is.later ≡ out → ((disk : ℕ) → is_out out disk ≡ false) → length old.starts ≤ 2 ^ 64 → IsHonestSince old (disks_of core)
+    → IsOpenedAs digest p pools shapes out rewind claimed core
+
+-- and then what is possible behind a stop in that open has it too
+abbrev pub StoppedOpensAreOfConfig : Type 0
+StoppedOpensAreOfConfig =
+    (p later : Possible) (rewind : ℕ) (digest : List ℕ) → AreOfConfig digest p → IsPossibleBehind p rewind later → AreOfConfig digest later
