@@ -1,5 +1,6 @@
 -- Pools that run with one configuration.
 use Rattle.std.proofs.Common.{◌≡◌, ⊎_elim, inl, inr, ℕ, Bool, List, [], ◌∷◌, length, Option, Some, sym, ap, subst, ◌∙◌, arith}
+use Rattle.model_disk.specs.Joint.{bytes_of, content}
 use Rattle.model_disk.specs.Runs.{EachSince}
 use Rattle.uberblock_ring.specs.declared.uberblock.Uberblock.{Uberblock}
 use Rattle.pool_commit.specs.Backs.{Backs, HasPlan, IsPlanOf}
@@ -13,16 +14,18 @@ use Rattle.pool_model.specs.View.{Given, View}
 use Rattle.pool_model.specs.declared.step.Reply.{Reply}
 use Rattle.pool_model.specs.declared.step.Step.{Step}
 use Rattle.pool_model.specs.declared.step.Step.TheVariants.{Hold, Write, Act, Release, Close, Quiesce, Plan, Device, Read, ReadUnder}
+use Rattle.pool_open.specs.Stops.{fresh}
 use Rattle.pool_slots.specs.Commits.{only_last}
+use Rattle.pool_slots.specs.Configs.{IsConfigured}
 use Rattle.pool_slots.specs.Opens.{CanOpen, IsClaimOf}
-use Rattle.pool_slots.specs.Possible.{Possible}
+use Rattle.pool_slots.specs.Possible.{Possible, held_by}
 use Rattle.pool_slots.specs.Slots.{AreThere}
 use Rattle.pool_stops.specs.Configured.{HoldConfigured, ShowsConfigured, StepsStayConfigured}
 use Rattle.pool_stops.specs.Created.{CreatedPoolsRun}
-use Rattle.pool_stops.specs.OneConfig.{AreOfConfig, CreatedPoolsRunAs, IsRunningAs, OpenedPoolsRunAs, RunsStopAs, StoppedOpensAreOfConfig, StoppedRunsShowConfig}
+use Rattle.pool_stops.specs.OneConfig.{AreOfConfig, CreatedPoolsRunAs, IsRunningAs, OpenedPoolsRunAs, RunsStopAs, StoppedExportsShowConfig, StoppedOpensAreOfConfig, StoppedOpensShowConfig, StoppedRunsShowConfig}
 use Rattle.pool_stops.specs.Reopening.{LedDisksOpen}
 use Rattle.pool_stops.specs.Running.{IsNextOf, IsPossibleOf, RunningPoolsStepOn, StepsOn}
-use Rattle.pool_stops.proofs.LabelStops.{created_pools_are_configured, opened_pools_are_configured, shows_still}
+use Rattle.pool_stops.proofs.LabelStops.{created_pools_are_configured, exports_stay_configured, opened_pools_are_configured, opens_stay_configured, shows_still}
 use Rattle.pool_stops.proofs.Labels.{held_labels_are_left, same_starts}
 use Rattle.pool_stops.proofs.Reopening.{alone, reach_behind}
 use Rattle.pool_stops.proofs.Runs.{none_before, none_was_out}
@@ -148,18 +151,23 @@ runs_stop_as law stay old mid new v between w steps replies step reply last befo
       on = last_step.so;
     }
 
+-- images that show it show the same of an uberblock that has it
+shows_of : (images : List (List ℕ)) (which : ℕ) (digest other : List ℕ) → IsConfigured (length (bytes_of images which)) (held_by images which) digest
+    → other ≡ digest → IsConfigured (length (bytes_of images which)) (content (fresh images) which) other
+shows_of images which digest other it same = record {
+  number = it.number;
+  label = it.label;
+  shown = record { is_label = it.shown.is_label; valid = it.shown.valid; bytes = λ i below. it.shown.bytes i below };
+  config = it.config ∙ sym same;
+}
+
 pub stopped_runs_show_config : StoppedRunsShowConfig
 stopped_runs_show_config digest mid between new w images u which stops leaves reach used =
     let s : State = mid.commit in
     let there : AreThere s.store.out s.store.disks.starts = λ disk in_use. omega (arith, used_below s.store.out disk in_use, stops.at.runs.whole.count) in
     let held = stops.held leaves.calls leaves.moment in
     let it = held_labels_are_left s.store.out s.store.disks.starts digest leaves.calls there held images leaves.left which used in
-    record {
-      number = it.number;
-      label = it.label;
-      shown = record { is_label = it.shown.is_label; valid = it.shown.valid; bytes = λ i below. it.shown.bytes i below };
-      config = it.config ∙ sym (stops.one u reach);
-    }
+    shows_of images which digest u.config_digest it (stops.one u reach)
 
 -- ---- where runs begin
 
@@ -197,3 +205,17 @@ stopped_opens_are_of_config p later rewind digest one (inr (u, claim, same)) =
     (λ w reach. ⊎_elim
     (λ is. ap (λ (x : Uberblock). x.config_digest) is ∙ claim_config digest p rewind u one claim)
     (λ was. one w was) (reach_behind p u w reach))
+
+pub stopped_opens_show_config : StoppedOpensShowConfig
+stopped_opens_show_config digest old new shapes out rewind p later pools images u which few one led configured four kept honest leaves behind reach used =
+    let left = opens_stay_configured led.trees old new out rewind p digest few led.can one four kept honest configured leaves.calls leaves.moment in
+    shows_of images which digest u.config_digest (left images leaves.left which used) (stopped_opens_are_of_config p later rewind digest one behind u reach)
+
+-- ---- exports
+
+pub stopped_exports_show_config : StoppedExportsShowConfig
+stopped_exports_show_config digest core v last before exported new images u which so begun leaves reach used =
+    let same : exported.config_digest ≡ digest = ap (λ (x : Uberblock). x.config_digest) begun.last.is ∙ so.stamped in
+    let shows : ShowsConfigured core.commit exported.config_digest = subst (λ (d : List ℕ). ShowsConfigured core.commit d) (sym same) so.shows in
+    let left = exports_stay_configured core v last before exported new so.runs begun shows leaves.calls leaves.moment in
+    shows_of images which exported.config_digest u.config_digest (left images leaves.left which used) (so.one u reach ∙ sym same)

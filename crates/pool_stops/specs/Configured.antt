@@ -28,7 +28,7 @@ use Rattle.pool_stops.specs.Running.{IsRunning, IsWhole}
 
 -- ---- what labels show
 
--- the label of this number shows it, and no byte of that was written since the last flush that succeeded
+-- the label of this number shows it, and no byte of its area was written since the last flush that succeeded
 pub record IsFlushedLabel (starts : List (List ℕ)) (calls : List JointCall) (which number : ℕ) (l : PlainLabel) : Type 0 where
   pub shown : IsLabelShown (length (bytes_of starts which)) (content (record { starts = starts; calls = calls }) which) number l
   pub clean : (i : ℕ) → i < 114688 → is_dirty (calls_on which calls) (area_place (length (bytes_of starts which)) number + i) ≡ false
@@ -53,7 +53,7 @@ StayConfigured out digest old new =
 
 -- ---- laws
 
--- what labels hold, flushed, a stop leaves
+-- what each label holds, flushed, a stop leaves in one
 abbrev pub HeldLabelsAreLeft : Type 0
 HeldLabelsAreLeft =
     (out : List Bool) (starts : List (List ℕ)) (digest : List ℕ) (calls : List JointCall) → AreThere out starts → HoldConfigured out starts digest calls

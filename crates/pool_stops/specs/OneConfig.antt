@@ -16,11 +16,12 @@ use Rattle.pool_model.specs.Pools.{PlainPool, no_volumes}
 use Rattle.pool_model.specs.View.{View, opened_as}
 use Rattle.pool_model.specs.declared.step.Reply.{Reply}
 use Rattle.pool_model.specs.declared.step.Step.{Step}
-use Rattle.pool_open.specs.Opening.{IsOpenedOver}
+use Rattle.pool_open.specs.Exporting.{IsExportBegun}
+use Rattle.pool_open.specs.Opening.{IsKeptThrough, IsOpenedOver}
 use Rattle.pool_open.specs.Stops.{fresh}
 use Rattle.pool_open.specs.Words.{vdevs_in}
 use Rattle.pool_slots.specs.Commits.{only_last}
-use Rattle.pool_slots.specs.Configs.{IsConfigured}
+use Rattle.pool_slots.specs.Configs.{AreNotFour, IsConfigured, LeavesConfigured}
 use Rattle.pool_slots.specs.Opens.{AreKnown}
 use Rattle.pool_slots.specs.Possible.{IsInReach, Possible}
 use Rattle.pool_slots.specs.Slots.{InUse}
@@ -90,3 +91,20 @@ OpenedPoolsRunAs =
 abbrev pub StoppedOpensAreOfConfig : Type 0
 StoppedOpensAreOfConfig =
     (p later : Possible) (rewind : ℕ) (digest : List ℕ) → AreOfConfig digest p → IsPossibleBehind p rewind later → AreOfConfig digest later
+
+-- What a stop in it leaves shows the configuration of each of these, if the disks were bound to show it, and none showed four different ones.
+abbrev pub StoppedOpensShowConfig : Type 0
+StoppedOpensShowConfig =
+    (digest : List ℕ) (old new : Disks) (shapes : List VdevShape) (out : List Bool) (rewind : ℕ) (p later : Possible) (pools : Uberblock → PlainPool)
+    (images : List (List ℕ)) (u : Uberblock) (which : ℕ) → rewind < 3 → AreOfConfig digest p → LeadToPools old shapes out p pools
+    → LeavesConfigured out old.starts digest old.calls → AreNotFour out old → IsKeptThrough out rewind old new → IsHonestSince old new
+    → LeavesImages out old new images → IsPossibleBehind p rewind later → IsInReach later u → InUse out which
+    → IsConfigured (length (bytes_of images which)) (content (fresh images) which) u.config_digest
+
+-- So does what a stop in an export leaves, and what it leaves when it is done.
+abbrev pub StoppedExportsShowConfig : Type 0
+StoppedExportsShowConfig =
+    (digest : List ℕ) (core : CoreState) (v : View) (last : Uberblock) (before : List Uberblock) (exported : Uberblock) (new : Disks) (images : List (List ℕ))
+    (u : Uberblock) (which : ℕ) → IsRunningAs digest core v last before → IsExportBegun core exported new
+    → LeavesImages core.commit.store.out (disks_of core) new images → IsInReach (only_last last before) u → InUse core.commit.store.out which
+    → IsConfigured (length (bytes_of images which)) (content (fresh images) which) u.config_digest

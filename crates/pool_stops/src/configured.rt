@@ -5,7 +5,8 @@ ghost use Rattle.pool_stops.specs.Configured.{HeldLabelsAreLeft, HeldLabelsStayH
 ghost use Rattle.pool_stops.specs.Configured.{LeftDisksAreConfigured, OpenedPoolsAreConfigured};
 ghost use Rattle.pool_stops.specs.Configured.{OpensStayConfigured, StepsStayConfigured};
 ghost use Rattle.pool_stops.specs.OneConfig.{CreatedPoolsRunAs, OpenedPoolsRunAs, RunsStopAs};
-ghost use Rattle.pool_stops.specs.OneConfig.{StoppedOpensAreOfConfig, StoppedRunsShowConfig};
+ghost use Rattle.pool_stops.specs.OneConfig.{StoppedExportsShowConfig, StoppedOpensAreOfConfig};
+ghost use Rattle.pool_stops.specs.OneConfig.{StoppedOpensShowConfig, StoppedRunsShowConfig};
 
 use crate::laws::{created_pools_run, led_disks_open, running_pools_step_on};
 
@@ -79,4 +80,14 @@ pub fn opened_pools_run_as()
 /// And so are the disks wherever that is stopped.
 pub fn stopped_opens_are_of_config()
     ensures { StoppedOpensAreOfConfig }
+{}
+
+/// What is left of it shows the configuration of whatever another open may come to.
+pub fn stopped_opens_show_config()
+    ensures { StoppedOpensShowConfig }
+{}
+
+/// And what is left of an export does.
+pub fn stopped_exports_show_config()
+    ensures { StoppedExportsShowConfig }
 {}

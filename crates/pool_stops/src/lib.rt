@@ -9,7 +9,8 @@ pub use configured::{
     created_pools_are_configured, created_pools_run_as, exports_stay_configured,
     held_labels_are_left, held_labels_stay_held, left_disks_are_configured,
     opened_pools_are_configured, opened_pools_run_as, opens_stay_configured, runs_stop_as,
-    steps_stay_configured, stopped_opens_are_of_config, stopped_runs_show_config,
+    steps_stay_configured, stopped_exports_show_config, stopped_opens_are_of_config,
+    stopped_opens_show_config, stopped_runs_show_config,
 };
 pub use laws::{
     backed_plans_are_good, blocks_are_filled, blocks_keep_what_is_filled, commits_end_filled,

@@ -1,0 +1,5 @@
+use Rattle.pool_stops.proofs.OneConfigs.{stopped_exports_show_config as law}
+use Rattle.pool_stops.proofs.configured.stopped_exports_show_config.Goals as goal
+
+pub returns : goal.returns
+returns c = law
