@@ -1,6 +1,5 @@
 -- Blocks that lie apart in places of a pool are no more than its sectors.
 use Rattle.std.proofs.Common.{ℕ, zero, suc, ◌≡◌, ◌≢◌, ◌⊎◌, inl, inr, ⊎_elim, ◌+◌, ◌*◌, ◌-◌, ◌/◌, ◌%◌, ◌^◌, ◌<◌, ◌≤◌, List, [], ◌∷◌, ◌++◌, length, map, min, Some, AllPairs, Contains, refl, sym, ap, subst, ◌∙◌, arith, mul-le-mul_right, mul-le-mul, slice_get, slice_index, slice_index_or}
-use Rattle.std.specs.Prelude.{flat_map}
 use Rattle.std.proofs.lemmas.Nat.{div-add-mod'}
 use Rattle.std.proofs.Math.Nat.{div-mul-le_self}
 use Rattle.block_pointer.specs.Copies.{dvas}
@@ -8,15 +7,15 @@ use Rattle.block_pointer.specs.declared.block.Block.{Block}
 use Rattle.block_pointer.specs.declared.copies.Copies.{Copies}
 use Rattle.block_pointer.specs.declared.copies.Copies.TheVariants.{One, Two, Three}
 use Rattle.block_pointer.specs.declared.dva.Dva.{Dva}
-use Rattle.block_store.specs.Places.{ArePlacesIn, IsPlaceIn, shapes_of}
+use Rattle.block_store.specs.Places.{IsPlaceIn, shapes_of}
 use Rattle.block_store.specs.Releases.{CopyAt, copies_at, copies_of, copies_of_all}
 use Rattle.block_store.specs.Shapes.{metaslab_sectors, metaslabs, vdev_sectors}
 use Rattle.block_store.specs.Spaces.{VdevSpace}
 use Rattle.block_store.specs.declared.shape.VdevShape.{VdevShape}
 use Rattle.block_store.proofs.Sizes.{asize_some}
-use Rattle.raidz_io.proofs.Pigeons.{AreDistinct, distinct_fit, same_at}
+use Rattle.raidz_io.proofs.Pigeons.{AreDistinct, distinct_fit}
 use Rattle.pool_open.specs.Words.{most_blocks, sectors_in}
-use Rattle.pool_stops.specs.Unhindered.{AreCopiesApart, LieApart}
+use Rattle.pool_stops.specs.Whole.{AreCopiesApart, LieApart}
 
 -- ---- sectors of a pool, one vdev's behind the other's
 

@@ -1,21 +1,20 @@
 -- Blocks that lie apart can be taken in to metaslabs of which nothing is in use.
-use Rattle.std.proofs.Common.{ℕ, zero, suc, ◌≡◌, ◌<◌, ◌≤◌, ◌+◌, ◌++◌, true, List, [], ◌∷◌, length, Some, All, AllPairs, Contains, IsTrue, refl, sym, ap, subst, ◌∙◌, arith, slice_get, slice_index_or}
+use Rattle.std.proofs.Common.{ℕ, zero, suc, ◌≡◌, ◌<◌, ◌++◌, List, [], ◌∷◌, length, AllPairs, Contains, refl, sym, ap, subst, ◌∙◌, arith, slice_index_or}
 use Rattle.block_pointer.specs.declared.dva.Dva.{Dva}
 use Rattle.block_pointer.specs.declared.block.Block.{Block}
-use Rattle.block_store.specs.Opened.{CannotTakeIn, HasFreePlace, TakeIn}
-use Rattle.block_store.specs.Places.{AreEmpty, ArePlacesApart, EachSector, IsEmpty, IsFree, IsPlaceIn, Marks, filled, planned, run_at, shapes_of}
+use Rattle.block_store.specs.Opened.{CannotTakeIn, TakeIn}
+use Rattle.block_store.specs.Places.{AreEmpty, ArePlacesApart, IsEmpty, IsFree, IsPlaceIn, Marks, filled, planned, run_at, shapes_of}
 use Rattle.block_store.specs.Releases.{CopyAt, copies_of_all}
 use Rattle.block_store.specs.Shapes.{metaslab_of, metaslab_sectors, metaslabs}
 use Rattle.block_store.specs.Spaces.{VdevSpace}
 use Rattle.block_store.specs.Uses.{LiesOn}
 use Rattle.block_store.specs.declared.shape.VdevShape.{VdevShape}
 use Rattle.block_store.proofs.TakenIn.{Picks, all_spare, into_view, lies_by, out_of_view, picks_filled, picks_planned, viewed, viewed_all, viewed_shapes}
-use Rattle.metaslab.specs.Space.{Space, state}
-use Rattle.metaslab.specs.State.{Free}
+use Rattle.metaslab.specs.Space.{Space}
 use Rattle.metaslab_group.specs.Spaces.{AreWhollyFree, IsWhollyFree}
 use Rattle.raidz_io.proofs.Written.{All-at, slice_get_some}
 use Rattle.space_map.proofs.RunLemmas.{named}
-use Rattle.pool_stops.specs.Unhindered.{AreCopiesApart, LieApart}
+use Rattle.pool_stops.specs.Whole.{AreCopiesApart, LieApart}
 use Rattle.pool_stops.proofs.Counting.{copy_lies}
 
 -- of these marks no sector is in use

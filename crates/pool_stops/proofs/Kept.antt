@@ -12,16 +12,17 @@ use Rattle.raidz_io.proofs.Written.{same_some, size_at, slice_get_some}
 use Rattle.block_store.specs.Blocks.{Contents, IsWrittenAs}
 use Rattle.block_store.specs.Elsewhere.{IsForBlocks}
 use Rattle.block_store.specs.Places.{ArePlacesIn, IsCopy, shapes_of}
-use Rattle.block_store.specs.Places.{planned as planned_marks}
+use Rattle.block_store.specs.Places.{filled as filled_marks, planned as planned_marks}
 use Rattle.block_store.specs.Plans.{Plans}
 use Rattle.block_store.specs.Store.{Store, is_out, outs, outs_from}
 use Rattle.block_store.proofs.Planning.{arrived, is_among, placed_lies, some_or_none, stored_by}
 use Rattle.block_store.proofs.Sectors.{lie_in_sectors}
 use Rattle.dataset_snapshots.specs.Pools.{SpellsPool}
+use Rattle.dataset_snapshots.specs.Reach.{reach_of}
 use Rattle.uberblock_ring.specs.declared.uberblock.Uberblock.{Uberblock}
 use Rattle.pool_commit.specs.declared.kept.KeptGroup.{KeptGroup}
 use Rattle.pool_commit.specs.declared.kept.Planned.{Planned}
-use Rattle.pool_commit.specs.Backs.{Backs, HasPlan, IsPlanOf, SpellsKept, SpellsRoot, pool_after}
+use Rattle.pool_commit.specs.Backs.{Backs, HasPlan, IsPlanOf, IsReachOfPlan, PlansReach, SpellsKept, SpellsRoot, pool_after}
 use Rattle.pool_commit.specs.State.{NoneIsOut, State, group_at}
 use Rattle.pool_model.specs.Pools.{PlainPool}
 use Rattle.pool_model.specs.View.{View, is_kept}
@@ -38,6 +39,7 @@ use Rattle.pool_stops.proofs.Filled.{filled_for_blocks, for_blocks_picked}
 use Rattle.pool_stops.proofs.Holding.{filled_trees_hold_blocks, get_in_use}
 use Rattle.pool_stops.proofs.Standing.{its_disk}
 use Rattle.pool_stops.proofs.Trees.{if_so, is_so}
+use Rattle.pool_stops.proofs.Whole.{WholeTreeOf, is_whole, led_kept, led_root}
 
 -- ---- stores that hold blocks
 
@@ -80,12 +82,15 @@ spells_kept stored group root found kept pool false is root_is spells = absurd (
 
 -- all that is filled is the tree of each kept group
 pub kept_tree : (s : State) (v : View) (u : Uberblock) → Backs s v → IsWhole s → IsOfKept s v u
-    → IsTreeOf (filled_trees s.store.spaces s.store.disks) s.store.disks.starts (shapes_of s.store.spaces) s.store.out u (v.pools u.group)
+    → WholeTreeOf (filled_trees s.store.spaces s.store.disks) s.store.disks.starts (shapes_of s.store.spaces) s.store.out u (v.pools u.group)
 kept_tree s v u backs whole of =
     let none : outs s.store ≡ [] = no_outs s whole.none in
     let stored : Contents = backs.blocks.stored in
     let stores = stored_by s.store stored backs.blocks.planned backs.blocks.plans in
-    record {
+    let reached = backs.blocks.reached in
+    let leads = led_kept stored u.group u.root (group_at s.kept u.group) of.kept (v.pools u.group) (is_kept v u.group) (reached.reach u.group) of.is of.root
+    (reached.leads u.group) in
+    let tree : IsTreeOf (filled_trees s.store.spaces s.store.disks) s.store.disks.starts (shapes_of s.store.spaces) s.store.out u (v.pools u.group) = record {
       stored = stored;
       spells = spells_kept stored u.group u.root (group_at s.kept u.group) of.kept (v.pools u.group) (is_kept v u.group) of.is of.root (backs.blocks.kept u.group);
       made = of.made;
@@ -94,6 +99,10 @@ kept_tree s v u backs whole of =
           (λ block bytes i extent known copy.
           subst (λ (absent : List ℕ). ExtentStands (content disks) absent extent bytes) none
           (filled_trees_hold_blocks s.store stored disks u.root whole.lie whole.count stores tree block bytes i extent known copy));
+    } in
+    record {
+      tree = tree;
+      whole = is_whole s.store.spaces filled_marks tree u.group (reached.reach u.group) backs.blocks.plans.stored_placed leads.0 leads.1 (reached.once u.group);
     }
 
 -- ---- all bytes for blocks
@@ -108,13 +117,16 @@ more_stand s disks root tree which i value used is =
 
 -- so they are the tree of each kept group too
 pub kept_tree_too : (s : State) (u : Uberblock) (pool : PlainPool)
-    → IsTreeOf (filled_trees s.store.spaces s.store.disks) s.store.disks.starts (shapes_of s.store.spaces) s.store.out u pool
-    → IsTreeOf (block_trees s.store.spaces s.store.disks) s.store.disks.starts (shapes_of s.store.spaces) s.store.out u pool
-kept_tree_too s u pool tree = record {
-  stored = tree.stored;
-  spells = tree.spells;
-  made = tree.made;
-  held = λ disks same stands. tree.held disks same (more_stand s disks u.root stands);
+    → WholeTreeOf (filled_trees s.store.spaces s.store.disks) s.store.disks.starts (shapes_of s.store.spaces) s.store.out u pool
+    → WholeTreeOf (block_trees s.store.spaces s.store.disks) s.store.disks.starts (shapes_of s.store.spaces) s.store.out u pool
+kept_tree_too s u pool it = record {
+  tree = record {
+    stored = it.tree.stored;
+    spells = it.tree.spells;
+    made = it.tree.made;
+    held = λ disks same stands. it.tree.held disks same (more_stand s disks u.root stands);
+  };
+  whole = record { once = it.whole.once; apart = it.whole.apart };
 }
 
 -- what stands on all disks stands wherever all bytes for blocks do
@@ -166,14 +178,19 @@ planned_stand s stored planned block bytes i extent none written plans known cop
 
 -- all bytes for blocks are the tree of a planned group, once no write is due
 pub plan_tree : (s : State) (v : View) (plan : Planned) → Backs s v → IsWhole s → s.planned ≡ Some plan → s.store.due ≡ [] → IsMadeBy v.committed (v.pools v.committed)
-    → IsTreeOf (block_trees s.store.spaces s.store.disks) s.store.disks.starts (shapes_of s.store.spaces) s.store.out plan.uberblock (pool_after v)
+    → WholeTreeOf (block_trees s.store.spaces s.store.disks) s.store.disks.starts (shapes_of s.store.spaces) s.store.out plan.uberblock (pool_after v)
 plan_tree s v plan backs whole is written made =
     let has : HasPlan s backs.blocks.planned plan v = subst (λ (o : Option Planned). IsPlanOf s backs.blocks.planned o v) is backs.blocks.plan in
     let none : outs s.store ≡ [] = no_outs s whole.none in
     let planned : Contents = backs.blocks.planned in
     let plans : Plans s.store backs.blocks.stored planned = backs.blocks.plans in
     let places = placed_lies s.store.spaces planned_marks planned plans.placed in
-    record {
+    let reached : PlansReach s.store.spaces backs.blocks.reached.reach backs.blocks.stored planned (suc v.committed) plan.after (pool_after v) =
+    subst (λ (o : Option Planned). IsReachOfPlan s.store.spaces backs.blocks.reached.reach backs.blocks.stored planned o v) is backs.blocks.plan_reached in
+    let Leads : Uberblock → Type 0 = λ u. (spells : SpellsPool planned (suc v.committed) u.root (pool_after v)) × (reach_of spells ≡ reached.reach) in
+    let leads : Leads plan.uberblock = subst Leads (sym has.uberblock.is)
+    (led_root planned (suc v.committed) plan.after.root has.uberblock.root (pool_after v) reached.reach has.uberblock.is_root reached.leads) in
+    let tree : IsTreeOf (block_trees s.store.spaces s.store.disks) s.store.disks.starts (shapes_of s.store.spaces) s.store.out plan.uberblock (pool_after v) = record {
       stored = planned;
       spells = subst (λ (u : Uberblock). SpellsPool planned u.group u.root (pool_after v)) (sym has.uberblock.is)
           (spells_root planned (suc v.committed) has.uberblock.root plan.after.root (pool_after v) has.uberblock.is_root has.spells.root);
@@ -184,4 +201,8 @@ plan_tree s v plan backs whole is written made =
           (λ block bytes i extent known copy.
           stands_too s disks plan.uberblock.root block bytes i extent whole (places block bytes known) copy tree
           (planned_stand s backs.blocks.stored planned block bytes i extent none written plans known copy));
+    } in
+    record {
+      tree = tree;
+      whole = is_whole s.store.spaces planned_marks tree (suc v.committed) reached.reach plans.placed leads.0 leads.1 reached.once;
     }

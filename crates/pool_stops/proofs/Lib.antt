@@ -4,6 +4,7 @@ pub mod Trees
 pub mod Holding
 pub mod Phases
 pub mod Backed
+pub mod Whole
 pub mod Kept
 pub mod Steps
 pub mod Commits
@@ -17,3 +18,4 @@ pub mod Unhindered
 pub mod Labels
 pub mod LabelStops
 pub mod OneConfigs
+pub mod WholeStops

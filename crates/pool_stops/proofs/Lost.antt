@@ -1,12 +1,11 @@
 -- A root is refused for want of disks only where some are lost.
-use Rattle.std.proofs.Common.{ℕ, zero, suc, ◌≡◌, ◌⊎◌, inl, inr, ◌≤◌, ◌<◌, Bool, true, false, List, [], ◌∷◌, ◌++◌, length, Some, Contains, refl, sym, ap, subst, ◌∙◌, arith, true≢false}
+use Rattle.std.proofs.Common.{ℕ, suc, ◌≡◌, inl, inr, Bool, true, false, List, [], ◌∷◌, ◌++◌, length, Contains, refl, sym, ap, subst, ◌∙◌, arith, true≢false}
 use Rattle.std.proofs.lemmas.List.{append-nil}
-use Rattle.model_disk.specs.Joint.{Disks, failed_since}
+use Rattle.model_disk.specs.Joint.{failed_since}
 use Rattle.raidz_io.specs.Reads.{absent_since}
 use Rattle.block_pointer.specs.declared.block.Block.{Block}
 use Rattle.block_store.specs.Losses.{IsBlockLost, IsForLoss, LossesAreNotTolerable}
-use Rattle.block_store.specs.Reading.{AreTolerable, FewAreAbsent}
-use Rattle.block_store.specs.Spaces.{VdevSpace}
+use Rattle.block_store.specs.Reading.{AreTolerable}
 use Rattle.block_store.specs.Store.{Store, is_out, outs, outs_from}
 use Rattle.block_store.specs.declared.refusal.Refusal.{Refusal}
 use Rattle.block_store.specs.declared.refusal.Refusal.TheVariants.{NoMemory, DiskFault}
@@ -21,7 +20,7 @@ use Rattle.volume.specs.Walking.{IsVolumeWalkRefused}
 use Rattle.volume.specs.declared.volume.VolumeSet.{VolumeSet}
 use Rattle.volume.specs.Volume.{block_of}
 use Rattle.dataset_snapshots.specs.Contents.{AreContentsRefused, AreNamesRefused, IsShapeRefused}
-use Rattle.dataset_snapshots.specs.Finding.{IsDirectoryRefused, IsMetaRefused}
+use Rattle.dataset_snapshots.specs.Finding.{IsDirectoryRefused}
 use Rattle.dataset_snapshots.specs.Reach.{AreVolumesUnwalked, IsDatasetUnwalked, IsReachRefused}
 use Rattle.dataset_snapshots.proofs.Losses.{meta_lost}
 use Rattle.meta_objset.specs.declared.directory.DirectoryRow.{DirectoryRow}

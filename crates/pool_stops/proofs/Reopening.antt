@@ -58,7 +58,7 @@ same_sizes (image ∷ images) (start ∷ starts) count each =
     let first : length image ≡ length start = each 0 (omega arith) in
     (λ i. first i ∷ same_sizes images starts rest (λ which below. each (suc which) (omega (arith, below))) i)
 
-left_sizes : (starts : List (List ℕ)) (calls : List JointCall) (images : List (List ℕ)) → MayLeaveAll starts calls images → map length images ≡ map length starts
+pub left_sizes : (starts : List (List ℕ)) (calls : List JointCall) (images : List (List ℕ)) → MayLeaveAll starts calls images → map length images ≡ map length starts
 left_sizes starts calls images left = same_sizes images starts left.count (λ which below. (left.each which below).size)
 
 -- trees of pools, on disks of the same sizes
@@ -78,7 +78,7 @@ off_on trees out starts calls images count left off root which i value used is =
     subst (λ (size : ℕ). IsOffLabels size i) (sym (left.each which below).size) (off root which i value used is)
 
 -- images that lead somewhere may be opened
-lead_on : (trees : Trees) (out : List Bool) (starts : List (List ℕ)) (calls : List JointCall) (images : List (List ℕ)) (p : Possible) → (which : ℕ) × InUse out which
+pub lead_on : (trees : Trees) (out : List Bool) (starts : List (List ℕ)) (calls : List JointCall) (images : List (List ℕ)) (p : Possible) → (which : ℕ) × InUse out which
     → length out ≡ length starts → MayLeaveAll starts calls images → AreOffLabels trees out starts → Leads trees out images (held_by images) p → CanOpen trees out (fresh images) p
 lead_on trees out starts calls images p some count left off leads =
     stopped_can_be_opened trees out p images some (λ which used. omega (arith, used_below out which used, count, left.count))
@@ -296,5 +296,5 @@ stopped_exports_lead ends core v last before u new images runs begun leaves =
           (begun.leads trees (only_last last before) leading leaves.calls leaves.moment images leaves.left leaves.untorn);
       tree = λ w reach.
           tree_on trees s.store.disks.starts images (shapes_of s.store.spaces) out w (pool_of v w) (left_sizes s.store.disks.starts leaves.calls images leaves.left)
-          (tree_with s v last before core refl runs w reach);
+          (tree_with s v last before core refl runs w reach).tree;
     }

@@ -36,7 +36,6 @@ use Rattle.pool_model.specs.declared.step.Reply.TheVariants.{Held, Receipt, Rele
 use Rattle.pool_model.specs.declared.step.Step.{Step}
 use Rattle.pool_model.specs.declared.step.Step.TheVariants as steps
 use Rattle.pool_model.proofs.Committing.{told_pools}
-use Rattle.pool_open.specs.Trees.{IsTreeOf}
 use Rattle.pool_slots.specs.Commits.{LeadAlways, last_or, only_last}
 use Rattle.pool_slots.specs.PhaseLaws.{NextIsUnseen, ReadsAndFlushesKeep}
 use Rattle.pool_slots.specs.Phases.{AreInBlocks}
@@ -52,6 +51,7 @@ use Rattle.pool_stops.proofs.Backed.{backed_plans_are_good}
 use Rattle.pool_stops.proofs.Filled.{filled_bytes_are_for_blocks, picked_are_for_blocks}
 use Rattle.pool_stops.proofs.Holding.{get_in_use}
 use Rattle.pool_stops.proofs.Kept.{kept_tree, kept_tree_too, plan_tree}
+use Rattle.pool_stops.proofs.Whole.{WholeTreeOf}
 use Rattle.pool_stops.proofs.Phases.{begins, flushed_settled, is_empty, no_writes, read_only}
 use Rattle.pool_stops.proofs.Standing.{picked_off}
 
@@ -138,10 +138,10 @@ pool_of_next v u same = ap (λ b. if b then pool_after v else v.pools u.group) (
 
 pub tree_with : (s : State) (v : View) (last : Uberblock) (before : List Uberblock) (core : CoreState) → core.commit ≡ s → IsRunning core v last before → (u : Uberblock)
     → IsInReach (only_last last before) u
-    → IsTreeOf (filled_trees s.store.spaces s.store.disks) s.store.disks.starts (shapes_of s.store.spaces) s.store.out u (pool_of v u)
+    → WholeTreeOf (filled_trees s.store.spaces s.store.disks) s.store.disks.starts (shapes_of s.store.spaces) s.store.out u (pool_of v u)
 tree_with s v last before core is runs u reach =
-    subst (λ (t : State). IsTreeOf (filled_trees t.store.spaces t.store.disks) t.store.disks.starts (shapes_of t.store.spaces) t.store.out u (pool_of v u)) is
-    (subst (λ (pool : PlainPool). IsTreeOf (filled_trees core.commit.store.spaces core.commit.store.disks) core.commit.store.disks.starts (shapes_of core.commit.store.spaces)
+    subst (λ (t : State). WholeTreeOf (filled_trees t.store.spaces t.store.disks) t.store.disks.starts (shapes_of t.store.spaces) t.store.out u (pool_of v u)) is
+    (subst (λ (pool : PlainPool). WholeTreeOf (filled_trees core.commit.store.spaces core.commit.store.disks) core.commit.store.disks.starts (shapes_of core.commit.store.spaces)
     core.commit.store.out u pool) (sym (pool_of_low v u (omega (arith, reach_low last before u reach, runs.group))))
     (kept_tree core.commit v u runs.represents.backs runs.whole (runs.kept u reach)))
 
@@ -157,7 +157,8 @@ stops_filled old v new last before runs always =
       off_labels = picked_off (is_filled s.store.spaces) (content s.store.disks) s.store.disks.starts s.store.spaces s.store.out runs.whole.lie
           (filled_bytes_are_for_blocks s.store.spaces);
       always = always;
-      tree = tree_with s v last before old refl runs;
+      tree = λ u reach. (tree_with s v last before old refl runs u reach).tree;
+      whole = λ u reach. (tree_with s v last before old refl runs u reach).whole;
     }
 
 pub stops_in_slots : (old : CoreState) (v : View) (new : Disks) (plan : Planned) (last : Uberblock) (before : List Uberblock) → IsRunning old v last before
@@ -167,12 +168,21 @@ pub stops_in_slots : (old : CoreState) (v : View) (new : Disks) (plan : Planned)
 stops_in_slots old v new plan last before runs is group written always =
     let s : State = old.commit in
     let Tree : Uberblock → PlainPool → Type 0 =
-    λ u pool. IsTreeOf (block_trees s.store.spaces s.store.disks) s.store.disks.starts (shapes_of s.store.spaces) s.store.out u pool in
+    λ u pool. WholeTreeOf (block_trees s.store.spaces s.store.disks) s.store.disks.starts (shapes_of s.store.spaces) s.store.out u pool in
     let kept : (u : Uberblock) → IsInReach (only_last last before) u → Tree u (pool_of v u) =
     λ u reach. kept_tree_too s u (pool_of v u) (tree_with s v last before old refl runs u reach) in
     let planned : Tree plan.uberblock (pool_of v plan.uberblock) =
     subst (λ (pool : PlainPool). Tree plan.uberblock pool) (sym (pool_of_next v plan.uberblock group))
     (plan_tree s v plan runs.represents.backs runs.whole is written runs.represents.follows.made) in
+    let each : (u : Uberblock) → IsInReach (last_or last before plan.uberblock) u → Tree u (pool_of v u) = λ u reach. ⊎_elim
+    (λ among. ⊎_elim
+    (λ same. subst (λ (x : Uberblock). Tree x (pool_of v x)) (sym same) (kept last (last_in_reach last before)))
+    (λ rest. ⊎_elim
+    (λ same. subst (λ (x : Uberblock). Tree x (pool_of v x)) (sym same) planned)
+    (λ none. absurd (omega (arith, none.1)))
+    (first_or plan.uberblock [] u rest))
+    (first_or last (plan.uberblock ∷ []) u among))
+    (λ is_before. kept u (inr is_before)) reach in
     record {
       p = last_or last before plan.uberblock;
       which = inr (plan, is, refl);
@@ -180,15 +190,8 @@ stops_in_slots old v new plan last before runs is group written always =
       off_labels = picked_off (is_for_blocks s.store.spaces) (content s.store.disks) s.store.disks.starts s.store.spaces s.store.out runs.whole.lie
           (picked_are_for_blocks s.store.spaces);
       always = always;
-      tree = λ u reach. ⊎_elim
-          (λ among. ⊎_elim
-          (λ same. subst (λ (x : Uberblock). Tree x (pool_of v x)) (sym same) (kept last (last_in_reach last before)))
-          (λ rest. ⊎_elim
-          (λ same. subst (λ (x : Uberblock). Tree x (pool_of v x)) (sym same) planned)
-          (λ none. absurd (omega (arith, none.1)))
-          (first_or plan.uberblock [] u rest))
-          (first_or last (plan.uberblock ∷ []) u among))
-          (λ is_before. kept u (inr is_before)) reach;
+      tree = λ u reach. (each u reach).tree;
+      whole = λ u reach. (each u reach).whole;
     }
 
 pub stops_either : (old : CoreState) (v : View) (new : State) (plan : Planned) (last : Uberblock) (before : List Uberblock) → IsRunning old v last before

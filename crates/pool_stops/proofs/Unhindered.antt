@@ -1,17 +1,15 @@
 -- Opens that nothing hinders are refused for want of memory alone.
-use Rattle.std.proofs.Common.{ℕ, zero, suc, ◌≡◌, ◌⊎◌, inl, inr, ⊎_elim, ◌+◌, ◌<◌, ◌≤◌, Bool, true, false, List, [], ◌∷◌, length, map, Some, Contains, IsTrue, refl, sym, ap, subst, ◌∙◌, arith, true≢false, slice_get, if◌then◌else◌, nat_le, ◌&&◌}
+use Rattle.std.proofs.Common.{ℕ, zero, suc, ◌≡◌, ◌⊎◌, inl, inr, ⊎_elim, ◌+◌, ◌<◌, ◌≤◌, Bool, true, false, List, [], ◌∷◌, length, map, Some, Contains, refl, sym, ap, subst, ◌∙◌, arith, true≢false, if◌then◌else◌, nat_le, ◌&&◌}
 use Rattle.std.proofs.lemmas.Bool.Decides.{nat_tests}
-use Rattle.model_disk.specs.Joint.{Disks, JointCall, bytes_of, content, failed_since}
+use Rattle.model_disk.specs.Joint.{Disks, JointCall, content, failed_since}
 use Rattle.model_disk.specs.Runs.{Makes, no_write}
 use Rattle.model_disk.proofs.FailureLemmas.{kept_through}
 use Rattle.raidz_io.specs.Reads.{IsHonestSince}
 use Rattle.block_store.specs.Blocks.{Contents}
 use Rattle.block_store.specs.Losses.{LossesAreNotTolerable}
 use Rattle.block_store.specs.Opened.{CannotTakeIn, MayBeOpened}
-use Rattle.block_store.specs.Places.{shapes_of}
 use Rattle.block_store.specs.Releases.{copies_of_all}
 use Rattle.block_store.specs.Store.{is_out}
-use Rattle.block_store.specs.declared.refusal.Refusal.{Refusal as StoreRefusal}
 use Rattle.block_store.specs.declared.refusal.Refusal.TheVariants as store
 use Rattle.block_store.specs.declared.shape.VdevShape.{VdevShape}
 use Rattle.block_pointer.specs.declared.block.Block.{Block}
@@ -20,25 +18,22 @@ use Rattle.dataset_snapshots.specs.Pools.{SpellsPool}
 use Rattle.dataset_snapshots.specs.Reach.{reach_of}
 use Rattle.dnode_tree.specs.Rewriting.{AreDistinct}
 use Rattle.pool_model.specs.Pools.{PlainPool}
-use Rattle.pool_model.specs.Refusals.{greatest}
 use Rattle.pool_model.specs.View.{Vdev, is_tolerable, lost_in}
-use Rattle.pool_open.specs.Causes.{of_slots, of_store}
+use Rattle.pool_open.specs.Causes.{of_store}
 use Rattle.pool_open.specs.Held.{HoldOver}
 use Rattle.pool_open.specs.Opening.{AreClaimedThrough, AreReadThrough, IsCauseOfClaim, IsCauseOfReading, IsReadMisplaced, IsRootUnread, IsSurveyRefused}
-use Rattle.pool_open.specs.Roots.{IsRootRefused, IsSmallRoot, RootRefuses}
+use Rattle.pool_open.specs.Roots.{IsRootRefused, IsSmallRoot}
 use Rattle.pool_open.specs.Trees.{IsTreeOf}
 use Rattle.pool_open.specs.Words.{most_blocks, vdevs_in}
 use Rattle.pool_open.specs.declared.refusal.Refusal.{Refusal}
 use Rattle.pool_open.specs.declared.refusal.Refusal.TheVariants.{NoMemory}
 use Rattle.pool_open.proofs.Through.{block_reads_made, honest_within, through_made}
 use Rattle.pool_slots.specs.Failures.{HasFailedOn}
-use Rattle.pool_slots.specs.LabelReads.{LacksLabel}
 use Rattle.pool_slots.specs.Opens.{CanOpen, IsHighestShown, IsRead, IsShown}
-use Rattle.pool_slots.specs.Possible.{IsBefore, IsInReach, IsPossible, Possible, TreeStands, Trees}
-use Rattle.pool_slots.specs.Present.{GoOut, IsNoFault}
+use Rattle.pool_slots.specs.Possible.{IsPossible, Possible, TreeStands, Trees}
+use Rattle.pool_slots.specs.Present.{GoOut}
 use Rattle.pool_slots.specs.Slots.{InUse, IsOutOfReach}
-use Rattle.pool_slots.specs.Surveys.{IsSurveyOf, IsSurveyed, SurveyRefuses, Surveyed}
-use Rattle.pool_slots.specs.declared.refusal.Refusal.{Refusal as SlotsRefusal}
+use Rattle.pool_slots.specs.Surveys.{IsSurveyOf, IsSurveyed, Surveyed}
 use Rattle.pool_slots.specs.declared.refusal.Refusal.TheVariants as slots
 use Rattle.pool_slots.proofs.Failing.{fails_later}
 use Rattle.pool_slots.proofs.OpenSteps.{cause_of}
@@ -48,13 +43,12 @@ use Rattle.pool_slots.proofs.ReadRuns.{reads_made}
 use Rattle.uberblock_ring.proofs.Ranks.{ranks_through}
 use Rattle.uberblock_ring.specs.Ranking.{IsRewound, RanksUpTo}
 use Rattle.uberblock_ring.specs.declared.uberblock.Uberblock.{Uberblock}
-use Rattle.pool_stops.specs.Reopening.{LeadToPools}
-use Rattle.pool_stops.specs.Unhindered.{IsUnhindered, IsWholeTree, LeadToWholePools, LieApart, UnhinderedOpensAreDone}
+use Rattle.pool_stops.specs.Unhindered.{IsUnhindered, LeadToWholePools, UnhinderedOpensAreDone}
+use Rattle.pool_stops.specs.Whole.{IsWholeTree, LieApart}
 use Rattle.pool_stops.proofs.Counting.{blocks_fit}
 use Rattle.pool_stops.proofs.FreePlaces.{can_take_in}
 use Rattle.pool_stops.proofs.Holding.{get_in_use}
 use Rattle.pool_stops.proofs.Lost.{not_for_loss}
-use Rattle.pool_stops.proofs.Steps.{used_below}
 
 -- ---- no disk goes out
 
@@ -146,13 +140,12 @@ surveyed_is trees out disks p s can says =
 -- ---- before anything is read of the root
 
 survey_case : (old new : Disks) (shapes : List VdevShape) (out : List Bool) (p : Possible) (pools : Uberblock → PlainPool) (refusal : Refusal) → LeadToWholePools old shapes out p pools
-    → IsUnhindered old new shapes out p → IsSurveyRefused shapes out 0 old new refusal → refusal ≡ NoMemory
+    → IsUnhindered old new shapes out → IsSurveyRefused shapes out 0 old new refusal → refusal ≡ NoMemory
 survey_case old new shapes out p pools refusal led free (inr (inl (barred, (s, is, most)))) =
     let can = led.led.can in
     let says : IsSurveyOf out 0 old s = is.says can.known free.honest in
-    let possible = surveyed_is led.led.trees out old p s can says in
     let group : s.claimed.group ≡ s.taken.group = ap (λ (u : Uberblock). u.group) says.claimed in
-    absurd (omega (arith, most, group, free.groups s.taken possible.0))
+    absurd (omega (arith, most, group, free.groups s.taken says.taken))
 survey_case old new shapes out p pools refusal led free (inr (inr (barred, lost))) =
     absurd (true≢false (sym (none_is_tolerable (vdevs_in shapes) (is_out out) free.none) ∙ lost))
 survey_case old new shapes out p pools refusal led free (inl (slots.NoMemory, same, refuses, no_fault)) = same
@@ -180,7 +173,7 @@ record AtRoot (disks : Disks) (shapes : List VdevShape) (out : List Bool) (pool 
   pub hold : HoldOver disks shapes out stored
 
 at_root : (old surveyed new : Disks) (shapes : List VdevShape) (out : List Bool) (p : Possible) (pools : Uberblock → PlainPool) (s : Surveyed) → LeadToWholePools old shapes out p pools
-    → IsUnhindered old new shapes out p → Makes no_write old surveyed → IsHonestSince old surveyed → IsSurveyed out 0 old surveyed s → AtRoot surveyed shapes out (pools s.taken) s.claimed
+    → IsUnhindered old new shapes out → Makes no_write old surveyed → IsHonestSince old surveyed → IsSurveyed out 0 old surveyed s → AtRoot surveyed shapes out (pools s.taken) s.claimed
 at_root old surveyed new shapes out p pools s led free makes honest is =
     let can = led.led.can in
     let says : IsSurveyOf out 0 old s = is.says can.known honest in
@@ -199,7 +192,7 @@ at_root old surveyed new shapes out p pools s led free makes honest is =
     subst (λ (u : Uberblock). AtRoot surveyed shapes out (pools s.taken) u) (sym says.claimed) here
 
 root_case : LossesAreNotTolerable → (old surveyed new : Disks) (shapes : List VdevShape) (out : List Bool) (p : Possible) (pools : Uberblock → PlainPool) (refusal : Refusal)
-    → LeadToWholePools old shapes out p pools → IsUnhindered old new shapes out p → Makes no_write old surveyed → Makes no_write surveyed new
+    → LeadToWholePools old shapes out p pools → IsUnhindered old new shapes out → Makes no_write old surveyed → Makes no_write surveyed new
     → IsRootUnread old surveyed new shapes out 0 refusal → refusal ≡ NoMemory
 root_case law old surveyed new shapes out p pools refusal led free makes reads unread =
     let honest : IsHonestSince old surveyed = honest_within no_write old old surveyed new (Makes-none no_write old) reads free.honest in
@@ -225,7 +218,7 @@ root_case law old surveyed new shapes out p pools refusal led free makes reads u
     unread.same ∙ ap of_store memory
 
 reading_case : LossesAreNotTolerable → (old new : Disks) (shapes : List VdevShape) (out : List Bool) (p : Possible) (pools : Uberblock → PlainPool) (refusal : Refusal)
-    → LeadToWholePools old shapes out p pools → IsUnhindered old new shapes out p → (through : AreReadThrough out out old new)
+    → LeadToWholePools old shapes out p pools → IsUnhindered old new shapes out → (through : AreReadThrough out out old new)
     → IsCauseOfReading old through.surveyed new shapes out out 0 refusal → refusal ≡ NoMemory
 reading_case law old new shapes out p pools refusal led free through (inl memory) = memory
 reading_case law old new shapes out p pools refusal led free through (inr (inl (bad, not))) = absurd (not free.may)
@@ -236,7 +229,7 @@ reading_case law old new shapes out p pools refusal led free through (inr (inr (
 -- ---- the claim
 
 misplaced_case : (old surveyed read new : Disks) (shapes : List VdevShape) (out : List Bool) (p : Possible) (pools : Uberblock → PlainPool) (may : ℕ → ℕ → List ℕ → Type 0)
-    → LeadToWholePools old shapes out p pools → IsUnhindered old new shapes out p → Makes no_write old surveyed → Makes no_write surveyed read → Makes may read new
+    → LeadToWholePools old shapes out p pools → IsUnhindered old new shapes out → Makes no_write old surveyed → Makes no_write surveyed read → Makes may read new
     → IsReadMisplaced old surveyed read new shapes out 0 → ⊥
 misplaced_case old surveyed read new shapes out p pools may led free makes reads claims it =
     let all : IsHonestSince old read = honest_within may old old read new (Makes-none no_write old) claims free.honest in
@@ -251,7 +244,7 @@ misplaced_case old surveyed read new shapes out p pools may led free makes reads
     can_take_in it.why.store.spaces it.why.after shapes (reach_of at.spells) it.why.over.shapes_are it.why.empty at.apart cannot
 
 claim_case : (old new : Disks) (shapes : List VdevShape) (out : List Bool) (p : Possible) (pools : Uberblock → PlainPool) (claimed : Uberblock) (refusal : Refusal)
-    → LeadToWholePools old shapes out p pools → IsUnhindered old new shapes out p → (through : AreClaimedThrough out out claimed old new)
+    → LeadToWholePools old shapes out p pools → IsUnhindered old new shapes out → (through : AreClaimedThrough out out claimed old new)
     → IsCauseOfClaim old through.before.surveyed through.read new shapes out 0 refusal → refusal ≡ NoMemory
 claim_case old new shapes out p pools claimed refusal led free through (inl memory) = memory
 claim_case old new shapes out p pools claimed refusal led free through (inr (inl (fault, (which, failed)))) =

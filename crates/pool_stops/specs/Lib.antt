@@ -1,9 +1,11 @@
 pub mod Filled
 pub mod Standing
 pub mod Phases
+pub mod Whole
 pub mod Running
 pub mod Reopening
 pub mod Created
 pub mod Unhindered
 pub mod Configured
 pub mod OneConfig
+pub mod WholePools

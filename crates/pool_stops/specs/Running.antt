@@ -26,6 +26,7 @@ use Rattle.pool_slots.specs.Slots.{AreSettled}
 use Rattle.volume_rules.specs.NowMoves.{IsMadeBy}
 use Rattle.pool_stops.specs.Phases.{IsInPhase}
 use Rattle.pool_stops.specs.Standing.{LieBesideLabels, filled_trees}
+use Rattle.pool_stops.specs.Whole.{IsWholeTree}
 
 -- ---- between two steps
 
@@ -75,7 +76,7 @@ abbrev pub IsPossibleOf : State → Uberblock → List Uberblock → Possible �
 IsPossibleOf s last before p =
     (p ≡ only_last last before) ⊎ ((plan : Planned) × (s.planned ≡ Some plan) × (p ≡ last_or last before plan.uberblock))
 
--- Stopped at any moment up to the new one, the disks lead to one of these uberblocks, and below the root of each is the tree of its pool.
+-- Stopped at any moment up to the new one, the disks lead to one of these uberblocks, and below the root of each is the whole tree of its pool.
 pub record StopsAt (s : State) (v : View) (new : Disks) (last : Uberblock) (before : List Uberblock) : Type 0 where
   pub p : Possible
   pub which : IsPossibleOf s last before p
@@ -83,6 +84,7 @@ pub record StopsAt (s : State) (v : View) (new : Disks) (last : Uberblock) (befo
   pub off_labels : AreOffLabels trees s.store.out s.store.disks.starts
   pub always : LeadAlways trees s.store.out s.store.disks new p
   pub tree : (u : Uberblock) → IsInReach p u → IsTreeOf trees s.store.disks.starts (shapes_of s.store.spaces) s.store.out u (pool_of v u)
+  pub whole : (u : Uberblock) → (reach : IsInReach p u) → IsWholeTree (tree u reach)
 
 -- ---- laws
 

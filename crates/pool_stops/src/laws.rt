@@ -7,9 +7,7 @@ ghost use Rattle.pool_stops.specs.Reopening.{StoppedExportsLead, StoppedStepsLea
 ghost use Rattle.pool_stops.specs.Running.{RunningPoolsStepOn, RunsStopWell};
 ghost use Rattle.pool_stops.specs.Standing.{BlocksKeepWhatIsFilled, CommitsEndFilled, DueWritesAreUnfilled};
 ghost use Rattle.pool_stops.specs.Standing.{FilledTreesHoldBlocks, SlotsBeginBehindBlocks, SlotsKeepWhatIsForBlocks};
-ghost use Rattle.pool_stops.specs.Unhindered.{UnhinderedOpensAreDone};
 
-use block_store::losses_are_not_tolerable;
 use pool_slots::stepwise::{blocks_phase, reads_and_flushes_keep, slots_phase};
 
 /// Each byte of a block whose sectors are taken is filled.
@@ -143,13 +141,6 @@ pub fn led_disks_open()
     ensures { LedDisksOpen }
 {
     blocks_phase();
-}
-
-/// An open that doesn't go back, with all disks there, of which no call fails, and with groups and claims left, is refused for want of memory alone.
-pub fn unhindered_opens_are_done()
-    ensures { UnhinderedOpensAreDone }
-{
-    losses_are_not_tolerable();
 }
 
 /// **A pool outlives a stop at any moment of a run**, inside a step and inside a device call too, as long as no disk is out: its disks, opened anew,

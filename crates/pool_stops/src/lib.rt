@@ -4,6 +4,7 @@
 
 mod configured;
 mod laws;
+mod whole_pools;
 
 pub use configured::{
     created_pools_are_configured, created_pools_run_as, exports_stay_configured,
@@ -18,5 +19,9 @@ pub use laws::{
     filled_trees_hold_blocks, free_places_are_unfilled, led_disks_open, phases_end, phases_go_on,
     plans_keep_the_phase, reads_keep_the_phase, running_pools_step_on, runs_outlive_stops,
     runs_stop_well, slots_begin_behind_blocks, slots_keep_what_is_for_blocks, stopped_exports_lead,
-    stopped_opens_lead, stopped_steps_lead, unhindered_opens_are_done,
+    stopped_opens_lead, stopped_steps_lead,
+};
+pub use whole_pools::{
+    stopped_exports_lead_whole, stopped_opens_lead_whole, stopped_runs_lead_whole,
+    stopped_runs_reopen, unhindered_opens_are_done,
 };

@@ -1,0 +1,143 @@
+-- What stops leave leads to whole pools.
+use Rattle.std.proofs.Common.{ℕ, ◌≡◌, inl, inr, ⊎_elim, Bool, List, length, map, Option, refl, sym, ap, subst, ◌∙◌, arith}
+use Rattle.model_disk.specs.Joint.{content}
+use Rattle.block_store.specs.Places.{shapes_of}
+use Rattle.block_store.specs.declared.shape.VdevShape.{VdevShape}
+use Rattle.uberblock_ring.specs.declared.uberblock.Uberblock.{Uberblock}
+use Rattle.pool_commit.specs.declared.kept.Planned.{Planned}
+use Rattle.pool_commit.specs.State.{State}
+use Rattle.pool_export.specs.Moments.{IsLeading}
+use Rattle.pool_model.specs.Pools.{PlainPool}
+use Rattle.pool_open.specs.Stops.{fresh}
+use Rattle.pool_slots.specs.Commits.{AreAt, AreOffLabels, LeadAlways, only_last}
+use Rattle.pool_slots.specs.Opens.{CanOpen, also_begun}
+use Rattle.pool_slots.specs.PhaseLaws.{BlocksEnd}
+use Rattle.pool_slots.specs.Possible.{IsInReach, Possible, Trees}
+use Rattle.pool_slots.specs.Slots.{InUse}
+use Rattle.pool_stops.specs.Filled.{is_filled}
+use Rattle.pool_stops.specs.OneConfig.{RunsStopAs, RunStopsAs, StoppedExportsShowConfig, StoppedOpensShowConfig, StoppedRunsShowConfig}
+use Rattle.pool_stops.specs.Reopening.{IsPossibleBehind}
+use Rattle.pool_stops.specs.Running.{IsBetween, StandAt, pool_of}
+use Rattle.pool_stops.specs.Standing.{filled_trees}
+use Rattle.pool_stops.specs.Unhindered.{LeadToWholePools, UnhinderedOpensAreDone}
+use Rattle.pool_stops.specs.WholePools.{StoppedExportsLeadWhole, StoppedOpensLeadWhole, StoppedRunsLeadWhole, StoppedRunsReopen}
+use Rattle.pool_stops.proofs.Filled.{filled_bytes_are_for_blocks}
+use Rattle.pool_stops.proofs.Holding.{get_in_use}
+use Rattle.pool_stops.proofs.Reopening.{is_planned_so, lead_on, left_sizes, reach_behind}
+use Rattle.pool_stops.proofs.Standing.{picked_off}
+use Rattle.pool_stops.proofs.Steps.{tree_with}
+use Rattle.pool_stops.proofs.Whole.{WholeTreeOf}
+
+-- on disks of the same sizes
+whole_on : (trees : Trees) (starts others : List (List ℕ)) (shapes : List VdevShape) (out : List Bool) (u : Uberblock) (pool : PlainPool) → map length others ≡ map length starts
+    → WholeTreeOf trees starts shapes out u pool → WholeTreeOf trees others shapes out u pool
+whole_on trees starts others shapes out u pool sizes it = record {
+  tree = record {
+    stored = it.tree.stored;
+    spells = it.tree.spells;
+    made = it.tree.made;
+    held = λ disks same stands. it.tree.held disks (same ∙ sizes) stands;
+  };
+  whole = record { once = it.whole.once; apart = it.whole.apart };
+}
+
+-- under another claim
+claimed_whole : (trees : Trees) (starts : List (List ℕ)) (shapes : List VdevShape) (out : List Bool) (taken u : Uberblock) (pool : PlainPool) → u ≡ record taken { claim = u.claim }
+    → WholeTreeOf trees starts shapes out taken pool → WholeTreeOf trees starts shapes out u pool
+claimed_whole trees starts shapes out taken u pool is it =
+    let here : WholeTreeOf trees starts shapes out (record taken { claim = u.claim }) pool = record {
+      tree = record {
+        stored = it.tree.stored;
+        spells = it.tree.spells;
+        made = it.tree.made;
+        held = it.tree.held;
+      };
+      whole = record { once = it.whole.once; apart = it.whole.apart };
+    } in
+    subst (λ (w : Uberblock). WholeTreeOf trees starts shapes out w pool) (sym is) here
+
+pub stopped_runs_lead_whole : StoppedRunsShowConfig → StoppedRunsLeadWhole
+stopped_runs_lead_whole shows digest mid between new w images stops leaves =
+    let s : State = mid.commit in
+    let stop = stops.at.steps.stops in
+    let whole = stops.at.runs.whole in
+    let used : InUse s.store.out 0 = get_in_use s.store.out 0 (omega (arith, whole.some, whole.count)) (whole.none 0) in
+    let sizes = left_sizes s.store.disks.starts leaves.calls images leaves.left in
+    let each : (u : Uberblock) → IsInReach stop.p u → WholeTreeOf stop.trees images (shapes_of s.store.spaces) s.store.out u (pool_of between u) =
+    λ u reach. whole_on stop.trees s.store.disks.starts images (shapes_of s.store.spaces) s.store.out u (pool_of between u) sizes
+    (record { tree = stop.tree u reach; whole = stop.whole u reach }) in
+    record {
+      led = record {
+        trees = stop.trees;
+        can = lead_on stop.trees s.store.out s.store.disks.starts leaves.calls images stop.p (0, used) whole.count leaves.left stop.off_labels
+            (stop.always leaves.calls leaves.moment images leaves.left leaves.untorn);
+        tree = λ u reach. (each u reach).tree;
+      };
+      whole = λ u reach. (each u reach).whole;
+      configured = λ u reach which at. shows digest mid between new w images u which stops leaves reach at;
+    }
+
+pub stopped_opens_lead_whole : StoppedOpensShowConfig → StoppedOpensLeadWhole
+stopped_opens_lead_whole shows digest old new shapes out rewind p pools images few count by_group one led bound four kept honest leaves =
+    let sizes = left_sizes old.starts leaves.calls images leaves.left in
+    let trees : Trees = led.led.trees in
+    let can : (q : Possible) → LeadAlways trees out old new q → CanOpen trees out (fresh images) q =
+    λ q always. lead_on trees out old.starts leaves.calls images q led.led.can.some count leaves.left led.led.can.off_labels
+    (always leaves.calls leaves.moment images leaves.left leaves.untorn) in
+    let was : (u : Uberblock) → IsInReach p u → WholeTreeOf trees old.starts shapes out u (pools u) =
+    λ u reach. record { tree = led.led.tree u reach; whole = led.whole u reach } in
+    let lead : (later : Possible) → IsPossibleBehind p rewind later → LeadAlways trees out old new later
+    → ((u : Uberblock) → IsInReach later u → WholeTreeOf trees images shapes out u (pools u)) → LeadToWholePools (fresh images) shapes out later pools =
+    λ later behind always each. record {
+      led = record { trees = trees; can = can later always; tree = λ u reach. (each u reach).tree };
+      whole = λ u reach. (each u reach).whole;
+      configured = λ u reach which at.
+          shows digest old new shapes out rewind p later pools images u which few one led.led bound four kept honest leaves behind reach at;
+    } in
+    ⊎_elim
+    (λ always. (p, inl refl, lead p (inl refl) always (λ u reach. whole_on trees old.starts images shapes out u (pools u) sizes (was u reach))))
+    (λ (claim, is, always).
+    let behind : IsPossibleBehind p rewind (also_begun claim p) = inr (claim, is, refl) in (
+      also_begun claim p,
+      behind,
+      lead (also_begun claim p) behind always (λ w reach. whole_on trees old.starts images shapes out w (pools w) sizes (⊎_elim
+          (λ same.
+          subst (λ (x : Uberblock). WholeTreeOf trees old.starts shapes out x (pools x)) (sym same)
+          (subst (λ (pool : PlainPool). WholeTreeOf trees old.starts shapes out claim pool) (by_group is.taken claim (sym (ap (λ (x : Uberblock). x.group) is.is)))
+          (claimed_whole trees old.starts shapes out is.taken claim (pools is.taken) is.is (was is.taken is.reached))))
+          (λ before. was w before) (reach_behind p claim w reach))),
+    ))
+    (kept.leads trees p led.led.can honest)
+
+pub stopped_exports_lead_whole : BlocksEnd → StoppedExportsShowConfig → StoppedExportsLeadWhole
+stopped_exports_lead_whole ends shows digest core v last before u new images running begun leaves =
+    let runs = running.runs in
+    let s : State = core.commit in
+    let out : List Bool = s.store.out in
+    let trees : Trees = filled_trees s.store.spaces s.store.disks in
+    let none = is_planned_so s v s.planned runs.represents.backs refl (begun.exportable v runs.represents).at_rest.unsynced in
+    let between : IsBetween s last before = subst (λ (o : Option Planned). StandAt s o last before) none runs.stand in
+    let at : AreAt trees out s.store.disks last before = ends trees out s.store.disks last before between.blocks between.settled in
+    let off : AreOffLabels trees out s.store.disks.starts =
+    picked_off (is_filled s.store.spaces) (content s.store.disks) s.store.disks.starts s.store.spaces out runs.whole.lie (filled_bytes_are_for_blocks s.store.spaces) in
+    let used : InUse out 0 = get_in_use out 0 (omega (arith, runs.whole.some, runs.whole.count)) (runs.whole.none 0) in
+    let leading : IsLeading trees out s.store.disks (only_last last before) = record { off_labels = off; settled = at.settled; leads = at.leads } in
+    let sizes = left_sizes s.store.disks.starts leaves.calls images leaves.left in
+    let each : (w : Uberblock) → IsInReach (only_last last before) w → WholeTreeOf trees images (shapes_of s.store.spaces) out w (pool_of v w) =
+    λ w reach. whole_on trees s.store.disks.starts images (shapes_of s.store.spaces) out w (pool_of v w) sizes (tree_with s v last before core refl runs w reach) in
+    record {
+      led = record {
+        trees = trees;
+        can = lead_on trees out s.store.disks.starts leaves.calls images (only_last last before) (0, used) runs.whole.count leaves.left off
+            (begun.leads trees (only_last last before) leading leaves.calls leaves.moment images leaves.left leaves.untorn);
+        tree = λ w reach. (each w reach).tree;
+      };
+      whole = λ w reach. (each w reach).whole;
+      configured = λ w reach which used'. shows digest core v last before u new images w which running begun leaves reach used';
+    }
+
+pub stopped_runs_reopen : RunsStopAs → StoppedRunsLeadWhole → UnhinderedOpensAreDone → StoppedRunsReopen
+stopped_runs_reopen stop lead done old mid new v between w steps replies step reply last before digest images refusal runs end none leaves is free =
+    let stops : RunStopsAs digest mid between new w = stop old mid new v between w steps replies step reply last before digest runs end none in
+    done (fresh images) (shapes_of mid.commit.store.spaces) mid.commit.store.out stops.at.steps.stops.p (pool_of between) refusal
+    (lead digest mid between new w images stops leaves) is free
