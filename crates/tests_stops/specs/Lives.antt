@@ -9,10 +9,14 @@ use Rattle.pool_core.specs.State.{CoreState, disks_of}
 use Rattle.pool_create.specs.Planning.{nobody}
 use Rattle.pool_model.specs.Pools.{PlainPool}
 use Rattle.pool_model.specs.View.{View}
+use Rattle.pool_open.specs.Opening.{IsNotOpenedOver}
+use Rattle.pool_open.specs.declared.refusal.Refusal.{Refusal}
+use Rattle.pool_open.specs.declared.refusal.Refusal.TheVariants.{NoMemory}
 use Rattle.pool_slots.specs.Opens.{AreKnown}
 use Rattle.pool_slots.specs.Possible.{Possible}
+use Rattle.pool_stops.specs.OneConfig.{IsRunningAs}
 use Rattle.pool_stops.specs.Reopening.{IsOpenedWell, LeadToPools}
-use Rattle.pool_stops.specs.Running.{IsRunning}
+use Rattle.pool_stops.specs.Unhindered.{IsUnhindered, LeadToWholePools}
 
 -- the answers were true, and there are some disks and not too many
 pub record AreSound (old new : Disks) : Type 0 where
@@ -20,12 +24,18 @@ pub record AreSound (old new : Disks) : Type 0 where
   pub few : length old.starts ≤ 2 ^ 64
   pub honest : IsHonestSince old new
 
--- a pool that was just made runs behind its first uberblock
+-- a pool that was just made runs behind its first uberblock, with one configuration
 abbrev pub RunsAtFirst : Disks → Uberblock → CoreState → Type 0
-RunsAtFirst old u core = AreKnown (nobody old.starts) old → AreSound old (disks_of core) → (v : View) × IsRunning core v u []
+RunsAtFirst old u core = AreKnown (nobody old.starts) old → AreSound old (disks_of core) → (v : View) × IsRunningAs u.config_digest core v u []
 
 -- one that was opened with all its disks has the pool of an uberblock that they led to, and runs on
 abbrev pub OpensWell : Disks → List VdevShape → List Bool → Uberblock → CoreState → Type 0
 OpensWell old shapes out claimed core =
     (p : Possible) (pools : Uberblock → PlainPool) → LeadToPools old shapes out p pools → core.commit.store.out ≡ out
     → ((disk : ℕ) → is_out out disk ≡ false) → AreSound old (disks_of core) → IsOpenedWell p pools shapes out 0 claimed core
+
+-- one that was not, and that nothing hindered, lacked memory, if its disks led to whole pools
+abbrev pub IsRefusedWell : Disks → List VdevShape → List Bool → Refusal → Type 0
+IsRefusedWell old shapes out refusal =
+    (is : IsNotOpenedOver old shapes out 0 refusal) × ((p : Possible) (pools : Uberblock → PlainPool) → LeadToWholePools old shapes out p pools
+    → IsUnhindered old is.new shapes out → refusal ≡ NoMemory)

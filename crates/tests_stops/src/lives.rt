@@ -1,7 +1,7 @@
 //! Pools that run, by what the calls promise that make and open them.
-ghost use Rattle.std.specs.Prelude.{◌≡◌, length, IfOk};
+ghost use Rattle.std.specs.Prelude.{◌≡◌, length, IfErr, IfOk};
 ghost use Rattle.pool_core.specs.StateOf.{state_of};
-ghost use Rattle.tests_stops.specs.Lives.{OpensWell, RunsAtFirst};
+ghost use Rattle.tests_stops.specs.Lives.{IsRefusedWell, OpensWell, RunsAtFirst};
 
 use crate::pools::{DISK_BYTES, config};
 use block_store::VdevShape;
@@ -9,7 +9,7 @@ use model_disk::{DiskArray, MemDisk};
 use pool_create::create_over;
 use pool_format::PoolIdentity;
 use pool_open::{OpenedPool, Refusal, open_over};
-use pool_stops::{created_pools_run, led_disks_open};
+use pool_stops::{created_pools_run_as, led_disks_open, unhindered_opens_are_done};
 use raidz_io::Vdev;
 use raidz_map::Geometry;
 use std::alloc::Global;
@@ -25,12 +25,11 @@ fn created(
 ) -> Result<OpenedPool<MemDisk>, Refusal>
     ensures { IfOk result (λ opened. RunsAtFirst disks opened.uberblock (state_of opened.core)) }
 {
-    created_pools_run();
-    let opened = create_over(alloc, disks, pool, config)?;
-    Ok(opened)
+    created_pools_run_as();
+    create_over(alloc, disks, pool, config)
 }
 
-/// Opens it, and it runs on.
+/// Opens it, and it runs on. Where nothing hinders it, it isn't refused but for want of memory.
 fn reopened(
     alloc: Global,
     disks: DiskArray<MemDisk>,
@@ -38,12 +37,13 @@ fn reopened(
     out: Vec<bool>,
 ) -> Result<OpenedPool<MemDisk>, Refusal>
     requires out { length out.items ≡ length disks.starts }
-    ensures { IfOk result (λ opened.
+    ensures opened { IfOk result (λ opened.
         OpensWell disks shapes.now out.items opened.uberblock (state_of opened.core)) }
+    ensures refused { IfErr result (IsRefusedWell disks shapes.now out.items) }
 {
     led_disks_open();
-    let opened = open_over(alloc, disks, shapes, out, 0)?;
-    Ok(opened)
+    unhindered_opens_are_done();
+    open_over(alloc, disks, shapes, out, 0)
 }
 
 /// The vdev of the pools of these tests.

@@ -1,0 +1,24 @@
+use Rattle.std.proofs.Common.{◌∙◌, sym}
+use Rattle.pool_core.specs.StateOf.{state_of}
+use Rattle.pool_open.specs.Opening.{IsNotOpenedOver, IsOpenedOver}
+use Rattle.tests_stops.specs.Lives.{IsRefusedWell, OpensWell}
+use Rattle.tests_stops.proofs.Opened.{if_err, if_ok}
+use Rattle.tests_stops.proofs.lives.reopened.Goals as goal
+
+pub returns-clause-opened : goal.returns-clause-opened
+returns-clause-opened c =
+    let shapes = c.args.shapes.now in
+    let out = c.args.out.items in
+    if_ok c.open_over.result (λ pool. IsOpenedOver c.args.disks shapes out 0 pool.uberblock (state_of pool.core))
+    (λ pool. OpensWell c.args.disks shapes out pool.uberblock (state_of pool.core))
+    (λ pool is p pools led same none sound.
+    c.led_disks_open.ensures c.args.disks shapes out 0 p pools pool.uberblock (state_of pool.core) led is (sym is.outs ∙ same) none sound.few sound.honest)
+    c.open_over.ensures.opened
+
+pub returns-clause-refused : goal.returns-clause-refused
+returns-clause-refused c =
+    let shapes = c.args.shapes.now in
+    let out = c.args.out.items in
+    if_err c.open_over.result (IsNotOpenedOver c.args.disks shapes out 0) (IsRefusedWell c.args.disks shapes out)
+    (λ refusal is. (is, λ p pools led free. c.unhindered_opens_are_done.ensures c.args.disks shapes out p pools refusal led is free))
+    c.open_over.ensures.refused
