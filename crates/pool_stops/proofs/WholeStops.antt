@@ -20,7 +20,7 @@ use Rattle.pool_stops.specs.Reopening.{IsPossibleBehind}
 use Rattle.pool_stops.specs.Running.{IsBetween, StandAt, pool_of}
 use Rattle.pool_stops.specs.Standing.{filled_trees}
 use Rattle.pool_stops.specs.Unhindered.{LeadToWholePools, UnhinderedOpensAreDone}
-use Rattle.pool_stops.specs.WholePools.{StoppedExportsLeadWhole, StoppedOpensLeadWhole, StoppedRunsLeadWhole, StoppedRunsReopen}
+use Rattle.pool_stops.specs.WholePools.{StoppedExportsLeadWhole, StoppedExportsReopen, StoppedOpensLeadWhole, StoppedOpensReopen, StoppedRunsLeadWhole, StoppedRunsReopen}
 use Rattle.pool_stops.proofs.Filled.{filled_bytes_are_for_blocks}
 use Rattle.pool_stops.proofs.Holding.{get_in_use}
 use Rattle.pool_stops.proofs.Reopening.{is_planned_so, lead_on, left_sizes, reach_behind}
@@ -141,3 +141,13 @@ stopped_runs_reopen stop lead done old mid new v between w steps replies step re
     let stops : RunStopsAs digest mid between new w = stop old mid new v between w steps replies step reply last before digest runs end none in
     done (fresh images) (shapes_of mid.commit.store.spaces) mid.commit.store.out stops.at.steps.stops.p (pool_of between) refusal
     (lead digest mid between new w images stops leaves) is free
+
+pub stopped_opens_reopen : StoppedOpensLeadWhole → UnhinderedOpensAreDone → StoppedOpensReopen
+stopped_opens_reopen lead done digest old new shapes out rewind p pools images refusal few count by_group one led bound four kept honest leaves is free =
+    let it = lead digest old new shapes out rewind p pools images few count by_group one led bound four kept honest leaves in
+    done (fresh images) shapes out it.0 pools refusal it.2 is free
+
+pub stopped_exports_reopen : StoppedExportsLeadWhole → UnhinderedOpensAreDone → StoppedExportsReopen
+stopped_exports_reopen lead done digest core v last before exported new images refusal running begun leaves is free =
+    done (fresh images) (shapes_of core.commit.store.spaces) core.commit.store.out (only_last last before) (pool_of v) refusal
+    (lead digest core v last before exported new images running begun leaves) is free

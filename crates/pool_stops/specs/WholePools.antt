@@ -56,3 +56,21 @@ StoppedRunsReopen =
     → LeavesImages mid.commit.store.out (disks_of mid) (disks_of new) images
     → (is : IsNotOpenedOver (fresh images) (shapes_of mid.commit.store.spaces) mid.commit.store.out 0 refusal)
     → IsUnhindered (fresh images) is.new (shapes_of mid.commit.store.spaces) mid.commit.store.out → refusal ≡ NoMemory
+
+-- So it is wherever an open of such disks is stopped,
+abbrev pub StoppedOpensReopen : Type 0
+StoppedOpensReopen =
+    (digest : List ℕ) (old new : Disks) (shapes : List VdevShape) (out : List Bool) (rewind : ℕ) (p : Possible) (pools : Uberblock → PlainPool)
+    (images : List (List ℕ)) (refusal : Refusal) → rewind < 3 → length out ≡ length old.starts → AreByGroup pools → AreOfConfig digest p
+    → LeadToWholePools old shapes out p pools → LeavesConfigured out old.starts digest old.calls → AreNotFour out old
+    → IsKeptThrough out rewind old new → IsHonestSince old new → LeavesImages out old new images
+    → (is : IsNotOpenedOver (fresh images) shapes out 0 refusal) → IsUnhindered (fresh images) is.new shapes out → refusal ≡ NoMemory
+
+-- and wherever an export is stopped, and once it is done.
+abbrev pub StoppedExportsReopen : Type 0
+StoppedExportsReopen =
+    (digest : List ℕ) (core : CoreState) (v : View) (last : Uberblock) (before : List Uberblock) (exported : Uberblock) (new : Disks) (images : List (List ℕ))
+    (refusal : Refusal) → IsRunningAs digest core v last before → IsExportBegun core exported new
+    → LeavesImages core.commit.store.out (disks_of core) new images
+    → (is : IsNotOpenedOver (fresh images) (shapes_of core.commit.store.spaces) core.commit.store.out 0 refusal)
+    → IsUnhindered (fresh images) is.new (shapes_of core.commit.store.spaces) core.commit.store.out → refusal ≡ NoMemory

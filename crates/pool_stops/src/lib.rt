@@ -22,6 +22,6 @@ pub use laws::{
     stopped_opens_lead, stopped_steps_lead,
 };
 pub use whole_pools::{
-    stopped_exports_lead_whole, stopped_opens_lead_whole, stopped_runs_lead_whole,
-    stopped_runs_reopen, unhindered_opens_are_done,
+    stopped_exports_lead_whole, stopped_exports_reopen, stopped_opens_lead_whole,
+    stopped_opens_reopen, stopped_runs_lead_whole, stopped_runs_reopen, unhindered_opens_are_done,
 };

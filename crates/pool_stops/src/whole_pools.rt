@@ -1,6 +1,7 @@
 //! Laws of what a stop leaves, and of opens of it: it leads to whole pools, and an open that nothing hinders isn't refused.
 ghost use Rattle.pool_stops.specs.Unhindered.{UnhinderedOpensAreDone};
-ghost use Rattle.pool_stops.specs.WholePools.{StoppedExportsLeadWhole, StoppedOpensLeadWhole};
+ghost use Rattle.pool_stops.specs.WholePools.{StoppedExportsLeadWhole, StoppedExportsReopen};
+ghost use Rattle.pool_stops.specs.WholePools.{StoppedOpensLeadWhole, StoppedOpensReopen};
 ghost use Rattle.pool_stops.specs.WholePools.{StoppedRunsLeadWhole, StoppedRunsReopen};
 
 use crate::configured::{
@@ -45,5 +46,21 @@ pub fn stopped_runs_reopen()
 {
     runs_stop_as();
     stopped_runs_lead_whole();
+    unhindered_opens_are_done();
+}
+
+/// So it is wherever an open of such disks was stopped.
+pub fn stopped_opens_reopen()
+    ensures { StoppedOpensReopen }
+{
+    stopped_opens_lead_whole();
+    unhindered_opens_are_done();
+}
+
+/// And wherever an export was, and once it is done.
+pub fn stopped_exports_reopen()
+    ensures { StoppedExportsReopen }
+{
+    stopped_exports_lead_whole();
     unhindered_opens_are_done();
 }
