@@ -1,5 +1,7 @@
 -- Blocks that lie apart in places of a pool are no more than its sectors.
-use Rattle.std.proofs.Common.{ℕ, zero, suc, ◌≡◌, ◌≢◌, ◌⊎◌, inl, inr, ⊎_elim, ◌+◌, ◌*◌, ◌-◌, ◌/◌, ◌%◌, ◌^◌, ◌<◌, ◌≤◌, List, [], ◌∷◌, ◌++◌, length, map, min, Some, AllPairs, Contains, refl, sym, ap, subst, ◌∙◌, arith, mul-le-mul_right, mul-le-mul, slice_get, slice_index, slice_index_or}
+use Rattle.std.proofs.Common.{ℕ, zero, suc, ◌≡◌, ◌≢◌, ◌⊎◌, ⊎_elim, ◌+◌, ◌*◌, ◌-◌, ◌/◌, ◌%◌, ◌^◌, ◌<◌, ◌≤◌, List, [], ◌∷◌, length, map, min, Some, AllPairs, Contains, refl, sym, ap, subst, ◌∙◌, arith, mul-le-mul_right, mul-le-mul, slice_get, slice_index, slice_index_or}
+use Rattle.std.proofs.lemmas.List.{length-append, length-map}
+use Rattle.std.proofs.lemmas.List.Elements.{Contains-append_cases, Contains-get_or}
 use Rattle.std.proofs.lemmas.Nat.{div-add-mod'}
 use Rattle.std.proofs.Math.Nat.{div-mul-le_self}
 use Rattle.block_pointer.specs.Copies.{dvas}
@@ -115,10 +117,6 @@ in_upto (suc n) k below = ⊎_elim
     (λ more. ⊎_elim (λ equal. (0, omega arith, sym equal)) (λ above. absurd (omega (arith, above, below))) more)
     (compared k n)
 
-length-map : {X Y : Type 0} (f : X → Y) (xs : List X) → length (map f xs) ≡ length xs
-length-map f [] = refl
-length-map f (x ∷ xs) = ap suc (length-map f xs)
-
 index_map : {X : Type 0} (f : X → ℕ) (xs : List X) (k : ℕ) (d : X) → k < length xs → slice_index (map f xs) k ≡ f (slice_index_or xs k d)
 index_map f [] k d within = absurd (omega (arith, within))
 index_map f (x ∷ xs) zero d within = refl
@@ -131,11 +129,6 @@ among_map f (x ∷ xs) y (suc k, within, is) =
     let rest = among_map f xs y (k, omega (arith, within), is) in
     (rest.0, (suc rest.1.0, omega (arith, rest.1.1), rest.1.2), rest.2)
 
-at_index : {X : Type 0} (xs : List X) (k : ℕ) (d : X) → k < length xs → Contains xs (slice_index_or xs k d)
-at_index [] k d within = absurd (omega (arith, within))
-at_index (x ∷ xs) zero d within = (0, omega arith, refl)
-at_index (x ∷ xs) (suc k) d within = let rest = at_index xs k d (omega (arith, within)) in (suc rest.0, omega (arith, rest.1), rest.2)
-
 copies_fit : (spaces : List VdevSpace) (copies : List CopyAt) → ((copy : CopyAt) → Contains copies copy → Lies spaces copy) → AllPairs AreCopiesApart copies
     → length copies ≤ total spaces
 copies_fit spaces [] each apart = omega arith
@@ -143,24 +136,20 @@ copies_fit spaces (first ∷ rest) each apart =
     let copies : List CopyAt = first ∷ rest in
     let distinct : AreDistinct (map (number spaces) copies) = record {
       apart = λ i k less within.
-          let there : k < length copies = omega (arith, within, length-map (number spaces) copies) in
+          let there : k < length copies = omega (arith, within, length-map copies (number spaces)) in
           let here : i < length copies = omega (arith, there, less) in
           λ same.
-          numbers_differ spaces (slice_index_or copies i first) (slice_index_or copies k first) (each (slice_index_or copies i first) (at_index copies i first here))
-          (each (slice_index_or copies k first) (at_index copies k first there)) (apart i k first less there)
+          numbers_differ spaces (slice_index_or copies i first) (slice_index_or copies k first) (each (slice_index_or copies i first) (Contains-get_or copies i first here))
+          (each (slice_index_or copies k first) (Contains-get_or copies k first there)) (apart i k first less there)
           (sym (index_map (number spaces) copies i first here) ∙ same ∙ index_map (number spaces) copies k first there);
     } in
     let fit : length (map (number spaces) copies) ≤ length (upto (total spaces)) =
     distinct_fit (map (number spaces) copies) (upto (total spaces)) distinct (λ y held.
     let from = among_map (number spaces) copies y held in
     in_upto (total spaces) y (subst (λ n. n < total spaces) from.2 (numbers_below spaces from.0 (each from.0 from.1)))) in
-    omega (arith, fit, length-map (number spaces) copies, length-upto (total spaces))
+    omega (arith, fit, length-map copies (number spaces), length-upto (total spaces))
 
 -- ---- blocks have copies
-
-length-append : {X : Type 0} (xs ys : List X) → length (xs ++ ys) ≡ length xs + length ys
-length-append [] ys = omega arith
-length-append (x ∷ xs) ys = omega (arith, length-append xs ys)
 
 some_copies : (n : ℕ) (copies : Copies) → 0 < length (copies_at n (dvas copies))
 some_copies n (One a) = omega arith
@@ -183,14 +172,8 @@ copy_of (block ∷ blocks) copy held = ⊎_elim
     (λ later.
     let rest = copy_of blocks copy later in
     (rest.0, (suc rest.1.0, omega (arith, rest.1.1), rest.1.2), rest.2, rest.3))
-    (in_either (copies_of block) (copies_of_all blocks) copy held)
+    (Contains-append_cases (copies_of block) (copies_of_all blocks) copy held)
   where
-    in_either : (xs ys : List CopyAt) (x : CopyAt) → Contains (xs ++ ys) x → Contains xs x ⊎ Contains ys x
-    in_either [] ys x at = inr at
-    in_either (y ∷ xs) ys x (zero, within, is) = inl (0, omega arith, is)
-    in_either (y ∷ xs) ys x (suc k, within, is) =
-        ⊎_elim (λ left. inl (suc left.0, omega (arith, left.1), left.2)) (λ right. inr right) (in_either xs ys x (k, omega (arith, within), is))
-
     of_block : (n : ℕ) (places : List Dva) (it : CopyAt) → Contains (copies_at n places) it → (it.sectors ≡ n) × Contains places it.place
     of_block n [] it (k, within, is) = absurd (omega (arith, within))
     of_block n (place ∷ places) it (zero, within, is) = (ap (λ (c : CopyAt). c.sectors) (sym is), (0, omega arith, ap (λ (c : CopyAt). c.place) is))

@@ -1,5 +1,6 @@
 -- Roots lead to blocks that lie apart.
-use Rattle.std.proofs.Common.{ℕ, zero, suc, ◌≡◌, ◌⊎◌, inl, inr, ⊎_elim, ◌<◌, Bool, List, [], ◌∷◌, ◌++◌, length, Option, Some, None, AllPairs, Contains, ◌≢◌, if◌then◌else◌, true, false, refl, sym, ap, subst, ◌∙◌, arith, slice_get, slice_index_or}
+use Rattle.std.proofs.Common.{ℕ, zero, suc, ◌≡◌, ◌⊎◌, ⊎_elim, ◌<◌, Bool, List, [], ◌∷◌, ◌++◌, length, Option, Some, None, AllPairs, Contains, ◌≢◌, if◌then◌else◌, true, false, refl, sym, ap, subst, ◌∙◌, arith, slice_get, slice_index_or}
+use Rattle.std.proofs.lemmas.List.Elements.{Contains-append_cases, Contains-get_or}
 use Rattle.block_pointer.specs.Copies.{dvas}
 use Rattle.block_pointer.specs.declared.block.Block.{Block}
 use Rattle.block_pointer.specs.declared.dva.Dva.{Dva}
@@ -44,17 +45,6 @@ pairs_first R x xs first rest (suc i) (suc j) d less within = rest i j d (omega 
 pairs_rest : {X : Type 0} (R : X → X → Type 0) (x : X) (xs : List X) → AllPairs R (x ∷ xs) → AllPairs R xs
 pairs_rest R x xs all i j d less within = all (suc i) (suc j) d (omega (arith, less)) (omega (arith, within))
 
-at_index : {X : Type 0} (xs : List X) (k : ℕ) (d : X) → k < length xs → Contains xs (slice_index_or xs k d)
-at_index [] k d within = absurd (omega (arith, within))
-at_index (x ∷ xs) zero d within = (0, omega arith, refl)
-at_index (x ∷ xs) (suc k) d within = let rest = at_index xs k d (omega (arith, within)) in (suc rest.0, omega (arith, rest.1), rest.2)
-
-first_of_both : {X : Type 0} (xs ys : List X) (x : X) → Contains (xs ++ ys) x → Contains xs x ⊎ Contains ys x
-first_of_both [] ys x at = inr at
-first_of_both (y ∷ xs) ys x (zero, within, is) = inl (0, omega arith, is)
-first_of_both (y ∷ xs) ys x (suc k, within, is) =
-    ⊎_elim (λ left. inl (suc left.0, omega (arith, left.1), left.2)) (λ right. inr right) (first_of_both xs ys x (k, omega (arith, within), is))
-
 pairs_both : {X : Type 0} (R : X → X → Type 0) (xs ys : List X) → AllPairs R xs → AllPairs R ys → ((x y : X) → Contains xs x → Contains ys y → R x y) → AllPairs R (xs ++ ys)
 pairs_both R [] ys left right across = right
 pairs_both {X = X} R (x ∷ xs) ys left right across =
@@ -62,7 +52,7 @@ pairs_both {X = X} R (x ∷ xs) ys left right across =
     (λ k d within. ⊎_elim
     (λ (j, below, is). subst (λ y. R x y) is (first_with x xs left j (slice_index_or (xs ++ ys) k d) below))
     (λ among. across x (slice_index_or (xs ++ ys) k d) (0, omega arith, refl) among)
-    (first_of_both xs ys (slice_index_or (xs ++ ys) k d) (at_index (xs ++ ys) k d within)))
+    (Contains-append_cases xs ys (slice_index_or (xs ++ ys) k d) (Contains-get_or (xs ++ ys) k d within)))
     (pairs_both R xs ys (pairs_rest R x xs left) right (λ a b among. across a b (suc among.0, omega (arith, among.1), among.2)))
   where
     first_with : (y : X) (zs : List X) → AllPairs R (y ∷ zs) → (j : ℕ) (e : X) → j < length zs → R y (slice_index_or zs j e)
