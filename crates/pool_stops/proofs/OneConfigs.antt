@@ -2,6 +2,9 @@
 use Rattle.std.proofs.Common.{◌≡◌, ⊎_elim, inl, inr, ℕ, Bool, List, [], ◌∷◌, length, Option, Some, sym, ap, subst, ◌∙◌, arith}
 use Rattle.model_disk.specs.Joint.{bytes_of, content}
 use Rattle.model_disk.specs.Runs.{EachSince}
+use Rattle.block_store.specs.Opened.{MayBeOpened}
+use Rattle.block_store.specs.Places.{shapes_of}
+use Rattle.block_store.specs.declared.shape.VdevShape.{VdevShape}
 use Rattle.uberblock_ring.specs.declared.uberblock.Uberblock.{Uberblock}
 use Rattle.pool_commit.specs.Backs.{Backs, HasPlan, IsPlanOf}
 use Rattle.pool_commit.specs.State.{NoneIsOut, State}
@@ -15,6 +18,7 @@ use Rattle.pool_model.specs.declared.step.Reply.{Reply}
 use Rattle.pool_model.specs.declared.step.Step.{Step}
 use Rattle.pool_model.specs.declared.step.Step.TheVariants.{Hold, Write, Act, Release, Close, Quiesce, Plan, Device, Read, ReadUnder}
 use Rattle.pool_open.specs.Stops.{fresh}
+use Rattle.pool_open.proofs.Through.{through_made}
 use Rattle.pool_slots.specs.Commits.{only_last}
 use Rattle.pool_slots.specs.Configs.{IsConfigured}
 use Rattle.pool_slots.specs.Opens.{CanOpen, IsClaimOf}
@@ -24,7 +28,7 @@ use Rattle.pool_stops.specs.Configured.{HoldConfigured, ShowsConfigured, StepsSt
 use Rattle.pool_stops.specs.Created.{CreatedPoolsRun}
 use Rattle.pool_stops.specs.OneConfig.{AreOfConfig, CreatedPoolsRunAs, IsRunningAs, OpenedPoolsRunAs, RunsStopAs, StoppedExportsShowConfig, StoppedOpensAreOfConfig, StoppedOpensShowConfig, StoppedRunsShowConfig}
 use Rattle.pool_stops.specs.Reopening.{LedDisksOpen}
-use Rattle.pool_stops.specs.Running.{IsNextOf, IsPossibleOf, RunningPoolsStepOn, StepsOn}
+use Rattle.pool_stops.specs.Running.{IsNextOf, IsPossibleOf, IsWhole, RunningPoolsStepOn, StepsOn}
 use Rattle.pool_stops.proofs.LabelStops.{created_pools_are_configured, exports_stay_configured, opened_pools_are_configured, opens_stay_configured, shows_still}
 use Rattle.pool_stops.proofs.Labels.{held_labels_are_left, same_starts}
 use Rattle.pool_stops.proofs.Reopening.{alone, reach_behind}
@@ -44,6 +48,32 @@ same_stamp (Plan t) old new moves = ⊎_elim (λ same. ap (λ s. s.stamp) same) 
 same_stamp Device old new moves = ⊎_elim (λ same. ap (λ s. s.stamp) same) (λ writes. writes.stamp) moves
 same_stamp (Read a b c) old new moves = ap (λ s. s.stamp) moves.rest
 same_stamp (ReadUnder g a b c) old new moves = ap (λ s. s.stamp) moves.rest
+
+-- ---- the vdevs and their disks
+
+same_shapes : (step : Step) (old new : State) → Moves step old new → shapes_of new.store.spaces ≡ shapes_of old.store.spaces
+same_shapes (Hold x) old new moves = ap (λ s. shapes_of s.store.spaces) moves
+same_shapes (Write x) old new moves = ap (λ s. shapes_of s.store.spaces) moves
+same_shapes (Act x) old new moves = ap (λ s. shapes_of s.store.spaces) moves
+same_shapes (Release x) old new moves = ap (λ s. shapes_of s.store.spaces) moves
+same_shapes Close old new moves = ap (λ s. shapes_of s.store.spaces) moves
+same_shapes Quiesce old new moves = ap (λ s. shapes_of s.store.spaces) moves
+same_shapes (Plan t) old new moves = ⊎_elim (λ same. ap (λ s. shapes_of s.store.spaces) same) (λ plans. plans.from.shapes) moves
+same_shapes Device old new moves = ⊎_elim (λ same. ap (λ s. shapes_of s.store.spaces) same) (λ writes. writes.shapes) moves
+same_shapes (Read a b c) old new moves = ap (λ s. shapes_of s.store.spaces) moves.rest
+same_shapes (ReadUnder g a b c) old new moves = ap (λ s. shapes_of s.store.spaces) moves.rest
+
+-- they lie on them still
+lies_still : (step : Step) (old new : State) → Moves step old new → IsWhole new → MayBeOpened old.store.disks.starts (shapes_of old.store.spaces) old.store.out
+    → MayBeOpened new.store.disks.starts (shapes_of new.store.spaces) new.store.out
+lies_still step old new moves whole lies =
+    let P : List (List ℕ) → List VdevShape → Type 0 = λ starts shapes. MayBeOpened starts shapes old.store.out in
+    let there : MayBeOpened new.store.disks.starts (shapes_of new.store.spaces) old.store.out =
+    subst (λ starts. P starts (shapes_of new.store.spaces)) (sym (same_starts step old new moves))
+    (subst (λ shapes. P old.store.disks.starts shapes) (sym (same_shapes step old new moves)) lies) in
+    record { some = there.some; few = there.few; lie = there.lie; flags = whole.count }
+
+-- ---- the configuration of uberblocks to come
 
 -- a plan's uberblock has that of the stamp
 planned_config : (digest : List ℕ) (old : CoreState) (v : View) (last : Uberblock) (before : List Uberblock) (plan : Planned)
@@ -113,6 +143,7 @@ steps_as law stay digest old new v w step given reply last before so link moves 
       held = held;
       so = record {
         runs = on.runs;
+        lies = lies_still step old.commit new.commit moves on.runs.whole so.lies;
         stamped = ap (λ st. st.config_digest) (same_stamp step old.commit new.commit moves) ∙ so.stamped;
         one = behind_step digest old v last before on.later on.earlier so on.next;
         shows = shows_still old.commit new.commit digest so.runs.whole on.runs.whole (same_starts step old.commit new.commit moves) held;
@@ -146,6 +177,7 @@ runs_stop_as law stay old mid new v between w steps replies step reply last befo
     let last_step = steps_as law stay digest mid new between w step end.given reply led.last led.before led.so end.link end.moves none in
     record {
       at = record { last = led.last; earlier = led.before; runs = led.so.runs; steps = last_step.on };
+      lies = led.so.lies;
       one = within_step digest mid between led.last led.before last_step.on.stops.p led.so last_step.on.stops.which;
       held = last_step.held;
       on = last_step.so;
@@ -174,6 +206,9 @@ stopped_runs_show_config digest mid between new w images u which stops leaves re
 pub created_pools_run_as : CreatedPoolsRun → CreatedPoolsRunAs
 created_pools_run_as law old pool config u core is known honest some few = record {
   runs = law old pool config u core is known honest some few;
+  lies = subst (λ (shapes : List VdevShape). MayBeOpened (disks_of core).starts shapes core.commit.store.out) (sym is.vdevs)
+      (subst (λ (starts : List (List ℕ)). MayBeOpened starts is.shapes core.commit.store.out) (sym is.grew.starts)
+      (subst (λ (flags : List Bool). MayBeOpened old.starts is.shapes flags) (sym is.outs) (is.may.lie is.shapes is.shapes_are)));
   stamped = ap (λ st. st.config_digest) is.stamped;
   one = λ w reach. ap (λ (x : Uberblock). x.config_digest) (alone u w reach);
   shows = created_pools_are_configured old pool config u core is;
@@ -186,11 +221,15 @@ pub opened_pools_run_as : LedDisksOpen → OpenedPoolsRunAs
 opened_pools_run_as law old shapes out rewind p pools claimed core digest one led is all none few honest =
     let well = law old shapes out rewind p pools claimed core led is all none few honest in
     let same : claimed.config_digest ≡ digest = claim_config digest p rewind claimed one well.opened.claim in
+    let starts : (disks_of core).starts ≡ old.starts = is.calls.claims.makes.starts ∙ (through_made out is.later old is.calls.read is.calls.before).starts in
     let can : CanOpen led.trees is.later old p = subst (λ (flags : List Bool). CanOpen led.trees flags old p) (sym all) led.can in
     record {
       well = well;
       runs = record {
         runs = well.runs;
+        lies = subst (λ (them : List VdevShape). MayBeOpened (disks_of core).starts them core.commit.store.out) (sym is.vdevs)
+            (subst (λ (starts : List (List ℕ)). MayBeOpened starts shapes core.commit.store.out) (sym starts)
+            (subst (λ (flags : List Bool). MayBeOpened old.starts shapes flags) (sym (is.outs ∙ all)) is.may));
         stamped = ap (λ st. st.config_digest) is.stamped ∙ same;
         one = λ w reach. ap (λ (x : Uberblock). x.config_digest) (alone claimed w reach) ∙ same;
         shows = subst (λ (d : List ℕ). ShowsConfigured core.commit d) same

@@ -1,5 +1,6 @@
 -- Opens that nothing hinders are refused for want of memory alone.
 use Rattle.std.proofs.Common.{ℕ, zero, suc, ◌≡◌, ◌⊎◌, inl, inr, ⊎_elim, ◌+◌, ◌<◌, ◌≤◌, Bool, true, false, List, [], ◌∷◌, length, map, Some, Contains, refl, sym, ap, subst, ◌∙◌, arith, true≢false, if◌then◌else◌, nat_le, ◌&&◌}
+use Rattle.pool_model.specs.Refusals.{greatest}
 use Rattle.std.proofs.lemmas.Bool.Decides.{nat_tests}
 use Rattle.model_disk.specs.Joint.{Disks, JointCall, content, failed_since}
 use Rattle.model_disk.specs.Runs.{Makes, no_write}
@@ -29,6 +30,7 @@ use Rattle.pool_open.specs.declared.refusal.Refusal.{Refusal}
 use Rattle.pool_open.specs.declared.refusal.Refusal.TheVariants.{NoMemory}
 use Rattle.pool_open.proofs.Through.{block_reads_made, honest_within, through_made}
 use Rattle.pool_slots.specs.Failures.{HasFailedOn}
+use Rattle.pool_slots.specs.Marks.{IsUsedUp}
 use Rattle.pool_slots.specs.Opens.{CanOpen, IsHighestShown, IsRead, IsShown}
 use Rattle.pool_slots.specs.Possible.{IsPossible, Possible, TreeStands, Trees}
 use Rattle.pool_slots.specs.Present.{GoOut}
@@ -43,12 +45,21 @@ use Rattle.pool_slots.proofs.ReadRuns.{reads_made}
 use Rattle.uberblock_ring.proofs.Ranks.{ranks_through}
 use Rattle.uberblock_ring.specs.Ranking.{IsRewound, RanksUpTo}
 use Rattle.uberblock_ring.specs.declared.uberblock.Uberblock.{Uberblock}
-use Rattle.pool_stops.specs.Unhindered.{IsUnhindered, LeadToWholePools, UnhinderedOpensAreDone}
+use Rattle.pool_stops.specs.Unhindered.{LeadToWholePools, UnhinderedOpensAreDone}
 use Rattle.pool_stops.specs.Whole.{IsWholeTree, LieApart}
 use Rattle.pool_stops.proofs.Counting.{blocks_fit}
 use Rattle.pool_stops.proofs.FreePlaces.{can_take_in}
 use Rattle.pool_stops.proofs.Holding.{get_in_use}
 use Rattle.pool_stops.proofs.Lost.{not_for_loss}
+
+-- all disks are there, and nothing hinders the open
+record IsFree (old new : Disks) (shapes : List VdevShape) (out : List Bool) : Type 0 where
+  pub none : (disk : ℕ) → is_out out disk ≡ false
+  pub may : MayBeOpened old.starts shapes out
+  pub groups : (u : Uberblock) → IsRead out old u → u.group < greatest
+  pub claims : (u : Uberblock) → IsHighestShown out old u → ¬ IsUsedUp out old u
+  pub honest : IsHonestSince old new
+  pub none_failed : (disk : ℕ) → ¬ HasFailedOn old new disk
 
 -- ---- no disk goes out
 
@@ -140,7 +151,7 @@ surveyed_is trees out disks p s can says =
 -- ---- before anything is read of the root
 
 survey_case : (old new : Disks) (shapes : List VdevShape) (out : List Bool) (p : Possible) (pools : Uberblock → PlainPool) (refusal : Refusal) → LeadToWholePools old shapes out p pools
-    → IsUnhindered old new shapes out → IsSurveyRefused shapes out 0 old new refusal → refusal ≡ NoMemory
+    → IsFree old new shapes out → IsSurveyRefused shapes out 0 old new refusal → refusal ≡ NoMemory
 survey_case old new shapes out p pools refusal led free (inr (inl (barred, (s, is, most)))) =
     let can = led.led.can in
     let says : IsSurveyOf out 0 old s = is.says can.known free.honest in
@@ -173,7 +184,7 @@ record AtRoot (disks : Disks) (shapes : List VdevShape) (out : List Bool) (pool 
   pub hold : HoldOver disks shapes out stored
 
 at_root : (old surveyed new : Disks) (shapes : List VdevShape) (out : List Bool) (p : Possible) (pools : Uberblock → PlainPool) (s : Surveyed) → LeadToWholePools old shapes out p pools
-    → IsUnhindered old new shapes out → Makes no_write old surveyed → IsHonestSince old surveyed → IsSurveyed out 0 old surveyed s → AtRoot surveyed shapes out (pools s.taken) s.claimed
+    → IsFree old new shapes out → Makes no_write old surveyed → IsHonestSince old surveyed → IsSurveyed out 0 old surveyed s → AtRoot surveyed shapes out (pools s.taken) s.claimed
 at_root old surveyed new shapes out p pools s led free makes honest is =
     let can = led.led.can in
     let says : IsSurveyOf out 0 old s = is.says can.known honest in
@@ -192,7 +203,7 @@ at_root old surveyed new shapes out p pools s led free makes honest is =
     subst (λ (u : Uberblock). AtRoot surveyed shapes out (pools s.taken) u) (sym says.claimed) here
 
 root_case : LossesAreNotTolerable → (old surveyed new : Disks) (shapes : List VdevShape) (out : List Bool) (p : Possible) (pools : Uberblock → PlainPool) (refusal : Refusal)
-    → LeadToWholePools old shapes out p pools → IsUnhindered old new shapes out → Makes no_write old surveyed → Makes no_write surveyed new
+    → LeadToWholePools old shapes out p pools → IsFree old new shapes out → Makes no_write old surveyed → Makes no_write surveyed new
     → IsRootUnread old surveyed new shapes out 0 refusal → refusal ≡ NoMemory
 root_case law old surveyed new shapes out p pools refusal led free makes reads unread =
     let honest : IsHonestSince old surveyed = honest_within no_write old old surveyed new (Makes-none no_write old) reads free.honest in
@@ -218,7 +229,7 @@ root_case law old surveyed new shapes out p pools refusal led free makes reads u
     unread.same ∙ ap of_store memory
 
 reading_case : LossesAreNotTolerable → (old new : Disks) (shapes : List VdevShape) (out : List Bool) (p : Possible) (pools : Uberblock → PlainPool) (refusal : Refusal)
-    → LeadToWholePools old shapes out p pools → IsUnhindered old new shapes out → (through : AreReadThrough out out old new)
+    → LeadToWholePools old shapes out p pools → IsFree old new shapes out → (through : AreReadThrough out out old new)
     → IsCauseOfReading old through.surveyed new shapes out out 0 refusal → refusal ≡ NoMemory
 reading_case law old new shapes out p pools refusal led free through (inl memory) = memory
 reading_case law old new shapes out p pools refusal led free through (inr (inl (bad, not))) = absurd (not free.may)
@@ -229,7 +240,7 @@ reading_case law old new shapes out p pools refusal led free through (inr (inr (
 -- ---- the claim
 
 misplaced_case : (old surveyed read new : Disks) (shapes : List VdevShape) (out : List Bool) (p : Possible) (pools : Uberblock → PlainPool) (may : ℕ → ℕ → List ℕ → Type 0)
-    → LeadToWholePools old shapes out p pools → IsUnhindered old new shapes out → Makes no_write old surveyed → Makes no_write surveyed read → Makes may read new
+    → LeadToWholePools old shapes out p pools → IsFree old new shapes out → Makes no_write old surveyed → Makes no_write surveyed read → Makes may read new
     → IsReadMisplaced old surveyed read new shapes out 0 → ⊥
 misplaced_case old surveyed read new shapes out p pools may led free makes reads claims it =
     let all : IsHonestSince old read = honest_within may old old read new (Makes-none no_write old) claims free.honest in
@@ -244,7 +255,7 @@ misplaced_case old surveyed read new shapes out p pools may led free makes reads
     can_take_in it.why.store.spaces it.why.after shapes (reach_of at.spells) it.why.over.shapes_are it.why.empty at.apart cannot
 
 claim_case : (old new : Disks) (shapes : List VdevShape) (out : List Bool) (p : Possible) (pools : Uberblock → PlainPool) (claimed : Uberblock) (refusal : Refusal)
-    → LeadToWholePools old shapes out p pools → IsUnhindered old new shapes out → (through : AreClaimedThrough out out claimed old new)
+    → LeadToWholePools old shapes out p pools → IsFree old new shapes out → (through : AreClaimedThrough out out claimed old new)
     → IsCauseOfClaim old through.before.surveyed through.read new shapes out 0 refusal → refusal ≡ NoMemory
 claim_case old new shapes out p pools claimed refusal led free through (inl memory) = memory
 claim_case old new shapes out p pools claimed refusal led free through (inr (inl (fault, (which, failed)))) =
@@ -256,7 +267,15 @@ claim_case old new shapes out p pools claimed refusal led free through (inr (inr
 -- ---- the law
 
 pub unhindered_opens_are_done : LossesAreNotTolerable → UnhinderedOpensAreDone
-unhindered_opens_are_done law old shapes out p pools refusal led is free =
+unhindered_opens_are_done law old shapes out p pools refusal led there is unhindered =
+    let free : IsFree old is.new shapes out = record {
+      none = there.none;
+      may = there.may;
+      groups = unhindered.groups;
+      claims = unhindered.claims;
+      honest = unhindered.honest;
+      none_failed = unhindered.none_failed;
+    } in
     let count : length is.later ≡ length out = is.count ∙ sym free.may.flags in
     let R : List Bool → Type 0 = λ later. (through : AreReadThrough out later old is.new) × IsCauseOfReading old through.surveyed is.new shapes out later 0 refusal in
     let C : List Bool → Type 0 = λ later. (claimed : Uberblock) × (through : AreClaimedThrough out later claimed old is.new)

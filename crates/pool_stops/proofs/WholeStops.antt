@@ -1,6 +1,8 @@
 -- What stops leave leads to whole pools.
-use Rattle.std.proofs.Common.{ℕ, ◌≡◌, inl, inr, ⊎_elim, Bool, List, length, map, Option, refl, sym, ap, subst, ◌∙◌, arith}
-use Rattle.model_disk.specs.Joint.{content}
+use Rattle.std.proofs.Common.{ℕ, ◌≡◌, inl, inr, ⊎_elim, Bool, List, length, map, Option, refl, sym, ap, subst, ◌∙◌, arith, ◌<◌, ◌≤◌, ◌+◌, [], ◌∷◌}
+use Rattle.block_store.specs.Opened.{FitsDisks, LieOn}
+use Rattle.block_store.specs.Config.{IsAllowedSize, sectors_of}
+use Rattle.model_disk.specs.Joint.{content, JointCall, MayLeaveAll, bytes_of}
 use Rattle.block_store.specs.Places.{shapes_of}
 use Rattle.block_store.specs.declared.shape.VdevShape.{VdevShape}
 use Rattle.uberblock_ring.specs.declared.uberblock.Uberblock.{Uberblock}
@@ -19,7 +21,7 @@ use Rattle.pool_stops.specs.OneConfig.{RunsStopAs, RunStopsAs, StoppedExportsSho
 use Rattle.pool_stops.specs.Reopening.{IsPossibleBehind}
 use Rattle.pool_stops.specs.Running.{IsBetween, StandAt, pool_of}
 use Rattle.pool_stops.specs.Standing.{filled_trees}
-use Rattle.pool_stops.specs.Unhindered.{LeadToWholePools, UnhinderedOpensAreDone}
+use Rattle.pool_stops.specs.Unhindered.{AreAllThere, LeadToWholePools, UnhinderedOpensAreDone}
 use Rattle.pool_stops.specs.WholePools.{StoppedExportsLeadWhole, StoppedExportsReopen, StoppedOpensLeadWhole, StoppedOpensReopen, StoppedRunsLeadWhole, StoppedRunsReopen}
 use Rattle.pool_stops.proofs.Filled.{filled_bytes_are_for_blocks}
 use Rattle.pool_stops.proofs.Holding.{get_in_use}
@@ -136,18 +138,55 @@ stopped_exports_lead_whole ends shows digest core v last before u new images run
       configured = λ w reach which used'. shows digest core v last before u new images w which running begun leaves reach used';
     }
 
+-- ---- and are all there
+
+fits_on : (starts images : List (List ℕ)) (shape : VdevShape) → length images ≡ length starts
+    → ((disk : ℕ) → disk < length starts → length (bytes_of images disk) ≡ length (bytes_of starts disk)) → FitsDisks starts shape → FitsDisks images shape
+fits_on starts images shape count same fits = record {
+  there = omega (arith, fits.there, count);
+  sizes = λ disk from below. subst IsAllowedSize (sym (same disk (omega (arith, below, fits.there)))) (fits.sizes disk from below);
+  sectors = λ disk from below.
+      subst (λ n. shape.child_sectors ≤ sectors_of n) (sym (same disk (omega (arith, below, fits.there)))) (fits.sectors disk from below);
+  some = fits.some;
+  few = fits.few;
+}
+
+lies_on : (starts images : List (List ℕ)) (first : ℕ) (shapes : List VdevShape) → length images ≡ length starts
+    → ((disk : ℕ) → disk < length starts → length (bytes_of images disk) ≡ length (bytes_of starts disk)) → LieOn starts first shapes → LieOn images first shapes
+lies_on starts images first [] count same lie = lie ∙ sym count
+lies_on starts images first (shape ∷ shapes) count same lie =
+    (lie.0, fits_on starts images shape count same lie.1, lies_on starts images (first + shape.vdev.geometry.children) shapes count same lie.2)
+
+all_there : (starts : List (List ℕ)) (calls : List JointCall) (images : List (List ℕ)) (shapes : List VdevShape) (out : List Bool) → MayLeaveAll starts calls images
+    → AreAllThere starts shapes out → AreAllThere images shapes out
+all_there starts calls images shapes out left there = record {
+  none = there.none;
+  may = record {
+    some = there.may.some;
+    few = there.may.few;
+    lie = lies_on starts images 0 shapes left.count (λ disk below. (left.each disk below).size) there.may.lie;
+    flags = there.may.flags ∙ sym left.count;
+  };
+}
+
 pub stopped_runs_reopen : RunsStopAs → StoppedRunsLeadWhole → UnhinderedOpensAreDone → StoppedRunsReopen
 stopped_runs_reopen stop lead done old mid new v between w steps replies step reply last before digest images refusal runs end none leaves is free =
     let stops : RunStopsAs digest mid between new w = stop old mid new v between w steps replies step reply last before digest runs end none in
-    done (fresh images) (shapes_of mid.commit.store.spaces) mid.commit.store.out stops.at.steps.stops.p (pool_of between) refusal
-    (lead digest mid between new w images stops leaves) is free
+    let s : State = mid.commit in
+    let there : AreAllThere images (shapes_of s.store.spaces) s.store.out =
+    all_there s.store.disks.starts leaves.calls images (shapes_of s.store.spaces) s.store.out leaves.left (record { none = stops.at.runs.whole.none; may = stops.lies }) in
+    done (fresh images) (shapes_of s.store.spaces) s.store.out stops.at.steps.stops.p (pool_of between) refusal
+    (lead digest mid between new w images stops leaves) there is free
 
 pub stopped_opens_reopen : StoppedOpensLeadWhole → UnhinderedOpensAreDone → StoppedOpensReopen
-stopped_opens_reopen lead done digest old new shapes out rewind p pools images refusal few count by_group one led bound four kept honest leaves is free =
-    let it = lead digest old new shapes out rewind p pools images few count by_group one led bound four kept honest leaves in
-    done (fresh images) shapes out it.0 pools refusal it.2 is free
+stopped_opens_reopen lead done digest old new shapes out rewind p pools images refusal few all by_group one led bound four kept honest leaves is free =
+    let it = lead digest old new shapes out rewind p pools images few all.may.flags by_group one led bound four kept honest leaves in
+    done (fresh images) shapes out it.0 pools refusal it.2 (all_there old.starts leaves.calls images shapes out leaves.left all) is free
 
 pub stopped_exports_reopen : StoppedExportsLeadWhole → UnhinderedOpensAreDone → StoppedExportsReopen
 stopped_exports_reopen lead done digest core v last before exported new images refusal running begun leaves is free =
-    done (fresh images) (shapes_of core.commit.store.spaces) core.commit.store.out (only_last last before) (pool_of v) refusal
-    (lead digest core v last before exported new images running begun leaves) is free
+    let s : State = core.commit in
+    let there : AreAllThere images (shapes_of s.store.spaces) s.store.out =
+    all_there s.store.disks.starts leaves.calls images (shapes_of s.store.spaces) s.store.out leaves.left (record { none = running.runs.whole.none; may = running.lies }) in
+    done (fresh images) (shapes_of s.store.spaces) s.store.out (only_last last before) (pool_of v) refusal
+    (lead digest core v last before exported new images running begun leaves) there is free

@@ -3,6 +3,8 @@ use Rattle.std.specs.Prelude.{ℕ, ◌≡◌, ◌<◌, ◌≤◌, ◌^◌, Bool,
 use Rattle.model_disk.specs.Joint.{Disks, bytes_of, content}
 use Rattle.model_disk.specs.Runs.{EachSince}
 use Rattle.raidz_io.specs.Reads.{IsHonestSince}
+use Rattle.block_store.specs.Opened.{MayBeOpened}
+use Rattle.block_store.specs.Places.{shapes_of}
 use Rattle.block_store.specs.Store.{is_out}
 use Rattle.block_store.specs.declared.shape.VdevShape.{VdevShape}
 use Rattle.uberblock_ring.specs.declared.uberblock.Uberblock.{Uberblock}
@@ -33,10 +35,11 @@ use Rattle.pool_stops.specs.Running.{IsLastStep, IsRunning, RunStopsAt}
 abbrev pub AreOfConfig : List ℕ → Possible → Type 0
 AreOfConfig digest p = (u : Uberblock) → IsInReach p u → u.config_digest ≡ digest
 
--- The pool runs, with the committed group's uberblock behind those. Whatever an open may come to has the configuration, so will uberblocks to come, and
--- each label shows it.
+-- The pool runs, with the committed group's uberblock behind those, and its vdevs take its disks in order. Whatever an open may come to has the
+-- configuration, so will uberblocks to come, and each label shows it.
 pub record IsRunningAs (digest : List ℕ) (s : CoreState) (v : View) (last : Uberblock) (before : List Uberblock) : Type 0 where
   pub runs : IsRunning s v last before
+  pub lies : MayBeOpened (disks_of s).starts (shapes_of s.commit.store.spaces) s.commit.store.out
   pub stamped : s.commit.stamp.config_digest ≡ digest
   pub one : AreOfConfig digest (only_last last before)
   pub shows : ShowsConfigured s.commit digest
@@ -44,6 +47,7 @@ pub record IsRunningAs (digest : List ℕ) (s : CoreState) (v : View) (last : Ub
 -- The last step of a run is stopped well: whatever the disks lead to has the configuration, and each label holds it at each moment. The pool runs on so.
 pub record RunStopsAs (digest : List ℕ) (mid : CoreState) (between : View) (new : CoreState) (w : View) : Type 0 where
   pub at : RunStopsAt mid between new w
+  pub lies : MayBeOpened (disks_of mid).starts (shapes_of mid.commit.store.spaces) mid.commit.store.out
   pub one : AreOfConfig digest at.steps.stops.p
   pub held : EachSince (length (disks_of mid).calls) (HoldConfigured mid.commit.store.out (disks_of mid).starts digest) (disks_of new).calls
   pub on : IsRunningAs digest new w at.steps.later at.steps.earlier

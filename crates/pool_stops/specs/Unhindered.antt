@@ -31,17 +31,21 @@ pub record LeadToWholePools (disks : Disks) (shapes : List VdevShape) (out : Lis
 
 -- ---- opens that nothing hinders
 
--- All disks are there, and the vdevs take them in order. Groups and claims are left. What the disks answered is true, and no call failed.
-pub record IsUnhindered (old new : Disks) (shapes : List VdevShape) (out : List Bool) : Type 0 where
+-- all disks are there, and the vdevs take them in order
+pub record AreAllThere (starts : List (List ℕ)) (shapes : List VdevShape) (out : List Bool) : Type 0 where
   pub none : (disk : ℕ) → is_out out disk ≡ false
-  pub may : MayBeOpened old.starts shapes out
+  pub may : MayBeOpened starts shapes out
+
+-- groups and claims are left, what the disks answered is true, and no call failed
+pub record IsUnhindered (old new : Disks) (out : List Bool) : Type 0 where
   pub groups : (u : Uberblock) → IsRead out old u → u.group < greatest
   pub claims : (u : Uberblock) → IsHighestShown out old u → ¬ IsUsedUp out old u
   pub honest : IsHonestSince old new
   pub none_failed : (disk : ℕ) → ¬ HasFailedOn old new disk
 
--- Such an open of disks that lead to whole pools, if it doesn't go back, is refused for want of memory alone.
+-- Such an open of disks that are all there and lead to whole pools, if it doesn't go back, is refused for want of memory alone.
 abbrev pub UnhinderedOpensAreDone : Type 0
 UnhinderedOpensAreDone =
     (old : Disks) (shapes : List VdevShape) (out : List Bool) (p : Possible) (pools : Uberblock → PlainPool) (refusal : Refusal)
-    → LeadToWholePools old shapes out p pools → (is : IsNotOpenedOver old shapes out 0 refusal) → IsUnhindered old is.new shapes out → refusal ≡ NoMemory
+    → LeadToWholePools old shapes out p pools → AreAllThere old.starts shapes out → (is : IsNotOpenedOver old shapes out 0 refusal)
+    → IsUnhindered old is.new out → refusal ≡ NoMemory

@@ -22,7 +22,7 @@ use Rattle.pool_slots.specs.Possible.{Possible}
 use Rattle.pool_stops.specs.OneConfig.{AreOfConfig, IsRunningAs, RunStopsAs}
 use Rattle.pool_stops.specs.Reopening.{AreByGroup, IsPossibleBehind, LeavesImages}
 use Rattle.pool_stops.specs.Running.{IsLastStep, pool_of}
-use Rattle.pool_stops.specs.Unhindered.{IsUnhindered, LeadToWholePools}
+use Rattle.pool_stops.specs.Unhindered.{AreAllThere, IsUnhindered, LeadToWholePools}
 
 -- what a stop in the last step of a run leaves
 abbrev pub StoppedRunsLeadWhole : Type 0
@@ -55,16 +55,16 @@ StoppedRunsReopen =
     → IsLastStep old mid new v between w steps replies step reply → NoneIsOut new.commit
     → LeavesImages mid.commit.store.out (disks_of mid) (disks_of new) images
     → (is : IsNotOpenedOver (fresh images) (shapes_of mid.commit.store.spaces) mid.commit.store.out 0 refusal)
-    → IsUnhindered (fresh images) is.new (shapes_of mid.commit.store.spaces) mid.commit.store.out → refusal ≡ NoMemory
+    → IsUnhindered (fresh images) is.new mid.commit.store.out → refusal ≡ NoMemory
 
 -- So it is wherever an open of such disks is stopped,
 abbrev pub StoppedOpensReopen : Type 0
 StoppedOpensReopen =
     (digest : List ℕ) (old new : Disks) (shapes : List VdevShape) (out : List Bool) (rewind : ℕ) (p : Possible) (pools : Uberblock → PlainPool)
-    (images : List (List ℕ)) (refusal : Refusal) → rewind < 3 → length out ≡ length old.starts → AreByGroup pools → AreOfConfig digest p
+    (images : List (List ℕ)) (refusal : Refusal) → rewind < 3 → AreAllThere old.starts shapes out → AreByGroup pools → AreOfConfig digest p
     → LeadToWholePools old shapes out p pools → LeavesConfigured out old.starts digest old.calls → AreNotFour out old
     → IsKeptThrough out rewind old new → IsHonestSince old new → LeavesImages out old new images
-    → (is : IsNotOpenedOver (fresh images) shapes out 0 refusal) → IsUnhindered (fresh images) is.new shapes out → refusal ≡ NoMemory
+    → (is : IsNotOpenedOver (fresh images) shapes out 0 refusal) → IsUnhindered (fresh images) is.new out → refusal ≡ NoMemory
 
 -- and wherever an export is stopped, and once it is done.
 abbrev pub StoppedExportsReopen : Type 0
@@ -73,4 +73,4 @@ StoppedExportsReopen =
     (refusal : Refusal) → IsRunningAs digest core v last before → IsExportBegun core exported new
     → LeavesImages core.commit.store.out (disks_of core) new images
     → (is : IsNotOpenedOver (fresh images) (shapes_of core.commit.store.spaces) core.commit.store.out 0 refusal)
-    → IsUnhindered (fresh images) is.new (shapes_of core.commit.store.spaces) core.commit.store.out → refusal ≡ NoMemory
+    → IsUnhindered (fresh images) is.new core.commit.store.out → refusal ≡ NoMemory

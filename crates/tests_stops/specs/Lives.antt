@@ -16,7 +16,7 @@ use Rattle.pool_slots.specs.Opens.{AreKnown}
 use Rattle.pool_slots.specs.Possible.{Possible}
 use Rattle.pool_stops.specs.OneConfig.{IsRunningAs}
 use Rattle.pool_stops.specs.Reopening.{IsOpenedWell, LeadToPools}
-use Rattle.pool_stops.specs.Unhindered.{IsUnhindered, LeadToWholePools}
+use Rattle.pool_stops.specs.Unhindered.{AreAllThere, IsUnhindered, LeadToWholePools}
 
 -- the answers were true, and there are some disks and not too many
 pub record AreSound (old new : Disks) : Type 0 where
@@ -38,4 +38,4 @@ OpensWell old shapes out claimed core =
 abbrev pub IsRefusedWell : Disks → List VdevShape → List Bool → Refusal → Type 0
 IsRefusedWell old shapes out refusal =
     (is : IsNotOpenedOver old shapes out 0 refusal) × ((p : Possible) (pools : Uberblock → PlainPool) → LeadToWholePools old shapes out p pools
-    → IsUnhindered old is.new shapes out → refusal ≡ NoMemory)
+    → AreAllThere old.starts shapes out → IsUnhindered old is.new out → refusal ≡ NoMemory)

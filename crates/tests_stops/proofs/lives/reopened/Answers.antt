@@ -20,5 +20,5 @@ returns-clause-refused c =
     let shapes = c.args.shapes.now in
     let out = c.args.out.items in
     if_err c.open_over.result (IsNotOpenedOver c.args.disks shapes out 0) (IsRefusedWell c.args.disks shapes out)
-    (λ refusal is. (is, λ p pools led free. c.unhindered_opens_are_done.ensures c.args.disks shapes out p pools refusal led is free))
+    (λ refusal is. (is, λ p pools led there free. c.unhindered_opens_are_done.ensures c.args.disks shapes out p pools refusal led there is free))
     c.open_over.ensures.refused
