@@ -1,4 +1,4 @@
-mod Best
+pub mod Best
 mod Scans
 mod Copies
 mod Halves

@@ -26,49 +26,49 @@ use Rattle.pool_open.proofs.Layouts.{same_label}
 
 -- ---- lists
 
-cases_in : {X : Type 0} (x : X) (xs : List X) (y : X) → Contains (x ∷ xs) y → (y ≡ x) ⊎ Contains xs y
+pub cases_in : {X : Type 0} (x : X) (xs : List X) (y : X) → Contains (x ∷ xs) y → (y ≡ x) ⊎ Contains xs y
 cases_in x xs y (zero, within, is) = inl (sym is)
 cases_in x xs y (suc k, within, is) = inr (k, omega arith, is)
 
-there_first : {X : Type 0} (x : X) (xs : List X) → Contains (x ∷ xs) x
+pub there_first : {X : Type 0} (x : X) (xs : List X) → Contains (x ∷ xs) x
 there_first x xs = (0, omega arith, refl)
 
-there_later : {X : Type 0} (x : X) (xs : List X) (y : X) → Contains xs y → Contains (x ∷ xs) y
+pub there_later : {X : Type 0} (x : X) (xs : List X) (y : X) → Contains xs y → Contains (x ∷ xs) y
 there_later x xs y held = (suc held.0, omega (arith, held.1), held.2)
 
-none_there : {X : Type 0} (y : X) → Contains [] y → ⊥
+pub none_there : {X : Type 0} (y : X) → Contains [] y → ⊥
 none_there y held = omega (arith, held.1)
 
-all_from : {X : Type 0} (P : X → Type 0) (xs : List X) → ((x : X) → Contains xs x → P x) → All P xs
+pub all_from : {X : Type 0} (P : X → Type 0) (xs : List X) → ((x : X) → Contains xs x → P x) → All P xs
 all_from P xs each = λ k d within. each (slice_index_or xs k d) (Contains-get_or xs k d within)
 
-pairs_head : {X : Type 0} (R : X → X → Type 0) (x : X) (xs : List X) (y : X) → AllPairs R (x ∷ xs) → Contains xs y → R x y
+pub pairs_head : {X : Type 0} (R : X → X → Type 0) (x : X) (xs : List X) (y : X) → AllPairs R (x ∷ xs) → Contains xs y → R x y
 pairs_head R x xs y all held = subst (R x) held.2 (all 0 (suc held.0) y (omega arith) (omega (arith, held.1)))
 
-pairs_tail : {X : Type 0} (R : X → X → Type 0) (x : X) (xs : List X) → AllPairs R (x ∷ xs) → AllPairs R xs
+pub pairs_tail : {X : Type 0} (R : X → X → Type 0) (x : X) (xs : List X) → AllPairs R (x ∷ xs) → AllPairs R xs
 pairs_tail R x xs all = λ i j d before within. all (suc i) (suc j) d (omega (arith, before)) (omega (arith, within))
 
-pairs_none : {X : Type 0} (R : X → X → Type 0) → AllPairs R []
+pub pairs_none : {X : Type 0} (R : X → X → Type 0) → AllPairs R []
 pairs_none R = λ i j d before within. absurd (omega (arith, within))
 
-pairs_front : {X : Type 0} (R : X → X → Type 0) (xs ys : List X) → AllPairs R (xs ++ ys) → AllPairs R xs
+pub pairs_front : {X : Type 0} (R : X → X → Type 0) (xs ys : List X) → AllPairs R (xs ++ ys) → AllPairs R xs
 pairs_front R [] ys all = pairs_none R
 pairs_front R (x ∷ xs) ys all =
     AllPairs-cons R x xs (all_from (R x) xs (λ y held. pairs_head R x (xs ++ ys) y all (Contains-append_left xs ys y held)))
     (pairs_front R xs ys (pairs_tail R x (xs ++ ys) all))
 
-pairs_back : {X : Type 0} (R : X → X → Type 0) (xs ys : List X) → AllPairs R (xs ++ ys) → AllPairs R ys
+pub pairs_back : {X : Type 0} (R : X → X → Type 0) (xs ys : List X) → AllPairs R (xs ++ ys) → AllPairs R ys
 pairs_back R [] ys all = all
 pairs_back R (x ∷ xs) ys all = pairs_back R xs ys (pairs_tail R x (xs ++ ys) all)
 
-pairs_cross : {X : Type 0} (R : X → X → Type 0) (xs ys : List X) (x y : X) → AllPairs R (xs ++ ys) → Contains xs x → Contains ys y → R x y
+pub pairs_cross : {X : Type 0} (R : X → X → Type 0) (xs ys : List X) (x y : X) → AllPairs R (xs ++ ys) → Contains xs x → Contains ys y → R x y
 pairs_cross R [] ys x y all held held' = absurd (none_there x held)
 pairs_cross {X = X} R (z ∷ xs) ys x y all held held' = elim (cases_in z xs x held) [
   | inl is ↦ subst (λ (it : X). R it y) (sym is) (pairs_head R z (xs ++ ys) y all (Contains-append_right xs ys y held'))
   | inr there ↦ pairs_cross R xs ys x y (pairs_tail R z (xs ++ ys) all) there held'
 ]
 
-pairs_append : {X : Type 0} (R : X → X → Type 0) (xs ys : List X) → AllPairs R xs → AllPairs R ys → ((x y : X) → Contains xs x → Contains ys y → R x y) → AllPairs R (xs ++ ys)
+pub pairs_append : {X : Type 0} (R : X → X → Type 0) (xs ys : List X) → AllPairs R xs → AllPairs R ys → ((x y : X) → Contains xs x → Contains ys y → R x y) → AllPairs R (xs ++ ys)
 pairs_append R [] ys one other cross = other
 pairs_append R (x ∷ xs) ys one other cross =
     AllPairs-cons R x (xs ++ ys)
@@ -126,7 +126,7 @@ named_in scan n (g ∷ gs) (Some q ∷ ms) count each p held = elim (cases_in q 
       (later.0, there_later g gs later.0 later.1, later.2)
 ]
 
-abbrev Differ : ℕ → ℕ → Type 0
+abbrev pub Differ : ℕ → ℕ → Type 0
 Differ a b = a ≢ b
 
 once_in : (scan : Scan) (n : ℕ) (gs : List ℕ) (ms : List (Option ℕ)) → AllAgree scan.labels.items → AllPairs Differ gs → length ms ≡ length gs
@@ -146,10 +146,10 @@ once_in scan n (g ∷ gs) (Some q ∷ ms) agree apart count each =
 
 -- ---- those of all
 
-abbrev FoundList : Type 0
+abbrev pub FoundList : Type 0
 FoundList = List (Vec (Option ℕ) Global)
 
-tail_members : (scan : Scan) (v : PlainVdev) (vs : List PlainVdev) (f : Vec (Option ℕ) Global) (fs : FoundList) → AreAllMembers scan (v ∷ vs) (f ∷ fs) → AreAllMembers scan vs fs
+pub tail_members : (scan : Scan) (v : PlainVdev) (vs : List PlainVdev) (f : Vec (Option ℕ) Global) (fs : FoundList) → AreAllMembers scan (v ∷ vs) (f ∷ fs) → AreAllMembers scan vs fs
 tail_members scan v vs f fs are = record { count = omega (arith, are.count); each = λ k. are.each (suc k) }
 
 named_all : (scan : Scan) (vs : List PlainVdev) (fs : FoundList) → AreAllMembers scan vs fs → (p : ℕ) → Contains (places (all_children vs fs)) p

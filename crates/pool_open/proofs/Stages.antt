@@ -18,7 +18,7 @@ use Rattle.pool_slots.specs.Failures.{HasFailedOn}
 use Rattle.pool_slots.specs.Labels.{AreClaimed, IsClaimWrite}
 use Rattle.pool_slots.specs.Opens.{OpenGives, OpenKeeps, OpenMarks}
 use Rattle.pool_slots.specs.Present.{GoOut, is_out as is_away}
-use Rattle.pool_slots.specs.Relabels.{OpenRelabels}
+use Rattle.pool_slots.specs.Relabels.{OpenRelabels, OpenRewrites}
 use Rattle.pool_slots.specs.Slots.{InUse, MakesOn}
 use Rattle.pool_slots.specs.Surveys.{Surveyed, IsSurveyed, IsWholeOf, OfSurveyed}
 use Rattle.pool_slots.proofs.Opened.{opened_from}
@@ -115,6 +115,7 @@ pub record AreBegun (later : List Bool) (s : Surveyed) (read new : Disks) : Type
   pub leads : OfSurveyed later s read (λ rewind first. OpenKeeps later rewind first new)
   pub marks : OfSurveyed later s read (λ rewind first. OpenMarks later rewind first new)
   pub configures : OfSurveyed later s read (λ rewind first. OpenConfigures later rewind first new)
+  pub rewrites : OfSurveyed later s read (λ rewind first. OpenRewrites later first new)
 
 pub record AreDone (later : List Bool) (s : Surveyed) (read new : Disks) : Type 0 where
   pub gives : OfSurveyed later s read (λ rewind first. OpenGives later rewind first s.claimed new)
@@ -126,6 +127,7 @@ kept_by_claim later rewind old read new s few is begun = record {
   leads = begun.leads rewind old few is;
   marks = begun.marks rewind old few is;
   configures = begun.configures rewind old few is;
+  rewrites = begun.rewrites rewind old few is;
 }
 
 still : (out later : List Bool) (rewind : ℕ) (old surveyed read : Disks) (s : Surveyed) → AreSurveyed out later rewind old surveyed s → AreReadBeside later surveyed read → IsSurveyed later rewind old read s

@@ -49,6 +49,7 @@ kept_by_reads out later rewind old new it count =
       leads = λ trees p can honest. inl (leads_before trees later old new p there can makes);
       marks = λ trees p claim can marked honest. marks_before trees later rewind old new p claim there can marked makes;
       configures = λ known settled four honest. inl makes;
+      rewrites = λ known honest. inl makes;
     }
 
 -- ---- what was surveyed still is

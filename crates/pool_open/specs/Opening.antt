@@ -22,7 +22,7 @@ use Rattle.pool_slots.specs.Failures.{HasFailedOn}
 use Rattle.pool_slots.specs.Labels.{AreClaimed, IsClaimWrite}
 use Rattle.pool_slots.specs.Opens.{OpenGives, OpenKeeps, OpenMarks, OpenTakes}
 use Rattle.pool_slots.specs.Present.{GoOut, IsNoFault}
-use Rattle.pool_slots.specs.Relabels.{OpenRelabels}
+use Rattle.pool_slots.specs.Relabels.{OpenRelabels, OpenRewrites}
 use Rattle.pool_slots.specs.Slots.{InUse, MakesOn}
 use Rattle.pool_slots.specs.Surveys.{Surveyed, IsSurveyed, SurveyRefuses}
 use Rattle.pool_slots.specs.declared.refusal.Refusal.{Refusal as SlotsRefusal}
@@ -51,11 +51,12 @@ pub record AreClaimedThrough (out later : List Bool) (claimed : Uberblock) (old 
   pub claims : MakesOn (InUse later) (IsClaimWrite read.starts later claimed) read new
 
 -- Stopped at any moment since, inside a device call too, the disks lead to one of the possible uberblocks or to a claim of one, and their
--- labels show the claim and the configuration.
+-- labels show the claim and the configuration. Of labels those alone are written that their disks have, for what is claimed.
 pub record IsKeptThrough (later : List Bool) (rewind : ℕ) (old new : Disks) : Type 0 where
   pub leads : OpenKeeps later rewind old new
   pub marks : OpenMarks later rewind old new
   pub configures : OpenConfigures later rewind old new
+  pub rewrites : OpenRewrites later old new
 
 -- ---- an open that is done
 

@@ -1,12 +1,13 @@
 -- A claim of what a survey took.
-use Rattle.std.proofs.Common.{◌≡◌, inr, ◌∙◌, ℕ, Bool, List, length, Option, ap, subst}
+use Rattle.std.proofs.Common.{◌≡◌, inl, inr, ◌∙◌, ℕ, Bool, List, length, Option, ap, subst}
 use Rattle.model_disk.specs.Joint.{Disks, content}
 use Rattle.model_disk.specs.Runs.{Makes, no_write}
+use Rattle.model_disk.proofs.RunLemmas.{Makes-more, Makes-wider}
 use Rattle.uberblock_ring.specs.declared.uberblock.Uberblock.{Uberblock}
 use Rattle.pool_slots.specs.Configs.{ClaimConfigures, OpenConfigures}
 use Rattle.pool_slots.specs.Labels.{AreasStand, IsClaimWrite}
 use Rattle.pool_slots.specs.Opens.{ClaimGives, ClaimKeeps, OpenGives, OpenKeeps, OpenMarks}
-use Rattle.pool_slots.specs.Relabels.{AreFirst, OpenMarksFirst, OpenRelabels, all_labels}
+use Rattle.pool_slots.specs.Relabels.{AreFirst, AreMadeOf, IsRewrite, OpenMarksFirst, OpenRelabels, OpenRewrites, all_labels, of_areas}
 use Rattle.pool_slots.specs.Slots.{InUse, MakesOn}
 use Rattle.pool_slots.specs.Surveys.{Surveyed, IsWholeOf, OfSurveyed}
 use Rattle.pool_slots.specs.declared.found.Found.{Found}
@@ -64,6 +65,37 @@ claim_configures out old new s u seen count whole is also makes configures rewin
       open_configures out first old new s.claimed s.areas seen there settled (λ which used. settled_later first old which surveyed.unwritten (settled which used)) four surveyed.unwritten
           (made_from out rewind first old new s surveyed makes' known honest) whole.areas_on whole.fits makes' also configures,
     )
+
+-- the areas are made of labels of their disks
+rewrites_of : (out : List Bool) (first old new : Disks) (u : Uberblock) (areas : List (Option Area)) → Makes no_write first old → AreMadeOf first u areas
+    → Makes (of_areas old.starts out u areas) old new → Makes (IsRewrite out first u) first new
+rewrites_of out first old new u areas scan made makes =
+    let M : List (List ℕ) → Type 0 = λ them. Makes (of_areas them out u areas) old new in
+    Makes-more (IsRewrite out first u) first old new
+    (Makes-wider no_write (IsRewrite out first u) first old (λ which at bytes none. absurd none) scan)
+    (Makes-wider (of_areas first.starts out u areas) (IsRewrite out first u) old new
+    (λ which at bytes write. elim write [
+      | inl slot ↦ inl slot
+      | inr it ↦
+          let mine = made which it.area it.has in
+          inr (record {
+            number = it.number;
+            is_label = it.is_label;
+            place = it.place;
+            from = mine.it.source;
+            label = mine.label;
+            shown = mine.source;
+            spells = it.same ∙ mine.spells;
+          })
+    ])
+    (subst M scan.starts makes))
+
+pub claim_rewrites : (out : List Bool) (old new : Disks) (s : Surveyed) (u : Uberblock) (seen : List (Option Area)) → IsWholeOf out old.starts s → u ≡ s.claimed → seen ≡ s.areas
+    → Makes (IsClaimWrite old.starts out u) old new → Makes (of_areas old.starts out u seen) old new → OfSurveyed out s old (λ rewind first. OpenRewrites out first new)
+claim_rewrites out old new s u seen whole is also makes alone rewind first few surveyed known honest =
+    let P : Uberblock → List (Option Area) → Type 0 = λ w xs. Makes (of_areas old.starts out w xs) old new in
+    let alone' = subst (P s.claimed) also (subst (λ (w : Uberblock). P w seen) is alone) in
+    inr (s.claimed, whole.fits, rewrites_of out first old new s.claimed s.areas surveyed.unwritten (made_from out rewind first old new s surveyed (made_as out old new s u is makes) known honest) alone')
 
 -- ---- once it is done
 

@@ -1,5 +1,5 @@
 -- Configurations that labels keep in an open.
-use Rattle.std.proofs.Common.{◌≡◌, ◌⊎◌, inl, inr, ◌∙◌, ℕ, Bool, List, length, get_or, Option, Some, None, refl, sym, ap, subst, arith}
+use Rattle.std.proofs.Common.{◌≡◌, ◌∙◌, ℕ, Bool, List, length, get_or, Option, Some, None, refl, sym, ap, subst}
 use Rattle.model_disk.specs.Joint.{Disks, bytes_of, content}
 use Rattle.model_disk.specs.Runs.{EachSince, Makes, no_write}
 use Rattle.uberblock_ring.specs.declared.uberblock.Uberblock.{Uberblock}
@@ -7,15 +7,15 @@ use Rattle.uberblock_ring.specs.Uberblock.{Fits}
 use Rattle.vdev_label.specs.Plain.{PlainLabel}
 use Rattle.vdev_label.specs.Room.{relabeled}
 use Rattle.vdev_label.specs.declared.label.State.TheVariants.{Active}
-use Rattle.pool_slots.specs.Configs.{AreNotFour, ClaimConfigures, HasBlank, HasTwins, IsBeside, IsOfConfig, LeavesConfigured, MayConfigure, of_config}
+use Rattle.pool_slots.specs.Configs.{AreNotFour, ClaimConfigures, IsBeside, IsOfConfig, LeavesConfigured, MayConfigure, ShowsFour, of_config}
 use Rattle.pool_slots.specs.Labels.{AreasOn, IsClaimWrite, IsLabelShown, IsLabeledAs, IsShownAs, Keeps}
 use Rattle.pool_slots.specs.Relabels.{AreMadeOf, IsMadeOf}
-use Rattle.pool_slots.specs.Shown.{IsBlank}
 use Rattle.pool_slots.specs.Slots.{AreSettled, AreThere}
 use Rattle.pool_slots.specs.declared.labeled.Area.{Area}
 use Rattle.pool_slots.specs.declared.labeled.Labeled.{Labeled}
 use Rattle.pool_slots.specs.declared.labeled.Shown.{Shown}
-use Rattle.pool_slots.proofs.Choices.{HasTwo, config_beside}
+use Rattle.pool_slots.proofs.Choices.{config_beside}
+use Rattle.pool_slots.proofs.FourConfigs.{two_of}
 use Rattle.pool_slots.proofs.LabelPhases.{configured_always, each_joined}
 use Rattle.pool_slots.proofs.LabelPlans.{relabeled_valid, shown_at}
 use Rattle.pool_slots.proofs.LabelScans.{label_later}
@@ -28,23 +28,10 @@ read_of : (size : ℕ) (held : ℕ → Option ℕ) (number : ℕ) (l : PlainLabe
 read_of size held number l None is shown = absurd (is l shown)
 read_of size held number l (Some s) is shown = (s, refl, is.1 l shown)
 
-blank_of : (size : ℕ) (held : ℕ → Option ℕ) (number : ℕ) (o : Option Shown) → IsShownAs size held number o → ((l : PlainLabel) → ¬ IsLabelShown size held number l) → o ≡ None
-blank_of size held number None is none = refl
-blank_of size held number (Some s) is none = absurd (none is.0.0 is.0.1)
-
-two_of : (size : ℕ) (held : ℕ → Option ℕ) (digest : List ℕ) (it : Labeled) → (is : IsLabeledAs size held digest it) → HasBlank size held ⊎ HasTwins size held
-    → ((k : ℕ) × IsBlank is.shown k) ⊎ HasTwo is.shown
-two_of size held digest it is (inl blank) =
-    inl (blank.0, (omega (arith, blank.1, is.are.four), blank_of size held blank.0 (get_or is.shown blank.0 None) (is.are.each blank.0 blank.1) blank.2))
-two_of size held digest it is (inr twins) =
-    let one = read_of size held twins.first twins.label (get_or is.shown twins.first None) (is.are.each twins.first twins.shown.is_label) twins.shown in
-    let two = read_of size held twins.second twins.twin (get_or is.shown twins.second None) (is.are.each twins.second twins.also_shown.is_label) twins.also_shown in
-    inr (record { j = twins.first; k = twins.second; s = one.0; t = two.0; at = one.1; also = two.1; other = twins.other; same = one.2.1 ∙ twins.same ∙ sym two.2.1 })
-
 -- beside the claim label another shows the configuration that is taken
-beside_of : (size : ℕ) (held : ℕ → Option ℕ) (digest : List ℕ) (it : Labeled) → IsLabeledAs size held digest it → HasBlank size held ⊎ HasTwins size held → IsBeside size held it.first digest
+beside_of : (size : ℕ) (held : ℕ → Option ℕ) (digest : List ℕ) (it : Labeled) → IsLabeledAs size held digest it → ¬ ShowsFour size held → IsBeside size held it.first digest
 beside_of size held digest it is four =
-    let beside = config_beside is.shown digest it is.summary (two_of size held digest it is four) in
+    let beside = config_beside is.shown digest it is.summary (two_of size held is.shown is.are four) in
     let there = shown_at size held is.shown beside.j beside.s is.are beside.at in
     record { number = beside.j; other = beside.other; label = there.0; shown = there.1; config = sym there.2.1 ∙ beside.has }
 

@@ -5,7 +5,7 @@ use Rattle.uberblock_ring.specs.declared.uberblock.Uberblock.{Uberblock}
 use Rattle.uberblock_ring.specs.Uberblock.{Fits}
 use Rattle.model_disk.specs.Joint.{JointCall, Disks, bytes_of, content}
 use Rattle.model_disk.specs.Runs.{EachSince, IsOff, Makes, no_write}
-use Rattle.model_disk.proofs.RunLemmas.{each_after, off_content, off_is_left}
+use Rattle.model_disk.proofs.RunLemmas.{Makes-wider, each_after, off_content, off_is_left}
 use Rattle.vdev_label.specs.Plain.{PlainLabel}
 use Rattle.pool_slots.specs.Commits.{AreOffLabels, AreAt, LeadAlways, only_last}
 use Rattle.pool_slots.specs.Labels.{AreClaimed, AreWhole, AreasFit, AreasOn, AreasStand, HasArea, InAreaTurn, IsAreaWrite, IsClaimWrite, IsInscribed, IsLabelShown, area_place, inscribed}
@@ -13,7 +13,7 @@ use Rattle.pool_slots.specs.Configs.{IsConfigured, IsOfConfig, LeavesConfigured,
 use Rattle.pool_slots.specs.Marks.{IsMarked, LeavesMarked, MarkedAlways}
 use Rattle.pool_slots.specs.Opens.{ClaimsAt, MayClaim, also_begun}
 use Rattle.pool_slots.specs.Possible.{Possible, IsTopped, Trees, TreeStands, IsPossible, Leads, LeavesLeading, AllAreBelow, AreBelow, held_by}
-use Rattle.pool_slots.specs.Relabels.{all_labels}
+use Rattle.pool_slots.specs.Relabels.{all_labels, of_areas}
 use Rattle.pool_slots.specs.Slots.{AreThere, AreSettled, HaveLabels, InUse, IsSlot, MakesOn, Shows, slot_at}
 use Rattle.pool_slots.specs.Writes.{IsSlotWrite, in_use}
 use Rattle.pool_slots.specs.declared.found.Found.{Found}
@@ -418,6 +418,20 @@ pub slots_made : (old new : Disks) (starts : List (List ℕ)) (out : List Bool) 
 slots_made old new starts out u same makes =
     let M : List (List ℕ) → Type 0 = λ them. MakesOn (InUse out) (IsSlotWrite them u (in_use out)) old new in
     MakesOn-wider (InUse out) (InUse out) (IsSlotWrite starts u (in_use out)) (IsClaimWrite starts out u) old new (λ which it. it) (λ which at bytes write. inl write) (subst M same makes)
+
+-- of areas alone
+pub areas_alone : (old new : Disks) (starts : List (List ℕ)) (out : List Bool) (u : Uberblock) (areas : List (Option Area)) (picks : ℕ → ℕ → Type 0) → old.starts ≡ starts
+    → MakesOn (InUse out) (IsAreaWrite old.starts areas picks) old new → Makes (of_areas starts out u areas) old new
+areas_alone old new starts out u areas picks same run =
+    let M : List (List ℕ) → Type 0 = λ them. Makes (IsAreaWrite them areas picks) old new in
+    Makes-wider (IsAreaWrite starts areas picks) (of_areas starts out u areas) old new
+    (λ which at bytes it. inr (record { number = it.number; is_label = it.is_label; area = it.area; has = it.has; picked = tt; place = it.place; same = it.same })) (subst M same run.makes)
+
+pub slots_alone : (old new : Disks) (starts : List (List ℕ)) (out : List Bool) (u : Uberblock) (areas : List (Option Area)) → old.starts ≡ starts
+    → MakesOn (InUse out) (IsSlotWrite old.starts u (in_use out)) old new → Makes (of_areas starts out u areas) old new
+slots_alone old new starts out u areas same run =
+    let M : List (List ℕ) → Type 0 = λ them. Makes (IsSlotWrite them u (in_use out)) old new in
+    Makes-wider (IsSlotWrite starts u (in_use out)) (of_areas starts out u areas) old new (λ which at bytes it. inl it) (subst M same run.makes)
 
 pub are_whole : (u : Uberblock) (areas : List (Option Area)) → AreasFit u areas → AreWhole areas
 are_whole u areas fit which area at = let it = fit which area at in ap length it.inscribed_as.spells ∙ area_len it.label it.inscribed_as.valid

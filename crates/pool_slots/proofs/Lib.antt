@@ -27,8 +27,9 @@ mod Choices
 pub mod LabelAreas
 pub mod LabelScans
 mod LabelWrites
-mod LabelPlans
+pub mod LabelPlans
 mod LabelPhases
+mod FourConfigs
 mod ConfigLabels
 mod ClaimSteps
 mod Absence

@@ -28,25 +28,15 @@ abbrev pub LeavesConfigured : List Bool → List (List ℕ) → List ℕ → Lis
 LeavesConfigured out starts digest calls =
     (images : List (List ℕ)) → MayLeaveAll starts calls images → (which : ℕ) → InUse out which → IsConfigured (length (bytes_of images which)) (held_by images which) digest
 
--- two labels of the disk show the same configuration
-pub record HasTwins (size : ℕ) (held : ℕ → Option ℕ) : Type 0 where
-  pub first : ℕ
-  pub second : ℕ
-  pub other : ¬ (first ≡ second)
-  pub label : PlainLabel
-  pub shown : IsLabelShown size held first label
-  pub twin : PlainLabel
-  pub also_shown : IsLabelShown size held second twin
-  pub same : of_config (sha256 (config_bytes twin.vdevs)) label
+-- The labels of the disk show four configurations, each another one.
+pub record ShowsFour (size : ℕ) (held : ℕ → Option ℕ) : Type 0 where
+  pub label : ℕ → PlainLabel
+  pub shown : (number : ℕ) → number < 4 → IsLabelShown size held number (label number)
+  pub apart : (a b : ℕ) → a < b → b < 4 → ¬ of_config (sha256 (config_bytes (label b).vdevs)) (label a)
 
--- a label of the disk shows nothing
-abbrev pub HasBlank : ℕ → (ℕ → Option ℕ) → Type 0
-HasBlank size held = (number : ℕ) × (number < 4) × ((l : PlainLabel) → ¬ IsLabelShown size held number l)
-
--- no disk in use shows four different configurations
+-- no disk in use does
 abbrev pub AreNotFour : List Bool → Disks → Type 0
-AreNotFour out disks =
-    (which : ℕ) → InUse out which → HasBlank (length (bytes_of disks.starts which)) (content disks which) ⊎ HasTwins (length (bytes_of disks.starts which)) (content disks which)
+AreNotFour out disks = (which : ℕ) → InUse out which → ¬ ShowsFour (length (bytes_of disks.starts which)) (content disks which)
 
 -- Nothing is written; or a stop at any moment leaves on each disk in use a label with the configuration of what is claimed.
 abbrev pub OpenConfigures : List Bool → ℕ → Disks → Disks → Type 0

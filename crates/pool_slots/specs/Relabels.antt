@@ -1,7 +1,8 @@
 -- What a claim makes of labels.
-use Rattle.std.specs.Prelude.{◌≡◌, ◌<◌, ℕ, Bool, true, List, length, slice_get, Option, Some}
+use Rattle.std.specs.Prelude.{◌≡◌, ◌⊎◌, ◌<◌, ℕ, Bool, true, List, length, slice_get, Option, Some}
 use Rattle.model_disk.specs.Joint.{Disks, bytes_of, content, AreHonestSince}
-use Rattle.model_disk.specs.Runs.{IsMoment, Makes}
+use Rattle.model_disk.specs.Runs.{IsMoment, Makes, no_write}
+use Rattle.uberblock_ring.specs.Uberblock.{Fits}
 use Rattle.uberblock_ring.specs.declared.uberblock.Uberblock.{Uberblock}
 use Rattle.vdev_label.specs.Plain.{PlainLabel}
 use Rattle.vdev_label.specs.Room.{relabeled}
@@ -9,6 +10,7 @@ use Rattle.vdev_label.specs.declared.label.State.TheVariants.{Active}
 use Rattle.pool_slots.specs.Labels.{AreasStand, InAreaTurn, IsAreaWrite, IsLabeledAs, IsLabelShown, area_place, inscribed}
 use Rattle.pool_slots.specs.Opens.{AreKnown}
 use Rattle.pool_slots.specs.Slots.{AreSettled, InUse}
+use Rattle.pool_slots.specs.Writes.{IsSlotWrite, in_use}
 use Rattle.pool_slots.specs.declared.labeled.Area.{Area}
 use Rattle.pool_slots.specs.declared.labeled.Labeled.{Labeled}
 
@@ -30,6 +32,25 @@ pub record IsRelabeled (old : Disks) (u : Uberblock) (new : Disks) (which : ℕ)
 -- of the disks in use
 abbrev pub OpenRelabels : List Bool → Disks → Uberblock → Disks → Type 0
 OpenRelabels out old u new = AreKnown out old → AreHonestSince (length old.calls) new.starts new.calls → (which : ℕ) → InUse out which → IsRelabeled old u new which
+
+-- A label of its disk: one that the disk has, but for the uberblock's claim and group, and that it is in use.
+pub record IsRelabelWrite (disks : Disks) (u : Uberblock) (which at : ℕ) (bytes : List ℕ) : Type 0 where
+  pub number : ℕ
+  pub is_label : number < 4
+  pub place : at ≡ area_place (length (bytes_of disks.starts which)) number
+  pub from : ℕ
+  pub label : PlainLabel
+  pub shown : IsLabelShown (length (bytes_of disks.starts which)) (content disks which) from label
+  pub spells : bytes ≡ inscribed (relabeled label u.claim u.group Active)
+
+-- that, or a slot of the uberblock on a disk in use
+abbrev pub IsRewrite : List Bool → Disks → Uberblock → ℕ → ℕ → List ℕ → Type 0
+IsRewrite out disks u which at bytes = IsSlotWrite disks.starts u (in_use out) which at bytes ⊎ IsRelabelWrite disks u which at bytes
+
+-- nothing is written, or nothing else of one uberblock
+abbrev pub OpenRewrites : List Bool → Disks → Disks → Type 0
+OpenRewrites out old new =
+    AreKnown out old → AreHonestSince (length old.calls) new.starts new.calls → Makes no_write old new ⊎ ((u : Uberblock) × Fits u × Makes (IsRewrite out old u) old new)
 
 -- ---- which of them is written first
 
@@ -75,6 +96,10 @@ AreMadeOf disks u areas = (which : ℕ) (area : Area) → slice_get areas which 
 -- each label
 abbrev pub all_labels : ℕ → ℕ → Type 0
 all_labels which number = Unit {0}
+
+-- one of these areas in a label of its disk, or a slot of the uberblock on a disk in use
+abbrev pub of_areas : List (List ℕ) → List Bool → Uberblock → List (Option Area) → ℕ → ℕ → List ℕ → Type 0
+of_areas starts out u areas which at bytes = IsSlotWrite starts u (in_use out) which at bytes ⊎ IsAreaWrite starts areas all_labels which at bytes
 
 -- at some moment the claim labels alone were written, and stand flushed
 pub record AreFirst (out : List Bool) (old : Disks) (areas : List (Option Area)) (new : Disks) : Type 0 where

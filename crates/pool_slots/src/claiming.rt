@@ -1,12 +1,13 @@
 //! The claim of an uberblock.
 ghost use Rattle.std.specs.Prelude.{◌≡◌, length, IfErr, OnOk};
 ghost use Rattle.model_disk.specs.Joint.{content};
+ghost use Rattle.model_disk.specs.Runs.{Makes};
 ghost use Rattle.uberblock_ring.specs.Uberblock.{Fits};
 ghost use Rattle.pool_slots.specs.Failures.{IsFailure};
 ghost use Rattle.pool_slots.specs.Configs.{ClaimConfigures};
 ghost use Rattle.pool_slots.specs.Labels.{AreClaimed, AreWhole, AreasFit, AreasOn, AreasStand, InAreaTurn, IsAreaWrite, IsClaimWrite};
 ghost use Rattle.pool_slots.specs.Opens.{AreOn, ClaimGives, ClaimKeeps, SlotsGive, SlotsKeep};
-ghost use Rattle.pool_slots.specs.Relabels.{AreFirst, all_labels};
+ghost use Rattle.pool_slots.specs.Relabels.{AreFirst, all_labels, of_areas};
 ghost use Rattle.pool_slots.specs.Slots.{AreSettled, HaveLabels, InUse, MakesOn};
 ghost use Rattle.pool_slots.specs.Writes.{IsSlotWrite, in_use};
 
@@ -86,6 +87,8 @@ pub(crate) fn write_claim<D: Disk + Drop>(
     requires areas { AreasFit uberblock.now areas.now }
     ensures makes { MakesOn (InUse out.now)
         (IsClaimWrite disks.old.starts out.now uberblock.now) disks.old disks.new }
+    ensures alone { Makes
+        (of_areas disks.old.starts out.now uberblock.now areas.now) disks.old disks.new }
     ensures fault { IfErr result (IsFailure disks.old disks.new) }
     ensures any_moment { ClaimKeeps
         out.now disks.old uberblock.now all.now areas.now disks.new }

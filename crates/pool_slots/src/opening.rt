@@ -5,7 +5,7 @@ ghost use Rattle.pool_slots.specs.Failures.{IsFailure};
 ghost use Rattle.pool_slots.specs.Labels.{AreClaimed, IsClaimWrite};
 ghost use Rattle.pool_slots.specs.OpenRefusals.{OpenRefuses};
 ghost use Rattle.pool_slots.specs.Opens.{OpenGives, OpenKeeps, OpenMakes, OpenMarks, OpenTakes};
-ghost use Rattle.pool_slots.specs.Relabels.{OpenMarksFirst, OpenRelabels};
+ghost use Rattle.pool_slots.specs.Relabels.{OpenMarksFirst, OpenRelabels, OpenRewrites};
 ghost use Rattle.pool_slots.specs.Slots.{HaveLabels, InUse, MakesOn};
 ghost use Rattle.pool_slots.specs.Surveys.{IsWholeOf, OfSurveyed};
 
@@ -58,6 +58,10 @@ pub fn claim<D: Disk + Drop>(
     // No disk that is out is called, and all that is written are the uberblock's slots, and labels with its claim.
     ensures makes { MakesOn (InUse out.now)
         (IsClaimWrite disks.old.starts out.now survey.now.claimed) disks.old disks.new }
+
+    // Each label that is written is one of its disk, with the claim and the group.
+    ensures rewrites { OfSurveyed out.now survey.now disks.old
+        (λ rewind first. OpenRewrites out.now first disks.new) }
 
     // Stopped at any moment, inside a device call too, the disks lead to one of the possible ones, or to a claim of one.
     ensures any_moment { OfSurveyed out.now survey.now disks.old

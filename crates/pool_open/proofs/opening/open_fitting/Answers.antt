@@ -54,6 +54,7 @@ returns-in_err-claimed-clause-refused g c =
       leads = c.claim.ensures.any_moment;
       marks = c.claim.ensures.labels_any_moment;
       configures = c.claim.ensures.configured_any_moment;
+      rewrites = c.claim.ensures.rewrites;
     } in
     let begun = subst (λ (xs : List Bool). AreBegun xs s read c.claim.new.disks) c.deref-2.ensures.value here in
     if_err_is c.from_residual-in_err-claimed.result DiskFault (IsNotOpenedOver c.args.disks c.args.shapes.now c.args.out.items c.args.rewind) c.from_residual-in_err-claimed.ensures.1
@@ -84,6 +85,7 @@ returns-in_err-core-clause-refused g c =
       leads = c.claim.ensures.any_moment;
       marks = c.claim.ensures.labels_any_moment;
       configures = c.claim.ensures.configured_any_moment;
+      rewrites = c.claim.ensures.rewrites;
     } in
     let begun = subst (λ (xs : List Bool). AreBegun xs s read new) c.deref-2.ensures.value here in
     let W : List Bool → Type 0 = λ xs. (cause ≡ NoMemory) ⊎ ((cause ≡ BadPointer) × IsBlockMisplaced new c.args.shapes.now xs contents) in
@@ -116,6 +118,7 @@ returns-clause-opened g c =
       leads = c.claim.ensures.any_moment;
       marks = c.claim.ensures.labels_any_moment;
       configures = c.claim.ensures.configured_any_moment;
+      rewrites = c.claim.ensures.rewrites;
     } in
     let begun = subst (λ (xs : List Bool). AreBegun xs s read new) c.deref-2.ensures.value here in
     let ended : AreDone c.deref-2.result.now s read new = record {

@@ -5,12 +5,13 @@ use Rattle.pool_slots.proofs.Failing.{failure_later, fails_later}
 use Rattle.pool_slots.specs.Labels.{AreClaimed, AreasStand, InAreaTurn, IsAreaWrite, IsClaimWrite}
 use Rattle.pool_slots.specs.Configs.{LeavesConfigured}
 use Rattle.pool_slots.specs.Opens.{ClaimGives, ClaimsAt}
-use Rattle.pool_slots.specs.Relabels.{AreFirst, all_labels}
+use Rattle.pool_slots.specs.Relabels.{AreFirst, all_labels, of_areas}
 use Rattle.pool_slots.specs.Slots.{AreSettled, HaveLabels, InUse}
 use Rattle.pool_slots.specs.Writes.{IsSlotWrite, in_use}
 use Rattle.pool_slots.specs.Commits.{AreOffLabels}
 use Rattle.std.proofs.Common.{ℕ}
-use Rattle.pool_slots.proofs.LabelPhases.{FirstStands, all_claimed, all_stand, are_whole, areas_made, at_later, each_joined, first_claims, first_configured, first_stays, may_later, others_claim, others_configured, slots_claim, slots_configured, slots_made}
+use Rattle.pool_slots.proofs.LabelPhases.{FirstStands, all_claimed, all_stand, are_whole, areas_alone, areas_made, at_later, each_joined, first_claims, first_configured, first_stays, may_later, others_claim, others_configured, slots_alone, slots_claim, slots_configured, slots_made}
+use Rattle.model_disk.proofs.RunLemmas.{Makes-more}
 use Rattle.pool_slots.proofs.Phases.{MakesOn-more}
 use Rattle.pool_slots.proofs.Reading.{longer}
 use Rattle.pool_slots.proofs.Results.{on_ok_is, on_ok_use, if_err_is}
@@ -61,6 +62,37 @@ returns-clause-makes g c =
     (slots_made mid wrote old.starts out u c.settle_labels.ensures.makes.makes.starts c.claim_slots.ensures.makes) in
     MakesOn-more (InUse out) (IsClaimWrite old.starts out u) old wrote new before
     (areas_made wrote new old.starts out u areas (InAreaTurn areas false) c.requires.on c.requires.areas before.makes.starts c.settle_labels-2.ensures.makes)
+
+pub returns-in_err-settle_labels-clause-alone : goal.returns-in_err-settle_labels-clause-alone
+returns-in_err-settle_labels-clause-alone g c =
+    let old = c.args.disks.now in
+    areas_alone old c.settle_labels.new.disks old.starts c.args.out.now c.args.uberblock.now c.args.areas.now (InAreaTurn c.args.areas.now true) refl c.settle_labels.ensures.makes
+
+pub returns-in_err-claim_slots-clause-alone : goal.returns-in_err-claim_slots-clause-alone
+returns-in_err-claim_slots-clause-alone g c =
+    let out = c.args.out.now in
+    let old = c.args.disks.now in
+    let areas = c.args.areas.now in
+    let u = c.args.uberblock.now in
+    let mid = c.settle_labels.new.disks in
+    let wrote = c.claim_slots.new.disks in
+    Makes-more (of_areas old.starts out u areas) old mid wrote
+    (areas_alone old mid old.starts out u areas (InAreaTurn areas true) refl c.settle_labels.ensures.makes)
+    (slots_alone mid wrote old.starts out u areas c.settle_labels.ensures.makes.makes.starts c.claim_slots.ensures.makes)
+
+pub returns-clause-alone : goal.returns-clause-alone
+returns-clause-alone g c =
+    let out = c.args.out.now in
+    let old = c.args.disks.now in
+    let areas = c.args.areas.now in
+    let u = c.args.uberblock.now in
+    let mid = c.settle_labels.new.disks in
+    let wrote = c.claim_slots.new.disks in
+    let before = Makes-more (of_areas old.starts out u areas) old mid wrote
+    (areas_alone old mid old.starts out u areas (InAreaTurn areas true) refl c.settle_labels.ensures.makes)
+    (slots_alone mid wrote old.starts out u areas c.settle_labels.ensures.makes.makes.starts c.claim_slots.ensures.makes) in
+    Makes-more (of_areas old.starts out u areas) old wrote c.settle_labels-2.new.disks before
+    (areas_alone wrote c.settle_labels-2.new.disks old.starts out u areas (InAreaTurn areas false) before.starts c.settle_labels-2.ensures.makes)
 
 pub returns-in_err-settle_labels-clause-any_moment : goal.returns-in_err-settle_labels-clause-any_moment
 returns-in_err-settle_labels-clause-any_moment g c = λ trees p may.

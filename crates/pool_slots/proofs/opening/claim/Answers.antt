@@ -5,7 +5,7 @@ use Rattle.pool_slots.specs.Opens.{AreOn}
 use Rattle.pool_slots.specs.Surveys.{Surveyed}
 use Rattle.pool_slots.specs.declared.found.Found.{Found}
 use Rattle.pool_slots.specs.declared.labeled.Area.{Area}
-use Rattle.pool_slots.proofs.ClaimSteps.{claim_configures, claim_gives, claim_keeps, claim_marks, claim_marks_first, claim_relabels}
+use Rattle.pool_slots.proofs.ClaimSteps.{claim_configures, claim_gives, claim_keeps, claim_marks, claim_marks_first, claim_relabels, claim_rewrites}
 use Rattle.pool_slots.proofs.opening.claim.Goals as goal
 
 pub write_claim-requires-clause-used : goal.write_claim-requires-clause-used
@@ -28,6 +28,10 @@ pub returns-in_err-write_claim-clause-any_moment : goal.returns-in_err-write_cla
 returns-in_err-write_claim-clause-any_moment g c =
     claim_keeps c.args.out.now c.args.disks.now c.write_claim.new.disks c.args.survey.now c.claimed-claimed.result c.deref.result.now c.deref-2.result.now c.requires.out c.requires.whole c.claimed-claimed.ensures (c.deref.ensures.value ∙ ap (λ (s : Surveyed). s.found) c.survey.view_is) c.write_claim.ensures.makes.makes c.write_claim.ensures.any_moment
 
+pub returns-in_err-write_claim-clause-rewrites : goal.returns-in_err-write_claim-clause-rewrites
+returns-in_err-write_claim-clause-rewrites g c =
+    claim_rewrites c.args.out.now c.args.disks.now c.write_claim.new.disks c.args.survey.now c.claimed-claimed.result c.deref-2.result.now c.requires.whole c.claimed-claimed.ensures (c.deref-2.ensures.value ∙ ap (λ (s : Surveyed). s.areas) c.survey.view_is) c.write_claim.ensures.makes.makes c.write_claim.ensures.alone
+
 pub returns-in_err-write_claim-clause-labels_any_moment : goal.returns-in_err-write_claim-clause-labels_any_moment
 returns-in_err-write_claim-clause-labels_any_moment g c =
     claim_marks c.args.out.now c.args.disks.now c.write_claim.new.disks c.args.survey.now c.claimed-claimed.result c.deref.result.now c.deref-2.result.now c.requires.out c.requires.whole c.claimed-claimed.ensures (c.deref.ensures.value ∙ ap (λ (s : Surveyed). s.found) c.survey.view_is) (c.deref-2.ensures.value ∙ ap (λ (s : Surveyed). s.areas) c.survey.view_is) c.write_claim.ensures.makes.makes c.write_claim.ensures.any_moment
@@ -39,6 +43,10 @@ returns-in_err-write_claim-clause-configured_any_moment g c =
 pub returns-clause-any_moment : goal.returns-clause-any_moment
 returns-clause-any_moment g c =
     claim_keeps c.args.out.now c.args.disks.now c.write_claim.new.disks c.args.survey.now c.claimed-claimed.result c.deref.result.now c.deref-2.result.now c.requires.out c.requires.whole c.claimed-claimed.ensures (c.deref.ensures.value ∙ ap (λ (s : Surveyed). s.found) c.survey.view_is) c.write_claim.ensures.makes.makes c.write_claim.ensures.any_moment
+
+pub returns-clause-rewrites : goal.returns-clause-rewrites
+returns-clause-rewrites g c =
+    claim_rewrites c.args.out.now c.args.disks.now c.write_claim.new.disks c.args.survey.now c.claimed-claimed.result c.deref-2.result.now c.requires.whole c.claimed-claimed.ensures (c.deref-2.ensures.value ∙ ap (λ (s : Surveyed). s.areas) c.survey.view_is) c.write_claim.ensures.makes.makes c.write_claim.ensures.alone
 
 pub returns-clause-labels_any_moment : goal.returns-clause-labels_any_moment
 returns-clause-labels_any_moment g c =
