@@ -34,7 +34,7 @@ use Rattle.pool_stops.proofs.Steps.{same_flags, used_below}
 -- ---- pools that were just made
 
 -- an element of a list that a function made
-made_of : {X Y : Type 0} (f : X → Y) (xs : List X) (k : ℕ) → k < length xs → (x : X) × (slice_get (map f xs) k ≡ Some (f x))
+pub made_of : {X Y : Type 0} (f : X → Y) (xs : List X) (k : ℕ) → k < length xs → (x : X) × (slice_get (map f xs) k ≡ Some (f x))
 made_of f xs k below =
     let it = slice_get_some xs k below in
     (it.0, slice_get-map f xs k ∙ ap (option_map f) it.1)
@@ -72,7 +72,7 @@ still_left out digest old new makes leaves =
     })) makes
 
 -- what is shown is out of reach, or possible
-is_allowed : (trees : Trees) (out : List Bool) (disks : Disks) (p : Possible) (u : Uberblock) → CanOpen trees out disks p → IsRead out disks u
+pub is_allowed : (trees : Trees) (out : List Bool) (disks : Disks) (p : Possible) (u : Uberblock) → CanOpen trees out disks p → IsRead out disks u
     → IsOutOfReach u p.last ⊎ IsPossible trees out (content disks) p u
 is_allowed trees out disks p u can read =
     let on = read.on.on in
@@ -80,7 +80,7 @@ is_allowed trees out disks p u can read =
     subst (λ (x : Uberblock). IsOutOfReach x p.last ⊎ IsPossible trees out (content disks) p x) (read.on.alone it.u it.shows) it.rank
 
 -- the highest that is shown is no lower than the last one
-ranks_above : (trees : Trees) (out : List Bool) (disks : Disks) (p : Possible) (highest : Uberblock) → CanOpen trees out disks p
+pub ranks_above : (trees : Trees) (out : List Bool) (disks : Disks) (p : Possible) (highest : Uberblock) → CanOpen trees out disks p
     → IsHighestShown out disks highest → RanksUpTo p.last highest
 ranks_above trees out disks p highest can top =
     let it = (can.leads can.some.0 can.some.1).top in
@@ -92,7 +92,7 @@ ranks_above trees out disks p highest can top =
     }))
 
 -- nor is one at most two groups below it out of reach
-not_far : (last highest taken : Uberblock) (rewind : ℕ) → rewind < 3 → RanksUpTo last highest → IsRewound highest rewind taken → IsOutOfReach taken last → ⊥
+pub not_far : (last highest taken : Uberblock) (rewind : ℕ) → rewind < 3 → RanksUpTo last highest → IsRewound highest rewind taken → IsOutOfReach taken last → ⊥
 not_far last highest taken rewind few (inl above) rewound (inl far) = omega (arith, above, rewound.0, far)
 not_far last highest taken rewind few (inl above) rewound (inr far) = omega (arith, above, rewound.0, far.0)
 not_far last highest taken rewind few (inr above) rewound (inl far) = omega (arith, above.0, rewound.0, far)

@@ -3,15 +3,17 @@ use Rattle.std.proofs.Common.{ℕ, ◌≡◌, ◌⊎◌, ⊎_elim, inl, inr, ◌
 use Rattle.std.proofs.lemmas.Option.{slice_get-get_or}
 use Rattle.model_disk.specs.Call.{Call}
 use Rattle.model_disk.specs.Contents.{MayLeave, byte_at, covers, is_dirty}
-use Rattle.model_disk.specs.Joint.{Disks, JointCall, bytes_of, calls_on}
+use Rattle.model_disk.specs.Joint.{Disks, JointCall, bytes_of, calls_on, content}
 use Rattle.model_disk.specs.Runs.{EachSince, IsOff, Makes, WritesOnly, no_write}
-use Rattle.model_disk.proofs.LawLemmas.{untouched_since}
+use Rattle.model_disk.proofs.LawLemmas.{same_bytes, untouched_since}
 use Rattle.model_disk.proofs.RunLemmas.{Makes-none, calls_on-append, each_of_run, off_untouched, writes_on}
 use Rattle.block_store.specs.Elsewhere.{IsForBlocks}
 use Rattle.block_store.specs.Spaces.{VdevSpace}
+use Rattle.sha2.specs.Sha256.{sha256}
 use Rattle.uberblock_ring.specs.Slot.{slot_number}
 use Rattle.uberblock_ring.specs.Uberblock.{Fits}
 use Rattle.uberblock_ring.specs.declared.uberblock.Uberblock.{Uberblock}
+use Rattle.vdev_label.specs.Config.{config_bytes}
 use Rattle.vdev_label.specs.Place.{label_at}
 use Rattle.vdev_label.specs.Plain.{PlainLabel}
 use Rattle.pool_commit.specs.Backs.{Backs}
@@ -23,11 +25,12 @@ use Rattle.pool_core.specs.Moves.{Moves}
 use Rattle.pool_model.specs.View.{View}
 use Rattle.pool_model.specs.declared.step.Step.{Step}
 use Rattle.pool_model.specs.declared.step.Step.TheVariants.{Hold, Write, Act, Release, Close, Quiesce, Plan, Device, Read, ReadUnder}
+use Rattle.pool_open.specs.Stops.{fresh}
 use Rattle.pool_slots.specs.Labels.{IsLabelShown, area_place, inscribed}
 use Rattle.pool_slots.specs.Possible.{held_by}
 use Rattle.pool_slots.specs.Slots.{InUse, IsSlot, slot_at, spelled}
 use Rattle.pool_slots.specs.Writes.{IsSlotWrite}
-use Rattle.pool_slots.proofs.LabelAreas.{area_len}
+use Rattle.pool_slots.proofs.LabelAreas.{area_len, same_areas}
 use Rattle.pool_slots.proofs.Places.{apart_covers, labels_apart, length-spelled}
 use Rattle.pool_slots.proofs.Writing.{slot_number_small}
 use Rattle.pool_stops.specs.Configured.{HeldLabelsAreLeft, HeldLabelsStayHeld, HoldConfigured, IsFlushedLabel, LeftDisksAreConfigured, StepsStayConfigured}
@@ -37,6 +40,13 @@ use Rattle.pool_stops.proofs.Holding.{due_writes_are_unfilled}
 use Rattle.pool_stops.proofs.Phases.{no_writes}
 use Rattle.pool_stops.proofs.Standing.{either, its_disk}
 use Rattle.pool_stops.proofs.Steps.{used_below}
+
+-- a label shows one thing
+pub shown_once : (size number : ℕ) (held : ℕ → Option ℕ) (l m : PlainLabel) → IsLabelShown size held number l → IsLabelShown size held number m → l ≡ m
+shown_once size number held l m one other =
+    same_areas l m one.valid other.valid
+    (same_bytes (inscribed l) (inscribed m) (area_len l one.valid ∙ sym (area_len m other.valid))
+    (λ i below. let inside : i < 114688 = omega (arith, below, area_len m other.valid) in sym (one.bytes i inside) ∙ other.bytes i inside))
 
 -- ---- what a run doesn't write
 
@@ -84,7 +94,7 @@ all_held may out old new digest makes off hold earlier moment which number used 
 -- ---- what is left
 
 -- a stop leaves a label that is flushed
-label_left : (starts : List (List ℕ)) (calls : List JointCall) (which number : ℕ) (l : PlainLabel) (image : List ℕ)
+pub label_left : (starts : List (List ℕ)) (calls : List JointCall) (which number : ℕ) (l : PlainLabel) (image : List ℕ)
     → MayLeave (bytes_of starts which) (calls_on which calls) image → IsFlushedLabel starts calls which number l
     → IsLabelShown (length image) (slice_get image) number l
 label_left starts calls which number l image left it = record {
@@ -109,7 +119,7 @@ held_labels_are_left out starts digest calls there hold images left which used =
     }
 
 -- what images show is flushed on disks that hold them
-flushed_on : (images : List (List ℕ)) (which number : ℕ) (l : PlainLabel) → IsLabelShown (length (bytes_of images which)) (held_by images which) number l
+pub flushed_on : (images : List (List ℕ)) (which number : ℕ) (l : PlainLabel) → IsLabelShown (length (bytes_of images which)) (held_by images which) number l
     → IsFlushedLabel images [] which number l
 flushed_on images which number l shown = record {
   shown = record { is_label = shown.is_label; valid = shown.valid; bytes = λ i below. shown.bytes i below };
@@ -123,19 +133,15 @@ held_labels_stay_held out starts digest calls images there hold left =
     let shown = label_left starts calls which number it.0 (bytes_of images which) (left.each which (there which used)) it.1 in
     (it.0, flushed_on images which number it.0 shown, it.2) in (
       anew,
-      λ which used.
-          let one = anew which 0 used (omega arith) in
-          let two = anew which 1 used (omega arith) in
-          inr (record {
-            first = 0;
-            second = 1;
-            other = λ same. absurd (omega (arith, same));
-            label = one.0;
-            shown = one.1.shown;
-            twin = two.0;
-            also_shown = two.1.shown;
-            same = one.2 ∙ sym two.2;
-          }),
+      λ which used four.
+          let size : ℕ = length (bytes_of images which) in
+          let held : ℕ → Option ℕ = content (fresh images) which in
+          let config : (number : ℕ) → (low : number < 4) → sha256 (config_bytes (four.label number).vdevs) ≡ digest =
+          λ number low.
+          let it = anew which number used low in
+          let same : it.0 ≡ four.label number = shown_once size number held it.0 (four.label number) it.1.shown (four.shown number low) in
+          ap (λ (l : PlainLabel). sha256 (config_bytes l.vdevs)) (sym same) ∙ it.2 in
+          four.apart 0 1 (omega arith) (omega arith) (config 0 (omega arith) ∙ sym (config 1 (omega arith))),
     )
 
 pub left_disks_are_configured : LeftDisksAreConfigured
@@ -174,7 +180,7 @@ off_blocks starts spaces which number i lie low below at bytes write =
 ordered : (i j : ℕ) → (i < j) ⊎ ((j < i) ⊎ (i ≡ j))
 ordered i j = grind arith
 
-area_off_slot : (size number label slot : ℕ) → 4 * 262144 ≤ size → number < 4 → IsSlot label slot
+pub area_off_slot : (size number label slot : ℕ) → 4 * 262144 ≤ size → number < 4 → IsSlot label slot
     → (slot_at size label slot + 1024 ≤ area_place size number) ⊎ (area_place size number + 114688 ≤ slot_at size label slot)
 unfolding area_place slot_at
 area_off_slot size number label slot room low is = elim (ordered number label) [
@@ -195,7 +201,7 @@ due_slot starts u slots which at bytes due = record {
   spells = due.same;
 }
 
-off_slots : (starts : List (List ℕ)) (u : Uberblock) (picks : ℕ → ℕ → Type 0) (which number i : ℕ) → Fits u
+pub off_slots : (starts : List (List ℕ)) (u : Uberblock) (picks : ℕ → ℕ → Type 0) (which number i : ℕ) → Fits u
     → 1048576 ≤ length (bytes_of starts which) → number < 4 → i < 114688
     → IsOff (IsSlotWrite starts u picks which) (area_place (length (bytes_of starts which)) number + i)
 off_slots starts u picks which number i fits room low below at bytes write =
@@ -207,7 +213,7 @@ off_slots starts u picks which number i fits room low below at bytes write =
     ∙ ap (λ (n : ℕ). covers slot n (area + i)) (ap length write.spells ∙ length-spelled u fits)
     ∙ apart_covers slot 1024 area 114688 (area_off_slot size number write.label (slot_number u.group) (omega (arith, room)) low is) i below
 
-off_plan : (s : State) (v : View) (plan : Planned) (which number i : ℕ) → IsWhole s → Backs s v → Fits plan.uberblock → InUse s.store.out which → number < 4
+pub off_plan : (s : State) (v : View) (plan : Planned) (which number i : ℕ) → IsWhole s → Backs s v → Fits plan.uberblock → InUse s.store.out which → number < 4
     → i < 114688 → IsOff (may_write s plan which) (area_place (length (bytes_of s.store.disks.starts which)) number + i)
 off_plan s v plan which number i whole backs fits used low below at bytes write =
     let starts : List (List ℕ) = s.store.disks.starts in
@@ -222,18 +228,18 @@ off_plan s v plan which number i whole backs fits used low below at bytes write 
 
 -- ---- steps
 
-unmoved : (old new : State) → new ≡ old → Makes no_write old.store.disks new.store.disks
+pub unmoved : (old new : State) → new ≡ old → Makes no_write old.store.disks new.store.disks
 unmoved old new same = subst (λ (s : State). Makes no_write old.store.disks s.store.disks) (sym same) (Makes-none no_write old.store.disks)
 
 -- it writes nothing, or its plan
-abbrev WritesAtMost : State → State → Type 0
+abbrev pub WritesAtMost : State → State → Type 0
 WritesAtMost old new = Makes no_write old.store.disks new.store.disks ⊎ ((plan : Planned) × (old.planned ≡ Some plan) × WritesPlan old new)
 
 by_plan : (old new : State) (planned : Option Planned) → old.planned ≡ planned → WritesPlan old new → WritesAtMost old new
 by_plan old new None is writes = inl (unmoved old new (writes.idle is))
 by_plan old new (Some plan) is writes = inr (plan, is, writes)
 
-writes_at_most : (step : Step) (old new : State) → Moves step old new → WritesAtMost old new
+pub writes_at_most : (step : Step) (old new : State) → Moves step old new → WritesAtMost old new
 writes_at_most (Hold x) old new moves = inl (unmoved old new moves)
 writes_at_most (Write x) old new moves = inl (unmoved old new moves)
 writes_at_most (Act x) old new moves = inl (unmoved old new moves)

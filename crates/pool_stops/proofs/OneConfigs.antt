@@ -22,13 +22,13 @@ use Rattle.pool_open.proofs.Through.{through_made}
 use Rattle.pool_slots.specs.Commits.{only_last}
 use Rattle.pool_slots.specs.Configs.{IsConfigured}
 use Rattle.pool_slots.specs.Opens.{CanOpen, IsClaimOf}
-use Rattle.pool_slots.specs.Possible.{Possible, held_by}
+use Rattle.pool_slots.specs.Possible.{IsInReach, Possible, held_by}
 use Rattle.pool_slots.specs.Slots.{AreThere}
 use Rattle.pool_stops.specs.Configured.{HoldConfigured, ShowsConfigured, StepsStayConfigured}
 use Rattle.pool_stops.specs.Created.{CreatedPoolsRun}
 use Rattle.pool_stops.specs.OneConfig.{AreOfConfig, CreatedPoolsRunAs, IsRunningAs, OpenedPoolsRunAs, RunsStopAs, StoppedExportsShowConfig, StoppedOpensAreOfConfig, StoppedOpensShowConfig, StoppedRunsShowConfig}
 use Rattle.pool_stops.specs.Reopening.{LedDisksOpen}
-use Rattle.pool_stops.specs.Running.{IsNextOf, IsPossibleOf, IsWhole, RunningPoolsStepOn, StepsOn}
+use Rattle.pool_stops.specs.Running.{IsNextOf, IsPossibleOf, IsRunning, IsWhole, RunningPoolsStepOn, StepsOn}
 use Rattle.pool_stops.proofs.LabelStops.{created_pools_are_configured, exports_stay_configured, opened_pools_are_configured, opens_stay_configured, shows_still}
 use Rattle.pool_stops.proofs.Labels.{held_labels_are_left, same_starts}
 use Rattle.pool_stops.proofs.Reopening.{alone, reach_behind}
@@ -37,7 +37,7 @@ use Rattle.pool_stops.proofs.Steps.{first_or, good, is_last_or_before, last_in_r
 
 -- ---- the configuration of uberblocks
 
-same_stamp : (step : Step) (old new : State) → Moves step old new → new.stamp ≡ old.stamp
+pub same_stamp : (step : Step) (old new : State) → Moves step old new → new.stamp ≡ old.stamp
 same_stamp (Hold x) old new moves = ap (λ s. s.stamp) moves
 same_stamp (Write x) old new moves = ap (λ s. s.stamp) moves
 same_stamp (Act x) old new moves = ap (λ s. s.stamp) moves
@@ -51,7 +51,7 @@ same_stamp (ReadUnder g a b c) old new moves = ap (λ s. s.stamp) moves.rest
 
 -- ---- the vdevs and their disks
 
-same_shapes : (step : Step) (old new : State) → Moves step old new → shapes_of new.store.spaces ≡ shapes_of old.store.spaces
+pub same_shapes : (step : Step) (old new : State) → Moves step old new → shapes_of new.store.spaces ≡ shapes_of old.store.spaces
 same_shapes (Hold x) old new moves = ap (λ s. shapes_of s.store.spaces) moves
 same_shapes (Write x) old new moves = ap (λ s. shapes_of s.store.spaces) moves
 same_shapes (Act x) old new moves = ap (λ s. shapes_of s.store.spaces) moves
@@ -76,63 +76,78 @@ lies_still step old new moves whole lies =
 -- ---- the configuration of uberblocks to come
 
 -- a plan's uberblock has that of the stamp
-planned_config : (digest : List ℕ) (old : CoreState) (v : View) (last : Uberblock) (before : List Uberblock) (plan : Planned)
-    → IsRunningAs digest old v last before → old.commit.planned ≡ Some plan → plan.uberblock.config_digest ≡ digest
-planned_config digest old v last before plan so is =
+planned_config : (digest : List ℕ) (old : CoreState) (v : View) (last : Uberblock) (before : List Uberblock) → IsRunningAs digest old v last before
+    → (plan : Planned) → old.commit.planned ≡ Some plan → plan.uberblock.config_digest ≡ digest
+planned_config digest old v last before so plan is =
     let s : State = old.commit in
     let backs : Backs s v = so.runs.represents.backs in
     let has : HasPlan s backs.blocks.planned plan v = subst (λ (o : Option Planned). IsPlanOf s backs.blocks.planned o v) is backs.blocks.plan in
     ap (λ (u : Uberblock). u.config_digest) has.uberblock.is ∙ so.stamped
 
--- so has all that an open may come to behind the next group
-behind_plan : (digest : List ℕ) (old : CoreState) (v : View) (last : Uberblock) (before : List Uberblock) (plan : Planned)
-    → IsRunningAs digest old v last before → old.commit.planned ≡ Some plan → AreOfConfig digest (only_last plan.uberblock (last ∷ before))
-behind_plan digest old v last before plan so is u reach =
-    let next = (good old v plan last before so.runs is).next in
+-- ---- what holds of each uberblock that an open may come to
+
+abbrev pub AllInReach : (Uberblock → Type 0) → Possible → Type 0
+AllInReach Q p = (u : Uberblock) → IsInReach p u → Q u
+
+-- and of that of each plan
+abbrev pub OfPlans : (Uberblock → Type 0) → CoreState → Type 0
+OfPlans Q old = (plan : Planned) → old.commit.planned ≡ Some plan → Q plan.uberblock
+
+-- holds behind the next group
+behind_plan : (Q : Uberblock → Type 0) (old : CoreState) (v : View) (last : Uberblock) (before : List Uberblock) (plan : Planned)
+    → IsRunning old v last before → old.commit.planned ≡ Some plan → OfPlans Q old → AllInReach Q (only_last last before)
+    → AllInReach Q (only_last plan.uberblock (last ∷ before))
+behind_plan Q old v last before plan runs is planned all u reach =
+    let next = (good old v plan last before runs is).next in
     ⊎_elim
-    (λ same. ap (λ (x : Uberblock). x.config_digest) same ∙ planned_config digest old v last before plan so is)
+    (λ same. subst Q (sym same) (planned plan is))
     (λ earlier. ⊎_elim
-    (λ same. ap (λ (x : Uberblock). x.config_digest) same ∙ so.one last (last_in_reach last before))
+    (λ same. subst Q (sym same) (all last (last_in_reach last before)))
     (λ among.
     let claim : u.claim ≡ last.claim = earlier.claim ∙ next.0 in
-    let low = so.runs.lower u among claim in
-    so.one u (inr (record { among = among; claim = claim; lower = low; near = omega (arith, next.1, earlier.near) })))
+    let low = runs.lower u among claim in
+    all u (inr (record { among = among; claim = claim; lower = low; near = omega (arith, next.1, earlier.near) })))
     (first_or last before u earlier.among))
     (is_last_or_before plan.uberblock (last ∷ before) u reach)
 
-behind_step : (digest : List ℕ) (old : CoreState) (v : View) (last : Uberblock) (before : List Uberblock) (later : Uberblock) (earlier : List Uberblock)
-    → IsRunningAs digest old v last before → IsNextOf old.commit last before later earlier → AreOfConfig digest (only_last later earlier)
-behind_step digest old v last before later earlier so (inl (last_is, before_is)) =
-    subst (λ (u : Uberblock). AreOfConfig digest (only_last u earlier)) (sym last_is)
-    (subst (λ (us : List Uberblock). AreOfConfig digest (only_last last us)) (sym before_is) so.one)
-behind_step digest old v last before later earlier so (inr (plan, is, last_is, before_is)) =
-    subst (λ (u : Uberblock). AreOfConfig digest (only_last u earlier)) (sym last_is)
-    (subst (λ (us : List Uberblock). AreOfConfig digest (only_last plan.uberblock us)) (sym before_is) (behind_plan digest old v last before plan so is))
+pub behind_step : (Q : Uberblock → Type 0) (old : CoreState) (v : View) (last : Uberblock) (before : List Uberblock) (later : Uberblock)
+    (earlier : List Uberblock) → IsRunning old v last before → OfPlans Q old → AllInReach Q (only_last last before)
+    → IsNextOf old.commit last before later earlier → AllInReach Q (only_last later earlier)
+behind_step Q old v last before later earlier runs planned all (inl (last_is, before_is)) =
+    subst (λ (u : Uberblock). AllInReach Q (only_last u earlier)) (sym last_is)
+    (subst (λ (us : List Uberblock). AllInReach Q (only_last last us)) (sym before_is) all)
+behind_step Q old v last before later earlier runs planned all (inr (plan, is, last_is, before_is)) =
+    subst (λ (u : Uberblock). AllInReach Q (only_last u earlier)) (sym last_is)
+    (subst (λ (us : List Uberblock). AllInReach Q (only_last plan.uberblock us)) (sym before_is) (behind_plan Q old v last before plan runs is planned all))
 
--- and all that the disks lead to within a step
-within_step : (digest : List ℕ) (old : CoreState) (v : View) (last : Uberblock) (before : List Uberblock) (p : Possible) → IsRunningAs digest old v last before
-    → IsPossibleOf old.commit last before p → AreOfConfig digest p
-within_step digest old v last before p so (inl is) = subst (λ (q : Possible). AreOfConfig digest q) (sym is) so.one
-within_step digest old v last before p so (inr (plan, planned, is)) =
-    subst (λ (q : Possible). AreOfConfig digest q) (sym is)
+-- and wherever a step is stopped
+pub within_step : (Q : Uberblock → Type 0) (old : CoreState) (last : Uberblock) (before : List Uberblock) (p : Possible) → OfPlans Q old
+    → AllInReach Q (only_last last before) → IsPossibleOf old.commit last before p → AllInReach Q p
+within_step Q old last before p planned all (inl is) = subst (λ (q : Possible). AllInReach Q q) (sym is) all
+within_step Q old last before p planned all (inr (plan, at, is)) =
+    subst (λ (q : Possible). AllInReach Q q) (sym is)
     (λ u reach. ⊎_elim
     (λ among. ⊎_elim
-    (λ same. ap (λ (x : Uberblock). x.config_digest) same ∙ so.one last (last_in_reach last before))
+    (λ same. subst Q (sym same) (all last (last_in_reach last before)))
     (λ rest. ⊎_elim
-    (λ same. ap (λ (x : Uberblock). x.config_digest) same ∙ planned_config digest old v last before plan so planned)
+    (λ same. subst Q (sym same) (planned plan at))
     (λ none. absurd (omega (arith, none.1)))
     (first_or plan.uberblock [] u rest))
     (first_or last (plan.uberblock ∷ []) u among))
-    (λ is_before. so.one u (inr is_before)) reach)
+    (λ is_before. all u (inr is_before)) reach)
+
+abbrev of_digest : List ℕ → Uberblock → Type 0
+of_digest digest u = u.config_digest ≡ digest
 
 -- ---- steps and runs
 
-record StepsAs (digest : List ℕ) (old : CoreState) (v : View) (new : CoreState) (w : View) (last : Uberblock) (before : List Uberblock) : Type 0 where
+pub record StepsAs (digest : List ℕ) (old : CoreState) (v : View) (new : CoreState) (w : View) (last : Uberblock) (before : List Uberblock) : Type 0 where
   pub on : StepsOn old v new w last before
   pub held : EachSince (length (disks_of old).calls) (HoldConfigured old.commit.store.out (disks_of old).starts digest) (disks_of new).calls
+  pub one : AreOfConfig digest on.stops.p
   pub so : IsRunningAs digest new w on.later on.earlier
 
-steps_as : RunningPoolsStepOn → StepsStayConfigured → (digest : List ℕ) (old new : CoreState) (v w : View) (step : Step) (given : Given) (reply : Reply)
+pub steps_as : RunningPoolsStepOn → StepsStayConfigured → (digest : List ℕ) (old new : CoreState) (v w : View) (step : Step) (given : Given) (reply : Reply)
     (last : Uberblock) (before : List Uberblock) → IsRunningAs digest old v last before → Link old v step given reply new w
     → Moves step old.commit new.commit → NoneIsOut new.commit → StepsAs digest old v new w last before
 steps_as law stay digest old new v w step given reply last before so link moves none =
@@ -141,11 +156,12 @@ steps_as law stay digest old new v w step given reply last before so link moves 
     record {
       on = on;
       held = held;
+      one = within_step (of_digest digest) old last before on.stops.p (planned_config digest old v last before so) so.one on.stops.which;
       so = record {
         runs = on.runs;
         lies = lies_still step old.commit new.commit moves on.runs.whole so.lies;
         stamped = ap (λ st. st.config_digest) (same_stamp step old.commit new.commit moves) ∙ so.stamped;
-        one = behind_step digest old v last before on.later on.earlier so on.next;
+        one = behind_step (of_digest digest) old v last before on.later on.earlier so.runs (planned_config digest old v last before so) so.one on.next;
         shows = shows_still old.commit new.commit digest so.runs.whole on.runs.whole (same_starts step old.commit new.commit moves) held;
       };
     }
@@ -178,7 +194,7 @@ runs_stop_as law stay old mid new v between w steps replies step reply last befo
     record {
       at = record { last = led.last; earlier = led.before; runs = led.so.runs; steps = last_step.on };
       lies = led.so.lies;
-      one = within_step digest mid between led.last led.before last_step.on.stops.p led.so last_step.on.stops.which;
+      one = last_step.one;
       held = last_step.held;
       on = last_step.so;
     }

@@ -157,7 +157,7 @@ lies_on starts images first [] count same lie = lie ∙ sym count
 lies_on starts images first (shape ∷ shapes) count same lie =
     (lie.0, fits_on starts images shape count same lie.1, lies_on starts images (first + shape.vdev.geometry.children) shapes count same lie.2)
 
-all_there : (starts : List (List ℕ)) (calls : List JointCall) (images : List (List ℕ)) (shapes : List VdevShape) (out : List Bool) → MayLeaveAll starts calls images
+pub all_there : (starts : List (List ℕ)) (calls : List JointCall) (images : List (List ℕ)) (shapes : List VdevShape) (out : List Bool) → MayLeaveAll starts calls images
     → AreAllThere starts shapes out → AreAllThere images shapes out
 all_there starts calls images shapes out left there = record {
   none = there.none;
