@@ -1,6 +1,7 @@
 -- Pools that are made and opened, and run from then on.
 use Rattle.std.specs.Prelude.{ℕ, ◌≡◌, ◌≤◌, ◌<◌, ◌^◌, Bool, false, List, [], length}
 use Rattle.model_disk.specs.Joint.{Disks}
+use Rattle.model_disk.specs.declared.disk.Disk as disk
 use Rattle.raidz_io.specs.Reads.{IsHonestSince}
 use Rattle.block_store.specs.Store.{is_out}
 use Rattle.block_store.specs.declared.shape.VdevShape.{VdevShape}
@@ -10,6 +11,8 @@ use Rattle.pool_create.specs.Planning.{nobody}
 use Rattle.pool_model.specs.Pools.{PlainPool}
 use Rattle.pool_model.specs.View.{View}
 use Rattle.pool_open.specs.Opening.{IsNotOpenedOver}
+use Rattle.pool_open.specs.Opens.{OpenRefuses}
+use Rattle.pool_open.specs.Stops.{fresh}
 use Rattle.pool_open.specs.declared.refusal.Refusal.{Refusal}
 use Rattle.pool_open.specs.declared.refusal.Refusal.TheVariants.{NoMemory}
 use Rattle.pool_slots.specs.Opens.{AreKnown}
@@ -17,6 +20,8 @@ use Rattle.pool_slots.specs.Possible.{Possible}
 use Rattle.pool_stops.specs.OneConfig.{IsRunningAs}
 use Rattle.pool_stops.specs.Reopening.{IsOpenedWell, LeadToPools}
 use Rattle.pool_stops.specs.Unhindered.{AreAllThere, IsUnhindered, LeadToWholePools}
+use Rattle.pool_found.specs.Reopening.{AreReturned, HaveLeft, IsRefusedTruly, LeadToOwnPools}
+use Rattle.vdev_label.specs.Plain.{PlainVdev}
 
 -- the answers were true, and there are some disks and not too many
 pub record AreSound (old new : Disks) : Type 0 where
@@ -39,3 +44,10 @@ abbrev pub IsRefusedWell : Disks → List VdevShape → List Bool → Refusal �
 IsRefusedWell old shapes out refusal =
     (is : IsNotOpenedOver old shapes out 0 refusal) × ((p : Possible) (pools : Uberblock → PlainPool) → LeadToWholePools old shapes out p pools
     → AreAllThere old.starts shapes out → IsUnhindered old is.new out → refusal ≡ NoMemory)
+
+-- so it is of one that was to be opened on disks in any order, if they were a pool's own and led to whole pools
+pub record IsRefusedAgain {D : Type 0} (g : disk.Ghosts D) (disks : List D) (refusal : Refusal) : Type 0 where
+  pub why : OpenRefuses g disks 0 refusal
+  pub memory : (pool : ℕ) (vdevs : List PlainVdev) (digest : List ℕ) (images : List (List ℕ)) (shapes : List VdevShape) (out : List Bool) (p : Possible)
+      (pools : Uberblock → PlainPool) (order : List ℕ) → LeadToOwnPools pool vdevs digest images shapes out p pools → AreReturned g images disks order
+      → HaveLeft out (fresh images) → IsRefusedTruly g disks 0 refusal why → refusal ≡ NoMemory

@@ -1,14 +1,15 @@
 //! Pools that run, by what the calls promise that make and open them.
 ghost use Rattle.std.specs.Prelude.{◌≡◌, length, IfErr, IfOk};
 ghost use Rattle.pool_core.specs.StateOf.{state_of};
-ghost use Rattle.tests_stops.specs.Lives.{IsRefusedWell, OpensWell, RunsAtFirst};
+ghost use Rattle.tests_stops.specs.Lives.{IsRefusedAgain, IsRefusedWell, OpensWell, RunsAtFirst};
 
 use crate::pools::{DISK_BYTES, config};
 use block_store::VdevShape;
-use model_disk::{DiskArray, MemDisk};
+use model_disk::{Disk, DiskArray, MemDisk, Member};
 use pool_create::create_over;
 use pool_format::PoolIdentity;
-use pool_open::{OpenedPool, Refusal, open_over};
+use pool_found::own_pools_open_again;
+use pool_open::{OpenedPool, Refusal, open, open_over};
 use pool_stops::{created_pools_run_as, led_disks_open, unhindered_opens_are_done};
 use raidz_io::Vdev;
 use raidz_map::Geometry;
@@ -46,6 +47,17 @@ fn reopened(
     open_over(alloc, disks, shapes, out, 0)
 }
 
+/// Opens it on its disks, in any order. Where nothing hinders it, it isn't refused but for want of memory.
+fn opened_again<D: Disk + Drop>(
+    alloc: Global,
+    disks: Vec<D>,
+) -> Result<OpenedPool<Member<D>>, Refusal>
+    ensures { IfErr result (IsRefusedAgain D.Disk disks.items) }
+{
+    own_pools_open_again::<D>();
+    open(alloc, disks, 0)
+}
+
 /// The vdev of the pools of these tests.
 fn shape() -> Result<VdevShape, Refusal> {
     let Ok(geometry) = Geometry::new(3, 1, 9) else {
@@ -75,6 +87,22 @@ fn claims(alloc: Global) -> Result<[u64; 2], Refusal> {
     let out = vec![in alloc; false; disks.len()]?;
     let again = reopened(alloc, disks, &shapes, out)?;
     Ok([uberblock.claim, again.uberblock.claim])
+}
+
+/// Of a pool whose disks are handed in in another order.
+fn claim_in_any_order(alloc: Global) -> Result<u64, Refusal> {
+    let disks = DiskArray::new(MemDisk::several(alloc, 3, DISK_BYTES)?);
+    let name = String::from_str(alloc, "pool")?;
+    let config = config(alloc)?;
+    let made = created(alloc, disks, PoolIdentity { name, guid: 1 }, config)?;
+    let mut disks = made.core.into_array().into_disks();
+    disks.reverse();
+    Ok(opened_again(alloc, disks)?.uberblock.claim)
+}
+
+#[test]
+fn a_new_pool_is_opened_in_any_order(rt: HostRuntime) {
+    assert_eq!(rt; claim_in_any_order(rt.alloc()), Ok(2));
 }
 
 #[test]

@@ -1,0 +1,12 @@
+mod Lists
+mod Shapes
+mod Handed
+mod Children
+mod Scanned
+mod FoundDisks
+mod Holding
+mod RunningOn
+mod StoppedDisks
+mod Arranging
+mod Reopening
+mod Fitting
