@@ -22,7 +22,8 @@ use Rattle.pool_slots.proofs.Phases.{none_same, settled_later}
 use Rattle.pool_slots.proofs.ReadRuns.{reads_made}
 use Rattle.pool_stops.proofs.Steps.{same_flags}
 use Rattle.pool_found.specs.Found.{AreChildren}
-use Rattle.pool_found.specs.Handed.{AreHandedIn, AreReadTruly, AreUncalled}
+use Rattle.pool_stops.specs.Unhindered.{AnswerTruly}
+use Rattle.pool_found.specs.Handed.{AreHandedIn, AreUncalled}
 use Rattle.pool_found.specs.Own.{AreDisksOf}
 use Rattle.pool_found.specs.Reopening.{AreReturned}
 use Rattle.pool_found.proofs.FoundDisks.{own_disks_are_ordered}
@@ -118,7 +119,7 @@ module _ {D : Type 0} where
   pub is_arranged : (g : disk.Ghosts D) (pool : ℕ) (vdevs : List PlainVdev) (images : List (List ℕ)) (shapes : List VdevShape) (out : List Bool) (disks : List D)
       (order : List ℕ) (rewind : ℕ) (array : Disks) (its_shapes : List VdevShape) (its_out : List Bool) → AreDisksOf pool vdevs shapes out (fresh images)
       → AreReturned g images disks order → (ordered : AreInOrder g disks rewind array its_shapes its_out)
-      → AreReadTruly ordered.found.old ordered.found.new → IsArranged images shapes out array its_shapes its_out
+      → AnswerTruly ordered.found.old ordered.found.new → IsArranged images shapes out array its_shapes its_out
   is_arranged g pool vdevs images shapes out disks order rewind array its_shapes its_out are returned ordered truly =
       let found = ordered.found in
       let handed : List (List ℕ) = map g.start disks in

@@ -185,16 +185,16 @@ module _ {pool : ℕ} {vdevs : List PlainVdev} {shapes : List VdevShape} {out : 
       let read = slot_read it 0 place.0 one.0 place.1 (allowed_of it 0 below) one.1 in
       none read.0 one.0 read.1
   not_without it shows (inr (inl (u, top, none))) = none top.i u top.has (refl, omega arith)
-  not_without it shows (inr (inr (highest, u, taken, inl group))) = omega (arith, group, shows.groups u (read_shown it taken.i u taken.has))
+  not_without it shows (inr (inr (highest, u, taken, inl group))) = omega (arith, group, shows.left.groups u (read_shown it taken.i u taken.has))
   not_without it shows (inr (inr (highest, u, taken, inr (inl (i, v, has, claim))))) =
-      shows.claims highest (highest_shown it highest taken.top) (inl (⊎_elim
+      shows.left.claims highest (highest_shown it highest taken.top) (inl (⊎_elim
       (λ below. omega (arith, below, claim))
       (λ same. omega (arith, same.0, claim))
       (taken.top.greatest i v has)))
   not_without it shows (inr (inr (highest, u, taken, inr (inr (i, s, at, has))))) =
       let l = last_claim s.reading has in
       let seen = valid_shown it i s l.0 at l.1 in
-      shows.claims highest (highest_shown it highest taken.top) (inr (
+      shows.left.claims highest (highest_shown it highest taken.top) (inr (
         label_view l.0,
         record {
           which = seen.0;

@@ -1,11 +1,10 @@
 -- Labels that are the pool's own, at each moment of a run.
-use Rattle.std.proofs.Common.{ℕ, ◌≡◌, ⊎_elim, ◌+◌, ◌<◌, List, length, slice_get, Option, Some, sym, subst, ◌∙◌, arith}
+use Rattle.std.proofs.Common.{ℕ, ◌≡◌, ⊎_elim, ◌+◌, ◌<◌, List, length, slice_get, Some, subst, ◌∙◌, arith}
 use Rattle.std.proofs.lemmas.Option.{slice_get_within}
 use Rattle.model_disk.specs.Joint.{Disks, JointCall, MayLeaveAll, bytes_of, content}
 use Rattle.model_disk.specs.Runs.{EachSince, IsOff, Makes, no_write}
-use Rattle.model_disk.proofs.LawLemmas.{same_bytes}
 use Rattle.raidz_io.proofs.Written.{slice_get_some}
-use Rattle.vdev_label.specs.Plain.{PlainLabel, PlainVdev}
+use Rattle.vdev_label.specs.Plain.{PlainVdev}
 use Rattle.pool_commit.specs.Backs.{Backs}
 use Rattle.pool_commit.specs.State.{State}
 use Rattle.pool_commit.specs.Writing.{may_write}
@@ -13,20 +12,12 @@ use Rattle.pool_core.specs.Moves.{Moves}
 use Rattle.pool_model.specs.View.{View}
 use Rattle.pool_model.specs.declared.step.Step.{Step}
 use Rattle.pool_open.specs.Stops.{fresh}
-use Rattle.pool_slots.specs.Labels.{IsLabelShown, area_place, inscribed}
-use Rattle.pool_slots.proofs.LabelAreas.{area_len, same_areas}
+use Rattle.pool_slots.specs.Labels.{IsLabelShown, area_place}
 use Rattle.pool_stops.specs.Running.{IsWhole}
 use Rattle.pool_stops.proofs.Holding.{get_in_use}
-use Rattle.pool_stops.proofs.Labels.{label_held, label_left, off_plan, writes_at_most}
+use Rattle.pool_stops.proofs.Labels.{label_held, label_left, off_plan, shown_once, writes_at_most}
 use Rattle.pool_found.specs.Own.{AreOwnDisks, IsOwn, disk_guids}
 use Rattle.pool_found.specs.Running.{HoldOwn}
-
--- a label shows one thing
-pub shown_once : (size number : ℕ) (held : ℕ → Option ℕ) (l m : PlainLabel) → IsLabelShown size held number l → IsLabelShown size held number m → l ≡ m
-shown_once size number held l m one other =
-    same_areas l m one.valid other.valid
-    (same_bytes (inscribed l) (inscribed m) (area_len l one.valid ∙ sym (area_len m other.valid))
-    (λ i below. let inside : i < 114688 = omega (arith, below, area_len m other.valid) in sym (one.bytes i inside) ∙ other.bytes i inside))
 
 -- all labels are held through a run that writes no byte of them
 pub all_own : (pool : ℕ) (vdevs : List PlainVdev) (may : ℕ → ℕ → List ℕ → Type 0) (old new : Disks) → Makes may old new

@@ -23,14 +23,13 @@ use Rattle.pool_slots.specs.Opens.{IsHighestShown, IsRead, IsReadOn, IsShownOn}
 use Rattle.pool_slots.specs.Possible.{IsInReach, Leads, Possible}
 use Rattle.pool_stops.specs.OneConfig.{IsOpenedAs, OpenedPoolsRunAs, StoppedOpensAreOfConfig}
 use Rattle.pool_stops.specs.Reopening.{AreByGroup, IsPossibleBehind, LeavesImages}
-use Rattle.pool_stops.specs.Unhindered.{AreAllThere, LeadToWholePools, UnhinderedOpensAreDone}
+use Rattle.pool_stops.specs.Unhindered.{AnswerTruly, AreAllThere, HaveLeft, LeadToWholePools, UnhinderedOpensAreDone}
 use Rattle.pool_stops.specs.WholePools.{StoppedExportsLeadWhole, StoppedOpensLeadWhole, StoppedRunsLeadWhole}
 use Rattle.pool_stops.proofs.LabelStops.{is_allowed, not_far, ranks_above}
 use Rattle.pool_stops.proofs.Whole.{WholeTreeOf}
 use Rattle.pool_found.specs.Found.{ShowHighest}
-use Rattle.pool_found.specs.Handed.{AreReadTruly}
 use Rattle.pool_found.specs.Own.{AreDisksOf, IsLabeled, IsOwnDisk}
-use Rattle.pool_found.specs.Reopening.{AreReturned, HaveLeft, IsRefusedTruly, LeadToOwnPools, OwnPoolsOpenAgain, StoppedExportsLeadToOwnPools, StoppedOpensLeadToOwnPools, StoppedRunsLeadToOwnPools}
+use Rattle.pool_found.specs.Reopening.{AreReturned, IsRefusedTruly, LeadToOwnPools, OwnPoolsOpenAgain, StoppedExportsLeadToOwnPools, StoppedOpensLeadToOwnPools, StoppedRunsLeadToOwnPools}
 use Rattle.pool_found.specs.Running.{IsOnItsDisks, OpenedPoolsAreOnTheirDisks, RunsStayOnTheirDisks}
 use Rattle.pool_found.specs.Stopping.{AreLabelsUntorn, LedDisksAreBound, OwnDisksAreNotFour, StoppedExportsLeaveDisks, StoppedOpensAreOfSum, StoppedOpensLeaveDisks, StoppedRunsLeaveDisks}
 use Rattle.pool_found.proofs.Arranging.{IsArranged, is_arranged, uncalled_yet}
@@ -60,8 +59,7 @@ show_highest pool vdevs digest images shapes out p pools it left = record {
   configured = λ u top which used.
       it.led.configured u (highest_reached pool vdevs digest images shapes out p pools it u top) which used;
   sum = λ u top. it.sums u (highest_reached pool vdevs digest images shapes out p pools it u top);
-  groups = left.groups;
-  claims = left.claims;
+  left = left;
 }
 
 -- ---- the array has what the images have
@@ -160,16 +158,17 @@ module _ {images : List (List ℕ)} {shapes : List VdevShape} {out : List Bool} 
 unopened_so : UnhinderedOpensAreDone → (images : List (List ℕ)) (shapes : List VdevShape) (out : List Bool) (p : Possible) (pools : Uberblock → PlainPool)
     (array : Disks) (its_shapes : List VdevShape) (its_out : List Bool) (refusal : Refusal) → IsArranged images shapes out array its_shapes its_out
     → LeadToWholePools (fresh images) shapes out p pools → AreAllThere images shapes out → HaveLeft out (fresh images)
-    → (is : IsNotOpenedOver array its_shapes its_out 0 refusal) → AreReadTruly array is.new → refusal ≡ NoMemory
+    → (is : IsNotOpenedOver array its_shapes its_out 0 refusal) → AnswerTruly array is.new → refusal ≡ NoMemory
 unopened_so law images shapes out p pools array its_shapes its_out refusal are led there left =
-    let P : List VdevShape × List Bool → Type 0 = λ x. (is : IsNotOpenedOver array x.0 x.1 0 refusal) → AreReadTruly array is.new → refusal ≡ NoMemory in
+    let P : List VdevShape × List Bool → Type 0 = λ x. (is : IsNotOpenedOver array x.0 x.1 0 refusal) → AnswerTruly array is.new → refusal ≡ NoMemory in
     subst P (λ j. (sym are.shapes_are j, sym are.out_is j))
     (λ is truly.
     law array shapes out p pools refusal (lead_so p pools are led) (all_there_so are there) is (record {
-      groups = λ u read. left.groups u (read_back are u read);
-      claims = λ u top used. left.claims u (highest_back are u top) (used_up_back are u used);
-      honest = truly.honest;
-      none_failed = truly.none_failed;
+      left = record {
+        groups = λ u read. left.groups u (read_back are u read);
+        claims = λ u top used. left.claims u (highest_back are u top) (used_up_back are u used);
+      };
+      truly = truly;
     }))
 
 opened_so : OpenedPoolsRunAs → OpenedPoolsAreOnTheirDisks → (pool : ℕ) (vdevs : List PlainVdev) (digest : List ℕ) (images : List (List ℕ))

@@ -31,7 +31,8 @@ use Rattle.pool_open.proofs.Once.{Differ, pairs_append, pairs_back, pairs_cross,
 use Rattle.pool_slots.specs.Labels.{IsLabelShown, area_place}
 use Rattle.pool_slots.specs.Opens.{IsKnown, IsRead, IsReadOn, IsShownOn}
 use Rattle.pool_stops.proofs.Holding.{get_in_use}
-use Rattle.pool_found.specs.Handed.{AreHandedIn, AreReadTruly, AreUncalled}
+use Rattle.pool_stops.specs.Unhindered.{AnswerTruly}
+use Rattle.pool_found.specs.Handed.{AreHandedIn, AreUncalled}
 use Rattle.pool_found.specs.Own.{AreDisksOf, IsOwn, disk_guids}
 use Rattle.pool_found.proofs.Handed.{as_handed, as_own, child_at, handed_known}
 
@@ -116,11 +117,11 @@ pub record IsHanded (pool : ℕ) (vdevs : List PlainVdev) (shapes : List VdevSha
   pub are : AreDisksOf pool vdevs shapes out (fresh images)
   pub is : AreHandedIn images handed order
   pub uncalled : AreUncalled handed old
-  pub truly : AreReadTruly old new
+  pub truly : AnswerTruly old new
   pub read : IsScanOf old new scan
 
 -- a label that shows something was read as that, where no read failed
-read_case : (old new : Disks) (disk number : ℕ) (l : PlainLabel) (reading : Reading) → AreReadTruly old new → IsSoundReading old new disk number reading
+read_case : (old new : Disks) (disk number : ℕ) (l : PlainLabel) (reading : Reading) → AnswerTruly old new → IsSoundReading old new disk number reading
     → IsReadingOf (length (bytes_of old.starts disk)) (content old disk) number reading
     → IsLabelShown (length (bytes_of old.starts disk)) (content old disk) number l → (label : Label) × (reading ≡ Valid label) × (l ≡ label_view label)
 read_case old new disk number l (Valid label) truly sound says shown = (label, refl, says.1 l shown)

@@ -34,14 +34,14 @@ use Rattle.pool_slots.proofs.LabelPlans.{relabeled_valid}
 use Rattle.pool_stops.specs.Configured.{ExportsStayConfigured, OpensStayConfigured, ShowsConfigured}
 use Rattle.pool_stops.specs.Running.{IsBetween, StandAt}
 use Rattle.pool_stops.proofs.Holding.{get_in_use}
-use Rattle.pool_stops.proofs.Labels.{label_left, off_slots}
+use Rattle.pool_stops.proofs.Labels.{label_left, off_slots, shown_once}
 use Rattle.pool_stops.proofs.Reopening.{is_planned_so, reach_behind}
 use Rattle.pool_stops.proofs.Steps.{used_below}
 use Rattle.pool_stops.proofs.WholeStops.{all_there}
 use Rattle.pool_found.specs.Own.{AreOwnDisks, IsLabeled, IsOwn, disk_guids}
 use Rattle.pool_found.specs.Running.{AreOfSum, HoldOwn}
 use Rattle.pool_found.specs.Stopping.{AreLabelsUntorn, LedDisksAreBound, OwnDisksAreNotFour, StoppedExportsLeaveDisks, StoppedOpensAreOfSum, StoppedOpensLeaveDisks, StoppedRunsLeaveDisks}
-use Rattle.pool_found.proofs.Holding.{own_is_left, shown_once}
+use Rattle.pool_found.proofs.Holding.{own_is_left}
 use Rattle.pool_found.proofs.Scanned.{allowed_from}
 
 -- ---- runs

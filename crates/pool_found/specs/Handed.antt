@@ -1,8 +1,6 @@
 -- Disks that are handed in in any order.
 use Rattle.std.specs.Prelude.{ℕ, ◌≡◌, ◌<◌, [], List, length, slice_get, Some, Contains}
 use Rattle.model_disk.specs.Joint.{Disks, bytes_of, calls_on}
-use Rattle.raidz_io.specs.Reads.{IsHonestSince}
-use Rattle.pool_slots.specs.Failures.{HasFailedOn}
 
 -- Disk `child` of a pool stands at place `order child` among those that are handed in, with its bytes. Each of these is one of them, and no
 -- two are the same.
@@ -16,8 +14,3 @@ pub record AreHandedIn (images handed : List (List ℕ)) (order : List ℕ) : Ty
 pub record AreUncalled (handed : List (List ℕ)) (disks : Disks) : Type 0 where
   pub starts_are : disks.starts ≡ handed
   pub none : (which : ℕ) → calls_on which disks.calls ≡ []
-
--- Disks that were read: each answer was true, and no call failed.
-pub record AreReadTruly (old new : Disks) : Type 0 where
-  pub honest : IsHonestSince old new
-  pub none_failed : (disk : ℕ) → ¬ HasFailedOn old new disk

@@ -11,7 +11,6 @@ use Rattle.vdev_label.specs.Plain.{PlainVdev}
 use Rattle.pool_commit.specs.State.{NoneIsOut}
 use Rattle.pool_core.specs.State.{CoreState, disks_of}
 use Rattle.pool_model.specs.Pools.{PlainPool}
-use Rattle.pool_model.specs.Refusals.{greatest}
 use Rattle.pool_model.specs.View.{View}
 use Rattle.pool_model.specs.declared.step.Reply.{Reply}
 use Rattle.pool_model.specs.declared.step.Step.{Step}
@@ -22,22 +21,16 @@ use Rattle.pool_open.specs.Stops.{fresh}
 use Rattle.pool_open.specs.declared.refusal.Refusal.{Refusal}
 use Rattle.pool_open.specs.declared.refusal.Refusal.TheVariants.{NoMemory}
 use Rattle.pool_slots.specs.Commits.{only_last}
-use Rattle.pool_slots.specs.Marks.{IsUsedUp}
-use Rattle.pool_slots.specs.Opens.{AreKnown, IsHighestShown, IsRead}
+use Rattle.pool_slots.specs.Opens.{AreKnown}
 use Rattle.pool_slots.specs.Possible.{Possible}
 use Rattle.pool_stops.specs.OneConfig.{AreOfConfig, IsOpenedAs, IsRunningAs, RunStopsAs}
 use Rattle.pool_stops.specs.Reopening.{AreByGroup, IsPossibleBehind, LeavesImages}
 use Rattle.pool_stops.specs.Running.{IsLastStep, pool_of}
-use Rattle.pool_stops.specs.Unhindered.{LeadToWholePools}
-use Rattle.pool_found.specs.Handed.{AreHandedIn, AreReadTruly}
+use Rattle.pool_stops.specs.Unhindered.{AnswerTruly, HaveLeft, LeadToWholePools}
+use Rattle.pool_found.specs.Handed.{AreHandedIn}
 use Rattle.pool_found.specs.Own.{AreDisksOf}
 use Rattle.pool_found.specs.Running.{AreOfSum, IsOnItsDisks}
 use Rattle.pool_found.specs.Stopping.{AreLabelsUntorn}
-
--- groups and claims are left behind what the disks show
-pub record HaveLeft (out : List Bool) (disks : Disks) : Type 0 where
-  pub groups : (u : Uberblock) → IsRead out disks u → u.group < greatest
-  pub claims : (u : Uberblock) → IsHighestShown out disks u → ¬ IsUsedUp out disks u
 
 -- Disks of a pool that lead to whole pools; what an open may come to has its configuration, and the sum of its guids.
 pub record LeadToOwnPools (pool : ℕ) (vdevs : List PlainVdev) (digest : List ℕ) (images : List (List ℕ)) (shapes : List VdevShape) (out : List Bool)
@@ -55,13 +48,13 @@ module _ {D : Type 0} where
 
   -- an open of them that was refused: each of its answers was true, and none of its calls failed
   abbrev pub IsRefusedTruly : (g : disk.Ghosts D) (disks : List D) (rewind : ℕ) (refusal : Refusal) → OpenRefuses g disks rewind refusal → Type 0
-  IsRefusedTruly g disks rewind refusal (inl (cause, same, it)) = AreReadTruly it.old it.new
-  IsRefusedTruly g disks rewind refusal (inr it) = AreReadTruly it.ordered.found.old it.ordered.found.new × AreReadTruly it.array it.refused.new
+  IsRefusedTruly g disks rewind refusal (inl (cause, same, it)) = AnswerTruly it.old it.new
+  IsRefusedTruly g disks rewind refusal (inr it) = AnswerTruly it.ordered.found.old it.ordered.found.new × AnswerTruly it.array it.refused.new
 
   -- one that was done: the same, and no disk went out
   pub record IsOpenedTruly {g : disk.Ghosts D} {disks : List D} {rewind : ℕ} {claimed : Uberblock} {core : CoreState}
       (is : IsOpened g disks rewind claimed core) : Type 0 where
-    pub found : AreReadTruly is.ordered.found.old is.ordered.found.new
+    pub found : AnswerTruly is.ordered.found.old is.ordered.found.new
     pub all : is.opened.later ≡ is.out
     pub honest : IsHonestSince is.array (disks_of core)
 
@@ -77,7 +70,7 @@ module _ {D : Type 0} where
         → IsOpenedAs digest p pools shapes out rewind claimed core × IsOnItsDisks pool vdevs core claimed []
     pub stopped : (disks : List D) (order : List ℕ) (rewind : ℕ) (array new : Disks) (its_shapes : List VdevShape) (its_out : List Bool)
         (left : List (List ℕ)) → rewind < 3 → AreByGroup pools → AreReturned g images disks order
-        → (ordered : AreInOrder g disks rewind array its_shapes its_out) → AreReadTruly ordered.found.old ordered.found.new
+        → (ordered : AreInOrder g disks rewind array its_shapes its_out) → AnswerTruly ordered.found.old ordered.found.new
         → IsKeptThrough its_out rewind array new → IsHonestSince array new → (leaves : LeavesImages its_out array new left)
         → AreLabelsUntorn array.starts leaves.calls left
         → (later : Possible) × IsPossibleBehind p rewind later × LeadToOwnPools pool vdevs digest left shapes out later pools

@@ -271,10 +271,10 @@ unhindered_opens_are_done law old shapes out p pools refusal led there is unhind
     let free : IsFree old is.new shapes out = record {
       none = there.none;
       may = there.may;
-      groups = unhindered.groups;
-      claims = unhindered.claims;
-      honest = unhindered.honest;
-      none_failed = unhindered.none_failed;
+      groups = unhindered.left.groups;
+      claims = unhindered.left.claims;
+      honest = unhindered.truly.honest;
+      none_failed = unhindered.truly.none_failed;
     } in
     let count : length is.later ≡ length out = is.count ∙ sym free.may.flags in
     let R : List Bool → Type 0 = λ later. (through : AreReadThrough out later old is.new) × IsCauseOfReading old through.surveyed is.new shapes out later 0 refusal in

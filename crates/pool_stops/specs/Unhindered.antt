@@ -36,12 +36,20 @@ pub record AreAllThere (starts : List (List ℕ)) (shapes : List VdevShape) (out
   pub none : (disk : ℕ) → is_out out disk ≡ false
   pub may : MayBeOpened starts shapes out
 
--- groups and claims are left, what the disks answered is true, and no call failed
-pub record IsUnhindered (old new : Disks) (out : List Bool) : Type 0 where
-  pub groups : (u : Uberblock) → IsRead out old u → u.group < greatest
-  pub claims : (u : Uberblock) → IsHighestShown out old u → ¬ IsUsedUp out old u
+-- groups and claims are left behind what the disks show
+pub record HaveLeft (out : List Bool) (disks : Disks) : Type 0 where
+  pub groups : (u : Uberblock) → IsRead out disks u → u.group < greatest
+  pub claims : (u : Uberblock) → IsHighestShown out disks u → ¬ IsUsedUp out disks u
+
+-- what the disks answered is true, and no call failed
+pub record AnswerTruly (old new : Disks) : Type 0 where
   pub honest : IsHonestSince old new
   pub none_failed : (disk : ℕ) → ¬ HasFailedOn old new disk
+
+-- nothing hinders the open
+pub record IsUnhindered (old new : Disks) (out : List Bool) : Type 0 where
+  pub left : HaveLeft out old
+  pub truly : AnswerTruly old new
 
 -- Such an open of disks that are all there and lead to whole pools, if it doesn't go back, is refused for want of memory alone.
 abbrev pub UnhinderedOpensAreDone : Type 0

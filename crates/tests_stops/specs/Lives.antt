@@ -1,8 +1,10 @@
 -- Pools that are made and opened, and run from then on.
 use Rattle.std.specs.Prelude.{ℕ, ◌≡◌, ◌≤◌, ◌<◌, ◌^◌, Bool, false, List, [], length}
+use mathlib.Core.Logic.{inl, inr}
 use Rattle.model_disk.specs.Joint.{Disks}
 use Rattle.model_disk.specs.declared.disk.Disk as disk
 use Rattle.raidz_io.specs.Reads.{IsHonestSince}
+use Rattle.block_store.specs.Opened.{MayBeOpened}
 use Rattle.block_store.specs.Store.{is_out}
 use Rattle.block_store.specs.declared.shape.VdevShape.{VdevShape}
 use Rattle.uberblock_ring.specs.declared.uberblock.Uberblock.{Uberblock}
@@ -19,8 +21,8 @@ use Rattle.pool_slots.specs.Opens.{AreKnown}
 use Rattle.pool_slots.specs.Possible.{Possible}
 use Rattle.pool_stops.specs.OneConfig.{IsRunningAs}
 use Rattle.pool_stops.specs.Reopening.{IsOpenedWell, LeadToPools}
-use Rattle.pool_stops.specs.Unhindered.{AreAllThere, IsUnhindered, LeadToWholePools}
-use Rattle.pool_found.specs.Reopening.{AreReturned, HaveLeft, IsRefusedTruly, LeadToOwnPools}
+use Rattle.pool_stops.specs.Unhindered.{AreAllThere, HaveLeft, IsUnhindered, LeadToWholePools}
+use Rattle.pool_found.specs.Reopening.{AreReturned, IsRefusedTruly, LeadToOwnPools}
 use Rattle.vdev_label.specs.Plain.{PlainVdev}
 
 -- the answers were true, and there are some disks and not too many
@@ -45,9 +47,15 @@ IsRefusedWell old shapes out refusal =
     (is : IsNotOpenedOver old shapes out 0 refusal) × ((p : Possible) (pools : Uberblock → PlainPool) → LeadToWholePools old shapes out p pools
     → AreAllThere old.starts shapes out → IsUnhindered old is.new out → refusal ≡ NoMemory)
 
+-- where a pool was found on the disks, a store may be opened over them
+abbrev pub FitsFound : {D : Type 0} (g : disk.Ghosts D) (disks : List D) (refusal : Refusal) → OpenRefuses g disks 0 refusal → Type 0
+FitsFound g disks refusal (inl none) = Unit {0}
+FitsFound g disks refusal (inr it) = MayBeOpened it.array.starts it.shapes it.out
+
 -- so it is of one that was to be opened on disks in any order, if they were a pool's own and led to whole pools
 pub record IsRefusedAgain {D : Type 0} (g : disk.Ghosts D) (disks : List D) (refusal : Refusal) : Type 0 where
   pub why : OpenRefuses g disks 0 refusal
+  pub fits : FitsFound g disks refusal why
   pub memory : (pool : ℕ) (vdevs : List PlainVdev) (digest : List ℕ) (images : List (List ℕ)) (shapes : List VdevShape) (out : List Bool) (p : Possible)
       (pools : Uberblock → PlainPool) (order : List ℕ) → LeadToOwnPools pool vdevs digest images shapes out p pools → AreReturned g images disks order
       → HaveLeft out (fresh images) → IsRefusedTruly g disks 0 refusal why → refusal ≡ NoMemory

@@ -8,7 +8,7 @@ use block_store::VdevShape;
 use model_disk::{Disk, DiskArray, MemDisk, Member};
 use pool_create::create_over;
 use pool_format::PoolIdentity;
-use pool_found::own_pools_open_again;
+use pool_found::{found_disks_may_be_opened, own_pools_open_again};
 use pool_open::{OpenedPool, Refusal, open, open_over};
 use pool_stops::{created_pools_run_as, led_disks_open, unhindered_opens_are_done};
 use raidz_io::Vdev;
@@ -47,7 +47,8 @@ fn reopened(
     open_over(alloc, disks, shapes, out, 0)
 }
 
-/// Opens it on its disks, in any order. Where nothing hinders it, it isn't refused but for want of memory.
+/// Opens it on its disks, in any order. Where nothing hinders it, it isn't refused but for want of memory, and never for the vdevs of
+/// a pool that was found.
 fn opened_again<D: Disk + Drop>(
     alloc: Global,
     disks: Vec<D>,
@@ -55,6 +56,7 @@ fn opened_again<D: Disk + Drop>(
     ensures { IfErr result (IsRefusedAgain D.Disk disks.items) }
 {
     own_pools_open_again::<D>();
+    found_disks_may_be_opened::<D>();
     open(alloc, disks, 0)
 }
 
