@@ -185,11 +185,11 @@ pub record OnOne (spaces : List VdevSpace) (places : List Dva) (at : SectorAt) :
   pub is : slice_get places i ≡ Some place
   pub on : OnPlace spaces place at
 
-pub chosen_uses : (is : State → Type 0) (spaces : List VdevSpace) (taken : List Dva) (n : ℕ) (places : List Dva) (after : List VdevSpace) → AreChosen spaces taken n places after
+pub chosen_uses : (is : State → Type 0) (spaces : List VdevSpace) (taken : List Dva) (n copies : ℕ) (places : List Dva) (after : List VdevSpace) → AreChosen spaces taken n copies places after
     → (at : SectorAt) → IsUsed is after planned_marks at → IsUsed is spaces planned_marks at ⊎ (is InUse × OnOne spaces places at)
-chosen_uses is spaces taken n [] after same at used = inl (subst (λ xs. IsUsed is xs planned_marks at) same used)
-chosen_uses is spaces taken n (place ∷ places) after (chosen, mid, too, rest) at used =
-    elim (chosen_uses is mid (taken ++ place ∷ []) n places after rest at used) [
+chosen_uses is spaces taken n copies [] after same at used = inl (subst (λ xs. IsUsed is xs planned_marks at) same used)
+chosen_uses is spaces taken n copies (place ∷ places) after (chosen, mid, too, rest) at used =
+    elim (chosen_uses is mid (taken ++ place ∷ []) n copies places after rest at used) [
       | inr (holds, one) ↦
           inr (holds, record { i = suc one.i; place = one.place; is = one.is; on = on_place_too mid spaces one.place at (sym (shapes_stay spaces mid place too)) one.on })
       | inl before ↦ elim (changed_uses is spaces mid place Free InUse (take_changes spaces mid place too) at before) [
@@ -204,7 +204,7 @@ pub placed_uses : (is : State → Type 0) (spaces : List VdevSpace) (placed : Li
 placed_uses is spaces [] after same at used = inl (subst (λ xs. IsUsed is xs planned_marks at) same used)
 placed_uses is spaces (block ∷ placed) after (mid, chosen, rest) at used = elim (placed_uses is mid placed after rest at used) [
   | inr holds ↦ inr holds
-  | inl before ↦ elim (chosen_uses is spaces [] block.sectors block.places mid chosen at before) [
+  | inl before ↦ elim (chosen_uses is spaces [] block.sectors block.copies block.places mid chosen at before) [
     | inl was ↦ inl was
     | inr (holds, one) ↦ inr holds
   ]

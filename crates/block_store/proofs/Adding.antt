@@ -18,7 +18,7 @@ use Rattle.raidz_io.proofs.Placed.{extent_fits}
 use Rattle.raidz_io.proofs.Written.{same_some, slice_get_some}
 use Rattle.block_store.specs.Blocks.{Contents, Adds, IsWrittenAs}
 use Rattle.block_store.specs.Spaces.{VdevSpace}
-use Rattle.block_store.specs.Places.{shapes_of, IsFree, IsTaken, IsPlaceIn, IsCopy, IsExtentAt, ArePlacesApart, AreChosen}
+use Rattle.block_store.specs.Places.{shapes_of, IsFree, IsTaken, IsPlaceIn, IsCopy, IsExtentAt, ArePlacesApart, ArePlacesIn, AreChosen}
 use Rattle.block_store.specs.Places.{filled as filled_marks, planned as planned_marks}
 use Rattle.block_store.specs.Plans.{Plans, KeepsPlans, IsOnTheWay, IsDueFor, AreWritesAt}
 use Rattle.block_store.specs.Store.{Store, Spans, Keeps, KeepsStored, IsStore, outs, outs_from, ArePlaced}
@@ -29,7 +29,7 @@ use Rattle.block_store.proofs.Planning.{IsSameBut, grows_by, holds_by, keeps_by,
 use Rattle.block_store.proofs.ReadingPlaces.{place_fits}
 use Rattle.block_store.proofs.SameBlock.{same_block, block_is, block_itself}
 use Rattle.block_store.proofs.Sizes.{asize_some}
-use Rattle.block_store.proofs.Taking.{AreTakenToo, Grows, are_taken, taken_some, taken_too, placed_too, copy_too, turned}
+use Rattle.block_store.proofs.Taking.{AreTakenToo, Grows, are_taken, chosen_for, places_too, taken_some, taken_too, placed_too, copy_too, turned}
 use Rattle.block_store.proofs.TakenIn.{lies_by}
 use Rattle.block_store.specs.Uses.{LiesOn, IsInUse}
 use Rattle.block_store.proofs.Uses.{lies_chosen, chosen_in_use}
@@ -51,13 +51,19 @@ pub record IsNewBlock (old new : Store) (block : Block) (bytes : List ℕ) (plac
   pub stray : new.stray ≡ old.stray
   pub born : old.spans.group ≤ block.birth
   pub due : new.due ≡ old.due ++ writes
-  pub chosen : AreChosen old.spaces [] block.property.sectors places new.spaces
+  pub chosen : AreChosen old.spaces [] block.property.sectors (length places) places new.spaces
   pub copies_at : dvas block.copies ≡ places
   pub written : IsWrittenAs block bytes
   pub mid : Store
   pub mid_spaces : mid.spaces ≡ new.spaces
   pub mid_out : mid.out ≡ new.out
   pub writes_at : AreWritesAt mid block.property.sectors bytes places writes
+
+-- places that are chosen for all copies of a block are in its region
+pub places_for : (spaces after : List VdevSpace) (sectors : ℕ) (places : List Dva) → AreChosen spaces [] sectors (length places) places after
+    → ArePlacesIn after sectors places
+places_for spaces after sectors places chosen place among =
+    let at = found_at places place among in chosen_for spaces [] sectors (length places) places after chosen at.0 place at.1
 
 -- a place is not apart from itself
 not_apart : (place : Dva) → 0 < place.allocated → ¬ ArePlacesApart place place
@@ -74,7 +80,7 @@ first_copy (Three a b c) = (a, refl)
 is_fresh : (old new : Store) (block : Block) (bytes : List ℕ) (places : List Dva) (writes : List ColumnWrite) (planned : Contents)
     → IsNewBlock old new block bytes places writes → ArePlaced old.spaces planned_marks planned → planned block ≡ None
 is_fresh old new block bytes places writes planned is placed =
-    let taken : AreTakenToo old.spaces block.property.sectors places new.spaces = are_taken old.spaces [] block.property.sectors places new.spaces is.chosen in
+    let taken : AreTakenToo old.spaces block.property.sectors places new.spaces = are_taken old.spaces [] block.property.sectors (length places) places new.spaces is.chosen in
     let first = first_copy block.copies in
     let at : slice_get places 0 ≡ Some first.0 = ap (λ xs. slice_get xs 0) (sym is.copies_at) ∙ first.1 in
     elim (some_or_none (planned block)) [
@@ -139,7 +145,7 @@ its_copies block copies before i copy at =
 placed_with : (old new : Store) (block : Block) (bytes : List ℕ) (places : List Dva) (writes : List ColumnWrite) (planned : Contents)
     → IsNewBlock old new block bytes places writes → ArePlaced old.spaces planned_marks planned → ArePlaced new.spaces planned_marks (with_block block bytes planned)
 placed_with old new block bytes places writes planned is placed =
-    let taken : AreTakenToo old.spaces block.property.sectors places new.spaces = are_taken old.spaces [] block.property.sectors places new.spaces is.chosen in
+    let taken : AreTakenToo old.spaces block.property.sectors places new.spaces = are_taken old.spaces [] block.property.sectors (length places) places new.spaces is.chosen in
     let some : 0 < block.property.sectors = is.written.fits.property.not_empty in
     record {
       blocks = λ other known found. elim (this_or_known block other bytes known planned found) [
@@ -151,6 +157,13 @@ placed_with old new block bytes places writes planned is placed =
             let here : slice_get places i ≡ Some place = ap (λ xs. slice_get xs i) (sym is.copies_at) ∙ ap (λ (b : Block). slice_get (dvas b.copies) i) (sym this) ∙ at in
             subst (λ (b : Block). IsTaken new.spaces planned_marks b.property.sectors place) (sym this) (taken.taken i place here)
         | inr was ↦ taken_too old.spaces new.spaces planned_marks planned_marks other.property.sectors place taken.grows (placed.places other known i place was at)
+      ];
+      regions = λ other known found. elim (this_or_known block other bytes known planned found) [
+        | inl (this, same) ↦
+            subst (λ (b : Block). ArePlacesIn new.spaces b.property.sectors (dvas b.copies)) (sym this)
+            (subst (λ them. ArePlacesIn new.spaces block.property.sectors them) (sym is.copies_at)
+            (places_for old.spaces new.spaces block.property.sectors places is.chosen))
+        | inr was ↦ places_too old.spaces new.spaces other.property.sectors (dvas other.copies) taken.grows.shapes (placed.regions other known was)
       ];
       apart = λ first second known known' i k place behind found found' at at'.
           elim (this_or_known block first bytes known planned found) [
@@ -210,32 +223,32 @@ their_way old new block bytes places writes their_writes extent known is way = r
 }
 
 -- places that are chosen fill nothing, and what is held and stored stays so, whatever is due
-chosen_grows : (spaces : List VdevSpace) (sectors : ℕ) (places : List Dva) (after : List VdevSpace) → AreChosen spaces [] sectors places after
+chosen_grows : (spaces : List VdevSpace) (sectors copies : ℕ) (places : List Dva) (after : List VdevSpace) → AreChosen spaces [] sectors copies places after
     → Grows spaces after filled_marks filled_marks
-chosen_grows spaces sectors places after chosen =
-    let taken : AreTakenToo spaces sectors places after = are_taken spaces [] sectors places after chosen in
+chosen_grows spaces sectors copies places after chosen =
+    let taken : AreTakenToo spaces sectors places after = are_taken spaces [] sectors copies places after chosen in
     grows_by spaces after filled_marks filled_marks taken.grows.shapes (marks_by_map filled_marks spaces after taken.filled_stays)
 
-pub chosen_keeps : (old new : Store) (sectors : ℕ) (places : List Dva) → new.disks ≡ old.disks → new.out ≡ old.out → new.spans ≡ old.spans
-    → AreChosen old.spaces [] sectors places new.spaces → Keeps old new
-chosen_keeps old new sectors places disks out spans chosen =
-    holds_by old new disks (lose_same old new out spans) (are_taken old.spaces [] sectors places new.spaces chosen).grows.shapes
+pub chosen_keeps : (old new : Store) (sectors copies : ℕ) (places : List Dva) → new.disks ≡ old.disks → new.out ≡ old.out → new.spans ≡ old.spans
+    → AreChosen old.spaces [] sectors copies places new.spaces → Keeps old new
+chosen_keeps old new sectors copies places disks out spans chosen =
+    holds_by old new disks (lose_same old new out spans) (are_taken old.spaces [] sectors copies places new.spaces chosen).grows.shapes
 
-pub chosen_stores : (old new : Store) (sectors : ℕ) (places : List Dva) → AreChosen old.spaces [] sectors places new.spaces → Keeps old new → KeepsStored old new
-chosen_stores old new sectors places chosen keeps = stores_grown old new keeps (chosen_grows old.spaces sectors places new.spaces chosen)
+pub chosen_stores : (old new : Store) (sectors copies : ℕ) (places : List Dva) → AreChosen old.spaces [] sectors copies places new.spaces → Keeps old new → KeepsStored old new
+chosen_stores old new sectors copies places chosen keeps = stores_grown old new keeps (chosen_grows old.spaces sectors copies places new.spaces chosen)
 
 -- the block is planned
 pub added : (old new : Store) (block : Block) (bytes : List ℕ) (places : List Dva) (writes : List ColumnWrite) (stored planned : Contents)
     → IsNewBlock old new block bytes places writes → Plans old stored planned → (later : Contents) × Plans new stored later × Adds planned later block bytes
 added old new block bytes places writes stored planned is plans =
-    let taken : AreTakenToo old.spaces block.property.sectors places new.spaces = are_taken old.spaces [] block.property.sectors places new.spaces is.chosen in
+    let taken : AreTakenToo old.spaces block.property.sectors places new.spaces = are_taken old.spaces [] block.property.sectors (length places) places new.spaces is.chosen in
     let fresh : planned block ≡ None = is_fresh old new block bytes places writes planned is plans.placed in
     let later : Contents = with_block block bytes planned in
     let of_copies : Block → ℕ → List ColumnWrite = with_copies block is.writes_at.copies plans.writes_of in (
       later,
       record {
-        held = chosen_keeps old new block.property.sectors places is.disks is.out is.spans is.chosen stored plans.held;
-        stored_placed = placed_too old.spaces new.spaces filled_marks filled_marks stored (chosen_grows old.spaces block.property.sectors places new.spaces is.chosen) plans.stored_placed;
+        held = chosen_keeps old new block.property.sectors (length places) places is.disks is.out is.spans is.chosen stored plans.held;
+        stored_placed = placed_too old.spaces new.spaces filled_marks filled_marks stored (chosen_grows old.spaces block.property.sectors (length places) places new.spaces is.chosen) plans.stored_placed;
         kept = λ other known found. still_known block other bytes known planned fresh (plans.kept other known found);
         placed = placed_with old new block bytes places writes planned is plans.placed;
         born = λ other known found unknown. elim (this_or_known block other bytes known planned found) [
@@ -246,12 +259,12 @@ added old new block bytes places writes stored planned is plans =
           | inl (this, same) ↦
               let here : slice_get places i ≡ Some place = ap (λ xs. slice_get xs i) (sym is.copies_at) ∙ ap (λ (b : Block). slice_get (dvas b.copies) i) (sym this) ∙ at in
               subst (λ (b : Block). LiesOn IsInUse new.spaces planned_marks b.property.sectors place) (sym this)
-              (chosen_in_use old.spaces [] block.property.sectors places new.spaces is.written.fits.property.not_empty is.chosen i place here)
+              (chosen_in_use old.spaces [] block.property.sectors (length places) places new.spaces is.written.fits.property.not_empty is.chosen i place here)
           | inr was ↦
-              lies_chosen IsInUse old.spaces [] block.property.sectors places new.spaces is.chosen refl other.property.sectors place
+              lies_chosen IsInUse old.spaces [] block.property.sectors (length places) places new.spaces is.chosen refl other.property.sectors place
               (plans.in_use other known was unknown i place at)
         ];
-        accounted = λ none at used. elim (chosen_uses IsInUse old.spaces [] block.property.sectors places new.spaces is.chosen at used) [
+        accounted = λ none at used. elim (chosen_uses IsInUse old.spaces [] block.property.sectors (length places) places new.spaces is.chosen at used) [
           | inl before ↦ elim (plans.accounted (sym is.stray ∙ none) at before) [
             | inl there ↦ inl (used_after IsInUse old.spaces new.spaces filled_marks filled_marks at taken.grows.shapes
                 (marks_by_map filled_marks old.spaces new.spaces taken.filled_stays) there)
@@ -276,7 +289,7 @@ added old new block bytes places writes stored planned is plans =
           | inl (this, same) ↦ λ i place at.
               let here : slice_get places i ≡ Some place = ap (λ xs. slice_get xs i) (sym is.copies_at) ∙ ap (λ (b : Block). slice_get (dvas b.copies) i) (sym this) ∙ at in
               let lies : LiesOn IsFree old.spaces filled_marks block.property.sectors place =
-              chosen_free old.spaces [] block.property.sectors places new.spaces is.written.fits.property.not_empty is.chosen plans.beside i place here in
+              chosen_free old.spaces [] block.property.sectors (length places) places new.spaces is.written.fits.property.not_empty is.chosen plans.beside i place here in
               subst (λ (b : Block). LiesOn IsFree new.spaces filled_marks b.property.sectors place) (sym this)
               (lies_by IsFree old.spaces new.spaces filled_marks filled_marks taken.grows.shapes (marks_by_map filled_marks old.spaces new.spaces taken.filled_stays)
               block.property.sectors place lies)
@@ -284,7 +297,7 @@ added old new block bytes places writes stored planned is plans =
               lies_still IsFree old.spaces new.spaces taken.grows.shapes (marks_by_map filled_marks old.spaces new.spaces taken.filled_stays) other
               (plans.fresh other known was unknown)
         ];
-        beside = chosen_beside old.spaces [] block.property.sectors places new.spaces is.chosen plans.beside;
+        beside = chosen_beside old.spaces [] block.property.sectors (length places) places new.spaces is.chosen plans.beside;
         writes_of = of_copies;
         on_the_way = λ other known i extent found unknown copy. elim (this_or_known block other bytes known planned found) [
           | inl (this, same) ↦
@@ -345,16 +358,16 @@ added old new block bytes places writes stored planned is plans =
 -- ---- places that were taken, where nothing else changed
 
 -- places were taken, and nothing else was changed
-pub record OnlyTook (old new : Store) (sectors : ℕ) (places : List Dva) : Type 0 where
+pub record OnlyTook (old new : Store) (sectors copies : ℕ) (places : List Dva) : Type 0 where
   pub disks : new.disks ≡ old.disks
   pub out : new.out ≡ old.out
   pub spans : new.spans ≡ old.spans
   pub due : new.due ≡ old.due
-  pub chosen : AreChosen old.spaces [] sectors places new.spaces
+  pub chosen : AreChosen old.spaces [] sectors copies places new.spaces
 
-took_same : (old new : Store) (sectors : ℕ) (places : List Dva) → OnlyTook old new sectors places → IsSameBut old new filled_marks filled_marks
-took_same old new sectors places took =
-    let taken : AreTakenToo old.spaces sectors places new.spaces = are_taken old.spaces [] sectors places new.spaces took.chosen in
+took_same : (old new : Store) (sectors copies : ℕ) (places : List Dva) → OnlyTook old new sectors copies places → IsSameBut old new filled_marks filled_marks
+took_same old new sectors copies places took =
+    let taken : AreTakenToo old.spaces sectors places new.spaces = are_taken old.spaces [] sectors copies places new.spaces took.chosen in
     record {
       disks = took.disks;
       out = took.out;
@@ -363,32 +376,32 @@ took_same old new sectors places took =
       are = marks_by_map filled_marks old.spaces new.spaces taken.filled_stays;
     }
 
-pub took_keeps : (old new : Store) (sectors : ℕ) (places : List Dva) → OnlyTook old new sectors places → Keeps old new
-took_keeps old new sectors places took = keeps_by old new (took_same old new sectors places took)
+pub took_keeps : (old new : Store) (sectors copies : ℕ) (places : List Dva) → OnlyTook old new sectors copies places → Keeps old new
+took_keeps old new sectors copies places took = keeps_by old new (took_same old new sectors copies places took)
 
-pub chosen_shapes : (spaces : List VdevSpace) (sectors : ℕ) (places : List Dva) (after : List VdevSpace) → AreChosen spaces [] sectors places after
+pub chosen_shapes : (spaces : List VdevSpace) (sectors copies : ℕ) (places : List Dva) (after : List VdevSpace) → AreChosen spaces [] sectors copies places after
     → shapes_of after ≡ shapes_of spaces
-chosen_shapes spaces sectors places after chosen = (are_taken spaces [] sectors places after chosen).grows.shapes
+chosen_shapes spaces sectors copies places after chosen = (are_taken spaces [] sectors copies places after chosen).grows.shapes
 
-pub took_shapes : (old new : Store) (sectors : ℕ) (places : List Dva) → OnlyTook old new sectors places → shapes_of new.spaces ≡ shapes_of old.spaces
-took_shapes old new sectors places took = (took_same old new sectors places took).shapes
+pub took_shapes : (old new : Store) (sectors copies : ℕ) (places : List Dva) → OnlyTook old new sectors copies places → shapes_of new.spaces ≡ shapes_of old.spaces
+took_shapes old new sectors copies places took = (took_same old new sectors copies places took).shapes
 
-pub took_keeps_plans : (old new : Store) (sectors : ℕ) (places : List Dva) → OnlyTook old new sectors places → new.stray ≡ true → KeepsPlans old new
-took_keeps_plans old new sectors places took stray stored planned plans =
-    let taken : AreTakenToo old.spaces sectors places new.spaces = are_taken old.spaces [] sectors places new.spaces took.chosen in
+pub took_keeps_plans : (old new : Store) (sectors copies : ℕ) (places : List Dva) → OnlyTook old new sectors copies places → new.stray ≡ true → KeepsPlans old new
+took_keeps_plans old new sectors copies places took stray stored planned plans =
+    let taken : AreTakenToo old.spaces sectors places new.spaces = are_taken old.spaces [] sectors copies places new.spaces took.chosen in
     record {
-      held = took_keeps old new sectors places took stored plans.held;
-      stored_placed = placed_too old.spaces new.spaces filled_marks filled_marks stored (chosen_grows old.spaces sectors places new.spaces took.chosen) plans.stored_placed;
+      held = took_keeps old new sectors copies places took stored plans.held;
+      stored_placed = placed_too old.spaces new.spaces filled_marks filled_marks stored (chosen_grows old.spaces sectors copies places new.spaces took.chosen) plans.stored_placed;
       kept = plans.kept;
       placed = placed_too old.spaces new.spaces planned_marks planned_marks planned taken.grows plans.placed;
       born = λ block bytes known fresh. omega (arith, plans.born block bytes known fresh, ap (λ (s : Spans). s.group) took.spans);
       in_use = λ block bytes known fresh i place at.
-          lies_chosen IsInUse old.spaces [] sectors places new.spaces took.chosen refl block.property.sectors place (plans.in_use block bytes known fresh i place at);
+          lies_chosen IsInUse old.spaces [] sectors copies places new.spaces took.chosen refl block.property.sectors place (plans.in_use block bytes known fresh i place at);
       accounted = λ none. absurd (let e : true ≡ false = sym stray ∙ none in cc);
       fresh = λ block bytes known fresh.
           lies_still IsFree old.spaces new.spaces taken.grows.shapes (marks_by_map filled_marks old.spaces new.spaces taken.filled_stays) block
           (plans.fresh block bytes known fresh);
-      beside = chosen_beside old.spaces [] sectors places new.spaces took.chosen plans.beside;
+      beside = chosen_beside old.spaces [] sectors copies places new.spaces took.chosen plans.beside;
       writes_of = plans.writes_of;
       on_the_way = λ block bytes i extent known fresh copy.
           let way = plans.on_the_way block bytes i extent known fresh (copy_too new.spaces old.spaces block i extent (sym taken.grows.shapes) copy) in
@@ -417,10 +430,10 @@ took_keeps_plans old new sectors places took stray stored planned plans =
     }
 
 -- the places are in the vdevs
-pub places_in : (old new : Store) (sectors : ℕ) (places : List Dva) → OnlyTook old new sectors places → (i : ℕ) (place : Dva) → slice_get places i ≡ Some place
+pub places_in : (old new : Store) (sectors copies : ℕ) (places : List Dva) → OnlyTook old new sectors copies places → (i : ℕ) (place : Dva) → slice_get places i ≡ Some place
     → IsPlaceIn new.spaces sectors place
-places_in old new sectors places took i place at =
-    let taken : IsTaken new.spaces planned_marks sectors place = (are_taken old.spaces [] sectors places new.spaces took.chosen).taken i place at in
+places_in old new sectors copies places took i place at =
+    let taken : IsTaken new.spaces planned_marks sectors place = (are_taken old.spaces [] sectors copies places new.spaces took.chosen).taken i place at in
     record { space = taken.space; found = taken.found; is_place = taken.is_place }
 
 -- the writes for copies at them are within the disks

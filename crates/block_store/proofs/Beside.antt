@@ -1,6 +1,6 @@
 -- What is free beside a plan is free without it, as places are taken, given back and settled.
-use Rattle.std.proofs.Common.{Bool, true, false, if◌then◌else◌, ℕ, zero, suc, ◌≡◌, ◌≢◌, ◌⊎◌, inl, inr, ◌<◌, Some, List, [], ◌∷◌, ◌++◌, length, refl, sym, ap, subst, ◌∙◌, arith}
-use Rattle.std.specs.Prelude.{slice_set, map, Contains}
+use Rattle.std.proofs.Common.{Bool, true, false, if◌then◌else◌, ℕ, zero, suc, ◌≡◌, ◌⊎◌, inl, inr, ◌<◌, Some, List, [], ◌∷◌, ◌++◌, length, refl, sym, ap, subst, ◌∙◌, arith}
+use Rattle.std.specs.Prelude.{slice_set}
 use Rattle.std.specs.List.{slice_get}
 use Rattle.std.proofs.lemmas.Bool.{cases_eq}
 use Rattle.std.proofs.lemmas.Option.{slice_get_within}
@@ -13,16 +13,15 @@ use Rattle.metaslab.specs.Space.{Space, state}
 use Rattle.metaslab.specs.State.{State, Free, InUse, Released}
 use Rattle.metaslab_group.proofs.Elements.{length_set}
 use Rattle.metaslab_group.specs.Spaces.{ChangesIn}
-use Rattle.block_store.specs.declared.shape.VdevShape.{VdevShape}
 use Rattle.block_store.specs.Beside.{IsFreeBeside, AreFreeBeside}
-use Rattle.block_store.specs.Opened.{TakesIn, TakeIn}
-use Rattle.block_store.specs.Places.{shapes_of, HaveMarks, run_at, EachSector, IsFree, ArePlacesApart, AreChosen, IsTakenToo}
+use Rattle.block_store.specs.Opened.{TakeIn}
+use Rattle.block_store.specs.Places.{shapes_of, HaveMarks, run_at, EachSector, IsFree, AreChosen, IsTakenToo}
 use Rattle.block_store.specs.Places.{filled as filled_marks, planned as planned_marks}
-use Rattle.block_store.specs.Releases.{CopyAt, IsReleased, AreReleased}
-use Rattle.block_store.specs.Shapes.{metaslab_of, IsPlace}
+use Rattle.block_store.specs.Releases.{CopyAt, AreReleased}
+use Rattle.block_store.specs.Shapes.{metaslab_of}
 use Rattle.block_store.specs.Spaces.{VdevSpace}
 use Rattle.block_store.specs.Uses.{LiesOn, CopiesLieOn}
-use Rattle.block_store.proofs.Taking.{Grows, are_taken, map-set_same, slice_get-set_same, slice_get-set_other, slice_get-set_found}
+use Rattle.block_store.proofs.Taking.{map-set_same, slice_get-set_same, slice_get-set_other, slice_get-set_found}
 use Rattle.block_store.proofs.TakenIn.{lies_by}
 
 either : (test : Bool) → (test ≡ true) ⊎ (test ≡ false)
@@ -139,11 +138,11 @@ taken_beside spaces place after too beside =
     (planned_beside too.space too.later (metaslab_of too.space.shape place) (run_at too.space.shape place) Free InUse in_use_is_not_free too.taken
     (beside place.vdev too.space too.found)))
 
-pub chosen_beside : (spaces : List VdevSpace) (taken : List Dva) (n : ℕ) (places : List Dva) (after : List VdevSpace) → AreChosen spaces taken n places after
+pub chosen_beside : (spaces : List VdevSpace) (taken : List Dva) (n copies : ℕ) (places : List Dva) (after : List VdevSpace) → AreChosen spaces taken n copies places after
     → AreFreeBeside spaces → AreFreeBeside after
-chosen_beside spaces taken n [] after same beside = subst AreFreeBeside (sym same) beside
-chosen_beside spaces taken n (place ∷ places) after (chosen, mid, too, rest) beside =
-    chosen_beside mid (taken ++ place ∷ []) n places after rest (taken_beside spaces place mid too beside)
+chosen_beside spaces taken n copies [] after same beside = subst AreFreeBeside (sym same) beside
+chosen_beside spaces taken n copies (place ∷ places) after (chosen, mid, too, rest) beside =
+    chosen_beside mid (taken ++ place ∷ []) n copies places after rest (taken_beside spaces place mid too beside)
 
 -- a place that is free beside the plan is free without it
 free_without : (space : VdevSpace) (place : Dva) → IsFreeBeside space → EachSector IsFree (planned_marks space) space.shape place
@@ -160,11 +159,11 @@ pub lies_still : (is : State → Type 0) (spaces after : List VdevSpace) → sha
 lies_still is spaces after shapes have block lies i place at =
     lies_by is spaces after filled_marks filled_marks shapes have block.property.sectors place (lies i place at)
 
-pub chosen_free : (spaces : List VdevSpace) (taken : List Dva) (sectors : ℕ) (places : List Dva) (after : List VdevSpace) → 0 < sectors
-    → AreChosen spaces taken sectors places after → AreFreeBeside spaces → (i : ℕ) (place : Dva) → slice_get places i ≡ Some place
+pub chosen_free : (spaces : List VdevSpace) (taken : List Dva) (sectors copies : ℕ) (places : List Dva) (after : List VdevSpace) → 0 < sectors
+    → AreChosen spaces taken sectors copies places after → AreFreeBeside spaces → (i : ℕ) (place : Dva) → slice_get places i ≡ Some place
     → LiesOn IsFree spaces filled_marks sectors place
-chosen_free spaces taken sectors [] after some same beside i place at = absurd (cc)
-chosen_free spaces taken sectors (first ∷ places) after some (chosen, mid, too, rest) beside zero place at =
+chosen_free spaces taken sectors copies [] after some same beside i place at = absurd (cc)
+chosen_free spaces taken sectors copies (first ∷ places) after some (chosen, mid, too, rest) beside zero place at =
     let here : LiesOn IsFree spaces filled_marks sectors first = record {
       some = some;
       space = chosen.space;
@@ -173,9 +172,9 @@ chosen_free spaces taken sectors (first ∷ places) after some (chosen, mid, too
       each = free_without chosen.space first (beside first.vdev chosen.space chosen.found) chosen.free.free;
     } in
     subst (λ p. LiesOn IsFree spaces filled_marks sectors p) (same_some first place at) here
-chosen_free spaces taken sectors (first ∷ places) after some (chosen, mid, too, rest) beside (suc i) place at =
+chosen_free spaces taken sectors copies (first ∷ places) after some (chosen, mid, too, rest) beside (suc i) place at =
     let later : LiesOn IsFree mid filled_marks sectors place =
-    chosen_free mid (taken ++ first ∷ []) sectors places after some rest (taken_beside spaces first mid too beside) i place at in
+    chosen_free mid (taken ++ first ∷ []) sectors copies places after some rest (taken_beside spaces first mid too beside) i place at in
     let new : VdevSpace = record too.space { planned = too.later } in
     lies_by IsFree mid spaces filled_marks filled_marks
     (sym (ap shapes_of too.rest ∙ map-set_same (λ s. s.shape) spaces first.vdev too.space new too.found refl))

@@ -39,7 +39,7 @@ lack_sooner before after demands later lack = record {
 }
 
 -- places for one block
-pub have_one : (before after : List VdevSpace) (sectors copies : ℕ) (places : List Dva) → length places ≡ copies → AreChosen before [] sectors places after
+pub have_one : (before after : List VdevSpace) (sectors copies : ℕ) (places : List Dva) → length places ≡ copies → AreChosen before [] sectors copies places after
     → HavePlaces before ((record { sectors = sectors; copies = copies }) ∷ []) after
 have_one before after sectors copies places count chosen = (places, after, count, chosen, refl)
 

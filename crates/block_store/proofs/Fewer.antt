@@ -14,6 +14,7 @@ fewer_placed : (spaces : List VdevSpace) (marks : Marks) (known fewer : Contents
 fewer_placed spaces marks known fewer of placed = record {
   blocks = λ block bytes is. placed.blocks block bytes (of block bytes is);
   places = λ block bytes i place is at. placed.places block bytes i place (of block bytes is) at;
+  regions = λ block bytes is. placed.regions block bytes (of block bytes is);
   apart = λ block other bytes others i k place behind is is' at at'.
       placed.apart block other bytes others i k place behind (of block bytes is) (of other others is') at at';
 }

@@ -54,7 +54,7 @@ on_err (Err e) P is = is
 
 -- some were taken
 pub took_some : (old new : Store) (sectors copies : ℕ) → new.disks ≡ old.disks → new.out ≡ old.out → new.spans ≡ old.spans → new.due ≡ old.due
-    → TookSome old.spaces sectors copies new.spaces → (places : List Dva) × OnlyTook old new sectors places
+    → TookSome old.spaces sectors copies new.spaces → (places : List Dva) × OnlyTook old new sectors copies places
 took_some old new sectors copies disks out spans due (places, few, chosen) =
     (places, record { disks = disks; out = out; spans = spans; due = due; chosen = chosen })
 

@@ -20,14 +20,14 @@ use Rattle.block_store.specs.Spaces.{VdevSpace}
 use Rattle.block_store.specs.Places.{Marks, shapes_of, HaveMarks, run_at, EachSector, IsFree, IsNotFree, IsTaken, ArePlacesApart}
 use Rattle.block_store.specs.Places.{filled as filled_marks, planned as planned_marks}
 use Rattle.block_store.specs.Plans.{Plans}
-use Rattle.block_store.specs.Releases.{CopyAt, copies_at, copies_of, copies_of_all, IsReleased, AreReleased, AreReleasedInPart, IsNotReleasable, AreAllInUse}
+use Rattle.block_store.specs.Releases.{CopyAt, copy_of_at, copies_of_at, copies_of, copies_of_all, IsReleased, AreReleased, AreReleasedInPart, IsNotReleasable, AreAllInUse}
 use Rattle.block_store.specs.Shapes.{metaslab_of, IsPlace}
 use Rattle.block_store.specs.Store.{Store, Spans, outs, outs_from, ArePlaced}
 use Rattle.block_store.specs.Uses.{LiesOn, CopiesLieOn, Passes, IsInUse}
 use Rattle.block_store.proofs.Accounting.{in_use_before, used_after, has_too}
 use Rattle.block_store.proofs.Beside.{lies_still, released_beside}
 use Rattle.block_store.proofs.Planning.{IsSameBut, same_but, keeps_by, stored_by, stores_kept, marks_by_map, no_contents}
-use Rattle.block_store.proofs.Taking.{map-set_same, copy_too}
+use Rattle.block_store.proofs.Taking.{map-set_same, copy_too, places_too}
 use Rattle.block_store.proofs.Uses.{lies_released}
 
 -- what stands past the end of a list
@@ -132,6 +132,8 @@ released_plans old new blocks copies group stored planned is of stored_are plans
             taken_of new.spaces planned_marks block.property.sectors place
             (lies_released IsNotFree old.spaces copies group new.spaces is.released block.property.sectors place (λ copy held. inl (released_is_not_free group))
             (lies_of old.spaces planned_marks block.property.sectors place some (plans.placed.places block bytes i place known at)));
+        regions = λ block bytes known.
+            places_too old.spaces new.spaces block.property.sectors (dvas block.copies) shapes (plans.placed.regions block bytes known);
         apart = plans.placed.apart;
       };
       born = λ block bytes known fresh. omega (arith, plans.born block bytes known fresh, ap (λ (s : Spans). s.group) is.spans);
@@ -187,37 +189,37 @@ released_plans old new blocks copies group stored planned is of stored_are plans
 -- ---- which copies they are
 
 -- a copy of these places is one of them
-place_of : (sectors : ℕ) (places : List Dva) (copy : CopyAt) → Contains (copies_at sectors places) copy → (i : ℕ) × (slice_get places i ≡ Some copy.place)
-place_of sectors [] copy held = absurd (omega (arith, held.1))
-place_of sectors (place ∷ places) copy held =
-    elim (Contains-append_cases ((record { sectors = sectors; place = place }) ∷ []) (copies_at sectors places) copy held) [
+place_of : (block : Block) (places : List Dva) (copy : CopyAt) → Contains (copies_of_at block places) copy → (i : ℕ) × (slice_get places i ≡ Some copy.place)
+place_of block [] copy held = absurd (omega (arith, held.1))
+place_of block (place ∷ places) copy held =
+    elim (Contains-append_cases ((copy_of_at block place) ∷ []) (copies_of_at block places) copy held) [
       | inl (zero, within, is) ↦ (0, ap (λ (c : CopyAt). Some c.place) is)
       | inl (suc n, within, is) ↦ absurd (omega (arith, within))
-      | inr later ↦ let rest = place_of sectors places copy later in (suc rest.0, rest.1)
+      | inr later ↦ let rest = place_of block places copy later in (suc rest.0, rest.1)
     ]
 
 -- the copy behind some of them
-next_of : (sectors : ℕ) (places : List Dva) (done : List CopyAt) (next : CopyAt) (left : List CopyAt) → copies_at sectors places ≡ done ++ next ∷ left
-    → (slice_get places (length done) ≡ Some next.place) × (next.sectors ≡ sectors)
-next_of sectors [] [] next left are = absurd (cc)
-next_of sectors [] (copy ∷ done) next left are = absurd (cc)
-next_of sectors (place ∷ places) [] next left are =
-    let head : record { sectors = sectors; place = place } ≡ next = cc in (ap (λ (c : CopyAt). Some c.place) head, ap (λ (c : CopyAt). c.sectors) (sym head))
-next_of sectors (place ∷ places) (copy ∷ done) next left are =
-    let rest : copies_at sectors places ≡ done ++ next ∷ left = cc in next_of sectors places done next left rest
+next_of : (block : Block) (places : List Dva) (done : List CopyAt) (next : CopyAt) (left : List CopyAt) → copies_of_at block places ≡ done ++ next ∷ left
+    → (slice_get places (length done) ≡ Some next.place) × (next.sectors ≡ block.property.sectors)
+next_of block [] [] next left are = absurd (cc)
+next_of block [] (copy ∷ done) next left are = absurd (cc)
+next_of block (place ∷ places) [] next left are =
+    let head : copy_of_at block place ≡ next = cc in (ap (λ (c : CopyAt). Some c.place) head, ap (λ (c : CopyAt). c.sectors) (sym head))
+next_of block (place ∷ places) (copy ∷ done) next left are =
+    let rest : copies_of_at block places ≡ done ++ next ∷ left = cc in next_of block places done next left rest
 
 -- and those before it
-done_of : (sectors : ℕ) (places : List Dva) (done left : List CopyAt) (copy : CopyAt) → copies_at sectors places ≡ done ++ left → Contains done copy
+done_of : (block : Block) (places : List Dva) (done left : List CopyAt) (copy : CopyAt) → copies_of_at block places ≡ done ++ left → Contains done copy
     → (i : ℕ) × (i < length done) × (slice_get places i ≡ Some copy.place)
-done_of sectors places [] left copy are held = absurd (omega (arith, held.1))
-done_of sectors [] (first ∷ done) left copy are held = absurd (cc)
-done_of sectors (place ∷ places) (first ∷ done) left copy are held =
-    let head : record { sectors = sectors; place = place } ≡ first = cc in
-    let rest : copies_at sectors places ≡ done ++ left = cc in
+done_of block places [] left copy are held = absurd (omega (arith, held.1))
+done_of block [] (first ∷ done) left copy are held = absurd (cc)
+done_of block (place ∷ places) (first ∷ done) left copy are held =
+    let head : copy_of_at block place ≡ first = cc in
+    let rest : copies_of_at block places ≡ done ++ left = cc in
     elim (Contains-append_cases (first ∷ []) done copy held) [
       | inl (zero, within, is) ↦ (0, omega arith, ap (λ (c : CopyAt). Some c.place) (head ∙ is))
       | inl (suc n, within, is) ↦ absurd (omega (arith, within))
-      | inr later ↦ let at = done_of sectors places done left copy rest later in (suc at.0, omega (arith, at.1), at.2)
+      | inr later ↦ let at = done_of block places done left copy rest later in (suc at.0, omega (arith, at.1), at.2)
     ]
 
 -- a block that is known and in use is given back
@@ -225,12 +227,12 @@ pub is_releasable : (spaces : List VdevSpace) (planned : Contents) (block : Bloc
     → ArePlaced spaces planned_marks planned → planned block ≡ Some bytes → CopiesLieOn IsInUse spaces planned_marks block
     → ¬ IsNotReleasable spaces (copies_of block) group after
 is_releasable spaces planned block bytes group after placed known in_use wrong =
-    let next = next_of block.property.sectors (dvas block.copies) wrong.done wrong.next wrong.left wrong.are in
+    let next = next_of block (dvas block.copies) wrong.done wrong.next wrong.left wrong.are in
     let here : LiesOn IsInUse spaces planned_marks wrong.next.sectors wrong.next.place =
     subst (λ n. LiesOn IsInUse spaces planned_marks n wrong.next.place) (sym next.1) (in_use (length wrong.done) wrong.next.place next.0) in
     wrong.not_in_use (lies_released IsInUse spaces wrong.done group after wrong.released wrong.next.sectors wrong.next.place
     (λ copy held.
-    let at = done_of block.property.sectors (dvas block.copies) wrong.done (wrong.next ∷ wrong.left) copy wrong.are held in
+    let at = done_of block (dvas block.copies) wrong.done (wrong.next ∷ wrong.left) copy wrong.are held in
     elim (placed.apart block block bytes bytes at.0 (length wrong.done) copy.place wrong.next.place known known at.2 next.0) [
       | inl (same, index) ↦ absurd (omega (arith, at.1, index))
       | inr apart ↦ inr apart
@@ -240,7 +242,7 @@ is_releasable spaces planned block bytes group after placed known in_use wrong =
 pub of_block : (stored : Contents) (blocks : List Block) (block : Block) (bytes : List ℕ) → Contains blocks block → stored block ≡ Some bytes
     → (copy : CopyAt) → Contains (copies_of block) copy → IsOfStored stored blocks copy
 of_block stored blocks block bytes held known copy among =
-    let at = place_of block.property.sectors (dvas block.copies) copy among in
+    let at = place_of block (dvas block.copies) copy among in
     record { block = block; held = held; bytes = bytes; known = known; i = at.0; at = at.1 }
 
 -- so it is with more blocks
@@ -273,11 +275,11 @@ lies_in spaces sectors place space is_in_use some found is_place both = (
 )
 
 -- the copy that was given back, by what became of its vdev
-pub gave_back : (spaces : List VdevSpace) (sectors : ℕ) (place : Dva) (group : ℕ) (space new : VdevSpace) → slice_get spaces place.vdev ≡ Some space
-    → IsPlace space.shape sectors place
+pub gave_back : (spaces : List VdevSpace) (block : Block) (place : Dva) (group : ℕ) (space new : VdevSpace) → slice_get spaces place.vdev ≡ Some space
+    → IsPlace space.shape block.property.sectors place
     → ChangesIn space.planned new.planned (metaslab_of space.shape place) (run_at space.shape place) InUse (Released group) → new ≡ record space { planned = new.planned }
-    → IsReleased spaces (record { sectors = sectors; place = place }) group (slice_set spaces place.vdev new)
-gave_back spaces sectors place group space new found is_place released rest = record {
+    → IsReleased spaces (copy_of_at block place) group (slice_set spaces place.vdev new)
+gave_back spaces block place group space new found is_place released rest = record {
   space = space;
   found = found;
   is_place = is_place;
@@ -425,7 +427,7 @@ other_in_use : (spaces after : List VdevSpace) (planned : Contents) (block other
 other_in_use spaces after planned block other bytes others group placed known known' differ released lies i place at =
     lies_released IsInUse spaces (copies_of block) group after released other.property.sectors place
     (λ copy held.
-    let of = place_of block.property.sectors (dvas block.copies) copy held in
+    let of = place_of block (dvas block.copies) copy held in
     elim (placed.apart block other bytes others of.0 i copy.place place known known' of.1 at) [
       | inl (same, index) ↦ absurd (differ same)
       | inr apart ↦ inr apart
@@ -442,6 +444,8 @@ placed_after spaces after planned copies group released placed = record {
       taken_of after planned_marks block.property.sectors place
       (lies_released IsNotFree spaces copies group after released block.property.sectors place (λ copy held. inl (released_is_not_free group))
       (lies_of spaces planned_marks block.property.sectors place some (placed.places block bytes i place known at)));
+  regions = λ block bytes known.
+      places_too spaces after block.property.sectors (dvas block.copies) (released_shapes spaces copies group after released) (placed.regions block bytes known);
   apart = placed.apart;
 }
 

@@ -32,7 +32,7 @@ pub record IsKept (old new : Store) : Type 0 where
 for_blocks : (spaces : List VdevSpace) (block : Block) (k : ℕ) (extent : Extent) (disk i : ℕ) → ArePlacesIn spaces block.property.sectors (dvas block.copies)
     → IsCopy spaces block k extent → IsOfExtent extent disk i → IsForBlocks spaces disk i
 for_blocks spaces block k extent disk i places copy of =
-    lie_in_sectors spaces block.property.sectors copy.place extent disk i (places copy.place (is_among (dvas block.copies) k copy.place copy.is_copy)) copy.extent_is of
+    lie_in_sectors spaces block.property.sectors copy.place extent disk i (places copy.place (is_among (dvas block.copies) k copy.place copy.is_copy)).is_in copy.extent_is of
 
 pub keeps : StandsWhileKept → StandsWithMoreAbsent → (old new : Store) → IsKept old new → Keeps old new
 keeps kept more old new is stored holds = record {

@@ -222,6 +222,7 @@ places_nothing : (spaces : List VdevSpace) (marks : Marks) → ArePlaced spaces 
 places_nothing spaces marks = record {
   blocks = λ block bytes is. absurd (cc);
   places = λ block bytes i place is copy. absurd (cc);
+  regions = λ block bytes is. absurd (cc);
   apart = λ block other bytes others i k place behind is is'. absurd (cc);
 }
 

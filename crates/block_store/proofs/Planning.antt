@@ -24,8 +24,7 @@ use Rattle.raidz_io.proofs.Kept.{more_absent}
 use Rattle.block_store.proofs.Lost.{LoseMore, lose_same, is_lost}
 use Rattle.block_store.proofs.Accounting.{none_new}
 use Rattle.block_store.proofs.Beside.{none_beside}
-use Rattle.block_store.proofs.Taking.{Grows, MoreTaken, placed_too, copy_too, found_too, slice_get-set_same, slice_get-set_other}
-use Rattle.block_store.proofs.Writing.{found_at}
+use Rattle.block_store.proofs.Taking.{Grows, MoreTaken, placed_too, copy_too, found_too, slice_get-set_same, slice_get-set_other, places_too}
 
 pub marks_by_map : (marks : Marks) (spaces after : List VdevSpace) → map marks after ≡ map marks spaces → HaveMarks spaces marks after marks
 marks_by_map marks [] after same v space new found found' = absurd (cc)
@@ -103,16 +102,13 @@ is_among (y ∷ ys) (suc k) x at = let there = is_among ys k x at in (suc there.
 -- copies that are placed lie in places of the pool
 pub placed_lies : (spaces : List VdevSpace) (marks : Marks) (contents : Contents) → ArePlaced spaces marks contents
     → (block : Block) (bytes : List ℕ) → contents block ≡ Some bytes → ArePlacesIn spaces block.property.sectors (dvas block.copies)
-placed_lies spaces marks contents placed block bytes known place among =
-    let at = found_at (dvas block.copies) place among in
-    let taken = placed.places block bytes at.0 place known at.1 in
-    record { space = taken.space; found = taken.found; is_place = taken.is_place }
+placed_lies spaces marks contents placed = placed.regions
 
 -- a store with the same disks and vdevs holds what it held
 pub holds_by : (old new : Store) → new.disks ≡ old.disks → LoseMore old new → shapes_of new.spaces ≡ shapes_of old.spaces → Keeps old new
 holds_by old new disks more_lost shapes stored holds = record {
   blocks = holds.blocks;
-  places = λ block bytes known place among. place_too old.spaces new.spaces block.property.sectors place shapes (holds.places block bytes known place among);
+  places = λ block bytes known. places_too old.spaces new.spaces block.property.sectors (dvas block.copies) shapes (holds.places block bytes known);
   stand = stand_by old new stored disks more_lost shapes holds.stand;
 }
 

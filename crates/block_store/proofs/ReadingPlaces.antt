@@ -7,8 +7,8 @@ use Rattle.raidz_io.specs.declared.vdev.Extent.{Extent}
 use Rattle.raidz_io.specs.Places.{HasRoom, CanHold, IsOnDisks, ExtentFits}
 use Rattle.raidz_io.proofs.Written.{same_some}
 use Rattle.block_store.specs.Spaces.{VdevSpace}
-use Rattle.block_store.specs.Places.{IsPlaceIn, IsExtentAt}
-use Rattle.block_store.specs.Shapes.{vdev_sectors, metaslab_sectors, IsPlace}
+use Rattle.block_store.specs.Places.{IsPlaceIn, IsPlaceFor, IsExtentAt}
+use Rattle.block_store.specs.Shapes.{vdev_sectors, metaslab_sectors, metaslab_of, IsPlace, IsInRegion}
 use Rattle.block_store.specs.Store.{Store, IsStore}
 use Rattle.block_store.proofs.Taking.{ends_before}
 
@@ -51,3 +51,17 @@ in_place spaces sectors place space below is =
 pub in_none : (spaces : List VdevSpace) (sectors : ℕ) (place : Dva) → length spaces ≤ place.vdev → ¬ IsPlaceIn spaces sectors place
 in_none spaces sectors place past is_in =
     absurd (let no : Some is_in.space ≡ None = sym is_in.found ∙ slice_get_past spaces place.vdev past in cc)
+
+-- and whether it is also in the region for blocks of so many copies
+pub in_place_for : (spaces : List VdevSpace) (sectors copies : ℕ) (place : Dva) (space : VdevSpace) → place.vdev < length spaces → space ≡ get_or spaces place.vdev space
+    → (IsPlace space.shape sectors place × IsInRegion space.shape copies (metaslab_of space.shape place) → IsPlaceFor spaces sectors copies place)
+    × (IsPlaceFor spaces sectors copies place → IsPlace space.shape sectors place × IsInRegion space.shape copies (metaslab_of space.shape place))
+in_place_for spaces sectors copies place space below is =
+    let found : slice_get spaces place.vdev ≡ Some space = slice_get_read spaces (length spaces) place.vdev space refl below is in (
+      λ both. record { is_in = record { space = space; found = found; is_place = both.0 }; region = both.1 },
+      λ is_for.
+          let same : is_for.is_in.space ≡ space = same_some is_for.is_in.space space (sym is_for.is_in.found ∙ found) in (
+            subst (λ (s : VdevSpace). IsPlace s.shape sectors place) same is_for.is_in.is_place,
+            subst (λ (s : VdevSpace). IsInRegion s.shape copies (metaslab_of s.shape place)) same is_for.region,
+          ),
+    )

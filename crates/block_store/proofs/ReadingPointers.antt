@@ -10,7 +10,7 @@ use Rattle.block_pointer.specs.declared.property.Property.{Property}
 use Rattle.block_pointer.specs.Copies.{dvas}
 use Rattle.block_store.specs.declared.block.Asked.{Asked}
 use Rattle.block_store.specs.Spaces.{VdevSpace}
-use Rattle.block_store.specs.Places.{IsPlaceIn}
+use Rattle.block_store.specs.Places.{ArePlacesIn}
 use Rattle.block_store.specs.Reading.{IsReadable}
 
 -- each element has P, by the answer of a search for one that has not
@@ -39,14 +39,14 @@ property_is a b is =
 
 pub readable : (spaces : List VdevSpace) (asked : Asked) (block : Block) (places : List Dva) → places ≡ dvas block.copies → block.property ≡ asked.property
     → block.birth ≤ asked.birth → 0 < block.property.sectors
-    → ((place : Dva) → Contains places place → IsPlaceIn spaces block.property.sectors place) → IsReadable spaces asked block
+    → ArePlacesIn spaces block.property.sectors places → IsReadable spaces asked block
 readable spaces asked block places are property birth some in_places = record {
   some = some;
   asks = record { property = property; birth = birth };
-  places = subst (λ (places : List Dva). (place : Dva) → Contains places place → IsPlaceIn spaces block.property.sectors place) are in_places;
+  places = subst (λ (places : List Dva). ArePlacesIn spaces block.property.sectors places) are in_places;
 }
 
 pub in_places : (spaces : List VdevSpace) (asked : Asked) (block : Block) (places : List Dva) → places ≡ dvas block.copies → IsReadable spaces asked block
-    → (place : Dva) → Contains places place → IsPlaceIn spaces block.property.sectors place
+    → ArePlacesIn spaces block.property.sectors places
 in_places spaces asked block places are is =
-    subst (λ (places : List Dva). (place : Dva) → Contains places place → IsPlaceIn spaces block.property.sectors place) (sym are) is.places
+    subst (λ (places : List Dva). ArePlacesIn spaces block.property.sectors places) (sym are) is.places

@@ -24,7 +24,8 @@ use Rattle.block_store.proofs.Beside.{none_beside}
 use Rattle.block_store.proofs.GivenBack.{taken_of}
 use Rattle.block_store.proofs.Lost.{LoseMore}
 use Rattle.block_store.proofs.Planning.{holds_by, grows_by, no_contents, nothing}
-use Rattle.block_store.proofs.Taking.{found_too, placed_too, slice_get-set_same, slice_get-set_other}
+use Rattle.block_store.proofs.Taking.{found_too, placed_too, slice_get-set_same, slice_get-set_other, places_too}
+use Rattle.block_pointer.specs.Copies.{dvas}
 
 pub in_part : (under : List ℕ) (group : ℕ) (old new : List Space) → AreSettled under group old new → AreSettledInPart under group old new
 in_part under group old new are = record { count = are.count; each = λ m space later found found'. inr (are.each m space later found found') }
@@ -162,6 +163,8 @@ begun_settled group old new disks more_lost shapes some free none stored stores 
       places = λ block bytes i place known at.
           taken_of new.spaces filled_marks block.property.sectors place
           (lies_settled group (IsSpared group) IsNotFree old.spaces new.spaces block.property.sectors place (spared_stays group) shapes some (spared block bytes known i place at));
+      regions = λ block bytes known.
+          places_too old.spaces new.spaces block.property.sectors (dvas block.copies) shapes (stores.placed.regions block bytes known);
       apart = stores.placed.apart;
     } in
     record {

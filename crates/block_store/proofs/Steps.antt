@@ -22,11 +22,10 @@ use Rattle.block_store.specs.Spaces.{VdevSpace}
 use Rattle.block_store.specs.Blocks.{Contents, Adds}
 use Rattle.block_store.specs.Places.{shapes_of, AreChosen, TookSome, RanOut}
 use Rattle.block_store.proofs.Adding.{chosen_stores}
-use Rattle.block_store.proofs.Taking.{fills_nothing}
+use Rattle.block_store.proofs.Taking.{fills_nothing, places_too}
 use Rattle.block_store.specs.Places.{filled as filled_marks}
 use Rattle.block_store.specs.Plans.{Plans, KeepsPlans}
 use Rattle.block_store.specs.Reading.{FewAreAbsent, AreTolerable, IsReadable, IsReadAs}
-use Rattle.block_store.specs.Shapes.{IsPlace}
 use Rattle.block_store.specs.Steps.{OnlyReadsBlocks, Placed, HavePlaced, OnlyReadsAndPlans, AnswersAreTrue, LossIsTolerable, HasNoRoomFor}
 use Rattle.block_store.specs.Store.{Store, Spans, Keeps, in_group, reaching, outs, outs_from, is_out}
 use Rattle.block_store.proofs.ReadingLost.{failed_earlier}
@@ -62,16 +61,16 @@ reads_on old mid new missing first rest = record {
 -- ---- plans
 
 -- places that are chosen fill nothing
-pub chosen_fills_nothing : (spaces : List VdevSpace) (taken : List Dva) (sectors : ℕ) (places : List Dva) (after : List VdevSpace) → AreChosen spaces taken sectors places after
+pub chosen_fills_nothing : (spaces : List VdevSpace) (taken : List Dva) (sectors copies : ℕ) (places : List Dva) (after : List VdevSpace) → AreChosen spaces taken sectors copies places after
     → map filled_marks after ≡ map filled_marks spaces
-chosen_fills_nothing spaces taken sectors [] after is = ap (map filled_marks) is
-chosen_fills_nothing spaces taken sectors (place ∷ places) after (chosen, mid, too, rest) =
-    chosen_fills_nothing mid (taken ++ place ∷ []) sectors places after rest ∙ fills_nothing spaces mid place too
+chosen_fills_nothing spaces taken sectors copies [] after is = ap (map filled_marks) is
+chosen_fills_nothing spaces taken sectors copies (place ∷ places) after (chosen, mid, too, rest) =
+    chosen_fills_nothing mid (taken ++ place ∷ []) sectors copies places after rest ∙ fills_nothing spaces mid place too
 
 -- places were taken for one block
-placed_once : (spaces : List VdevSpace) (sectors birth : ℕ) (places : List Dva) (after : List VdevSpace) → AreChosen spaces [] sectors places after
-    → HavePlaced spaces (record { sectors = sectors; birth = birth; places = places } ∷ []) after
-placed_once spaces sectors birth places after chosen = (after, chosen, refl)
+placed_once : (spaces : List VdevSpace) (sectors copies birth : ℕ) (places : List Dva) (after : List VdevSpace) → AreChosen spaces [] sectors copies places after
+    → HavePlaced spaces (record { sectors = sectors; copies = copies; birth = birth; places = places } ∷ []) after
+placed_once spaces sectors copies birth places after chosen = (after, chosen, refl)
 
 placed_on : (spaces mid after : List VdevSpace) (first rest : List Placed) → HavePlaced spaces first mid → HavePlaced mid rest after → HavePlaced spaces (first ++ rest) after
 placed_on spaces mid after [] rest same later = subst (λ (s : List VdevSpace). HavePlaced s rest after) same later
@@ -96,10 +95,10 @@ not_reaching spans birth le = cases (nat_lt birth spans.group) refl
     cases true is = absurd (not_below_is birth spans.group is le)
     cases false is = refl
 
-spans_once : (old new : Store) (sectors birth : ℕ) (places : List Dva) → new.spans ≡ reaching old.spans birth
-    → All (λ (block : Placed). old.spans.group ≤ block.birth) (record { sectors = sectors; birth = birth; places = places } ∷ []) → new.spans ≡ old.spans
-spans_once old new sectors birth places spans all =
-    let placed : Placed = record { sectors = sectors; birth = birth; places = places } in
+spans_once : (old new : Store) (sectors copies birth : ℕ) (places : List Dva) → new.spans ≡ reaching old.spans birth
+    → All (λ (block : Placed). old.spans.group ≤ block.birth) (record { sectors = sectors; copies = copies; birth = birth; places = places } ∷ []) → new.spans ≡ old.spans
+spans_once old new sectors copies birth places spans all =
+    let placed : Placed = record { sectors = sectors; copies = copies; birth = birth; places = places } in
     spans ∙ not_reaching old.spans birth (All-head (λ (block : Placed). old.spans.group ≤ block.birth) placed [] all)
 
 pub steps_none : (store : Store) (missing : List ℕ) → OnlyReadsAndPlans store store missing
@@ -144,7 +143,7 @@ no_reads old new same = subst (λ (disks : Disks). OnlyReads old disks) (sym sam
 -- What `plan_write` says, in this form.
 pub steps_plan : (old new : Store) (missing : List ℕ) (sectors birth copies : ℕ) (result : Result Block Refusal) (bytes : List ℕ)
     → new.disks ≡ old.disks → new.out ≡ old.out → new.spans ≡ reaching old.spans birth → shapes_of new.spaces ≡ shapes_of old.spaces → Keeps old new
-    → IfOk result (λ block. AreChosen old.spaces [] sectors (dvas block.copies) new.spaces) → OnErr result (TookSome old.spaces sectors copies new.spaces)
+    → IfOk result (λ block. AreChosen old.spaces [] sectors copies (dvas block.copies) new.spaces) → OnErr result (TookSome old.spaces sectors copies new.spaces)
     → OnOk result ((added : List ColumnWrite) × (new.due ≡ old.due ++ added) × All (λ write. is_out old.out write.disk ≡ false) added)
     → OnErr result (new.due ≡ old.due)
     → IfOk result (λ block. (stored planned : Contents) → Plans old stored planned → (later : Contents) × Plans new stored later × Adds planned later block bytes)
@@ -152,14 +151,14 @@ pub steps_plan : (old new : Store) (missing : List ℕ) (sectors birth copies : 
 steps_plan old new missing sectors birth copies (Ok block) bytes disks out spans shapes keeps places some due err_due planned err = record {
   out = out;
   shapes = shapes;
-  filled = chosen_fills_nothing old.spaces [] sectors (dvas block.copies) new.spaces places;
-  placed = record { sectors = sectors; birth = birth; places = dvas block.copies } ∷ [];
-  were_placed = placed_once old.spaces sectors birth (dvas block.copies) new.spaces places;
-  spans = spans_once old new sectors birth (dvas block.copies) spans;
+  filled = chosen_fills_nothing old.spaces [] sectors copies (dvas block.copies) new.spaces places;
+  placed = record { sectors = sectors; copies = copies; birth = birth; places = dvas block.copies } ∷ [];
+  were_placed = placed_once old.spaces sectors copies birth (dvas block.copies) new.spaces places;
+  spans = spans_once old new sectors copies birth (dvas block.copies) spans;
   reads = no_reads old.disks new.disks disks;
   untouched = λ disk held. ap (λ (d : Disks). calls_on disk d.calls) disks;
   keeps = keeps;
-  stores = chosen_stores old new sectors (dvas block.copies) places keeps;
+  stores = chosen_stores old new sectors copies (dvas block.copies) places keeps;
   added = due.0;
   due = due.1;
   in_use = due.2;
@@ -168,14 +167,14 @@ steps_plan old new missing sectors birth copies (Ok block) bytes disks out spans
 steps_plan old new missing sectors birth copies (Err refusal) bytes disks out spans shapes keeps places some due err_due planned err = record {
   out = out;
   shapes = shapes;
-  filled = chosen_fills_nothing old.spaces [] sectors some.0 new.spaces some.2;
-  placed = record { sectors = sectors; birth = birth; places = some.0 } ∷ [];
-  were_placed = placed_once old.spaces sectors birth some.0 new.spaces some.2;
-  spans = spans_once old new sectors birth some.0 spans;
+  filled = chosen_fills_nothing old.spaces [] sectors copies some.0 new.spaces some.2;
+  placed = record { sectors = sectors; copies = copies; birth = birth; places = some.0 } ∷ [];
+  were_placed = placed_once old.spaces sectors copies birth some.0 new.spaces some.2;
+  spans = spans_once old new sectors copies birth some.0 spans;
   reads = no_reads old.disks new.disks disks;
   untouched = λ disk held. ap (λ (d : Disks). calls_on disk d.calls) disks;
   keeps = keeps;
-  stores = chosen_stores old new sectors some.0 some.2 keeps;
+  stores = chosen_stores old new sectors copies some.0 some.2 keeps;
   added = [];
   due = let e : old.due ++ [] ≡ old.due = append-nil old.due in err_due ∙ sym e;
   in_use = λ k d below. absurd (omega arith);
@@ -297,13 +296,7 @@ pub readable_in : (spaces others : List VdevSpace) (asked : Asked) (block : Bloc
 readable_in spaces others asked block same readable = record {
   some = readable.some;
   asks = readable.asks;
-  places = λ place held.
-      let was = readable.places place held in
-      let there = shape_found spaces others place.vdev was.space same was.found in record {
-        space = there.0;
-        found = there.1;
-        is_place = subst (λ shape. IsPlace shape block.property.sectors place) (sym there.2) was.is_place;
-      };
+  places = places_too others spaces block.property.sectors (dvas block.copies) (sym same) readable.places;
 }
 
 pub read_in : (spaces others : List VdevSpace) (asked : Asked) (block : Block) (bytes : List ℕ) → shapes_of others ≡ shapes_of spaces

@@ -15,30 +15,28 @@ use Rattle.block_store.specs.Blocks.{Contents, AreDistinct, IsWrittenAs}
 use Rattle.block_store.specs.Opened.{TakeIn, IsOfOne, Fills, AreFound}
 use Rattle.block_store.specs.Places.{Marks, shapes_of, IsFree, IsTaken, ArePlacesApart}
 use Rattle.block_store.specs.Places.{filled as filled_marks, planned as planned_marks}
-use Rattle.block_store.specs.Releases.{CopyAt, copies_at, copies_of, copies_of_all}
+use Rattle.block_store.specs.Releases.{CopyAt, copy_of_at, copies_of_at, copies_of, copies_of_all}
 use Rattle.block_store.specs.Spaces.{VdevSpace}
 use Rattle.block_store.specs.Store.{Store, ArePlaced, Stores, Keeps, KeepsStored}
 use Rattle.block_store.specs.Uses.{LiesOn, CopiesLieOn, IsInUse}
 use Rattle.block_store.proofs.Accounting.{on_place_too, has_sector, has_on_place, used_before, used_after}
 use Rattle.block_store.proofs.Lost.{lose_same}
 use Rattle.block_store.proofs.Planning.{grows_by, holds_by, stores_by, stores_grown}
-use Rattle.block_store.proofs.Taking.{Grows, grows_on, taken_too, taken_some, placed_too, turned}
-use Rattle.block_store.proofs.TakenIn.{OnCopy, Picks, picks_filled, picks_planned, TakeAll, viewed, viewed_shapes, into_view, out_of_view, viewed_all, lies_by, first_or_later, all_grow, all_taken, all_apart, all_some, all_lie, all_spare, all_in_use, all_stay, all_were_free, all_only, all_rest}
+use Rattle.block_store.proofs.Taking.{Grows, grows_on, taken_too, taken_some, placed_too, turned, places_too}
+use Rattle.block_store.proofs.TakenIn.{OnCopy, Picks, picks_filled, picks_planned, TakeAll, viewed, viewed_shapes, into_view, out_of_view, viewed_all, lies_by, first_or_later, all_grow, all_taken, all_apart, all_some, all_lie, all_spare, all_in_use, all_stay, all_were_free, all_only, all_rest, all_for}
+use Rattle.block_store.proofs.Writing.{found_at}
 
 -- ---- the copies of blocks
 
-abbrev copy_at : ℕ → Dva → CopyAt
-copy_at sectors place = record { sectors = sectors; place = place }
-
-is_at : (sectors : ℕ) (places : List Dva) (i : ℕ) (place : Dva) → slice_get places i ≡ Some place → Contains (copies_at sectors places) (copy_at sectors place)
-is_at sectors [] i place at = absurd (cc)
-is_at sectors (first ∷ places) zero place at = (0, omega arith, ap (copy_at sectors) (same_some first place at))
-is_at sectors (first ∷ places) (suc i) place at =
-    let later = is_at sectors places i place at in Contains-append_right (copy_at sectors first ∷ []) (copies_at sectors places) (copy_at sectors place) later
+is_at : (block : Block) (places : List Dva) (i : ℕ) (place : Dva) → slice_get places i ≡ Some place → Contains (copies_of_at block places) (copy_of_at block place)
+is_at block [] i place at = absurd (cc)
+is_at block (first ∷ places) zero place at = (0, omega arith, ap (copy_of_at block) (same_some first place at))
+is_at block (first ∷ places) (suc i) place at =
+    let later = is_at block places i place at in Contains-append_right (copy_of_at block first ∷ []) (copies_of_at block places) (copy_of_at block place) later
 
 -- a copy of the block
-is_of : (block : Block) (i : ℕ) (place : Dva) → slice_get (dvas block.copies) i ≡ Some place → Contains (copies_of block) (copy_at block.property.sectors place)
-is_of block i place at = is_at block.property.sectors (dvas block.copies) i place at
+is_of : (block : Block) (i : ℕ) (place : Dva) → slice_get (dvas block.copies) i ≡ Some place → Contains (copies_of block) (copy_of_at block place)
+is_of block i place at = is_at block (dvas block.copies) i place at
 
 -- and of one of the blocks
 is_of_all : (blocks : List Block) (block : Block) (copy : CopyAt) → Contains blocks block → Contains (copies_of block) copy → Contains (copies_of_all blocks) copy
@@ -55,18 +53,18 @@ record OfBlock (blocks : List Block) (copy : CopyAt) : Type 0 where
   pub i : ℕ
   pub at : slice_get (dvas block.copies) i ≡ Some copy.place
 
-place_of : (sectors : ℕ) (places : List Dva) (copy : CopyAt) → Contains (copies_at sectors places) copy → (i : ℕ) × (slice_get places i ≡ Some copy.place)
-place_of sectors [] copy held = absurd (omega (arith, held.1))
-place_of sectors (place ∷ places) copy held = elim (first_or_later (copy_at sectors place) (copies_at sectors places) copy held) [
+place_of : (block : Block) (places : List Dva) (copy : CopyAt) → Contains (copies_of_at block places) copy → (i : ℕ) × (slice_get places i ≡ Some copy.place)
+place_of block [] copy held = absurd (omega (arith, held.1))
+place_of block (place ∷ places) copy held = elim (first_or_later (copy_of_at block place) (copies_of_at block places) copy held) [
   | inl is ↦ (0, ap (λ (c : CopyAt). Some c.place) is)
-  | inr later ↦ let rest = place_of sectors places copy later in (suc rest.0, rest.1)
+  | inr later ↦ let rest = place_of block places copy later in (suc rest.0, rest.1)
 ]
 
 block_of : (blocks : List Block) (copy : CopyAt) → Contains (copies_of_all blocks) copy → OfBlock blocks copy
 block_of [] copy among = absurd (omega (arith, among.1))
 block_of (block ∷ blocks) copy among = elim (Contains-append_cases (copies_of block) (copies_of_all blocks) copy among) [
   | inl here ↦
-      let at = place_of block.property.sectors (dvas block.copies) copy here in
+      let at = place_of block (dvas block.copies) copy here in
       record { block = block; held = (0, omega arith, refl); i = at.0; at = at.1 }
   | inr later ↦
       let of = block_of blocks copy later in
@@ -90,23 +88,23 @@ later_apart spaces mid after copies others copy other one two held held' =
     (some, turned other.place copy.place (all_apart mid others after two other held' copy.sectors copy.place some taken))
 
 -- the copies of one block are
-in_block : (spaces : List VdevSpace) (sectors : ℕ) (places : List Dva) (after : List VdevSpace) → TakeAll spaces (copies_at sectors places) after
+in_block : (spaces : List VdevSpace) (block : Block) (places : List Dva) (after : List VdevSpace) → TakeAll spaces (copies_of_at block places) after
     → (i k : ℕ) (place other : Dva) → slice_get places i ≡ Some place → slice_get places k ≡ Some other → (i ≡ k) ⊎ ArePlacesApart place other
-in_block spaces sectors [] after all i k place other at at' = absurd (cc)
-in_block spaces sectors (first ∷ places) after all zero zero place other at at' = inl refl
-in_block spaces sectors (first ∷ places) after all zero (suc k) place other at at' =
-    let split = split_all spaces (copy_at sectors first ∷ []) (copies_at sectors places) after all in
-    let apart = later_apart spaces split.0 after (copy_at sectors first ∷ []) (copies_at sectors places) (copy_at sectors first) (copy_at sectors other) split.1 split.2
-    (0, omega arith, refl) (is_at sectors places k other at') in
+in_block spaces block [] after all i k place other at at' = absurd (cc)
+in_block spaces block (first ∷ places) after all zero zero place other at at' = inl refl
+in_block spaces block (first ∷ places) after all zero (suc k) place other at at' =
+    let split = split_all spaces (copy_of_at block first ∷ []) (copies_of_at block places) after all in
+    let apart = later_apart spaces split.0 after (copy_of_at block first ∷ []) (copies_of_at block places) (copy_of_at block first) (copy_of_at block other) split.1 split.2
+    (0, omega arith, refl) (is_at block places k other at') in
     inr (subst (λ p. ArePlacesApart p other) (same_some first place at) apart.1)
-in_block spaces sectors (first ∷ places) after all (suc i) zero place other at at' =
-    let split = split_all spaces (copy_at sectors first ∷ []) (copies_at sectors places) after all in
-    let apart = later_apart spaces split.0 after (copy_at sectors first ∷ []) (copies_at sectors places) (copy_at sectors first) (copy_at sectors place) split.1 split.2
-    (0, omega arith, refl) (is_at sectors places i place at) in
+in_block spaces block (first ∷ places) after all (suc i) zero place other at at' =
+    let split = split_all spaces (copy_of_at block first ∷ []) (copies_of_at block places) after all in
+    let apart = later_apart spaces split.0 after (copy_of_at block first ∷ []) (copies_of_at block places) (copy_of_at block first) (copy_of_at block place) split.1 split.2
+    (0, omega arith, refl) (is_at block places i place at) in
     inr (subst (λ p. ArePlacesApart place p) (same_some first other at') (turned first place apart.1))
-in_block spaces sectors (first ∷ places) after all (suc i) (suc k) place other at at' =
-    let split = split_all spaces (copy_at sectors first ∷ []) (copies_at sectors places) after all in
-    elim (in_block split.0 sectors places after split.2 i k place other at at') [
+in_block spaces block (first ∷ places) after all (suc i) (suc k) place other at at' =
+    let split = split_all spaces (copy_of_at block first ∷ []) (copies_of_at block places) after all in
+    elim (in_block split.0 block places after split.2 i k place other at at') [
       | inl same ↦ inl (ap suc same)
       | inr apart ↦ inr apart
     ]
@@ -116,8 +114,8 @@ across : (spaces mid after : List VdevSpace) (first : Block) (blocks : List Bloc
     → Contains blocks other → (i k : ℕ) (place behind : Dva) → slice_get (dvas first.copies) i ≡ Some place → slice_get (dvas other.copies) k ≡ Some behind
     → (0 < place.allocated) × ArePlacesApart place behind
 across spaces mid after first blocks other one two held i k place behind at at' =
-    later_apart spaces mid after (copies_of first) (copies_of_all blocks) (copy_at first.property.sectors place) (copy_at other.property.sectors behind) one two
-    (is_of first i place at) (is_of_all blocks other (copy_at other.property.sectors behind) held (is_of other k behind at'))
+    later_apart spaces mid after (copies_of first) (copies_of_all blocks) (copy_of_at first place) (copy_of_at other behind) one two
+    (is_of first i place at) (is_of_all blocks other (copy_of_at other behind) held (is_of other k behind at'))
 
 apart_in : (spaces : List VdevSpace) (blocks : List Block) (after : List VdevSpace) → TakeAll spaces (copies_of_all blocks) after
     → (block other : Block) → Contains blocks block → Contains blocks other → (i k : ℕ) (place behind : Dva)
@@ -129,7 +127,7 @@ apart_in spaces (first ∷ blocks) after all block other held held' i k place be
       | inl is ↦
           let at_first : slice_get (dvas first.copies) i ≡ Some place = ap (λ (b : Block). slice_get (dvas b.copies) i) is ∙ at in
           elim (first_or_later first blocks other held') [
-            | inl is' ↦ elim (in_block spaces first.property.sectors (dvas first.copies) split.0 split.1 i k place behind at_first
+            | inl is' ↦ elim (in_block spaces first (dvas first.copies) split.0 split.1 i k place behind at_first
                 (ap (λ (b : Block). slice_get (dvas b.copies) k) is' ∙ at')) [
                   | inl same ↦ inl (sym is ∙ is', same)
                   | inr apart ↦ inr apart
@@ -220,7 +218,7 @@ pub taken_in_use : (marks : Marks) → Picks marks → (spaces : List VdevSpace)
 taken_in_use marks picks spaces blocks after taken block held i place at =
     lies_by IsInUse (viewed marks after) after planned_marks marks (sym (viewed_shapes marks after)) (out_of_view marks after) block.property.sectors place
     (all_in_use (viewed marks spaces) (copies_of_all blocks) (viewed marks after) (viewed_all marks picks spaces (copies_of_all blocks) after taken)
-    (copy_at block.property.sectors place) (is_of_all blocks block (copy_at block.property.sectors place) held (is_of block i place at)))
+    (copy_of_at block place) (is_of_all blocks block (copy_of_at block place) held (is_of block i place at)))
 
 -- which sectors the copies fill
 pub filled_copies : (marks : Marks) → Picks marks → (spaces : List VdevSpace) (copies : List CopyAt) (after : List VdevSpace) → TakeIn spaces copies after
@@ -267,8 +265,8 @@ pub taken_fills : (marks : Marks) → Picks marks → (spaces : List VdevSpace) 
 taken_fills marks picks spaces blocks after taken =
     let both : (at : SectorAt) → IsOfOne spaces blocks at → IsUsed IsFree spaces marks at × IsUsed IsInUse after marks at =
     λ at (block, held, has). filled_copies marks picks spaces (copies_of_all blocks) after taken at (record {
-      copy = copy_at block.property.sectors has.place;
-      held = is_of_all blocks block (copy_at block.property.sectors has.place) held (is_of block has.i has.place has.is_copy);
+      copy = copy_of_at block has.place;
+      held = is_of_all blocks block (copy_of_at block has.place) held (is_of block has.i has.place has.is_copy);
       on = has_on_place spaces block at has;
     }) in
     record {
@@ -293,14 +291,14 @@ all_placed : (spaces : List VdevSpace) (blocks : List Block) (after : List VdevS
 all_placed spaces blocks after before stored all placed of =
     let grows : Grows spaces after planned_marks planned_marks = all_grow spaces (copies_of_all blocks) after all in
     let copy : (block : Block) (i : ℕ) (place : Dva) → Contains blocks block → slice_get (dvas block.copies) i ≡ Some place
-    → Contains (copies_of_all blocks) (copy_at block.property.sectors place) =
-    λ block i place held at. is_of_all blocks block (copy_at block.property.sectors place) held (is_of block i place at) in
+    → Contains (copies_of_all blocks) (copy_of_at block place) =
+    λ block i place held at. is_of_all blocks block (copy_of_at block place) held (is_of block i place at) in
     let from_old : (block other : Block) (bytes : List ℕ) (i k : ℕ) (place behind : Dva) → before block ≡ Some bytes → Contains blocks other
     → slice_get (dvas block.copies) i ≡ Some place → slice_get (dvas other.copies) k ≡ Some behind → ArePlacesApart behind place =
     λ block other bytes i k place behind known held at at'.
     let taken = placed.places block bytes i place known at in
     let some = (placed.blocks block bytes known).fits.property.not_empty in
-    all_apart spaces (copies_of_all blocks) after all (copy_at other.property.sectors behind) (copy other k behind held at') block.property.sectors place
+    all_apart spaces (copies_of_all blocks) after all (copy_of_at other behind) (copy other k behind held at') block.property.sectors place
     (taken_some spaces planned_marks block.property.sectors place some taken) taken in
     record {
       blocks = λ block bytes known. elim (of block bytes known) [
@@ -309,7 +307,13 @@ all_placed spaces blocks after before stored all placed of =
       ];
       places = λ block bytes i place known at. elim (of block bytes known) [
         | inl was ↦ taken_too spaces after planned_marks planned_marks block.property.sectors place grows (placed.places block bytes i place was at)
-        | inr (held, written) ↦ all_taken spaces (copies_of_all blocks) after all (copy_at block.property.sectors place) (copy block i place held at)
+        | inr (held, written) ↦ all_taken spaces (copies_of_all blocks) after all (copy_of_at block place) (copy block i place held at)
+      ];
+      regions = λ block bytes known. elim (of block bytes known) [
+        | inl was ↦ places_too spaces after block.property.sectors (dvas block.copies) grows.shapes (placed.regions block bytes was)
+        | inr (held, written) ↦ λ place among.
+            let at = found_at (dvas block.copies) place among in
+            all_for spaces (copies_of_all blocks) after all (copy_of_at block place) (copy block at.0 place held at.1)
       ];
       apart = λ block other bytes others i k place behind known known' at at'. elim (of block bytes known) [
         | inl was ↦ elim (of other others known') [

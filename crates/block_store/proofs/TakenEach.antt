@@ -1,19 +1,20 @@
 -- Copies that are taken in one after the other.
-use Rattle.std.proofs.Common.{Bool, true, false, ℕ, zero, suc, ◌≡◌, ◌<◌, Some, Result, Ok, Err, List, [], ◌∷◌, ◌++◌, refl, sym, ap, subst, ◌∙◌}
+use Rattle.std.proofs.Common.{Bool, true, false, ℕ, zero, suc, ◌≡◌, ◌<◌, Some, Result, Ok, Err, List, [], ◌∷◌, ◌++◌, length, refl, sym, ap, subst, ◌∙◌}
 use Rattle.std.specs.Prelude.{slice_set, OnOk, OnErr, IfOk, IsTrue, ◌↔◌}
 use Rattle.std.specs.Bool.{OnTrue, OnFalse}
 use Rattle.std.specs.List.{slice_get}
 use Rattle.std.proofs.lemmas.List.{append_assoc, append-nil}
 use Rattle.block_pointer.specs.declared.block.Block.{Block}
 use Rattle.block_pointer.specs.declared.dva.Dva.{Dva}
+use Rattle.block_pointer.specs.Copies.{dvas}
 use Rattle.raidz_io.proofs.Written.{same_some}
 use Rattle.metaslab.specs.State.{State, Free, InUse}
 use Rattle.metaslab_group.specs.Spaces.{ChangesIn}
 use Rattle.block_store.specs.Opened.{HasFreePlace, TakesIn, TakeIn, TakeInPart, CannotTakeIn}
-use Rattle.block_store.specs.Places.{Marks, shapes_of, run_at, EachSector, IsFree, IsPlaceIn}
+use Rattle.block_store.specs.Places.{Marks, shapes_of, run_at, EachSector, IsFree, IsPlaceIn, IsPlaceFor}
 use Rattle.block_store.specs.Places.{filled as filled_marks, planned as planned_marks}
-use Rattle.block_store.specs.Releases.{CopyAt}
-use Rattle.block_store.specs.Shapes.{metaslab_of, IsPlace}
+use Rattle.block_store.specs.Releases.{CopyAt, copy_of_at}
+use Rattle.block_store.specs.Shapes.{metaslab_of, IsPlace, IsInRegion}
 use Rattle.block_store.specs.Spaces.{VdevSpace}
 use Rattle.block_store.specs.Store.{Store, Keeps, KeepsStored}
 use Rattle.block_store.specs.Uses.{LiesOn, CopiesLieOn, Passes}
@@ -28,18 +29,25 @@ pub place_in : (spaces : List VdevSpace) (sectors : ℕ) (place : Dva) (space : 
 place_in spaces sectors place space found is_in =
     subst (λ (s : VdevSpace). IsPlace s.shape sectors place) (same_some is_in.space space (sym is_in.found ∙ found)) is_in.is_place
 
+pub region_in : (spaces : List VdevSpace) (sectors copies : ℕ) (place : Dva) (space : VdevSpace) → slice_get spaces place.vdev ≡ Some space
+    → IsPlaceFor spaces sectors copies place → IsInRegion space.shape copies (metaslab_of space.shape place)
+region_in spaces sectors copies place space found is =
+    subst (λ (s : VdevSpace). IsInRegion s.shape copies (metaslab_of s.shape place)) (same_some is.is_in.space space (sym is.is_in.found ∙ found)) is.region
+
 -- a copy that is taken in, by what became of its vdev
-pub takes_in : {E : Type 0} (spaces : List VdevSpace) (sectors : ℕ) (place : Dva) (space new : VdevSpace) (result : Result Bool E) → 0 < sectors
-    → slice_get spaces place.vdev ≡ Some space → IsPlace space.shape sectors place
+pub takes_in : {E : Type 0} (spaces : List VdevSpace) (block : Block) (place : Dva) (space new : VdevSpace) (result : Result Bool E) → 0 < block.property.sectors
+    → slice_get spaces place.vdev ≡ Some space → IsPlace space.shape block.property.sectors place
+    → IsInRegion space.shape (length (dvas block.copies)) (metaslab_of space.shape place)
     → IfOk result (λ is_free. OnTrue is_free (ChangesIn space.kept new.kept (metaslab_of space.shape place) (run_at space.shape place) Free InUse))
     → IfOk result (λ is_free. OnTrue is_free (ChangesIn space.planned new.planned (metaslab_of space.shape place) (run_at space.shape place) Free InUse))
     → new ≡ record space { kept = new.kept; planned = new.planned }
-    → IfOk result (λ is_free. OnTrue is_free (TakesIn spaces (record { sectors = sectors; place = place }) (slice_set spaces place.vdev new)))
-takes_in spaces sectors place space new (Ok true) some found is_place kept planned rest = record {
+    → IfOk result (λ is_free. OnTrue is_free (TakesIn spaces (copy_of_at block place) (slice_set spaces place.vdev new)))
+takes_in spaces block place space new (Ok true) some found is_place region kept planned rest = record {
   some = some;
   space = space;
   found = found;
   is_place = is_place;
+  region = region;
   later = new;
   filled_too = kept;
   planned_too = planned;
@@ -47,8 +55,8 @@ takes_in spaces sectors place space new (Ok true) some found is_place kept plann
   pins = ap (λ (s : VdevSpace). s.pins) rest;
   rest = refl;
 }
-takes_in spaces sectors place space new (Ok false) some found is_place kept planned rest = tt
-takes_in spaces sectors place space new (Err e) some found is_place kept planned rest = tt
+takes_in spaces block place space new (Ok false) some found is_place region kept planned rest = tt
+takes_in spaces block place space new (Err e) some found is_place region kept planned rest = tt
 
 each_free : (marks : Marks) (spaces : List VdevSpace) (sectors : ℕ) (place : Dva) (space : VdevSpace) → slice_get spaces place.vdev ≡ Some space
     → LiesOn IsFree spaces marks sectors place → EachSector IsFree (marks space) space.shape place
@@ -56,12 +64,12 @@ each_free marks spaces sectors place space found lies =
     subst (λ (s : VdevSpace). EachSector IsFree (marks s) s.shape place) (same_some lies.space space (sym lies.found ∙ found)) lies.each
 
 -- and where it has a free place it is
-pub was_free : {E : Type 0} (spaces : List VdevSpace) (sectors : ℕ) (place : Dva) (space : VdevSpace) (result : Result Bool E) → slice_get spaces place.vdev ≡ Some space
+pub was_free : {E : Type 0} (spaces : List VdevSpace) (block : Block) (place : Dva) (space : VdevSpace) (result : Result Bool E) → slice_get spaces place.vdev ≡ Some space
     → IfOk result (λ is_free. IsTrue is_free ↔ (EachSector IsFree space.kept space.shape place × EachSector IsFree space.planned space.shape place))
-    → IfOk result (λ is_free. HasFreePlace spaces (record { sectors = sectors; place = place }) → IsTrue is_free)
-was_free spaces sectors place space (Ok is_free) found both =
-    λ free. both.1 (each_free filled_marks spaces sectors place space found free.filled_free, each_free planned_marks spaces sectors place space found free.planned_free)
-was_free spaces sectors place space (Err e) found both = tt
+    → IfOk result (λ is_free. HasFreePlace spaces (copy_of_at block place) → IsTrue is_free)
+was_free spaces block place space (Ok is_free) found both =
+    λ free. both.1 (each_free filled_marks spaces block.property.sectors place space found free.filled_free, each_free planned_marks spaces block.property.sectors place space found free.planned_free)
+was_free spaces block place space (Err e) found both = tt
 
 -- where nothing changed
 set_same : {X : Type 0} (xs : List X) (i : ℕ) (x y : X) → slice_get xs i ≡ Some x → y ≡ x → slice_set xs i y ≡ xs

@@ -15,14 +15,14 @@ use Rattle.metaslab_group.specs.Spaces.{ChangesIn}
 use Rattle.block_store.specs.declared.shape.VdevShape.{VdevShape}
 use Rattle.block_store.specs.Accounts.{SectorAt, IsUsed}
 use Rattle.block_store.specs.Opened.{TakesIn, TakeIn}
-use Rattle.block_store.specs.Places.{Marks, shapes_of, run_at, HaveMarks, EachSector, IsFree, IsTaken, IsChosen, IsTakenToo, ArePlacesApart}
+use Rattle.block_store.specs.Places.{Marks, shapes_of, run_at, HaveMarks, EachSector, IsFree, IsTaken, IsChosen, IsTakenToo, ArePlacesApart, IsPlaceFor}
 use Rattle.block_store.specs.Places.{filled as filled_marks, planned as planned_marks}
 use Rattle.block_store.specs.Releases.{CopyAt}
 use Rattle.block_store.specs.Shapes.{metaslab_of, IsPlace}
 use Rattle.block_store.specs.Spaces.{VdevSpace}
 use Rattle.block_store.specs.Uses.{LiesOn, IsInUse}
 use Rattle.block_store.proofs.Accounting.{OnPlace, on_place_too, changed_uses}
-use Rattle.block_store.proofs.Taking.{Grows, Step, step, grows_on, same_grows, taken_too, taken_some, shapes_stay, found_too, slice_get-set_other, slice_get-set_found}
+use Rattle.block_store.proofs.Taking.{Grows, Step, step, grows_on, same_grows, place_for_too, taken_too, taken_some, shapes_stay, found_too, slice_get-set_other, slice_get-set_found}
 use Rattle.block_store.proofs.Uses.{ChangesAt, take_changes, lies_after, lies_changed}
 
 if_yes : {X : Type 0} (test : Bool) (x y : X) → test ≡ true → (if test then x else y) ≡ x
@@ -102,18 +102,19 @@ picks_planned spaces after copy is = is.planned_too
 abbrev pub TakeAll : List VdevSpace → List CopyAt → List VdevSpace → Type 0
 TakeAll spaces [] after = after ≡ spaces
 TakeAll spaces (copy ∷ copies) after =
-    (0 < copy.sectors) × IsChosen spaces [] copy.sectors copy.place × (mid : List VdevSpace) × IsTakenToo spaces copy.place mid × TakeAll mid copies after
+    (0 < copy.sectors) × IsChosen spaces [] copy.sectors copy.copies copy.place × (mid : List VdevSpace) × IsTakenToo spaces copy.place mid × TakeAll mid copies after
 
 free_there : (old new : List Space) (shape : VdevShape) (place : Dva) → ChangesIn old new (metaslab_of shape place) (run_at shape place) Free InUse → EachSector IsFree old shape place
 free_there old new shape place change = record { metaslab = change.space; found = change.found; each = change.was.each }
 
 one_chosen : (marks : Marks) → Picks marks → (spaces after : List VdevSpace) (copy : CopyAt) → TakesIn spaces copy after
-    → IsChosen (viewed marks spaces) [] copy.sectors copy.place
+    → IsChosen (viewed marks spaces) [] copy.sectors copy.copies copy.place
 one_chosen marks picks spaces after copy is = record {
   space = view_of marks is.space;
   found = view_found marks spaces copy.place.vdev is.space is.found;
   free = record {
     is_place = is.is_place;
+    region = is.region;
     free = free_there (marks is.space) (marks is.later) is.space.shape copy.place (picks spaces after copy is);
   };
   other_vdev = λ v metaslab room none (place, among, same). nothing place among;
@@ -150,17 +151,33 @@ first_or_later first copies copy held = elim (Contains-append_cases (first ∷ [
 pub all_grow : (spaces : List VdevSpace) (copies : List CopyAt) (after : List VdevSpace) → TakeAll spaces copies after → Grows spaces after planned_marks planned_marks
 all_grow spaces [] after same = subst (λ xs. Grows spaces xs planned_marks planned_marks) (sym same) (same_grows spaces planned_marks)
 all_grow spaces (copy ∷ copies) after (some, chosen, mid, too, rest) =
-    grows_on spaces mid after planned_marks planned_marks planned_marks (step spaces [] copy.sectors copy.place mid chosen too).grows (all_grow mid copies after rest)
+    grows_on spaces mid after planned_marks planned_marks planned_marks (step spaces [] copy.sectors copy.copies copy.place mid chosen too).grows (all_grow mid copies after rest)
 
 pub all_taken : (spaces : List VdevSpace) (copies : List CopyAt) (after : List VdevSpace) → TakeAll spaces copies after → (copy : CopyAt) → Contains copies copy
     → IsTaken after planned_marks copy.sectors copy.place
 all_taken spaces [] after same copy held = absurd (omega (arith, held.1))
 all_taken spaces (first ∷ copies) after (some, chosen, mid, too, rest) copy held = elim (first_or_later first copies copy held) [
   | inl is ↦
-      let one : Step spaces first.sectors first.place mid = step spaces [] first.sectors first.place mid chosen too in
+      let one : Step spaces first.sectors first.place mid = step spaces [] first.sectors first.copies first.place mid chosen too in
       subst (λ (c : CopyAt). IsTaken after planned_marks c.sectors c.place) is
       (taken_too mid after planned_marks planned_marks first.sectors first.place (all_grow mid copies after rest) one.taken)
   | inr later ↦ all_taken mid copies after rest copy later
+]
+
+-- each is in its region
+pub all_for : (spaces : List VdevSpace) (copies : List CopyAt) (after : List VdevSpace) → TakeAll spaces copies after → (copy : CopyAt) → Contains copies copy
+    → IsPlaceFor after copy.sectors copy.copies copy.place
+all_for spaces [] after same copy held = absurd (omega (arith, held.1))
+all_for spaces (first ∷ copies) after (some, chosen, mid, too, rest) copy held = elim (first_or_later first copies copy held) [
+  | inl is ↦
+      let here : IsPlaceFor spaces first.sectors first.copies first.place = record {
+        is_in = record { space = chosen.space; found = chosen.found; is_place = chosen.free.is_place };
+        region = chosen.free.region;
+      } in
+      subst (λ (c : CopyAt). IsPlaceFor after c.sectors c.copies c.place) is
+      (place_for_too spaces after first.sectors first.copies first.place
+      ((all_grow mid copies after rest).shapes ∙ shapes_stay spaces mid first.place too) here)
+  | inr later ↦ all_for mid copies after rest copy later
 ]
 
 -- what is taken is apart from what was
@@ -168,7 +185,7 @@ pub all_apart : (spaces : List VdevSpace) (copies : List CopyAt) (after : List V
     → (sectors : ℕ) (other : Dva) → 0 < other.allocated → IsTaken spaces planned_marks sectors other → ArePlacesApart copy.place other
 all_apart spaces [] after same copy held sectors other some' taken = absurd (omega (arith, held.1))
 all_apart spaces (first ∷ copies) after (some, chosen, mid, too, rest) copy held sectors other some' taken =
-    let one : Step spaces first.sectors first.place mid = step spaces [] first.sectors first.place mid chosen too in
+    let one : Step spaces first.sectors first.place mid = step spaces [] first.sectors first.copies first.place mid chosen too in
     elim (first_or_later first copies copy held) [
       | inl is ↦ subst (λ (c : CopyAt). ArePlacesApart c.place other) is
           (one.apart (taken_some mid planned_marks first.sectors first.place some one.taken) sectors other some' taken)

@@ -7,12 +7,13 @@ use Rattle.std.specs.List.{slice_get}
 use Rattle.std.proofs.lemmas.Nat.{div-add-mod'}
 use Rattle.block_pointer.specs.declared.block.Block.{Block}
 use Rattle.block_pointer.specs.declared.dva.Dva.{Dva}
+use Rattle.block_pointer.specs.Copies.{dvas}
 use Rattle.raidz_io.specs.declared.vdev.Extent.{Extent}
 use Rattle.raidz_io.proofs.Written.{same_some}
 use Rattle.block_store.specs.declared.shape.VdevShape.{VdevShape}
 use Rattle.block_store.specs.Spaces.{VdevSpace}
 use Rattle.block_store.specs.Blocks.{Contents}
-use Rattle.block_store.specs.Places.{Marks, shapes_of, planned, run_at, EachSector, IsNotFree, IsTaken, IsCopy, IsExtentAt, ArePlacesApart, IsLaidOut, IsChosen, IsTakenToo, AreChosen}
+use Rattle.block_store.specs.Places.{Marks, shapes_of, planned, run_at, EachSector, IsNotFree, IsTaken, IsCopy, IsExtentAt, ArePlacesApart, IsPlaceFor, ArePlacesIn, IsLaidOut, IsChosen, IsTakenToo, AreChosen}
 use Rattle.block_store.specs.Places.{filled as filled_marks}
 use Rattle.raidz_io.specs.Places.{HasRoom}
 use Rattle.space_map.specs.declared.entry.Run.{Run}
@@ -22,7 +23,7 @@ use Rattle.metaslab.specs.Space.{Space, state}
 use Rattle.metaslab.specs.State.{Free, InUse}
 use Rattle.metaslab_group.specs.Spaces.{ChangesIn}
 use Rattle.block_store.proofs.Sizes.{asize_some}
-use Rattle.block_store.specs.Shapes.{metaslab_sectors, metaslab_of, sector_of, IsPlace}
+use Rattle.block_store.specs.Shapes.{metaslab_sectors, metaslab_of, sector_of, IsPlace, IsInRegion}
 use Rattle.block_store.specs.Store.{ArePlaced}
 
 pub slice_get-set_same : {X : Type 0} (xs : List X) (i : ℕ) (x y : X) → slice_get (slice_set xs i x) i ≡ Some y → x ≡ y
@@ -113,11 +114,26 @@ copy_too spaces after block i extent shapes copy = record {
   extent_is = extent_too spaces after block.property.sectors copy.place extent shapes copy.extent_is;
 }
 
+-- a place stays in its region, by the vdevs alone
+pub place_for_too : (spaces after : List VdevSpace) (sectors copies : ℕ) (place : Dva) → shapes_of after ≡ shapes_of spaces → IsPlaceFor spaces sectors copies place
+    → IsPlaceFor after sectors copies place
+place_for_too spaces after sectors copies place shapes is =
+    let there = found_too spaces after place.vdev is.is_in.space shapes is.is_in.found in
+    record {
+      is_in = record { space = there.0; found = there.1; is_place = subst (λ (shape : VdevShape). IsPlace shape sectors place) (sym there.2) is.is_in.is_place };
+      region = subst (λ (shape : VdevShape). IsInRegion shape copies (metaslab_of shape place)) (sym there.2) is.region;
+    }
+
+pub places_too : (spaces after : List VdevSpace) (sectors : ℕ) (places : List Dva) → shapes_of after ≡ shapes_of spaces → ArePlacesIn spaces sectors places
+    → ArePlacesIn after sectors places
+places_too spaces after sectors places shapes are place among = place_for_too spaces after sectors (length places) place shapes (are place among)
+
 pub placed_too : (spaces after : List VdevSpace) (marks later : Marks) (contents : Contents) → Grows spaces after marks later
     → ArePlaced spaces marks contents → ArePlaced after later contents
 placed_too spaces after marks later contents grows placed = record {
   blocks = placed.blocks;
   places = λ block bytes i place known at. taken_too spaces after marks later block.property.sectors place grows (placed.places block bytes i place known at);
+  regions = λ block bytes known. places_too spaces after block.property.sectors (dvas block.copies) grows.shapes (placed.regions block bytes known);
   apart = placed.apart;
 }
 
@@ -144,9 +160,9 @@ common_sector run other some some' = elim (cases_lt other.start run.start) [
 ]
 
 -- what is free is apart from what is not
-pub apart_from_taken : (spaces : List VdevSpace) (taken : List Dva) (sectors sectors' : ℕ) (place other : Dva) → 0 < place.allocated → 0 < other.allocated
-    → IsChosen spaces taken sectors place → IsTaken spaces planned sectors' other → ArePlacesApart place other
-apart_from_taken spaces taken sectors sectors' place other some some' chosen is =
+pub apart_from_taken : (spaces : List VdevSpace) (taken : List Dva) (sectors copies sectors' : ℕ) (place other : Dva) → 0 < place.allocated → 0 < other.allocated
+    → IsChosen spaces taken sectors copies place → IsTaken spaces planned sectors' other → ArePlacesApart place other
+apart_from_taken spaces taken sectors copies sectors' place other some some' chosen is =
     elim (cases_lt place.vdev other.vdev) [
       | inl less ↦ inl (λ same. absurd (omega (arith, less, same)))
       | inr not_less ↦ elim (cases_lt other.vdev place.vdev) [
@@ -231,9 +247,9 @@ changes_take old new metaslab run change m space found = elim (cases_eq m metasl
       )
 ]
 
-pub step : (spaces : List VdevSpace) (taken : List Dva) (sectors : ℕ) (place : Dva) (after : List VdevSpace) → IsChosen spaces taken sectors place
+pub step : (spaces : List VdevSpace) (taken : List Dva) (sectors copies : ℕ) (place : Dva) (after : List VdevSpace) → IsChosen spaces taken sectors copies place
     → IsTakenToo spaces place after → Step spaces sectors place after
-step spaces taken sectors place after chosen too =
+step spaces taken sectors copies place after chosen too =
     let new : VdevSpace = record too.space { planned = too.later } in
     let at : slice_get after place.vdev ≡ Some new = ap (λ xs. slice_get xs place.vdev) too.rest ∙ slice_get-set_found spaces place.vdev too.space new too.found in
     let same : chosen.space ≡ too.space = same_some chosen.space too.space (sym chosen.found ∙ too.found) in
@@ -267,7 +283,7 @@ step spaces taken sectors place after chosen too =
               (sym (change.changes.states s ∙ if_yes (names (run_at too.space.shape place) s) InUse (state change.space s) named) ∙ free);
         };
       };
-      apart = λ some sectors' other some' is. apart_from_taken spaces taken sectors sectors' place other some some' chosen is;
+      apart = λ some sectors' other some' is. apart_from_taken spaces taken sectors copies sectors' place other some some' chosen is;
     }
 
 pub turned : (place other : Dva) → ArePlacesApart place other → ArePlacesApart other place
@@ -306,18 +322,18 @@ grows_on spaces mid after marks later last first second = record {
 pub taken_some : (spaces : List VdevSpace) (marks : Marks) (sectors : ℕ) (place : Dva) → 0 < sectors → IsTaken spaces marks sectors place → 0 < place.allocated
 taken_some spaces marks sectors place some is = omega (arith, is.is_place.allocated, asize_some is.space.shape.vdev.geometry sectors some)
 
-pub are_taken : (spaces : List VdevSpace) (taken : List Dva) (sectors : ℕ) (places : List Dva) (after : List VdevSpace) → AreChosen spaces taken sectors places after
+pub are_taken : (spaces : List VdevSpace) (taken : List Dva) (sectors copies : ℕ) (places : List Dva) (after : List VdevSpace) → AreChosen spaces taken sectors copies places after
     → AreTakenToo spaces sectors places after
-are_taken spaces taken sectors [] after is = record {
+are_taken spaces taken sectors copies [] after is = record {
   grows = rw is (same_grows spaces planned);
   filled_stays = ap (map filled_marks) is;
   taken = λ i place at. absurd (cc);
   from_others = λ some i sectors' place other some' at. absurd (cc);
   apart = λ some i k place other at at'. absurd (cc);
 }
-are_taken spaces taken sectors (first ∷ places) after (chosen, mid, too, rest) =
-    let one : Step spaces sectors first mid = step spaces taken sectors first mid chosen too in
-    let others : AreTakenToo mid sectors places after = are_taken mid (taken ++ first ∷ []) sectors places after rest in
+are_taken spaces taken sectors copies (first ∷ places) after (chosen, mid, too, rest) =
+    let one : Step spaces sectors first mid = step spaces taken sectors copies first mid chosen too in
+    let others : AreTakenToo mid sectors places after = are_taken mid (taken ++ first ∷ []) sectors copies places after rest in
     record {
       grows = grows_on spaces mid after planned planned planned one.grows others.grows;
       filled_stays = others.filled_stays ∙ fills_nothing spaces mid first too;
@@ -353,6 +369,21 @@ are_taken spaces taken sectors (first ∷ places) after (chosen, mid, too, rest)
         (others.from_others some i sectors place first (taken_some mid planned sectors first some one.taken) at one.taken))
     apart_at one others some (suc i) (suc k) place other at at' =
         elim (others.apart some i k place other at at') [ inl same ↦ inl (ap suc same) | inr are ↦ inr are ]
+
+-- places that are chosen are in the region for such copies
+pub chosen_for : (spaces : List VdevSpace) (taken : List Dva) (sectors copies : ℕ) (places : List Dva) (after : List VdevSpace)
+    → AreChosen spaces taken sectors copies places after → (i : ℕ) (place : Dva) → slice_get places i ≡ Some place → IsPlaceFor after sectors copies place
+chosen_for spaces taken sectors copies [] after is i place at = absurd (cc)
+chosen_for spaces taken sectors copies (first ∷ places) after (chosen, mid, too, rest) zero place at =
+    let here : IsPlaceFor spaces sectors copies first = record {
+      is_in = record { space = chosen.space; found = chosen.found; is_place = chosen.free.is_place };
+      region = chosen.free.region;
+    } in
+    let there = are_taken mid (taken ++ first ∷ []) sectors copies places after rest in
+    subst (λ p. IsPlaceFor after sectors copies p) (same_some first place at)
+    (place_for_too spaces after sectors copies first (there.grows.shapes ∙ shapes_stay spaces mid first too) here)
+chosen_for spaces taken sectors copies (first ∷ places) after (chosen, mid, too, rest) (suc i) place at =
+    chosen_for mid (taken ++ first ∷ []) sectors copies places after rest i place at
 
 -- vdevs are laid out by their shapes alone
 pub laid_out_too : (starts : List (List ℕ)) (spaces after : List VdevSpace) → shapes_of after ≡ shapes_of spaces → IsLaidOut starts spaces → IsLaidOut starts after

@@ -148,37 +148,37 @@ lies_changed spaces after place from to at sectors some is_place =
 
 -- ---- places that are taken
 
-pub lies_chosen : (is : State → Type 0) (spaces : List VdevSpace) (taken : List Dva) (n : ℕ) (places : List Dva) (after : List VdevSpace)
-    → AreChosen spaces taken n places after → is InUse → (sectors : ℕ) (other : Dva) → LiesOn is spaces planned sectors other → LiesOn is after planned sectors other
-lies_chosen is spaces taken n [] after same holds sectors other lies = subst (λ xs. LiesOn is xs planned sectors other) (sym same) lies
-lies_chosen is spaces taken n (place ∷ places) after (chosen, mid, too, rest) holds sectors other lies =
-    lies_chosen is mid (taken ++ place ∷ []) n places after rest holds sectors other
+pub lies_chosen : (is : State → Type 0) (spaces : List VdevSpace) (taken : List Dva) (n copies : ℕ) (places : List Dva) (after : List VdevSpace)
+    → AreChosen spaces taken n copies places after → is InUse → (sectors : ℕ) (other : Dva) → LiesOn is spaces planned sectors other → LiesOn is after planned sectors other
+lies_chosen is spaces taken n copies [] after same holds sectors other lies = subst (λ xs. LiesOn is xs planned sectors other) (sym same) lies
+lies_chosen is spaces taken n copies (place ∷ places) after (chosen, mid, too, rest) holds sectors other lies =
+    lies_chosen is mid (taken ++ place ∷ []) n copies places after rest holds sectors other
     (lies_after is spaces mid place Free InUse (take_changes spaces mid place too) sectors other (inl holds) lies)
 
 pub lies_placed : (is : State → Type 0) (spaces : List VdevSpace) (placed : List Placed) (after : List VdevSpace) → HavePlaced spaces placed after → is InUse
     → (sectors : ℕ) (other : Dva) → LiesOn is spaces planned sectors other → LiesOn is after planned sectors other
 lies_placed is spaces [] after same holds sectors other lies = subst (λ xs. LiesOn is xs planned sectors other) (sym same) lies
 lies_placed is spaces (block ∷ placed) after (mid, chosen, rest) holds sectors other lies =
-    lies_placed is mid placed after rest holds sectors other (lies_chosen is spaces [] block.sectors block.places mid chosen holds sectors other lies)
+    lies_placed is mid placed after rest holds sectors other (lies_chosen is spaces [] block.sectors block.copies block.places mid chosen holds sectors other lies)
 
 pub places_spare : PlacesSpare
 places_spare test spaces after placed block holds placed_are lies i place at =
     lies_placed (Passes test) spaces placed after placed_are holds block.property.sectors place (lies i place at)
 
 -- each place that was taken is in use
-pub chosen_in_use : (spaces : List VdevSpace) (taken : List Dva) (sectors : ℕ) (places : List Dva) (after : List VdevSpace) → 0 < sectors
-    → AreChosen spaces taken sectors places after → (i : ℕ) (place : Dva) → slice_get places i ≡ Some place → LiesOn IsInUse after planned sectors place
-chosen_in_use spaces taken sectors [] after some same i place at = absurd (cc)
-chosen_in_use spaces taken sectors (first ∷ places) after some (chosen, mid, too, rest) zero place at =
+pub chosen_in_use : (spaces : List VdevSpace) (taken : List Dva) (sectors copies : ℕ) (places : List Dva) (after : List VdevSpace) → 0 < sectors
+    → AreChosen spaces taken sectors copies places after → (i : ℕ) (place : Dva) → slice_get places i ≡ Some place → LiesOn IsInUse after planned sectors place
+chosen_in_use spaces taken sectors copies [] after some same i place at = absurd (cc)
+chosen_in_use spaces taken sectors copies (first ∷ places) after some (chosen, mid, too, rest) zero place at =
     let is : first ≡ place = same_some first place at in
     let same : chosen.space ≡ too.space = same_some chosen.space too.space (sym chosen.found ∙ too.found) in
     let P : VdevSpace → Type 0 = λ s. IsPlace s.shape sectors first in
     let here : LiesOn IsInUse mid planned sectors first =
     lies_changed spaces mid first Free InUse (take_changes spaces mid first too) sectors some (subst P same chosen.free.is_place) in
     subst (λ p. LiesOn IsInUse after planned sectors p) is
-    (lies_chosen IsInUse mid (taken ++ first ∷ []) sectors places after rest refl sectors first here)
-chosen_in_use spaces taken sectors (first ∷ places) after some (chosen, mid, too, rest) (suc i) place at =
-    chosen_in_use mid (taken ++ first ∷ []) sectors places after some rest i place at
+    (lies_chosen IsInUse mid (taken ++ first ∷ []) sectors copies places after rest refl sectors first here)
+chosen_in_use spaces taken sectors copies (first ∷ places) after some (chosen, mid, too, rest) (suc i) place at =
+    chosen_in_use mid (taken ++ first ∷ []) sectors copies places after some rest i place at
 
 -- ---- copies that are given back
 

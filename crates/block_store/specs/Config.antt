@@ -3,7 +3,7 @@ use Rattle.std.specs.Prelude.{ℕ, ◌≡◌, ◌+◌, ◌-◌, ◌*◌, ◌/◌
 use Rattle.model_disk.specs.Joint.{bytes_of}
 use Rattle.block_store.specs.declared.create.VdevConfig.{VdevConfig}
 use Rattle.block_store.specs.declared.shape.VdevShape.{VdevShape}
-use Rattle.block_store.specs.Shapes.{metaslabs}
+use Rattle.block_store.specs.Shapes.{metaslabs, HasRegions}
 
 -- how many bytes of a disk of that size are used: a multiple of 256 KiB
 abbrev pub used_bytes : ℕ → ℕ
@@ -35,10 +35,11 @@ pub record IsShapeOf (starts : List (List ℕ)) (first : ℕ) (config : VdevConf
   pub geometry : shape.vdev.geometry ≡ config.geometry
   pub first_is : shape.vdev.first ≡ first
   pub shift : shape.metaslab_shift ≡ config.metaslab_shift
+  pub meta_slabs : shape.meta_slabs ≡ config.meta_slabs
   pub disks : first + config.geometry.children ≤ length starts
   pub sizes : AreAllowedSizes starts first (first + config.geometry.children)
   pub sectors : IsLeastOf starts first (first + config.geometry.children) shape.child_sectors
-  pub some : 1 ≤ metaslabs shape
+  pub regions : HasRegions shape
   pub few : metaslabs shape ≤ 1024
 
 -- the vdevs that were asked for, which take the disks from that one on in order, and all of them

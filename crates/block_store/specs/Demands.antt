@@ -14,7 +14,7 @@ abbrev pub HavePlaces : List VdevSpace → List Demand → List VdevSpace → Ty
 HavePlaces before [] after = after ≡ before
 HavePlaces before (demand ∷ demands) after =
     (places : List Dva) × (mid : List VdevSpace) × (length places ≡ demand.copies)
-    × AreChosen before [] demand.sectors places mid × HavePlaces mid demands after
+    × AreChosen before [] demand.sectors demand.copies places mid × HavePlaces mid demands after
 
 -- so it is of the first of them, and then no free place was left for a copy of the next
 pub record LackPlaces (before : List VdevSpace) (demands : List Demand) (after : List VdevSpace) : Type 0 where

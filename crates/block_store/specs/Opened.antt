@@ -9,12 +9,12 @@ use Rattle.raidz_io.specs.declared.vdev.Extent.{Extent}
 use Rattle.raidz_io.specs.Stands.{ExtentStands}
 use Rattle.block_store.specs.Accounts.{SectorAt, IsUsed, HasSector}
 use Rattle.block_store.specs.Blocks.{Contents, IsWrittenAs, nothing_stored}
-use Rattle.block_store.specs.Places.{Marks, filled, run_at, IsFree, IsCopy, ArePlacesIn}
+use Rattle.block_store.specs.Places.{Marks, filled, run_at, IsFree, IsCopy, IsPlaceFor, ArePlacesIn}
 use Rattle.block_store.specs.Places.{planned as planned_marks}
 use Rattle.block_store.specs.Releases.{CopyAt}
 use Rattle.block_store.specs.declared.shape.VdevShape.{VdevShape}
 use Rattle.block_store.specs.Config.{AreAllowedSizes, sectors_of, size_of}
-use Rattle.block_store.specs.Shapes.{metaslab_of, metaslabs, IsPlace}
+use Rattle.block_store.specs.Shapes.{metaslab_of, metaslabs, IsPlace, HasRegions, IsInRegion}
 use Rattle.block_store.specs.Spaces.{VdevSpace}
 use Rattle.block_store.specs.Store.{Store, Holds, lost}
 use Rattle.block_store.specs.Uses.{LiesOn, IsInUse}
@@ -22,13 +22,13 @@ use Rattle.block_store.specs.Uses.{LiesOn, IsInUse}
 -- ---- the vdevs of a pool that is there
 
 -- Each disk of the vdev, one that is out too, is of an allowed size and has as many sectors for blocks as the vdev uses of it. And
--- the vdev has from 1 to 1,024 metaslabs.
+-- the vdev has at most 1,024 metaslabs, some of them in its meta region and some before it.
 pub record FitsDisks (starts : List (List ℕ)) (shape : VdevShape) : Type 0 where
   pub there : shape.vdev.first + shape.vdev.geometry.children ≤ length starts
   pub sizes : AreAllowedSizes starts shape.vdev.first (shape.vdev.first + shape.vdev.geometry.children)
   pub sectors : (disk : ℕ) → shape.vdev.first ≤ disk → disk < shape.vdev.first + shape.vdev.geometry.children
       → shape.child_sectors ≤ sectors_of (size_of starts disk)
-  pub some : 1 ≤ metaslabs shape
+  pub regions : HasRegions shape
   pub few : metaslabs shape ≤ 1024
 
 -- the vdevs take the disks from that one on in order, and all of them
@@ -45,8 +45,9 @@ pub record MayBeOpened (starts : List (List ℕ)) (shapes : List VdevShape) (out
 
 -- ---- copies that are taken in
 
--- the copy may lie there, and each sector of the place is free, without what is planned and with it
+-- the copy may lie there, in the region for it, and each sector of the place is free, without what is planned and with it
 pub record HasFreePlace (spaces : List VdevSpace) (copy : CopyAt) : Type 0 where
+  pub place_for : IsPlaceFor spaces copy.sectors copy.copies copy.place
   pub filled_free : LiesOn IsFree spaces filled copy.sectors copy.place
   pub planned_free : LiesOn IsFree spaces planned_marks copy.sectors copy.place
 
@@ -56,6 +57,7 @@ pub record TakesIn (spaces : List VdevSpace) (copy : CopyAt) (after : List VdevS
   pub space : VdevSpace
   pub found : slice_get spaces copy.place.vdev ≡ Some space
   pub is_place : IsPlace space.shape copy.sectors copy.place
+  pub region : IsInRegion space.shape copy.copies (metaslab_of space.shape copy.place)
   pub later : VdevSpace
   pub filled_too : ChangesIn (filled space) (filled later) (metaslab_of space.shape copy.place) (run_at space.shape copy.place) Free InUse
   pub planned_too : ChangesIn (planned_marks space) (planned_marks later) (metaslab_of space.shape copy.place) (run_at space.shape copy.place) Free InUse

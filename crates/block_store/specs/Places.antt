@@ -15,7 +15,7 @@ use Rattle.block_store.specs.declared.choice.Spread.{Spread}
 use Rattle.block_store.specs.declared.choice.Spread.TheVariants.{Vdevs, Metaslabs, Anywhere}
 use Rattle.block_store.specs.declared.shape.VdevShape.{VdevShape}
 use Rattle.block_store.specs.Spaces.{VdevSpace}
-use Rattle.block_store.specs.Shapes.{metaslab_sectors, metaslabs, metaslab_of, sector_of, IsPlace}
+use Rattle.block_store.specs.Shapes.{metaslab_sectors, metaslabs, metaslab_of, sector_of, IsPlace, IsInRegion}
 
 abbrev pub shapes_of : List VdevSpace → List VdevShape
 shapes_of spaces = map (λ space. space.shape) spaces
@@ -57,9 +57,14 @@ pub record IsPlaceIn (spaces : List VdevSpace) (sectors : ℕ) (place : Dva) : T
   pub found : slice_get spaces place.vdev ≡ Some space
   pub is_place : IsPlace space.shape sectors place
 
--- the same of each of these places
+-- and in the region for a block of so many copies
+pub record IsPlaceFor (spaces : List VdevSpace) (sectors copies : ℕ) (place : Dva) : Type 0 where
+  pub is_in : IsPlaceIn spaces sectors place
+  pub region : IsInRegion is_in.space.shape copies (metaslab_of is_in.space.shape place)
+
+-- all copies of a block of so many sectors may lie at these places
 abbrev pub ArePlacesIn : List VdevSpace → ℕ → List Dva → Type 0
-ArePlacesIn spaces sectors places = (place : Dva) → Contains places place → IsPlaceIn spaces sectors place
+ArePlacesIn spaces sectors places = (place : Dva) → Contains places place → IsPlaceFor spaces sectors (length places) place
 
 -- the sectors of a place in its metaslab
 abbrev pub run_at : VdevShape → Dva → Run
@@ -115,6 +120,11 @@ pub record HasRoomAt (spaces : List VdevSpace) (sectors v metaslab : ℕ) : Type
   pub is_there : metaslab < metaslabs space.shape
   pub room : HasRoomIn space metaslab sectors
 
+-- and it is in the region for a block of so many copies
+pub record HasRoomFor (spaces : List VdevSpace) (sectors copies v metaslab : ℕ) : Type 0 where
+  pub room : HasRoomAt spaces sectors v metaslab
+  pub region : IsInRegion room.space.shape copies metaslab
+
 -- one of the places is in the vdev, or in that metaslab of it
 abbrev pub IsInVdev : List Dva → ℕ → Type 0
 IsInVdev taken v = (place : Dva) × Contains taken place × (place.vdev ≡ v)
@@ -128,37 +138,38 @@ MayTake shape taken v metaslab Vdevs = ¬ IsInVdev taken v
 MayTake shape taken v metaslab Metaslabs = ¬ IsInMetaslab shape taken v metaslab
 MayTake shape taken v metaslab Anywhere = Unit {0}
 
--- a copy of a block of so many sectors may lie there, and no sector of the place is in use, by what is stored or planned
-pub record IsFreePlaceIn (space : VdevSpace) (sectors : ℕ) (place : Dva) : Type 0 where
+-- One of so many copies of a block of so many sectors may lie there, and no sector of the place is in use, by what is stored or planned.
+pub record IsFreePlaceIn (space : VdevSpace) (sectors copies : ℕ) (place : Dva) : Type 0 where
   pub is_place : IsPlace space.shape sectors place
+  pub region : IsInRegion space.shape copies (metaslab_of space.shape place)
   pub free : EachSector IsFree (planned space) space.shape place
 
 -- a metaslab was found: it has room, and may be taken
-pub record IsFound (spaces : List VdevSpace) (taken : List Dva) (sectors : ℕ) (spread : Spread) (v metaslab : ℕ) : Type 0 where
-  pub room : HasRoomAt spaces sectors v metaslab
-  pub may : MayTake room.space.shape taken v metaslab spread
+pub record IsFound (spaces : List VdevSpace) (taken : List Dva) (sectors copies : ℕ) (spread : Spread) (v metaslab : ℕ) : Type 0 where
+  pub there : HasRoomFor spaces sectors copies v metaslab
+  pub may : MayTake there.room.space.shape taken v metaslab spread
 
 -- no metaslab that has room may be taken
-abbrev pub NoneIsFound : List VdevSpace → List Dva → ℕ → Spread → Type 0
-NoneIsFound spaces taken sectors spread =
-    (v metaslab : ℕ) → (room : HasRoomAt spaces sectors v metaslab) → ¬ MayTake room.space.shape taken v metaslab spread
+abbrev pub NoneIsFound : List VdevSpace → List Dva → ℕ → ℕ → Spread → Type 0
+NoneIsFound spaces taken sectors copies spread =
+    (v metaslab : ℕ) → (there : HasRoomFor spaces sectors copies v metaslab) → ¬ MayTake there.room.space.shape taken v metaslab spread
 
--- A further copy of a block of so many sectors goes to this metaslab, which has room: to another vdev than those that were taken where
--- one has room, and to another metaslab where one has.
-pub record GoesTo (spaces : List VdevSpace) (taken : List Dva) (sectors v metaslab : ℕ) : Type 0 where
-  pub room : HasRoomAt spaces sectors v metaslab
-  pub other_vdev : (w other : ℕ) → HasRoomAt spaces sectors w other → ¬ IsInVdev taken w → ¬ IsInVdev taken v
-  pub other_metaslab : (w other : ℕ) (there : HasRoomAt spaces sectors w other) → ¬ IsInMetaslab there.space.shape taken w other
-      → ¬ IsInMetaslab room.space.shape taken v metaslab
+-- A further copy, of so many, of a block of so many sectors goes to this metaslab of its region, which has room: to another vdev than
+-- those that were taken where one has room, and to another metaslab where one has.
+pub record GoesTo (spaces : List VdevSpace) (taken : List Dva) (sectors copies v metaslab : ℕ) : Type 0 where
+  pub there : HasRoomFor spaces sectors copies v metaslab
+  pub other_vdev : (w other : ℕ) → HasRoomFor spaces sectors copies w other → ¬ IsInVdev taken w → ¬ IsInVdev taken v
+  pub other_metaslab : (w other : ℕ) (one : HasRoomFor spaces sectors copies w other) → ¬ IsInMetaslab one.room.space.shape taken w other
+      → ¬ IsInMetaslab there.room.space.shape taken v metaslab
 
--- A further copy of a block of so many sectors goes there: to a place that is free. It goes to another vdev than those that were
--- taken where one has room, and to another metaslab where one has.
-pub record IsChosen (spaces : List VdevSpace) (taken : List Dva) (sectors : ℕ) (place : Dva) : Type 0 where
+-- A further copy, of so many, of a block of so many sectors goes there: to a place of its region that is free. It goes to another vdev
+-- than those that were taken where one has room, and to another metaslab where one has.
+pub record IsChosen (spaces : List VdevSpace) (taken : List Dva) (sectors copies : ℕ) (place : Dva) : Type 0 where
   pub space : VdevSpace
   pub found : slice_get spaces place.vdev ≡ Some space
-  pub free : IsFreePlaceIn space sectors place
-  pub other_vdev : (v metaslab : ℕ) → HasRoomAt spaces sectors v metaslab → ¬ IsInVdev taken v → ¬ IsInVdev taken place.vdev
-  pub other_metaslab : (v metaslab : ℕ) (room : HasRoomAt spaces sectors v metaslab) → ¬ IsInMetaslab room.space.shape taken v metaslab
+  pub free : IsFreePlaceIn space sectors copies place
+  pub other_vdev : (v metaslab : ℕ) → HasRoomFor spaces sectors copies v metaslab → ¬ IsInVdev taken v → ¬ IsInVdev taken place.vdev
+  pub other_metaslab : (v metaslab : ℕ) (one : HasRoomFor spaces sectors copies v metaslab) → ¬ IsInMetaslab one.room.space.shape taken v metaslab
       → ¬ IsInMetaslab space.shape taken place.vdev (metaslab_of space.shape place)
 
 -- the plan takes the place too: its sectors were free and are in use, and all else is as it was
@@ -176,21 +187,23 @@ pub record IsTakenIn (spaces : List VdevSpace) (sectors v metaslab : ℕ) (place
   pub is_place : IsPlace taken.space.shape sectors place
   pub metaslab_is : metaslab_of taken.space.shape place ≡ metaslab
 
--- the places are chosen and taken one after the other
-abbrev pub AreChosen : List VdevSpace → List Dva → ℕ → List Dva → List VdevSpace → Type 0
-AreChosen spaces taken sectors [] after = after ≡ spaces
-AreChosen spaces taken sectors (place ∷ places) after =
-    IsChosen spaces taken sectors place × (mid : List VdevSpace) × IsTakenToo spaces place mid × AreChosen mid (taken ++ place ∷ []) sectors places after
+-- the places, for some of so many copies, are chosen and taken one after the other
+abbrev pub AreChosen : List VdevSpace → List Dva → ℕ → ℕ → List Dva → List VdevSpace → Type 0
+AreChosen spaces taken sectors copies [] after = after ≡ spaces
+AreChosen spaces taken sectors copies (place ∷ places) after =
+    IsChosen spaces taken sectors copies place × (mid : List VdevSpace) × IsTakenToo spaces place mid
+    × AreChosen mid (taken ++ place ∷ []) sectors copies places after
 
 -- places for some of the copies, or for all, were chosen and taken
 abbrev pub TookSome : List VdevSpace → ℕ → ℕ → List VdevSpace → Type 0
-TookSome spaces sectors copies after = (places : List Dva) × (length places ≤ copies) × AreChosen spaces [] sectors places after
+TookSome spaces sectors copies after = (places : List Dva) × (length places ≤ copies) × AreChosen spaces [] sectors copies places after
 
--- no vdev has a free place for a copy of such a block
-abbrev pub NoPlaceIsLeft : List VdevSpace → ℕ → Type 0
-NoPlaceIsLeft spaces sectors = (place : Dva) (space : VdevSpace) → slice_get spaces place.vdev ≡ Some space → ¬ IsFreePlaceIn space sectors place
+-- no vdev has a free place for one of so many copies of such a block
+abbrev pub NoPlaceIsLeft : List VdevSpace → ℕ → ℕ → Type 0
+NoPlaceIsLeft spaces sectors copies =
+    (place : Dva) (space : VdevSpace) → slice_get spaces place.vdev ≡ Some space → ¬ IsFreePlaceIn space sectors copies place
 
 -- places for some of the copies were chosen, and then no free place was left for another
 abbrev pub RanOut : List VdevSpace → ℕ → ℕ → List VdevSpace → Type 0
 RanOut spaces sectors copies after =
-    (places : List Dva) × (length places < copies) × AreChosen spaces [] sectors places after × NoPlaceIsLeft after sectors
+    (places : List Dva) × (length places < copies) × AreChosen spaces [] sectors copies places after × NoPlaceIsLeft after sectors copies

@@ -4,7 +4,6 @@ use Rattle.std.specs.declared.alloc.Global.{Global}
 use Rattle.sha2.specs.Sha256.{sha256}
 use Rattle.model_disk.specs.Joint.{Disks, content}
 use Rattle.block_pointer.specs.declared.block.Block.{Block}
-use Rattle.block_pointer.specs.declared.dva.Dva.{Dva}
 use Rattle.block_pointer.specs.Copies.{dvas}
 use Rattle.raidz_io.specs.declared.vdev.Extent.{Extent}
 use Rattle.raidz_io.specs.declared.vdev.Vdev.{Vdev}
@@ -15,7 +14,7 @@ use Rattle.block_store.specs.declared.block.Asked.{Asked}
 use Rattle.block_store.specs.declared.refusal.Refusal.{Refusal}
 use Rattle.block_store.specs.declared.refusal.Refusal.TheVariants.{NoMemory, DiskFault, BadDigest}
 use Rattle.block_store.specs.Spaces.{VdevSpace}
-use Rattle.block_store.specs.Places.{IsPlaceIn, IsCopy}
+use Rattle.block_store.specs.Places.{ArePlacesIn, IsCopy}
 use Rattle.block_store.specs.Store.{Store}
 
 -- the pointer is one that its parent may have
@@ -23,11 +22,11 @@ pub record Asks (asked : Asked) (block : Block) : Type 0 where
   pub property : block.property ≡ asked.property
   pub birth : block.birth ≤ asked.birth
 
--- and its copies are in places that a block of its size may have
+-- and its copies are in places that a block of its size and number of copies may have
 pub record IsReadable (spaces : List VdevSpace) (asked : Asked) (block : Block) : Type 0 where
   pub some : 0 < block.property.sectors
   pub asks : Asks asked block
-  pub places : (place : Dva) → Contains (dvas block.copies) place → IsPlaceIn spaces block.property.sectors place
+  pub places : ArePlacesIn spaces block.property.sectors (dvas block.copies)
 
 -- these bytes were read for the pointer: it may be read, and they have its size and its digest
 pub record IsReadAs (spaces : List VdevSpace) (asked : Asked) (block : Block) (bytes : List ℕ) : Type 0 where

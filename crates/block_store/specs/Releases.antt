@@ -1,5 +1,5 @@
 -- Blocks that are given back, and what is due as a plan begins.
-use Rattle.std.specs.Prelude.{ℕ, ◌≡◌, Bool, Some, List, [], ◌∷◌, ◌++◌, map, slice_get, slice_set, Contains}
+use Rattle.std.specs.Prelude.{ℕ, ◌≡◌, Bool, Some, List, [], ◌∷◌, ◌++◌, length, map, slice_get, slice_set, Contains}
 use Rattle.std.specs.List.{flat_map}
 use Rattle.block_pointer.specs.declared.block.Block.{Block}
 use Rattle.block_pointer.specs.declared.dva.Dva.{Dva}
@@ -16,16 +16,21 @@ use Rattle.block_store.specs.Uses.{LiesOn, CopiesLieOn, Passes, IsInUse, IsSpare
 
 -- ---- blocks that are given back
 
--- a copy of a block of so many sectors
+-- one of so many copies of a block of so many sectors
 pub record CopyAt : Type 0 where
   pub sectors : ℕ
+  pub copies : ℕ
   pub place : Dva
 
-abbrev pub copies_at : ℕ → List Dva → List CopyAt
-copies_at sectors places = map (λ place. record { sectors = sectors; place = place }) places
+-- the block's copy that lies there, and those at these places
+abbrev pub copy_of_at : Block → Dva → CopyAt
+copy_of_at block place = record { sectors = block.property.sectors; copies = length (dvas block.copies); place = place }
+
+abbrev pub copies_of_at : Block → List Dva → List CopyAt
+copies_of_at block places = map (copy_of_at block) places
 
 abbrev pub copies_of : Block → List CopyAt
-copies_of block = copies_at block.property.sectors (dvas block.copies)
+copies_of block = copies_of_at block (dvas block.copies)
 
 -- all copies of these blocks, in order
 abbrev pub copies_of_all : List Block → List CopyAt

@@ -1,5 +1,5 @@
 -- The parts of a vdev.
-use Rattle.std.specs.Prelude.{ℕ, ◌≡◌, ◌+◌, ◌*◌, ◌/◌, ◌%◌, ◌<◌, ◌≤◌, ◌^◌}
+use Rattle.std.specs.Prelude.{ℕ, ◌≡◌, ◌≢◌, ◌+◌, ◌-◌, ◌*◌, ◌/◌, ◌%◌, ◌<◌, ◌≤◌, ◌^◌}
 use Rattle.block_pointer.specs.declared.dva.Dva.{Dva}
 use Rattle.raidz_map.specs.Layout.{asize}
 use Rattle.block_store.specs.declared.shape.VdevShape.{VdevShape}
@@ -26,3 +26,18 @@ pub record IsPlace (shape : VdevShape) (sectors : ℕ) (place : Dva) : Type 0 wh
   pub allocated : place.allocated ≡ asize shape.vdev.geometry sectors
   pub metaslab : metaslab_of shape place < metaslabs shape
   pub one : sector_of shape place + place.allocated ≤ metaslab_sectors shape
+
+-- The last metaslabs of a vdev, from this one on, are its meta region.
+abbrev pub first_meta : VdevShape → ℕ
+first_meta shape = metaslabs shape - shape.meta_slabs
+
+-- the vdev has a meta region, and metaslabs before it
+pub record HasRegions (shape : VdevShape) : Type 0 where
+  pub meta : 1 ≤ shape.meta_slabs
+  pub others : shape.meta_slabs < metaslabs shape
+
+-- The metaslab is in the region for a block of so many copies: blocks of the meta object set, which alone have three, go to the meta
+-- region, and all others to the metaslabs before it.
+pub record IsInRegion (shape : VdevShape) (copies metaslab : ℕ) : Type 0 where
+  pub meta : copies ≡ 3 → first_meta shape ≤ metaslab
+  pub others : copies ≢ 3 → metaslab < first_meta shape

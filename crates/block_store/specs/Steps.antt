@@ -20,9 +20,10 @@ pub record OnlyReadsBlocks (old new : Store) (missing : List ℕ) : Type 0 where
   pub stores : KeepsStored old new
   pub plans : KeepsPlans old new
 
--- the places that were chosen for the copies of one block, of so many sectors and born then
+-- the places that were chosen for copies of one block, of so many sectors, with so many copies and born then
 pub record Placed : Type 0 where
   pub sectors : ℕ
+  pub copies : ℕ
   pub birth : ℕ
   pub places : List Dva
 
@@ -30,7 +31,7 @@ pub record Placed : Type 0 where
 abbrev pub HavePlaced : List VdevSpace → List Placed → List VdevSpace → Type 0
 HavePlaced spaces [] after = after ≡ spaces
 HavePlaced spaces (block ∷ rest) after =
-    (mid : List VdevSpace) × AreChosen spaces [] block.sectors block.places mid × HavePlaced mid rest after
+    (mid : List VdevSpace) × AreChosen spaces [] block.sectors block.copies block.places mid × HavePlaced mid rest after
 
 -- Nothing was done but such reads, and new blocks were planned. What stored blocks fill is the same. More writes are due, none of
 -- them to a disk that is out. Each plan goes on, with what it had and perhaps more; so it does where a call was refused. What disks

@@ -59,11 +59,12 @@ abbrev pub GoesOut : Store → ℕ → Store → Type 0
 GoesOut old disk new =
     new.spans ≡ (if is_out old.out disk then old.spans else record { group = old.spans.group; since = slice_set old.spans.since disk old.spans.group })
 
--- each block that is known is what its pointer tells, and its copies lie apart, in places that are in use
+-- Each block that is known is what its pointer tells. Its copies lie apart, in places of their region that are in use.
 pub record ArePlaced (spaces : List VdevSpace) (marks : Marks) (contents : Contents) : Type 0 where
   pub blocks : (block : Block) (bytes : List ℕ) → contents block ≡ Some bytes → IsWrittenAs block bytes
   pub places : (block : Block) (bytes : List ℕ) (i : ℕ) (place : Dva) → contents block ≡ Some bytes → slice_get (dvas block.copies) i ≡ Some place
       → IsTaken spaces marks block.property.sectors place
+  pub regions : (block : Block) (bytes : List ℕ) → contents block ≡ Some bytes → ArePlacesIn spaces block.property.sectors (dvas block.copies)
   pub apart : (block other : Block) (bytes others : List ℕ) (i k : ℕ) (place behind : Dva) → contents block ≡ Some bytes → contents other ≡ Some others
       → slice_get (dvas block.copies) i ≡ Some place → slice_get (dvas other.copies) k ≡ Some behind
       → ((block ≡ other) × (i ≡ k)) ⊎ ArePlacesApart place behind

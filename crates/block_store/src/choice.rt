@@ -1,7 +1,7 @@
 //! The choice of places for the copies of a block.
 ghost use Rattle.std.specs.Prelude.{◌≡◌, ◌≤◌, ◌<◌, ◌^◌, ◌↔◌, ℕ, Some, IsTrue, IfSome, IfNone, IfOk, IfErr, length, slice_get};
 ghost use Rattle.block_store.specs.Places.{IsInVdev, IsInMetaslab, HasRoomIn, MayTake, NoPlaceIsLeft};
-ghost use Rattle.block_store.specs.Shapes.{metaslabs};
+ghost use Rattle.block_store.specs.Shapes.{metaslabs, IsInRegion};
 
 use crate::refusal::Refusal;
 use crate::shape::VdevShape;
@@ -47,26 +47,31 @@ fn may_take(shape: VdevShape, taken: &[Dva], vdev: usize, metaslab: usize, sprea
 }
 
 impl VdevMetaslabs {
-    /// The first metaslab that has room and may be taken.
+    /// The first metaslab of the region for blocks of so many copies that has room and may be taken.
     fn find_metaslab(
         &self,
         vdev: usize,
         sectors: u32,
+        copies: usize,
         taken: &[Dva],
         spread: Spread,
     ) -> Option<usize>
         requires { 0 < sectors }
         ensures is_there { IfSome result (λ metaslab. metaslab < metaslabs self.now.shape) }
         ensures room { IfSome result (λ metaslab. HasRoomIn self.now metaslab sectors) }
+        ensures region { IfSome result (λ metaslab. IsInRegion self.now.shape copies metaslab) }
         ensures may { IfSome result (λ metaslab.
             MayTake self.now.shape taken.now vdev metaslab spread) }
         ensures none { IfNone result ((metaslab : ℕ) → metaslab < metaslabs self.now.shape
-            → HasRoomIn self.now metaslab sectors
+            → HasRoomIn self.now metaslab sectors → IsInRegion self.now.shape copies metaslab
             → ¬ MayTake self.now.shape taken.now vdev metaslab spread) }
     {
         let shape = self.shape();
         for metaslab in 0..self.count() {
-            if self.has_room(metaslab, sectors) && may_take(shape, taken, vdev, metaslab, spread) {
+            if shape.is_in_region(copies, metaslab as u64)
+                && self.has_room(metaslab, sectors)
+                && may_take(shape, taken, vdev, metaslab, spread)
+            {
                 return Some(metaslab);
             }
         }
@@ -78,36 +83,44 @@ impl<D: Disk + Drop> BlockStore<D> {
     ghost use Rattle.std.specs.Prelude.{[], ◌⊎◌, OnErr};
     ghost use Rattle.block_store.specs.Places.{IsFound, NoneIsFound, GoesTo, HasRoomAt, IsTakenIn, AreChosen, TookSome, RanOut};
 
-    /// The first vdev and metaslab of it that has room and may be taken.
-    fn find_place(&self, sectors: u32, taken: &[Dva], spread: Spread) -> Option<(usize, usize)>
+    /// The first vdev and metaslab of its region that has room and may be taken.
+    fn find_place(
+        &self,
+        sectors: u32,
+        copies: usize,
+        taken: &[Dva],
+        spread: Spread,
+    ) -> Option<(usize, usize)>
         requires { 0 < sectors }
         ensures some { IfSome result (λ at.
-            IsFound self.now.spaces taken.now sectors spread at.0 at.1) }
-        ensures none { IfNone result (NoneIsFound self.now.spaces taken.now sectors spread) }
+            IsFound self.now.spaces taken.now sectors copies spread at.0 at.1) }
+        ensures none { IfNone result
+            (NoneIsFound self.now.spaces taken.now sectors copies spread) }
     {
         for (vdev, space) in self.spaces.iter().enumerate() {
-            if let Some(metaslab) = space.find_metaslab(vdev, sectors, taken, spread) {
+            if let Some(metaslab) = space.find_metaslab(vdev, sectors, copies, taken, spread) {
                 return Some((vdev, metaslab));
             }
         }
         None
     }
 
-    /// The vdev and the metaslab for a further copy of a block: another vdev than those that were taken where one has
-    /// room, else another metaslab where one has.
+    /// The vdev and the metaslab for a further copy, of so many, of a block, in the region for it: another vdev than those
+    /// that were taken where one has room, else another metaslab where one has.
     #[tactic(auto, using(crate::proofs::Choosing::chosen_elsewhere, crate::proofs::Choosing::chosen_apart, crate::proofs::Choosing::chosen_anywhere))]
-    fn choose(&self, sectors: u32, taken: &[Dva]) -> Option<(usize, usize)>
+    fn choose(&self, sectors: u32, copies: usize, taken: &[Dva]) -> Option<(usize, usize)>
         requires { 0 < sectors }
-        ensures some { IfSome result (λ at. GoesTo self.now.spaces taken.now sectors at.0 at.1) }
-        ensures none { IfNone result (NoPlaceIsLeft self.now.spaces sectors) }
+        ensures some { IfSome result (λ at.
+            GoesTo self.now.spaces taken.now sectors copies at.0 at.1) }
+        ensures none { IfNone result (NoPlaceIsLeft self.now.spaces sectors copies) }
     {
-        if let Some(place) = self.find_place(sectors, taken, Spread::Vdevs) {
+        if let Some(place) = self.find_place(sectors, copies, taken, Spread::Vdevs) {
             return Some(place);
         }
-        if let Some(place) = self.find_place(sectors, taken, Spread::Metaslabs) {
+        if let Some(place) = self.find_place(sectors, copies, taken, Spread::Metaslabs) {
             return Some(place);
         }
-        self.find_place(sectors, taken, Spread::Anywhere)
+        self.find_place(sectors, copies, taken, Spread::Anywhere)
     }
 
     /// The plan takes a place in a metaslab that has room. An error, that memory is short, changes nothing.
@@ -141,7 +154,7 @@ impl<D: Disk + Drop> BlockStore<D> {
         ensures due { self.new.due ≡ self.old.due }
         ensures count { IfOk result (λ places. length places.items ≡ copies) }
         ensures chosen { IfOk result (λ places.
-            AreChosen self.old.spaces [] sectors places.items self.new.spaces) }
+            AreChosen self.old.spaces [] sectors copies places.items self.new.spaces) }
         ensures some { OnErr result (TookSome self.old.spaces sectors copies self.new.spaces) }
         ensures refused { IfErr result (λ refusal. (refusal ≡ Refusal.NoMemory)
             ⊎ ((refusal ≡ Refusal.NoSpace)
@@ -149,7 +162,7 @@ impl<D: Disk + Drop> BlockStore<D> {
     {
         let mut places = ArrayVec::new();
         for _copy in 0..copies {
-            let Some((vdev, metaslab)) = self.choose(sectors, places.as_slice()) else {
+            let Some((vdev, metaslab)) = self.choose(sectors, copies, places.as_slice()) else {
                 return Err(Refusal::NoSpace);
             };
             let place = self.take(vdev, metaslab, sectors)?;

@@ -41,11 +41,12 @@ const MAX_DISK: u64 = 1 << 43;
 const LABEL_BYTES: u64 = DATA_START + 2 * DISK_UNIT;
 
 /// A vdev of a store that is to be made. A metaslab has 2 to the power `metaslab_shift` sectors, and the shift is
-/// from 12 to 20.
+/// from 12 to 20. The last `meta_slabs` metaslabs, at least one and not all, are for the blocks of the meta object set.
 #[derive(Debug, Clone, Copy)]
 pub struct VdevConfig {
     pub geometry: Geometry,
     pub metaslab_shift: u32,
+    pub meta_slabs: u64,
 }
 
 /// How many sectors for blocks a disk of that size in bytes has, if it is neither too small nor too large.
@@ -103,9 +104,9 @@ fn shape_of<D: Disk + Drop>(
         },
         child_sectors,
         metaslab_shift: config.metaslab_shift,
+        meta_slabs: config.meta_slabs,
     };
-    let metaslabs = shape.metaslabs();
-    if 1 <= metaslabs && metaslabs <= MAX_METASLABS {
+    if shape.has_regions() && shape.metaslabs() <= MAX_METASLABS {
         Some(shape)
     } else {
         None

@@ -2,15 +2,16 @@
 ghost use Rattle.std.specs.Prelude.{◌≡◌, ◌⊎◌, ◌↔◌, ◌+◌, ◌<◌, ◌≤◌, ℕ, Bool, false, List, [], length, replicate, OnOk, OnErr, IfOk, IfErr, IsTrue, Contains};
 ghost use Rattle.std.specs.Bool.{OnTrue, OnFalse};
 ghost use Rattle.block_pointer.specs.declared.block.Block.{Block};
+ghost use Rattle.block_pointer.specs.Copies.{dvas};
 ghost use Rattle.metaslab.specs.State.{State, InUse};
 ghost use Rattle.block_store.specs.Blocks.{Contents, AreDistinct};
 ghost use Rattle.block_store.specs.Config.{IsAllowedSize, sectors_of, size_of};
 ghost use Rattle.block_store.specs.Opened.{FitsDisks, LieOn};
 ghost use Rattle.block_store.specs.Opened.{AreFound, CannotTakeIn, Fills, HasFreePlace};
 ghost use Rattle.block_store.specs.Opened.{TakeIn, TakeInPart, TakesIn};
-ghost use Rattle.block_store.specs.Places.{shapes_of, filled, planned, AreEmpty, IsPlaceIn};
+ghost use Rattle.block_store.specs.Places.{shapes_of, filled, planned, AreEmpty, IsPlaceFor};
 ghost use Rattle.block_store.specs.Plans.{KeepsPlans};
-ghost use Rattle.block_store.specs.Releases.{copies_at, copies_of, copies_of_all};
+ghost use Rattle.block_store.specs.Releases.{copy_of_at, copies_of_at, copies_of, copies_of_all};
 ghost use Rattle.block_store.specs.Store.{Keeps, KeepsStored, Stores};
 ghost use Rattle.block_store.specs.Uses.{CopiesLieOn, Passes, IsInUse};
 
@@ -63,12 +64,11 @@ fn fits_disks<D: Disk + Drop>(disks: &DiskArray<D>, first: usize, shape: VdevSha
     ensures { IsTrue result ↔ ((shape.vdev.first ≡ first) × FitsDisks disks.now.starts shape) }
 {
     let children = shape.vdev.geometry.children as usize;
-    let metaslabs = shape.metaslabs();
     shape.vdev.first == first
         && children <= disks.len() - first
         && have_sectors(disks, first, first + children, shape.child_sectors)
-        && 1 <= metaslabs
-        && metaslabs <= MAX_METASLABS
+        && shape.has_regions()
+        && shape.metaslabs() <= MAX_METASLABS
 }
 
 /// Whether the vdevs take all disks in order, and fit them.
@@ -107,7 +107,8 @@ impl<D: Disk + Drop> BlockStore<D> {
     /// A store over disks that were used before, with the vdevs of the pool that is on them. No block is taken in, and no plan
     /// begun. The disks that are marked are out from the start, and may lack every block; what stands for a disk that is away
     /// says a size all the same, and is never called. `BadConfig` where the vdevs don't take all disks in order, a disk is too
-    /// small for its vdev or too large, or there isn't one mark for each disk.
+    /// small for its vdev or too large, a vdev has too many metaslabs or none outside its meta region, or there isn't one
+    /// mark for each disk.
     pub fn opened(
         alloc: Global,
         disks: DiskArray<D>,
@@ -164,7 +165,7 @@ impl<D: Disk + Drop> BlockStore<D> {
     ghost use Rattle.block_store.specs.Plans.{Plans};
 
     /// Takes in blocks that are on the disks already, each copy at the place that its pointer says: no plan places a block
-    /// there from now on. `BadPointer` where a copy is in no place of the pool, or not all its sectors are free as its turn
+    /// there from now on. `BadPointer` where a copy is in no place of its region, or not all its sectors are free as its turn
     /// comes, as where two copies share one. After an error some copies were taken in.
     pub fn take_in(&mut self, blocks: &[Block]) -> Result<(), Refusal>
         ensures disks { self.new.disks ≡ self.old.disks }
@@ -247,71 +248,74 @@ impl<D: Disk + Drop> BlockStore<D> {
             (copies_of block.now) self.new.spaces)) }
     {
         let places = places_of(block.copies);
-        self.take_in_places(places.as_slice(), block.property.sectors)
+        self.take_in_places(block, places.as_slice())
     }
 
-    /// Takes in copies of a block of so many sectors.
-    fn take_in_places(&mut self, places: &[Dva], sectors: u32) -> Result<(), Refusal>
+    /// Takes in copies of a block that lie at these places.
+    fn take_in_places(&mut self, block: &Block, places: &[Dva]) -> Result<(), Refusal>
         ensures disks { self.new.disks ≡ self.old.disks }
         ensures out { self.new.out ≡ self.old.out }
         ensures spans { self.new.spans ≡ self.old.spans }
         ensures stray { self.new.stray ≡ self.old.stray }
         ensures due { self.new.due ≡ self.old.due }
         ensures taken { OnOk result
-            (TakeIn self.old.spaces (copies_at sectors places.now) self.new.spaces) }
+            (TakeIn self.old.spaces (copies_of_at block.now places.now) self.new.spaces) }
         ensures some { OnErr result
-            (TakeInPart self.old.spaces (copies_at sectors places.now) self.new.spaces) }
+            (TakeInPart self.old.spaces (copies_of_at block.now places.now) self.new.spaces) }
         ensures refused { IfErr result (λ refusal. (refusal ≡ Refusal.NoMemory)
             ⊎ ((refusal ≡ Refusal.BadPointer) × CannotTakeIn self.old.spaces
-            (copies_at sectors places.now) self.new.spaces)) }
+            (copies_of_at block.now places.now) self.new.spaces)) }
     {
         for place in places {
-            self.take_in_place(*place, sectors)?;
+            self.take_in_place(block, *place)?;
         }
         Ok(())
     }
 
-    /// Takes in a copy of a block of so many sectors. An error changes nothing.
-    fn take_in_place(&mut self, place: Dva, sectors: u32) -> Result<(), Refusal>
+    /// Takes in the copy of a block that lies there. An error changes nothing.
+    fn take_in_place(&mut self, block: &Block, place: Dva) -> Result<(), Refusal>
         ensures disks { self.new.disks ≡ self.old.disks }
         ensures out { self.new.out ≡ self.old.out }
         ensures spans { self.new.spans ≡ self.old.spans }
         ensures stray { self.new.stray ≡ self.old.stray }
         ensures due { self.new.due ≡ self.old.due }
         ensures taken { OnOk result (TakesIn self.old.spaces
-            (record { sectors = sectors; place = place }) self.new.spaces) }
+            (copy_of_at block.now place) self.new.spaces) }
         ensures err { OnErr result (self.new.spaces ≡ self.old.spaces) }
         ensures refused { IfErr result (λ refusal. (refusal ≡ Refusal.NoMemory)
             ⊎ ((refusal ≡ Refusal.BadPointer) × ¬ HasFreePlace self.old.spaces
-            (record { sectors = sectors; place = place }))) }
+            (copy_of_at block.now place))) }
     {
-        if sectors == 0 || !self.is_place(place, sectors) {
+        let copies = places_of(block.copies).len();
+        let sectors = block.property.sectors;
+        if sectors == 0 || !self.is_place_for(sectors, copies, place) {
             return Err(Refusal::BadPointer);
         }
-        if !self.fill(place, sectors)? {
+        if !self.fill(block, place)? {
             return Err(Refusal::BadPointer);
         }
         Ok(())
     }
 
-    /// Takes in a place of the pool, if all its sectors are free. Neither `false` nor an error, that memory is short,
-    /// changes anything.
-    fn fill(&mut self, place: Dva, sectors: u32) -> Result<bool, AllocError>
-        requires some { 0 < sectors }
-        requires place { IsPlaceIn self.old.spaces sectors place }
+    /// Takes in a place of the block's region, if all its sectors are free. Neither `false` nor an error, that memory is
+    /// short, changes anything.
+    fn fill(&mut self, block: &Block, place: Dva) -> Result<bool, AllocError>
+        requires some { 0 < block.now.property.sectors }
+        requires place { IsPlaceFor self.old.spaces block.now.property.sectors
+            (length (dvas block.now.copies)) place }
         ensures disks { self.new.disks ≡ self.old.disks }
         ensures out { self.new.out ≡ self.old.out }
         ensures spans { self.new.spans ≡ self.old.spans }
         ensures stray { self.new.stray ≡ self.old.stray }
         ensures due { self.new.due ≡ self.old.due }
         ensures taken { IfOk result (λ is_free. OnTrue is_free (TakesIn self.old.spaces
-            (record { sectors = sectors; place = place }) self.new.spaces)) }
+            (copy_of_at block.now place) self.new.spaces)) }
         ensures free { IfOk result (λ is_free. HasFreePlace self.old.spaces
-            (record { sectors = sectors; place = place }) → IsTrue is_free) }
+            (copy_of_at block.now place) → IsTrue is_free) }
         ensures left { IfOk result (λ is_free.
             OnFalse is_free (self.new.spaces ≡ self.old.spaces)) }
         ensures err { OnErr result (self.new.spaces ≡ self.old.spaces) }
     {
-        self.spaces[place.vdev as usize].take_in(sectors, place)
+        self.spaces[place.vdev as usize].take_in(block.property.sectors, place)
     }
 }

@@ -183,9 +183,10 @@ impl<D: Disk + Drop> BlockStore<D> {
     }
 
     /// Adds a block to the plan: it places so many copies, each in another vdev while one has room, then in other
-    /// metaslabs, then anywhere apart, and the writes that store them are due. None is to a disk that is out. A block is
-    /// born in the plan's group or later; one that is not makes the plan's group an earlier one.
-    /// Where no metaslab has room for a copy the answer is `NoSpace`.
+    /// metaslabs, then anywhere apart, and the writes that store them are due. None is to a disk that is out. A block of
+    /// three copies is one of the meta object set, and goes to the meta region; all others go to the metaslabs before it.
+    /// A block is born in the plan's group or later; one that is not makes the plan's group an earlier one.
+    /// Where no metaslab of the region has room for a copy the answer is `NoSpace`.
     pub fn plan_write(
         &mut self,
         alloc: Global,
@@ -207,7 +208,8 @@ impl<D: Disk + Drop> BlockStore<D> {
         // The block is planned, and all others stay.
         ensures planned { IfOk result (λ block. PlansToo self.old self.new block bytes.now) }
         ensures places { IfOk result (λ block.
-            AreChosen self.old.spaces [] new.property.sectors (dvas block.copies) self.new.spaces) }
+            AreChosen self.old.spaces [] new.property.sectors (count_of copies)
+            (dvas block.copies) self.new.spaces) }
         ensures due { OnOk result (MoreIsDue self.old self.new) }
         ensures stray { OnOk result (self.new.stray ≡ self.old.stray) }
         ensures refused { IfErr result (λ refusal. (refusal ≡ Refusal.NoMemory)
@@ -262,7 +264,8 @@ impl<D: Disk + Drop> BlockStore<D> {
         ensures fits { IfOk result FitsBlock }
         ensures planned { IfOk result (λ block. PlansToo self.old self.new block bytes.now) }
         ensures places { IfOk result (λ block.
-            AreChosen self.old.spaces [] new.property.sectors (dvas block.copies) self.new.spaces) }
+            AreChosen self.old.spaces [] new.property.sectors (count_of copies)
+            (dvas block.copies) self.new.spaces) }
         ensures due { OnOk result (MoreIsDue self.old self.new) }
         ensures refused { IfErr result (λ refusal. (refusal ≡ Refusal.NoMemory)
             ⊎ ((refusal ≡ Refusal.NoSpace)

@@ -24,7 +24,7 @@ impl<D: Disk + Drop> BlockStore<D> {
     /// The bytes of a block, with the disks that are named taken as missing. The copies are tried in order, each with
     /// its parity; where none can be read the last one's refusal is the answer: `DiskFault` where more of its columns
     /// are lost than its vdev has parities, on disks that are absent or fail in this read, and else `BadDigest`. A
-    /// pointer that is not what its parent asks, or whose copies are in no places of the pool, is `BadPointer`, and
+    /// pointer that is not what its parent asks, or whose copies are in no places of their region, is `BadPointer`, and
     /// nothing is read.
     pub fn read(
         &mut self,
@@ -104,10 +104,10 @@ fn is_fault(read: &Result<Vec<u8>, Refusal>) -> bool
 }
 
 impl<D: Disk + Drop> BlockStore<D> {
-    ghost use Rattle.block_store.specs.Places.{IsPlaceIn, ArePlacesIn};
+    ghost use Rattle.block_store.specs.Places.{IsPlaceIn, IsPlaceFor, ArePlacesIn};
     ghost use Rattle.block_store.specs.Reading.{IsCopyRead, IsReadUpTo};
 
-    /// Whether the pointer is what its parent asks, and its copies are in places of the pool.
+    /// Whether the pointer is what its parent asks, and its copies are in places of their region.
     fn is_readable(&self, block: &Block, asked: Asked) -> bool
         ensures { IsTrue result ↔ IsReadable self.now.spaces asked block.now }
     {
@@ -122,7 +122,7 @@ impl<D: Disk + Drop> BlockStore<D> {
         ensures { IsTrue result ↔ ArePlacesIn self.now.spaces sectors places.now }
     {
         for place in places {
-            if !self.is_place(*place, sectors) {
+            if !self.is_place_for(sectors, places.len(), *place) {
                 return false;
             }
         }
@@ -135,6 +135,16 @@ impl<D: Disk + Drop> BlockStore<D> {
     {
         match self.spaces.get(place.vdev as usize) {
             Some(space) => space.shape().is_place(sectors, place),
+            None => false,
+        }
+    }
+
+    /// Whether it is also in the region for blocks of so many copies.
+    pub(crate) fn is_place_for(&self, sectors: u32, copies: usize, place: Dva) -> bool
+        ensures { IsTrue result ↔ IsPlaceFor self.now.spaces sectors copies place }
+    {
+        match self.spaces.get(place.vdev as usize) {
+            Some(space) => space.shape().is_place_for(sectors, copies, place),
             None => false,
         }
     }

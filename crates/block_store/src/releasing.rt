@@ -6,7 +6,7 @@ ghost use Rattle.block_store.specs.Blocks.{Contents, AreDistinct, AreStored};
 ghost use Rattle.block_store.specs.Places.{shapes_of, filled, planned, HaveMarks, IsPlaceIn};
 ghost use Rattle.block_store.specs.Plans.{Plans};
 ghost use Rattle.block_store.specs.Releases.{AreSettledIn, AreSettledInSome, AreSpared, AreAllInUse};
-ghost use Rattle.block_store.specs.Releases.{copies_at, copies_of, copies_of_all, IsReleased};
+ghost use Rattle.block_store.specs.Releases.{copy_of_at, copies_of_at, copies_of, copies_of_all, IsReleased};
 ghost use Rattle.block_store.specs.Releases.{AreReleased, AreReleasedInPart, IsNotReleasable};
 ghost use Rattle.block_store.specs.Store.{Keeps, KeepsStored, Stores, in_group};
 ghost use Rattle.block_store.specs.Uses.{LiesOn, CopiesLieOn, Passes, IsInUse, SettlesTo};
@@ -157,64 +157,65 @@ impl<D: Disk + Drop> BlockStore<D> {
             (copies_of block.now) group self.new.spaces)) }
     {
         let places = places_of(block.copies);
-        self.release_places(places.as_slice(), block.property.sectors, group)
+        self.release_places(block, places.as_slice(), group)
     }
 
-    /// Gives copies of a block of so many sectors back.
-    fn release_places(&mut self, places: &[Dva], sectors: u32, group: u64) -> Result<(), Refusal>
+    /// Gives copies of a block that lie at these places back.
+    fn release_places(&mut self, block: &Block, places: &[Dva], group: u64) -> Result<(), Refusal>
         ensures disks { self.new.disks ≡ self.old.disks }
         ensures out { self.new.out ≡ self.old.out }
         ensures spans { self.new.spans ≡ self.old.spans }
         ensures stray { self.new.stray ≡ self.old.stray }
         ensures due { self.new.due ≡ self.old.due }
         ensures released { OnOk result
-            (AreReleased self.old.spaces (copies_at sectors places.now) group self.new.spaces) }
+            (AreReleased self.old.spaces (copies_of_at block.now places.now) group
+            self.new.spaces) }
         ensures some { OnErr result (AreReleasedInPart self.old.spaces
-            (copies_at sectors places.now) group self.new.spaces) }
+            (copies_of_at block.now places.now) group self.new.spaces) }
         ensures refused { IfErr result (λ refusal. (refusal ≡ Refusal.NoMemory)
             ⊎ ((refusal ≡ Refusal.BadPointer) × IsNotReleasable self.old.spaces
-            (copies_at sectors places.now) group self.new.spaces)) }
+            (copies_of_at block.now places.now) group self.new.spaces)) }
     {
         for place in places {
-            self.release_place(*place, sectors, group)?;
+            self.release_place(block, *place, group)?;
         }
         Ok(())
     }
 
-    /// Gives a copy of a block of so many sectors back. An error changes nothing.
-    fn release_place(&mut self, place: Dva, sectors: u32, group: u64) -> Result<(), Refusal>
+    /// Gives the copy of a block that lies there back. An error changes nothing.
+    fn release_place(&mut self, block: &Block, place: Dva, group: u64) -> Result<(), Refusal>
         ensures disks { self.new.disks ≡ self.old.disks }
         ensures out { self.new.out ≡ self.old.out }
         ensures spans { self.new.spans ≡ self.old.spans }
         ensures stray { self.new.stray ≡ self.old.stray }
         ensures due { self.new.due ≡ self.old.due }
         ensures released { OnOk result (IsReleased self.old.spaces
-            (record { sectors = sectors; place = place }) group self.new.spaces) }
+            (copy_of_at block.now place) group self.new.spaces) }
         ensures err { OnErr result (self.new.spaces ≡ self.old.spaces) }
         ensures refused { IfErr result (λ refusal. (refusal ≡ Refusal.NoMemory)
             ⊎ ((refusal ≡ Refusal.BadPointer)
-            × ¬ LiesOn IsInUse self.old.spaces planned sectors place)) }
+            × ¬ LiesOn IsInUse self.old.spaces planned block.now.property.sectors place)) }
     {
-        if !self.is_in_use(place, sectors) {
+        if !self.is_in_use(place, block.property.sectors) {
             return Err(Refusal::BadPointer);
         }
-        self.give_back(place, sectors, group)?;
+        self.give_back(block, place, group)?;
         Ok(())
     }
 
     /// Gives back a place that is in use. An error, that memory is short, changes nothing.
-    fn give_back(&mut self, place: Dva, sectors: u32, group: u64) -> Result<(), AllocError>
-        requires { LiesOn IsInUse self.old.spaces planned sectors place }
+    fn give_back(&mut self, block: &Block, place: Dva, group: u64) -> Result<(), AllocError>
+        requires { LiesOn IsInUse self.old.spaces planned block.now.property.sectors place }
         ensures disks { self.new.disks ≡ self.old.disks }
         ensures out { self.new.out ≡ self.old.out }
         ensures spans { self.new.spans ≡ self.old.spans }
         ensures stray { self.new.stray ≡ self.old.stray }
         ensures due { self.new.due ≡ self.old.due }
         ensures released { OnOk result (IsReleased self.old.spaces
-            (record { sectors = sectors; place = place }) group self.new.spaces) }
+            (copy_of_at block.now place) group self.new.spaces) }
         ensures err { OnErr result (self.new.spaces ≡ self.old.spaces) }
     {
-        self.spaces[place.vdev as usize].release(sectors, place, group)
+        self.spaces[place.vdev as usize].release(block.property.sectors, place, group)
     }
 
     /// Whether a copy of a block of so many data sectors may lie there, and all sectors of the place are in use.

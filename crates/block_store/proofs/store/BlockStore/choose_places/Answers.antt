@@ -8,11 +8,11 @@ use Rattle.block_store.proofs.store.BlockStore.choose_places.Goals as goal
 pub loop-copy-preserved : goal.loop-copy-preserved
 loop-copy-preserved g c =
     let before = c.loop-copy.invariant in
-    let C : List Dva → Type 0 = λ taken. IsChosen c.loop-copy.self.spaces taken c.args.sectors c.in_ok-place.place in
+    let C : List Dva → Type 0 = λ taken. IsChosen c.loop-copy.self.spaces taken c.args.sectors c.args.copies c.in_ok-place.place in
     let took = c.in_ok-place.ensures.taken in
-    let chosen : IsChosen c.loop-copy.self.spaces c.loop-copy.places.items c.args.sectors c.in_ok-place.place =
-    subst C c.as_slice.ensures.value (is_chosen _ _ _ _ _ _ _ c.in-Some.ensures.some took) in
-    let A : List Dva → Type 0 = λ places. AreChosen c.args.self.now.spaces [] c.args.sectors places c.take.new.self.spaces in (
+    let chosen : IsChosen c.loop-copy.self.spaces c.loop-copy.places.items c.args.sectors c.args.copies c.in_ok-place.place =
+    subst C c.as_slice.ensures.value (is_chosen _ _ _ _ _ _ _ _ c.in-Some.ensures.some took) in
+    let A : List Dva → Type 0 = λ places. AreChosen c.args.self.now.spaces [] c.args.sectors c.args.copies places c.take.new.self.spaces in (
       c.take.ensures.disks ∙ before.0,
       c.take.ensures.out ∙ before.1,
       c.take.ensures.spans ∙ before.2,
@@ -20,5 +20,5 @@ loop-copy-preserved g c =
       c.take.ensures.stray ∙ before.4,
       ap length c.push.ensures.items ∙ length-append c.loop-copy.places.items (c.in_ok-place.place ∷ []) ∙ ap (λ n. n + 1) before.5,
       subst A (sym c.push.ensures.items)
-          (AreChosen-push c.args.self.now.spaces [] c.args.sectors c.loop-copy.places.items c.loop-copy.self.spaces c.in_ok-place.place c.take.new.self.spaces before.6 chosen took.taken),
+          (AreChosen-push c.args.self.now.spaces [] c.args.sectors c.args.copies c.loop-copy.places.items c.loop-copy.self.spaces c.in_ok-place.place c.take.new.self.spaces before.6 chosen took.taken),
     )

@@ -2,28 +2,32 @@ use Rattle.std.proofs.Common.{◌≡◌, ◌<◌, length, sym, Some, IfOk, slice
 use Rattle.std.specs.Prelude.{slice_set, IsTrue}
 use Rattle.std.specs.Bool.{OnTrue}
 use Rattle.std.proofs.lemmas.Option.{slice_get_within}
+use Rattle.block_pointer.specs.Copies.{dvas}
 use Rattle.block_store.specs.Opened.{HasFreePlace, TakesIn}
-use Rattle.block_store.specs.Places.{IsPlaceIn}
+use Rattle.block_store.specs.Places.{IsPlaceFor}
+use Rattle.block_store.specs.Releases.{copy_of_at}
 use Rattle.block_store.specs.Spaces.{VdevSpace}
 use Rattle.block_store.specs.Store.{Store}
 use Rattle.block_store.proofs.Choosing.{at_item}
-use Rattle.block_store.proofs.TakenEach.{place_in, takes_in, was_free}
+use Rattle.block_store.proofs.TakenEach.{place_in, region_in, takes_in, was_free}
 use Rattle.block_store.proofs.Taking.{laid_out_too, map-set_same}
 use Rattle.block_store.proofs.store.BlockStore.fill.Goals as goal
 
 pub take_in-requires-clause-is_place : goal.take_in-requires-clause-is_place
 take_in-requires-clause-is_place g c =
-    let is_in : IsPlaceIn c.self.inside.spaces.items c.args.sectors c.args.place =
-    subst (λ (s : Store). IsPlaceIn s.spaces c.args.sectors c.args.place) (sym c.self.view_is) c.requires.place in
+    let is_for : IsPlaceFor c.self.inside.spaces.items c.args.block.now.property.sectors (length (dvas c.args.block.now.copies)) c.args.place =
+    subst (λ (s : Store). IsPlaceFor s.spaces c.args.block.now.property.sectors (length (dvas c.args.block.now.copies)) c.args.place) (sym c.self.view_is) c.requires.place in
+    let is_in = is_for.is_in in
     let within : c.args.place.vdev < length c.self.inside.spaces.items = slice_get_within c.self.inside.spaces.items c.args.place.vdev is_in.space is_in.found in
     let at : slice_get c.self.inside.spaces.items c.args.place.vdev ≡ Some c.index_mut.result.now =
     at_item c.self.inside.spaces.items c.args.place.vdev c.index_mut.result.now within c.index_mut.ensures.value in
-    place_in c.self.inside.spaces.items c.args.sectors c.args.place c.index_mut.result.now at is_in
+    place_in c.self.inside.spaces.items c.args.block.now.property.sectors c.args.place c.index_mut.result.now at is_in
 
 pub invariant_of-self : goal.invariant_of-self
 invariant_of-self g c =
-    let is_in : IsPlaceIn c.self.inside.spaces.items c.args.sectors c.args.place =
-    subst (λ (s : Store). IsPlaceIn s.spaces c.args.sectors c.args.place) (sym c.self.view_is) c.requires.place in
+    let is_for : IsPlaceFor c.self.inside.spaces.items c.args.block.now.property.sectors (length (dvas c.args.block.now.copies)) c.args.place =
+    subst (λ (s : Store). IsPlaceFor s.spaces c.args.block.now.property.sectors (length (dvas c.args.block.now.copies)) c.args.place) (sym c.self.view_is) c.requires.place in
+    let is_in = is_for.is_in in
     let within : c.args.place.vdev < length c.self.inside.spaces.items = slice_get_within c.self.inside.spaces.items c.args.place.vdev is_in.space is_in.found in
     let at : slice_get c.self.inside.spaces.items c.args.place.vdev ≡ Some c.index_mut.result.now =
     at_item c.self.inside.spaces.items c.args.place.vdev c.index_mut.result.now within c.index_mut.ensures.value in
@@ -39,24 +43,28 @@ invariant_of-self g c =
 
 pub returns-clause-taken : goal.returns-clause-taken
 returns-clause-taken g c =
-    let is_in : IsPlaceIn c.self.inside.spaces.items c.args.sectors c.args.place =
-    subst (λ (s : Store). IsPlaceIn s.spaces c.args.sectors c.args.place) (sym c.self.view_is) c.requires.place in
+    let is_for : IsPlaceFor c.self.inside.spaces.items c.args.block.now.property.sectors (length (dvas c.args.block.now.copies)) c.args.place =
+    subst (λ (s : Store). IsPlaceFor s.spaces c.args.block.now.property.sectors (length (dvas c.args.block.now.copies)) c.args.place) (sym c.self.view_is) c.requires.place in
+    let is_in = is_for.is_in in
     let within : c.args.place.vdev < length c.self.inside.spaces.items = slice_get_within c.self.inside.spaces.items c.args.place.vdev is_in.space is_in.found in
     let at : slice_get c.self.inside.spaces.items c.args.place.vdev ≡ Some c.index_mut.result.now =
     at_item c.self.inside.spaces.items c.args.place.vdev c.index_mut.result.now within c.index_mut.ensures.value in
     subst (λ (s : Store). IfOk c.take_in.result (λ is_free. OnTrue is_free
-    (TakesIn s.spaces (record { sectors = c.args.sectors; place = c.args.place }) (slice_set c.self.inside.spaces.items c.args.place.vdev c.take_in.new.self))))
+    (TakesIn s.spaces (copy_of_at c.args.block.now c.args.place) (slice_set c.self.inside.spaces.items c.args.place.vdev c.take_in.new.self))))
     c.self.view_is
-    (takes_in c.self.inside.spaces.items c.args.sectors c.args.place c.index_mut.result.now c.take_in.new.self c.take_in.result c.requires.some at
-    (place_in c.self.inside.spaces.items c.args.sectors c.args.place c.index_mut.result.now at is_in) c.take_in.ensures.kept c.take_in.ensures.planned c.take_in.ensures.rest)
+    (takes_in c.self.inside.spaces.items c.args.block.now c.args.place c.index_mut.result.now c.take_in.new.self c.take_in.result c.requires.some at
+    (place_in c.self.inside.spaces.items c.args.block.now.property.sectors c.args.place c.index_mut.result.now at is_in)
+    (region_in c.self.inside.spaces.items c.args.block.now.property.sectors (length (dvas c.args.block.now.copies)) c.args.place c.index_mut.result.now at is_for)
+    c.take_in.ensures.kept c.take_in.ensures.planned c.take_in.ensures.rest)
 
 pub returns-clause-free : goal.returns-clause-free
 returns-clause-free g c =
-    let is_in : IsPlaceIn c.self.inside.spaces.items c.args.sectors c.args.place =
-    subst (λ (s : Store). IsPlaceIn s.spaces c.args.sectors c.args.place) (sym c.self.view_is) c.requires.place in
+    let is_for : IsPlaceFor c.self.inside.spaces.items c.args.block.now.property.sectors (length (dvas c.args.block.now.copies)) c.args.place =
+    subst (λ (s : Store). IsPlaceFor s.spaces c.args.block.now.property.sectors (length (dvas c.args.block.now.copies)) c.args.place) (sym c.self.view_is) c.requires.place in
+    let is_in = is_for.is_in in
     let within : c.args.place.vdev < length c.self.inside.spaces.items = slice_get_within c.self.inside.spaces.items c.args.place.vdev is_in.space is_in.found in
     let at : slice_get c.self.inside.spaces.items c.args.place.vdev ≡ Some c.index_mut.result.now =
     at_item c.self.inside.spaces.items c.args.place.vdev c.index_mut.result.now within c.index_mut.ensures.value in
-    subst (λ (s : Store). IfOk c.take_in.result (λ is_free. HasFreePlace s.spaces (record { sectors = c.args.sectors; place = c.args.place }) → IsTrue is_free))
+    subst (λ (s : Store). IfOk c.take_in.result (λ is_free. HasFreePlace s.spaces (copy_of_at c.args.block.now c.args.place) → IsTrue is_free))
     c.self.view_is
-    (was_free c.self.inside.spaces.items c.args.sectors c.args.place c.index_mut.result.now c.take_in.result at c.take_in.ensures.free)
+    (was_free c.self.inside.spaces.items c.args.block.now c.args.place c.index_mut.result.now c.take_in.result at c.take_in.ensures.free)

@@ -8,7 +8,10 @@ returns-in-Some-clause-some g c =
     let same : c.args.self.now.spaces ≡ c.deref-space-items.result.now = search rules in
     ap (λ s. slice_get s c.loop-vdev.vdev) same ∙ at_item c.deref-space-items.result.now c.loop-vdev.vdev c.space-item.result (search rules) c.space-item.is in
     record {
-      room = record { space = c.space-item.result; found = at; is_there = c.in-Some.ensures.is_there; room = c.in-Some.ensures.room };
+      there = record {
+        room = record { space = c.space-item.result; found = at; is_there = c.in-Some.ensures.is_there; room = c.in-Some.ensures.room };
+        region = c.in-Some.ensures.region;
+      };
       may = c.in-Some.ensures.may;
     }
 
@@ -17,9 +20,9 @@ loop-vdev-preserved g c =
     let at : slice_get c.args.self.now.spaces c.loop-vdev.vdev ≡ Some c.space-item.result =
     let same : c.args.self.now.spaces ≡ c.deref-space-items.result.now = search rules in
     ap (λ s. slice_get s c.loop-vdev.vdev) same ∙ at_item c.deref-space-items.result.now c.loop-vdev.vdev c.space-item.result (search rules) c.space-item.is in
-    none_of_one_more c.args.self.now.spaces c.args.taken.now c.args.sectors c.args.spread c.loop-vdev.vdev c.space-item.result
+    none_of_one_more c.args.self.now.spaces c.args.taken.now c.args.sectors c.args.copies c.args.spread c.loop-vdev.vdev c.space-item.result
     c.loop-vdev.invariant at c.in_default.ensures.none
 
 pub returns-clause-none : goal.returns-clause-none
 returns-clause-none g c =
-    none_at_all c.args.self.now.spaces c.args.taken.now c.args.sectors c.args.spread c.loop-vdev.vdev (search rules) c.loop-vdev.invariant
+    none_at_all c.args.self.now.spaces c.args.taken.now c.args.sectors c.args.copies c.args.spread c.loop-vdev.vdev (search rules) c.loop-vdev.invariant

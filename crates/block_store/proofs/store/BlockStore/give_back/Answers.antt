@@ -4,7 +4,7 @@ use Rattle.std.proofs.lemmas.Option.{slice_get_within}
 use Rattle.std.proofs.lemmas.Result.{on_ok_weaker}
 use Rattle.block_store.specs.Spaces.{VdevSpace}
 use Rattle.block_store.specs.Places.{planned}
-use Rattle.block_store.specs.Releases.{IsReleased}
+use Rattle.block_store.specs.Releases.{copy_of_at, IsReleased}
 use Rattle.block_store.specs.Store.{Store}
 use Rattle.block_store.specs.Uses.{LiesOn, IsInUse}
 use Rattle.block_store.proofs.Choosing.{at_item}
@@ -14,26 +14,26 @@ use Rattle.block_store.proofs.store.BlockStore.give_back.Goals as goal
 
 pub release-requires-clause-is_place : goal.release-requires-clause-is_place
 release-requires-clause-is_place g c =
-    let lies : LiesOn IsInUse c.self.inside.spaces.items planned c.args.sectors c.args.place =
-    subst (λ (s : Store). LiesOn IsInUse s.spaces planned c.args.sectors c.args.place) (sym c.self.view_is) c.requires in
+    let lies : LiesOn IsInUse c.self.inside.spaces.items planned c.args.block.now.property.sectors c.args.place =
+    subst (λ (s : Store). LiesOn IsInUse s.spaces planned c.args.block.now.property.sectors c.args.place) (sym c.self.view_is) c.requires in
     let within : c.args.place.vdev < length c.self.inside.spaces.items = slice_get_within c.self.inside.spaces.items c.args.place.vdev lies.space lies.found in
     let at : slice_get c.self.inside.spaces.items c.args.place.vdev ≡ Some c.index_mut.result.now =
     at_item c.self.inside.spaces.items c.args.place.vdev c.index_mut.result.now within c.index_mut.ensures.value in
-    (lies_at c.self.inside.spaces.items c.args.sectors c.args.place c.index_mut.result.now at lies).0
+    (lies_at c.self.inside.spaces.items c.args.block.now.property.sectors c.args.place c.index_mut.result.now at lies).0
 
 pub release-requires-clause-in_use : goal.release-requires-clause-in_use
 release-requires-clause-in_use g c =
-    let lies : LiesOn IsInUse c.self.inside.spaces.items planned c.args.sectors c.args.place =
-    subst (λ (s : Store). LiesOn IsInUse s.spaces planned c.args.sectors c.args.place) (sym c.self.view_is) c.requires in
+    let lies : LiesOn IsInUse c.self.inside.spaces.items planned c.args.block.now.property.sectors c.args.place =
+    subst (λ (s : Store). LiesOn IsInUse s.spaces planned c.args.block.now.property.sectors c.args.place) (sym c.self.view_is) c.requires in
     let within : c.args.place.vdev < length c.self.inside.spaces.items = slice_get_within c.self.inside.spaces.items c.args.place.vdev lies.space lies.found in
     let at : slice_get c.self.inside.spaces.items c.args.place.vdev ≡ Some c.index_mut.result.now =
     at_item c.self.inside.spaces.items c.args.place.vdev c.index_mut.result.now within c.index_mut.ensures.value in
-    (lies_at c.self.inside.spaces.items c.args.sectors c.args.place c.index_mut.result.now at lies).1
+    (lies_at c.self.inside.spaces.items c.args.block.now.property.sectors c.args.place c.index_mut.result.now at lies).1
 
 pub invariant_of-self : goal.invariant_of-self
 invariant_of-self g c =
-    let lies : LiesOn IsInUse c.self.inside.spaces.items planned c.args.sectors c.args.place =
-    subst (λ (s : Store). LiesOn IsInUse s.spaces planned c.args.sectors c.args.place) (sym c.self.view_is) c.requires in
+    let lies : LiesOn IsInUse c.self.inside.spaces.items planned c.args.block.now.property.sectors c.args.place =
+    subst (λ (s : Store). LiesOn IsInUse s.spaces planned c.args.block.now.property.sectors c.args.place) (sym c.self.view_is) c.requires in
     let within : c.args.place.vdev < length c.self.inside.spaces.items = slice_get_within c.self.inside.spaces.items c.args.place.vdev lies.space lies.found in
     let at : slice_get c.self.inside.spaces.items c.args.place.vdev ≡ Some c.index_mut.result.now =
     at_item c.self.inside.spaces.items c.args.place.vdev c.index_mut.result.now within c.index_mut.ensures.value in
@@ -49,15 +49,15 @@ invariant_of-self g c =
 
 pub returns-clause-released : goal.returns-clause-released
 returns-clause-released g c =
-    let lies : LiesOn IsInUse c.self.inside.spaces.items planned c.args.sectors c.args.place =
-    subst (λ (s : Store). LiesOn IsInUse s.spaces planned c.args.sectors c.args.place) (sym c.self.view_is) c.requires in
+    let lies : LiesOn IsInUse c.self.inside.spaces.items planned c.args.block.now.property.sectors c.args.place =
+    subst (λ (s : Store). LiesOn IsInUse s.spaces planned c.args.block.now.property.sectors c.args.place) (sym c.self.view_is) c.requires in
     let within : c.args.place.vdev < length c.self.inside.spaces.items = slice_get_within c.self.inside.spaces.items c.args.place.vdev lies.space lies.found in
     let at : slice_get c.self.inside.spaces.items c.args.place.vdev ≡ Some c.index_mut.result.now =
     at_item c.self.inside.spaces.items c.args.place.vdev c.index_mut.result.now within c.index_mut.ensures.value in
-    let is_place = (lies_at c.self.inside.spaces.items c.args.sectors c.args.place c.index_mut.result.now at lies).0 in
+    let is_place = (lies_at c.self.inside.spaces.items c.args.block.now.property.sectors c.args.place c.index_mut.result.now at lies).0 in
     subst (λ (s : Store). OnOk c.release.result
-    (IsReleased s.spaces (record { sectors = c.args.sectors; place = c.args.place }) c.args.group (slice_set c.self.inside.spaces.items c.args.place.vdev c.release.new.self)))
+    (IsReleased s.spaces (copy_of_at c.args.block.now c.args.place) c.args.group (slice_set c.self.inside.spaces.items c.args.place.vdev c.release.new.self)))
     c.self.view_is
     (on_ok_weaker c.release.result
-    (λ released. gave_back c.self.inside.spaces.items c.args.sectors c.args.place c.args.group c.index_mut.result.now c.release.new.self at is_place released c.release.ensures.rest)
+    (λ released. gave_back c.self.inside.spaces.items c.args.block.now c.args.place c.args.group c.index_mut.result.now c.release.new.self at is_place released c.release.ensures.rest)
     c.release.ensures.released)

@@ -1,42 +1,43 @@
-use Rattle.std.proofs.Common.{rules, ◌≡◌, ◌++◌, Contains, sym, ap, ◌∙◌, subst, inl, inr}
+use Rattle.std.proofs.Common.{rules, ◌≡◌, [], ◌++◌, Contains, sym, ap, ◌∙◌, subst, inl, inr}
 use Rattle.std.proofs.lemmas.List.Elements.{Contains-append_cases}
 use Rattle.block_pointer.specs.Copies.{dvas}
 use Rattle.raidz_io.specs.Stands.{IsWithin}
-use Rattle.block_store.specs.Places.{shapes_of}
+use Rattle.block_store.specs.Places.{shapes_of, AreChosen, ArePlacesIn}
 use Rattle.block_store.specs.Plans.{AreWritesAt}
 use Rattle.block_store.specs.Store.{Store, IsStore}
-use Rattle.block_store.proofs.Adding.{chosen_shapes, OnlyTook, added, chosen_keeps, took_keeps, took_shapes, places_in, writes_within}
+use Rattle.block_store.proofs.Adding.{chosen_shapes, OnlyTook, added, chosen_keeps, took_keeps, took_shapes, places_in, places_for, writes_within}
 use Rattle.block_store.proofs.Fitting.{bytes_fit, fits_copies, took_some}
-use Rattle.block_store.proofs.Writing.{found_at}
 use Rattle.block_store.proofs.store.BlockStore.place_block.Goals as goal
 
 pub returns-in_err-places-clause-shapes : goal.returns-in_err-places-clause-shapes
 returns-in_err-places-clause-shapes g c =
     let took = took_some c.args.self.now c.choose_places.new.self c.args.new.property.sectors c.count.result
     c.in_err-places.ensures.disks c.in_err-places.ensures.out c.in_err-places.ensures.spans c.in_err-places.ensures.due c.in_err-places.ensures.some in
-    took_shapes c.args.self.now c.choose_places.new.self c.args.new.property.sectors took.0 took.1
+    took_shapes c.args.self.now c.choose_places.new.self c.args.new.property.sectors c.count.result took.0 took.1
 
 pub returns-in_err-places-clause-keeps : goal.returns-in_err-places-clause-keeps
 returns-in_err-places-clause-keeps g c =
     let took = took_some c.args.self.now c.choose_places.new.self c.args.new.property.sectors c.count.result
     c.in_err-places.ensures.disks c.in_err-places.ensures.out c.in_err-places.ensures.spans c.in_err-places.ensures.due c.in_err-places.ensures.some in
-    took_keeps c.args.self.now c.choose_places.new.self c.args.new.property.sectors took.0 took.1
+    took_keeps c.args.self.now c.choose_places.new.self c.args.new.property.sectors c.count.result took.0 took.1
 
 pub writes_at-requires-clause-places : goal.writes_at-requires-clause-places
-writes_at-requires-clause-places g c place held =
-    let took : OnlyTook c.args.self.now c.choose_places.new.self c.args.new.property.sectors c.in_ok-places.places.items = record {
+writes_at-requires-clause-places g c =
+    let took : OnlyTook c.args.self.now c.choose_places.new.self c.args.new.property.sectors c.count.result c.in_ok-places.places.items = record {
       disks = c.in_ok-places.ensures.disks;
       out = c.in_ok-places.ensures.out;
       spans = c.in_ok-places.ensures.spans;
       due = c.in_ok-places.ensures.due;
       chosen = c.in_ok-places.ensures.chosen;
     } in
-    let at = found_at c.in_ok-places.places.items place (subst (λ xs. Contains xs place) c.as_slice.ensures.value held) in
-    places_in c.args.self.now c.choose_places.new.self c.args.new.property.sectors c.in_ok-places.places.items took at.0 place at.1
+    let chosen = subst (λ n. AreChosen c.args.self.now.spaces [] c.args.new.property.sectors n c.in_ok-places.places.items c.choose_places.new.self.spaces)
+    (sym c.in_ok-places.ensures.count) took.chosen in
+    subst (λ xs. ArePlacesIn c.choose_places.new.self.spaces c.args.new.property.sectors xs) (sym c.as_slice.ensures.value)
+    (places_for c.args.self.now.spaces c.choose_places.new.self.spaces c.args.new.property.sectors c.in_ok-places.places.items chosen)
 
 pub returns-in_err-writes-clause-keeps : goal.returns-in_err-writes-clause-keeps
 returns-in_err-writes-clause-keeps g c =
-    took_keeps c.args.self.now c.choose_places.new.self c.args.new.property.sectors c.in_ok-places.places.items (record {
+    took_keeps c.args.self.now c.choose_places.new.self c.args.new.property.sectors c.count.result c.in_ok-places.places.items (record {
       disks = c.in_ok-places.ensures.disks;
       out = c.in_ok-places.ensures.out;
       spans = c.in_ok-places.ensures.spans;
@@ -46,15 +47,15 @@ returns-in_err-writes-clause-keeps g c =
 
 pub returns-in_err-append-clause-keeps : goal.returns-in_err-append-clause-keeps
 returns-in_err-append-clause-keeps g c =
-    let took : OnlyTook c.args.self.now c.choose_places.new.self c.args.new.property.sectors c.in_ok-places.places.items = record {
+    let took : OnlyTook c.args.self.now c.choose_places.new.self c.args.new.property.sectors c.count.result c.in_ok-places.places.items = record {
       disks = c.in_ok-places.ensures.disks;
       out = c.in_ok-places.ensures.out;
       spans = c.in_ok-places.ensures.spans;
       due = c.in_ok-places.ensures.due;
       chosen = c.in_ok-places.ensures.chosen;
     } in
-    let inside = subst (λ (s : Store). OnlyTook c.args.self.now s c.args.new.property.sectors c.in_ok-places.places.items) (sym c.self.view_is) took in
-    took_keeps c.args.self.now _ c.args.new.property.sectors c.in_ok-places.places.items (record {
+    let inside = subst (λ (s : Store). OnlyTook c.args.self.now s c.args.new.property.sectors c.count.result c.in_ok-places.places.items) (sym c.self.view_is) took in
+    took_keeps c.args.self.now _ c.args.new.property.sectors c.count.result c.in_ok-places.places.items (record {
       disks = inside.disks;
       out = inside.out;
       spans = inside.spans;
@@ -64,7 +65,7 @@ returns-in_err-append-clause-keeps g c =
 
 pub invariant_of-self-2 : goal.invariant_of-self-2
 invariant_of-self-2 g c =
-    let took : OnlyTook c.args.self.now c.choose_places.new.self c.args.new.property.sectors c.in_ok-places.places.items = record {
+    let took : OnlyTook c.args.self.now c.choose_places.new.self c.args.new.property.sectors c.count.result c.in_ok-places.places.items = record {
       disks = c.in_ok-places.ensures.disks;
       out = c.in_ok-places.ensures.out;
       spans = c.in_ok-places.ensures.spans;
@@ -84,25 +85,25 @@ invariant_of-self-2 g c =
         | inr here ↦
             subst (λ (s : Store). IsWithin s.disks.starts write) (sym c.self.view_is)
             (writes_within c.choose_places.new.self c.args.new.property.sectors c.args.bytes.now c.in_ok-places.places.items c.in_ok-writes.writes.items store at
-            (places_in c.args.self.now c.choose_places.new.self c.args.new.property.sectors c.in_ok-places.places.items took) write here)
+            (places_in c.args.self.now c.choose_places.new.self c.args.new.property.sectors c.count.result c.in_ok-places.places.items took) write here)
       ];
     }
 
 pub returns-clause-keeps : goal.returns-clause-keeps
 returns-clause-keeps g c =
-    let took : OnlyTook c.args.self.now c.choose_places.new.self c.args.new.property.sectors c.in_ok-places.places.items = record {
+    let took : OnlyTook c.args.self.now c.choose_places.new.self c.args.new.property.sectors c.count.result c.in_ok-places.places.items = record {
       disks = c.in_ok-places.ensures.disks;
       out = c.in_ok-places.ensures.out;
       spans = c.in_ok-places.ensures.spans;
       due = c.in_ok-places.ensures.due;
       chosen = c.in_ok-places.ensures.chosen;
     } in
-    let inside = subst (λ (s : Store). OnlyTook c.args.self.now s c.args.new.property.sectors c.in_ok-places.places.items) (sym c.self.view_is) took in
-    chosen_keeps c.args.self.now _ c.args.new.property.sectors c.in_ok-places.places.items inside.disks inside.out inside.spans inside.chosen
+    let inside = subst (λ (s : Store). OnlyTook c.args.self.now s c.args.new.property.sectors c.count.result c.in_ok-places.places.items) (sym c.self.view_is) took in
+    chosen_keeps c.args.self.now _ c.args.new.property.sectors c.count.result c.in_ok-places.places.items inside.disks inside.out inside.spans inside.chosen
 
 pub returns-clause-fits : goal.returns-clause-fits
 returns-clause-fits g c =
-    let took : OnlyTook c.args.self.now c.choose_places.new.self c.args.new.property.sectors c.in_ok-places.places.items = record {
+    let took : OnlyTook c.args.self.now c.choose_places.new.self c.args.new.property.sectors c.count.result c.in_ok-places.places.items = record {
       disks = c.in_ok-places.ensures.disks;
       out = c.in_ok-places.ensures.out;
       spans = c.in_ok-places.ensures.spans;
@@ -114,7 +115,7 @@ returns-clause-fits g c =
     record {
       copies = fits_copies c.choose_places.new.self.spaces c.choose_places.new.self.disks.starts c.args.new.property.sectors c.in_ok-places.places.items c.copies_at.result
           c.requires.fits.property.not_empty store.laid_out
-          (places_in c.args.self.now c.choose_places.new.self c.args.new.property.sectors c.in_ok-places.places.items took) copies;
+          (places_in c.args.self.now c.choose_places.new.self c.args.new.property.sectors c.count.result c.in_ok-places.places.items took) copies;
       property = c.requires.fits.property;
       born = c.requires.fits.born;
       birth = search rules;
@@ -125,14 +126,14 @@ returns-clause-fits g c =
 
 pub returns-clause-planned : goal.returns-clause-planned
 returns-clause-planned g c stored planned plans =
-    let took : OnlyTook c.args.self.now c.choose_places.new.self c.args.new.property.sectors c.in_ok-places.places.items = record {
+    let took : OnlyTook c.args.self.now c.choose_places.new.self c.args.new.property.sectors c.count.result c.in_ok-places.places.items = record {
       disks = c.in_ok-places.ensures.disks;
       out = c.in_ok-places.ensures.out;
       spans = c.in_ok-places.ensures.spans;
       due = c.in_ok-places.ensures.due;
       chosen = c.in_ok-places.ensures.chosen;
     } in
-    let inside = subst (λ (s : Store). OnlyTook c.args.self.now s c.args.new.property.sectors c.in_ok-places.places.items) (sym c.self.view_is) took in
+    let inside = subst (λ (s : Store). OnlyTook c.args.self.now s c.args.new.property.sectors c.count.result c.in_ok-places.places.items) (sym c.self.view_is) took in
     let store : IsStore c.choose_places.new.self = subst IsStore c.self.view_is c.self.invariant in
     let at : AreWritesAt c.choose_places.new.self c.args.new.property.sectors c.args.bytes.now c.in_ok-places.places.items c.in_ok-writes.writes.items =
     subst (λ places. AreWritesAt c.choose_places.new.self c.args.new.property.sectors c.args.bytes.now places c.in_ok-writes.writes.items) c.as_slice.ensures.value c.in_ok-writes.ensures in
@@ -144,7 +145,8 @@ returns-clause-planned g c stored planned plans =
       stray = ap (λ (s : Store). s.stray) c.self.view_is ∙ c.in_ok-places.ensures.stray;
       born = c.requires.born;
       due = c.in_ok-append.ensures.items ∙ ap (λ xs. xs ++ c.in_ok-writes.writes.items) inside.due;
-      chosen = inside.chosen;
+      chosen = subst (λ n. AreChosen c.args.self.now.spaces [] c.args.new.property.sectors n c.in_ok-places.places.items c.self.inside.spaces.items)
+          (sym c.in_ok-places.ensures.count) inside.chosen;
       copies_at = copies;
       written = record {
         fits = returns-clause-fits g c;
@@ -160,14 +162,14 @@ returns-clause-planned g c stored planned plans =
 
 pub returns-in_err-writes-clause-shapes : goal.returns-in_err-writes-clause-shapes
 returns-in_err-writes-clause-shapes g c =
-    chosen_shapes _ c.args.new.property.sectors c.in_ok-places.places.items _ c.in_ok-places.ensures.chosen
+    chosen_shapes _ c.args.new.property.sectors c.count.result c.in_ok-places.places.items _ c.in_ok-places.ensures.chosen
 
 pub returns-in_err-append-clause-shapes : goal.returns-in_err-append-clause-shapes
 returns-in_err-append-clause-shapes g c =
     ap (λ (s : Store). shapes_of s.spaces) c.self.view_is
-    ∙ chosen_shapes _ c.args.new.property.sectors c.in_ok-places.places.items _ c.in_ok-places.ensures.chosen
+    ∙ chosen_shapes _ c.args.new.property.sectors c.count.result c.in_ok-places.places.items _ c.in_ok-places.ensures.chosen
 
 pub returns-clause-shapes : goal.returns-clause-shapes
 returns-clause-shapes g c =
     ap (λ (s : Store). shapes_of s.spaces) c.self.view_is
-    ∙ chosen_shapes _ c.args.new.property.sectors c.in_ok-places.places.items _ c.in_ok-places.ensures.chosen
+    ∙ chosen_shapes _ c.args.new.property.sectors c.count.result c.in_ok-places.places.items _ c.in_ok-places.ensures.chosen

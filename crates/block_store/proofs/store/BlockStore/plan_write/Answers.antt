@@ -17,7 +17,7 @@ returns-in-Err-clause-keeps g c =
     subst (λ xs. TookSome c.reach.new.self.spaces sectors (count_of c.args.copies) xs) (sym c.note_stray.ensures.spaces) c.in-Err.ensures.err_spaces in
     let took = took_some c.reach.new.self c.note_stray.new.self sectors (count_of c.args.copies) (c.note_stray.ensures.disks ∙ c.in-Err.ensures.disks)
     (c.note_stray.ensures.out ∙ c.in-Err.ensures.out) (c.note_stray.ensures.spans ∙ c.in-Err.ensures.spans) (c.note_stray.ensures.due ∙ c.in-Err.ensures.err_due) some in
-    keeps_through _ _ _ c.reach.ensures.keeps (took_keeps c.reach.new.self c.note_stray.new.self sectors took.0 took.1)
+    keeps_through _ _ _ c.reach.ensures.keeps (took_keeps c.reach.new.self c.note_stray.new.self sectors (count_of c.args.copies) took.0 took.1)
 
 pub returns-in-Err-clause-err : goal.returns-in-Err-clause-err
 returns-in-Err-clause-err g c =
@@ -26,21 +26,21 @@ returns-in-Err-clause-err g c =
     subst (λ xs. TookSome c.reach.new.self.spaces sectors (count_of c.args.copies) xs) (sym c.note_stray.ensures.spaces) c.in-Err.ensures.err_spaces in
     let took = took_some c.reach.new.self c.note_stray.new.self sectors (count_of c.args.copies) (c.note_stray.ensures.disks ∙ c.in-Err.ensures.disks)
     (c.note_stray.ensures.out ∙ c.in-Err.ensures.out) (c.note_stray.ensures.spans ∙ c.in-Err.ensures.spans) (c.note_stray.ensures.due ∙ c.in-Err.ensures.err_due) some in
-    plans_through _ _ _ c.reach.ensures.plans (took_keeps_plans c.reach.new.self c.note_stray.new.self sectors took.0 took.1 c.note_stray.ensures.stray)
+    plans_through _ _ _ c.reach.ensures.plans (took_keeps_plans c.reach.new.self c.note_stray.new.self sectors (count_of c.args.copies) took.0 took.1 c.note_stray.ensures.stray)
 
 pub returns-in-Ok-clause-stores : goal.returns-in-Ok-clause-stores
 returns-in-Ok-clause-stores g c =
     let sectors = c.args.new.property.sectors in
     let places = dvas c.in-Ok.block.copies in
-    let chosen : AreChosen c.args.self.now.spaces [] sectors places c.place_block.new.self.spaces =
-    subst (λ xs. AreChosen xs [] sectors places c.place_block.new.self.spaces) c.reach.ensures.spaces c.in-Ok.ensures.places in
-    chosen_stores c.args.self.now c.place_block.new.self sectors places chosen (keeps_through _ _ _ c.reach.ensures.keeps c.in-Ok.ensures.keeps)
+    let chosen : AreChosen c.args.self.now.spaces [] sectors (count_of c.args.copies) places c.place_block.new.self.spaces =
+    subst (λ xs. AreChosen xs [] sectors (count_of c.args.copies) places c.place_block.new.self.spaces) c.reach.ensures.spaces c.in-Ok.ensures.places in
+    chosen_stores c.args.self.now c.place_block.new.self sectors (count_of c.args.copies) places chosen (keeps_through _ _ _ c.reach.ensures.keeps c.in-Ok.ensures.keeps)
 
 pub returns-in-Err-clause-stores : goal.returns-in-Err-clause-stores
 returns-in-Err-clause-stores g c =
     let sectors = c.args.new.property.sectors in
     let some : TookSome c.reach.new.self.spaces sectors (count_of c.args.copies) c.note_stray.new.self.spaces =
     subst (λ xs. TookSome c.reach.new.self.spaces sectors (count_of c.args.copies) xs) (sym c.note_stray.ensures.spaces) c.in-Err.ensures.err_spaces in
-    let chosen : AreChosen c.args.self.now.spaces [] sectors some.0 c.note_stray.new.self.spaces =
-    subst (λ xs. AreChosen xs [] sectors some.0 c.note_stray.new.self.spaces) c.reach.ensures.spaces some.2 in
-    chosen_stores c.args.self.now c.note_stray.new.self sectors some.0 chosen (returns-in-Err-clause-keeps g c)
+    let chosen : AreChosen c.args.self.now.spaces [] sectors (count_of c.args.copies) some.0 c.note_stray.new.self.spaces =
+    subst (λ xs. AreChosen xs [] sectors (count_of c.args.copies) some.0 c.note_stray.new.self.spaces) c.reach.ensures.spaces some.2 in
+    chosen_stores c.args.self.now c.note_stray.new.self sectors (count_of c.args.copies) some.0 chosen (returns-in-Err-clause-keeps g c)

@@ -10,7 +10,7 @@ use Rattle.block_store.proofs.store.BlockStore.read_copy.Goals.{in-Ok, in-Err-No
 
 pub extent_at-extent-requires-clause-place : goal.extent_at-extent-requires-clause-place
 extent_at-extent-requires-clause-place g c =
-    c.requires.readable _ (place_is_there c.args.places.now c.args.i _ c.requires.below)
+    (c.requires.readable _ (place_is_there c.args.places.now c.args.i _ c.requires.below)).is_in
 
 pub returns-clause-read : goal.returns-clause-read
 returns-clause-read g c =

@@ -1,7 +1,6 @@
-use Rattle.std.proofs.Common.{◌≡◌, List, Contains, IsTrue, false, refl, sym, ap, subst}
-use Rattle.block_pointer.specs.declared.dva.Dva.{Dva}
+use Rattle.std.proofs.Common.{◌≡◌, List, IsTrue, false, refl, sym, ap, subst}
 use Rattle.block_store.specs.Spaces.{VdevSpace}
-use Rattle.block_store.specs.Places.{IsPlaceIn}
+use Rattle.block_store.specs.Places.{ArePlacesIn}
 use Rattle.block_store.specs.Reading.{IsCopyRead}
 use Rattle.block_store.specs.Store.{Store}
 use Rattle.block_store.proofs.ReadingSteps.{rest_on, ends_here, next_read}
@@ -12,7 +11,7 @@ pub read_copy-read-requires-then-is_fault-clause-readable :
     goal.read_copy-read-requires-then-is_fault-clause-readable
 read_copy-read-requires-then-is_fault-clause-readable g c =
     let spaces : c.loop-i.self.spaces ≡ c.args.self.now.spaces = ap (λ (s : Store). s.spaces) c.loop-i.invariant.rest in
-    subst (λ (spaces : List VdevSpace). (place : Dva) → Contains c.args.places.now place → IsPlaceIn spaces c.args.block.now.property.sectors place) (sym spaces) c.requires.readable
+    subst (λ (spaces : List VdevSpace). ArePlacesIn spaces c.args.block.now.property.sectors c.args.places.now) (sym spaces) c.requires.readable
 
 pub loop-i-preserved : goal.loop-i-preserved
 loop-i-preserved g c =

@@ -1,7 +1,7 @@
 use Rattle.std.proofs.Common.{◌≡◌, ◌+◌, ◌∷◌, drop, get_or, List, [], refl, subst, ◌∙◌}
 use Rattle.std.proofs.lemmas.List.{drop_more}
 use Rattle.block_pointer.specs.declared.dva.Dva.{Dva}
-use Rattle.block_store.specs.Releases.{CopyAt, copies_at}
+use Rattle.block_store.specs.Releases.{CopyAt, copy_of_at, copies_of_at}
 use Rattle.block_store.proofs.GivenBack.{ReleasedUpTo, none_yet, more_are}
 use Rattle.block_store.proofs.store.BlockStore.release_places.Goals as goal
 
@@ -10,7 +10,7 @@ abbrev none : Dva
 none = record { vdev = 0; offset = 0; allocated = 0 }
 
 pub loop-place-init : goal.loop-place-init
-loop-place-init g c = (refl, refl, refl, refl, refl, none_yet c.args.self.now.spaces (copies_at c.args.sectors c.args.places.now) c.args.group)
+loop-place-init g c = (refl, refl, refl, refl, refl, none_yet c.args.self.now.spaces (copies_of_at c.args.block.now c.args.places.now) c.args.group)
 
 pub loop-place-preserved : goal.loop-place-preserved
 loop-place-preserved g c =
@@ -18,15 +18,15 @@ loop-place-preserved g c =
     let places : List Dva = c.args.places.now in
     let split : drop i places ≡ get_or places i none ∷ drop (i + 1) places = drop_more places i none c.loop-place-test.true in
     let before = c.loop-place.invariant in
-    let copy : CopyAt = record { sectors = c.args.sectors; place = get_or places i none } in
+    let copy : CopyAt = copy_of_at c.args.block.now (get_or places i none) in
     let is = c.release_place.ensures in (
       is.disks ∙ before.0,
       is.out ∙ before.1,
       is.spans ∙ before.2,
       is.due ∙ before.3,
       is.stray ∙ before.4,
-      more_are c.args.self.now.spaces c.loop-place.self.spaces c.release_place.new.self.spaces (copies_at c.args.sectors places) (copy ∷ [])
-          (copies_at c.args.sectors (drop (i + 1) places)) c.args.group
-          (subst (λ them. ReleasedUpTo c.args.self.now.spaces (copies_at c.args.sectors places) (copies_at c.args.sectors them) c.args.group c.loop-place.self.spaces) split before.5)
+      more_are c.args.self.now.spaces c.loop-place.self.spaces c.release_place.new.self.spaces (copies_of_at c.args.block.now places) (copy ∷ [])
+          (copies_of_at c.args.block.now (drop (i + 1) places)) c.args.group
+          (subst (λ them. ReleasedUpTo c.args.self.now.spaces (copies_of_at c.args.block.now places) (copies_of_at c.args.block.now them) c.args.group c.loop-place.self.spaces) split before.5)
           (c.release_place.new.self.spaces, c.in_ok-release_place.ensures.released, refl),
     )

@@ -1,16 +1,18 @@
-use Rattle.std.proofs.Common.{◌≡◌, ◌+◌, ◌∷◌, drop, get_or, List, [], refl, subst, ◌∙◌}
+use Rattle.std.proofs.Common.{◌≡◌, ◌+◌, ◌∷◌, inl, inr, drop, get_or, List, [], refl, sym, subst, ◌∙◌}
 use Rattle.std.proofs.lemmas.List.{drop_more}
 use Rattle.block_pointer.specs.declared.dva.Dva.{Dva}
-use Rattle.block_store.specs.Releases.{CopyAt, copies_at}
-use Rattle.block_store.proofs.TakenEach.{TakenUpTo, none_yet, more_are}
+use Rattle.block_store.specs.Releases.{CopyAt, copy_of_at, copies_of_at}
+use Rattle.block_store.proofs.TakenEach.{TakenUpTo, none_yet, more_are, stops_at}
 use Rattle.block_store.proofs.store.BlockStore.take_in_places.Goals as goal
+use Rattle.block_store.proofs.GivenBack.{passed_on}
+use Rattle.block_store.specs.Opened.{HasFreePlace}
 
 -- what stands past the end of a list
 abbrev none : Dva
 none = record { vdev = 0; offset = 0; allocated = 0 }
 
 pub loop-place-init : goal.loop-place-init
-loop-place-init g c = (refl, refl, refl, refl, refl, none_yet c.args.self.now.spaces (copies_at c.args.sectors c.args.places.now))
+loop-place-init g c = (refl, refl, refl, refl, refl, none_yet c.args.self.now.spaces (copies_of_at c.args.block.now c.args.places.now))
 
 pub loop-place-preserved : goal.loop-place-preserved
 loop-place-preserved g c =
@@ -18,15 +20,40 @@ loop-place-preserved g c =
     let places : List Dva = c.args.places.now in
     let split : drop i places ≡ get_or places i none ∷ drop (i + 1) places = drop_more places i none c.loop-place-test.true in
     let before = c.loop-place.invariant in
-    let copy : CopyAt = record { sectors = c.args.sectors; place = get_or places i none } in
+    let copy : CopyAt = copy_of_at c.args.block.now (get_or places i none) in
     let is = c.take_in_place.ensures in (
       is.disks ∙ before.0,
       is.out ∙ before.1,
       is.spans ∙ before.2,
       is.due ∙ before.3,
       is.stray ∙ before.4,
-      more_are c.args.self.now.spaces c.loop-place.self.spaces c.take_in_place.new.self.spaces (copies_at c.args.sectors places) (copy ∷ [])
-          (copies_at c.args.sectors (drop (i + 1) places))
-          (subst (λ them. TakenUpTo c.args.self.now.spaces (copies_at c.args.sectors places) (copies_at c.args.sectors them) c.loop-place.self.spaces) split before.5)
+      more_are c.args.self.now.spaces c.loop-place.self.spaces c.take_in_place.new.self.spaces (copies_of_at c.args.block.now places) (copy ∷ [])
+          (copies_of_at c.args.block.now (drop (i + 1) places))
+          (subst (λ them. TakenUpTo c.args.self.now.spaces (copies_of_at c.args.block.now places) (copies_of_at c.args.block.now them) c.loop-place.self.spaces) split before.5)
           (c.take_in_place.new.self.spaces, c.in_ok-take_in_place.ensures.taken, refl),
     )
+
+pub returns-in_err-take_in_place-clause-refused : goal.returns-in_err-take_in_place-clause-refused
+returns-in_err-take_in_place-clause-refused g c =
+    let i = c.loop-place.place-index in
+    let block = c.args.block.now in
+    let places : List Dva = c.args.places.now in
+    let split : drop i places ≡ get_or places i none ∷ drop (i + 1) places = drop_more places i none c.loop-place-test.true in
+    let copy : CopyAt = copy_of_at block (get_or places i none) in
+    let same = c.in_err-take_in_place.ensures.err in
+    passed_on _ _ _ c.from_residual.ensures.1 (elim c.in_err-take_in_place.ensures.refused [
+      | inl memory ↦ inl memory
+      | inr (bad, not_free) ↦ inr (
+        bad,
+        stops_at c.args.self.now.spaces c.loop-place.self.spaces c.take_in_place.new.self.spaces (copies_of_at block places) (copy ∷ []) (copies_of_at block (drop (i + 1) places))
+            (subst (λ them. TakenUpTo c.args.self.now.spaces (copies_of_at block places) (copies_of_at block them) c.loop-place.self.spaces) split c.loop-place.invariant.5)
+            (record {
+              done = [];
+              next = copy;
+              left = [];
+              are = refl;
+              taken = same;
+              not_free = subst (λ xs. ¬ HasFreePlace xs copy) (sym same) not_free;
+            }),
+      )
+    ])

@@ -11,7 +11,7 @@ loop-place-init g c =
     (no_writes c.args.self.now c.args.sectors c.args.bytes.now)
 
 pub extent_at-extent-requires-clause-place : goal.extent_at-extent-requires-clause-place
-extent_at-extent-requires-clause-place g c = c.requires.places _ (item_in c.args.places.now c.loop-place.place-index _ c.loop-place-test.true)
+extent_at-extent-requires-clause-place g c = (c.requires.places _ (item_in c.args.places.now c.loop-place.place-index _ c.loop-place-test.true)).is_in
 
 pub loop-place-preserved : goal.loop-place-preserved
 loop-place-preserved g c =
@@ -33,4 +33,4 @@ returns-in_default g c =
 
 pub first_writes-requires-clause-place : goal.first_writes-requires-clause-place
 first_writes-requires-clause-place g c =
-    c.requires.places _ (first_in c.args.places.now c.in-Some.first.now (ap option_copied (sym c.in-Some.is) ∙ c.first.ensures.value))
+    (c.requires.places _ (first_in c.args.places.now c.in-Some.first.now (ap option_copied (sym c.in-Some.is) ∙ c.first.ensures.value))).is_in
