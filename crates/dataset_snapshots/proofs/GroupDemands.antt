@@ -59,7 +59,7 @@ root_demands spaces set group copies changes demands same has =
     record { of_objects = demands; are = subst (λ (c : SetCopies). HasDemands spaces set group c changes demands) same has; is = refl }
 
 pub root_places : (old mid new : Store) (set : ObjectSet) (group : ℕ) (copies : SetCopies) (changes : List ObjectChange) (block : Block) → copies ≡ copies_of kinds.Meta
-    → ObjectsHave old mid set group copies changes → length (dvas block.copies) ≡ 3 → AreChosen mid.spaces [] 2 (dvas block.copies) new.spaces → HasRootPlaces old new set group changes
+    → ObjectsHave old mid set group copies changes → length (dvas block.copies) ≡ 3 → AreChosen mid.spaces [] 2 3 (dvas block.copies) new.spaces → HasRootPlaces old new set group changes
 root_places old mid new set group copies changes block same objects three chosen = (
   objects.0 ++ demand_of_root ∷ [],
   root_demands old.spaces set group copies changes objects.0 same objects.1,

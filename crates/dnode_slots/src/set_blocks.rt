@@ -90,7 +90,7 @@ pub fn plan_set<D: Disk + Drop>(
         × Adds planned later block (object_set_bytes set.now)
         × IsSetBlock later birth block set.now) }
     ensures places { IfOk result (λ block.
-        AreChosen store.old.spaces [] 2 (dvas block.copies) store.new.spaces) }
+        AreChosen store.old.spaces [] 2 (count_of copies) (dvas block.copies) store.new.spaces) }
     ensures refused { IfErr result IsForRoom }
     ensures no_room { IfErr result (λ refusal. refusal ≡ Refusal.NoSpace
         → RanOut store.old.spaces 2 (count_of copies) store.new.spaces) }

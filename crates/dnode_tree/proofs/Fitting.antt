@@ -41,12 +41,12 @@ place_fits shape sectors place some short is =
       allocated = omega (arith, is.one, few);
     }
 
-pub chosen_fit : (spaces : List VdevSpace) (taken : List Dva) (sectors : ℕ) (places : List Dva) (after : List VdevSpace) → 0 < sectors
-    → AllByRecursion (λ place. place.vdev < 2 ^ 32) places → AreChosen spaces taken sectors places after → AllByRecursion FitsDva places
-chosen_fit spaces taken sectors [] after some short chosen = tt
-chosen_fit spaces taken sectors (place ∷ places) after some short chosen = (
+pub chosen_fit : (spaces : List VdevSpace) (taken : List Dva) (sectors copies : ℕ) (places : List Dva) (after : List VdevSpace) → 0 < sectors
+    → AllByRecursion (λ place. place.vdev < 2 ^ 32) places → AreChosen spaces taken sectors copies places after → AllByRecursion FitsDva places
+chosen_fit spaces taken sectors copies [] after some short chosen = tt
+chosen_fit spaces taken sectors copies (place ∷ places) after some short chosen = (
   place_fits chosen.0.space.shape sectors place some short.0 chosen.0.free.is_place,
-  chosen_fit chosen.1 (taken ++ place ∷ []) sectors places after some short.1 chosen.3,
+  chosen_fit chosen.1 (taken ++ place ∷ []) sectors copies places after some short.1 chosen.3,
 )
 
 -- indirect blocks have 32 sectors

@@ -196,7 +196,7 @@ module _ (node : ObjectNode) (copies : CopyCounts) (before now after : List Vdev
 
 -- one block
 pub one_placed : (node : ObjectNode) (copies : CopyCounts) (before after : List VdevSpace) (level first : ℕ) (places : List Dva)
-    → length places ≡ copies_at copies level → AreChosen before [] (property_of node level).sectors places after
+    → length places ≡ copies_at copies level → AreChosen before [] (property_of node level).sectors (copies_at copies level) places after
     → HavePlacesAt node copies before ((record { level = level; first = first }) ∷ []) after
 one_placed node copies before after level first places count chosen = have_one before after _ _ places count chosen
 

@@ -126,6 +126,7 @@ fn pool(alloc: Global) -> io::Result<Pool> {
     let vdev = VdevConfig {
         geometry,
         metaslab_shift: 16,
+        meta_slabs: 2,
     };
     match Core::create(alloc, disks, &[vdev]) {
         Ok(pool) => Ok(pool),

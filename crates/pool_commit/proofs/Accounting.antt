@@ -17,7 +17,7 @@ use Rattle.block_store.specs.Accounts.{SectorAt, IsUsed, HasSector, AreAccounted
 use Rattle.block_store.specs.Blocks.{Contents}
 use Rattle.block_store.specs.Places.{IsNotFree, Marks, shapes_of, HaveMarks, IsEmpty, AreEmpty}
 use Rattle.block_store.specs.Places.{filled as filled_marks, planned as planned_marks}
-use Rattle.block_store.specs.Releases.{CopyAt, copies_at, copies_of, copies_of_all, AreReleased, AreSettledInSome}
+use Rattle.block_store.specs.Releases.{CopyAt, copy_of_at, copies_of_at, copies_of, copies_of_all, AreReleased, AreSettledInSome}
 use Rattle.block_store.specs.Spaces.{VdevSpace}
 use Rattle.block_store.specs.Steps.{Placed, HavePlaced}
 use Rattle.block_store.specs.Uses.{IsInUse}
@@ -174,18 +174,17 @@ settled_released_by group spaces after last shapes are by g at used =
 
 -- a copy of a block of a list is one of the copies of all
 copy_of : (block : Block) (i : ℕ) (place : Dva) → slice_get (dvas block.copies) i ≡ Some place
-    → Contains (copies_of block) (record { sectors = block.property.sectors; place = place })
-copy_of block i place at = among block.property.sectors (dvas block.copies) i place at
+    → Contains (copies_of block) (copy_of_at block place)
+copy_of block i place at = among (dvas block.copies) i place at
   where
-    among : (sectors : ℕ) (places : List Dva) (i : ℕ) (place : Dva) → slice_get places i ≡ Some place
-        → Contains (copies_at sectors places) (record { sectors = sectors; place = place })
-    among sectors [] i place at = absurd (cc)
-    among sectors (first ∷ places) zero place at =
+    among : (places : List Dva) (i : ℕ) (place : Dva) → slice_get places i ≡ Some place → Contains (copies_of_at block places) (copy_of_at block place)
+    among [] i place at = absurd (cc)
+    among (first ∷ places) zero place at =
         let same : first ≡ place = same_some first place at in
-        let here : Contains (copies_at sectors (first ∷ places)) (record { sectors = sectors; place = first }) = (0, omega arith, refl) in
-        subst (λ p. Contains (copies_at sectors (first ∷ places)) (record { sectors = sectors; place = p })) same here
-    among sectors (first ∷ places) (suc i) place at =
-        Contains-append_right ((record { sectors = sectors; place = first }) ∷ []) (copies_at sectors places) (record { sectors = sectors; place = place }) (among sectors places i place at)
+        let here : Contains (copies_of_at block (first ∷ places)) (copy_of_at block first) = (0, omega arith, refl) in
+        subst (λ p. Contains (copies_of_at block (first ∷ places)) (copy_of_at block p)) same here
+    among (first ∷ places) (suc i) place at =
+        Contains-append_right (copy_of_at block first ∷ []) (copies_of_at block places) (copy_of_at block place) (among places i place at)
 
 copy_of_all : (blocks : List Block) (block : Block) (copy : CopyAt) → Contains blocks block → Contains (copies_of block) copy → Contains (copies_of_all blocks) copy
 copy_of_all [] block copy (k, within, is) held = absurd (omega arith)
@@ -213,7 +212,7 @@ planned_in_blocks birth made after stored later before reach gone group one acco
             | inl stayed ↦ (block, found block reach (omega (arith, stayed, one.after_are (same_as block))), has_too made after block at shapes has)
             | inr none ↦
                 let left : Contains gone block = found block gone (omega (arith, all, none, one.before_are (same_as block))) in
-                let copy : CopyAt = record { sectors = block.property.sectors; place = has.place } in
+                let copy : CopyAt = copy_of_at block has.place in
                 absurd (not_in_released made (copies_of_all gone) group after released copy
                 (copy_of_all gone block copy left (copy_of block has.i has.place has.is_copy)) at (has_on_place made block at has) used)
           ]

@@ -4,7 +4,7 @@ use Rattle.block_store.specs.declared.shape.VdevShape.{VdevShape}
 use Rattle.pool_model.specs.View.{counted}
 use Rattle.vdev_label.specs.Plain.{PlainVdev}
 
--- a vdev of that shape with this guid: its disks have the guids behind it, and the last of its metaslabs is the meta region
+-- a vdev of that shape with this guid: its disks have the guids behind it
 abbrev pub vdev_with : ℕ → VdevShape → PlainVdev
 vdev_with guid shape =
     record {
@@ -12,7 +12,7 @@ vdev_with guid shape =
       parity = shape.vdev.geometry.parity;
       child_sectors = shape.child_sectors;
       slab_shift = shape.metaslab_shift;
-      meta_slabs = 1;
+      meta_slabs = shape.meta_slabs;
       children = counted (suc guid) shape.vdev.geometry.children;
     }
 

@@ -14,9 +14,6 @@ use vdev_label::{Config, Vdev, small_configs_fit};
 /// How far the guids of a vdev and the next one lie apart.
 const GUIDS_OF_VDEV: u64 = 100;
 
-/// How many of a vdev's last metaslabs are the meta region.
-const META_SLABS: u64 = 1;
-
 /// The guids of a vdev's disks: those behind its own.
 fn disk_guids(alloc: Global, vdev: u64, children: u32) -> Result<Vec<u64>, AllocError>
     requires { vdev + children < 2 ^ 64 }
@@ -41,7 +38,7 @@ fn vdev_of(alloc: Global, guid: u64, shape: VdevShape) -> Result<Vdev, AllocErro
         parity: u64::from(geometry.parity),
         child_sectors: shape.child_sectors,
         slab_shift: u64::from(shape.metaslab_shift),
-        meta_slabs: META_SLABS,
+        meta_slabs: shape.meta_slabs,
         children,
     })
 }

@@ -51,6 +51,7 @@ same_fit v starts first one other is also fits =
     let children_same : other.vdev.geometry.children ≡ one.vdev.geometry.children = also.children ∙ sym is.children in
     let sectors_same : other.child_sectors ≡ one.child_sectors = also.sectors ∙ sym is.sectors in
     let shift_same : other.metaslab_shift ≡ one.metaslab_shift = also.shift ∙ sym is.shift in
+    let meta_same : other.meta_slabs ≡ one.meta_slabs = also.meta ∙ sym is.meta in
     let slabs_same : metaslabs other ≡ metaslabs one =
     ap (λ (n : ℕ). n * other.child_sectors / 2 ^ other.metaslab_shift) children_same
     ∙ ap (λ (n : ℕ). one.vdev.geometry.children * n / 2 ^ other.metaslab_shift) sectors_same
@@ -61,7 +62,10 @@ same_fit v starts first one other is also fits =
       sectors = λ disk from before.
           subst (λ (n : ℕ). n ≤ sectors_of (size_of starts disk)) (sym sectors_same)
           (fits.sectors disk (omega (arith, from, first_same)) (omega (arith, before, first_same, children_same)));
-      some = subst (λ (n : ℕ). 1 ≤ n) (sym slabs_same) fits.some;
+      regions = record {
+        meta = subst (λ (n : ℕ). 1 ≤ n) (sym meta_same) fits.regions.meta;
+        others = subst (λ (n : ℕ). n < metaslabs other) (sym meta_same) (subst (λ (n : ℕ). one.meta_slabs < n) (sym slabs_same) fits.regions.others);
+      };
       few = subst (λ (n : ℕ). n ≤ 1024) (sym slabs_same) fits.few;
     }
 

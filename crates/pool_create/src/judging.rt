@@ -70,6 +70,7 @@ fn is_same_shape(one: VdevShape, other: VdevShape) -> bool
         && one.vdev.geometry == other.vdev.geometry
         && one.child_sectors == other.child_sectors
         && one.metaslab_shift == other.metaslab_shift
+        && one.meta_slabs == other.meta_slabs
 }
 
 /// Whether all are.

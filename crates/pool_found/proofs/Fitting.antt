@@ -146,7 +146,7 @@ lie_from old new scan starts (v ∷ vdevs) first (shape ∷ shapes) (found ∷ m
         there = omega (arith, is.first_is, is.children, count, whole);
         sizes = λ disk from below. (room disk from below).0;
         sectors = λ disk from below. subst (λ n. n ≤ sectors_of (size_of starts disk)) (sym is.sectors) (room disk from below).1;
-        some = omega (arith, slabs_is, ok.meta, ok.others);
+        regions = record { meta = omega (arith, is.meta, ok.meta); others = omega (arith, is.meta, slabs_is, ok.others) };
         few = omega (arith, slabs_is, ok.slabs_to);
       },
       subst (λ n. LieOn starts (first + n) shapes) (sym is.children) behind,

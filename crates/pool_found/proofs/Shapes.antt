@@ -27,14 +27,17 @@ same_shape v first a b one other =
     (a.vdev.geometry.sector_size ∙ sym b.vdev.geometry.sector_size) in
     let disk : a.vdev.first ≡ b.vdev.first = one.first_is ∙ sym other.first_is in
     let sectors : a.child_sectors ≡ b.child_sectors = one.sectors ∙ sym other.sectors in
+    let meta : a.meta_slabs ≡ b.meta_slabs = one.meta ∙ sym other.meta in
     let shift : a.metaslab_shift ≡ b.metaslab_shift = one.shift ∙ sym other.shift in
     λ i. record {
       vdev = record { geometry = geometry i; first = disk i };
       child_sectors = sectors i;
       metaslab_shift = shift i;
+      meta_slabs = meta i;
       most_sectors = is_prop→PathP (λ j. sectors j < 2 ^ 34) (λ j. le_prop) a.most_sectors b.most_sectors i;
       least_shift = is_prop→PathP (λ j. 12 ≤ shift j) (λ j. le_prop) a.least_shift b.least_shift i;
       most_shift = is_prop→PathP (λ j. shift j ≤ 20) (λ j. le_prop) a.most_shift b.most_shift i;
+      most_meta = is_prop→PathP (λ j. meta j < 2 ^ 64) (λ j. le_prop) a.most_meta b.most_meta i;
     }
 
 pub same_shapes : (vdevs : List PlainVdev) (first : ℕ) (shapes others : List VdevShape) → AreShapesOf vdevs first shapes → AreShapesOf vdevs first others → shapes ≡ others

@@ -10,6 +10,7 @@ pub record IsShapeOf (v : PlainVdev) (first : ℕ) (shape : VdevShape) : Type 0 
   pub parity : shape.vdev.geometry.parity ≡ v.parity
   pub sectors : shape.child_sectors ≡ v.child_sectors
   pub shift : shape.metaslab_shift ≡ v.slab_shift
+  pub meta : shape.meta_slabs ≡ v.meta_slabs
 
 -- the vdevs take the disks from that one on in order
 abbrev pub AreShapesOf : List PlainVdev → ℕ → List VdevShape → Type 0

@@ -24,6 +24,7 @@ fn shape_of(vdev: &vdev_label::Vdev, first: usize) -> VdevShape
         vdev: Vdev { geometry, first },
         child_sectors: vdev.child_sectors,
         metaslab_shift: vdev.slab_shift as u32,
+        meta_slabs: vdev.meta_slabs,
     }
 }
 

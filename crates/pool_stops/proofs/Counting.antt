@@ -9,8 +9,8 @@ use Rattle.block_pointer.specs.declared.block.Block.{Block}
 use Rattle.block_pointer.specs.declared.copies.Copies.{Copies}
 use Rattle.block_pointer.specs.declared.copies.Copies.TheVariants.{One, Two, Three}
 use Rattle.block_pointer.specs.declared.dva.Dva.{Dva}
-use Rattle.block_store.specs.Places.{IsPlaceIn, shapes_of}
-use Rattle.block_store.specs.Releases.{CopyAt, copies_at, copies_of, copies_of_all}
+use Rattle.block_store.specs.Places.{IsPlaceFor, IsPlaceIn, shapes_of}
+use Rattle.block_store.specs.Releases.{CopyAt, copies_of, copies_of_at, copies_of_all}
 use Rattle.block_store.specs.Shapes.{metaslab_sectors, metaslabs, vdev_sectors}
 use Rattle.block_store.specs.Spaces.{VdevSpace}
 use Rattle.block_store.specs.declared.shape.VdevShape.{VdevShape}
@@ -151,43 +151,48 @@ copies_fit spaces (first ∷ rest) each apart =
 
 -- ---- blocks have copies
 
-some_copies : (n : ℕ) (copies : Copies) → 0 < length (copies_at n (dvas copies))
-some_copies n (One a) = omega arith
-some_copies n (Two a b) = omega arith
-some_copies n (Three a b c) = omega arith
+some_copies : (block : Block) (copies : Copies) → 0 < length (copies_of_at block (dvas copies))
+some_copies block (One a) = omega arith
+some_copies block (Two a b) = omega arith
+some_copies block (Three a b c) = omega arith
 
 as_many_copies : (blocks : List Block) → length blocks ≤ length (copies_of_all blocks)
 as_many_copies [] = omega arith
 as_many_copies (block ∷ blocks) =
-    omega (arith, as_many_copies blocks, some_copies block.property.sectors block.copies, length-append (copies_of block) (copies_of_all blocks))
+    omega (arith, as_many_copies blocks, some_copies block block.copies, length-append (copies_of block) (copies_of_all blocks))
 
 -- a copy of them is one of a block
 pub copy_of : (blocks : List Block) (copy : CopyAt) → Contains (copies_of_all blocks) copy
     → (block : Block) × Contains blocks block × (copy.sectors ≡ block.property.sectors) × Contains (dvas block.copies) copy.place
+    × (copy.copies ≡ length (dvas block.copies))
 copy_of [] copy (k, within, is) = absurd (omega (arith, within))
 copy_of (block ∷ blocks) copy held = ⊎_elim
     (λ first.
-    let at = of_block block.property.sectors (dvas block.copies) copy first in
-    (block, (0, omega arith, refl), at.0, at.1))
+    let at = of_block (dvas block.copies) copy first in
+    (block, (0, omega arith, refl), at.0, at.1, at.2))
     (λ later.
     let rest = copy_of blocks copy later in
-    (rest.0, (suc rest.1.0, omega (arith, rest.1.1), rest.1.2), rest.2, rest.3))
+    (rest.0, (suc rest.1.0, omega (arith, rest.1.1), rest.1.2), rest.2, rest.3, rest.4))
     (Contains-append_cases (copies_of block) (copies_of_all blocks) copy held)
   where
-    of_block : (n : ℕ) (places : List Dva) (it : CopyAt) → Contains (copies_at n places) it → (it.sectors ≡ n) × Contains places it.place
-    of_block n [] it (k, within, is) = absurd (omega (arith, within))
-    of_block n (place ∷ places) it (zero, within, is) = (ap (λ (c : CopyAt). c.sectors) (sym is), (0, omega arith, ap (λ (c : CopyAt). c.place) is))
-    of_block n (place ∷ places) it (suc k, within, is) =
-        let rest = of_block n places it (k, omega (arith, within), is) in
-        (rest.0, (suc rest.1.0, omega (arith, rest.1.1), rest.1.2))
+    of_block : (places : List Dva) (it : CopyAt) → Contains (copies_of_at block places) it
+        → (it.sectors ≡ block.property.sectors) × Contains places it.place × (it.copies ≡ length (dvas block.copies))
+    of_block [] it (k, within, is) = absurd (omega (arith, within))
+    of_block (place ∷ places) it (zero, within, is) =
+        (ap (λ (c : CopyAt). c.sectors) (sym is), (0, omega arith, ap (λ (c : CopyAt). c.place) is), ap (λ (c : CopyAt). c.copies) (sym is))
+    of_block (place ∷ places) it (suc k, within, is) =
+        let rest = of_block places it (k, omega (arith, within), is) in
+        (rest.0, (suc rest.1.0, omega (arith, rest.1.1), rest.1.2), rest.2)
 
 -- so each of them has sectors, in a place of the pool
 pub copy_lies : (spaces : List VdevSpace) (shapes : List VdevShape) (blocks : List Block) → shapes_of spaces ≡ shapes → LieApart shapes blocks
-    → (copy : CopyAt) → Contains (copies_of_all blocks) copy → (0 < copy.sectors) × IsPlaceIn spaces copy.sectors copy.place
+    → (copy : CopyAt) → Contains (copies_of_all blocks) copy → (0 < copy.sectors) × IsPlaceFor spaces copy.sectors copy.copies copy.place
 copy_lies spaces shapes blocks same apart copy held =
     let at = copy_of blocks copy held in
     let some : 0 < copy.sectors = omega (arith, apart.some at.0 at.1, at.2) in
-    (some, subst (λ n. IsPlaceIn spaces n copy.place) (sym at.2) (apart.places spaces same at.0 at.1 copy.place at.3))
+    let here : IsPlaceFor spaces at.0.property.sectors copy.copies copy.place =
+    subst (λ n. IsPlaceFor spaces at.0.property.sectors n copy.place) (sym at.4) (apart.places spaces same at.0 at.1 copy.place at.3) in
+    (some, subst (λ n. IsPlaceFor spaces n copy.copies copy.place) (sym at.2) here)
 
 total_is : (spaces : List VdevSpace) → total spaces ≡ sectors_in (shapes_of spaces)
 unfolding total
@@ -212,7 +217,7 @@ pub blocks_fit : (spaces : List VdevSpace) (shapes : List VdevShape) (blocks : L
     → length blocks ≤ most_blocks shapes
 blocks_fit spaces shapes blocks same few apart =
     let fit : length (copies_of_all blocks) ≤ total spaces =
-    copies_fit spaces (copies_of_all blocks) (λ copy held. let at = copy_lies spaces shapes blocks same apart copy held in lies spaces copy at.0 at.1) apart.apart in
+    copies_fit spaces (copies_of_all blocks) (λ copy held. let at = copy_lies spaces shapes blocks same apart copy held in lies spaces copy at.0 at.1.is_in) apart.apart in
     let all : total spaces ≡ sectors_in shapes = total_is spaces ∙ ap sectors_in same in
     let most : sectors_in shapes ≤ length shapes * (2 ^ 34 * 32) = few_in_vdevs shapes in
     lower (length blocks) (sectors_in shapes) (2 ^ 64 - 1) (omega (arith, as_many_copies blocks, fit, all)) (omega (arith, most, few))

@@ -9,6 +9,8 @@ use Rattle.block_store.specs.Shapes.{metaslab_of, metaslab_sectors, metaslabs}
 use Rattle.block_store.specs.Spaces.{VdevSpace}
 use Rattle.block_store.specs.Uses.{LiesOn}
 use Rattle.block_store.specs.declared.shape.VdevShape.{VdevShape}
+use Rattle.block_store.proofs.TakenBlocks.{taken_shapes}
+use Rattle.block_store.proofs.Taking.{place_for_too}
 use Rattle.block_store.proofs.TakenIn.{Picks, all_spare, into_view, lies_by, out_of_view, picks_filled, picks_planned, viewed, viewed_all, viewed_shapes}
 use Rattle.metaslab.specs.Space.{Space}
 use Rattle.metaslab_group.specs.Spaces.{AreWhollyFree, IsWhollyFree}
@@ -96,10 +98,11 @@ can_take_in spaces after shapes blocks same empty apart cannot =
     let held : Contains (copies_of_all blocks) next =
     subst (λ (them : List CopyAt). Contains them next) (sym cannot.are) (contains-next cannot.done next cannot.left) in
     let lies = copy_lies spaces shapes blocks same apart next held in
-    let is : IsEmpty lies.1.space = All-at IsEmpty spaces next.place.vdev lies.1.space empty lies.1.found in
+    let is : IsEmpty lies.1.is_in.space = All-at IsEmpty spaces next.place.vdev lies.1.is_in.space empty lies.1.is_in.found in
     cannot.not_free (record {
+      place_for = place_for_too spaces after next.sectors next.copies next.place (taken_shapes spaces cannot.done after cannot.taken) lies.1;
       filled_free = free_after filled picks_filled spaces cannot.done after cannot.taken next.sectors next.place (apart_from cannot.done next cannot.left pairs)
-          (free_at filled spaces next.sectors next.place lies.0 lies.1 (unused_filled lies.1.space is));
+          (free_at filled spaces next.sectors next.place lies.0 lies.1.is_in (unused_filled lies.1.is_in.space is));
       planned_free = free_after planned picks_planned spaces cannot.done after cannot.taken next.sectors next.place (apart_from cannot.done next cannot.left pairs)
-          (free_at planned spaces next.sectors next.place lies.0 lies.1 (unused_planned lies.1.space is));
+          (free_at planned spaces next.sectors next.place lies.0 lies.1.is_in (unused_planned lies.1.is_in.space is));
     })

@@ -6,13 +6,13 @@ use Rattle.block_pointer.specs.declared.block.Block.{Block}
 use Rattle.block_pointer.specs.declared.dva.Dva.{Dva}
 use Rattle.block_store.specs.Blocks.{Contents}
 use Rattle.block_store.specs.Places.{ArePlacesApart, ArePlacesIn, Marks, shapes_of}
-use Rattle.block_store.specs.Releases.{CopyAt, copies_at, copies_of, copies_of_all}
+use Rattle.block_store.specs.Releases.{CopyAt, copy_of_at, copies_of, copies_of_at, copies_of_all}
 use Rattle.block_store.specs.Shapes.{IsPlace}
 use Rattle.block_store.specs.Spaces.{VdevSpace}
 use Rattle.block_store.specs.Store.{ArePlaced}
 use Rattle.block_store.specs.declared.shape.VdevShape.{VdevShape}
 use Rattle.block_store.proofs.Planning.{placed_lies}
-use Rattle.block_store.proofs.Taking.{found_too}
+use Rattle.block_store.proofs.Taking.{places_too}
 use Rattle.dataset_snapshots.specs.Pools.{SpellsPool}
 use Rattle.dataset_snapshots.specs.Reach.{reach_of}
 use Rattle.dataset_snapshots.proofs.Readings.{roots_spell_one_pool}
@@ -69,29 +69,29 @@ abbrev AreApart : List Block → Type 0
 AreApart blocks = (block other : Block) (i k : ℕ) (place behind : Dva) → Contains blocks block → Contains blocks other
     → slice_get (dvas block.copies) i ≡ Some place → slice_get (dvas other.copies) k ≡ Some behind → Apart block other i k place behind
 
-copies_apart : (n : ℕ) (places : List Dva) → ((i k : ℕ) (place behind : Dva) → i < k → slice_get places i ≡ Some place → slice_get places k ≡ Some behind → ArePlacesApart place behind)
-    → AllPairs AreCopiesApart (copies_at n places)
-copies_apart n [] each = pairs_none AreCopiesApart
-copies_apart n (place ∷ places) each =
-    pairs_first AreCopiesApart (record { sectors = n; place = place }) (copies_at n places)
-    (λ k d within. let at = here n places k d within in each 0 (suc k) place (slice_index_or (copies_at n places) k d).place (omega arith) refl at)
-    (copies_apart n places (λ i k one two less at at'. each (suc i) (suc k) one two (omega (arith, less)) at at'))
+copies_apart : (block : Block) (places : List Dva) → ((i k : ℕ) (place behind : Dva) → i < k → slice_get places i ≡ Some place → slice_get places k ≡ Some behind → ArePlacesApart place behind)
+    → AllPairs AreCopiesApart (copies_of_at block places)
+copies_apart block [] each = pairs_none AreCopiesApart
+copies_apart block (place ∷ places) each =
+    pairs_first AreCopiesApart (copy_of_at block place) (copies_of_at block places)
+    (λ k d within. let at = here places k d within in each 0 (suc k) place (slice_index_or (copies_of_at block places) k d).place (omega arith) refl at)
+    (copies_apart block places (λ i k one two less at at'. each (suc i) (suc k) one two (omega (arith, less)) at at'))
   where
-    here : (m : ℕ) (them : List Dva) (k : ℕ) (d : CopyAt) → k < length (copies_at m them) → slice_get them k ≡ Some (slice_index_or (copies_at m them) k d).place
-    here m [] k d within = absurd (omega (arith, within))
-    here m (it ∷ them) zero d within = refl
-    here m (it ∷ them) (suc k) d within = here m them k d (omega (arith, within))
+    here : (them : List Dva) (k : ℕ) (d : CopyAt) → k < length (copies_of_at block them) → slice_get them k ≡ Some (slice_index_or (copies_of_at block them) k d).place
+    here [] k d within = absurd (omega (arith, within))
+    here (it ∷ them) zero d within = refl
+    here (it ∷ them) (suc k) d within = here them k d (omega (arith, within))
 
 index_of : {X : Type 0} (xs : List X) (x : X) → Contains xs x → (k : ℕ) × (slice_get xs k ≡ Some x)
 index_of [] x (k, within, is) = absurd (omega (arith, within))
 index_of (y ∷ xs) x (zero, within, is) = (0, ap Some is)
 index_of (y ∷ xs) x (suc k, within, is) = let rest = index_of xs x (k, omega (arith, within), is) in (suc rest.0, rest.1)
 
-place_of : (n : ℕ) (places : List Dva) (copy : CopyAt) → Contains (copies_at n places) copy → Contains places copy.place
-place_of n [] copy (k, within, is) = absurd (omega (arith, within))
-place_of n (place ∷ places) copy (zero, within, is) = (0, omega arith, ap (λ (c : CopyAt). c.place) is)
-place_of n (place ∷ places) copy (suc k, within, is) =
-    let rest = place_of n places copy (k, omega (arith, within), is) in (suc rest.0, omega (arith, rest.1), rest.2)
+place_of : (block : Block) (places : List Dva) (copy : CopyAt) → Contains (copies_of_at block places) copy → Contains places copy.place
+place_of block [] copy (k, within, is) = absurd (omega (arith, within))
+place_of block (place ∷ places) copy (zero, within, is) = (0, omega arith, ap (λ (c : CopyAt). c.place) is)
+place_of block (place ∷ places) copy (suc k, within, is) =
+    let rest = place_of block places copy (k, omega (arith, within), is) in (suc rest.0, omega (arith, rest.1), rest.2)
 
 differ : (i k : ℕ) → i < k → ¬ (i ≡ k)
 differ i k less same = omega (arith, less, same)
@@ -101,12 +101,12 @@ all_apart [] once apart = pairs_none AreCopiesApart
 all_apart (block ∷ blocks) once apart =
     let first : Contains (block ∷ blocks) block = (0, omega arith, refl) in
     pairs_both AreCopiesApart (copies_of block) (copies_of_all blocks)
-    (copies_apart block.property.sectors (dvas block.copies) (λ i k place behind less at at'. ⊎_elim
+    (copies_apart block (dvas block.copies) (λ i k place behind less at at'. ⊎_elim
     (λ same. absurd (differ i k less same.1)) (λ beside. beside) (apart block block i k place behind first first at at')))
     (all_apart blocks (pairs_rest (λ one two. one ≢ two) block blocks once)
     (λ one two i k place behind held held'. apart one two i k place behind (later one held) (later two held')))
     (λ copy other among among'.
-    let at = index_of (dvas block.copies) copy.place (place_of block.property.sectors (dvas block.copies) copy among) in
+    let at = index_of (dvas block.copies) copy.place (place_of block (dvas block.copies) copy among) in
     let of = copy_of blocks other among' in
     let at' = index_of (dvas of.0.copies) other.place of.3 in
     ⊎_elim
@@ -122,12 +122,6 @@ all_apart (block ∷ blocks) once apart =
     with_default (it ∷ them) zero d one within is = is
     with_default (it ∷ them) (suc k) d one within is = with_default them k d one (omega (arith, within)) is
 
-placed_elsewhere : (spaces others : List VdevSpace) (n : ℕ) (places : List Dva) → shapes_of others ≡ shapes_of spaces → ArePlacesIn spaces n places → ArePlacesIn others n places
-placed_elsewhere spaces others n places same are place among =
-    let is = are place among in
-    let there = found_too spaces others place.vdev is.space same is.found in
-    record { space = there.0; found = there.1; is_place = subst (λ (shape : VdevShape). IsPlace shape n place) (sym there.2) is.is_place }
-
 -- blocks that are known lie apart, where each is there once
 lie_apart : (spaces : List VdevSpace) (marks : Marks) (contents : Contents) (blocks : List Block) → ArePlaced spaces marks contents
     → ((block : Block) → Contains blocks block → (bytes : List ℕ) × (contents block ≡ Some bytes)) → AreDistinct blocks → LieApart (shapes_of spaces) blocks
@@ -135,7 +129,7 @@ lie_apart spaces marks contents blocks placed known once = record {
   some = λ block held. let it = known block held in (placed.blocks block it.0 it.1).fits.property.not_empty;
   places = λ others same block held.
       let it = known block held in
-      placed_elsewhere spaces others block.property.sectors (dvas block.copies) same (placed_lies spaces marks contents placed block it.0 it.1);
+      places_too spaces others block.property.sectors (dvas block.copies) same (placed_lies spaces marks contents placed block it.0 it.1);
   apart = all_apart blocks once (λ block other i k place behind held held' at at'.
       let it = known block held in
       let that = known other held' in

@@ -21,9 +21,11 @@ no_pool line vdev starts is count sizes none allowed =
       vdev = record { geometry = vdev.geometry; first = 0 };
       child_sectors = sectors_of line.bytes;
       metaslab_shift = line.metaslab_shift;
+      meta_slabs = vdev.meta_slabs;
       most_sectors = omega (arith, allowed.sizes.disk.most);
       least_shift = allowed.sizes.least;
       most_shift = allowed.sizes.most;
+      most_meta = omega (arith, is.meta, allowed.others, allowed.few);
     } in
     let metaslabs : metaslabs_over vdev.geometry.children line.bytes line.metaslab_shift ≡ metaslabs_over line.disks line.bytes line.metaslab_shift =
     ap (λ disks. metaslabs_over disks line.bytes line.metaslab_shift) is.disks in
@@ -33,13 +35,17 @@ no_pool line vdev starts is count sizes none allowed =
       geometry = refl;
       first_is = refl;
       shift = sym is.shift;
+      meta_slabs = refl;
       disks = omega (arith, is.disks, count);
       sizes = λ disk from below. subst IsAllowedSize (size disk below) allowed.sizes.disk;
       sectors = record {
         least = λ disk from below. let same = ap sectors_of (size disk below) in omega (arith, same);
         one = (0, omega arith, omega (arith, has, is.disks), ap sectors_of (size 0 (omega (arith, has, is.disks))));
       };
-      some = omega (arith, metaslabs, allowed.own, allowed.others);
+      regions = record {
+        meta = omega (arith, is.meta, allowed.own);
+        others = omega (arith, is.meta, metaslabs, allowed.others);
+      };
       few = omega (arith, metaslabs, allowed.few);
     } in
     none (shape ∷ []) (record { some = omega arith; few = omega arith }, (is_shape, children ∙ sym count))

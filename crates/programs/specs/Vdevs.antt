@@ -36,6 +36,7 @@ pub record IsVdevOf (line : PoolLine) (vdev : VdevConfig) : Type 0 where
   pub disks : vdev.geometry.children ≡ line.disks
   pub parities : vdev.geometry.parity ≡ line.parities
   pub shift : vdev.metaslab_shift ≡ line.metaslab_shift
+  pub meta : vdev.meta_slabs ≡ line.meta_metaslabs
 
 -- why a line makes no pool
 abbrev pub RefusesPool : PoolLine → Refusal → Type 0

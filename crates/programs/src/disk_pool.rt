@@ -43,9 +43,9 @@ pub(crate) fn vdev_of(line: &PoolLine) -> Option<VdevConfig>
     let vdev = VdevConfig {
         geometry,
         metaslab_shift: line.metaslab_shift,
+        meta_slabs: u64::from(line.meta_metaslabs),
     };
-    let own = u64::from(line.meta_metaslabs);
-    if own == 0 || metaslabs(vdev, line.bytes)? <= own {
+    if vdev.meta_slabs == 0 || metaslabs(vdev, line.bytes)? <= vdev.meta_slabs {
         return None;
     }
     Some(vdev)

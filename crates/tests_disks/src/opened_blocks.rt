@@ -157,6 +157,7 @@ fn small_shape() -> Result<VdevShape, Fail> {
         },
         child_sectors,
         metaslab_shift: 12,
+        meta_slabs: 1,
     })
 }
 

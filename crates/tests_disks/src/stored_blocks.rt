@@ -59,6 +59,7 @@ enum Forgery {
     NoVdev,
     BehindAll,
     AcrossMetaslabs,
+    InMetaRegion,
     Wide,
     Digest,
 }
@@ -233,6 +234,7 @@ fn moved(place: Dva, forgery: Forgery) -> Dva {
         Forgery::NoVdev => moved.vdev = 1,
         Forgery::BehindAll => moved.offset = 5 * 4096,
         Forgery::AcrossMetaslabs => moved.offset = 4096 - 1,
+        Forgery::InMetaRegion => moved.offset = 4 * 4096,
         Forgery::Wide => moved.allocated = place.allocated.saturating_add(1),
         _ => {}
     }
@@ -330,6 +332,7 @@ pub(crate) fn vdev(children: u32, parity: u32, metaslab_shift: u32) -> Result<Vd
     Ok(VdevConfig {
         geometry: Geometry::new(children, parity, 9)?,
         metaslab_shift,
+        meta_slabs: 1,
     })
 }
 
@@ -343,8 +346,8 @@ pub(crate) fn disks(alloc: Global, sizes: &[usize], fault: Fault) -> Result<Vec<
     Ok(disks)
 }
 
-/// One vdev of three small disks with one parity, whose 21504 sectors are five metaslabs of 4096; the second disk has
-/// this fault.
+/// One vdev of three small disks with one parity, whose 21504 sectors are five metaslabs of 4096, the last one its meta
+/// region; the second disk has this fault.
 fn walk(
     alloc: Global,
     fault: Fault,
@@ -424,6 +427,7 @@ fn other_pointers_are_refused(rt: HostRuntime) -> Result<(), Fail> {
         (Step::ReadForged(0, Forgery::NoVdev), bad),
         (Step::ReadForged(0, Forgery::BehindAll), bad),
         (Step::ReadForged(0, Forgery::AcrossMetaslabs), bad),
+        (Step::ReadForged(0, Forgery::InMetaRegion), bad),
         (Step::ReadForged(0, Forgery::Wide), bad),
         (
             Step::ReadForged(0, Forgery::Digest),
@@ -467,20 +471,22 @@ fn a_disk_whose_write_fails_is_out(rt: HostRuntime) -> Result<(), Fail> {
     Ok(())
 }
 
-/// A copy of 128 KiB takes up 384 sectors here, so ten have room in each of the five metaslabs: three of sixteen blocks,
-/// and two more.
+/// A copy of 128 KiB takes up 384 sectors here, so ten have room in each of the five metaslabs: in the meta region three
+/// of three blocks, and one more, and before it two of twenty blocks.
 #[test]
 fn a_full_store_refuses_and_keeps_its_blocks(rt: HostRuntime) -> Result<(), Fail> {
     let mut steps = Vec::new(rt.alloc());
     steps.push((Step::Begin, Outcome::Done))?;
-    for seed in 0..16u8 {
-        steps.push((Step::Plan(seed, LARGE, CopyCount::Three), Outcome::Done))?;
+    for seed in 0..23u8 {
+        let copies = if seed < 3 { CopyCount::Three } else { CopyCount::Two };
+        steps.push((Step::Plan(seed, LARGE, copies), Outcome::Done))?;
         steps.push((Step::Write, Outcome::Count(0)))?;
     }
     let full = Outcome::Refused(Refusal::NoSpace);
-    steps.push((Step::Plan(16, LARGE, CopyCount::Three), full))?;
+    steps.push((Step::Plan(23, LARGE, CopyCount::Three), full))?;
+    steps.push((Step::Plan(24, LARGE, CopyCount::Two), full))?;
     steps.push((Step::Finish, Outcome::Done))?;
-    for which in 0..16 {
+    for which in 0..23 {
         steps.push((Step::Read(which, &[]), Outcome::Right))?;
     }
     assert_eq!(rt; walk(rt.alloc(), NEVER, steps.as_slice())?, None);
@@ -559,14 +565,14 @@ fn two_copies_are_on_two_vdevs(rt: HostRuntime) -> Result<(), Fail> {
 #[test]
 fn a_vdev_has_the_sectors_of_its_smallest_disk(rt: HostRuntime) -> Result<(), Fail> {
     let sizes = [SMALL_DISK + 0x40000, SMALL_DISK + 0x3ffff];
-    let shown = shown_by(rt.alloc(), &sizes, &[vdev(2, 1, 13)?], &[])?;
+    let shown = shown_by(rt.alloc(), &sizes, &[vdev(2, 1, 12)?], &[])?;
     let expected = Shown {
         wrong: None,
         vdevs: 1,
         disks: 2,
         given_back: 2,
         child_sectors: 7168,
-        metaslabs: 1,
+        metaslabs: 3,
     };
     assert_eq!(rt; shown, expected);
     Ok(())
@@ -592,6 +598,7 @@ fn what_is_not_within_the_limits_is_refused(rt: HostRuntime) -> Result<(), Fail>
         (&small, &pair),
         (&[SMALL_DISK - 1; 2], &pair),
         (&small[..2], &[vdev(2, 1, 11)?]),
+        (&small[..2], &[vdev(2, 1, 13)?]),
         (&small[..2], &[vdev(2, 1, 20)?]),
     ];
     for (index, (sizes, vdevs)) in cases.iter().enumerate() {

@@ -56,6 +56,7 @@ fn pool<R: Files<File = File>>(alloc: Global, files: &R) -> Result<FilePool, Fai
     let vdev = VdevConfig {
         geometry: Geometry::new(3, 1, 9)?,
         metaslab_shift: 12,
+        meta_slabs: 1,
     };
     let disks = disks(alloc, files)?;
     let core = Core::create(alloc, disks, &[vdev])?;

@@ -79,6 +79,7 @@ fn pool_over(alloc: Global, reads: &Rc<Cell<u64>>) -> Result<CountedPool, Fail> 
     let vdev = VdevConfig {
         geometry: Geometry::new(3, 1, 9)?,
         metaslab_shift: 12,
+        meta_slabs: 1,
     };
     let disks = disks(alloc, reads)?;
     let core = Core::create(alloc, disks, &[vdev])?;

@@ -78,6 +78,7 @@ impl FaultyPool {
         let vdev = VdevConfig {
             geometry,
             metaslab_shift: line.metaslab_shift,
+            meta_slabs: u64::from(line.meta_metaslabs),
         };
         let Ok(disks) = disks_of(alloc, line, faults) else {
             return Err(Refusal::NoMemory);

@@ -185,6 +185,7 @@ fn told_of_pool(alloc: Global, sets: &[&[usize]]) -> Result<String, Fail> {
     let vdev = VdevConfig {
         geometry: Geometry::new(4, 2, 9)?,
         metaslab_shift: 12,
+        meta_slabs: 1,
     };
     let disks = four_disks(alloc)?;
     let mut core = Core::create(alloc, disks, &[vdev])?;

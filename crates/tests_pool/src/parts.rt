@@ -445,6 +445,7 @@ pub(crate) fn three_disks() -> Result<VdevConfig, Fail> {
     Ok(VdevConfig {
         geometry: Geometry::new(3, 1, 9)?,
         metaslab_shift: 12,
+        meta_slabs: 1,
     })
 }
 
@@ -517,19 +518,20 @@ fn an_intake_takes_a_group_in(rt: HostRuntime) -> Result<(), Fail> {
 /// 128 KiB.
 const LARGE: u64 = 0x20000;
 
-/// A pool of one vdev over two small disks, of which each block can lose one: three metaslabs,
-/// each for eight large blocks.
+/// A pool of one vdev over two small disks, of which each block can lose one: the meta region of one
+/// metaslab, and before it two, each for eight large blocks.
 fn small_commit(alloc: Global) -> Result<Commit<MemDisk>, Fail> {
     let vdev = VdevConfig {
         geometry: Geometry::new(2, 1, 9)?,
         metaslab_shift: 12,
+        meta_slabs: 1,
     };
     let disks = MemDisk::several(alloc, 2, 0x800000)?;
     Ok(Commit::new(alloc, disks, &[vdev])?)
 }
 
 /// The items of groups: one makes a volume of no whole number of blocks, one makes v; and then
-/// writes into 22 and into 21 large blocks.
+/// writes into 15 and into 14 large blocks.
 fn item_of(alloc: Global, group: u64, number: u64) -> Result<Item, AllocError> {
     Ok(match group {
         0 => Item::Action(action(alloc, number, "v", 1000, 512)?),
@@ -545,7 +547,7 @@ fn item_of(alloc: Global, group: u64, number: u64) -> Result<Item, AllocError> {
 }
 
 fn items_of(alloc: Global, group: u64) -> Result<Pipeline, Fail> {
-    let count = if group < 2 { 1 } else { 24 - group.min(24) };
+    let count = if group < 2 { 1 } else { 17 - group.min(17) };
     let mut pipeline = Pipeline::new(alloc, 0);
     pipeline.hold(1)?;
     for number in 0..count {
@@ -594,8 +596,8 @@ fn planned_again(alloc: Global) -> Result<String, Fail> {
 }
 
 // A volume of 1000 bytes has no whole number of blocks. Behind the root that has v, each metaslab
-// has room for seven large blocks more: 22 are one too many, and then 21 find room, and all above
-// them what is left behind.
+// before the meta region has room for seven large blocks more: 15 are one too many, and then 14 find
+// room, and all above them what is left behind.
 #[test]
 fn a_refused_plan_leaves_its_room(rt: HostRuntime) -> Result<(), Fail> {
     assert_eq!(rt;

@@ -321,10 +321,10 @@ read v 1022 4 -> refused 2 DiskFault
 read v 1020 4 -> 08x4
 ";
 
-/// Each of the three metaslabs has room for eight blocks with their parity. Behind what groups 4
-/// and 5 wrote there is room for six in the first, which has the block that is stored and the first
-/// copies of all else, and for seven in each of the others: 21 blocks are one too many.
-const FULL: &str = "pool 1 2 8388608 12 2
+/// Each of the two metaslabs before the meta region has room for eight blocks with their parity. Behind
+/// what groups 4 and 5 wrote there is room for six in the first, which has the block that is stored and
+/// the first copies of all else, and for seven in the other: 14 blocks are one too many.
+const FULL: &str = "pool 1 2 8388608 12 1
 hold 1 -> held 4
 create 1 1 v 4194304 131072 -> receipt 4
 release 1 -> released
@@ -335,8 +335,7 @@ release 1 -> released
 sync -> committed 5
 hold 1 -> held 6
 write 1 3 v 0 1048576 06 -> receipt 6
-write 1 4 v 1048576 1048576 06 -> receipt 6
-write 1 5 v 2097152 655360 06 -> receipt 6
+write 1 4 v 1048576 786432 06 -> receipt 6
 release 1 -> released
 sync -> refused 3 NoSpace
 device -> refused 13 NotNow
@@ -345,11 +344,28 @@ under 5 v 511 2 -> 05x1 00x1
 read v 511 2 -> 06x2
 ";
 
-/// With 20 blocks it is full: what is above them lies in what is left behind them. The ninth
+/// The three metaslabs before the meta region have room for ten blocks each: for 30 of the 32 that are
+/// written.
+const ONE_VOLUME: &str = "pool 1 3 8388608 12 2
+hold 1 -> held 4
+create 1 1 v 4194304 131072 -> receipt 4
+release 1 -> released
+sync -> committed 4
+hold 1 -> held 5
+write 1 2 v 0 1048576 aa -> receipt 5
+write 1 3 v 1048576 1048576 aa -> receipt 5
+write 1 4 v 2097152 1048576 aa -> receipt 5
+write 1 5 v 3145728 1048576 aa -> receipt 5
+release 1 -> released
+sync -> refused 3 NoSpace
+read v 0 512 -> aax512
+";
+
+/// With 13 blocks it is full: what is above them lies in what is left behind them. The ninth
 /// write of the plan to disk 1 fails, behind 50 for the groups before, and the next plan uses its
 /// room.
 const JUST_ROOM: &str = "fault 1 write 58
-pool 1 2 8388608 12 2
+pool 1 2 8388608 12 1
 hold 1 -> held 4
 create 1 1 v 4194304 131072 -> receipt 4
 release 1 -> released
@@ -360,8 +376,7 @@ release 1 -> released
 sync -> committed 5
 hold 1 -> held 6
 write 1 3 v 131072 1048576 06 -> receipt 6
-write 1 4 v 1179648 1048576 06 -> receipt 6
-write 1 5 v 2228224 524288 06 -> receipt 6
+write 1 4 v 1179648 655360 06 -> receipt 6
 release 1 -> released
 close -> closed 6
 quiesced -> quiesced 6
@@ -371,13 +386,13 @@ times 4 device -> moved Blocks
 device -> replan 1
 commit -> committed 6
 under 6 v 511 2 -> 05x1 00x1
-under 6 v 2621440 2 -> 06x2
-under 5 v 2621440 2 -> 00x2
+under 6 v 1703936 2 -> 06x2
+under 5 v 1703936 2 -> 00x2
 ";
 
-/// A volume of 12 blocks is written whole. Of the 21 for which its metaslabs had room, fewer than
+/// A volume of 12 blocks is written whole. Of the 14 for which its metaslabs had room, fewer than
 /// 12 are left: none to write it once more, and the group before stays as it is.
-const WRITTEN_TWICE: &str = "pool 1 2 8388608 12 2
+const WRITTEN_TWICE: &str = "pool 1 2 8388608 12 1
 hold 1 -> held 4
 create 1 1 v 1572864 131072 -> receipt 4
 release 1 -> released
@@ -401,71 +416,70 @@ under 5 v 1572352 512 -> aax512
 under 6 v 0 512 -> refused 17 GroupGone
 ";
 
-/// Two blocks of a volume of 12 are written again in each of 12 groups. Its metaslabs have room for 21, so what groups replace
+/// Two blocks of a volume of six are written again in each of 12 groups. Its metaslabs have room for 14, so what groups replace
 /// is used again three groups later.
-const ROOM_GIVEN_BACK: &str = "pool 1 2 8388608 12 2
+const ROOM_GIVEN_BACK: &str = "pool 1 2 8388608 12 1
 hold 1 -> held 4
-create 1 1 v 1572864 131072 -> receipt 4
+create 1 1 v 786432 131072 -> receipt 4
 release 1 -> released
 sync -> committed 4
 hold 1 -> held 5
-write 1 2 v 0 1048576 aa -> receipt 5
-write 1 3 v 1048576 524288 aa -> receipt 5
+write 1 2 v 0 786432 aa -> receipt 5
 release 1 -> released
 sync -> committed 5
 hold 1 -> held 6
-write 1 4 v 131072 262144 06 -> receipt 6
+write 1 3 v 131072 262144 06 -> receipt 6
 release 1 -> released
 sync -> committed 6
 hold 1 -> held 7
-write 1 5 v 131072 262144 07 -> receipt 7
+write 1 4 v 131072 262144 07 -> receipt 7
 release 1 -> released
 sync -> committed 7
 hold 1 -> held 8
-write 1 6 v 131072 262144 08 -> receipt 8
+write 1 5 v 131072 262144 08 -> receipt 8
 release 1 -> released
 sync -> committed 8
 hold 1 -> held 9
-write 1 7 v 131072 262144 09 -> receipt 9
+write 1 6 v 131072 262144 09 -> receipt 9
 release 1 -> released
 sync -> committed 9
 hold 1 -> held 10
-write 1 8 v 131072 262144 0a -> receipt 10
+write 1 7 v 131072 262144 0a -> receipt 10
 release 1 -> released
 sync -> committed 10
 hold 1 -> held 11
-write 1 9 v 131072 262144 0b -> receipt 11
+write 1 8 v 131072 262144 0b -> receipt 11
 release 1 -> released
 sync -> committed 11
 hold 1 -> held 12
-write 1 10 v 131072 262144 0c -> receipt 12
+write 1 9 v 131072 262144 0c -> receipt 12
 release 1 -> released
 sync -> committed 12
 hold 1 -> held 13
-write 1 11 v 131072 262144 0d -> receipt 13
+write 1 10 v 131072 262144 0d -> receipt 13
 release 1 -> released
 sync -> committed 13
 hold 1 -> held 14
-write 1 12 v 131072 262144 0e -> receipt 14
+write 1 11 v 131072 262144 0e -> receipt 14
 release 1 -> released
 sync -> committed 14
 hold 1 -> held 15
-write 1 13 v 131072 262144 0f -> receipt 15
+write 1 12 v 131072 262144 0f -> receipt 15
 release 1 -> released
 sync -> committed 15
 hold 1 -> held 16
-write 1 14 v 131072 262144 10 -> receipt 16
+write 1 13 v 131072 262144 10 -> receipt 16
 release 1 -> released
 sync -> committed 16
 hold 1 -> held 17
-write 1 15 v 131072 262144 11 -> receipt 17
+write 1 14 v 131072 262144 11 -> receipt 17
 release 1 -> released
 sync -> committed 17
 under 17 v 131071 2 -> aax1 11x1
 under 16 v 393215 2 -> 10x1 aax1
 under 15 v 131072 512 -> 0fx512
 under 14 v 131072 512 -> refused 17 GroupGone
-read v 1572352 512 -> aax512
+read v 785920 512 -> aax512
 ";
 
 /// The schedules that have other replies than these, or nothing.
@@ -503,7 +517,7 @@ fn failing_disks_have_their_replies(rt: HostRuntime) -> Result<(), Fail> {
 
 #[test]
 fn a_full_pool_has_its_replies(rt: HostRuntime) -> Result<(), Fail> {
-    assert_eq!(rt; changed_in(rt.alloc(), &[FULL])?.as_str(), "");
+    assert_eq!(rt; changed_in(rt.alloc(), &[FULL, ONE_VOLUME])?.as_str(), "");
     Ok(())
 }
 

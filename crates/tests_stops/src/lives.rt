@@ -70,6 +70,7 @@ fn shape() -> Result<VdevShape, Refusal> {
         vdev,
         child_sectors: 7168,
         metaslab_shift: 12,
+        meta_slabs: 2,
     })
 }
 

@@ -44,6 +44,7 @@ fn new_store(alloc: Global) -> Result<LossyStore, Fail> {
     let vdev = VdevConfig {
         geometry: Geometry::new(3, 1, 9)?,
         metaslab_shift: 12,
+        meta_slabs: 1,
     };
     let disks = six_disks(alloc)?;
     Ok(BlockStore::new(alloc, disks, &[vdev, vdev])?)

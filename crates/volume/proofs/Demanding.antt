@@ -34,7 +34,7 @@ ObjectsHave old mid set birth copies change =
 
 -- and then the set's block
 pub places_with_set : (old mid new : Store) (set : ObjectSet) (birth : ℕ) (copies : SetCopies) (change : Change) (block : Block) → copies ≡ copies_of kinds.Volume
-    → ObjectsHave old mid set birth copies change → length (dvas block.copies) ≡ 2 → AreChosen mid.spaces [] 2 (dvas block.copies) new.spaces → HasPlacesFor old new set birth change
+    → ObjectsHave old mid set birth copies change → length (dvas block.copies) ≡ 2 → AreChosen mid.spaces [] 2 2 (dvas block.copies) new.spaces → HasPlacesFor old new set birth change
 places_with_set old mid new set birth copies change block same objects two chosen = (
   objects.0 ++ demand_of_set ∷ [],
   record {

@@ -6,8 +6,9 @@ use Rattle.block_store.proofs.Steps.{no_room_now, no_room_on, steps_on, true_bef
 use Rattle.dnode_tree.proofs.Refusing.{ok_both, passed_on}
 use Rattle.objset.proofs.Kept.{objects_stand}
 use Rattle.block_pointer.specs.declared.block.Block.{Block}
+use Rattle.block_pointer.specs.Copies.{dvas}
 use Rattle.block_store.specs.Blocks.{count_of}
-use Rattle.block_store.specs.Places.{RanOut}
+use Rattle.block_store.specs.Places.{AreChosen, RanOut}
 use Rattle.block_store.specs.Store.{Store}
 use Rattle.dnode.specs.declared.object_set.ObjectSetKind.{ObjectSetKind}
 use Rattle.dnode.specs.declared.object_set.ObjectSetKind.TheVariants.{Meta}
@@ -85,7 +86,9 @@ returns-in_err-rewrite-clause-refused g c = passed_on _ _ _ c.from_residual.ensu
 pub returns-clause-places : goal.returns-clause-places
 returns-clause-places g c =
     ok_so c.plan_set.result _ _ (λ block both. root_places c.args.store.now c.change.new.store c.plan_set.new.store c.args.set.now c.args.group _ c.args.changes.now block (ap copies_of c.requires.kind)
-    c.in_ok-rewrite.ensures.places (both.0 ∙ three (c.in_ok-rewrite.ensures.kind ∙ c.requires.kind)) both.1) (ok_both c.plan_set.result _ _ c.plan_set.ensures.copies c.plan_set.ensures.places)
+    c.in_ok-rewrite.ensures.places (both.0 ∙ three (c.in_ok-rewrite.ensures.kind ∙ c.requires.kind))
+    (subst (λ (count : ℕ). AreChosen c.change.new.store.spaces [] 2 count (dvas block.copies) c.plan_set.new.store.spaces)
+    (three (c.in_ok-rewrite.ensures.kind ∙ c.requires.kind)) both.1)) (ok_both c.plan_set.result _ _ c.plan_set.ensures.copies c.plan_set.ensures.places)
 
 pub returns-clause-refused : goal.returns-clause-refused
 returns-clause-refused g c =

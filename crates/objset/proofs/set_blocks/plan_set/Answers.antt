@@ -6,3 +6,6 @@ returns-clause-copies g c = rw (sym c.of_kind-copies.ensures.are) c.plan_set.ens
 
 pub returns-clause-no_room : goal.returns-clause-no_room
 returns-clause-no_room g c = rw (sym c.of_kind-copies.ensures.are) c.plan_set.ensures.no_room
+
+pub returns-clause-places : goal.returns-clause-places
+returns-clause-places g c = rw (sym c.of_kind-copies.ensures.are) c.plan_set.ensures.places

@@ -64,7 +64,7 @@ vdev_small guid shape few =
       parity = omega (arith, shape.vdev.geometry.most_parity);
       child_sectors = omega (arith, shape.most_sectors);
       slab_shift = omega (arith, shape.most_shift);
-      meta_slabs = omega arith;
+      meta_slabs = omega (arith, shape.most_meta);
       few = omega (arith, counted_length (suc guid) shape.vdev.geometry.children, shape.vdev.geometry.most_children);
       children = counted_words (suc guid) shape.vdev.geometry.children (omega (arith, few, shape.vdev.geometry.most_children));
     }

@@ -1,7 +1,8 @@
 use Rattle.std.proofs.Common.{◌≡◌, ◌∙◌, ℕ, [], ap, inl, inr, ⊎_elim, refl, subst}
 use Rattle.block_store.proofs.Steps.{steps_on, true_before, no_room_now, no_room_on}
+use Rattle.block_pointer.specs.Copies.{dvas}
 use Rattle.block_store.specs.Blocks.{count_of}
-use Rattle.block_store.specs.Places.{RanOut}
+use Rattle.block_store.specs.Places.{AreChosen, RanOut}
 use Rattle.block_store.specs.Store.{Store}
 use Rattle.dnode.specs.declared.object_set.ObjectSetKind.{ObjectSetKind}
 use Rattle.dnode.specs.declared.object_set.ObjectSetKind.TheVariants.{Volume}
@@ -78,7 +79,9 @@ returns-in_err-block-clause-refused g c =
 pub returns-clause-places : goal.returns-clause-places
 returns-clause-places g c =
     places_with_set c.args.store.now c.change.new.store c.plan_set.new.store c.args.set.now c.args.birth (copies_of c.args.set.now.kind) c.args.change c.in_ok-block.block (ap copies_of c.requires.kind)
-    c.in_ok-rewrite.ensures.places (c.in_ok-block.ensures.copies ∙ count_two (c.in_ok-rewrite.ensures.kind ∙ c.requires.kind)) c.in_ok-block.ensures.places
+    c.in_ok-rewrite.ensures.places (c.in_ok-block.ensures.copies ∙ count_two (c.in_ok-rewrite.ensures.kind ∙ c.requires.kind))
+    (subst (λ (count : ℕ). AreChosen c.change.new.store.spaces [] 2 count (dvas c.in_ok-block.block.copies) c.plan_set.new.store.spaces)
+    (count_two (c.in_ok-rewrite.ensures.kind ∙ c.requires.kind)) c.in_ok-block.ensures.places)
 
 pub returns-in_err-rewrite-clause-no_room : goal.returns-in_err-rewrite-clause-no_room
 returns-in_err-rewrite-clause-no_room g c =

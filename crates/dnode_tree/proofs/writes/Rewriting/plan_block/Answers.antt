@@ -18,7 +18,7 @@ returns-clause-fits g c =
     let same = block.property ∙ c.property_at.ensures in
     let some : 0 < c.property_at.result.sectors = subst (λ p. 0 < p.sectors) (sym c.property_at.ensures) property.not_empty in
     record {
-      copies = chosen_fit _ _ _ _ _ some c.vdevs_are_short.ensures c.in_ok-planned.ensures.places;
+      copies = chosen_fit _ _ _ _ _ _ some c.vdevs_are_short.ensures c.in_ok-planned.ensures.places;
       property = subst FitsProperty (sym same) property;
       born = omega (arith, block.birth);
       birth = omega (arith, block.birth);
@@ -61,4 +61,7 @@ pub returns-clause-place : goal.returns-clause-place
 returns-clause-place g c =
     λ first.
     one_placed c.args.self.node.now c.args.self.copies _ _ c.args.level first _ (c.in_ok-planned.ensures.block.count ∙ c.at.ensures)
-    (subst (λ p. AreChosen c.args.store.now.spaces [] p.sectors (dvas c.in_ok-planned.planned.copies) c.plan_write.new.self.spaces) c.property_at.ensures c.in_ok-planned.ensures.places)
+    (subst (λ n. AreChosen c.args.store.now.spaces [] (property_of c.args.self.node.now c.args.level).sectors n (dvas c.in_ok-planned.planned.copies) c.plan_write.new.self.spaces)
+    c.at.ensures
+    (subst (λ p. AreChosen c.args.store.now.spaces [] p.sectors (count_of c.at.result) (dvas c.in_ok-planned.planned.copies) c.plan_write.new.self.spaces) c.property_at.ensures
+    c.in_ok-planned.ensures.places))
