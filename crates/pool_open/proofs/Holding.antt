@@ -3,6 +3,7 @@ use Rattle.std.proofs.Common.{◌≡◌, ℕ, suc, Bool, false, List, [], ◌∷
 use Rattle.std.specs.Prelude.{replicate, slice_index}
 use Rattle.model_disk.specs.Joint.{Disks, content}
 use Rattle.raidz_io.specs.Stands.{ExtentStands}
+use Rattle.block_pointer.specs.Copies.{dvas}
 use Rattle.block_store.specs.Blocks.{Contents}
 use Rattle.block_store.specs.Elsewhere.{IsForBlocks, WritesElsewhereKeep}
 use Rattle.block_store.specs.Places.{shapes_of, IsCopy}
@@ -10,6 +11,7 @@ use Rattle.block_store.specs.Shapes.{IsPlace}
 use Rattle.block_store.specs.declared.shape.VdevShape.{VdevShape}
 use Rattle.block_store.specs.Store.{Store, Holds, is_out, lost, outs_from}
 use Rattle.block_store.proofs.Steps.{shape_found}
+use Rattle.block_store.proofs.Taking.{places_too}
 use Rattle.pool_open.specs.Held.{AlikeStoresHoldAlike, ClaimsKeepWhatIsHeld, HoldOver, IsStoreOver}
 use Rattle.pool_open.proofs.Claiming.{claims_spare_blocks}
 
@@ -17,13 +19,8 @@ held_alike : (one other : Store) (stored : Contents) → other.disks ≡ one.dis
     → ((birth : ℕ) → lost other birth ≡ lost one birth) → Holds one stored → Holds other stored
 held_alike one other stored disks shapes lose held = record {
   blocks = held.blocks;
-  places = λ block bytes known place has.
-      let was = held.places block bytes known place has in
-      let there = shape_found other.spaces one.spaces place.vdev was.space (sym shapes) was.found in record {
-        space = there.0;
-        found = there.1;
-        is_place = subst (λ shape. IsPlace shape block.property.sectors place) (sym there.2) was.is_place;
-      };
+  places = λ block bytes known.
+      places_too one.spaces other.spaces block.property.sectors (dvas block.copies) shapes (held.places block bytes known);
   stand = λ block bytes i extent known copy.
       let at = copy.extent_is in
       let there = shape_found one.spaces other.spaces copy.place.vdev at.space shapes at.found in

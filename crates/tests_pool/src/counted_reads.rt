@@ -74,12 +74,12 @@ fn disks(alloc: Global, reads: &Rc<Cell<u64>>) -> Result<Vec<CountedDisk<MemDisk
     Ok(disks)
 }
 
-/// One vdev of three disks, with one parity.
+/// One vdev of three disks, with one parity: three metaslabs for volumes, and two for what leads to them.
 fn pool_over(alloc: Global, reads: &Rc<Cell<u64>>) -> Result<CountedPool, Fail> {
     let vdev = VdevConfig {
         geometry: Geometry::new(3, 1, 9)?,
         metaslab_shift: 12,
-        meta_slabs: 1,
+        meta_slabs: 2,
     };
     let disks = disks(alloc, reads)?;
     let core = Core::create(alloc, disks, &[vdev])?;

@@ -220,10 +220,10 @@ read w 510 4 -> 05x2 00x2
 under 5 v 510 4 -> 03x4
 ";
 
-/// Disk 1 fails its first write for group 5, behind 26 of blocks and four of slots for group 4, and disk 2 its first flush for
+/// Disk 1 fails its first write for group 5, behind 27 of blocks and four of slots for group 4, and disk 2 its first flush for
 /// group 6, behind two for each group before: that is one disk too many. Groups 5 and 6 have 39 columns each, of which the other
-/// two disks have 26 and 27: a record has no column on one of the three.
-const LEFT_OUT: &str = "fault 1 write 30
+/// two disks have 26.
+const LEFT_OUT: &str = "fault 1 write 31
 fault 2 flush 4
 pool 1 3 8388608 12 2
 hold 1 -> held 4
@@ -274,10 +274,10 @@ release 1 -> refused 6 NoHold
 device -> refused 4 Suspended
 ";
 
-/// Two disks fail their first slot for group 5, behind 27 and 26 writes of blocks and four slots for group 4, and 16 and 16 for
+/// Two disks fail their first slot for group 5, behind 27 writes of blocks and four slots each for group 4, and 15 and 16 writes for
 /// group 5: without the first the commit goes on, without the second the pool is suspended, and the group isn't committed.
-const TOO_FEW_SLOTS: &str = "fault 0 write 47
-fault 1 write 46
+const TOO_FEW_SLOTS: &str = "fault 0 write 46
+fault 1 write 47
 pool 1 3 8388608 12 2
 hold 1 -> held 4
 create 1 1 v 1024 512 -> receipt 4
@@ -301,11 +301,11 @@ under 4 v 510 4 -> refused 2 DiskFault
 under 5 v 510 4 -> refused 17 GroupGone
 ";
 
-/// Each disk fails each call behind group 4, for which the disks have 27, 26 and 28 writes, a flush, four slots and a flush: what one
-/// pending write has whole is read all the same, and a byte beside it isn't.
+/// Each disk fails each call behind group 4, for which each has 27 writes, a flush, four slots and a flush: what one pending write
+/// has whole is read all the same, and a byte beside it isn't.
 const COVERED: &str = "fault 0 from 33
-fault 1 from 32
-fault 2 from 34
+fault 1 from 33
+fault 2 from 33
 pool 1 3 8388608 12 2
 hold 1 -> held 4
 create 1 1 v 2048 512 -> receipt 4
@@ -552,12 +552,12 @@ const NO_DISK_2: &str = "missing 0
 under 5 v 510 4 -> refused 2 DiskFault
 ";
 
-/// One write of blocks of one disk fails. For group 4 the disks have 27, 26 and 28 of these, for group 5 16, 16 and 14, behind four
-/// of slots: the first on disk 0, one in the middle on disk 1, and the last on disk 2, of each group.
+/// One write of blocks of one disk fails. For group 4 the disks have 27 of these each, for group 5 15, 16 and 15, behind four of
+/// slots: the first on disk 0, one in the middle on disk 1, and the last on disk 2, of each group.
 const WRITE_FAULTS: [(&str, &str); 6] = [
     ("fault 0 at 0\n", NO_DISK_0),
     ("fault 1 write 13\n", NO_DISK_1),
-    ("fault 2 write 27\n", NO_DISK_2),
+    ("fault 2 write 26\n", NO_DISK_2),
     ("fault 0 write 31\n", NO_DISK_0),
     ("fault 1 write 38\n", NO_DISK_1),
     ("fault 2 write 45\n", NO_DISK_2),
@@ -573,24 +573,23 @@ const SLOT_FAULTS: [(&str, &str); 2] = [
 /// one of those for group 5.
 const FLUSH_FAULTS: [(&str, &str); 6] = [
     ("fault 0 at 27\n", NO_DISK_0),
-    ("fault 1 at 26\n", NO_DISK_1),
-    ("fault 2 at 28\n", NO_DISK_2),
+    ("fault 1 at 27\n", NO_DISK_1),
+    ("fault 2 at 27\n", NO_DISK_2),
     ("fault 0 flush 1\n", NO_DISK_0),
     ("fault 1 flush 2\n", NO_DISK_1),
     ("fault 2 flush 3\n", NO_DISK_2),
 ];
 
-/// One read of one disk fails. Where each block of the two is read by a way of its own, the disks have 1, 9 and 11 reads for what
-/// is pending, then 1, 15 and 17 for the plan of group 5, then 12, 13 and 2 under it, and 1, 9 and 11 under group 4. The two share
-/// their way, which is at most four reads less on a disk: so each of these faults comes, the first on the first read of all, and
-/// the last near the last.
+/// One read of one disk fails. The disks have 3, 4 and 6 reads for what is pending, then 5, 7 and 11 for the plan of group 5, then 7, 6
+/// and 4 under it, and 3, 4 and 6 under group 4: so each of these faults comes, the first on the first read of a disk, and the last on
+/// the last.
 const READ_FAULTS: [(&str, &str); 6] = [
     ("fault 0 read 0\n", ""),
-    ("fault 1 read 9\n", ""),
-    ("fault 2 read 27\n", ""),
-    ("fault 0 read 2\n", ""),
-    ("fault 1 read 36\n", ""),
-    ("fault 2 read 36\n", ""),
+    ("fault 1 read 3\n", ""),
+    ("fault 2 read 6\n", ""),
+    ("fault 0 read 8\n", ""),
+    ("fault 1 read 20\n", ""),
+    ("fault 2 read 26\n", ""),
 ];
 
 /// Behind it, two groups are committed all the same.
