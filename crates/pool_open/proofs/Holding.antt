@@ -7,7 +7,6 @@ use Rattle.block_pointer.specs.Copies.{dvas}
 use Rattle.block_store.specs.Blocks.{Contents}
 use Rattle.block_store.specs.Elsewhere.{IsForBlocks, WritesElsewhereKeep}
 use Rattle.block_store.specs.Places.{shapes_of, IsCopy}
-use Rattle.block_store.specs.Shapes.{IsPlace}
 use Rattle.block_store.specs.declared.shape.VdevShape.{VdevShape}
 use Rattle.block_store.specs.Store.{Store, Holds, is_out, lost, outs_from}
 use Rattle.block_store.proofs.Steps.{shape_found}

@@ -151,7 +151,7 @@ stands_too s disks root block bytes i extent whole places copy tree stands = rec
       } in
       let for_blocks : IsForBlocks s.store.spaces disk place =
       lie_in_sectors s.store.spaces block.property.sectors copy.place extent disk place
-      (places copy.place (is_among (dvas block.copies) i copy.place copy.is_copy)) copy.extent_is of in
+      (places copy.place (is_among (dvas block.copies) i copy.place copy.is_copy)).is_in copy.extent_is of in
       let there : disk < length s.store.out = omega (arith, its_disk s.store.disks.starts s.store.spaces disk place whole.lie.laid for_blocks, whole.count) in
       let value = slice_get_some column_bytes j within in
       let was : content s.store.disks disk place ≡ Some value.0 = stands.stand k column column_bytes at at' present j within ∙ value.1 in

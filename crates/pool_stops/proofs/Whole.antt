@@ -5,9 +5,8 @@ use Rattle.block_pointer.specs.Copies.{dvas}
 use Rattle.block_pointer.specs.declared.block.Block.{Block}
 use Rattle.block_pointer.specs.declared.dva.Dva.{Dva}
 use Rattle.block_store.specs.Blocks.{Contents}
-use Rattle.block_store.specs.Places.{ArePlacesApart, ArePlacesIn, Marks, shapes_of}
+use Rattle.block_store.specs.Places.{ArePlacesApart, Marks, shapes_of}
 use Rattle.block_store.specs.Releases.{CopyAt, copy_of_at, copies_of, copies_of_at, copies_of_all}
-use Rattle.block_store.specs.Shapes.{IsPlace}
 use Rattle.block_store.specs.Spaces.{VdevSpace}
 use Rattle.block_store.specs.Store.{ArePlaced}
 use Rattle.block_store.specs.declared.shape.VdevShape.{VdevShape}

@@ -147,7 +147,7 @@ fits_on starts images shape count same fits = record {
   sizes = λ disk from below. subst IsAllowedSize (sym (same disk (omega (arith, below, fits.there)))) (fits.sizes disk from below);
   sectors = λ disk from below.
       subst (λ n. shape.child_sectors ≤ sectors_of n) (sym (same disk (omega (arith, below, fits.there)))) (fits.sectors disk from below);
-  some = fits.some;
+  regions = fits.regions;
   few = fits.few;
 }
 
