@@ -478,7 +478,11 @@ fn a_full_store_refuses_and_keeps_its_blocks(rt: HostRuntime) -> Result<(), Fail
     let mut steps = Vec::new(rt.alloc());
     steps.push((Step::Begin, Outcome::Done))?;
     for seed in 0..23u8 {
-        let copies = if seed < 3 { CopyCount::Three } else { CopyCount::Two };
+        let copies = if seed < 3 {
+            CopyCount::Three
+        } else {
+            CopyCount::Two
+        };
         steps.push((Step::Plan(seed, LARGE, copies), Outcome::Done))?;
         steps.push((Step::Write, Outcome::Count(0)))?;
     }
