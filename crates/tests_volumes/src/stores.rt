@@ -13,7 +13,7 @@ fn three_disks() -> Result<VdevConfig, Fail> {
     Ok(VdevConfig {
         geometry: Geometry::new(3, 1, 9)?,
         metaslab_shift: 12,
-        meta_slabs: 1,
+        meta_slabs: 4,
     })
 }
 
