@@ -254,7 +254,7 @@ module _ (old mid new : Store) (group : ℕ) (vdevs : List PlainVdev) (items : E
     places = have_both old.spaces mid.spaces new.spaces volumes.places.0 of_root volumes.places.2 root_has;
   }
 
-  pub first_set_refused : (refusal : Refusal) → IsRootRefused mid new empty_meta group changes refusal → IsFirstRefused old new group vdevs items refusal
+  pub first_set_refused : (refusal : Refusal) → IsRootRefused mid new empty_meta group group changes refusal → IsFirstRefused old new group vdevs items refusal
   first_set_refused refusal why =
       inr (inr (record {
         made = volumes.made;

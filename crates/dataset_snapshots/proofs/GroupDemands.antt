@@ -66,10 +66,11 @@ root_places old mid new set group copies changes block same objects three chosen
   have_both old.spaces mid.spaces new.spaces objects.0 (demand_of_root ∷ []) objects.2 (have_one mid.spaces new.spaces 2 3 (dvas block.copies) three chosen),
 )
 
-pub root_refused : (old mid new : Store) (set : ObjectSet) (group : ℕ) (copies : SetCopies) (changes : List ObjectChange) (refusal : Refusal) → copies ≡ copies_of kinds.Meta
-    → ObjectsHave old mid set group copies changes → IsForRoom refusal → (refusal ≡ NoSpace → RanOut mid.spaces 2 3 new.spaces) → IsRootRefused old new set group changes refusal
-root_refused old mid new set group copies changes refusal same objects (inl memory) ran_out = inl memory
-root_refused old mid new set group copies changes refusal same objects (inr is) ran_out =
+pub root_refused : (old mid new : Store) (set : ObjectSet) (before group : ℕ) (copies : SetCopies) (changes : List ObjectChange) (refusal : Refusal) → copies ≡ copies_of kinds.Meta
+    → ObjectsHave old mid set group copies changes → IsForRoom refusal → (refusal ≡ NoSpace → RanOut mid.spaces 2 3 new.spaces)
+    → IsRootRefused old new set before group changes refusal
+root_refused old mid new set before group copies changes refusal same objects (inl memory) ran_out = inl memory
+root_refused old mid new set before group copies changes refusal same objects (inr is) ran_out =
     inr (inl (
       is,
       inr (
@@ -79,13 +80,13 @@ root_refused old mid new set group copies changes refusal same objects (inr is) 
       ),
     ))
 
-pub objects_refused : (old new : Store) (set : ObjectSet) (group : ℕ) (copies : SetCopies) (changes : List ObjectChange) (refusal : Refusal) → copies ≡ copies_of kinds.Meta
-    → ((refusal ≡ NoMemory) ⊎ (((refusal ≡ NoSpace) × LacksRoom old new set group copies changes) ⊎ IsChangeRefused old new [] set group changes refusal))
-    → IsRootRefused old new set group changes refusal
-objects_refused old new set group copies changes refusal same (inl memory) = inl memory
-objects_refused old new set group copies changes refusal same (inr (inl lacks)) =
+pub objects_refused : (old new : Store) (set : ObjectSet) (before group : ℕ) (copies : SetCopies) (changes : List ObjectChange) (refusal : Refusal) → copies ≡ copies_of kinds.Meta
+    → ((refusal ≡ NoMemory) ⊎ (((refusal ≡ NoSpace) × LacksRoom old new set group copies changes) ⊎ IsChangeRefused old new [] set before group changes refusal))
+    → IsRootRefused old new set before group changes refusal
+objects_refused old new set before group copies changes refusal same (inl memory) = inl memory
+objects_refused old new set before group copies changes refusal same (inr (inl lacks)) =
     inr (inl (lacks.0, inl (subst (λ (c : SetCopies). LacksRoom old new set group c changes) same lacks.1)))
-objects_refused old new set group copies changes refusal same (inr (inr why)) = inr (inr why)
+objects_refused old new set before group copies changes refusal same (inr (inr why)) = inr (inr why)
 
 -- ---- what was read
 
@@ -189,7 +190,7 @@ module _ (old first second new : Store) (root : Block) (rows : List DirectoryRow
   group_volumes_refused refusal why = inr (inr (record { opened = opened; found = found; mid = first; before = reads; why = inl why }))
 
   pub group_changes_refused : (changes : List ObjectChange) (refusal : Refusal) → OnlyReadsAndPlans first second [] → HasVolumePlaces first second group opened items.actions changes
-      → IsRootRefused second new opened.set group changes refusal → IsGroupRefused old new root rows group items refusal
+      → IsRootRefused second new opened.set root.birth group changes refusal → IsGroupRefused old new root rows group items refusal
   group_changes_refused changes refusal steps volumes why =
       inr (inr (record {
         opened = opened;

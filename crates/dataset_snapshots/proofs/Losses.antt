@@ -65,7 +65,7 @@ making_lost : (old new : Store) (group : ℕ) (rows : List DirectoryRow) (earlie
 making_lost old new group rows earlier next change refusal (inl memory) is = absurd (cc)
 making_lost old new group rows earlier next change refusal (inr (inl (bad, none))) is = absurd (cc)
 making_lost old new group rows earlier next change refusal (inr (inr (lacks, inl (space, full)))) is = absurd (cc)
-making_lost old new group rows earlier next change refusal (inr (inr (lacks, inr (creation, made, why)))) is = plan_lost old new empty_set group creation refusal why is
+making_lost old new group rows earlier next change refusal (inr (inr (lacks, inr (creation, made, why)))) is = plan_lost old new empty_set group group creation refusal why is
 
 action_lost : (old new : Store) (group : ℕ) (rows : List DirectoryRow) (next : ℕ) (actions : List Action) (refusal : Refusal) → IsActionRefused old new group rows next actions refusal
     → refusal ≡ DiskFault → IsBlockLost old new []
@@ -80,11 +80,11 @@ volumes_lost old new group opened actions refusal (inr (inl unplaced)) is =
 volumes_lost old new group opened actions refusal (inr (inr refused)) is =
     lost_later old refused.mid new [] refused.before (action_lost refused.mid new group opened.directory _ actions refusal refused.why is)
 
-root_lost : (old new : Store) (set : ObjectSet) (group : ℕ) (changes : List ObjectChange) (refusal : Refusal) → IsRootRefused old new set group changes refusal → refusal ≡ DiskFault
+root_lost : (old new : Store) (set : ObjectSet) (before group : ℕ) (changes : List ObjectChange) (refusal : Refusal) → IsRootRefused old new set before group changes refusal → refusal ≡ DiskFault
     → IsBlockLost old new []
-root_lost old new set group changes refusal (inl memory) is = absurd (cc)
-root_lost old new set group changes refusal (inr (inl (space, lacks))) is = absurd (cc)
-root_lost old new set group changes refusal (inr (inr refused)) is = change_lost old new [] set group changes refusal refused is
+root_lost old new set before group changes refusal (inl memory) is = absurd (cc)
+root_lost old new set before group changes refusal (inr (inl (space, lacks))) is = absurd (cc)
+root_lost old new set before group changes refusal (inr (inr refused)) is = change_lost old new [] set before group changes refusal refused is
 
 pub losses_of_groups : LossesOfGroups
 losses_of_groups old new root rows group items refusal (inl memory) is = absurd (cc)
@@ -92,7 +92,7 @@ losses_of_groups old new root rows group items refusal (inr (inl unread)) is = u
 losses_of_groups old new root rows group items refusal (inr (inr unplanned)) is =
     lost_behind_reads old unplanned.mid new [] unplanned.before (elim unplanned.why [
       | inl volumes ↦ volumes_lost unplanned.mid new group unplanned.opened items.actions refusal volumes is
-      | inr changes ↦ lost_later unplanned.mid changes.mid new [] changes.before (root_lost changes.mid new unplanned.opened.set group changes.changes refusal changes.why is)
+      | inr changes ↦ lost_later unplanned.mid changes.mid new [] changes.before (root_lost changes.mid new unplanned.opened.set root.birth group changes.changes refusal changes.why is)
     ])
 
 -- ---- the first root
@@ -101,7 +101,7 @@ pub losses_of_first_groups : LossesOfFirstGroups
 losses_of_first_groups old new group vdevs items refusal (inl memory) is = absurd (cc)
 losses_of_first_groups old new group vdevs items refusal (inr (inl action)) is = action_lost old new group [] 5 items.actions refusal action is
 losses_of_first_groups old new group vdevs items refusal (inr (inr set)) is =
-    lost_later old set.mid new [] set.before (root_lost set.mid new empty_meta group set.changes refusal set.why is)
+    lost_later old set.mid new [] set.before (root_lost set.mid new empty_meta group group set.changes refusal set.why is)
 
 -- ---- ranges
 

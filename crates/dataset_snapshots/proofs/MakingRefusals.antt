@@ -44,11 +44,14 @@ one_only : {X : Type 0} (P : X → Type 0) (x : X) → Any P (x ∷ []) → P x
 one_only P x (zero, y, within, at, here) = subst P (sym at) here
 one_only P x (suc k, y, within, at, here) = absurd (omega (arith, within))
 
-pub not_config : (old new : Store) (set : ObjectSet) (birth block_size : ℕ) (change : Change) (refusal : Refusal) → IsCreation block_size change → IsPlanRefused old new set birth change refusal
+pub not_config : (old new : Store) (set : ObjectSet) (before birth block_size : ℕ) (change : Change) (refusal : Refusal) → IsCreation block_size change
+    → IsPlanRefused old new set before birth change refusal
     → refusal ≢ BadConfig
-not_config old new set birth block_size change refusal creation (inl memory) = λ is. let clash : NoMemory ≡ BadConfig = sym memory ∙ is in cc
-not_config old new set birth block_size change refusal creation (inr (inl space)) = λ is. let clash : NoSpace ≡ BadConfig = sym space.0 ∙ is in cc
-not_config old new set birth block_size change refusal creation (inr (inr (inl nodes))) = of_nodes old new [] set birth (1 ∷ []) refusal nodes
-not_config old new set birth block_size change refusal creation (inr (inr (inr objects))) =
+not_config old new set before birth block_size change refusal creation (inl memory) = λ is. let clash : NoMemory ≡ BadConfig = sym memory ∙ is in cc
+not_config old new set before birth block_size change refusal creation (inr (inl space)) = λ is. let clash : NoSpace ≡ BadConfig = sym space.0 ∙ is in cc
+not_config old new set before birth block_size change refusal creation (inr (inr (inl late))) = no_pointer refusal late.0
+not_config old new set before birth block_size change refusal creation (inr (inr (inr (inl nodes)))) = of_nodes old new [] set birth (1 ∷ []) refusal nodes
+not_config old new set before birth block_size change refusal creation (inr (inr (inr (inr (inr late))))) = no_pointer refusal late.0
+not_config old new set before birth block_size change refusal creation (inr (inr (inr (inr (inl objects))))) =
     of_object old new [] set birth block_size change refusal creation
     (one_only (λ (c : ObjectChange). IsObjectRefused old new [] set birth c refusal) (record { number = 1; change = change }) objects)

@@ -167,7 +167,7 @@ HasNewPlaces old new group block_size =
 abbrev pub IsNewRefused : Store → Store → ℕ → ℕ → Refusal → Type 0
 IsNewRefused old new group block_size refusal =
     (creation : ObjectsChange) × IsCreation block_size creation
-    × IsPlanRefused old new empty_set group creation refusal
+    × IsPlanRefused old new empty_set group group creation refusal
 
 -- one volume of that name was made: its name is there too, its two objects have the next numbers
 pub record IsVolumeMade (old new : Making) (name : List ℕ) : Type 0 where
@@ -265,13 +265,13 @@ LacksRootPlaces old new set group changes =
     ⊎ ((demands : List Demand) × HasRootDemands old.spaces set group changes demands
     × LackPlaces old.spaces demands new.spaces)
 
--- why a meta object set with these changes was not planned
+-- why a meta object set with these changes was not planned; its blocks so far were to be born before
 abbrev pub IsRootRefused :
-    Store → Store → ObjectSet → ℕ → List ObjectChange → Refusal → Type 0
-IsRootRefused old new set group changes refusal =
+    Store → Store → ObjectSet → ℕ → ℕ → List ObjectChange → Refusal → Type 0
+IsRootRefused old new set before group changes refusal =
     (refusal ≡ NoMemory)
     ⊎ (((refusal ≡ NoSpace) × LacksRootPlaces old new set group changes)
-    ⊎ IsChangeRefused old new [] set group changes refusal)
+    ⊎ IsChangeRefused old new [] set before group changes refusal)
 
 -- ---- the group
 
@@ -346,14 +346,14 @@ pub record HasGroupPlaces (old new : Store) (root : Block) (rows : List Director
   pub ask : HasGroupDemands old.spaces group opened items.actions demands
   pub places : HavePlaces old.spaces demands new.spaces
 
--- all volumes were placed, and then the changes of the meta object set were refused
-pub record AreChangesRefused (old new : Store) (group : ℕ) (opened : Opened) (actions : List Action)
-    (refusal : Refusal) : Type 0 where
+-- all volumes were placed, and then the changes of the meta object set, born by then, were refused
+pub record AreChangesRefused (old new : Store) (born group : ℕ) (opened : Opened)
+    (actions : List Action) (refusal : Refusal) : Type 0 where
   pub mid : Store
   pub before : OnlyReadsAndPlans old mid []
   pub changes : List ObjectChange
   pub volumes : HasVolumePlaces old mid group opened actions changes
-  pub why : IsRootRefused mid new opened.set group changes refusal
+  pub why : IsRootRefused mid new opened.set born group changes refusal
 
 -- the root was read, and then the group's volumes were refused, or its changes
 pub record IsGroupUnplanned (old new : Store) (root : Block) (rows : List DirectoryRow) (group : ℕ)
@@ -363,7 +363,7 @@ pub record IsGroupUnplanned (old new : Store) (root : Block) (rows : List Direct
   pub mid : Store
   pub before : OnlyReadsBlocks old mid []
   pub why : AreVolumesRefused mid new group opened items.actions refusal
-      ⊎ AreChangesRefused mid new group opened items.actions refusal
+      ⊎ AreChangesRefused mid new root.birth group opened items.actions refusal
 
 -- why the root after a group was not planned, by the rows of the directory before: the root before
 -- was not read, or behind it a volume, or there was no memory, or a part of the group was refused

@@ -95,7 +95,7 @@ pub record IsFirstSetRefused (old new : Store) (group : ℕ) (vdevs : List Plain
   pub places : HavePlacesFor old mid (HasActionDemands old.spaces group) made
   pub changes : List ObjectChange
   pub changes_are : AreFirstGroupChanges vdevs made changes
-  pub why : IsRootRefused mid new empty_meta group changes refusal
+  pub why : IsRootRefused mid new empty_meta group group changes refusal
 
 -- why the first root was not planned: there was no memory, or one of its volumes was refused, or its object set
 abbrev pub IsFirstRefused : Store → Store → ℕ → List PlainVdev → Entry → Refusal → Type 0

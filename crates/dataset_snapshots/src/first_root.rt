@@ -101,7 +101,15 @@ pub fn first_group<D: Disk + Drop>(
     let making = first_volumes(store, alloc, group, items.actions())?;
     let made = with_tables(making, alloc, config)?;
     let mut replaced = Vec::new(alloc);
-    let root = plan_root(&EMPTY, store, alloc, &made.changes, group, &mut replaced)?;
+    let root = plan_root(
+        &EMPTY,
+        store,
+        alloc,
+        &made.changes,
+        group,
+        group,
+        &mut replaced,
+    )?;
     Ok(FirstRoot {
         root,
         directory: made.directory,

@@ -128,7 +128,15 @@ pub fn after_group<D: Disk + Drop>(
     let set = opened.set;
     let mut replaced = only(root, alloc)?;
     let made = changes_of(opened, store, alloc, group, items.actions(), &mut replaced)?;
-    let next = plan_root(&set, store, alloc, &made.changes, group, &mut replaced)?;
+    let next = plan_root(
+        &set,
+        store,
+        alloc,
+        &made.changes,
+        root.birth,
+        group,
+        &mut replaced,
+    )?;
     Ok(NextRoot {
         root: next,
         replaced,
@@ -314,13 +322,14 @@ fn directory_change(directory: &Directory, alloc: Global) -> Result<ObjectChange
     }
 }
 
-/// Plans a meta object set with these changes, and its block. All blocks have three copies. The set's blocks that gave way to
-/// others come behind those in `replaced`.
+/// Plans a meta object set with these changes, and its block, in the transaction group `group`. All blocks have three copies. The
+/// set's block was born in the group `before`. The set's blocks that gave way to others come behind those in `replaced`.
 pub(crate) fn plan_root<D: Disk + Drop>(
     set: &ObjectSet,
     store: &mut BlockStore<D>,
     alloc: Global,
     changes: &[ObjectChange],
+    before: u64,
     group: u64,
     replaced: &mut Vec<Block>,
 ) -> Result<Block, Refusal>
@@ -351,15 +360,15 @@ pub(crate) fn plan_root<D: Disk + Drop>(
     ensures known { IfErr result (λ refusal. (stored planned : Contents) (bound : ℕ)
         (objects : ℕ → Option Object) (own : List Block) (blocks : ℕ → List Block)
         → Plans store.old stored planned → AreObjects stored bound set.now objects own blocks
-        → bound ≤ group → AnswersAreTrue store.old store.new
+        → bound ≤ before → bound ≤ group → AnswersAreTrue store.old store.new
         → All (λ change. MayChange change.change (objects change.number)) changes.now
         → IsForRoom refusal ⊎ (refusal ≡ Refusal.DiskFault)) }
     ensures places { OnOk result
         (HasRootPlaces store.old store.new set.now group changes.now) }
     ensures refused { IfErr result
-        (IsRootRefused store.old store.new set.now group changes.now) }
+        (IsRootRefused store.old store.new set.now before group changes.now) }
 {
-    let rewrite = objset::change(set, store, alloc, changes, group, &[])?;
+    let rewrite = objset::change(set, store, alloc, changes, before, group, &[])?;
     replaced.extend_from_slice(&rewrite.replaced)?;
     plan_set(&rewrite.set, store, alloc, group)
 }

@@ -11,7 +11,7 @@ use Rattle.dnode.specs.declared.object_set.ObjectSet.{ObjectSet}
 use Rattle.dnode_slots.specs.declared.reading.FoundDnode.{FoundDnode}
 use Rattle.dnode_slots.specs.Found.{found_dnode, IsNodeFound}
 use Rattle.dnode_tree.specs.declared.reading.DataBlock.{DataBlock}
-use Rattle.objset.specs.Found.{IsDnodeFound}
+use Rattle.objset.specs.Found.{IsDnodeBornBy, IsDnodeFound, IsDnodeLate}
 use Rattle.dnode_tree.specs.Tree.{property_of}
 use Rattle.dnode_tree.specs.Ways.{Reached, root_of, bytes_in, ComesTo, HasFound, IsBlockFound, asked_there}
 
@@ -55,8 +55,12 @@ module _ (spaces others : List VdevSpace) (same : shapes_of others ≡ shapes_of
       inr (low, record { block = read.block; block_found = block_in set.dnodes birth _ read.block read.block_found; zeros = read.zeros; is_in = read.is_in; born = read.born })
 
   pub dnode_found_in : (set : ObjectSet) (birth number : ℕ) (dnode : Dnode) → IsDnodeFound others set birth number dnode → IsDnodeFound spaces set birth number dnode
-  dnode_found_in set birth number dnode (block_birth, found) = (block_birth, node_found_in set birth number (found_dnode dnode block_birth) found)
+  dnode_found_in set birth number dnode (block_birth, found, born) = (block_birth, node_found_in set birth number (found_dnode dnode block_birth) found, born)
+
+  pub dnode_late_in : (set : ObjectSet) (birth number : ℕ) → IsDnodeLate others set birth number → IsDnodeLate spaces set birth number
+  dnode_late_in set birth number (dnode, block_birth, found, late) = (dnode, block_birth, node_found_in set birth number (found_dnode dnode block_birth) found, late)
 
 -- a dnode that was read, in its block
-pub dnode_found_of : {spaces : List VdevSpace} {set : ObjectSet} {birth number : ℕ} (found : FoundDnode) → IsNodeFound spaces set birth number found → IsDnodeFound spaces set birth number found.dnode
-dnode_found_of found is = (found.birth, is)
+pub dnode_found_of : {spaces : List VdevSpace} {set : ObjectSet} {birth number : ℕ} (found : FoundDnode) → IsNodeFound spaces set birth number found → IsDnodeBornBy found.birth found.dnode
+    → IsDnodeFound spaces set birth number found.dnode
+dnode_found_of found is born = (found.birth, is, born)

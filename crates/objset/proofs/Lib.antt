@@ -17,3 +17,4 @@ pub mod WithinLemmas
 pub mod YoungerLemmas
 pub mod Readings
 pub mod ReadRefusals
+pub mod Born

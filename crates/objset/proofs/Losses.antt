@@ -51,10 +51,13 @@ object_lost old new missing set birth change refusal there is = elim there.why [
   | inr tree ↦ lost_later old there.mid new missing there.before (tree_lost there.mid new missing birth change.change there.dnode refusal tree is)
 ]
 
-pub change_lost : (old new : Store) (missing : List ℕ) (set : ObjectSet) (birth : ℕ) (changes : List ObjectChange) (refusal : Refusal) → IsChangeRefused old new missing set birth changes refusal → refusal ≡ DiskFault
-    → IsBlockLost old new missing
-change_lost old new missing set birth changes refusal (inl nodes) is = node_write_lost old new missing set birth (map (λ (change : ObjectChange). change.number) changes) refusal nodes is
-change_lost old new missing set birth changes refusal (inr (k, change, low, at, object)) is = object_lost old new missing set birth change refusal object is
+pub change_lost : (old new : Store) (missing : List ℕ) (set : ObjectSet) (before birth : ℕ) (changes : List ObjectChange) (refusal : Refusal) → IsChangeRefused old new missing set before birth changes refusal
+    → refusal ≡ DiskFault → IsBlockLost old new missing
+change_lost old new missing set before birth changes refusal (inl (bad, late)) is = absurd (cc)
+change_lost old new missing set before birth changes refusal (inr (inl nodes)) is =
+    node_write_lost old new missing set birth (map (λ (change : ObjectChange). change.number) changes) refusal nodes is
+change_lost old new missing set before birth changes refusal (inr (inr (inl (k, change, low, at, object)))) is = object_lost old new missing set birth change refusal object is
+change_lost old new missing set before birth changes refusal (inr (inr (inr (bad, late)))) is = absurd (cc)
 
 pub set_walk_lost : (old new : Store) (missing : List ℕ) (set : ObjectSet) (birth before after : ℕ) (refusal : Refusal) → IsSetWalkRefused old new missing set birth before after refusal → refusal ≡ DiskFault
     → IsBlockLost old new missing

@@ -17,7 +17,8 @@ use Rattle.objset.specs.declared.changes.ObjectChange.{ObjectChange}
 use Rattle.objset.specs.Changes.{dnode_copies}
 use Rattle.objset.specs.Changing.{HavePlacesFor, LackPlacesFor, LacksRoomForFirst}
 use Rattle.objset.specs.Demands.{HasDemands, LacksRoom}
-use Rattle.objset.specs.Refused.{IsChangeRefused}
+use Rattle.objset.specs.declared.changes.SetCopies.{SetCopies}
+use Rattle.objset.specs.Refused.{AreObjectsRefused, IsChangeRefused}
 use Rattle.objset.proofs.Demands.{places_for_more, no_places_for_more, lacks_for_first}
 use Rattle.objset.proofs.Numbers.{one_more}
 use Rattle.objset.proofs.Refused.{change_refused_on, node_writes_refused_on, one_refused}
@@ -55,9 +56,9 @@ module _ (this : Changing) (start now new : Store) (set : ObjectSet) (changes : 
 
   pub placing_fails : (refusal : Refusal)
       → (refusal ≡ NoMemory)
-      ⊎ (((refusal ≡ NoSpace) × LackPlacesFor this now new set (last ∷ [])) ⊎ IsChangeRefused now new this.missing.now set this.birth (last ∷ []) refusal)
+      ⊎ (((refusal ≡ NoSpace) × LackPlacesFor this now new set (last ∷ [])) ⊎ AreObjectsRefused now new this.missing.now set this.birth (last ∷ []) refusal)
       → (refusal ≡ NoMemory)
-      ⊎ (((refusal ≡ NoSpace) × LacksRoomForFirst this start new set changes) ⊎ IsChangeRefused start new this.missing.now set this.birth changes refusal)
+      ⊎ (((refusal ≡ NoSpace) × LacksRoomForFirst this start new set changes) ⊎ AreObjectsRefused start new this.missing.now set this.birth changes refusal)
   placing_fails refusal (inl memory) = inl memory
   placing_fails refusal (inr (inl (space, lack))) = inr (inl (space, lacks_here lack))
   placing_fails refusal (inr (inr refused)) =
@@ -67,9 +68,9 @@ module _ (this : Changing) (start now new : Store) (set : ObjectSet) (changes : 
 -- a lack of room for the first of the changes is one of room
 pub objects_refused : (this : Changing) (old new : Store) (set : ObjectSet) (changes : List ObjectChange) (refusal : Refusal)
     → (refusal ≡ NoMemory)
-    ⊎ (((refusal ≡ NoSpace) × LacksRoomForFirst this old new set changes) ⊎ IsChangeRefused old new this.missing.now set this.birth changes refusal)
+    ⊎ (((refusal ≡ NoSpace) × LacksRoomForFirst this old new set changes) ⊎ AreObjectsRefused old new this.missing.now set this.birth changes refusal)
     → (refusal ≡ NoMemory)
-    ⊎ (((refusal ≡ NoSpace) × LacksRoom old new set this.birth this.copies changes) ⊎ IsChangeRefused old new this.missing.now set this.birth changes refusal)
+    ⊎ (((refusal ≡ NoSpace) × LacksRoom old new set this.birth this.copies changes) ⊎ AreObjectsRefused old new this.missing.now set this.birth changes refusal)
 objects_refused this old new set changes refusal (inl memory) = inl memory
 objects_refused this old new set changes refusal (inr (inl (space, (demands, first, lack)))) = inr (inl (space, record { demands = demands; are = inl first; lack = lack }))
 objects_refused this old new set changes refusal (inr (inr refused)) = inr (inr refused)
@@ -95,7 +96,7 @@ module _ (this : Changing) (old mid new : Store) (set : ObjectSet) (changes : Li
       ⊎ (((refusal ≡ NoSpace) × LackNodePlaces set counts numbers mid.spaces new.spaces)
       ⊎ IsNodeWriteRefused mid new this.missing.now set this.birth numbers refusal)
       → (refusal ≡ NoMemory)
-      ⊎ (((refusal ≡ NoSpace) × LacksRoom old new set this.birth this.copies changes) ⊎ IsChangeRefused old new this.missing.now set this.birth changes refusal)
+      ⊎ (((refusal ≡ NoSpace) × LacksRoom old new set this.birth this.copies changes) ⊎ AreObjectsRefused old new this.missing.now set this.birth changes refusal)
   dnodes_refused refusal steps (inl memory) = inl memory
   dnodes_refused refusal steps (inr (inl (space, (demands, are, lack)))) = inr (inl (
     space,
@@ -104,3 +105,11 @@ module _ (this : Changing) (old mid new : Store) (set : ObjectSet) (changes : Li
   dnodes_refused refusal steps (inr (inr refused)) =
       inr (inr (inl (subst (λ ns. IsNodeWriteRefused old new this.missing.now set this.birth ns refusal) numbers_are
       (node_writes_refused_on old mid new this.missing.now steps set this.birth refusal numbers refused))))
+
+-- so it is of all changes of a set
+pub set_refused : (old new : Store) (missing : List ℕ) (set : ObjectSet) (before birth : ℕ) (copies : SetCopies) (changes : List ObjectChange) (refusal : Refusal)
+    → (refusal ≡ NoMemory) ⊎ (((refusal ≡ NoSpace) × LacksRoom old new set birth copies changes) ⊎ AreObjectsRefused old new missing set birth changes refusal)
+    → (refusal ≡ NoMemory) ⊎ (((refusal ≡ NoSpace) × LacksRoom old new set birth copies changes) ⊎ IsChangeRefused old new missing set before birth changes refusal)
+set_refused old new missing set before birth copies changes refusal (inl memory) = inl memory
+set_refused old new missing set before birth copies changes refusal (inr (inl lacks)) = inr (inl lacks)
+set_refused old new missing set before birth copies changes refusal (inr (inr why)) = inr (inr (inr why))

@@ -13,8 +13,9 @@ use Rattle.block_store.specs.Demands.{Demand, LackPlaces}
 use Rattle.block_store.proofs.Steps.{steps_none, steps_on}
 use Rattle.dnode.specs.declared.dnode.Dnode.{Dnode}
 use Rattle.dnode.specs.declared.object_set.ObjectSet.{ObjectSet}
-use Rattle.dnode_slots.specs.Found.{IsNodeRefused}
-use Rattle.objset.specs.Found.{IsDnodeFound}
+use Rattle.dnode_slots.specs.Found.{IsNodeFound, IsNodeRefused}
+use Rattle.objset.specs.Found.{IsDnodeBornBy, IsDnodeFound}
+use Rattle.dnode_slots.specs.declared.reading.FoundDnode.{FoundDnode}
 use Rattle.dnode_slots.specs.Refused.{IsNodeWriteRefused}
 use Rattle.dnode_tree.specs.declared.writes.BlockWrite.{BlockWrite}
 use Rattle.dnode_tree.specs.Refused.{HasOverfull, IsWayOverfull, IsWriteRefused}
@@ -25,8 +26,8 @@ use Rattle.objset.specs.declared.changes.ObjectChange.{ObjectChange}
 use Rattle.objset.specs.Changing.{IsDnodeRefused, LackPlacesFor}
 use Rattle.objset.specs.Demands.{empty_node, demands_of_change}
 use Rattle.objset.proofs.Demands.{demands_of_one}
-use Rattle.objset.specs.Refused.{IsObjectRefused, IsChangeRefused}
-use Rattle.objset.proofs.Found.{dnode_found_in}
+use Rattle.objset.specs.Refused.{IsObjectRefused, AreObjectsRefused}
+use Rattle.objset.proofs.Found.{dnode_found_in, dnode_late_in}
 
 -- ---- no way of an object that has no block is refused
 
@@ -83,9 +84,11 @@ module _ (old mid new : Store) (missing : List ℕ) (steps : OnlyReadsAndPlans o
     why = refused.why;
   }
 
-  pub change_refused_on : (changes : List ObjectChange) → IsChangeRefused mid new missing set birth changes refusal → IsChangeRefused old new missing set birth changes refusal
+  pub change_refused_on : (changes : List ObjectChange) → AreObjectsRefused mid new missing set birth changes refusal → AreObjectsRefused old new missing set birth changes refusal
   change_refused_on changes (inl nodes) = inl (node_writes_refused_on (map (λ (change : ObjectChange). change.number) changes) nodes)
-  change_refused_on changes (inr (k, change, low, is, refused)) = inr (k, change, low, is, object_refused_on change refused)
+  change_refused_on changes (inr (inl (k, change, low, is, refused))) = inr (inl (k, change, low, is, object_refused_on change refused))
+  change_refused_on changes (inr (inr (bad, (k, change, low, is, late)))) =
+      inr (inr (bad, (k, change, low, is, dnode_late_in old.spaces mid.spaces steps.shapes set birth change.number late)))
 
 -- ---- of one of several changes
 
@@ -106,24 +109,31 @@ module _ (old new : Store) (missing : List ℕ) (set : ObjectSet) (birth : ℕ) 
   )
   number_of_one P (suc k, one, below, same, here) = absurd (omega (arith, below))
 
-  pub one_refused : IsChangeRefused old new missing set birth (change ∷ []) refusal → IsChangeRefused old new missing set birth changes refusal
+  pub one_refused : AreObjectsRefused old new missing set birth (change ∷ []) refusal → AreObjectsRefused old new missing set birth changes refusal
   one_refused (inl nodes) =
       inl (record { number = nodes.number; is_one = number_of_one (λ other. other / 32 ≡ nodes.number / 32) nodes.is_one; mid = nodes.mid; before = nodes.before; why = nodes.why })
-  one_refused (inr object) = inr (any_of_one _ object)
+  one_refused (inr (inl object)) = inr (inl (any_of_one _ object))
+  one_refused (inr (inr (bad, late))) = inr (inr (bad, any_of_one _ late))
 
 -- ---- of one change
 
 -- its dnode was not read
 pub node_refused : (old new : Store) (missing : List ℕ) (set : ObjectSet) (birth : ℕ) (change : ObjectChange) (refusal : Refusal) → IsNodeRefused old new missing set birth change.number refusal
-    → IsChangeRefused old new missing set birth (change ∷ []) refusal
+    → AreObjectsRefused old new missing set birth (change ∷ []) refusal
 node_refused old new missing set birth change refusal why =
     inl (record { number = change.number; is_one = (0, change.number, lit< tt, refl, refl); mid = old; before = steps_none old missing; why = inl why })
+
+-- what its dnode leads to was born after the dnode's block
+pub dnode_late : (old new : Store) (missing : List ℕ) (set : ObjectSet) (birth : ℕ) (change : ObjectChange) (refusal : Refusal) (found : FoundDnode) → IsNodeFound old.spaces set birth change.number found
+    → (refusal ≡ BadPointer) × ¬ IsDnodeBornBy found.birth found.dnode → AreObjectsRefused old new missing set birth (change ∷ []) refusal
+dnode_late old new missing set birth change refusal found is late =
+    inr (inr (late.0, (0, change, lit< tt, refl, (found.dnode, found.birth, is, late.1))))
 
 -- it was not made of the dnode that was found
 pub one_change_refused : (this : Changing) (old mid new : Store) (set : ObjectSet) (change : ObjectChange) (dnode : Dnode) (refusal : Refusal) → OnlyReadsAndPlans old mid this.missing.now → mid.spaces ≡ old.spaces
     → IsDnodeFound old.spaces set this.birth change.number dnode → IsDnodeRefused this mid new dnode change.change refusal
     → (refusal ≡ NoMemory)
-    ⊎ (((refusal ≡ NoSpace) × LackPlacesFor this old new set (change ∷ [])) ⊎ IsChangeRefused old new this.missing.now set this.birth (change ∷ []) refusal)
+    ⊎ (((refusal ≡ NoSpace) × LackPlacesFor this old new set (change ∷ [])) ⊎ AreObjectsRefused old new this.missing.now set this.birth (change ∷ []) refusal)
 one_change_refused this old mid new set change dnode refusal steps same found (inl memory) = inl memory
 one_change_refused this old mid new set change dnode refusal steps same found (inr (inl (space, fits, lack))) =
     let demands : List Demand = demands_of_change this.copies change.change dnode in
@@ -136,4 +146,4 @@ one_change_refused this old mid new set change dnode refusal steps same found (i
       ),
     ))
 one_change_refused this old mid new set change dnode refusal steps same found (inr (inr why)) =
-    inr (inr (inr (0, change, lit< tt, refl, record { dnode = dnode; found = found; mid = mid; before = steps; why = why })))
+    inr (inr (inr (inl (0, change, lit< tt, refl, record { dnode = dnode; found = found; mid = mid; before = steps; why = why }))))

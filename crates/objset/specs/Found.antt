@@ -1,5 +1,7 @@
 -- What was read of an object, whether or not the set is whole.
-use Rattle.std.specs.Prelude.{ℕ, ◌≡◌, ◌⊎◌, List, Option}
+use Rattle.std.specs.Prelude.{ℕ, ◌≡◌, ◌⊎◌, ◌≤◌, List, Option}
+use Rattle.block_pointer.specs.declared.pointer.BlockPtr.{BlockPtr}
+use Rattle.block_pointer.specs.declared.pointer.BlockPtr.TheVariants.{Hole, Block as At}
 use Rattle.block_store.specs.declared.refusal.Refusal.{Refusal}
 use Rattle.block_store.specs.declared.refusal.Refusal.TheVariants.{BadPointer}
 use Rattle.block_store.specs.Spaces.{VdevSpace}
@@ -13,10 +15,28 @@ use Rattle.dnode_tree.specs.Tree.{property_of}
 use Rattle.dnode_tree.specs.Ways.{root_of, IsFound, IsRefused, IsWalkRefused}
 use Rattle.dnode_slots.specs.Found.{found_dnode, IsNodeFound, IsNodeRefused}
 
--- the dnode was read, in a block of some birth
+-- the pointer leads to nothing, or to a block that was born by then
+abbrev pub IsBornBy : ℕ → BlockPtr → Type 0
+IsBornBy birth Hole = Unit {0}
+IsBornBy birth (At block) = block.birth ≤ birth
+
+-- so it is of the root that a dnode leads to
+abbrev pub IsDnodeBornBy : ℕ → Dnode → Type 0
+IsDnodeBornBy birth Free = Unit {0}
+IsDnodeBornBy birth (Node node) = IsBornBy birth node.pointer
+
+-- the dnode was read, and what it leads to was born by the birth of its block
 abbrev pub IsDnodeFound : List VdevSpace → ObjectSet → ℕ → ℕ → Dnode → Type 0
 IsDnodeFound spaces set birth number dnode =
     (block_birth : ℕ) × IsNodeFound spaces set birth number (found_dnode dnode block_birth)
+    × IsDnodeBornBy block_birth dnode
+
+-- the dnode was read, and what it leads to was born after its block
+abbrev pub IsDnodeLate : List VdevSpace → ObjectSet → ℕ → ℕ → Type 0
+IsDnodeLate spaces set birth number =
+    (dnode : Dnode) × (block_birth : ℕ)
+    × IsNodeFound spaces set birth number (found_dnode dnode block_birth)
+    × ¬ IsDnodeBornBy block_birth dnode
 
 -- The object's dnode was read, and behind it the data block, or a hole. What the dnode points to was born by the birth of the dnode's block.
 pub record IsDataFound (spaces : List VdevSpace) (set : ObjectSet) (birth number id : ℕ) (found : Option (List ℕ)) : Type 0 where

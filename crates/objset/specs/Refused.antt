@@ -7,7 +7,7 @@ use Rattle.block_store.specs.Store.{Store}
 use Rattle.dnode.specs.declared.dnode.Dnode.{Dnode}
 use Rattle.dnode.specs.declared.dnode.Dnode.TheVariants.{Object as Node}
 use Rattle.dnode.specs.declared.object_set.ObjectSet.{ObjectSet}
-use Rattle.objset.specs.Found.{IsDnodeFound}
+use Rattle.objset.specs.Found.{IsBornBy, IsDnodeFound, IsDnodeLate}
 use Rattle.dnode_slots.specs.Refused.{IsNodeWriteRefused}
 use Rattle.dnode_tree.specs.Refused.{IsWriteRefused}
 use Rattle.dnode_tree.specs.Tree.{property_of}
@@ -40,9 +40,18 @@ pub record IsObjectRefused (old new : Store) (missing : List ℕ) (set : ObjectS
       ⊎ IsTreeRefused mid new missing birth change.change dnode refusal
 
 -- a block of dnodes that one of the changed objects has its dnode in was refused, or one of the
--- changes was
-abbrev pub IsChangeRefused :
+-- changes was, or one of the objects was born after its dnode
+abbrev pub AreObjectsRefused :
     Store → Store → List ℕ → ObjectSet → ℕ → List ObjectChange → Refusal → Type 0
-IsChangeRefused old new missing set birth changes refusal =
+AreObjectsRefused old new missing set birth changes refusal =
     IsNodeWriteRefused old new missing set birth (map (λ change. change.number) changes) refusal
-    ⊎ Any (λ change. IsObjectRefused old new missing set birth change refusal) changes
+    ⊎ (Any (λ change. IsObjectRefused old new missing set birth change refusal) changes
+    ⊎ ((refusal ≡ BadPointer)
+    × Any (λ change. IsDnodeLate old.spaces set birth change.number) changes))
+
+-- what the set leads to was born after the block that leads to it, or that was refused
+abbrev pub IsChangeRefused :
+    Store → Store → List ℕ → ObjectSet → ℕ → ℕ → List ObjectChange → Refusal → Type 0
+IsChangeRefused old new missing set before birth changes refusal =
+    ((refusal ≡ BadPointer) × ¬ IsBornBy before set.dnodes.pointer)
+    ⊎ AreObjectsRefused old new missing set birth changes refusal

@@ -18,21 +18,25 @@ ghost use Rattle.objset.specs.Changes.{AreWhole, AreGoodWrites, IsGoodChange, Ma
 ghost use Rattle.objset.specs.Changing.{ChangesEach, IsEachRefused, ChangesOne, IsOneRefused, ChangesNode, IsNodeRefused, WritesObject, ReplacesObject, LacksRoomForObject, HavePlacesFor, LackPlacesFor, LacksRoomForFirst, IsDnodeRefused, IsWritingRefused, IsReplaceRefused};
 ghost use Rattle.objset.specs.Demands.{FitsChange, empty_node, demands_of_change, HasDemands, LacksRoom};
 ghost use Rattle.objset.specs.Objects.{Object, AreObjects};
-ghost use Rattle.objset.specs.Refused.{IsChangeRefused};
+ghost use Rattle.objset.specs.Found.{IsBornBy, IsDnodeBornBy};
+ghost use Rattle.objset.specs.Refused.{IsChangeRefused, AreObjectsRefused};
 
 use crate::changes::{Change, Changing, ObjectChange, SetCopies};
 use block_pointer::{Block, BlockPtr};
 use block_store::{BlockStore, Refusal};
 use dnode::{Dnode, ObjectNode, ObjectSet};
-use dnode_slots::{NodeWrite, SetRewrite};
+use dnode_slots::{FoundDnode, NodeWrite, SetRewrite};
 use dnode_tree::BlockWrite;
 use model_disk::Disk;
 use std::alloc::{AllocError, Global};
 
 /// Plans the set with these changes made of its objects, in the transaction group `birth`. The changes are in the order of
 /// their objects' numbers. Each block on the way is planned once, and no other object is read. The set before stays as it
-/// was: its blocks were born in the group `birth` or before. Each block has as many copies as the set's kind asks. `BadPointer` where a change can't be made: an object is there
-/// already, or is not there, or its blocks have another size; and where a pointer on the way, or its fill count, is bad.
+/// was: its blocks were born in the group `before` or before it, that of the block which leads to the set, and what a dnode leads
+/// to in that of the dnode's block or before it. Each block has as many copies as the set's kind asks.
+///
+/// `BadPointer` where a change can't be made: an object is there already, or is not there, or its blocks have another size; and
+/// where a pointer on the way, or its fill count, is bad.
 ///
 /// After an error blocks may be planned that no object has: begin another plan.
 pub fn change<D: Disk + Drop>(
@@ -40,6 +44,7 @@ pub fn change<D: Disk + Drop>(
     store: &mut BlockStore<D>,
     alloc: Global,
     changes: &[ObjectChange],
+    before: u64,
     birth: u64,
     missing: &[usize],
 ) -> Result<SetRewrite, Refusal>
@@ -54,22 +59,23 @@ pub fn change<D: Disk + Drop>(
     ensures kind { IfOk result (λ done. done.set.kind ≡ set.now.kind) }
     ensures grown { IfOk result (λ done. IsGrownFor set.now done.set changes.now) }
     ensures changed { IfOk result (λ done. (stored planned : Contents) (bound : ℕ)
-        (objects : ℕ → Option Object) (own : List Block) (before : ℕ → List Block)
-        → Plans store.old stored planned → AreObjects stored bound set.now objects own before
+        (objects : ℕ → Option Object) (own : List Block) (blocks : ℕ → List Block)
+        → Plans store.old stored planned → AreObjects stored bound set.now objects own blocks
         → bound ≤ birth → AnswersAreTrue store.old store.new
         → All (λ change. MayChange change.change (objects change.number)) changes.now
         × (later : Contents) × Plans store.new stored later
         × AreChanged (copies_of set.now.kind) planned later birth done changes.now
-        (changed changes.now objects) own before) }
+        (changed changes.now objects) own blocks) }
+    ensures early { OnOk result (IsBornBy before set.now.dnodes.pointer) }
     ensures no_room { IfErr result (λ refusal. refusal ≡ Refusal.NoSpace
         → HasNoRoom store.old store.new missing.now (copies_of set.now.kind)) }
 
     // And they are made, over disks that answer truly, unless there is no room or too many disks
     // miss of a block.
     ensures known { IfErr result (λ refusal. (stored planned : Contents) (bound : ℕ)
-        (objects : ℕ → Option Object) (own : List Block) (before : ℕ → List Block)
-        → Plans store.old stored planned → AreObjects stored bound set.now objects own before
-        → bound ≤ birth → AnswersAreTrue store.old store.new
+        (objects : ℕ → Option Object) (own : List Block) (blocks : ℕ → List Block)
+        → Plans store.old stored planned → AreObjects stored bound set.now objects own blocks
+        → bound ≤ before → bound ≤ birth → AnswersAreTrue store.old store.new
         → (IsForRoom refusal ⊎ (refusal ≡ Refusal.DiskFault)) ⊎ ((refusal ≡ Refusal.BadPointer)
         × Any (λ change. ¬ MayChange change.change (objects change.number)) changes.now)) }
 
@@ -80,8 +86,10 @@ pub fn change<D: Disk + Drop>(
     ensures refused { IfErr result (λ refusal. (refusal ≡ Refusal.NoMemory)
         ⊎ (((refusal ≡ Refusal.NoSpace)
         × LacksRoom store.old store.new set.now birth (copies_of set.now.kind) changes.now)
-        ⊎ IsChangeRefused store.old store.new missing.now set.now birth changes.now refusal)) }
+        ⊎ IsChangeRefused store.old store.new missing.now set.now before birth changes.now
+        refusal)) }
 {
+    check_root(&set.dnodes.pointer, before)?;
     let copies = SetCopies::of_kind(set.kind);
     let changing = Changing {
         birth,
@@ -141,7 +149,7 @@ impl<'a> Changing<'a> {
         ensures refused { IfErr result (λ refusal. (refusal ≡ Refusal.NoMemory)
             ⊎ (((refusal ≡ Refusal.NoSpace)
             × LacksRoomForFirst self.entry store.old store.new set.now changes.now)
-            ⊎ IsChangeRefused store.old store.new self.entry.missing.now set.now self.entry.birth
+            ⊎ AreObjectsRefused store.old store.new self.entry.missing.now set.now self.entry.birth
             changes.now refusal)) }
     {
         let mut writes = Vec::new(alloc);
@@ -178,11 +186,12 @@ impl<'a> Changing<'a> {
         ensures refused { IfErr result (λ refusal. (refusal ≡ Refusal.NoMemory)
             ⊎ (((refusal ≡ Refusal.NoSpace)
             × LackPlacesFor self.entry store.old store.new set.now (change.now ∷ []))
-            ⊎ IsChangeRefused store.old store.new self.entry.missing.now set.now self.entry.birth
+            ⊎ AreObjectsRefused store.old store.new self.entry.missing.now set.now self.entry.birth
             (change.now ∷ []) refusal)) }
     {
         let number = change.number;
         let found = dnode_slots::get(set, store, alloc, number, self.birth, self.missing)?;
+        check_dnode(&found)?;
         let node = self.change_dnode(found.dnode, store, alloc, &change.change, replaced)?;
         Ok(NodeWrite { number, node })
     }
@@ -330,6 +339,32 @@ impl<'a> Changing<'a> {
         )?;
         replaced.extend_from_slice(&done.replaced)?;
         Ok(Dnode::Object(done.node))
+    }
+}
+
+/// `BadPointer` where a pointer leads to a block that was born after that group.
+fn check_root(pointer: &BlockPtr, birth: u64) -> Result<(), Refusal>
+    ensures early { OnOk result (IsBornBy birth pointer.now) }
+    ensures late { IfErr result (λ refusal. (refusal ≡ Refusal.BadPointer)
+        × ¬ IsBornBy birth pointer.now) }
+{
+    if let BlockPtr::Block(block) = pointer {
+        if block.birth > birth {
+            return Err(Refusal::BadPointer);
+        }
+    }
+    Ok(())
+}
+
+/// `BadPointer` where what a dnode leads to was born after the block that the dnode stands in.
+fn check_dnode(found: &FoundDnode) -> Result<(), Refusal>
+    ensures early { OnOk result (IsDnodeBornBy found.now.birth found.now.dnode) }
+    ensures late { IfErr result (λ refusal. (refusal ≡ Refusal.BadPointer)
+        × ¬ IsDnodeBornBy found.now.birth found.now.dnode) }
+{
+    match &found.dnode {
+        Dnode::Object(node) => check_root(&node.pointer, found.birth),
+        Dnode::Free => Ok(()),
     }
 }
 

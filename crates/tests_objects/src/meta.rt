@@ -58,7 +58,7 @@ pub(crate) fn with(
         change: made,
     }];
     store.drop_plan(birth);
-    let done = change(set, store, alloc, &changes, birth, &[])?;
+    let done = change(set, store, alloc, &changes, birth, birth, &[])?;
     store_plan(store);
     Ok(done.set)
 }

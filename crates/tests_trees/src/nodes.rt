@@ -14,7 +14,7 @@ use dnode_tree::{BlockWrite, CopyCounts, free_blocks};
 use std::alloc::{AllocError, Global};
 use std::test::Fail;
 
-const COPIES: CopyCounts = CopyCounts {
+pub(crate) const COPIES: CopyCounts = CopyCounts {
     data: CopyCount::One,
     indirect: CopyCount::Two,
 };

@@ -4,9 +4,11 @@ ghost use Rattle.std.specs.Prelude.{◌≡◌, ◌*◌, ◌^◌, ◌<◌, ◌≤
 ghost use Rattle.dnode.specs.ObjectSet.{FitsObjectSet};
 ghost use Rattle.objset.specs.Changes.{AreGoodWrites, AreWhole, IsGoodChange};
 
+use crate::nodes::COPIES;
 use crate::stores::{Store, new_store, store_plan};
 use block_pointer::BlockPtr;
 use dnode::{ObjectNode, ObjectSet, ObjectSetKind};
+use dnode_slots::NodeWrite;
 use objset::{
     BlockWrite, Change, ObjectChange, Refusal, SetCopies, SetRewrite, change, get, get_many, walk,
     walk_within,
@@ -100,7 +102,7 @@ fn change_both(
 {
     let changes = [first, second];
     store.drop_plan(birth);
-    let done = change(set, store, alloc, &changes, birth, &[])?;
+    let done = change(set, store, alloc, &changes, birth, birth, &[])?;
     store_plan(store);
     Ok(done)
 }
@@ -427,6 +429,68 @@ fn refusals_in_memory(alloc: Global) -> Result<[bool; 3], Fail> {
 fn changes_that_cannot_be_made_are_refused(rt: HostRuntime) -> Result<(), Fail> {
     let refused = refusals_in_memory(rt.alloc())?;
     assert_eq!(rt; refused, [true; 3]);
+    Ok(())
+}
+
+/// A set whose object 3 was born in group 2, and the block of its dnode in group 1.
+fn late_object(store: &mut Store, alloc: Global) -> Result<ObjectSet, Refusal>
+    ensures { IfOk result FitsObjectSet }
+{
+    let set = two_objects(store, alloc)?.set;
+    let later = write_and_free(&set, store, alloc)?.set;
+    let found = dnode_slots::get(&later, store, alloc, 3, 2, &[])?;
+    let writes = [NodeWrite {
+        number: 3,
+        node: found.dnode,
+    }];
+    store.drop_plan(1);
+    let done = dnode_slots::put_many(&EMPTY, store, alloc, &writes, 1, COPIES, &[])?;
+    store_plan(store);
+    Ok(done.set)
+}
+
+/// Whether a write of object 3 is refused, of a set that was born in the group `before` or before it.
+fn is_late(
+    set: &ObjectSet,
+    store: &mut Store,
+    alloc: Global,
+    before: u64,
+) -> Result<bool, AllocError>
+    requires { FitsObjectSet set.now }
+{
+    let case = Case {
+        number: 3,
+        is_new: false,
+        id: 0,
+        byte: 7,
+        sectors: 1,
+    };
+    let changes = [change_of(alloc, case)?];
+    store.drop_plan(3);
+    let done = change(set, store, alloc, &changes, before, 3, &[]);
+    Ok(matches!(done, Err(Refusal::BadPointer)))
+}
+
+/// Whether what was born after the block that leads to it is refused: nothing is, the set is, an object is.
+fn late_births(store: &mut Store, alloc: Global) -> Result<[bool; 3], Refusal> {
+    let set = two_objects(store, alloc)?.set;
+    let late = late_object(store, alloc)?;
+    Ok([
+        is_late(&set, store, alloc, 1)?,
+        is_late(&set, store, alloc, 0)?,
+        is_late(&late, store, alloc, 2)?,
+    ])
+}
+
+fn late_births_in_memory(alloc: Global) -> Result<[bool; 3], Fail> {
+    let mut store = new_store(alloc)?;
+    Ok(late_births(&mut store, alloc)?)
+}
+
+#[test]
+fn what_was_born_after_its_parent_is_not_changed(rt: HostRuntime) -> Result<(), Fail> {
+    let late = late_births_in_memory(rt.alloc())?;
+    assert_eq!(rt; late, [false, true, true]);
     Ok(())
 }
 

@@ -46,10 +46,11 @@ places_with_set old mid new set birth copies change block same objects two chose
 )
 
 -- or not
-pub set_refused : (old mid new : Store) (set : ObjectSet) (birth : ℕ) (copies : SetCopies) (change : Change) (refusal : Refusal) → copies ≡ copies_of kinds.Volume
-    → ObjectsHave old mid set birth copies change → IsForRoom refusal → (refusal ≡ NoSpace → RanOut mid.spaces 2 2 new.spaces) → IsPlanRefused old new set birth change refusal
-set_refused old mid new set birth copies change refusal same objects (inl memory) ran_out = inl memory
-set_refused old mid new set birth copies change refusal same objects (inr is) ran_out =
+pub set_refused : (old mid new : Store) (set : ObjectSet) (before birth : ℕ) (copies : SetCopies) (change : Change) (refusal : Refusal) → copies ≡ copies_of kinds.Volume
+    → ObjectsHave old mid set birth copies change → IsForRoom refusal → (refusal ≡ NoSpace → RanOut mid.spaces 2 2 new.spaces)
+    → IsPlanRefused old new set before birth change refusal
+set_refused old mid new set before birth copies change refusal same objects (inl memory) ran_out = inl memory
+set_refused old mid new set before birth copies change refusal same objects (inr is) ran_out =
     inr (inl (
       is,
       inr (
@@ -64,13 +65,13 @@ set_refused old mid new set birth copies change refusal same objects (inr is) ra
     ))
 
 -- the change of the objects was refused
-pub objects_refused : (old new : Store) (set : ObjectSet) (birth : ℕ) (copies : SetCopies) (change : Change) (refusal : Refusal) → copies ≡ copies_of kinds.Volume
-    → ((refusal ≡ NoMemory) ⊎ (((refusal ≡ NoSpace) × LacksRoom old new set birth copies (data_change change)) ⊎ IsChangeRefused old new [] set birth (data_change change) refusal))
-    → IsPlanRefused old new set birth change refusal
-objects_refused old new set birth copies change refusal same (inl memory) = inl memory
-objects_refused old new set birth copies change refusal same (inr (inl lacks)) =
+pub objects_refused : (old new : Store) (set : ObjectSet) (before birth : ℕ) (copies : SetCopies) (change : Change) (refusal : Refusal) → copies ≡ copies_of kinds.Volume
+    → ((refusal ≡ NoMemory) ⊎ (((refusal ≡ NoSpace) × LacksRoom old new set birth copies (data_change change)) ⊎ IsChangeRefused old new [] set before birth (data_change change) refusal))
+    → IsPlanRefused old new set before birth change refusal
+objects_refused old new set before birth copies change refusal same (inl memory) = inl memory
+objects_refused old new set before birth copies change refusal same (inr (inl lacks)) =
     inr (inl (lacks.0, inl (subst (λ (c : SetCopies). LacksRoom old new set birth c (data_change change)) same lacks.1)))
-objects_refused old new set birth copies change refusal same (inr (inr why)) = inr (inr why)
+objects_refused old new set before birth copies change refusal same (inr (inr why)) = inr (inr why)
 
 -- places that were taken behind reads
 pub places_behind : (old mid new : Store) (volume : VolumeSet) (birth : ℕ) (set : ObjectSet) (blocks : Vec BlockWrite Global) → OnlyReadsBlocks old mid [] → IsVolumeFound old.spaces volume birth set

@@ -48,17 +48,18 @@ read_lost old new missing volume birth Wanted refusal (inr there) is =
 
 -- ---- plans
 
-pub plan_lost : (old new : Store) (set : ObjectSet) (birth : ℕ) (change : Change) (refusal : Refusal) → IsPlanRefused old new set birth change refusal → refusal ≡ DiskFault → IsBlockLost old new []
-plan_lost old new set birth change refusal (inl memory) is = absurd (cc)
-plan_lost old new set birth change refusal (inr (inl (space, lacks))) is = absurd (cc)
-plan_lost old new set birth change refusal (inr (inr refused)) is = change_lost old new [] set birth (data_change change) refusal refused is
+pub plan_lost : (old new : Store) (set : ObjectSet) (before birth : ℕ) (change : Change) (refusal : Refusal) → IsPlanRefused old new set before birth change refusal → refusal ≡ DiskFault
+    → IsBlockLost old new []
+plan_lost old new set before birth change refusal (inl memory) is = absurd (cc)
+plan_lost old new set before birth change refusal (inr (inl (space, lacks))) is = absurd (cc)
+plan_lost old new set before birth change refusal (inr (inr refused)) is = change_lost old new [] set before birth (data_change change) refusal refused is
 
 pub placing_lost : (old new : Store) (volume : VolumeSet) (birth : ℕ) (blocks : Vec BlockWrite Global) (refusal : Refusal) → IsPlacingRefused old new volume birth blocks refusal
     → refusal ≡ DiskFault → IsBlockLost old new []
 placing_lost old new volume birth blocks refusal (inl memory) is = absurd (cc)
 placing_lost old new volume birth blocks refusal (inr (inl refused)) is = volume_lost old new [] volume birth refusal refused is
 placing_lost old new volume birth blocks refusal (inr (inr put)) is =
-    lost_behind_reads old put.mid new [] put.before (plan_lost put.mid new put.set birth (Put blocks) refusal put.why is)
+    lost_behind_reads old put.mid new [] put.before (plan_lost put.mid new put.set (block_of volume).birth birth (Put blocks) refusal put.why is)
 
 pub writing_lost : (old new : Store) (volume : VolumeSet) (birth_before birth : ℕ) (changes : GroupWrites) (refusal : Refusal) → IsWritingRefused old new volume birth_before birth changes refusal
     → refusal ≡ DiskFault → IsBlockLost old new []

@@ -18,6 +18,7 @@ use Rattle.objset.specs.Refused.{IsChangeRefused}
 use Rattle.volume.specs.declared.volume.VolumeSet.{VolumeSet}
 use Rattle.volume.specs.declared.writing.GroupWrites.{GroupWrites}
 use Rattle.volume.specs.Placing.{data_change}
+use Rattle.volume.specs.Volume.{block_of}
 use Rattle.volume.specs.Reading.{IsReadRefused, IsVolumeFound, IsVolumeRefused}
 use Rattle.volume.specs.Writing.{AreBlocksOf, HasId, IsChanged, NeedsOldBytes}
 use Rattle.objset.specs.Changes.{copies_of}
@@ -47,12 +48,12 @@ LacksPlacesFor old new set birth change =
     ⊎ ((demands : List Demand) × HasSetDemands old.spaces set birth change demands
     × LackPlaces old.spaces demands new.spaces)
 
--- why a change of a set's object 1 was not planned
-abbrev pub IsPlanRefused : Store → Store → ObjectSet → ℕ → Change → Refusal → Type 0
-IsPlanRefused old new set birth change refusal =
+-- why a change of a set's object 1 was not planned; the set's blocks so far were to be born before
+abbrev pub IsPlanRefused : Store → Store → ObjectSet → ℕ → ℕ → Change → Refusal → Type 0
+IsPlanRefused old new set before birth change refusal =
     (refusal ≡ NoMemory)
     ⊎ (((refusal ≡ NoSpace) × LacksPlacesFor old new set birth change)
-    ⊎ IsChangeRefused old new [] set birth (data_change change) refusal)
+    ⊎ IsChangeRefused old new [] set before birth (data_change change) refusal)
 
 -- the volume's set was found, and then places were taken for what these blocks ask
 abbrev pub HasPlaces : Store → Store → VolumeSet → ℕ → Vec BlockWrite Global → Type 0
@@ -67,7 +68,7 @@ pub record IsPutRefused (old new : Store) (volume : VolumeSet) (birth : ℕ)
   pub is_set : IsVolumeFound old.spaces volume birth set
   pub mid : Store
   pub before : OnlyReadsBlocks old mid []
-  pub why : IsPlanRefused mid new set birth (Put blocks) refusal
+  pub why : IsPlanRefused mid new set (block_of volume).birth birth (Put blocks) refusal
 
 -- why these blocks were not put to the volume's data
 abbrev pub IsPlacingRefused :

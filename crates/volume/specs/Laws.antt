@@ -60,8 +60,9 @@ pub record LossesOfVolumes : Type 0 where
       (name : List ℕ) (writes : List Write) (refusal : Refusal)
       → IsReadRefused old new missing volume birth (NeedsOldBytes volume name writes) refusal
       → refusal ≡ DiskFault → IsBlockLost old new missing
-  pub plans : (old new : Store) (set : ObjectSet) (birth : ℕ) (change : Change) (refusal : Refusal)
-      → IsPlanRefused old new set birth change refusal
+  pub plans : (old new : Store) (set : ObjectSet) (before birth : ℕ) (change : Change)
+      (refusal : Refusal)
+      → IsPlanRefused old new set before birth change refusal
       → refusal ≡ DiskFault → IsBlockLost old new []
   pub placings : (old new : Store) (volume : VolumeSet) (birth : ℕ)
       (blocks : Vec BlockWrite Global) (refusal : Refusal)

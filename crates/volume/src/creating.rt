@@ -64,7 +64,8 @@ impl VolumeSet {
             × HasPlacesFor store.old store.new empty_set birth change) }
         ensures refused { IfErr result (λ refusal. (change : Change)
             × IsCreation block_size change
-            × IsPlanRefused store.old store.new empty_set birth change refusal) }
+            × IsPlanRefused store.old store.new empty_set birth birth change
+            refusal) }
 
         // Only room is wanting, over disks that answer truly, unless too many disks miss of a
         // block.
@@ -77,7 +78,7 @@ impl VolumeSet {
             data_sectors: (block_size / 512) as u32,
             writes: Vec::new(alloc),
         };
-        let planned = plan_change(&EMPTY, store, alloc, creation, birth)?;
+        let planned = plan_change(&EMPTY, store, alloc, creation, birth, birth)?;
         Ok(VolumeSet::new(size, block_size, planned.block))
     }
 }

@@ -180,7 +180,7 @@ impl VolumeSet {
     {
         let set = self.open(store, alloc, birth, &[])?;
         let change = Change::Put { writes: blocks };
-        let planned = plan_change(&set, store, alloc, change, birth)?;
+        let planned = plan_change(&set, store, alloc, change, self.block.birth, birth)?;
         Ok(self.rewritten(planned)?)
     }
 
@@ -201,12 +201,14 @@ impl VolumeSet {
     }
 }
 
-/// Plans a volume's set with one change of its object 1, and the set's block.
+/// Plans a volume's set with one change of its object 1, and the set's block. The set's block was born in the transaction group
+/// `before`.
 pub(crate) fn plan_change<D: Disk + Drop>(
     set: &ObjectSet,
     store: &mut BlockStore<D>,
     alloc: Global,
     change: Change,
+    before: u64,
     birth: u64,
 ) -> Result<PlannedSet, Refusal>
     requires set { FitsObjectSet set.now }
@@ -217,27 +219,27 @@ pub(crate) fn plan_change<D: Disk + Drop>(
     ensures born { IfOk result (λ done. done.block.birth ≡ birth) }
     ensures fits { IfOk result (λ done. FitsBlock done.block) }
     ensures value { IfOk result (λ done. (stored planned : Contents) (bound : ℕ)
-        (objects : ℕ → Option Object) (own : List Block) (before : ℕ → List Block)
-        → Plans store.old stored planned → AreObjects stored bound set.now objects own before
+        (objects : ℕ → Option Object) (own : List Block) (blocks : ℕ → List Block)
+        → Plans store.old stored planned → AreObjects stored bound set.now objects own blocks
         → bound ≤ birth → AnswersAreTrue store.old store.new
         → (later : Contents) × Plans store.new stored later
-        × IsSetPlanned planned later birth set.now change objects own before done.block
+        × IsSetPlanned planned later birth set.now change objects own blocks done.block
         done.replaced.items) }
     ensures no_room { IfErr result (λ refusal. refusal ≡ Refusal.NoSpace
         → LacksRoom store.old store.new) }
     ensures places { OnOk result (HasPlacesFor store.old store.new set.now birth change) }
-    ensures refused { IfErr result (IsPlanRefused store.old store.new set.now birth change) }
+    ensures refused { IfErr result (IsPlanRefused store.old store.new set.now before birth change) }
     ensures known { IfErr result (λ refusal. (stored planned : Contents) (bound : ℕ)
-        (objects : ℕ → Option Object) (own : List Block) (before : ℕ → List Block)
-        → Plans store.old stored planned → AreObjects stored bound set.now objects own before
-        → bound ≤ birth → MayChange change (objects 1) → AnswersAreTrue store.old store.new
+        (objects : ℕ → Option Object) (own : List Block) (blocks : ℕ → List Block)
+        → Plans store.old stored planned → AreObjects stored bound set.now objects own blocks
+        → bound ≤ before → bound ≤ birth → MayChange change (objects 1) → AnswersAreTrue store.old store.new
         → IsForRoom refusal ⊎ (refusal ≡ Refusal.DiskFault)) }
 {
     let changes = [ObjectChange {
         number: DATA,
         change,
     }];
-    let rewrite = objset::change(set, store, alloc, &changes, birth, &[])?;
+    let rewrite = objset::change(set, store, alloc, &changes, before, birth, &[])?;
     let block = plan_set(&rewrite.set, store, alloc, birth)?;
     Ok(PlannedSet {
         block,

@@ -77,7 +77,7 @@ returns-in_err-root-clause-known g c =
     let volumes = c.in_ok-making.ensures.value stored planned plans
     (true_before c.args.store.now c.first_volumes.new.store c.plan_root.new.store c.in_err-root.ensures.steps.reads honest) in
     let pool = fold (λ p a. pool_changed c.args.group p a.change) no_volumes c.actions.result.now in
-    c.in_err-root.ensures.known stored volumes.0 0 nothing [] (λ number. []) volumes.1 (no_objects stored 0 empty_meta refl) (omega arith)
+    c.in_err-root.ensures.known stored volumes.0 0 nothing [] (λ number. []) volumes.1 (no_objects stored 0 empty_meta refl) (omega arith) (omega arith)
     (true_after c.args.store.now c.first_volumes.new.store c.plan_root.new.store c.in_ok-making.ensures.steps.reads honest)
     (subst (All (λ (change : ObjectChange). MayChange change.change (nothing change.number))) (sym c.deref.ensures.value)
     (first_may (config_view c.args.config.now) c.in_ok-making.making list c.in_ok-making.ensures.ready c.in_ok-made.ensures.tables volumes.0 c.args.group volumes.3 pool volumes.4)))
@@ -97,5 +97,5 @@ returns-in_err-root-clause-refused g c =
     (λ refusal why.
     first_set_refused c.args.store.now c.first_volumes.new.store c.plan_root.new.store c.args.group (config_view c.args.config.now) c.args.items.now c.in_ok-making.making list
     c.in_ok-making.ensures.steps made c.in_ok-made.ensures.tables refusal
-    (subst (λ (cs : List ObjectChange). IsRootRefused c.first_volumes.new.store c.plan_root.new.store empty_meta c.args.group cs refusal) c.deref.ensures.value why))
+    (subst (λ (cs : List ObjectChange). IsRootRefused c.first_volumes.new.store c.plan_root.new.store empty_meta c.args.group c.args.group cs refusal) c.deref.ensures.value why))
     (passed_on _ _ _ c.from_residual-in_err-root.ensures.1 c.in_err-root.ensures.refused)

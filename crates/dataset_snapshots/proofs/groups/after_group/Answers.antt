@@ -108,7 +108,7 @@ returns-in_err-next-clause-known g c =
     let changes = c.in_ok-made.ensures.value stored planned _ c.args.root.now pool _ (first.plans stored planned plans) is le c.in_ok-opened.ensures.opened from
     (true_after c.args.store.now c.open_group.new.store c.changes_of.new.store first.reads so_far) in
     let are = are_of_root stored _ c.args.root.now pool c.in_ok-opened.opened.set is from.set in
-    c.in_err-next.ensures.known stored changes.0 c.args.root.now.birth is.objects is.own is.blocks changes.1 are le
+    c.in_err-next.ensures.known stored changes.0 c.args.root.now.birth is.objects is.own is.blocks changes.1 are (omega arith) le
     (true_after c.args.store.now c.changes_of.new.store c.plan_root.new.store both.reads honest)
     (subst (All (λ (change : ObjectChange). MayChange change.change (is.objects change.number))) (sym c.deref.ensures.value) changes.4.may))
 
@@ -151,5 +151,5 @@ returns-in_err-next-clause-refused g c =
     (λ refusal why.
     group_changes_refused c.args.store.now c.open_group.new.store c.changes_of.new.store c.plan_root.new.store c.args.root.now c.args.directory.now c.args.group c.args.items.now opened c.in_ok-opened.ensures.reads found list refusal
     c.in_ok-made.ensures.steps volumes
-    (subst (λ (cs : List ObjectChange). IsRootRefused c.changes_of.new.store c.plan_root.new.store opened.set c.args.group cs refusal) c.deref.ensures.value why))
+    (subst (λ (cs : List ObjectChange). IsRootRefused c.changes_of.new.store c.plan_root.new.store opened.set c.args.root.now.birth c.args.group cs refusal) c.deref.ensures.value why))
     (passed_on _ _ _ c.from_residual-in_err-next.ensures.1 c.in_err-next.ensures.refused)

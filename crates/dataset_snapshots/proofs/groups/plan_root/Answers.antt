@@ -37,8 +37,8 @@ all_or_none P xs all (k, x, within, at, none) = none (subst P at (all k x within
 
 pub returns-in_err-rewrite-clause-known : goal.returns-in_err-rewrite-clause-known
 returns-in_err-rewrite-clause-known g c =
-    passed_on _ _ _ c.from_residual.ensures.1 (λ stored planned bound objects own blocks plans are le honest may.
-    ⊎_elim (λ why. why) (λ bad. absurd (all_or_none _ _ may bad.1)) (c.in_err-rewrite.ensures.known stored planned bound objects own blocks plans are le honest))
+    passed_on _ _ _ c.from_residual.ensures.1 (λ stored planned bound objects own blocks plans are early le honest may.
+    ⊎_elim (λ why. why) (λ bad. absurd (all_or_none _ _ may bad.1)) (c.in_err-rewrite.ensures.known stored planned bound objects own blocks plans are early le honest))
 
 pub returns-clause-steps : goal.returns-clause-steps
 returns-clause-steps g c = steps_on _ _ _ _ c.in_ok-rewrite.ensures.steps c.plan_set.ensures.steps
@@ -78,10 +78,10 @@ returns-clause-no_room g c =
     c.plan_set.ensures.no_room
 
 pub returns-clause-known : goal.returns-clause-known
-returns-clause-known g c = IfErr-weaker c.plan_set.result _ _ (λ refusal room stored planned bound objects own blocks plans are le honest may. inl room) c.plan_set.ensures.refused
+returns-clause-known g c = IfErr-weaker c.plan_set.result _ _ (λ refusal room stored planned bound objects own blocks plans are early le honest may. inl room) c.plan_set.ensures.refused
 
 pub returns-in_err-rewrite-clause-refused : goal.returns-in_err-rewrite-clause-refused
-returns-in_err-rewrite-clause-refused g c = passed_on _ _ _ c.from_residual.ensures.1 (objects_refused _ _ _ _ _ _ _ (ap copies_of c.requires.kind) c.in_err-rewrite.ensures.refused)
+returns-in_err-rewrite-clause-refused g c = passed_on _ _ _ c.from_residual.ensures.1 (objects_refused _ _ _ _ _ _ _ _ (ap copies_of c.requires.kind) c.in_err-rewrite.ensures.refused)
 
 pub returns-clause-places : goal.returns-clause-places
 returns-clause-places g c =
@@ -92,6 +92,6 @@ returns-clause-places g c =
 
 pub returns-clause-refused : goal.returns-clause-refused
 returns-clause-refused g c =
-    IfErr-weaker c.plan_set.result _ _ (λ refusal both. root_refused c.args.store.now c.change.new.store c.plan_set.new.store c.args.set.now c.args.group _ c.args.changes.now refusal (ap copies_of c.requires.kind)
+    IfErr-weaker c.plan_set.result _ _ (λ refusal both. root_refused c.args.store.now c.change.new.store c.plan_set.new.store c.args.set.now c.args.before c.args.group _ c.args.changes.now refusal (ap copies_of c.requires.kind)
     c.in_ok-rewrite.ensures.places both.0
     (λ is. three_copies c.change.new.store c.plan_set.new.store _ (c.in_ok-rewrite.ensures.kind ∙ c.requires.kind) (both.1 is))) (err_both c.plan_set.result _ _ c.plan_set.ensures.refused c.plan_set.ensures.no_room)

@@ -13,7 +13,8 @@ use Rattle.objset.specs.Changes.{object_copies}
 use Rattle.objset.specs.Changing.{AreObjectsChanged}
 use Rattle.std.proofs.Common.{ap, ◌∙◌}
 use Rattle.objset.specs.declared.changes.Changing.{Changing}
-use Rattle.objset.proofs.Placing.{objects_refused, places_with_dnodes, dnodes_refused}
+use Rattle.objset.proofs.Placing.{objects_refused, places_with_dnodes, dnodes_refused, set_refused}
+use Rattle.objset.proofs.Born.{set_born}
 use Rattle.objset.proofs.changing.change.Goals as goal
 
 pub returns-in_err-rewrite-clause-steps : goal.returns-in_err-rewrite-clause-steps
@@ -29,7 +30,7 @@ returns-in_err-rewrite-clause-no_room g c = rw (sym c.of_kind-copies.ensures.are
 pub returns-in_err-rewrite-clause-known : goal.returns-in_err-rewrite-clause-known
 returns-in_err-rewrite-clause-known g c =
     passed_on _ _ _ c.from_residual-in_err-rewrite.ensures.1
-    (λ stored planned bound objects own before plans are le honest.
+    (λ stored planned bound objects own before plans are early le honest.
     let there = c.in_ok-writes.ensures.changed stored planned bound objects own before plans are le (true_sooner _ _ _ _ c.in_ok-writes.ensures.steps c.in_err-rewrite.ensures.steps honest) in
     inl (c.in_err-rewrite.ensures.known stored there.1 bound are.nodes own there.2 are.dnodes le (true_later _ _ _ _ c.in_ok-writes.ensures.steps c.in_err-rewrite.ensures.steps honest)))
 
@@ -65,14 +66,14 @@ returns-clause-changed g c = rw (sym c.of_kind-copies.ensures.are) (
 pub returns-in_err-writes-clause-refused : goal.returns-in_err-writes-clause-refused
 returns-in_err-writes-clause-refused g c = rw (sym c.of_kind-copies.ensures.are) (
     let this : Changing = record { birth = c.args.birth; copies = c.of_kind-copies.result; missing = c.args.missing } in
-    passed_on _ _ _ c.from_residual.ensures.1 (objects_refused this c.args.store.now c.change_each.new.store c.args.set.now c.args.changes.now _ c.in_err-writes.ensures.refused))
+    passed_on _ _ _ c.from_residual-in_err-writes.ensures.1 (set_refused _ _ _ _ c.args.before _ _ _ _ (objects_refused this c.args.store.now c.change_each.new.store c.args.set.now c.args.changes.now _ c.in_err-writes.ensures.refused)))
 
 pub returns-in_err-rewrite-clause-refused : goal.returns-in_err-rewrite-clause-refused
 returns-in_err-rewrite-clause-refused g c = rw (sym c.of_kind-copies.ensures.are) (
     let this : Changing = record { birth = c.args.birth; copies = c.of_kind-copies.result; missing = c.args.missing } in
     passed_on _ _ _ c.from_residual-in_err-rewrite.ensures.1
-    (dnodes_refused this c.args.store.now c.change_each.new.store c.put_many.new.store c.args.set.now c.args.changes.now (numbers_of c.deref.result.now) c.of_dnodes.result
-    (ap numbers_of c.deref.ensures.value ∙ c.in_ok-writes.ensures.same) c.of_dnodes.ensures c.in_ok-writes.ensures.places _ c.in_ok-writes.ensures.steps c.in_err-rewrite.ensures.refused))
+    (set_refused _ _ _ _ c.args.before _ _ _ _ (dnodes_refused this c.args.store.now c.change_each.new.store c.put_many.new.store c.args.set.now c.args.changes.now (numbers_of c.deref.result.now) c.of_dnodes.result
+    (ap numbers_of c.deref.ensures.value ∙ c.in_ok-writes.ensures.same) c.of_dnodes.ensures c.in_ok-writes.ensures.places _ c.in_ok-writes.ensures.steps c.in_err-rewrite.ensures.refused)))
 
 pub returns-clause-places : goal.returns-clause-places
 returns-clause-places g c = rw (sym c.of_kind-copies.ensures.are) (
@@ -81,4 +82,10 @@ returns-clause-places g c = rw (sym c.of_kind-copies.ensures.are) (
     (ap numbers_of c.deref.ensures.value ∙ c.in_ok-writes.ensures.same) c.of_dnodes.ensures c.in_ok-writes.ensures.places c.in_ok-rewrite.ensures.places)
 
 pub returns-in_err-writes-clause-no_room : goal.returns-in_err-writes-clause-no_room
-returns-in_err-writes-clause-no_room g c = rw (sym c.of_kind-copies.ensures.are) (passed_on _ _ _ c.from_residual.ensures.1 c.in_err-writes.ensures.no_room)
+returns-in_err-writes-clause-no_room g c = rw (sym c.of_kind-copies.ensures.are) (passed_on _ _ _ c.from_residual-in_err-writes.ensures.1 c.in_err-writes.ensures.no_room)
+
+pub returns-in_err-check_root-clause-known : goal.returns-in_err-check_root-clause-known
+returns-in_err-check_root-clause-known g c =
+    passed_on _ _ _ c.from_residual.ensures.1
+    (λ stored planned bound objects own before plans are early le honest.
+    absurd (c.in_err-check_root.ensures.late.1 (set_born stored bound c.args.before c.args.set.now objects own before are early)))

@@ -23,9 +23,9 @@ two_copies old new kind is = subst (λ (count : ℕ). RanOut old.spaces 2 count 
 
 pub returns-in_err-rewrite-clause-known : goal.returns-in_err-rewrite-clause-known
 returns-in_err-rewrite-clause-known g c =
-    passed_on _ _ _ c.from_residual.ensures.1 (λ stored planned bound objects own before plans are le may honest.
+    passed_on _ _ _ c.from_residual.ensures.1 (λ stored planned bound objects own before plans are early le may honest.
     ⊎_elim (λ wanting. wanting) (λ bad. not_refused c.args.change objects may bad.1)
-    (c.in_err-rewrite.ensures.known stored planned bound objects own before plans are le honest))
+    (c.in_err-rewrite.ensures.known stored planned bound objects own before plans are early le honest))
 
 pub returns-in_err-block-clause-steps : goal.returns-in_err-block-clause-steps
 returns-in_err-block-clause-steps g c = steps_on _ _ _ _ c.in_ok-rewrite.ensures.steps c.plan_set.ensures.steps
@@ -38,7 +38,7 @@ returns-in_err-block-clause-no_room g c =
 
 pub returns-in_err-block-clause-known : goal.returns-in_err-block-clause-known
 returns-in_err-block-clause-known g c =
-    passed_on _ _ _ c.from_residual-in_err-block.ensures.1 (λ stored planned bound objects own before plans are le may honest. inl c.in_err-block.ensures.refused)
+    passed_on _ _ _ c.from_residual-in_err-block.ensures.1 (λ stored planned bound objects own before plans are early le may honest. inl c.in_err-block.ensures.refused)
 
 pub returns-clause-steps : goal.returns-clause-steps
 returns-clause-steps g c = steps_on _ _ _ _ c.in_ok-rewrite.ensures.steps c.plan_set.ensures.steps
@@ -67,12 +67,12 @@ returns-clause-value g c = λ stored planned bound objects own before plans are 
 pub returns-in_err-rewrite-clause-refused : goal.returns-in_err-rewrite-clause-refused
 returns-in_err-rewrite-clause-refused g c =
     passed_on _ _ _ c.from_residual.ensures.1
-    (objects_refused c.args.store.now c.change.new.store c.args.set.now c.args.birth (copies_of c.args.set.now.kind) c.args.change _ (ap copies_of c.requires.kind) c.in_err-rewrite.ensures.refused)
+    (objects_refused c.args.store.now c.change.new.store c.args.set.now c.args.before c.args.birth (copies_of c.args.set.now.kind) c.args.change _ (ap copies_of c.requires.kind) c.in_err-rewrite.ensures.refused)
 
 pub returns-in_err-block-clause-refused : goal.returns-in_err-block-clause-refused
 returns-in_err-block-clause-refused g c =
     passed_on _ _ _ c.from_residual-in_err-block.ensures.1
-    (set_refused c.args.store.now c.change.new.store c.plan_set.new.store c.args.set.now c.args.birth (copies_of c.args.set.now.kind) c.args.change _ (ap copies_of c.requires.kind)
+    (set_refused c.args.store.now c.change.new.store c.plan_set.new.store c.args.set.now c.args.before c.args.birth (copies_of c.args.set.now.kind) c.args.change _ (ap copies_of c.requires.kind)
     c.in_ok-rewrite.ensures.places c.in_err-block.ensures.refused
     (λ is. two_copies c.change.new.store c.plan_set.new.store _ (c.in_ok-rewrite.ensures.kind ∙ c.requires.kind) (c.in_err-block.ensures.no_room is)))
 

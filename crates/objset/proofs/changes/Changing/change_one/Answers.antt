@@ -12,7 +12,8 @@ use Rattle.block_store.specs.Store.{Store}
 use Rattle.objset.specs.Demands.{demands_of_change}
 use Rattle.objset.proofs.Demands.{demands_of_one}
 use Rattle.objset.proofs.Found.{dnode_found_of}
-use Rattle.objset.proofs.Refused.{node_refused, one_change_refused}
+use Rattle.objset.proofs.Refused.{node_refused, dnode_late, one_change_refused}
+use Rattle.objset.proofs.Born.{found_born}
 use Rattle.objset.proofs.changes.Changing.change_one.Goals as goal
 
 pub returns-in_err-found-clause-known : goal.returns-in_err-found-clause-known
@@ -65,13 +66,33 @@ pub returns-in_err-node-clause-refused : goal.returns-in_err-node-clause-refused
 returns-in_err-node-clause-refused g c =
     passed_on _ _ _ c.from_residual-in_err-node.ensures.1
     (one_change_refused c.args.self c.args.store.now c.get.new.store c.change_dnode.new.store c.args.set.now c.args.change.now c.in_ok-found.found.dnode _ (steps_read _ _ _ c.in_ok-found.ensures.reads)
-    (ap (λ (s : Store). s.spaces) c.in_ok-found.ensures.reads.rest) (dnode_found_of c.in_ok-found.found c.in_ok-found.ensures.found) c.in_err-node.ensures.refused)
+    (ap (λ (s : Store). s.spaces) c.in_ok-found.ensures.reads.rest) (dnode_found_of c.in_ok-found.found c.in_ok-found.ensures.found c.check_dnode.ensures.early) c.in_err-node.ensures.refused)
 
 pub returns-clause-places : goal.returns-clause-places
 returns-clause-places g c =
     let same = ap (λ (s : Store). s.spaces) c.in_ok-found.ensures.reads.rest in
     let demands : List Demand = demands_of_change c.args.self.copies c.args.change.now.change c.in_ok-found.found.dnode in (
       demands,
-      demands_of_one c.args.store.now.spaces c.args.set.now c.args.self.birth c.args.self.copies c.args.change.now c.in_ok-found.found.dnode (dnode_found_of c.in_ok-found.found c.in_ok-found.ensures.found) c.in_ok-node.ensures.made,
+      demands_of_one c.args.store.now.spaces c.args.set.now c.args.self.birth c.args.self.copies c.args.change.now c.in_ok-found.found.dnode (dnode_found_of c.in_ok-found.found c.in_ok-found.ensures.found c.check_dnode.ensures.early) c.in_ok-node.ensures.made,
       subst (λ spaces. HavePlaces spaces demands c.change_dnode.new.store.spaces) same c.in_ok-node.ensures.places,
     )
+
+-- ---- what the dnode leads to is too late
+
+pub returns-in_err-check_dnode-clause-steps : goal.returns-in_err-check_dnode-clause-steps
+returns-in_err-check_dnode-clause-steps g c = steps_read _ _ _ c.in_ok-found.ensures.reads
+
+pub returns-in_err-check_dnode-clause-known : goal.returns-in_err-check_dnode-clause-known
+returns-in_err-check_dnode-clause-known g c =
+    passed_on _ _ _ c.from_residual-in_err-check_dnode.ensures.1
+    (λ stored planned bound objects own before plans are le honest.
+    let whole = nodes_later stored bound c.args.self.birth c.args.set.now are.nodes own le are.dnodes in
+    absurd (c.in_err-check_dnode.ensures.late.1
+    (found_born stored _ c.in_ok-found.found.birth (are.nodes c.args.change.now.number) c.in_ok-found.found.dnode (objects c.args.change.now.number) (before c.args.change.now.number)
+    (c.in_ok-found.ensures.value stored are.nodes own plans.held whole honest) (are.each c.args.change.now.number)
+    (λ some. c.in_ok-found.ensures.born stored are.nodes own plans.held whole honest some))))
+
+pub returns-in_err-check_dnode-clause-refused : goal.returns-in_err-check_dnode-clause-refused
+returns-in_err-check_dnode-clause-refused g c =
+    passed_on _ _ _ c.from_residual-in_err-check_dnode.ensures.1
+    (inr (inr (dnode_late c.args.store.now c.get.new.store c.args.self.missing.now c.args.set.now c.args.self.birth c.args.change.now _ c.in_ok-found.found c.in_ok-found.ensures.found c.in_err-check_dnode.ensures.late)))

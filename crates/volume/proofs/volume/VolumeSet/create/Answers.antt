@@ -8,7 +8,7 @@ use Rattle.volume.proofs.volume.VolumeSet.create.Goals as goal
 pub returns-in_err-planned-clause-known : goal.returns-in_err-planned-clause-known
 returns-in_err-planned-clause-known g c =
     passed_on _ _ _ c.from_residual.ensures.1 (λ stored planned plans honest.
-    c.in_err-planned.ensures.known stored planned 0 (λ number. None) [] (λ number. []) plans (no_objects stored 0 _ refl) (omega arith) refl honest)
+    c.in_err-planned.ensures.known stored planned 0 (λ number. None) [] (λ number. []) plans (no_objects stored 0 _ refl) (omega arith) (omega arith) refl honest)
 
 pub returns-clause-value : goal.returns-clause-value
 returns-clause-value g c = λ stored planned plans honest.

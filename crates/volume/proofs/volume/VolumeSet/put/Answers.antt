@@ -38,7 +38,7 @@ returns-in_err-planned-clause-known g c =
     c.in_ok-set.ensures.value stored bound array plans.held is le
     (true_before c.args.store.now c.open.new.store c.plan_change.new.store c.plan_change.ensures.steps.reads honest) in
     c.in_err-planned.ensures.known stored planned c.args.self.now.block.birth is.has.objects is.has.own is.has.blocks (c.in_ok-set.ensures.reads.plans stored planned plans)
-    (subst (λ (set : ObjectSet). AreObjects stored c.args.self.now.block.birth set is.has.objects is.has.own is.has.blocks) (sym same) is.has.are)
+    (subst (λ (set : ObjectSet). AreObjects stored c.args.self.now.block.birth set is.has.objects is.has.own is.has.blocks) (sym same) is.has.are) (omega arith)
     (let early = is.is_set.asks.birth in omega arith)
     (may_put c.args.self.now is.has.objects array c.args.blocks is.has.data_is c.requires.blocks)
     (true_after c.args.store.now c.open.new.store c.plan_change.new.store first.reads honest))
