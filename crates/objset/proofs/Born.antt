@@ -9,6 +9,7 @@ use Rattle.dnode.specs.declared.dnode.Dnode.{Dnode}
 use Rattle.dnode.specs.declared.dnode.Dnode.TheVariants.{Free, Object as Node}
 use Rattle.dnode.specs.declared.object_set.ObjectSet.{ObjectSet}
 use Rattle.dnode_tree.specs.Subtree.{IsSubtree}
+use Rattle.dnode_tree.specs.Tree.{property_of}
 use Rattle.objset.specs.Found.{IsBornBy, IsDnodeBornBy}
 use Rattle.objset.specs.Objects.{Object, IsObject, AreObjects}
 
@@ -25,12 +26,12 @@ born_later birth later (At block) le born = omega (arith, born, le)
 pub set_born : (stored : Contents) (bound before : ℕ) (set : ObjectSet) (objects : ℕ → Option Object) (own : List Block) (blocks : ℕ → List Block)
     → AreObjects stored bound set objects own blocks → bound ≤ before → IsBornBy before set.dnodes.pointer
 set_born stored bound before set objects own blocks are le =
-    born_later bound before set.dnodes.pointer le (root_born stored _ _ 0 bound set.dnodes.pointer are.dnodes.array own are.dnodes.tree.root)
+    born_later bound before set.dnodes.pointer le (root_born stored (property_of set.dnodes) _ 0 bound set.dnodes.pointer are.dnodes.array own are.dnodes.tree.root)
 
 pub object_born : (stored : Contents) (birth : ℕ) (dnode : Dnode) (object : Option Object) (blocks : List Block) → IsObject stored birth dnode object blocks → IsDnodeBornBy birth dnode
 object_born stored birth Free object blocks is = tt
 object_born stored birth (Node node) None blocks is = absurd is
-object_born stored birth (Node node) (Some object) blocks is = root_born stored _ _ 0 birth node.pointer object.array blocks is.3.root
+object_born stored birth (Node node) (Some object) blocks is = root_born stored (property_of node) _ 0 birth node.pointer object.array blocks is.3.root
 
 -- the dnode that was read is one of a sound set, and is free or has the birth of its block
 pub found_born : (stored : Contents) (birth block_birth : ℕ) (dnode found : Dnode) (object : Option Object) (blocks : List Block) → found ≡ dnode

@@ -40,6 +40,11 @@ nodes_later stored bound birth set nodes own le has = record {
   behind = has.behind;
 }
 
+-- with the same births
+pub births_of_later : (stored : Contents) (bound birth : ℕ) (set : ObjectSet) (nodes : ℕ → Dnode) (own : List Block) (le : bound ≤ birth) (has : HasNodes stored bound set nodes own) (number : ℕ) → birth_of (nodes_later stored bound birth set nodes own le has).births number ≡ birth_of has.births number
+unfolding nodes_later
+births_of_later stored bound birth set nodes own le has number = refl
+
 pub objects_stand : ObjectsStandOnTheirBlocks
 objects_stand old new bound birth set objects own blocks le keeps are = record {
   nodes = are.nodes;

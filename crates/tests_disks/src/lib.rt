@@ -5,8 +5,6 @@
 #[cfg(test)]
 mod arrays;
 #[cfg(test)]
-mod configured;
-#[cfg(test)]
 mod devices;
 #[cfg(test)]
 mod extents;

@@ -10,8 +10,6 @@ mod configs;
 #[cfg(test)]
 mod exports;
 #[cfg(test)]
-mod finds;
-#[cfg(test)]
 mod labels;
 #[cfg(test)]
 mod lists;

@@ -54,7 +54,7 @@ const LAST_CLAIM: Uberblock = Uberblock {
 
 /// Which uberblock stands on the first disk.
 #[derive(Clone, Copy)]
-pub(crate) enum Slot {
+enum Slot {
     Empty,
     Taken,
     OtherConfig,
@@ -142,9 +142,9 @@ fn write_uberblock(disks: &mut Disks, slot: Slot) -> Result<(), Fail>
 
 /// What is handed in: three disks by their guids, a change of the last one's labels, the uberblock, and
 /// the fault of the last disk.
-pub(crate) type Case = ([u8; 3], (usize, u8), Slot, Fault);
+type Case = ([u8; 3], (usize, u8), Slot, Fault);
 
-pub(crate) fn handed_in(alloc: Global, case: &Case) -> Result<Disks, Fail>
+fn handed_in(alloc: Global, case: &Case) -> Result<Disks, Fail>
     ensures count { IfOk result (λ disks. length disks.starts ≡ 3) }
     ensures labels { IfOk result (λ disks. HaveLabels disks.starts) }
 {
@@ -169,7 +169,7 @@ fn members_of(choice: &Choice) -> Option<[Option<usize>; 3]> {
 }
 
 /// Whether the one uberblock there is was taken.
-pub(crate) fn is_taken(taken: Uberblock, highest: Uberblock) -> bool {
+fn is_taken(taken: Uberblock, highest: Uberblock) -> bool {
     taken == TAKEN && highest == TAKEN
 }
 
@@ -194,7 +194,7 @@ fn chosen(alloc: Global, case: &Case, rewind: u64) -> Result<Chosen, Fail> {
 }
 
 /// The disks of a pool in another order; one of them left out; one that can't be read; a later label.
-pub(crate) const CHOICES: [(Case, [Option<usize>; 3], usize); 4] = [
+const CHOICES: [(Case, [Option<usize>; 3], usize); 4] = [
     (
         (*b"gef", NOWHERE, Slot::Taken, NEVER),
         [Some(1), Some(2), Some(0)],
@@ -231,7 +231,7 @@ fn disks_are_found_in_any_order(rt: HostRuntime) -> Result<(), Fail> {
 /// What is refused, and why: blank disks, also one with a broken list behind them; two pools, and one guid
 /// twice, which come before an empty ring; no uberblock, or one with the last claim; one of another
 /// configuration, or of another sum of guids; and two disks of three left out.
-pub(crate) const REFUSALS: [(Case, Refusal); 10] = [
+const REFUSALS: [(Case, Refusal); 10] = [
     (
         (*b"\0\0\0", NOWHERE, Slot::Taken, NEVER),
         Refusal::BadLabel(Breach::Tail),

@@ -2,9 +2,13 @@
 #![tactic(auto)]
 
 #[cfg(test)]
+mod configured;
+#[cfg(test)]
 mod exports;
 #[cfg(test)]
 mod files;
+#[cfg(test)]
+mod finds;
 #[cfg(test)]
 mod opened;
 #[cfg(test)]

@@ -3,7 +3,7 @@ use Rattle.block_pointer.specs.declared.block.Block.{Block}
 use Rattle.dnode_slots.specs.declared.writes.NodeWrite.{NodeWrite}
 use Rattle.dnode_slots.specs.Writes.{AreNodesRewritten, IsGrownSet, numbers_of, written_nodes, births_written}
 use Rattle.dnode_tree.proofs.Refusing.{passed_on}
-use Rattle.block_store.proofs.Steps.{steps_on}
+use Rattle.block_store.proofs.Steps.{steps_none, steps_on}
 use Rattle.dnode_tree.proofs.Steps.{true_sooner, true_later}
 use Rattle.dnode_tree.specs.Writes.{HasNoRoom}
 use Rattle.objset.proofs.Exchanged.{appended}
@@ -89,3 +89,11 @@ returns-in_err-check_root-clause-known g c =
     passed_on _ _ _ c.from_residual.ensures.1
     (λ stored planned bound objects own before plans are early le honest.
     absurd (c.in_err-check_root.ensures.late.1 (set_born stored bound c.args.before c.args.set.now objects own before are early)))
+
+pub returns-in_err-check_root-clause-steps : goal.returns-in_err-check_root-clause-steps
+returns-in_err-check_root-clause-steps g c = steps_none _ _
+
+pub returns-in_err-writes-clause-known : goal.returns-in_err-writes-clause-known
+returns-in_err-writes-clause-known g c =
+    passed_on _ _ _ c.from_residual-in_err-writes.ensures.1
+    (λ stored planned bound objects own before plans are early le honest. c.in_err-writes.ensures.known stored planned bound objects own before plans are le honest)

@@ -2,11 +2,11 @@ use Rattle.std.proofs.Common.{inl, sym, subst}
 use Rattle.dnode_tree.proofs.Refusing.{passed_on}
 use Rattle.block_store.proofs.Steps.{steps_on, steps_read}
 use Rattle.dnode_tree.proofs.Steps.{true_sooner, true_later}
-use Rattle.objset.proofs.Kept.{nodes_later, within_set}
+use Rattle.objset.proofs.Kept.{births_of_later, nodes_later, within_set}
 use Rattle.objset.proofs.Room.{no_room_sooner}
 use Rattle.dnode_tree.proofs.Losses.{loss_in_plan}
 use Rattle.objset.specs.Objects.{IsObject}
-use Rattle.std.proofs.Common.{List, inr, ap}
+use Rattle.std.proofs.Common.{List, inr, ap, ◌∙◌}
 use Rattle.block_store.specs.Demands.{Demand, HavePlaces}
 use Rattle.block_store.specs.Store.{Store}
 use Rattle.objset.specs.Demands.{demands_of_change}
@@ -66,14 +66,14 @@ pub returns-in_err-node-clause-refused : goal.returns-in_err-node-clause-refused
 returns-in_err-node-clause-refused g c =
     passed_on _ _ _ c.from_residual-in_err-node.ensures.1
     (one_change_refused c.args.self c.args.store.now c.get.new.store c.change_dnode.new.store c.args.set.now c.args.change.now c.in_ok-found.found.dnode _ (steps_read _ _ _ c.in_ok-found.ensures.reads)
-    (ap (λ (s : Store). s.spaces) c.in_ok-found.ensures.reads.rest) (dnode_found_of c.in_ok-found.found c.in_ok-found.ensures.found c.check_dnode.ensures.early) c.in_err-node.ensures.refused)
+    (ap (λ (s : Store). s.spaces) c.in_ok-found.ensures.reads.rest) (dnode_found_of c.in_ok-found.found c.in_ok-found.ensures.found c.in_ok-check_dnode.ensures.early) c.in_err-node.ensures.refused)
 
 pub returns-clause-places : goal.returns-clause-places
 returns-clause-places g c =
     let same = ap (λ (s : Store). s.spaces) c.in_ok-found.ensures.reads.rest in
     let demands : List Demand = demands_of_change c.args.self.copies c.args.change.now.change c.in_ok-found.found.dnode in (
       demands,
-      demands_of_one c.args.store.now.spaces c.args.set.now c.args.self.birth c.args.self.copies c.args.change.now c.in_ok-found.found.dnode (dnode_found_of c.in_ok-found.found c.in_ok-found.ensures.found c.check_dnode.ensures.early) c.in_ok-node.ensures.made,
+      demands_of_one c.args.store.now.spaces c.args.set.now c.args.self.birth c.args.self.copies c.args.change.now c.in_ok-found.found.dnode (dnode_found_of c.in_ok-found.found c.in_ok-found.ensures.found c.in_ok-check_dnode.ensures.early) c.in_ok-node.ensures.made,
       subst (λ spaces. HavePlaces spaces demands c.change_dnode.new.store.spaces) same c.in_ok-node.ensures.places,
     )
 
@@ -90,7 +90,8 @@ returns-in_err-check_dnode-clause-known g c =
     absurd (c.in_err-check_dnode.ensures.late.1
     (found_born stored _ c.in_ok-found.found.birth (are.nodes c.args.change.now.number) c.in_ok-found.found.dnode (objects c.args.change.now.number) (before c.args.change.now.number)
     (c.in_ok-found.ensures.value stored are.nodes own plans.held whole honest) (are.each c.args.change.now.number)
-    (λ some. c.in_ok-found.ensures.born stored are.nodes own plans.held whole honest some))))
+    (λ some. c.in_ok-found.ensures.born stored are.nodes own plans.held whole honest some
+    ∙ births_of_later stored bound c.args.self.birth c.args.set.now are.nodes own le are.dnodes c.args.change.now.number))))
 
 pub returns-in_err-check_dnode-clause-refused : goal.returns-in_err-check_dnode-clause-refused
 returns-in_err-check_dnode-clause-refused g c =

@@ -1,0 +1,105 @@
+//! Pools that are found on disks that are handed in, in any order.
+use crate::pools::pool_disks;
+use model_disk::{DiskArray, Fault, FaultDisk, MemDisk, Member};
+use pool_labels::Refusal;
+use pool_open::{FoundPool, find};
+use std::alloc::Global;
+use std::test::*;
+
+type Disks = Vec<FaultDisk<MemDisk>>;
+
+const NEVER: Fault = Fault::At(u64::MAX);
+
+/// Where the first label of a disk has the last byte of its guid.
+const GUID_AT: u64 = 0x4000 + 47;
+
+/// Which disks of a pool are handed in, 3 for none, and the fault of the second of them.
+type Case = ([usize; 3], Fault);
+
+/// One disk of a pool.
+fn pool_disk(alloc: Global, number: usize) -> Result<Option<MemDisk>, Fail> {
+    let mut disks = pool_disks(alloc, 1)?;
+    if number >= disks.len() {
+        return Ok(None);
+    }
+    Ok(Some(disks.swap_remove(number)))
+}
+
+fn hand_in(alloc: Global, disks: &mut Disks, number: usize, fault: Fault) -> Result<(), Fail> {
+    if let Some(disk) = pool_disk(alloc, number)? {
+        disks.push(FaultDisk::new(disk, fault))?;
+    }
+    Ok(())
+}
+
+fn handed_in(alloc: Global, case: &Case) -> Result<Disks, Fail> {
+    let ([first, second, third], fault) = *case;
+    let mut disks = Vec::new(alloc);
+    hand_in(alloc, &mut disks, first, NEVER)?;
+    hand_in(alloc, &mut disks, second, fault)?;
+    hand_in(alloc, &mut disks, third, NEVER)?;
+    Ok(disks)
+}
+
+/// The last byte of the guid that a disk shows, if it can be read.
+fn guid_on(disks: &mut DiskArray<Member<FaultDisk<MemDisk>>>, which: usize) -> Option<u8> {
+    if which >= disks.len() || disks.size(which) < 0x80_0000 {
+        return None;
+    }
+    let mut byte = [0];
+    match disks.read(which, GUID_AT, &mut byte) {
+        Ok(()) => Some(byte[0]),
+        Err(_) => None,
+    }
+}
+
+/// The guids of the disks in their order, how many are absent, and whether all else is as it should be.
+type Shown = ([Option<u8>; 3], usize, bool);
+
+fn shown(pool: FoundPool<FaultDisk<MemDisk>>) -> Shown {
+    let absent = pool.out.iter().filter(|it| **it).count();
+    let is_whole = pool.out.len() == 3
+        && pool.shapes.len() == 1
+        && pool.taken.group == 3
+        && pool.taken == pool.highest;
+    let mut disks = DiskArray::new(pool.disks);
+    let guids = [
+        guid_on(&mut disks, 0),
+        guid_on(&mut disks, 1),
+        guid_on(&mut disks, 2),
+    ];
+    (guids, absent, is_whole)
+}
+
+fn found(alloc: Global, case: &Case) -> Result<Result<Shown, Refusal>, Fail> {
+    let disks = handed_in(alloc, case)?;
+    match find(alloc, disks, 0) {
+        Ok(pool) => Ok(Ok(shown(pool))),
+        Err(refusal) => Ok(Err(refusal)),
+    }
+}
+
+/// In another order, without one, and with one that can't be read. The guids end in 101, 102 and 103.
+const FOUND: [(Case, [Option<u8>; 3], usize); 3] = [
+    (([2, 0, 1], NEVER), [Some(101), Some(102), Some(103)], 0),
+    (([2, 3, 1], NEVER), [None, Some(102), Some(103)], 1),
+    (([2, 1, 0], Fault::Read(2)), [Some(101), None, Some(103)], 1),
+];
+
+#[test]
+fn disks_are_put_in_order(rt: HostRuntime) -> Result<(), Fail> {
+    for (case, guids, absent) in FOUND {
+        assert_eq!(rt; found(rt.alloc(), &case)?, Ok((guids, absent, true)));
+    }
+    Ok(())
+}
+
+/// One disk twice, and two disks of three left out.
+#[test]
+fn refused_disks_are_not_found(rt: HostRuntime) -> Result<(), Fail> {
+    let twice = found(rt.alloc(), &([2, 0, 0], NEVER))?;
+    assert_eq!(rt; twice, Err(Refusal::PoolMismatch));
+    let alone = found(rt.alloc(), &([2, 3, 3], NEVER))?;
+    assert_eq!(rt; alone, Err(Refusal::TooManyMissing));
+    Ok(())
+}
