@@ -38,3 +38,5 @@ pub mod Uses
 pub mod GivenBack
 pub mod Settled
 pub mod Writing
+pub mod Loading
+pub mod LoadingPlans

@@ -19,7 +19,7 @@ use Rattle.block_store.specs.Spaces.{VdevSpace, AreMetaslabsOf}
 use Rattle.block_store.specs.Places.{run_at, EachSector, IsFree, IsTakenIn}
 use Rattle.block_store.specs.Shapes.{vdev_sectors, metaslab_sectors, metaslabs, metaslab_of, sector_of, IsPlace}
 
-sized_at : (spaces : List Space) (size m : ℕ) (space : Space) → All (λ s. sectors_of s ≡ size) spaces → slice_get spaces m ≡ Some space → sectors_of space ≡ size
+pub sized_at : (spaces : List Space) (size m : ℕ) (space : Space) → All (λ s. sectors_of s ≡ size) spaces → slice_get spaces m ≡ Some space → sectors_of space ≡ size
 sized_at spaces size m space all found =
     subst (λ s. sectors_of s ≡ size) (get_or_from_slice_get spaces m space space found) (all m space (slice_get_within spaces m space found))
 

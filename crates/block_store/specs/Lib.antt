@@ -17,3 +17,4 @@ pub mod Spaces
 pub mod Steps
 pub mod Store
 pub mod Uses
+pub mod Maps

@@ -8,6 +8,7 @@ mod create;
 mod device;
 mod honest;
 mod laws;
+mod maps;
 mod opening;
 mod plan;
 mod read;

@@ -57,7 +57,7 @@ impl VdevShape {
     }
 
     /// The number of the first metaslab of the meta region.
-    fn first_meta(self) -> u64
+    pub fn first_meta(self) -> u64
         ensures { result ≡ first_meta self }
     {
         self.metaslabs().saturating_sub(self.meta_slabs)

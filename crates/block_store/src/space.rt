@@ -6,7 +6,7 @@ use crate::shape::VdevShape;
 use block_pointer::Dva;
 use metaslab::Refusal;
 use metaslab_group::MetaslabGroup;
-use space_map::Run;
+use space_map::{FreeSet, Run};
 use std::alloc::{AllocError, Global};
 use std::marker::Model;
 
@@ -44,7 +44,10 @@ impl VdevMetaslabs {
     ghost use Rattle.std.specs.Bool.{OnTrue, OnFalse};
     ghost use Rattle.block_store.specs.Places.{IsEmpty, HasRoomIn, EachSector, IsFree, run_at};
     ghost use Rattle.block_store.specs.Uses.{IsInUse};
-    ghost use Rattle.block_store.specs.Shapes.{metaslab_of, IsPlace};
+    ghost use Rattle.block_store.specs.Shapes.{metaslab_of, metaslab_sectors, IsPlace};
+    ghost use Rattle.metaslab.specs.Calls.{AreUnused};
+    ghost use Rattle.metaslab_group.specs.Maps.{AppendsPlan, AreWhollyFreeOf, HoldsAt, LoadsAt};
+    ghost use Rattle.block_store.specs.Maps.{group_of};
 
     /// The space of a vdev without blocks.
     pub(crate) fn new(alloc: Global, shape: VdevShape) -> Result<Self, AllocError>
@@ -209,5 +212,41 @@ impl VdevMetaslabs {
     {
         let _ = &self.shape;
         self.metaslabs.drop_planned();
+    }
+
+    /// Appends to the bytes of a metaslab's space map what leads from what is unused without the plan to what is with it.
+    pub(crate) fn append_update(&self, metaslab: usize, out: &mut Vec<u8>) -> Result<(), AllocError>
+        requires { metaslab < metaslabs self.now.shape }
+        ensures { OnOk result (HoldsAt
+            (λ both. AppendsPlan both out.old.items out.new.items) (group_of self.now) metaslab) }
+    {
+        let _ = &self.shape;
+        self.metaslabs.append_update(metaslab, out)
+    }
+
+    /// All sectors of a metaslab that are not in use with the plan.
+    pub(crate) fn unused(&self, metaslab: usize) -> Result<FreeSet, AllocError>
+        requires { metaslab < metaslabs self.now.shape }
+        ensures { IfOk result (λ free.
+            HoldsAt (λ both. AreUnused both.planned free) (group_of self.now) metaslab) }
+    {
+        let _ = &self.shape;
+        self.metaslabs.unused(metaslab)
+    }
+
+    /// Takes in the free set that a metaslab's space map leaves, if the metaslab is wholly free and has as many sectors.
+    /// `false` changes nothing.
+    pub(crate) fn load(&mut self, metaslab: usize, free: FreeSet) -> bool
+        requires { metaslab < metaslabs self.old.shape }
+        ensures free { IsTrue result
+            ↔ HoldsAt (AreWhollyFreeOf free.sectors) (group_of self.old) metaslab }
+        ensures size { OnTrue result (free.sectors ≡ metaslab_sectors self.old.shape) }
+        ensures loaded { OnTrue result
+            (LoadsAt (group_of self.old) metaslab free (group_of self.new)) }
+        ensures left { OnFalse result (self.new ≡ self.old) }
+        ensures shape { self.new.shape ≡ self.old.shape }
+    {
+        let _ = &self.shape;
+        self.metaslabs.load(metaslab, free)
     }
 }

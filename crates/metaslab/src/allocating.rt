@@ -39,6 +39,7 @@ impl Metaslab {
     ghost use Rattle.metaslab.specs.Space.{sectors_of};
     ghost use Rattle.metaslab.specs.Calls.{IsRunOf, Changes, HasFreeRun, Settles, SettlesUnder, IsOf, AreUnused};
     ghost use Rattle.metaslab.specs.Calls.{pinned, unpinned};
+    ghost use Rattle.metaslab.specs.Unused.{IsAllFree};
 
     /// A metaslab with this free set, as the replay of its space map gives it. All its other sectors are in
     /// use, and no group is pinned.
@@ -58,6 +59,24 @@ impl Metaslab {
         ensures { result ≡ sectors_of self.now }
     {
         self.free.sectors()
+    }
+
+    /// Whether all sectors are free.
+    pub fn is_all_free(&self) -> bool
+        ensures { IsTrue result ↔ IsAllFree self.now }
+    {
+        let sectors = self.free.sectors();
+        sectors == 0 || self.free.find(sectors).is_some()
+    }
+
+    /// Takes in a free set, as the replay of the metaslab's space map gives it, in place of what was known: all other
+    /// sectors are in use from now on, and none is released. What is pinned stays.
+    pub fn load(&mut self, free: FreeSet)
+        ensures states { IsOf self.new free }
+        ensures pins { self.new.pins ≡ self.old.pins }
+    {
+        self.free = free;
+        self.released.clear();
     }
 
     /// Whether so many sectors in a row are free.

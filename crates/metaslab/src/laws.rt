@@ -4,6 +4,10 @@ ghost use Rattle.std.specs.List.{AllByRecursion};
 ghost use Rattle.metaslab.specs.Pool.{Pool, Step, IsOpened, MayStep, after, after_all, Run};
 ghost use Rattle.metaslab.specs.Pool.{IsOfPlan};
 ghost use Rattle.metaslab.specs.Accounted.{next_state, IsAccounted};
+ghost use Rattle.space_map.specs.FreeRuns.{FreeRuns, AreFree};
+ghost use Rattle.metaslab.specs.Space.{Space};
+ghost use Rattle.metaslab.specs.Calls.{AreUnused, IsOf};
+ghost use Rattle.metaslab.specs.Unused.{IsUnusedOf};
 
 /// No sector is used twice and none is lost, whatever is planned, dropped, committed, pinned and unpinned.
 pub fn space_is_accounted()
@@ -25,4 +29,15 @@ pub fn steps_follow_runs()
         → MayStep (after_all pool steps) step → Run pool (steps ++ step ∷ []) }
     ensures after { (pool : Pool) (steps : List Step) (step : Step)
         → after_all pool (steps ++ step ∷ []) ≡ after (after_all pool steps) step }
+{}
+
+/// What a metaslab leaves unused, as a free set and as a test of each sector, is the same. And a free set that was
+/// taken in is what is unused.
+pub fn unused_sectors_are_sets()
+    ensures set { (space : Space) (free : FreeRuns) → AreFree free
+        → AreUnused space free → IsUnusedOf free space }
+    ensures only { (space : Space) (free : FreeRuns)
+        → IsUnusedOf free space → AreUnused space free }
+    ensures loaded { (space : Space) (free : FreeRuns) → AreFree free
+        → IsOf space free → IsUnusedOf free space }
 {}

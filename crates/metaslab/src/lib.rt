@@ -10,5 +10,7 @@ mod settling;
 mod sharing;
 
 pub use allocating::Metaslab;
-pub use laws::{dropped_plans_change_nothing, space_is_accounted, steps_follow_runs};
+pub use laws::{
+    dropped_plans_change_nothing, space_is_accounted, steps_follow_runs, unused_sectors_are_sets,
+};
 pub use refusal::Refusal;

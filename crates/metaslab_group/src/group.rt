@@ -37,6 +37,9 @@ impl MetaslabGroup {
     ghost use Rattle.std.specs.Bool.{OnTrue, OnFalse};
     ghost use Rattle.metaslab_group.specs.Spaces.{AreWhollyFree, HasFreeRunIn, IsFreeIn, IsInUseIn};
     ghost use Rattle.metaslab_group.specs.Spaces.{ChangesIn, AreSettled, AreSettledInPart, without};
+    ghost use Rattle.metaslab.specs.Calls.{AreUnused};
+    ghost use Rattle.metaslab_group.specs.Maps.{AppendsPlan, AreWhollyFreeOf};
+    ghost use Rattle.metaslab_group.specs.Maps.{HoldsAt, LoadsAt};
 
     /// So many metaslabs of so many sectors each, all of them free, with no plan and no pinned group.
     pub fn new(alloc: Global, count: usize, sectors: u64) -> Result<MetaslabGroup, AllocError>
@@ -132,6 +135,39 @@ impl MetaslabGroup {
         ensures rest { self.new ≡ record self.old { planned = self.new.planned } }
     {
         self.metaslabs[metaslab].release(run, group)
+    }
+
+    /// Appends to the bytes of a metaslab's space map what leads from what it leaves unused without the plan to what it
+    /// does with it: nothing where the plan hasn't touched the metaslab. After an error, that memory is short, `out` may
+    /// have some of the entries.
+    pub fn append_update(&self, metaslab: usize, out: &mut Vec<u8>) -> Result<(), AllocError>
+        requires { metaslab < length self.now.planned }
+        ensures { OnOk result (HoldsAt
+            (λ spaces. AppendsPlan spaces out.old.items out.new.items) self.now metaslab) }
+    {
+        self.metaslabs[metaslab].append_update(out)
+    }
+
+    /// All sectors of a metaslab that are not in use with the plan, those too that were released and are not free yet.
+    pub fn unused(&self, metaslab: usize) -> Result<FreeSet, AllocError>
+        requires { metaslab < length self.now.planned }
+        ensures { IfOk result (λ free.
+            HoldsAt (λ spaces. AreUnused spaces.planned free) self.now metaslab) }
+    {
+        self.metaslabs[metaslab].unused()
+    }
+
+    /// Takes in the free set that a metaslab's space map leaves: all other sectors of it are in use, without a plan and
+    /// with it. `false`, which changes nothing, where some sector of it isn't free as the call begins, or the set is of a
+    /// metaslab with more sectors or fewer.
+    pub fn load(&mut self, metaslab: usize, free: FreeSet) -> bool
+        requires { metaslab < length self.old.planned }
+        ensures free { IsTrue result
+            ↔ HoldsAt (AreWhollyFreeOf free.sectors) self.old metaslab }
+        ensures loaded { OnTrue result (LoadsAt self.old metaslab free self.new) }
+        ensures left { OnFalse result (self.new ≡ self.old) }
+    {
+        self.metaslabs[metaslab].load(free)
     }
 
     /// Begins the plan of a group: what was planned is dropped, and what is due becomes free in each metaslab.

@@ -1,9 +1,9 @@
 //! A metaslab and a plan's copy of it.
-ghost use Rattle.std.specs.Prelude.{◌≡◌, ◌<◌, map, OnOk, OnErr, IfOk};
-ghost use Rattle.metaslab_group.specs.Spaces.{AreSettled, AreSettledInPart};
+ghost use Rattle.std.specs.Prelude.{◌≡◌, ◌<◌, ◌↔◌, map, IsTrue, OnOk, OnErr, IfOk};
+ghost use Rattle.metaslab_group.specs.Spaces.{AreSettled, AreSettledInPart, IsWhollyFree};
 
 use metaslab::{Metaslab, Refusal};
-use space_map::{FreeSet, Run};
+use space_map::{FreeSet, Run, append_update};
 use std::alloc::{AllocError, Global};
 use std::marker::Model;
 
@@ -20,17 +20,23 @@ pub struct PlannedMetaslab {
 impl Model for PlannedMetaslab {
     ghost use Rattle.std.specs.Prelude.{unwrap_or};
     ghost use Rattle.metaslab_group.specs.Spaces.{Spaces};
+    ghost use Rattle.metaslab_group.specs.Maps.{HaveOneSize};
 
     ghost Value = { Spaces };
 
     ghost view = { λ m. record { kept = m.kept; planned = unwrap_or m.copy m.kept } };
+
+    ghost invariant = { λ m. HaveOneSize
+        (record { kept = m.kept; planned = unwrap_or m.copy m.kept }) };
 }
 
 impl PlannedMetaslab {
-    ghost use Rattle.std.specs.Prelude.{[], ◌↔◌, IsTrue};
+    ghost use Rattle.std.specs.Prelude.{[]};
     ghost use Rattle.std.specs.Bool.{OnTrue, OnFalse};
     ghost use Rattle.metaslab.specs.State.{Free, InUse, Released};
     ghost use Rattle.metaslab.specs.Calls.{IsRunOf, Changes, HasFreeRun, SettlesUnder, IsOf};
+    ghost use Rattle.metaslab.specs.Calls.{AreUnused};
+    ghost use Rattle.metaslab_group.specs.Maps.{AppendsPlan, AreLoaded, AreWhollyFreeOf};
 
     /// A metaslab with this free set, as the replay of its space map gives it, before any plan.
     pub fn new(alloc: Global, free: FreeSet) -> PlannedMetaslab
@@ -157,6 +163,61 @@ impl PlannedMetaslab {
     {
         self.copy = None;
     }
+
+    /// Appends to the bytes of the metaslab's space map what leads from what it leaves unused without the plan to what it
+    /// does with it: nothing where the plan hasn't touched the metaslab. After an error, that memory is short, `out` may
+    /// have some of the entries.
+    pub fn append_update(&self, out: &mut Vec<u8>) -> Result<(), AllocError>
+        ensures { OnOk result (AppendsPlan self.now out.old.items out.new.items) }
+    {
+        let Some(copy) = &self.copy else {
+            return Ok(());
+        };
+        append_update(out, &self.kept.unused()?, &copy.unused()?)
+    }
+
+    /// All sectors that are not in use with the plan, those too that were released and are not free yet.
+    pub fn unused(&self) -> Result<FreeSet, AllocError>
+        ensures { IfOk result (AreUnused self.now.planned) }
+    {
+        match &self.copy {
+            Some(copy) => copy.unused(),
+            None => self.kept.unused(),
+        }
+    }
+
+    /// Takes in the free set that the metaslab's space map leaves: all other sectors are in use, without a plan and with
+    /// it. `false`, which changes nothing, where some sector isn't free as the call begins, or the set is of a metaslab
+    /// with more sectors or fewer.
+    pub fn load(&mut self, free: FreeSet) -> bool
+        ensures free { IsTrue result ↔ AreWhollyFreeOf free.sectors self.old }
+        ensures loaded { OnTrue result (AreLoaded self.old free self.new) }
+        ensures left { OnFalse result (self.new ≡ self.old) }
+    {
+        if !self.are_wholly_free(free.sectors()) {
+            return false;
+        }
+        self.copy = None;
+        self.kept.load(free);
+        true
+    }
+
+    /// Whether there are so many sectors, and all are free without the plan and with it.
+    fn are_wholly_free(&self, sectors: u64) -> bool
+        ensures { IsTrue result ↔ AreWhollyFreeOf sectors self.now }
+    {
+        match &self.copy {
+            Some(copy) => is_wholly_free(&self.kept, sectors) && is_wholly_free(copy, sectors),
+            None => is_wholly_free(&self.kept, sectors),
+        }
+    }
+}
+
+/// Whether a metaslab has so many sectors, and all are free.
+fn is_wholly_free(metaslab: &Metaslab, sectors: u64) -> bool
+    ensures { IsTrue result ↔ IsWhollyFree metaslab.now sectors }
+{
+    metaslab.sectors() == sectors && metaslab.is_all_free()
 }
 
 /// Settles one metaslab after the other.
