@@ -41,3 +41,13 @@ pub none_out : (n disk : ℕ) → is_out (replicate n false) disk ≡ false
 none_out zero disk = refl
 none_out (suc n) zero = refl
 none_out (suc n) (suc disk) = none_out n disk
+
+pub never : (b : Bool) → b ≡ true → b ≡ false → ⊥
+never b is not = absurd (cc)
+
+pub below_count : (m n count at : ℕ) → m < n → count ≡ n → count ≤ at → m < at
+below_count m n count at less is reached = omega arith
+
+-- the number of a disk that is there, where each has a flag
+pub has_flag : (disk flags starts : ℕ) → flags ≡ starts → disk < starts → disk < flags
+has_flag disk flags starts count there = omega arith

@@ -107,7 +107,6 @@ impl<D: Disk + Drop> BlockStore<D> {
 
     /// The vdev and the metaslab for a further copy, of so many, of a block, in the region for it: another vdev than those
     /// that were taken where one has room, else another metaslab where one has.
-    #[tactic(auto, using(crate::proofs::Choosing::chosen_elsewhere, crate::proofs::Choosing::chosen_apart, crate::proofs::Choosing::chosen_anywhere))]
     fn choose(&self, sectors: u32, copies: usize, taken: &[Dva]) -> Option<(usize, usize)>
         requires { 0 < sectors }
         ensures some { IfSome result (λ at.
