@@ -19,6 +19,3 @@ loop-disk-preserved g c =
 
 pub returns-in_err-extend_from_slice : goal.returns-in_err-extend_from_slice
 returns-in_err-extend_from_slice g c = no_value _ _ _ c.from_residual-in_err-extend_from_slice.ensures.1
-
-pub returns-in_err-push : goal.returns-in_err-push
-returns-in_err-push g c = no_value _ _ _ c.from_residual.ensures.1

@@ -39,14 +39,8 @@ first_writes-requires-clause-place g c =
 pub returns-in_err-add_in_use : goal.returns-in_err-add_in_use
 returns-in_err-add_in_use g c = no_value _ _ _ c.from_residual-in_err-add_in_use.ensures.1
 
-pub returns-in_err-add_in_usev : goal.returns-in_err-add_in_usev
-returns-in_err-add_in_usev g c = no_value _ _ _ c.from_residual.ensures.1
-
 pub returns-in_err-copy : goal.returns-in_err-copy
 returns-in_err-copy g c = no_value _ _ _ c.from_residual-in_err-copy.ensures.1
-
-pub returns-in_err-copya : goal.returns-in_err-copya
-returns-in_err-copya g c = no_value _ _ _ c.from_residual.ensures.1
 
 pub returns-in_err-first : goal.returns-in_err-first
 returns-in_err-first g c = no_value _ _ _ c.from_residual.ensures.1
