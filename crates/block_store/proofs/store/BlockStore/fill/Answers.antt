@@ -1,4 +1,4 @@
-use Rattle.std.proofs.Common.{◌≡◌, ◌<◌, length, sym, Some, IfOk, slice_get, ap, subst, ◌∙◌}
+use Rattle.std.proofs.Common.{◌≡◌, ◌<◌, length, sym, Some, IfOk, slice_get, ap, subst, ◌∙◌, arith}
 use Rattle.std.specs.Prelude.{slice_set, IsTrue}
 use Rattle.std.specs.Bool.{OnTrue}
 use Rattle.std.proofs.lemmas.Option.{slice_get_within}
@@ -112,3 +112,10 @@ returns-clause-err g c =
     on_err_weaker c.take_in.result
     (λ same. set_same c.self.inside.spaces.items c.args.place.vdev c.index_mut.result.now c.take_in.new.self at same ∙ ap (λ (s : Store). s.spaces) c.self.view_is)
     c.take_in.ensures.err
+
+pub index_mut-requires : goal.index_mut-requires
+index_mut-requires g c =
+    let within : c.args.place.vdev < length c.self.inside.spaces.items =
+    subst (λ (s : Store). c.args.place.vdev < length s.spaces) (sym c.self.view_is)
+    (slice_get_within c.args.self.now.spaces c.args.place.vdev c.requires.place.is_in.space c.requires.place.is_in.found) in
+    omega (arith, within)

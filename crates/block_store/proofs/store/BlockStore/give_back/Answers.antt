@@ -1,4 +1,4 @@
-use Rattle.std.proofs.Common.{◌≡◌, ◌<◌, length, sym, Some, slice_get, ap, subst, ◌∙◌}
+use Rattle.std.proofs.Common.{◌≡◌, ◌<◌, length, sym, Some, slice_get, ap, subst, ◌∙◌, arith}
 use Rattle.std.specs.Prelude.{slice_set, OnOk}
 use Rattle.std.proofs.lemmas.Option.{slice_get_within}
 use Rattle.std.proofs.lemmas.Result.{on_ok_weaker, on_err_weaker}
@@ -91,3 +91,10 @@ returns-clause-err g c =
     on_err_weaker c.release.result
     (λ same. set_same c.self.inside.spaces.items c.args.place.vdev c.index_mut.result.now c.release.new.self at same ∙ ap (λ (s : Store). s.spaces) c.self.view_is)
     c.release.ensures.err
+
+pub index_mut-requires : goal.index_mut-requires
+index_mut-requires g c =
+    let within : c.args.place.vdev < length c.self.inside.spaces.items =
+    subst (λ (s : Store). c.args.place.vdev < length s.spaces) (sym c.self.view_is)
+    (slice_get_within c.args.self.now.spaces c.args.place.vdev c.requires.space c.requires.found) in
+    omega (arith, within)

@@ -1,8 +1,11 @@
-use Rattle.std.proofs.Common.{rules, ◌≡◌, ◌≤◌, ◌^◌, ℕ, List, length, sym, subst, arith}
+use Rattle.std.proofs.Common.{rules, ◌≡◌, ◌≤◌, ◌^◌, ℕ, Bool, false, List, length, inl, inr, refl, sym, subst, arith}
 use Rattle.std.specs.Prelude.{replicate, slice_index}
 use Rattle.std.proofs.lemmas.Grind.{common_steps}
+use Rattle.block_store.proofs.GivenBack.{passed_on}
+use Rattle.block_store.specs.Config.{AreShapes}
+use Rattle.block_store.specs.Store.{is_out}
 use Rattle.block_store.proofs.Making.{is_store, none_since, plans_nothing, stores_nothing}
-use Rattle.block_store.proofs.Items.{no_value}
+use Rattle.block_store.proofs.Items.{no_value, none_out}
 use Rattle.block_store.proofs.store.BlockStore.new.Goals as goal
 
 pub invariant_of-result : goal.invariant_of-result
@@ -119,3 +122,23 @@ returns-in_err-since-clause-holds g c = no_value _ _ _ c.from_residual-in_err-si
 
 pub returns-in_err-since-clause-plans : goal.returns-in_err-since-clause-plans
 returns-in_err-since-clause-plans g c = no_value _ _ _ c.from_residual-in_err-since.ensures.1
+
+pub returns-clause-out : goal.returns-clause-out
+returns-clause-out g c disk =
+    let marks : c.in_ok-out.out.items ≡ replicate c.len.result false = search rules in
+    subst (λ (them : List Bool). is_out them disk ≡ false) (sym marks) (none_out c.len.result disk)
+
+pub returns-in_err-spaces-clause-refused : goal.returns-in_err-spaces-clause-refused
+returns-in_err-spaces-clause-refused g c = passed_on _ _ _ c.from_residual.ensures.1 (elim c.in_err-spaces.ensures.refused [
+  | inl memory ↦ inl memory
+  | inr (bad, none) ↦ inr (
+    bad,
+    λ shapes both. none shapes (subst (λ (starts : List (List ℕ)). AreShapes starts 0 c.args.vdevs.now shapes) (sym c.new-disks.ensures.starts) both.1),
+  )
+])
+
+pub returns-in_err-out-clause-refused : goal.returns-in_err-out-clause-refused
+returns-in_err-out-clause-refused g c = passed_on _ _ _ c.from_residual-in_err-out.ensures.1 (inl refl)
+
+pub returns-in_err-since-clause-refused : goal.returns-in_err-since-clause-refused
+returns-in_err-since-clause-refused g c = passed_on _ _ _ c.from_residual-in_err-since.ensures.1 (inl refl)

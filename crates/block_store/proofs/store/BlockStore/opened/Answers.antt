@@ -1,7 +1,8 @@
-use Rattle.std.proofs.Common.{rules, ◌≡◌, ◌≤◌, ◌^◌, ℕ, List, length, sym, subst, arith}
+use Rattle.std.proofs.Common.{rules, ◌≡◌, ◌≤◌, ◌^◌, ℕ, List, length, inl, refl, sym, subst, arith}
 use Rattle.std.specs.Prelude.{replicate, slice_index}
 use Rattle.std.proofs.lemmas.Grind.{common_steps}
 use Rattle.block_store.specs.Opened.{LieOn}
+use Rattle.block_store.proofs.GivenBack.{passed_on}
 use Rattle.block_store.proofs.Making.{none_since, plans_nothing}
 use Rattle.block_store.proofs.Reopening.{is_opened}
 use Rattle.block_store.proofs.Items.{no_value}
@@ -119,3 +120,12 @@ returns-in_err-since-clause-holds g c = no_value _ _ _ c.from_residual-in_err-si
 
 pub returns-in_err-since-clause-plans : goal.returns-in_err-since-clause-plans
 returns-in_err-since-clause-plans g c = no_value _ _ _ c.from_residual-in_err-since.ensures.1
+
+pub returns-in_err-spaces-clause-refused : goal.returns-in_err-spaces-clause-refused
+returns-in_err-spaces-clause-refused g c = passed_on _ _ _ c.from_residual.ensures.1 (inl refl)
+
+pub returns-in_err-out-clause-refused : goal.returns-in_err-out-clause-refused
+returns-in_err-out-clause-refused g c = passed_on _ _ _ c.from_residual-in_err-out.ensures.1 (inl refl)
+
+pub returns-in_err-since-clause-refused : goal.returns-in_err-since-clause-refused
+returns-in_err-since-clause-refused g c = passed_on _ _ _ c.from_residual-in_err-since.ensures.1 (inl refl)

@@ -1,4 +1,4 @@
-use Rattle.std.proofs.Common.{rules, ◌≡◌, [], ◌++◌, Contains, sym, ap, ◌∙◌, subst, inl, inr}
+use Rattle.std.proofs.Common.{rules, ◌≡◌, [], ◌++◌, Contains, sym, ap, ◌∙◌, refl, subst, inl, inr}
 use Rattle.std.proofs.lemmas.List.Elements.{Contains-append_cases}
 use Rattle.block_pointer.specs.Copies.{dvas}
 use Rattle.raidz_io.specs.Stands.{IsWithin}
@@ -6,6 +6,7 @@ use Rattle.block_store.specs.Places.{shapes_of, AreChosen, ArePlacesIn}
 use Rattle.block_store.specs.Plans.{AreWritesAt}
 use Rattle.block_store.specs.Store.{Store, IsStore}
 use Rattle.block_store.proofs.Adding.{chosen_shapes, OnlyTook, added, chosen_keeps, took_keeps, took_shapes, places_in, places_for, writes_within}
+use Rattle.block_store.proofs.GivenBack.{passed_on}
 use Rattle.block_store.proofs.Fitting.{bytes_fit, fits_copies, took_some}
 use Rattle.block_store.proofs.Items.{no_value}
 use Rattle.block_store.proofs.store.BlockStore.place_block.Goals as goal
@@ -219,3 +220,9 @@ returns-in_err-append-clause-places g c = no_value _ _ _ c.from_residual-in_err-
 
 pub returns-in_err-append-clause-due : goal.returns-in_err-append-clause-due
 returns-in_err-append-clause-due g c = no_value _ _ _ c.from_residual-in_err-append.ensures.1
+
+pub returns-in_err-writes-clause-refused : goal.returns-in_err-writes-clause-refused
+returns-in_err-writes-clause-refused g c = passed_on _ _ _ c.from_residual-in_err-writes.ensures.1 (inl refl)
+
+pub returns-in_err-append-clause-refused : goal.returns-in_err-append-clause-refused
+returns-in_err-append-clause-refused g c = passed_on _ _ _ c.from_residual-in_err-append.ensures.1 (inl refl)

@@ -1,4 +1,4 @@
-use Rattle.std.proofs.Common.{◌≡◌, ◌<◌, length, sym, Some, IfOk, slice_get, slice_set, ap, subst, ◌∙◌}
+use Rattle.std.proofs.Common.{◌≡◌, ◌<◌, length, sym, Some, IfOk, slice_get, slice_set, ap, subst, ◌∙◌, arith}
 use Rattle.std.proofs.lemmas.Option.{slice_get_within}
 use Rattle.std.proofs.lemmas.Result.{on_err_weaker}
 use Rattle.block_store.specs.Spaces.{VdevSpace}
@@ -90,3 +90,9 @@ returns-clause-err g c =
     on_err_weaker c.take.result
     (λ same. set_same c.self.inside.spaces.items c.args.vdev c.index_mut.result.now c.take.new.self at same ∙ ap (λ (s : Store). s.spaces) c.self.view_is)
     c.take.ensures.err
+
+pub index_mut-requires : goal.index_mut-requires
+index_mut-requires g c =
+    let within : c.args.vdev < length c.self.inside.spaces.items =
+    subst (λ (s : Store). c.args.vdev < length s.spaces) (sym c.self.view_is) (slice_get_within c.args.self.now.spaces c.args.vdev c.requires.room.space c.requires.room.found) in
+    omega (arith, within)
