@@ -10,6 +10,7 @@ pub mod Entering
 pub mod Extents
 pub mod Fewer
 pub mod Fitting
+pub mod Items
 pub mod Kept
 pub mod Losses
 pub mod Lost

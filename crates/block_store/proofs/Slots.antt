@@ -11,13 +11,15 @@ use Rattle.block_pointer.specs.declared.dva.Dva.{Dva}
 use Rattle.raidz_io.proofs.Written.{slice_get_some}
 use Rattle.space_map.specs.declared.entry.Run.{Run}
 use Rattle.metaslab.specs.Space.{Space, sectors_of}
-use Rattle.metaslab.specs.State.{Free, InUse}
+use Rattle.metaslab.specs.State.{State, Free, InUse}
 use Rattle.metaslab.specs.Calls.{IsRunOf}
-use Rattle.metaslab_group.specs.Spaces.{GroupSpaces, IsFreeIn, ChangesIn, AreSettled, AreSettledInPart}
+use Rattle.metaslab_group.specs.Spaces.{GroupSpaces, IsFreeIn, IsInUseIn, ChangesIn, AreSettled, AreSettledInPart}
 use Rattle.block_store.specs.declared.shape.VdevShape.{VdevShape}
 use Rattle.block_store.specs.Spaces.{VdevSpace, AreMetaslabsOf}
 use Rattle.block_store.specs.Places.{run_at, EachSector, IsFree, IsTakenIn}
 use Rattle.block_store.specs.Shapes.{vdev_sectors, metaslab_sectors, metaslabs, metaslab_of, sector_of, IsPlace}
+use Rattle.block_store.specs.Uses.{IsInUse}
+use Rattle.block_store.proofs.Sizes.{asize_some}
 
 pub sized_at : (spaces : List Space) (size m : ℕ) (space : Space) → All (λ s. sectors_of s ≡ size) spaces → slice_get spaces m ≡ Some space → sectors_of space ≡ size
 sized_at spaces size m space all found =
@@ -139,3 +141,49 @@ pub settled_in_part : {E : Type 0} (result : Result (Unit {0}) E) (pins : List �
     → OnErr result (AreSettledInPart pins group old new) → AreSettledInPart pins group old new
 settled_in_part (Ok unit) pins group old new ok err = record { count = ok.count; each = λ m space later found found'. inr (ok.each m space later found found') }
 settled_in_part (Err e) pins group old new ok err = err
+
+-- ---- a place in use
+
+-- metaslabs of which a run changes are as many, and as large
+still_changed : (shape : VdevShape) (old new : List Space) (m : ℕ) (run : Run) (from to : State) → ChangesIn old new m run from to → AreMetaslabsOf shape old
+    → AreMetaslabsOf shape new
+still_changed shape old new m run from to change is =
+    let size : ℕ = metaslab_sectors shape in (
+      ap length change.rest ∙ length-set old m change.later ∙ is.0,
+      subst (λ xs. All (λ s. sectors_of s ≡ size) xs) (sym change.rest)
+          (All-set (λ s. sectors_of s ≡ size) old m change.later (change.changes.sectors ∙ sized_at old size m change.space is.1 change.found) is.1),
+    )
+
+-- so they are where a run was given back, or nothing changed
+pub still_released : {T E : Type 0} (shape : VdevShape) (old new : GroupSpaces) (m : ℕ) (run : Run) (from to : State) (result : Result T E)
+    → OnOk result (ChangesIn old.planned new.planned m run from to) → OnErr result (new ≡ old) → AreMetaslabsOf shape old.planned
+    → AreMetaslabsOf shape new.planned
+still_released shape old new m run from to (Ok x) released err is = still_changed shape old.planned new.planned m run from to released is
+still_released shape old new m run from to (Err e) released err is = subst (λ (g : GroupSpaces). AreMetaslabsOf shape g.planned) (sym err) is
+
+-- a place takes up some sectors
+pub place_some : (shape : VdevShape) (sectors : ℕ) (place : Dva) → 0 < sectors → IsPlace shape sectors place → 0 < place.allocated
+place_some shape sectors place some is = subst (λ n. 0 < n) (sym is.allocated) (asize_some shape.vdev.geometry sectors some)
+
+-- the place's sectors in its metaslab are in use
+pub of_place_in_use : (shape : VdevShape) (sectors : ℕ) (spaces : List Space) (place : Dva) → IsPlace shape sectors place → AreMetaslabsOf shape spaces
+    → EachSector IsInUse spaces shape place → IsInUseIn spaces (metaslab_of shape place) (run_at shape place)
+of_place_in_use shape sectors spaces place is_place are in_use =
+    let size = sized_at spaces (metaslab_sectors shape) (metaslab_of shape place) in_use.metaslab are.1 in_use.found in
+    let fits = is_place.one in
+    let is : IsRunOf in_use.metaslab (run_at shape place) InUse = record { within = omega (arith, fits, size); each = in_use.each } in
+    rw in_use.found is
+
+place_in_use : (shape : VdevShape) (spaces : List Space) (place : Dva) → IsInUseIn spaces (metaslab_of shape place) (run_at shape place)
+    → EachSector IsInUse spaces shape place
+place_in_use shape spaces place in_use =
+    let there = some_and (slice_get spaces (metaslab_of shape place)) (λ space. IsRunOf space (run_at shape place) InUse) in_use in
+    record { metaslab = there.0; found = there.1; each = there.2.each }
+
+-- whether they are
+pub are_in_use : (shape : VdevShape) (sectors : ℕ) (spaces : List Space) (place : Dva) (b : Bool) → IsPlace shape sectors place → AreMetaslabsOf shape spaces
+    → ((b ≡ true) ↔ IsInUseIn spaces (metaslab_of shape place) (run_at shape place)) → (b ≡ true) ↔ EachSector IsInUse spaces shape place
+are_in_use shape sectors spaces place b is_place are both = (
+  λ yes. place_in_use shape spaces place (both.0 yes),
+  λ in_use. both.1 (of_place_in_use shape sectors spaces place is_place are in_use),
+)

@@ -13,7 +13,7 @@ use model_disk::Disk;
 use std::alloc::AllocError;
 
 /// Where a further copy may not go.
-#[derive(Debug, Clone, Copy, PartialEq, Eq)]
+#[derive(Clone, Copy)]
 pub(crate) enum Spread {
     /// To a vdev that has one.
     Vdevs,
@@ -107,7 +107,6 @@ impl<D: Disk + Drop> BlockStore<D> {
 
     /// The vdev and the metaslab for a further copy, of so many, of a block, in the region for it: another vdev than those
     /// that were taken where one has room, else another metaslab where one has.
-    #[tactic(auto, using(crate::proofs::Choosing::chosen_elsewhere, crate::proofs::Choosing::chosen_apart, crate::proofs::Choosing::chosen_anywhere))]
     fn choose(&self, sectors: u32, copies: usize, taken: &[Dva]) -> Option<(usize, usize)>
         requires { 0 < sectors }
         ensures some { IfSome result (λ at.

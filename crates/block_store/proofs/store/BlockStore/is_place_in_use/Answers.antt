@@ -1,4 +1,4 @@
-use Rattle.std.proofs.Common.{◌≡◌, ◌<◌, length, sym, Some, slice_get, subst}
+use Rattle.std.proofs.Common.{◌≡◌, ◌<◌, length, sym, Some, slice_get, subst, arith}
 use Rattle.std.specs.Prelude.{IsTrue}
 use Rattle.std.proofs.lemmas.Option.{slice_get_within}
 use Rattle.block_store.specs.Places.{planned, IsPlaceIn}
@@ -27,3 +27,13 @@ returns g c =
     subst (λ (s : Store). (IsTrue c.is_in_use.result → LiesOn IsInUse s.spaces planned c.args.sectors c.args.place) × (LiesOn IsInUse s.spaces planned c.args.sectors c.args.place → IsTrue c.is_in_use.result))
     c.self.view_is
     (lies_in c.self.inside.spaces.items c.args.sectors c.args.place c.index.result.now c.is_in_use.result c.requires.some at is_place c.is_in_use.ensures)
+
+pub index-requires : goal.index-requires
+index-requires g c =
+    let is_in : IsPlaceIn c.self.inside.spaces.items c.args.sectors c.args.place =
+    subst (λ (s : Store). IsPlaceIn s.spaces c.args.sectors c.args.place) (sym c.self.view_is) c.requires.place in
+    let within : c.args.place.vdev < length c.self.inside.spaces.items = slice_get_within c.self.inside.spaces.items c.args.place.vdev is_in.space is_in.found in
+    omega (arith, within)
+
+pub is_in_use-requires-clause-some : goal.is_in_use-requires-clause-some
+is_in_use-requires-clause-some g c = c.requires.some

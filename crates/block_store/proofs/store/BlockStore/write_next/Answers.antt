@@ -1,4 +1,4 @@
-use Rattle.std.proofs.Common.{◌≡◌, ◌∷◌, length, Contains, IfErr, OnOk, is_ok, sym, ap, ◌∙◌, subst}
+use Rattle.std.proofs.Common.{◌≡◌, ◌<◌, ◌∷◌, length, Contains, IfErr, OnOk, is_ok, sym, ap, ◌∙◌, subst}
 use Rattle.model_disk.specs.Call.{write_call}
 use Rattle.model_disk.specs.Joint.{Disks, on}
 use Rattle.raidz_io.specs.declared.writes.ColumnWrite.{ColumnWrite}
@@ -68,3 +68,19 @@ returns-clause-spares g c write stored planned due plans =
     let same : c.in-Some.write ≡ write = cc in
     subst (λ (w : ColumnWrite). Spares stored c.args.self.now c.note.new.self × SparesBut w planned c.args.self.now c.note.new.self) same
     (write_spares c.blocks_beside_others.ensures c.args.self.now c.note.new.self c.in-Some.write stored planned (laid_out g c) (makes g c) plans)
+
+pub returns-clause-starts : goal.returns-clause-starts
+returns-clause-starts g c =
+    ap (λ (d : Disks). d.starts) c.note.ensures.disks ∙ c.write_at-answer.ensures.starts ∙ ap (λ (s : Store). s.disks.starts) c.self.view_is
+
+pub returns-clause-spaces : goal.returns-clause-spaces
+returns-clause-spaces g c = c.note.ensures.spaces ∙ ap (λ (s : Store). s.spaces) c.self.view_is
+
+pub returns-clause-stray : goal.returns-clause-stray
+returns-clause-stray g c = c.note.ensures.stray ∙ ap (λ (s : Store). s.stray) c.self.view_is
+
+pub returns-clause-out : goal.returns-clause-out
+returns-clause-out g c = subst (λ (s : Store). OnOk c.note.result (c.note.new.self.out ≡ s.out)) c.self.view_is c.note.ensures.out
+
+pub returns-clause-spans : goal.returns-clause-spans
+returns-clause-spans g c = subst (λ (s : Store). OnOk c.note.result (c.note.new.self.spans ≡ s.spans)) c.self.view_is c.note.ensures.spans
