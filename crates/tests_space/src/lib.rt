@@ -6,6 +6,10 @@ mod dead_lists;
 #[cfg(test)]
 mod free_sets;
 #[cfg(test)]
+mod group_maps;
+#[cfg(test)]
 mod metaslab_groups;
 #[cfg(test)]
 mod metaslabs;
+#[cfg(test)]
+mod space_maps;

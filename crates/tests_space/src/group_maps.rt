@@ -1,0 +1,147 @@
+//! Tests of the space maps of a vdev's metaslabs: what a plan appends, and maps that are loaded.
+ghost use Rattle.std.specs.Prelude.{◌<◌};
+
+use metaslab::Refusal;
+use metaslab_group::MetaslabGroup;
+use space_map::{FreeSet, Kind, Run};
+use std::alloc::{AllocError, Global};
+use std::test::*;
+
+/// What the plan appends to the map of a metaslab.
+fn appended(group: &MetaslabGroup, alloc: Global, metaslab: usize) -> Result<Vec<u8>, AllocError> {
+    let mut out = Vec::new(alloc);
+    if metaslab < group.count() {
+        group.append_update(metaslab, &mut out)?;
+    }
+    Ok(out)
+}
+
+/// The bytes of the entry of a run of fewer than 32,768 sectors.
+fn entry(alloc: Global, start: u64, kind: Kind, len: u64) -> Result<Vec<u8>, AllocError> {
+    let mut bytes = Vec::new(alloc);
+    if start < 1 << 32 && len < 1 << 15 {
+        space_map::append(&mut bytes, kind, Run { start, len })?;
+    }
+    Ok(bytes)
+}
+
+/// The plan takes a run of a metaslab that is there, and gives its first half back with a group.
+fn take_and_halve(
+    group: &mut MetaslabGroup,
+    metaslab: usize,
+    half: u32,
+    releasing: u64,
+) -> Result<u64, Refusal>
+    requires { 0 < half }
+{
+    let len = u64::from(half);
+    if metaslab >= group.count() {
+        return Err(Refusal::NoSpace);
+    }
+    let start = group.allocate(metaslab, 2 * len)?;
+    let first = Run { start, len };
+    if group.is_in_use(metaslab, first) {
+        group.release(metaslab, first, releasing)?;
+    }
+    Ok(start)
+}
+
+#[test]
+fn a_plan_appends_what_it_changes(rt: HostRuntime) -> Result<(), Fail> {
+    let alloc = rt.alloc();
+    let mut group = MetaslabGroup::new(alloc, 2, 64)?;
+    let start = take_and_halve(&mut group, 1, 4, 4)?;
+    let taken = entry(alloc, start.saturating_add(4), Kind::Allocated, 4)?;
+    assert_eq!(rt; appended(&group, alloc, 1)?, taken);
+    assert!(rt; appended(&group, alloc, 0)?.is_empty());
+    group.drop_planned();
+    assert!(rt; appended(&group, alloc, 1)?.is_empty());
+    Ok(())
+}
+
+/// Gives back a run that is in use.
+fn give_back(
+    group: &mut MetaslabGroup,
+    metaslab: usize,
+    run: Run,
+    releasing: u64,
+) -> Result<(), AllocError> {
+    if metaslab < group.count() && run.len > 0 && group.is_in_use(metaslab, run) {
+        group.release(metaslab, run, releasing)?;
+    }
+    Ok(())
+}
+
+#[test]
+fn what_is_released_is_entered_as_free(rt: HostRuntime) -> Result<(), Fail> {
+    let alloc = rt.alloc();
+    let mut group = MetaslabGroup::new(alloc, 2, 64)?;
+    let start = take_and_halve(&mut group, 0, 4, 4)?;
+    group.keep_planned();
+    assert!(rt; appended(&group, alloc, 0)?.is_empty());
+    let start = start.saturating_add(4);
+    give_back(&mut group, 0, Run { start, len: 4 }, 5)?;
+    let given = entry(alloc, start, Kind::Freed, 4)?;
+    assert_eq!(rt; appended(&group, alloc, 0)?, given);
+    Ok(())
+}
+
+/// A set of so many sectors, but for its first.
+fn all_but_first(alloc: Global, sectors: u32) -> Result<FreeSet, space_map::Refusal>
+    requires { 0 < sectors }
+{
+    let mut set = FreeSet::new(alloc, u64::from(sectors))?;
+    set.change(Kind::Allocated, Run { start: 0, len: 1 })?;
+    Ok(set)
+}
+
+/// Whether such a set was loaded in a metaslab that is there.
+fn load(
+    group: &mut MetaslabGroup,
+    alloc: Global,
+    metaslab: usize,
+    sectors: u32,
+) -> Result<bool, space_map::Refusal>
+    requires { 0 < sectors }
+{
+    let set = all_but_first(alloc, sectors)?;
+    Ok(metaslab < group.count() && group.load(metaslab, set))
+}
+
+/// The first sector that is not in use in a metaslab that is there, and how many follow it.
+fn unused(group: &MetaslabGroup, metaslab: usize) -> Result<Option<Run>, AllocError> {
+    if metaslab >= group.count() {
+        return Ok(None);
+    }
+    Ok(group.unused(metaslab)?.runs().first().copied())
+}
+
+#[test]
+fn a_map_is_loaded_where_all_is_free(rt: HostRuntime) -> Result<(), Fail> {
+    let alloc = rt.alloc();
+    let mut group = MetaslabGroup::new(alloc, 3, 64)?;
+    assert!(rt; load(&mut group, alloc, 1, 64)?);
+    let left = Some(Run { start: 1, len: 63 });
+    assert_eq!(rt; unused(&group, 1)?, left);
+    group.drop_planned();
+    assert_eq!(rt; unused(&group, 1)?, left);
+    let whole = Some(Run { start: 0, len: 64 });
+    assert_eq!(rt; unused(&group, 0)?, whole);
+    assert!(rt; appended(&group, alloc, 1)?.is_empty());
+    Ok(())
+}
+
+#[test]
+fn a_map_is_refused_elsewhere(rt: HostRuntime) -> Result<(), Fail> {
+    let alloc = rt.alloc();
+    let mut group = MetaslabGroup::new(alloc, 3, 64)?;
+    assert!(rt; !load(&mut group, alloc, 0, 63)?);
+    assert!(rt; !load(&mut group, alloc, 0, 65)?);
+    assert!(rt; load(&mut group, alloc, 0, 64)?);
+    assert!(rt; !load(&mut group, alloc, 0, 64)?);
+    take_and_halve(&mut group, 1, 4, 4)?;
+    assert!(rt; !load(&mut group, alloc, 1, 64)?);
+    group.drop_planned();
+    assert!(rt; load(&mut group, alloc, 1, 64)?);
+    Ok(())
+}
