@@ -1,5 +1,5 @@
 -- An item of a list that is changed in its place, and what is said of it.
-use Rattle.std.proofs.Common.{ℕ, zero, suc, ◌≡◌, ◌<◌, ◌≤◌, ◌^◌, Bool, true, false, Result, Ok, Err, Some, List, [], ◌∷◌, length, refl, sym, ap, subst, ◌∙◌, arith}
+use Rattle.std.proofs.Common.{ℕ, zero, suc, ◌≡◌, ◌<◌, ◌≤◌, ◌^◌, Bool, true, false, Result, Ok, Err, Some, List, [], ◌∷◌, refl, sym, ap, subst, ◌∙◌, arith}
 use Rattle.std.specs.Prelude.{slice_set, replicate, IfOk, IsErrAnd}
 use Rattle.std.specs.Bool.{OnFalse}
 use Rattle.std.specs.List.{slice_get}
@@ -51,3 +51,6 @@ below_count m n count at less is reached = omega arith
 -- the number of a disk that is there, where each has a flag
 pub has_flag : (disk flags starts : ℕ) → flags ≡ starts → disk < starts → disk < flags
 has_flag disk flags starts count there = omega arith
+
+pub at_most : (n m : ℕ) → n ≡ m → n ≤ m
+at_most n m is = omega arith

@@ -1,4 +1,4 @@
-use Rattle.std.proofs.Common.{◌≡◌, ◌<◌, ◌≤◌, ◌+◌, ◌*◌, ◌^◌, length, sym, ap, subst, ◌∙◌, arith}
+use Rattle.std.proofs.Common.{◌≡◌, ◌<◌, ◌≤◌, ◌+◌, ◌*◌, ◌^◌, sym, ap, subst, ◌∙◌, arith}
 use Rattle.block_pointer.specs.declared.dva.Dva.{Dva}
 use Rattle.raidz_map.specs.Layout.{asize}
 use Rattle.metaslab.specs.State.{Free, InUse}

@@ -1,11 +1,11 @@
-use Rattle.std.proofs.Common.{rules, ◌≡◌, ◌≤◌, ◌^◌, ℕ, List, length, inl, refl, sym, subst, arith}
+use Rattle.std.proofs.Common.{rules, ◌≡◌, ◌≤◌, ◌^◌, ℕ, List, length, inl, inr, refl, sym, subst, arith}
 use Rattle.std.specs.Prelude.{replicate, slice_index}
 use Rattle.std.proofs.lemmas.Grind.{common_steps}
 use Rattle.block_store.specs.Opened.{LieOn}
 use Rattle.block_store.proofs.GivenBack.{passed_on}
 use Rattle.block_store.proofs.Making.{none_since, plans_nothing}
 use Rattle.block_store.proofs.Reopening.{is_opened}
-use Rattle.block_store.proofs.Items.{no_value}
+use Rattle.block_store.proofs.Items.{no_value, never}
 use Rattle.block_store.proofs.store.BlockStore.opened.Goals as goal
 
 pub invariant_of-result : goal.invariant_of-result
@@ -129,3 +129,6 @@ returns-in_err-out-clause-refused g c = passed_on _ _ _ c.from_residual-in_err-o
 
 pub returns-in_err-since-clause-refused : goal.returns-in_err-since-clause-refused
 returns-in_err-since-clause-refused g c = passed_on _ _ _ c.from_residual-in_err-since.ensures.1 (inl refl)
+
+pub returns-then-not-lie_on-clause-refused : goal.returns-then-not-lie_on-clause-refused
+returns-then-not-lie_on-clause-refused g c = inr (refl, λ may. never c.lie_on.result (c.lie_on.ensures.1 may.lie) c.if-not-lie_on.true)
