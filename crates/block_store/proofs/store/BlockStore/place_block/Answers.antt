@@ -1,15 +1,12 @@
-use Rattle.std.proofs.Common.{rules, ◌≡◌, [], ◌++◌, Contains, sym, ap, ◌∙◌, refl, subst, inl, inr}
+use Rattle.std.proofs.Common.{rules, ◌≡◌, [], ◌++◌, Contains, sym, ap, ◌∙◌, subst, inl, inr}
 use Rattle.std.proofs.lemmas.List.Elements.{Contains-append_cases}
 use Rattle.block_pointer.specs.Copies.{dvas}
 use Rattle.raidz_io.specs.Stands.{IsWithin}
-use Rattle.block_store.specs.Blocks.{count_of}
-use Rattle.block_store.specs.Places.{shapes_of, AreChosen, ArePlacesIn, TookSome, RanOut}
+use Rattle.block_store.specs.Places.{shapes_of, AreChosen, ArePlacesIn}
 use Rattle.block_store.specs.Plans.{AreWritesAt}
 use Rattle.block_store.specs.Store.{Store, IsStore}
 use Rattle.block_store.proofs.Adding.{chosen_shapes, OnlyTook, added, chosen_keeps, took_keeps, took_shapes, places_in, places_for, writes_within}
-use Rattle.block_store.proofs.GivenBack.{at_error, passed_on}
 use Rattle.block_store.proofs.Fitting.{bytes_fit, fits_copies, took_some}
-use Rattle.block_store.proofs.Items.{no_value, at_most}
 use Rattle.block_store.proofs.store.BlockStore.place_block.Goals as goal
 
 pub returns-in_err-places-clause-shapes : goal.returns-in_err-places-clause-shapes
@@ -176,92 +173,3 @@ pub returns-clause-shapes : goal.returns-clause-shapes
 returns-clause-shapes g c =
     ap (λ (s : Store). shapes_of s.spaces) c.self.view_is
     ∙ chosen_shapes _ c.args.new.property.sectors c.count.result c.in_ok-places.places.items _ c.in_ok-places.ensures.chosen
-
-pub returns-in_err-places-clause-block : goal.returns-in_err-places-clause-block
-returns-in_err-places-clause-block g c = no_value _ _ _ c.from_residual.ensures.1
-
-pub returns-in_err-places-clause-fits : goal.returns-in_err-places-clause-fits
-returns-in_err-places-clause-fits g c = no_value _ _ _ c.from_residual.ensures.1
-
-pub returns-in_err-places-clause-planned : goal.returns-in_err-places-clause-planned
-returns-in_err-places-clause-planned g c = no_value _ _ _ c.from_residual.ensures.1
-
-pub returns-in_err-places-clause-places : goal.returns-in_err-places-clause-places
-returns-in_err-places-clause-places g c = no_value _ _ _ c.from_residual.ensures.1
-
-pub returns-in_err-places-clause-due : goal.returns-in_err-places-clause-due
-returns-in_err-places-clause-due g c = no_value _ _ _ c.from_residual.ensures.1
-
-pub returns-in_err-writes-clause-block : goal.returns-in_err-writes-clause-block
-returns-in_err-writes-clause-block g c = no_value _ _ _ c.from_residual-in_err-writes.ensures.1
-
-pub returns-in_err-writes-clause-fits : goal.returns-in_err-writes-clause-fits
-returns-in_err-writes-clause-fits g c = no_value _ _ _ c.from_residual-in_err-writes.ensures.1
-
-pub returns-in_err-writes-clause-planned : goal.returns-in_err-writes-clause-planned
-returns-in_err-writes-clause-planned g c = no_value _ _ _ c.from_residual-in_err-writes.ensures.1
-
-pub returns-in_err-writes-clause-places : goal.returns-in_err-writes-clause-places
-returns-in_err-writes-clause-places g c = no_value _ _ _ c.from_residual-in_err-writes.ensures.1
-
-pub returns-in_err-writes-clause-due : goal.returns-in_err-writes-clause-due
-returns-in_err-writes-clause-due g c = no_value _ _ _ c.from_residual-in_err-writes.ensures.1
-
-pub returns-in_err-append-clause-block : goal.returns-in_err-append-clause-block
-returns-in_err-append-clause-block g c = no_value _ _ _ c.from_residual-in_err-append.ensures.1
-
-pub returns-in_err-append-clause-fits : goal.returns-in_err-append-clause-fits
-returns-in_err-append-clause-fits g c = no_value _ _ _ c.from_residual-in_err-append.ensures.1
-
-pub returns-in_err-append-clause-planned : goal.returns-in_err-append-clause-planned
-returns-in_err-append-clause-planned g c = no_value _ _ _ c.from_residual-in_err-append.ensures.1
-
-pub returns-in_err-append-clause-places : goal.returns-in_err-append-clause-places
-returns-in_err-append-clause-places g c = no_value _ _ _ c.from_residual-in_err-append.ensures.1
-
-pub returns-in_err-append-clause-due : goal.returns-in_err-append-clause-due
-returns-in_err-append-clause-due g c = no_value _ _ _ c.from_residual-in_err-append.ensures.1
-
-pub returns-in_err-writes-clause-refused : goal.returns-in_err-writes-clause-refused
-returns-in_err-writes-clause-refused g c = passed_on _ _ _ c.from_residual-in_err-writes.ensures.1 (inl refl)
-
-pub returns-in_err-append-clause-refused : goal.returns-in_err-append-clause-refused
-returns-in_err-append-clause-refused g c = passed_on _ _ _ c.from_residual-in_err-append.ensures.1 (inl refl)
-
-pub returns-in_err-places-clause-err_spaces : goal.returns-in_err-places-clause-err_spaces
-returns-in_err-places-clause-err_spaces g c =
-    at_error c.from_residual.result _
-    (subst (λ n. TookSome c.args.self.now.spaces c.args.new.property.sectors n c.choose_places.new.self.spaces) c.count.ensures.value c.in_err-places.ensures.some)
-
-pub returns-in_err-places-clause-refused : goal.returns-in_err-places-clause-refused
-returns-in_err-places-clause-refused g c = passed_on _ _ _ c.from_residual.ensures.1 (elim c.in_err-places.ensures.refused [
-  | inl memory ↦ inl memory
-  | inr (full, ran) ↦ inr (
-    full,
-    subst (λ n. RanOut c.args.self.now.spaces c.args.new.property.sectors n c.choose_places.new.self.spaces) c.count.ensures.value ran,
-  )
-])
-
-pub returns-in_err-writes-clause-err_spaces : goal.returns-in_err-writes-clause-err_spaces
-returns-in_err-writes-clause-err_spaces g c =
-    let took : TookSome c.args.self.now.spaces c.args.new.property.sectors (count_of c.args.copies) c.choose_places.new.self.spaces =
-    subst (λ n. TookSome c.args.self.now.spaces c.args.new.property.sectors n c.choose_places.new.self.spaces) c.count.ensures.value
-    (c.in_ok-places.places.items, at_most _ _ c.in_ok-places.ensures.count, c.in_ok-places.ensures.chosen) in
-    at_error c.from_residual-in_err-writes.result _ took
-
-pub returns-in_err-append-clause-err_spaces : goal.returns-in_err-append-clause-err_spaces
-returns-in_err-append-clause-err_spaces g c =
-    let took : TookSome c.args.self.now.spaces c.args.new.property.sectors (count_of c.args.copies) c.choose_places.new.self.spaces =
-    subst (λ n. TookSome c.args.self.now.spaces c.args.new.property.sectors n c.choose_places.new.self.spaces) c.count.ensures.value
-    (c.in_ok-places.places.items, at_most _ _ c.in_ok-places.ensures.count, c.in_ok-places.ensures.chosen) in
-    at_error c.from_residual-in_err-append.result _
-    (subst (λ (s : Store). TookSome c.args.self.now.spaces c.args.new.property.sectors (count_of c.args.copies) s.spaces) (sym c.self.view_is) took)
-
-pub returns-clause-places : goal.returns-clause-places
-returns-clause-places g c =
-    let copies : dvas c.copies_at.result ≡ c.in_ok-places.places.items = c.copies_at.ensures ∙ c.as_slice-2.ensures.value in
-    let chosen : AreChosen c.args.self.now.spaces [] c.args.new.property.sectors c.count.result c.in_ok-places.places.items c.self.inside.spaces.items =
-    subst (λ (s : Store). AreChosen c.args.self.now.spaces [] c.args.new.property.sectors c.count.result c.in_ok-places.places.items s.spaces) (sym c.self.view_is)
-    c.in_ok-places.ensures.chosen in
-    subst (λ xs. AreChosen c.args.self.now.spaces [] c.args.new.property.sectors (count_of c.args.copies) xs c.self.inside.spaces.items) (sym copies)
-    (subst (λ n. AreChosen c.args.self.now.spaces [] c.args.new.property.sectors n c.in_ok-places.places.items c.self.inside.spaces.items) c.count.ensures.value chosen)
