@@ -1,6 +1,6 @@
 -- An item of a list that is changed in its place, and what is said of it.
-use Rattle.std.proofs.Common.{ℕ, zero, suc, ◌≡◌, ◌<◌, ◌≤◌, ◌^◌, Bool, true, false, Result, Ok, Err, Some, List, [], ◌∷◌, length, refl, sym, ap, subst, ◌∙◌, arith}
-use Rattle.std.specs.Prelude.{slice_set, replicate, IfOk, IsErrAnd}
+use Rattle.std.proofs.Common.{ℕ, zero, suc, ◌≡◌, ◌<◌, ◌≤◌, ◌^◌, Bool, true, false, Result, Ok, Err, Some, List, [], ◌∷◌, refl, sym, ap, subst, ◌∙◌, arith}
+use Rattle.std.specs.Prelude.{slice_set, replicate, IfOk}
 use Rattle.std.specs.Bool.{OnFalse}
 use Rattle.std.specs.List.{slice_get}
 use Rattle.raidz_io.proofs.Written.{same_some}
@@ -30,11 +30,6 @@ pub at_false : {E P Q : Type 0} (result : Result Bool E) → (P → Q) → IfOk 
 at_false (Ok true) f holds = tt
 at_false (Ok false) f holds = f holds
 at_false (Err e) f holds = tt
-
--- the exit of a `?` has no value
-pub no_value : {T E : Type 0} (result : Result T E) (refusal : E) (P : T → Type 0) → IsErrAnd result (λ e. e ≡ refusal) → IfOk result P
-no_value (Ok x) refusal P is = elim is [ ]
-no_value (Err e) refusal P is = tt
 
 -- none of so many is out
 pub none_out : (n disk : ℕ) → is_out (replicate n false) disk ≡ false

@@ -13,7 +13,7 @@ use model_disk::Disk;
 use std::alloc::AllocError;
 
 /// Where a further copy may not go.
-#[derive(Clone, Copy)]
+#[derive(Debug, Clone, Copy, PartialEq, Eq)]
 pub(crate) enum Spread {
     /// To a vdev that has one.
     Vdevs,

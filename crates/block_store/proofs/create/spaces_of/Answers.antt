@@ -1,9 +1,7 @@
-use Rattle.std.proofs.Common.{rules, ◌≡◌, ◌++◌, ◌∷◌, [], inl, inr, refl, sym, subst, ◌∙◌}
+use Rattle.std.proofs.Common.{rules, ◌≡◌, ◌++◌, ◌∷◌, [], inr, refl, sym, subst, ◌∙◌}
 use Rattle.block_store.specs.Config.{IsShapeOf}
 use Rattle.block_store.specs.Places.{AreEmpty}
-use Rattle.block_store.proofs.GivenBack.{passed_on}
 use Rattle.block_store.proofs.Making.{AreSpacesBefore, no_shape, all_made, before_more, empty_more}
-use Rattle.block_store.proofs.Items.{no_value}
 use Rattle.block_store.proofs.create.spaces_of.Goals as goal
 
 pub returns-in_default-clause-refused : goal.returns-in_default-clause-refused
@@ -22,21 +20,3 @@ loop-config-preserved g c =
           (subst (IsShapeOf _ _ _) (sym c.in_ok-space.ensures.shape) c.in-Some.ensures.some)),
       subst AreEmpty (sym items) (empty_more _ c.in_ok-space.space c.loop-config.invariant.1 c.in_ok-space.ensures.empty),
     )
-
-pub returns-in_err-map_err-clause-ok : goal.returns-in_err-map_err-clause-ok
-returns-in_err-map_err-clause-ok g c = no_value _ _ _ c.from_residual-in_err-map_err.ensures.1
-
-pub returns-in_err-map_err-clause-empty : goal.returns-in_err-map_err-clause-empty
-returns-in_err-map_err-clause-empty g c = no_value _ _ _ c.from_residual-in_err-map_err.ensures.1
-
-pub returns-in_err-space-clause-ok : goal.returns-in_err-space-clause-ok
-returns-in_err-space-clause-ok g c = no_value _ _ _ c.from_residual.ensures.1
-
-pub returns-in_err-space-clause-empty : goal.returns-in_err-space-clause-empty
-returns-in_err-space-clause-empty g c = no_value _ _ _ c.from_residual.ensures.1
-
-pub returns-in_err-space-clause-refused : goal.returns-in_err-space-clause-refused
-returns-in_err-space-clause-refused g c = passed_on _ _ _ c.from_residual.ensures.1 (inl refl)
-
-pub returns-in_err-map_err-clause-refused : goal.returns-in_err-map_err-clause-refused
-returns-in_err-map_err-clause-refused g c = passed_on _ _ _ c.from_residual-in_err-map_err.ensures.1 (inl refl)

@@ -2,7 +2,6 @@ use Rattle.std.proofs.Common.{rules, ◌≡◌, ◌++◌, ◌∷◌, [], sym, ap
 use Rattle.block_store.specs.Places.{shapes_of, AreEmpty}
 use Rattle.block_store.proofs.Making.{empty_more}
 use Rattle.block_store.proofs.Reopening.{shapes_more}
-use Rattle.block_store.proofs.Items.{no_value}
 use Rattle.block_store.proofs.opening.empty_spaces.Goals as goal
 
 pub loop-shape-preserved : goal.loop-shape-preserved
@@ -13,15 +12,3 @@ loop-shape-preserved c =
           (c.in_ok-space.ensures.shape ∙ c.shape-item.is),
       subst AreEmpty (sym items) (empty_more _ c.in_ok-space.space c.loop-shape.invariant.1 c.in_ok-space.ensures.empty),
     )
-
-pub returns-in_err-map_err-clause-shapes : goal.returns-in_err-map_err-clause-shapes
-returns-in_err-map_err-clause-shapes c = no_value _ _ _ c.from_residual-in_err-map_err.ensures.1
-
-pub returns-in_err-map_err-clause-empty : goal.returns-in_err-map_err-clause-empty
-returns-in_err-map_err-clause-empty c = no_value _ _ _ c.from_residual-in_err-map_err.ensures.1
-
-pub returns-in_err-space-clause-shapes : goal.returns-in_err-space-clause-shapes
-returns-in_err-space-clause-shapes c = no_value _ _ _ c.from_residual.ensures.1
-
-pub returns-in_err-space-clause-empty : goal.returns-in_err-space-clause-empty
-returns-in_err-space-clause-empty c = no_value _ _ _ c.from_residual.ensures.1

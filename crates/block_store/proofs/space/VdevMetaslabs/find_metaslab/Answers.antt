@@ -16,12 +16,12 @@ loop-metaslab-preserved c =
     (λ room region may. elim c.else-is_in_region.branch [
       | else-is_in_region-via-then-is_in_region+then-has_room+else-may_take w ↦
           never w.may_take.result
-              (w.may_take.ensures.1 (subst (λ (s : VdevShape). MayTake s c.args.taken.now c.args.vdev at c.args.spread) (sym c.shape-shape.ensures) may))
-              w.if-may_take.false
+          (w.may_take.ensures.1 (subst (λ (s : VdevShape). MayTake s c.args.taken.now c.args.vdev at c.args.spread) (sym c.shape-shape.ensures) may))
+          w.if-may_take.false
       | else-is_in_region-via-then-is_in_region+else-has_room w ↦ never w.has_room.result (w.has_room.ensures.1 room) w.if-has_room.false
       | else-is_in_region-via-else-is_in_region w ↦
           never c.is_in_region.result (c.is_in_region.ensures.1 (subst (λ (s : VdevShape). IsInRegion s c.args.copies at) (sym c.shape-shape.ensures) region))
-              w.if-is_in_region.false
+          w.if-is_in_region.false
     ])
 
 pub returns-then-may_take-clause-room : goal.returns-then-may_take-clause-room

@@ -1,10 +1,10 @@
-use Rattle.std.proofs.Common.{◌≡◌, ◌<◌, length, true, sym, ap, subst, ◌∙◌}
+use Rattle.std.proofs.Common.{◌≡◌, ◌<◌, length, sym, ap, subst, ◌∙◌}
 use Rattle.std.specs.Prelude.{◌↔◌, IsTrue}
 use Rattle.space_map.specs.declared.entry.Run.{Run}
 use Rattle.metaslab_group.specs.Spaces.{IsInUseIn}
 use Rattle.block_store.specs.declared.shape.VdevShape.{VdevShape}
 use Rattle.block_store.specs.Places.{run_at, EachSector}
-use Rattle.block_store.specs.Shapes.{metaslab_of, metaslabs, IsPlace}
+use Rattle.block_store.specs.Shapes.{metaslab_of, IsPlace}
 use Rattle.block_store.specs.Spaces.{VdevSpace}
 use Rattle.block_store.specs.Uses.{IsInUse}
 use Rattle.block_store.proofs.Slots.{place_some, are_in_use}

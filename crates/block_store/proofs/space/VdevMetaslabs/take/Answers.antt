@@ -1,4 +1,4 @@
-use Rattle.std.proofs.Common.{◌≡◌, ◌<◌, ◌≤◌, ◌+◌, ◌*◌, ◌^◌, length, sym, ap, subst, ◌∙◌, arith}
+use Rattle.std.proofs.Common.{◌≡◌, ◌<◌, ◌≤◌, ◌+◌, ◌*◌, ◌^◌, sym, ap, subst, arith}
 use Rattle.block_pointer.specs.declared.dva.Dva.{Dva}
 use Rattle.raidz_map.specs.Layout.{asize}
 use Rattle.metaslab.specs.State.{Free, InUse}
@@ -7,7 +7,7 @@ use Rattle.block_store.specs.declared.shape.VdevShape.{VdevShape}
 use Rattle.block_store.specs.Spaces.{VdevSpace, AreMetaslabsOf}
 use Rattle.block_store.specs.Places.{run_at}
 use Rattle.block_store.specs.Shapes.{metaslab_sectors, metaslabs, metaslab_of, IsPlace}
-use Rattle.block_store.proofs.Sizes.{asize_some, is_place_at, slab_bound}
+use Rattle.block_store.proofs.Sizes.{is_place_at, slab_bound}
 use Rattle.block_store.proofs.Slots.{within, below_end, still_metaslabs, changes_at}
 use Rattle.block_store.proofs.space.VdevMetaslabs.take.Goals as goal
 
@@ -81,25 +81,3 @@ returns-clause-taken c =
     let at = is_place_at shape c.args.sectors c.args.metaslab c.in-Ok.start place c.requires.some there size offset c.asize-allocated.ensures in
     subst (λ (s : VdevSpace). ChangesIn s.planned c.allocate.new.self.planned (metaslab_of s.shape place) (run_at s.shape place) Free InUse) c.self.view_is
     (changes_at shape c.self.inside.metaslabs.planned c.allocate.new.self.planned c.args.metaslab c.in-Ok.start place at.1 at.2 c.in-Ok.ensures.taken)
-
--- the vdev's space, of what its metaslabs show
-abbrev shown : VdevShape → GroupSpaces → VdevSpace
-shown shape group = record { shape = shape; kept = group.kept; planned = group.planned; pins = group.pins }
-
-pub allocate-requires-clause-is_there : goal.allocate-requires-clause-is_there
-allocate-requires-clause-is_there c =
-    let there : c.args.metaslab < metaslabs c.self.inside.shape = subst (λ (s : VdevSpace). c.args.metaslab < metaslabs s.shape) (sym c.self.view_is) c.requires.is_there in
-    subst (λ n. c.args.metaslab < n) (sym c.self.invariant.planned.0) there
-
-pub allocate-requires-clause-some : goal.allocate-requires-clause-some
-allocate-requires-clause-some c = subst (λ n. 0 < n) (sym c.asize-allocated.ensures) (asize_some c.self.inside.shape.vdev.geometry c.args.sectors c.requires.some)
-
-pub returns-clause-rest : goal.returns-clause-rest
-returns-clause-rest c =
-    ap (λ (g : GroupSpaces). shown c.self.inside.shape g) c.allocate.ensures.rest
-    ∙ ap (λ (s : VdevSpace). record s { planned = c.allocate.new.self.planned }) c.self.view_is
-
-pub returns-in-Err-NoMemory-clause-rest : goal.returns-in-Err-NoMemory-clause-rest
-returns-in-Err-NoMemory-clause-rest c =
-    ap (λ (g : GroupSpaces). shown c.self.inside.shape g) c.allocate.ensures.rest
-    ∙ ap (λ (s : VdevSpace). record s { planned = c.allocate.new.self.planned }) c.self.view_is

@@ -1,7 +1,6 @@
 use Rattle.std.proofs.Common.{◌≡◌, ◌<◌, false, length, ap, ◌∙◌, arith}
 use Rattle.block_store.specs.Store.{Store}
 use Rattle.block_store.proofs.ReadingOuts.{out_too, not_out}
-use Rattle.block_store.proofs.Items.{no_value}
 use Rattle.block_store.proofs.store.BlockStore.absent.Goals as goal
 use Rattle.block_store.proofs.store.BlockStore.absent.Goals.{then-is_out+in_ok-push, else-is_out}
 
@@ -16,6 +15,3 @@ loop-disk-preserved g c =
       | else-is_out w ↦
           rw w.absent-is (not_out c.args.self.now.out c.loop-disk.disk false c.loop-disk.absent.items below (rw out at w.if-is_out.false) c.loop-disk.invariant)
     ]
-
-pub returns-in_err-extend_from_slice : goal.returns-in_err-extend_from_slice
-returns-in_err-extend_from_slice g c = no_value _ _ _ c.from_residual-in_err-extend_from_slice.ensures.1

@@ -3,7 +3,6 @@ use Rattle.std.proofs.lemmas.List.{length-append}
 use Rattle.block_pointer.specs.declared.dva.Dva.{Dva}
 use Rattle.block_store.specs.Places.{IsChosen, AreChosen}
 use Rattle.block_store.proofs.Choosing.{AreChosen-push, is_chosen}
-use Rattle.block_store.proofs.Items.{no_value}
 use Rattle.block_store.proofs.store.BlockStore.choose_places.Goals as goal
 
 pub loop-copy-preserved : goal.loop-copy-preserved
@@ -23,9 +22,3 @@ loop-copy-preserved g c =
       subst A (sym c.push.ensures.items)
           (AreChosen-push c.args.self.now.spaces [] c.args.sectors c.args.copies c.loop-copy.places.items c.loop-copy.self.spaces c.in_ok-place.place c.take.new.self.spaces before.6 chosen took.taken),
     )
-
-pub returns-in_err-place-clause-count : goal.returns-in_err-place-clause-count
-returns-in_err-place-clause-count g c = no_value _ _ _ c.from_residual.ensures.1
-
-pub returns-in_err-place-clause-chosen : goal.returns-in_err-place-clause-chosen
-returns-in_err-place-clause-chosen g c = no_value _ _ _ c.from_residual.ensures.1

@@ -1,11 +1,9 @@
-use Rattle.std.proofs.Common.{rules, ◌≡◌, ◌≤◌, ◌^◌, ℕ, List, length, inl, refl, sym, subst, arith}
+use Rattle.std.proofs.Common.{rules, ◌≡◌, ◌≤◌, ◌^◌, ℕ, List, length, sym, subst, arith}
 use Rattle.std.specs.Prelude.{replicate, slice_index}
 use Rattle.std.proofs.lemmas.Grind.{common_steps}
 use Rattle.block_store.specs.Opened.{LieOn}
-use Rattle.block_store.proofs.GivenBack.{passed_on}
 use Rattle.block_store.proofs.Making.{none_since, plans_nothing}
 use Rattle.block_store.proofs.Reopening.{is_opened}
-use Rattle.block_store.proofs.Items.{no_value}
 use Rattle.block_store.proofs.store.BlockStore.opened.Goals as goal
 
 pub invariant_of-result : goal.invariant_of-result
@@ -21,111 +19,3 @@ invariant_of-result g c =
 
 pub returns-clause-plans : goal.returns-clause-plans
 returns-clause-plans g c = plans_nothing _ c.new.ensures.items c.in_ok-spaces.ensures.empty
-
-pub returns-in_err-spaces-clause-may : goal.returns-in_err-spaces-clause-may
-returns-in_err-spaces-clause-may g c = no_value _ _ _ c.from_residual.ensures.1
-
-pub returns-in_err-spaces-clause-shapes : goal.returns-in_err-spaces-clause-shapes
-returns-in_err-spaces-clause-shapes g c = no_value _ _ _ c.from_residual.ensures.1
-
-pub returns-in_err-spaces-clause-disks : goal.returns-in_err-spaces-clause-disks
-returns-in_err-spaces-clause-disks g c = no_value _ _ _ c.from_residual.ensures.1
-
-pub returns-in_err-spaces-clause-out : goal.returns-in_err-spaces-clause-out
-returns-in_err-spaces-clause-out g c = no_value _ _ _ c.from_residual.ensures.1
-
-pub returns-in_err-spaces-clause-since : goal.returns-in_err-spaces-clause-since
-returns-in_err-spaces-clause-since g c = no_value _ _ _ c.from_residual.ensures.1
-
-pub returns-in_err-spaces-clause-group : goal.returns-in_err-spaces-clause-group
-returns-in_err-spaces-clause-group g c = no_value _ _ _ c.from_residual.ensures.1
-
-pub returns-in_err-spaces-clause-due : goal.returns-in_err-spaces-clause-due
-returns-in_err-spaces-clause-due g c = no_value _ _ _ c.from_residual.ensures.1
-
-pub returns-in_err-spaces-clause-stray : goal.returns-in_err-spaces-clause-stray
-returns-in_err-spaces-clause-stray g c = no_value _ _ _ c.from_residual.ensures.1
-
-pub returns-in_err-spaces-clause-empty : goal.returns-in_err-spaces-clause-empty
-returns-in_err-spaces-clause-empty g c = no_value _ _ _ c.from_residual.ensures.1
-
-pub returns-in_err-spaces-clause-holds : goal.returns-in_err-spaces-clause-holds
-returns-in_err-spaces-clause-holds g c = no_value _ _ _ c.from_residual.ensures.1
-
-pub returns-in_err-spaces-clause-plans : goal.returns-in_err-spaces-clause-plans
-returns-in_err-spaces-clause-plans g c = no_value _ _ _ c.from_residual.ensures.1
-
-pub returns-in_err-out-clause-may : goal.returns-in_err-out-clause-may
-returns-in_err-out-clause-may g c = no_value _ _ _ c.from_residual-in_err-out.ensures.1
-
-pub returns-in_err-out-clause-shapes : goal.returns-in_err-out-clause-shapes
-returns-in_err-out-clause-shapes g c = no_value _ _ _ c.from_residual-in_err-out.ensures.1
-
-pub returns-in_err-out-clause-disks : goal.returns-in_err-out-clause-disks
-returns-in_err-out-clause-disks g c = no_value _ _ _ c.from_residual-in_err-out.ensures.1
-
-pub returns-in_err-out-clause-out : goal.returns-in_err-out-clause-out
-returns-in_err-out-clause-out g c = no_value _ _ _ c.from_residual-in_err-out.ensures.1
-
-pub returns-in_err-out-clause-since : goal.returns-in_err-out-clause-since
-returns-in_err-out-clause-since g c = no_value _ _ _ c.from_residual-in_err-out.ensures.1
-
-pub returns-in_err-out-clause-group : goal.returns-in_err-out-clause-group
-returns-in_err-out-clause-group g c = no_value _ _ _ c.from_residual-in_err-out.ensures.1
-
-pub returns-in_err-out-clause-due : goal.returns-in_err-out-clause-due
-returns-in_err-out-clause-due g c = no_value _ _ _ c.from_residual-in_err-out.ensures.1
-
-pub returns-in_err-out-clause-stray : goal.returns-in_err-out-clause-stray
-returns-in_err-out-clause-stray g c = no_value _ _ _ c.from_residual-in_err-out.ensures.1
-
-pub returns-in_err-out-clause-empty : goal.returns-in_err-out-clause-empty
-returns-in_err-out-clause-empty g c = no_value _ _ _ c.from_residual-in_err-out.ensures.1
-
-pub returns-in_err-out-clause-holds : goal.returns-in_err-out-clause-holds
-returns-in_err-out-clause-holds g c = no_value _ _ _ c.from_residual-in_err-out.ensures.1
-
-pub returns-in_err-out-clause-plans : goal.returns-in_err-out-clause-plans
-returns-in_err-out-clause-plans g c = no_value _ _ _ c.from_residual-in_err-out.ensures.1
-
-pub returns-in_err-since-clause-may : goal.returns-in_err-since-clause-may
-returns-in_err-since-clause-may g c = no_value _ _ _ c.from_residual-in_err-since.ensures.1
-
-pub returns-in_err-since-clause-shapes : goal.returns-in_err-since-clause-shapes
-returns-in_err-since-clause-shapes g c = no_value _ _ _ c.from_residual-in_err-since.ensures.1
-
-pub returns-in_err-since-clause-disks : goal.returns-in_err-since-clause-disks
-returns-in_err-since-clause-disks g c = no_value _ _ _ c.from_residual-in_err-since.ensures.1
-
-pub returns-in_err-since-clause-out : goal.returns-in_err-since-clause-out
-returns-in_err-since-clause-out g c = no_value _ _ _ c.from_residual-in_err-since.ensures.1
-
-pub returns-in_err-since-clause-since : goal.returns-in_err-since-clause-since
-returns-in_err-since-clause-since g c = no_value _ _ _ c.from_residual-in_err-since.ensures.1
-
-pub returns-in_err-since-clause-group : goal.returns-in_err-since-clause-group
-returns-in_err-since-clause-group g c = no_value _ _ _ c.from_residual-in_err-since.ensures.1
-
-pub returns-in_err-since-clause-due : goal.returns-in_err-since-clause-due
-returns-in_err-since-clause-due g c = no_value _ _ _ c.from_residual-in_err-since.ensures.1
-
-pub returns-in_err-since-clause-stray : goal.returns-in_err-since-clause-stray
-returns-in_err-since-clause-stray g c = no_value _ _ _ c.from_residual-in_err-since.ensures.1
-
-pub returns-in_err-since-clause-empty : goal.returns-in_err-since-clause-empty
-returns-in_err-since-clause-empty g c = no_value _ _ _ c.from_residual-in_err-since.ensures.1
-
-pub returns-in_err-since-clause-holds : goal.returns-in_err-since-clause-holds
-returns-in_err-since-clause-holds g c = no_value _ _ _ c.from_residual-in_err-since.ensures.1
-
-pub returns-in_err-since-clause-plans : goal.returns-in_err-since-clause-plans
-returns-in_err-since-clause-plans g c = no_value _ _ _ c.from_residual-in_err-since.ensures.1
-
-pub returns-in_err-spaces-clause-refused : goal.returns-in_err-spaces-clause-refused
-returns-in_err-spaces-clause-refused g c = passed_on _ _ _ c.from_residual.ensures.1 (inl refl)
-
-pub returns-in_err-out-clause-refused : goal.returns-in_err-out-clause-refused
-returns-in_err-out-clause-refused g c = passed_on _ _ _ c.from_residual-in_err-out.ensures.1 (inl refl)
-
-pub returns-in_err-since-clause-refused : goal.returns-in_err-since-clause-refused
-returns-in_err-since-clause-refused g c = passed_on _ _ _ c.from_residual-in_err-since.ensures.1 (inl refl)

@@ -1,4 +1,4 @@
-use Rattle.std.proofs.Common.{rules, ◌≡◌, [], ◌++◌, Contains, sym, ap, ◌∙◌, refl, subst, inl, inr}
+use Rattle.std.proofs.Common.{rules, ◌≡◌, [], ◌++◌, Contains, sym, ap, ◌∙◌, subst, inl, inr}
 use Rattle.std.proofs.lemmas.List.Elements.{Contains-append_cases}
 use Rattle.block_pointer.specs.Copies.{dvas}
 use Rattle.raidz_io.specs.Stands.{IsWithin}
@@ -6,9 +6,7 @@ use Rattle.block_store.specs.Places.{shapes_of, AreChosen, ArePlacesIn}
 use Rattle.block_store.specs.Plans.{AreWritesAt}
 use Rattle.block_store.specs.Store.{Store, IsStore}
 use Rattle.block_store.proofs.Adding.{chosen_shapes, OnlyTook, added, chosen_keeps, took_keeps, took_shapes, places_in, places_for, writes_within}
-use Rattle.block_store.proofs.GivenBack.{passed_on}
 use Rattle.block_store.proofs.Fitting.{bytes_fit, fits_copies, took_some}
-use Rattle.block_store.proofs.Items.{no_value}
 use Rattle.block_store.proofs.store.BlockStore.place_block.Goals as goal
 
 pub returns-in_err-places-clause-shapes : goal.returns-in_err-places-clause-shapes
@@ -175,54 +173,3 @@ pub returns-clause-shapes : goal.returns-clause-shapes
 returns-clause-shapes g c =
     ap (λ (s : Store). shapes_of s.spaces) c.self.view_is
     ∙ chosen_shapes _ c.args.new.property.sectors c.count.result c.in_ok-places.places.items _ c.in_ok-places.ensures.chosen
-
-pub returns-in_err-places-clause-block : goal.returns-in_err-places-clause-block
-returns-in_err-places-clause-block g c = no_value _ _ _ c.from_residual.ensures.1
-
-pub returns-in_err-places-clause-fits : goal.returns-in_err-places-clause-fits
-returns-in_err-places-clause-fits g c = no_value _ _ _ c.from_residual.ensures.1
-
-pub returns-in_err-places-clause-planned : goal.returns-in_err-places-clause-planned
-returns-in_err-places-clause-planned g c = no_value _ _ _ c.from_residual.ensures.1
-
-pub returns-in_err-places-clause-places : goal.returns-in_err-places-clause-places
-returns-in_err-places-clause-places g c = no_value _ _ _ c.from_residual.ensures.1
-
-pub returns-in_err-places-clause-due : goal.returns-in_err-places-clause-due
-returns-in_err-places-clause-due g c = no_value _ _ _ c.from_residual.ensures.1
-
-pub returns-in_err-writes-clause-block : goal.returns-in_err-writes-clause-block
-returns-in_err-writes-clause-block g c = no_value _ _ _ c.from_residual-in_err-writes.ensures.1
-
-pub returns-in_err-writes-clause-fits : goal.returns-in_err-writes-clause-fits
-returns-in_err-writes-clause-fits g c = no_value _ _ _ c.from_residual-in_err-writes.ensures.1
-
-pub returns-in_err-writes-clause-planned : goal.returns-in_err-writes-clause-planned
-returns-in_err-writes-clause-planned g c = no_value _ _ _ c.from_residual-in_err-writes.ensures.1
-
-pub returns-in_err-writes-clause-places : goal.returns-in_err-writes-clause-places
-returns-in_err-writes-clause-places g c = no_value _ _ _ c.from_residual-in_err-writes.ensures.1
-
-pub returns-in_err-writes-clause-due : goal.returns-in_err-writes-clause-due
-returns-in_err-writes-clause-due g c = no_value _ _ _ c.from_residual-in_err-writes.ensures.1
-
-pub returns-in_err-append-clause-block : goal.returns-in_err-append-clause-block
-returns-in_err-append-clause-block g c = no_value _ _ _ c.from_residual-in_err-append.ensures.1
-
-pub returns-in_err-append-clause-fits : goal.returns-in_err-append-clause-fits
-returns-in_err-append-clause-fits g c = no_value _ _ _ c.from_residual-in_err-append.ensures.1
-
-pub returns-in_err-append-clause-planned : goal.returns-in_err-append-clause-planned
-returns-in_err-append-clause-planned g c = no_value _ _ _ c.from_residual-in_err-append.ensures.1
-
-pub returns-in_err-append-clause-places : goal.returns-in_err-append-clause-places
-returns-in_err-append-clause-places g c = no_value _ _ _ c.from_residual-in_err-append.ensures.1
-
-pub returns-in_err-append-clause-due : goal.returns-in_err-append-clause-due
-returns-in_err-append-clause-due g c = no_value _ _ _ c.from_residual-in_err-append.ensures.1
-
-pub returns-in_err-writes-clause-refused : goal.returns-in_err-writes-clause-refused
-returns-in_err-writes-clause-refused g c = passed_on _ _ _ c.from_residual-in_err-writes.ensures.1 (inl refl)
-
-pub returns-in_err-append-clause-refused : goal.returns-in_err-append-clause-refused
-returns-in_err-append-clause-refused g c = passed_on _ _ _ c.from_residual-in_err-append.ensures.1 (inl refl)

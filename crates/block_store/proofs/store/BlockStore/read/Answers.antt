@@ -3,7 +3,6 @@ use Rattle.block_store.proofs.Kept.{keeps, keeps_plans}
 use Rattle.block_store.proofs.Planning.{stores_same}
 use Rattle.block_store.proofs.ReadingPointers.{in_places}
 use Rattle.block_store.proofs.ReadingWhole.{Laws, IsBlockRead, block_read, reads, untouched, is_kept, first_read, bytes_right, last_fault, is_known, stored_is_readable}
-use Rattle.block_store.proofs.Items.{no_value}
 use Rattle.block_store.proofs.store.BlockStore.read.Goals as goal
 
 pub returns-then-not-is_readable-clause-known : goal.returns-then-not-is_readable-clause-known
@@ -44,18 +43,3 @@ returns g c =
       refused = last_fault c.args.self.now c.read_places.new.self c.args.missing.now c.args.block.now c.args.asked c.read_places.result is;
       known = is_known laws c.args.self.now c.read_places.new.self c.args.missing.now c.args.block.now c.args.asked c.read_places.result is;
     }
-
-pub returns-in_err-absent-clause-readable : goal.returns-in_err-absent-clause-readable
-returns-in_err-absent-clause-readable g c = no_value _ _ _ c.from_residual.ensures.1
-
-pub returns-in_err-absent-clause-digest : goal.returns-in_err-absent-clause-digest
-returns-in_err-absent-clause-digest g c = no_value _ _ _ c.from_residual.ensures.1
-
-pub returns-in_err-absent-clause-size : goal.returns-in_err-absent-clause-size
-returns-in_err-absent-clause-size g c = no_value _ _ _ c.from_residual.ensures.1
-
-pub returns-in_err-absent-clause-first : goal.returns-in_err-absent-clause-first
-returns-in_err-absent-clause-first g c = no_value _ _ _ c.from_residual.ensures.1
-
-pub returns-in_err-absent-clause-bytes : goal.returns-in_err-absent-clause-bytes
-returns-in_err-absent-clause-bytes g c = no_value _ _ _ c.from_residual.ensures.1

@@ -3,7 +3,6 @@ use Rattle.std.proofs.lemmas.List.{drop_more}
 use Rattle.block_pointer.specs.declared.block.Block.{Block}
 use Rattle.block_store.specs.Releases.{copies_of, copies_of_all}
 use Rattle.block_store.proofs.GivenBack.{ReleasedUpTo, none_yet, more_are, part_of, stops_at, some_block, at_error, passed_on}
-use Rattle.block_store.proofs.Items.{no_value}
 use Rattle.block_store.proofs.store.BlockStore.release_each.Goals as goal
 
 pub loop-block-init : goal.loop-block-init
@@ -53,6 +52,3 @@ returns-in_err-release_block-clause-refused g c =
             stop,
       )
     ])
-
-pub returns-in_err-release_block-clause-released : goal.returns-in_err-release_block-clause-released
-returns-in_err-release_block-clause-released g c = no_value _ _ _ c.from_residual.ensures.1

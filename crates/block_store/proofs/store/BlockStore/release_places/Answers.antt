@@ -5,7 +5,6 @@ use Rattle.block_store.specs.Places.{planned}
 use Rattle.block_store.specs.Releases.{CopyAt, copy_of_at, copies_of_at}
 use Rattle.block_store.specs.Uses.{LiesOn, IsInUse}
 use Rattle.block_store.proofs.GivenBack.{ReleasedUpTo, none_yet, more_are, part_of, stops_at, at_error, passed_on}
-use Rattle.block_store.proofs.Items.{no_value}
 use Rattle.block_store.proofs.store.BlockStore.release_places.Goals as goal
 
 -- what stands past the end of a list
@@ -73,6 +72,3 @@ returns-in_err-release_place-clause-refused g c =
             }),
       )
     ])
-
-pub returns-in_err-release_place-clause-released : goal.returns-in_err-release_place-clause-released
-returns-in_err-release_place-clause-released g c = no_value _ _ _ c.from_residual.ensures.1

@@ -4,7 +4,6 @@ use Rattle.block_pointer.specs.declared.block.Block.{Block}
 use Rattle.block_store.specs.Releases.{copies_of, copies_of_all}
 use Rattle.block_store.proofs.GivenBack.{some_block, at_error, passed_on}
 use Rattle.block_store.proofs.TakenEach.{TakenUpTo, none_yet, more_are, part_of, stops_at}
-use Rattle.block_store.proofs.Items.{no_value}
 use Rattle.block_store.proofs.store.BlockStore.take_in_each.Goals as goal
 
 pub loop-block-init : goal.loop-block-init
@@ -54,6 +53,3 @@ returns-in_err-take_in_block-clause-refused g c =
             stop,
       )
     ])
-
-pub returns-in_err-take_in_block-clause-taken : goal.returns-in_err-take_in_block-clause-taken
-returns-in_err-take_in_block-clause-taken g c = no_value _ _ _ c.from_residual.ensures.1

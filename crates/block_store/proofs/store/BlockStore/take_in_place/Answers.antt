@@ -1,6 +1,5 @@
 use Rattle.std.proofs.Common.{inr, refl, subst, rules, arith}
 use Rattle.block_store.specs.Places.{IsPlaceFor}
-use Rattle.block_store.proofs.Items.{no_value}
 use Rattle.block_store.proofs.store.BlockStore.take_in_place.Goals as goal
 use Rattle.block_store.proofs.store.BlockStore.take_in_place.Goals.{then-sectors-eq0-via-then-sectors-eq0, then-sectors-eq0-via-else-sectors-eq0+then-not-is_place_for}
 
@@ -21,6 +20,3 @@ pub fill-requires-clause-place : goal.fill-requires-clause-place
 fill-requires-clause-place g c =
     subst (λ n. IsPlaceFor c.args.self.now.spaces c.args.block.now.property.sectors n c.args.place) (search rules)
     (c.is_place_for.ensures.0 c.if-not-is_place_for.false)
-
-pub returns-in_err-fill-clause-taken : goal.returns-in_err-fill-clause-taken
-returns-in_err-fill-clause-taken g c = no_value _ _ _ c.from_residual.ensures.1

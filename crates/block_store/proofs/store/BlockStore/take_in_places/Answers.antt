@@ -3,7 +3,6 @@ use Rattle.std.proofs.lemmas.List.{drop_more}
 use Rattle.block_pointer.specs.declared.dva.Dva.{Dva}
 use Rattle.block_store.specs.Releases.{CopyAt, copy_of_at, copies_of_at}
 use Rattle.block_store.proofs.TakenEach.{TakenUpTo, none_yet, more_are, stops_at}
-use Rattle.block_store.proofs.Items.{no_value}
 use Rattle.block_store.proofs.store.BlockStore.take_in_places.Goals as goal
 use Rattle.block_store.proofs.GivenBack.{passed_on}
 use Rattle.block_store.specs.Opened.{HasFreePlace}
@@ -58,6 +57,3 @@ returns-in_err-take_in_place-clause-refused g c =
             }),
       )
     ])
-
-pub returns-in_err-take_in_place-clause-taken : goal.returns-in_err-take_in_place-clause-taken
-returns-in_err-take_in_place-clause-taken g c = no_value _ _ _ c.from_residual.ensures.1

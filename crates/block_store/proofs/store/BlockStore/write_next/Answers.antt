@@ -1,4 +1,4 @@
-use Rattle.std.proofs.Common.{◌≡◌, ◌<◌, ◌∷◌, length, Contains, IfErr, OnOk, is_ok, sym, ap, ◌∙◌, subst}
+use Rattle.std.proofs.Common.{◌≡◌, ◌∷◌, length, Contains, IfErr, OnOk, is_ok, sym, ap, ◌∙◌, subst}
 use Rattle.model_disk.specs.Call.{write_call}
 use Rattle.model_disk.specs.Joint.{Disks, on}
 use Rattle.raidz_io.specs.declared.writes.ColumnWrite.{ColumnWrite}

@@ -3,7 +3,6 @@ use Rattle.std.proofs.lemmas.List.{take_all, take_more}
 use Rattle.std.specs.Option.{option_copied}
 use Rattle.block_store.specs.Plans.{AreWritesAt}
 use Rattle.block_store.proofs.CopyWrites.{no_writes, writes_more, item_in, first_in, none_there}
-use Rattle.block_store.proofs.Items.{no_value}
 use Rattle.block_store.proofs.store.BlockStore.writes_at.Goals as goal
 
 pub loop-place-init : goal.loop-place-init
@@ -35,12 +34,3 @@ returns-in_default g c =
 pub first_writes-requires-clause-place : goal.first_writes-requires-clause-place
 first_writes-requires-clause-place g c =
     (c.requires.places _ (first_in c.args.places.now c.in-Some.first.now (ap option_copied (sym c.in-Some.is) ∙ c.first.ensures.value))).is_in
-
-pub returns-in_err-add_in_use : goal.returns-in_err-add_in_use
-returns-in_err-add_in_use g c = no_value _ _ _ c.from_residual-in_err-add_in_use.ensures.1
-
-pub returns-in_err-copy : goal.returns-in_err-copy
-returns-in_err-copy g c = no_value _ _ _ c.from_residual-in_err-copy.ensures.1
-
-pub returns-in_err-first : goal.returns-in_err-first
-returns-in_err-first g c = no_value _ _ _ c.from_residual.ensures.1
