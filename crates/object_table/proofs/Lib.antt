@@ -1,6 +1,12 @@
 pub mod Seams
+pub mod WholeArrays
 pub mod Tables
 pub mod Written
+pub mod TableEnds
+pub mod LongerTables
+pub mod Extensions
+pub mod SoundTables
+pub mod EndsRead
 pub mod Losses
 pub mod Readings
 pub mod ReadRefusals

@@ -17,6 +17,7 @@ use Rattle.objset.specs.Objects.{Object, AreObjects}
 use Rattle.object_table.specs.declared.kind.TableKind.{TableKind}
 use Rattle.object_table.specs.Found.{AreBlocksFound, AreBlocksRefused, AreBytesFound, AreRowsRefused, IsObjectFound}
 use Rattle.object_table.specs.Tables.{bytes_at, bytes_to, IsFront, IsOfKind, IsTableTo, HasTable}
+use Rattle.object_table.proofs.WholeArrays.{bytes_to_same}
 
 -- a table of an object is a table over its array
 pub table_of : (kind : TableKind) (object : Option Object) (there : Object) (rows : List ℕ) → object ≡ Some there → HasTable kind object rows
@@ -36,12 +37,6 @@ one_more array count bytes block front is = (
 )
 
 -- what an array has below a place alone counts for its front
-bytes_to_same : (array other : ℕ → Option (List ℕ)) (count : ℕ) → ((id : ℕ) → id < count → other id ≡ array id) → bytes_to other count ≡ bytes_to array count
-bytes_to_same array other zero same = refl
-bytes_to_same array other (suc count) same =
-    ap (λ (front : List ℕ). front ++ bytes_at (other count)) (bytes_to_same array other count (λ id lt. same id (omega (arith, lt))))
-    ∙ ap (λ found. bytes_to array count ++ bytes_at found) (same count (omega arith))
-
 pub front_same : (array other : ℕ → Option (List ℕ)) (count : ℕ) (bytes : List ℕ) → ((id : ℕ) → id < count → other id ≡ array id) → IsFront array count bytes → IsFront other count bytes
 front_same array other count bytes same front = (λ id lt none. front.0 id lt (sym (same id lt) ∙ none), front.1 ∙ sym (bytes_to_same array other count same))
 

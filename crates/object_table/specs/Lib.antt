@@ -1,3 +1,5 @@
+pub mod Ends
+pub mod Extended
 pub mod Found
 pub mod Made
 pub mod Rows

@@ -1,5 +1,5 @@
 -- Tables in objects.
-use Rattle.std.specs.Prelude.{ℕ, zero, suc, ◌≡◌, ◌≢◌, ◌+◌, ◌<◌, ◌≤◌, List, [], ◌++◌, Option, Some, None}
+use Rattle.std.specs.Prelude.{ℕ, zero, suc, ◌≡◌, ◌≢◌, ◌+◌, ◌<◌, ◌≤◌, List, [], ◌++◌, length, Option, Some, None}
 use Rattle.objset.specs.Objects.{Object}
 use Rattle.object_table.specs.declared.kind.TableKind.{TableKind}
 use Rattle.object_table.specs.declared.shape.RowShape.{RowShape}
@@ -18,6 +18,10 @@ bytes_to array (suc count) = bytes_to array count ++ bytes_at (array count)
 -- these are the bytes of so many blocks, none of them a hole
 abbrev pub IsFront : (ℕ → Option (List ℕ)) → ℕ → List ℕ → Type 0
 IsFront array count bytes = ((id : ℕ) → id < count → array id ≢ None) × (bytes ≡ bytes_to array count)
+
+-- each block of the array has 4,096 bytes
+abbrev pub HasWholeBlocks : (ℕ → Option (List ℕ)) → Type 0
+HasWholeBlocks array = (id : ℕ) (bytes : List ℕ) → array id ≡ Some bytes → length bytes ≡ 4096
 
 -- the object has the table's type, and blocks of 8 sectors
 abbrev pub IsOfKind : TableKind → Object → Type 0

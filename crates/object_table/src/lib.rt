@@ -2,6 +2,8 @@
 //! a fixed width.
 #![tactic(auto)]
 
+mod ends;
+mod extending;
 mod kind;
 mod making;
 mod reading;
@@ -9,6 +11,8 @@ mod refusal;
 mod rows;
 mod shape;
 
+pub use ends::{TableEnd, read_end};
+pub use extending::extension;
 pub use kind::TableKind;
 pub use making::{creation, replacement};
 pub use reading::read;

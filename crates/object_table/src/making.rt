@@ -1,5 +1,5 @@
 //! Tables are made.
-ghost use Rattle.std.specs.Prelude.{◌≡◌, ◌++◌, ◌/◌, ◌%◌, ◌^◌, ◌<◌, ◌∷◌, [], Some, None, length, IfOk, IfErr, OnOk};
+ghost use Rattle.std.specs.Prelude.{◌≡◌, ◌++◌, ◌+◌, ◌*◌, ◌/◌, ◌%◌, ◌^◌, ◌<◌, ◌∷◌, [], Some, None, length, IfOk, IfErr, OnOk};
 ghost use Rattle.objset.specs.Changes.{IsGoodChange, MayChange, after_change};
 ghost use Rattle.objset.specs.Objects.{Object};
 ghost use Rattle.object_table.specs.Made.{AreBlocksOf, AreTableWrites};
@@ -58,21 +58,25 @@ fn writes_of(alloc: Global, shape: RowShape, rows: &[u8]) -> Result<Vec<BlockWri
     ensures refused { IfErr result (λ refusal. refusal ≡ Refusal.NoMemory) }
 {
     let bytes = encode(alloc, shape, rows)?;
-    Ok(blocks_of(alloc, &bytes)?)
+    Ok(blocks_of(alloc, 0, &bytes)?)
 }
 
-/// The blocks of a table's bytes, in the order of their ids, which begin at 0.
-fn blocks_of(alloc: Global, bytes: &[u8]) -> Result<Vec<BlockWrite>, AllocError>
+/// The blocks of a table's bytes, in the order of their ids, which begin at the first.
+pub(crate) fn blocks_of(
+    alloc: Global,
+    first: u64,
+    bytes: &[u8],
+) -> Result<Vec<BlockWrite>, AllocError>
     requires whole { length bytes.now % 4096 ≡ 0 }
-    requires few { length bytes.now < 2 ^ 47 }
+    requires few { first * 4096 + length bytes.now < 2 ^ 47 }
     ensures { IfOk result (λ writes.
-        AreBlocksOf bytes.now (length bytes.now / 4096) writes.items) }
+        AreBlocksOf first bytes.now (length bytes.now / 4096) writes.items) }
 {
     let mut writes = Vec::new(alloc);
-    for id in 0..bytes.len() / BLOCK_LEN {
-        let at = id * BLOCK_LEN;
+    for place in 0..bytes.len() / BLOCK_LEN {
+        let at = place * BLOCK_LEN;
         let block = Vec::from_slice(alloc, &bytes[at..at + BLOCK_LEN])?;
-        push(&mut writes, id as u64, block)?;
+        push(&mut writes, first + place as u64, block)?;
     }
     Ok(writes)
 }

@@ -1,5 +1,5 @@
 //! Tables are read.
-ghost use Rattle.std.specs.Prelude.{◌≡◌, ◌≢◌, ◌⊎◌, ◌↔◌, ◌+◌, ◌<◌, ℕ, List, Option, Some, None, IsTrue, IfOk, IfErr};
+ghost use Rattle.std.specs.Prelude.{◌≡◌, ◌≢◌, ◌⊎◌, ◌↔◌, ◌+◌, ◌^◌, ◌<◌, ◌≤◌, ℕ, List, Option, Some, None, IsTrue, IfOk, IfErr};
 ghost use Rattle.block_pointer.specs.declared.block.Block.{Block};
 ghost use Rattle.block_store.specs.Blocks.{Contents};
 ghost use Rattle.block_store.specs.Losses.{IsForLoss};
@@ -79,7 +79,7 @@ fn is_of_kind(shape: &ObjectShape, kind: TableKind) -> bool
 }
 
 /// How many blocks the object of a table has.
-fn block_count<D: Disk + Drop>(
+pub(crate) fn block_count<D: Disk + Drop>(
     set: &ObjectSet,
     store: &mut BlockStore<D>,
     alloc: Global,
@@ -95,6 +95,7 @@ fn block_count<D: Disk + Drop>(
         → AreObjects stored birth set.now objects own blocks → AnswersAreTrue store.old store.new
         → (there : Object) × (objects number ≡ Some there) × IsOfKind kind there × EndsAt there
         × (there.highest + 1 ≡ count)) }
+    ensures few { IfOk result (λ count. (0 < count) × (count ≤ 128 ^ 5)) }
     ensures found { IfOk result (λ count. (highest : ℕ) × (highest + 1 ≡ count)
         × IsObjectFound store.old.spaces set.now birth kind number highest) }
     ensures refused { IfErr result (λ refusal.

@@ -13,7 +13,7 @@ use words::read_words;
 pub const BLOCK_LEN: usize = 4096;
 
 /// How many bytes a word has.
-const WORD_LEN: usize = 8;
+pub(crate) const WORD_LEN: usize = 8;
 
 /// The one spelling of rows, which stand one after the other, in whole blocks.
 pub fn encode(alloc: Global, shape: RowShape, rows: &[u8]) -> Result<Vec<u8>, Refusal>
@@ -44,7 +44,7 @@ fn put_rows(bytes: &mut [u8], shape: RowShape, rows: &[u8])
 }
 
 /// Writes a field.
-fn put(bytes: &mut [u8], at: usize, field: &[u8])
+pub(crate) fn put(bytes: &mut [u8], at: usize, field: &[u8])
     requires { at + length field.now ≤ length bytes.old }
     ensures { bytes.new ≡ take at bytes.old ++ (field.now ++ drop
         (at + length field.now) bytes.old) }
@@ -93,7 +93,7 @@ fn rows_in(shape: RowShape, bytes: &[u8]) -> Option<&[u8]>
 }
 
 /// The number that a word's bytes spell.
-fn number_of(word: &[u8]) -> u64
+pub(crate) fn number_of(word: &[u8]) -> u64
     requires { length word.now ≡ 8 }
     ensures found { word.now ≡ word_bytes (result ∷ []) }
     ensures only { (number : ℕ) → number < 2 ^ 64 → word.now ≡ word_bytes (number ∷ [])
@@ -104,7 +104,7 @@ fn number_of(word: &[u8]) -> u64
     words[0]
 }
 
-fn is_zero(bytes: &[u8]) -> bool
+pub(crate) fn is_zero(bytes: &[u8]) -> bool
     ensures { IsTrue result ↔ (bytes.now ≡ replicate (length bytes.now) 0) }
 {
     bytes.iter().all(|byte| *byte == 0)

@@ -1,5 +1,5 @@
 use Rattle.object_table.specs.Made.{AreBlocksOf}
 use Rattle.object_table.proofs.making.blocks_of.Given as goal
 
-abbrev pub invariant-loop-id : goal.invariant-loop-id
-invariant-loop-id l = AreBlocksOf l.bytes l.id l.writes.items
+abbrev pub invariant-loop-place : goal.invariant-loop-place
+invariant-loop-place l = AreBlocksOf l.fn.first l.bytes l.place l.writes.items
