@@ -6,6 +6,7 @@ use Rattle.block_store.specs.Spaces.{VdevSpace}
 use Rattle.block_store.specs.Store.{Store}
 use Rattle.dnode.specs.declared.object_set.ObjectSet.{ObjectSet}
 use Rattle.object_table.specs.declared.kind.TableKind.{TableKind}
+use Rattle.object_table.specs.Ends.{IsEndRefused}
 use Rattle.object_table.specs.Found.{IsTableFound, IsTableRefused}
 use Rattle.object_table.specs.Tables.{HasTable}
 use Rattle.objset.specs.Objects.{Object}
@@ -58,6 +59,13 @@ IsUnread old new missing set birth number refusal =
     (refusal ≡ NoMemory)
     ⊎ ((why : StoreRefusal) × (refusal ≡ Unread why)
     × IsTableRefused old new missing set birth map_kind number why)
+
+-- the end of the map was not read
+abbrev pub IsEndUnread : Store → Store → List ℕ → ObjectSet → ℕ → ℕ → Refusal → Type 0
+IsEndUnread old new missing set birth number refusal =
+    (refusal ≡ NoMemory)
+    ⊎ ((why : StoreRefusal) × (refusal ≡ Unread why)
+    × IsEndRefused old new missing set birth map_kind number why)
 
 -- why a map was not read: its rows were not, or they spell none
 abbrev pub IsMapRefused : Store → Store → List ℕ → ObjectSet → ℕ → ℕ → ℕ → Refusal → Type 0

@@ -7,6 +7,6 @@ mod reading;
 mod refusal;
 
 pub use kind::SPACE_MAP_KIND;
-pub use making::{creation, replacement};
-pub use reading::read_free_set;
+pub use making::{creation, extension, replacement};
+pub use reading::{read_free_set, read_map_end};
 pub use refusal::Refusal;

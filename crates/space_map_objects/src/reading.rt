@@ -6,13 +6,16 @@ ghost use Rattle.block_store.specs.Steps.{OnlyReadsBlocks, AnswersAreTrue};
 ghost use Rattle.block_store.specs.Store.{Holds};
 ghost use Rattle.dnode.specs.ObjectSet.{FitsObjectSet};
 ghost use Rattle.objset.specs.Objects.{Object, AreObjects};
-ghost use Rattle.space_map_objects.specs.Maps.{HasMap, HasSomeMap, IsForLossOf, IsMapFound, IsMapRefused, LeavesFree, SpellsNoMap};
+ghost use Rattle.object_table.specs.Ends.{IsEndFound, IsEndOf};
+ghost use Rattle.object_table.specs.Tables.{HasTable};
+ghost use Rattle.space_map_objects.specs.Maps.{map_kind, HasMap, HasSomeMap, IsEndUnread, IsForLossOf, IsMapFound, IsMapRefused, LeavesFree, SpellsNoMap};
 
 use crate::kind::SPACE_MAP_KIND;
 use crate::refusal::Refusal;
 use block_store::BlockStore;
 use dnode::ObjectSet;
 use model_disk::Disk;
+use object_table::TableEnd;
 use space_map::{FreeSet, replay};
 use std::alloc::Global;
 
@@ -65,4 +68,39 @@ fn free_set_of(alloc: Global, rows: &[u8], sectors: u64) -> Result<FreeSet, Refu
         Err(space_map::Refusal::BadMap) => Err(Refusal::BadMap),
         Err(space_map::Refusal::NoMemory) => Err(Refusal::NoMemory),
     }
+}
+
+/// The end of a space map, by the number of its object: what `extension` has to know of it, and the number of its entries. Of
+/// the map's blocks the first and the last are read. `Unread` with `BadPointer` where it is no object of a map, or where no
+/// table has these two blocks; the entries are not judged. The set's blocks were born in the transaction group `birth` or
+/// before. The disks that are named are taken as missing.
+pub fn read_map_end<D: Disk + Drop>(
+    set: &ObjectSet,
+    store: &mut BlockStore<D>,
+    alloc: Global,
+    number: u64,
+    birth: u64,
+    missing: &[usize],
+) -> Result<TableEnd, Refusal>
+    requires set { FitsObjectSet set.now }
+    ensures reads { OnlyReadsBlocks store.old store.new missing.now }
+    ensures value { IfOk result (λ end. (stored : Contents) (objects : ℕ → Option Object)
+        (own : List Block) (blocks : ℕ → List Block) → Holds store.old stored
+        → AreObjects stored birth set.now objects own blocks → AnswersAreTrue store.old store.new
+        → (entries : List ℕ) → HasTable map_kind (objects number) entries
+        → IsEndOf map_kind (objects number) entries end) }
+
+    // Whatever the set is: what was read, and on a refusal its cause.
+    ensures found { IfOk result (IsEndFound store.old.spaces set.now birth map_kind number) }
+    ensures refused { IfErr result
+        (IsEndUnread store.old store.new missing.now set.now birth number) }
+
+    // And it is read, over disks that answer truly, unless too many disks miss of a block.
+    ensures known { IfErr result (λ refusal. (stored : Contents) (objects : ℕ → Option Object)
+        (own : List Block) (blocks : ℕ → List Block) → Holds store.old stored
+        → AreObjects stored birth set.now objects own blocks → AnswersAreTrue store.old store.new
+        → IsForLossOf refusal ⊎ ((entries : List ℕ) → ¬ HasTable map_kind (objects number) entries)) }
+{
+    let end = object_table::read_end(set, store, alloc, SPACE_MAP_KIND, number, birth, missing)?;
+    Ok(end)
 }
