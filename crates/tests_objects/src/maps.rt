@@ -6,7 +6,9 @@ use crate::meta::{EMPTY, with};
 use crate::stores::{Store, new_store};
 use dnode::ObjectSet;
 use space_map::{FreeSet, Kind, Run};
-use space_map_objects::{Refusal, SPACE_MAP_KIND, creation, read_free_set, replacement};
+use space_map_objects::{
+    Refusal, SPACE_MAP_KIND, creation, extension, read_free_set, read_map_end, replacement,
+};
 use std::alloc::Global;
 use std::test::Fail;
 
@@ -50,6 +52,32 @@ fn maps(alloc: Global) -> Result<[bool; 2], Fail> {
 #[test]
 fn maps_are_read_as_they_were_written(rt: HostRuntime) -> Result<(), Fail> {
     assert_eq!(rt; maps(rt.alloc())?, [true; 2]);
+    Ok(())
+}
+
+/// A map of a metaslab of which 4 sectors are in use, which gets an entry: 2 sectors from 20 on are allocated. How many entries
+/// it has before and after it, and whether its free set is that of both.
+fn longer_map(store: &mut Store, alloc: Global) -> Result<([u64; 2], bool), Fail> {
+    let mut some = used(alloc, 10, 4)?;
+    let made = creation(alloc, &some)?;
+    let first = with(&EMPTY, store, alloc, 5, made, 1)?;
+    let one = read_map_end(&first, store, alloc, 5, 1, &[])?;
+    let made = extension(alloc, &one, &[1, 0, 20, 0, 0, 0, 0, 0])?;
+    let second = with(&first, store, alloc, 5, made, 2)?;
+    let two = read_map_end(&second, store, alloc, 5, 2, &[])?;
+    let found = free_set_in(&second, store, alloc, 5, 2)?;
+    some.change(Kind::Allocated, Run { start: 20, len: 2 })?;
+    Ok(([one.rows, two.rows], found.runs() == some.runs()))
+}
+
+fn longer_map_in_memory(alloc: Global) -> Result<([u64; 2], bool), Fail> {
+    let mut store = new_store(alloc)?;
+    longer_map(&mut store, alloc)
+}
+
+#[test]
+fn maps_get_more_entries(rt: HostRuntime) -> Result<(), Fail> {
+    assert_eq!(rt; longer_map_in_memory(rt.alloc())?, ([1, 2], true));
     Ok(())
 }
 

@@ -1,0 +1,160 @@
+//! Tables in objects of a set that get more rows.
+ghost use Rattle.std.specs.Prelude.{◌<◌, IfOk};
+ghost use Rattle.dnode.specs.ObjectSet.{FitsObjectSet};
+ghost use Rattle.objset.specs.Changes.{IsGoodChange};
+
+use crate::meta::{EMPTY, with};
+use crate::stores::{Store, new_store};
+use dnode::ObjectSet;
+use object_table::{RowShape, TableEnd, TableKind, creation, extension, read, read_end};
+use objset::{BlockWrite, Change, Refusal};
+use std::alloc::{AllocError, Global};
+use std::test::Fail;
+
+/// Rows of 1,000 bytes, the fifth of which goes on in the second block.
+const LONG: TableKind = TableKind {
+    object_type: 211,
+    rows: RowShape {
+        first_len: 32,
+        row_len: 1000,
+    },
+};
+
+fn end_in(
+    set: &ObjectSet,
+    store: &mut Store,
+    alloc: Global,
+    birth: u64,
+) -> Result<TableEnd, Refusal>
+    requires { FitsObjectSet set.now }
+{
+    read_end(set, store, alloc, LONG, 5, birth, &[])
+}
+
+fn rows_in(
+    set: &ObjectSet,
+    store: &mut Store,
+    alloc: Global,
+    birth: u64,
+) -> Result<Vec<u8>, Refusal>
+    requires { FitsObjectSet set.now }
+{
+    read(set, store, alloc, LONG, 5, birth, &[])
+}
+
+/// The ids of the blocks that a change writes.
+fn ids_of(alloc: Global, change: &Change) -> Result<Vec<u64>, AllocError> {
+    match change {
+        Change::Put { writes } => writes.iter().map(|write| write.id).collect(alloc),
+        _ => Ok(Vec::new(alloc)),
+    }
+}
+
+/// What a table of 3 rows has become with 2 and then 4 more: its numbers of rows, the blocks that were written, and its rows.
+#[derive(Drop)]
+struct Longer {
+    counts: [u64; 3],
+    first: Vec<u64>,
+    second: Vec<u64>,
+    five: Vec<u8>,
+    nine: Vec<u8>,
+}
+
+fn extended(store: &mut Store, alloc: Global) -> Result<Longer, Fail> {
+    let made = creation(alloc, LONG, &[7; 3000])?;
+    let set = with(&EMPTY, store, alloc, 5, made, 1)?;
+    let three = end_in(&set, store, alloc, 1)?;
+    let made = extension(alloc, LONG, &three, &[8; 2000])?;
+    let first = ids_of(alloc, &made)?;
+    let set = with(&set, store, alloc, 5, made, 2)?;
+    let five = rows_in(&set, store, alloc, 2)?;
+    let end = end_in(&set, store, alloc, 2)?;
+    let made = extension(alloc, LONG, &end, &[9; 4000])?;
+    let second = ids_of(alloc, &made)?;
+    let set = with(&set, store, alloc, 5, made, 3)?;
+    let nine = rows_in(&set, store, alloc, 3)?;
+    let last = end_in(&set, store, alloc, 3)?;
+    let counts = [three.rows, end.rows, last.rows];
+    Ok(Longer {
+        counts,
+        first,
+        second,
+        five,
+        nine,
+    })
+}
+
+fn extended_in_memory(alloc: Global) -> Result<Longer, Fail> {
+    let mut store = new_store(alloc)?;
+    extended(&mut store, alloc)
+}
+
+#[test]
+fn tables_get_more_rows(rt: HostRuntime) -> Result<(), Fail> {
+    let made = extended_in_memory(rt.alloc())?;
+    assert_eq!(rt; made.counts, [3, 5, 9]);
+    // The old rows end in the first block, and in the second: the third is the last one.
+    assert_eq!(rt; made.first.as_slice(), &[0, 1][..]);
+    assert_eq!(rt; made.second.as_slice(), &[0, 1, 2][..]);
+    let mut rows = [9; 9000];
+    rows[..3000].copy_from_slice(&[7; 3000]);
+    rows[3000..5000].copy_from_slice(&[8; 2000]);
+    assert_eq!(rt; made.five.as_slice(), &rows[..5000]);
+    assert_eq!(rt; made.nine.as_slice(), &rows[..]);
+    Ok(())
+}
+
+/// The change that makes an object of one block, which begins with this byte and has another one at one place.
+fn one_block(alloc: Global, rows: u8, at: usize, byte: u8) -> Result<Change, AllocError>
+    ensures { IfOk result IsGoodChange }
+{
+    let mut bytes = [0; 4096];
+    bytes[0] = rows;
+    if let Some(place) = bytes.get_mut(at) {
+        *place = byte;
+    }
+    let block = BlockWrite {
+        id: 0,
+        bytes: Vec::from_slice(alloc, &bytes)?,
+    };
+    Ok(Change::Create {
+        object_type: 211,
+        data_sectors: 8,
+        writes: vec![in alloc; block]?,
+    })
+}
+
+/// How many rows a table has by the end of its one block, or why none is read.
+fn rows_at_end(
+    store: &mut Store,
+    alloc: Global,
+    made: Change,
+    birth: u64,
+) -> Result<Result<u64, Refusal>, Fail>
+    requires made { IsGoodChange made }
+    requires born { 0 < birth }
+{
+    let set = with(&EMPTY, store, alloc, 5, made, birth)?;
+    Ok(end_in(&set, store, alloc, birth).map(|end| end.rows))
+}
+
+/// A byte of a row, one of the first row, the last one of the block, behind the rows; and more rows than it has room for.
+fn ends(store: &mut Store, alloc: Global) -> Result<[Result<u64, Refusal>; 4], Fail> {
+    let row = rows_at_end(store, alloc, one_block(alloc, 2, 32, 7)?, 1)?;
+    let blank = rows_at_end(store, alloc, one_block(alloc, 2, 31, 7)?, 2)?;
+    let behind = rows_at_end(store, alloc, one_block(alloc, 2, 4095, 7)?, 3)?;
+    let many = rows_at_end(store, alloc, one_block(alloc, 5, 32, 7)?, 4)?;
+    Ok([row, blank, behind, many])
+}
+
+fn ends_in_memory(alloc: Global) -> Result<[Result<u64, Refusal>; 4], Fail> {
+    let mut store = new_store(alloc)?;
+    ends(&mut store, alloc)
+}
+
+#[test]
+fn what_is_no_end_is_refused(rt: HostRuntime) -> Result<(), Fail> {
+    let bad = Err(Refusal::BadPointer);
+    assert_eq!(rt; ends_in_memory(rt.alloc())?, [Ok(2), bad, bad, bad]);
+    Ok(())
+}
