@@ -1,5 +1,5 @@
 -- Space maps that are taken in.
-use Rattle.std.proofs.Common.{Bool, true, false, if◌then◌else◌, ltb, ℕ, zero, suc, ◌≡◌, inl, inr, ◌<◌, ◌≤◌, Some, List, [], ◌∷◌, length, All, refl, sym, ap, subst, ◌∙◌, arith}
+use Rattle.std.proofs.Common.{Bool, true, false, if◌then◌else◌, ltb, ℕ, zero, suc, ◌≡◌, inl, inr, ◌<◌, ◌≤◌, Some, List, [], ◌∷◌, length, All, refl, sym, ap, subst, ◌∙◌, arith, get_or}
 use Rattle.std.specs.Prelude.{slice_set}
 use Rattle.std.specs.Bool.{OnTrue, OnFalse}
 use Rattle.std.specs.List.{slice_get}
@@ -7,6 +7,7 @@ use Rattle.std.proofs.lemmas.Bool.{cases_lt, cases_eq}
 use Rattle.std.proofs.lemmas.Bool.Decides.{nat_tests}
 use Rattle.std.proofs.lemmas.List.{length-set}
 use Rattle.std.proofs.lemmas.List.Elements.{All-set}
+use Rattle.std.proofs.lemmas.Option.{slice_get_read, slice_get_within}
 use Rattle.block_pointer.specs.declared.dva.Dva.{Dva}
 use Rattle.raidz_io.proofs.Written.{same_some}
 use Rattle.space_map.specs.FreeRuns.{FreeRuns}
@@ -19,10 +20,10 @@ use Rattle.metaslab_group.specs.Maps.{AreWhollyFreeOf, HoldsAt, LoadsAt}
 use Rattle.metaslab_group.specs.Spaces.{Spaces, GroupSpaces}
 use Rattle.block_store.specs.declared.shape.VdevShape.{VdevShape}
 use Rattle.block_store.specs.Accounts.{SectorAt, IsUsed}
-use Rattle.block_store.specs.Maps.{group_of, HoldsIn, LoadsIn, IsElsewhere}
+use Rattle.block_store.specs.Maps.{group_of, HasMetaslab, HoldsIn, LoadsIn, IsElsewhere}
 use Rattle.block_store.specs.Places.{Marks, shapes_of, run_at, EachSector}
 use Rattle.block_store.specs.Places.{filled as filled_marks, planned as planned_marks}
-use Rattle.block_store.specs.Shapes.{metaslab_of, metaslab_sectors, IsPlace}
+use Rattle.block_store.specs.Shapes.{metaslab_of, metaslab_sectors, IsPlace, metaslabs}
 use Rattle.block_store.specs.Spaces.{VdevSpace, AreMetaslabsOf}
 use Rattle.block_store.specs.Uses.{LiesOn}
 use Rattle.block_store.proofs.Slots.{sized_at}
@@ -61,6 +62,17 @@ size_on_true shape group metaslab sectors true kept was = size_is shape group me
 size_on_true shape group metaslab sectors false kept was = tt
 
 -- ---- one of a store's
+
+pub there_at : (spaces : List VdevSpace) (v metaslab : ℕ) (space : VdevSpace) → v < length spaces → space ≡ get_or spaces v space
+    → (metaslab < metaslabs space.shape → HasMetaslab spaces v metaslab) × (HasMetaslab spaces v metaslab → metaslab < metaslabs space.shape)
+there_at spaces v metaslab space below is =
+    let found : slice_get spaces v ≡ Some space = slice_get_read spaces (length spaces) v space refl below is in (
+      λ less. record { space = space; found = found; is_there = less },
+      λ there. let same : there.space ≡ space = same_some there.space space (sym there.found ∙ found) in subst (λ (s : VdevSpace). metaslab < metaslabs s.shape) same there.is_there,
+    )
+
+pub none_there : (spaces : List VdevSpace) (v metaslab : ℕ) → length spaces ≤ v → ¬ HasMetaslab spaces v metaslab
+none_there spaces v metaslab past there = absurd (let within = slice_get_within spaces v there.space there.found in omega arith)
 
 pub into_spaces : (are : Spaces → Type 0) (spaces : List VdevSpace) (v metaslab : ℕ) (space : VdevSpace) → slice_get spaces v ≡ Some space → HoldsAt are (group_of space) metaslab → HoldsIn are spaces v metaslab
 into_spaces are spaces v metaslab space found holds = record { space = space; found = found; holds = holds }

@@ -14,6 +14,16 @@ use space_map::FreeSet;
 use std::alloc::AllocError;
 
 impl<D: Disk + Drop> BlockStore<D> {
+    /// Whether a vdev of that number is there, with a metaslab of that number.
+    pub fn has_metaslab(&self, vdev: usize, metaslab: usize) -> bool
+        ensures { IsTrue result ↔ HasMetaslab self.now.spaces vdev metaslab }
+    {
+        match self.spaces.get(vdev) {
+            Some(space) => metaslab < space.count(),
+            None => false,
+        }
+    }
+
     /// Appends to the bytes of a metaslab's space map what leads from what the stored blocks leave unused in it to what
     /// they do with the plan: nothing where the plan hasn't touched the metaslab. After an error, that memory is short,
     /// `out` may have some of the entries.

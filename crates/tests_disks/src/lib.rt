@@ -15,6 +15,8 @@ mod lanes;
 #[cfg(test)]
 mod layouts;
 #[cfg(test)]
+mod loaded_maps;
+#[cfg(test)]
 mod members;
 #[cfg(test)]
 mod opened_blocks;
