@@ -71,24 +71,38 @@ fn differ(one: &TestStore, other: &TestStore) -> Result<usize, AllocError> {
     Ok(count)
 }
 
+/// What is appended before a plan, by it (one entry for each copy) and behind it; and of a store that has no block yet: in how
+/// many metaslabs it differs, how many of the maps it refuses, and both once more, as no map is loaded where blocks lie; and what is
+/// appended there.
+fn rooms(
+    store: &mut TestStore,
+    later: &mut TestStore,
+    alloc: Global,
+) -> Result<[usize; 8], Refusal> {
+    let before = appended(store, alloc)?;
+    store.begin_plan(GROUP)?;
+    plan(store, alloc)?;
+    let by_plan = appended(store, alloc)?;
+    write_due(store);
+    store.finish_plan();
+    let behind = appended(store, alloc)?;
+    let other = differ(later, store)?;
+    let refused = load(later, store)?;
+    let same = differ(later, store)?;
+    let again = load(later, store)?;
+    let loaded = appended(later, alloc)?;
+    Ok([before, by_plan, behind, other, refused, same, again, loaded])
+}
+
+fn rooms_in_memory(alloc: Global) -> Result<[usize; 8], Fail> {
+    let mut store = small_store(alloc)?;
+    let mut later = small_store(alloc)?;
+    Ok(rooms(&mut store, &mut later, alloc)?)
+}
+
 #[test]
 fn loaded_maps_give_the_same_room(rt: HostRuntime) -> Result<(), Fail> {
-    let alloc = rt.alloc();
-    let mut store = small_store(alloc)?;
-    assert_eq!(rt; appended(&store, alloc)?, 0);
-    store.begin_plan(GROUP)?;
-    plan(&mut store, alloc)?;
-    // One entry for each copy.
-    assert_eq!(rt; appended(&store, alloc)?, 16);
-    write_due(&mut store);
-    store.finish_plan();
-    assert_eq!(rt; appended(&store, alloc)?, 0);
-    let mut later = small_store(alloc)?;
-    assert_eq!(rt; differ(&later, &store)?, 2);
-    assert_eq!(rt; load(&mut later, &store)?, 0);
-    assert_eq!(rt; differ(&later, &store)?, 0);
-    // Where blocks lie no map is loaded.
-    assert_eq!(rt; load(&mut later, &store)?, 2);
-    assert_eq!(rt; appended(&later, alloc)?, 0);
+    let found = rooms_in_memory(rt.alloc())?;
+    assert_eq!(rt; found, [0, 16, 0, 2, 0, 0, 2, 0]);
     Ok(())
 }
