@@ -46,19 +46,6 @@ fn take_and_halve(
     Ok(start)
 }
 
-#[test]
-fn a_plan_appends_what_it_changes(rt: HostRuntime) -> Result<(), Fail> {
-    let alloc = rt.alloc();
-    let mut group = MetaslabGroup::new(alloc, 2, 64)?;
-    let start = take_and_halve(&mut group, 1, 4, 4)?;
-    let taken = entry(alloc, start.saturating_add(4), Kind::Allocated, 4)?;
-    assert_eq!(rt; appended(&group, alloc, 1)?, taken);
-    assert!(rt; appended(&group, alloc, 0)?.is_empty());
-    group.drop_planned();
-    assert!(rt; appended(&group, alloc, 1)?.is_empty());
-    Ok(())
-}
-
 /// Gives back a run that is in use.
 fn give_back(
     group: &mut MetaslabGroup,
@@ -72,18 +59,30 @@ fn give_back(
     Ok(())
 }
 
-#[test]
-fn what_is_released_is_entered_as_free(rt: HostRuntime) -> Result<(), Fail> {
-    let alloc = rt.alloc();
-    let mut group = MetaslabGroup::new(alloc, 2, 64)?;
-    let start = take_and_halve(&mut group, 0, 4, 4)?;
+/// Whether a plan appends what it takes, to one map alone and until it is kept, and what it gives back, until it is dropped.
+fn updates(group: &mut MetaslabGroup, alloc: Global) -> Result<[bool; 5], Refusal> {
+    let start = take_and_halve(group, 1, 4, 4)?.saturating_add(4);
+    let taken = entry(alloc, start, Kind::Allocated, 4)?;
+    let by_plan = appended(group, alloc, 1)?.as_slice() == taken.as_slice();
+    let elsewhere = appended(group, alloc, 0)?.is_empty();
     group.keep_planned();
-    assert!(rt; appended(&group, alloc, 0)?.is_empty());
-    let start = start.saturating_add(4);
-    give_back(&mut group, 0, Run { start, len: 4 }, 5)?;
+    let kept = appended(group, alloc, 1)?.is_empty();
+    give_back(group, 1, Run { start, len: 4 }, 5)?;
     let given = entry(alloc, start, Kind::Freed, 4)?;
-    assert_eq!(rt; appended(&group, alloc, 0)?, given);
-    Ok(())
+    let by_release = appended(group, alloc, 1)?.as_slice() == given.as_slice();
+    group.drop_planned();
+    let dropped = appended(group, alloc, 1)?.is_empty();
+    Ok([by_plan, elsewhere, kept, by_release, dropped])
+}
+
+fn updates_in_memory(alloc: Global) -> Result<[bool; 5], Refusal> {
+    let mut group = MetaslabGroup::new(alloc, 2, 64)?;
+    updates(&mut group, alloc)
+}
+
+#[test]
+fn a_plan_appends_what_it_changes(rt: HostRuntime) {
+    assert_eq!(rt; updates_in_memory(rt.alloc()), Ok([true; 5]));
 }
 
 /// A set of so many sectors, but for its first.
@@ -116,32 +115,32 @@ fn unused(group: &MetaslabGroup, metaslab: usize) -> Result<Option<Run>, AllocEr
     Ok(group.unused(metaslab)?.runs().first().copied())
 }
 
-#[test]
-fn a_map_is_loaded_where_all_is_free(rt: HostRuntime) -> Result<(), Fail> {
-    let alloc = rt.alloc();
-    let mut group = MetaslabGroup::new(alloc, 3, 64)?;
-    assert!(rt; load(&mut group, alloc, 1, 64)?);
-    let left = Some(Run { start: 1, len: 63 });
-    assert_eq!(rt; unused(&group, 1)?, left);
+/// Whether a map is loaded: one with fewer sectors and one with more, one that fits, and it again; one where a plan is, and where
+/// it was dropped. And what is unused then where it was loaded, and where it wasn't.
+fn loads(group: &mut MetaslabGroup, alloc: Global) -> Result<([bool; 6], [Option<Run>; 2]), Fail> {
+    let fewer = load(group, alloc, 0, 63)?;
+    let more = load(group, alloc, 0, 65)?;
+    let fits = load(group, alloc, 0, 64)?;
+    let again = load(group, alloc, 0, 64)?;
+    take_and_halve(group, 1, 4, 4)?;
+    let planned = load(group, alloc, 1, 64)?;
     group.drop_planned();
-    assert_eq!(rt; unused(&group, 1)?, left);
-    let whole = Some(Run { start: 0, len: 64 });
-    assert_eq!(rt; unused(&group, 0)?, whole);
-    assert!(rt; appended(&group, alloc, 1)?.is_empty());
-    Ok(())
+    let dropped = load(group, alloc, 1, 64)?;
+    let left = [unused(group, 0)?, unused(group, 2)?];
+    Ok(([fewer, more, fits, again, planned, dropped], left))
+}
+
+fn loads_in_memory(alloc: Global) -> Result<([bool; 6], [Option<Run>; 2]), Fail> {
+    let mut group = MetaslabGroup::new(alloc, 3, 64)?;
+    loads(&mut group, alloc)
 }
 
 #[test]
-fn a_map_is_refused_elsewhere(rt: HostRuntime) -> Result<(), Fail> {
-    let alloc = rt.alloc();
-    let mut group = MetaslabGroup::new(alloc, 3, 64)?;
-    assert!(rt; !load(&mut group, alloc, 0, 63)?);
-    assert!(rt; !load(&mut group, alloc, 0, 65)?);
-    assert!(rt; load(&mut group, alloc, 0, 64)?);
-    assert!(rt; !load(&mut group, alloc, 0, 64)?);
-    take_and_halve(&mut group, 1, 4, 4)?;
-    assert!(rt; !load(&mut group, alloc, 1, 64)?);
-    group.drop_planned();
-    assert!(rt; load(&mut group, alloc, 1, 64)?);
+fn a_map_is_loaded_where_all_is_free(rt: HostRuntime) -> Result<(), Fail> {
+    let (loaded, left) = loads_in_memory(rt.alloc())?;
+    assert_eq!(rt; loaded, [false, false, true, false, false, true]);
+    let first = Some(Run { start: 1, len: 63 });
+    let whole = Some(Run { start: 0, len: 64 });
+    assert_eq!(rt; left, [first, whole]);
     Ok(())
 }
