@@ -12,7 +12,8 @@ use Rattle.block_store.specs.Store.{Store}
 use Rattle.dnode.specs.declared.object_set.ObjectSet.{ObjectSet}
 use Rattle.dnode_slots.specs.Sets.{IsSetFound, asked_of_set}
 use Rattle.dnode_tree.specs.declared.writes.BlockWrite.{BlockWrite}
-use Rattle.objset.proofs.Found.{dnode_found_in}
+use Rattle.dnode_slots.specs.Found.{found_dnode}
+use Rattle.objset.proofs.Found.{dnode_found_in, node_found_in}
 use Rattle.objset.specs.declared.changes.Change.{Change}
 use Rattle.objset.specs.declared.changes.ObjectChange.{ObjectChange}
 use Rattle.objset.specs.declared.changes.SetCopies.{SetCopies}
@@ -62,12 +63,12 @@ module _ (spaces others : List VdevSpace) (same : shapes_of others ≡ shapes_of
   volume_in : (volume : VolumeSet) (birth : ℕ) (set : ObjectSet) → IsVolumeFound others volume birth set → IsVolumeFound spaces volume birth set
   volume_in volume birth set found =
       let object = found.has_object in
-      let dnode = dnode_found_in spaces others same set (block_of volume).birth 1 object.0 (object.1, object.2) in
+      let found_in = node_found_in spaces others same set (block_of volume).birth 1 (found_dnode object.0 object.1) object.2 in
       record {
         is_set = set_in birth (block_of volume) set found.is_set;
         kind = found.kind;
         shape = found.shape;
-        has_object = (object.0, dnode.0, dnode.1, object.3);
+        has_object = (object.0, object.1, found_in, object.3);
         is_data = found.is_data;
       }
 

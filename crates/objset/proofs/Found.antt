@@ -49,7 +49,7 @@ module _ (spaces others : List VdevSpace) (same : shapes_of others ≡ shapes_of
         },
       )
 
-  node_found_in : (set : ObjectSet) (birth number : ℕ) (found : FoundDnode) → IsNodeFound others set birth number found → IsNodeFound spaces set birth number found
+  pub node_found_in : (set : ObjectSet) (birth number : ℕ) (found : FoundDnode) → IsNodeFound others set birth number found → IsNodeFound spaces set birth number found
   node_found_in set birth number found (inl behind) = inl behind
   node_found_in set birth number found (inr (low, read)) =
       inr (low, record { block = read.block; block_found = block_in set.dnodes birth _ read.block read.block_found; zeros = read.zeros; is_in = read.is_in; born = read.born })

@@ -9,7 +9,7 @@ use Rattle.dataset_snapshots.proofs.new_volume.NewVolume.planned.Goals as goal
 pub returns-in_err-volume-clause-cause : goal.returns-in_err-volume-clause-cause
 returns-in_err-volume-clause-cause g c =
     let refused = c.in_err-volume.ensures.refused in
-    passed_on _ _ _ c.from_residual.ensures.1 (not_config _ _ _ _ _ _ refused.0 _ refused.1 refused.2)
+    passed_on _ _ _ c.from_residual.ensures.1 (not_config _ _ _ c.args.group c.args.group _ refused.0 _ refused.1 refused.2)
 
 pub returns-in_err-volume-clause-no_room : goal.returns-in_err-volume-clause-no_room
 returns-in_err-volume-clause-no_room g c = passed_on _ _ _ c.from_residual.ensures.1 (λ is. c.in_err-volume.ensures.no_room is)
