@@ -5,19 +5,28 @@ use Rattle.block_store.specs.declared.refusal.Refusal.TheVariants.{NoMemory as N
 use Rattle.block_store.specs.Losses.{IsForLoss}
 use Rattle.block_store.specs.Store.{Store}
 use Rattle.dnode.specs.declared.object_set.ObjectSet.{ObjectSet}
+use Rattle.object_table.specs.Ends.{IsEndRefused}
 use Rattle.object_table.specs.Found.{IsTableRefused}
-use Rattle.dead_list_objects.specs.Lists.{dead_list_kind, IsForLossOf, IsUnread}
+use Rattle.dead_list_objects.specs.Lists.{dead_list_kind, IsEndUnread, IsForLossOf, IsUnread}
+use Rattle.dead_list_objects.specs.declared.refusal.Refusal.TheVariants.{NoMemory, Unread}
 use Rattle.dead_list_objects.specs.Refused.{of_read}
+
+unread_for : (P : StoreRefusal → Type 0) (why : StoreRefusal) → (why ≡ NoStoreMemory) ⊎ P why → (of_read why ≡ NoMemory) ⊎ ((cause : StoreRefusal) × (of_read why ≡ Unread cause) × P cause)
+unread_for P why (inl memory) = inl (ap of_read memory)
+unread_for P NoStoreMemory (inr refused) = inl refl
+unread_for P DiskFault (inr refused) = inr (DiskFault, refl, refused)
+unread_for P NoSpace (inr refused) = inr (NoSpace, refl, refused)
+unread_for P BadPointer (inr refused) = inr (BadPointer, refl, refused)
+unread_for P BadDigest (inr refused) = inr (BadDigest, refl, refused)
+unread_for P BadConfig (inr refused) = inr (BadConfig, refl, refused)
 
 pub unread : (old new : Store) (missing : List ℕ) (set : ObjectSet) (birth number : ℕ) (why : StoreRefusal)
     → (why ≡ NoStoreMemory) ⊎ IsTableRefused old new missing set birth dead_list_kind number why → IsUnread old new missing set birth number (of_read why)
-unread old new missing set birth number why (inl memory) = inl (ap of_read memory)
-unread old new missing set birth number NoStoreMemory (inr refused) = inl refl
-unread old new missing set birth number DiskFault (inr refused) = inr (DiskFault, refl, refused)
-unread old new missing set birth number NoSpace (inr refused) = inr (NoSpace, refl, refused)
-unread old new missing set birth number BadPointer (inr refused) = inr (BadPointer, refl, refused)
-unread old new missing set birth number BadDigest (inr refused) = inr (BadDigest, refl, refused)
-unread old new missing set birth number BadConfig (inr refused) = inr (BadConfig, refl, refused)
+unread old new missing set birth number why refused = unread_for (IsTableRefused old new missing set birth dead_list_kind number) why refused
+
+pub end_unread : (old new : Store) (missing : List ℕ) (set : ObjectSet) (birth number : ℕ) (why : StoreRefusal)
+    → (why ≡ NoStoreMemory) ⊎ IsEndRefused old new missing set birth dead_list_kind number why → IsEndUnread old new missing set birth number (of_read why)
+end_unread old new missing set birth number why refused = unread_for (IsEndRefused old new missing set birth dead_list_kind number) why refused
 
 pub lossy : (why : StoreRefusal) → IsForLoss why → IsForLossOf (of_read why)
 lossy why (inl memory) = inl (ap of_read memory)

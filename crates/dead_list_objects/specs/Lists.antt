@@ -8,6 +8,7 @@ use Rattle.block_store.specs.Store.{Store}
 use Rattle.dead_list.specs.Rows.{SpellsList, SpellsNoList}
 use Rattle.dnode.specs.declared.object_set.ObjectSet.{ObjectSet}
 use Rattle.object_table.specs.declared.kind.TableKind.{TableKind}
+use Rattle.object_table.specs.Ends.{IsEndRefused}
 use Rattle.object_table.specs.Found.{IsTableFound, IsTableRefused}
 use Rattle.object_table.specs.Tables.{HasTable}
 use Rattle.objset.specs.Objects.{Object}
@@ -39,6 +40,13 @@ IsUnread old new missing set birth number refusal =
     (refusal ≡ NoMemory)
     ⊎ ((why : StoreRefusal) × (refusal ≡ Unread why)
     × IsTableRefused old new missing set birth dead_list_kind number why)
+
+-- the end of the list's rows was not read
+abbrev pub IsEndUnread : Store → Store → List ℕ → ObjectSet → ℕ → ℕ → Refusal → Type 0
+IsEndUnread old new missing set birth number refusal =
+    (refusal ≡ NoMemory)
+    ⊎ ((why : StoreRefusal) × (refusal ≡ Unread why)
+    × IsEndRefused old new missing set birth dead_list_kind number why)
 
 -- why a list was not read: its rows were not, or they are none of a list
 abbrev pub IsListRefused : Store → Store → List ℕ → ObjectSet → ℕ → ℕ → Refusal → Type 0

@@ -7,6 +7,6 @@ mod reading;
 mod refusal;
 
 pub use kind::DEAD_LIST_KIND;
-pub use making::{creation, replacement};
-pub use reading::read_dead_list;
+pub use making::{creation, extension, replacement};
+pub use reading::{read_dead_list, read_dead_list_end};
 pub use refusal::Refusal;

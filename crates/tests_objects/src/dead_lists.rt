@@ -7,7 +7,9 @@ use crate::meta::{EMPTY, with};
 use crate::stores::{Store, new_store};
 use block_pointer::{Block, Copies, Dva, Property};
 use dead_list::DeadList;
-use dead_list_objects::{DEAD_LIST_KIND, Refusal, creation, read_dead_list, replacement};
+use dead_list_objects::{
+    DEAD_LIST_KIND, Refusal, creation, extension, read_dead_list, read_dead_list_end, replacement,
+};
 use dnode::ObjectSet;
 use std::alloc::{AllocError, Global};
 use std::test::Fail;
@@ -82,6 +84,33 @@ fn dead_lists_are_read_as_they_were_written(rt: HostRuntime) -> Result<(), Fail>
     let (one, two) = lists(rt.alloc())?;
     assert_eq!(rt; one.as_slice(), &[7][..]);
     assert_eq!(rt; two.as_slice(), &[7, 9][..]);
+    Ok(())
+}
+
+/// A list of a block, which gets two more: how many blocks it has before and after them, and what is read of it.
+fn longer_list(store: &mut Store, alloc: Global) -> Result<([u64; 2], Vec<u64>), Fail> {
+    let mut list = DeadList::new(alloc);
+    add(&mut list, born_in(7))?;
+    let made = creation(alloc, &list)?;
+    let first = with(&EMPTY, store, alloc, 5, made, 1)?;
+    let one = read_dead_list_end(&first, store, alloc, 5, 1, &[])?;
+    let made = extension(alloc, &one, &[born_in(9), born_in(8)])?;
+    let second = with(&first, store, alloc, 5, made, 2)?;
+    let three = read_dead_list_end(&second, store, alloc, 5, 2, &[])?;
+    let found = dead_list_in(&second, store, alloc, 5, 2)?;
+    Ok(([one.rows, three.rows], births_of(alloc, found)?))
+}
+
+fn longer_list_in_memory(alloc: Global) -> Result<([u64; 2], Vec<u64>), Fail> {
+    let mut store = new_store(alloc)?;
+    longer_list(&mut store, alloc)
+}
+
+#[test]
+fn dead_lists_get_more_blocks(rt: HostRuntime) -> Result<(), Fail> {
+    let (counts, births) = longer_list_in_memory(rt.alloc())?;
+    assert_eq!(rt; counts, [1, 3]);
+    assert_eq!(rt; births.as_slice(), &[7, 8, 9][..]);
     Ok(())
 }
 
