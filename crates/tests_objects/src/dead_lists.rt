@@ -1,7 +1,8 @@
 //! Dead lists in objects of a set.
-ghost use Rattle.std.specs.Prelude.{◌<◌, All, OnOk};
+ghost use Rattle.std.specs.Prelude.{◌<◌, All, IfOk, OnOk};
 ghost use Rattle.block_pointer.specs.Block.{FitsBlock};
 ghost use Rattle.dnode.specs.ObjectSet.{FitsObjectSet};
+ghost use Rattle.objset.specs.Changes.{IsGoodChange};
 
 use crate::meta::{EMPTY, with};
 use crate::stores::{Store, new_store};
@@ -11,6 +12,8 @@ use dead_list_objects::{
     DEAD_LIST_KIND, Refusal, creation, extension, read_dead_list, read_dead_list_end, replacement,
 };
 use dnode::ObjectSet;
+use object_table::TableEnd;
+use objset::Change;
 use std::alloc::{AllocError, Global};
 use std::test::Fail;
 
@@ -87,6 +90,15 @@ fn dead_lists_are_read_as_they_were_written(rt: HostRuntime) -> Result<(), Fail>
     Ok(())
 }
 
+/// The change that adds two blocks to a list.
+fn added(alloc: Global, end: &TableEnd, first: Block, second: Block) -> Result<Change, Refusal>
+    requires first { FitsBlock first }
+    requires second { FitsBlock second }
+    ensures { IfOk result IsGoodChange }
+{
+    extension(alloc, end, &[first, second])
+}
+
 /// A list of a block, which gets two more: how many blocks it has before and after them, and what is read of it.
 fn longer_list(store: &mut Store, alloc: Global) -> Result<([u64; 2], Vec<u64>), Fail> {
     let mut list = DeadList::new(alloc);
@@ -94,7 +106,7 @@ fn longer_list(store: &mut Store, alloc: Global) -> Result<([u64; 2], Vec<u64>),
     let made = creation(alloc, &list)?;
     let first = with(&EMPTY, store, alloc, 5, made, 1)?;
     let one = read_dead_list_end(&first, store, alloc, 5, 1, &[])?;
-    let made = extension(alloc, &one, &[born_in(9), born_in(8)])?;
+    let made = added(alloc, &one, born_in(9), born_in(8))?;
     let second = with(&first, store, alloc, 5, made, 2)?;
     let three = read_dead_list_end(&second, store, alloc, 5, 2, &[])?;
     let found = dead_list_in(&second, store, alloc, 5, 2)?;

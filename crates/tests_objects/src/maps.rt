@@ -1,5 +1,5 @@
 //! Space maps in objects of a set.
-ghost use Rattle.std.specs.Prelude.{◌+◌, ◌<◌, ◌≤◌};
+ghost use Rattle.std.specs.Prelude.{◌≡◌, ◌+◌, ◌<◌, ◌≤◌, IfOk};
 ghost use Rattle.dnode.specs.ObjectSet.{FitsObjectSet};
 
 use crate::meta::{EMPTY, with};
@@ -16,6 +16,7 @@ use std::test::Fail;
 fn used(alloc: Global, start: u64, len: u64) -> Result<FreeSet, space_map::Refusal>
     requires some { 0 < len }
     requires within { start + len ≤ 64 }
+    ensures { IfOk result (λ set. set.sectors ≡ 64) }
 {
     let mut set = FreeSet::new(alloc, 64)?;
     set.change(Kind::Allocated, Run { start, len })?;
