@@ -27,7 +27,8 @@ fn pool_disk(alloc: Global, number: usize) -> Result<Option<MemDisk>, Fail> {
 
 fn hand_in(alloc: Global, disks: &mut Disks, number: usize, fault: Fault) -> Result<(), Fail> {
     if let Some(disk) = pool_disk(alloc, number)? {
-        disks.push(FaultDisk::new(disk, fault))?;
+        let fresh = MemDisk::holding(disk.into_bytes());
+        disks.push(FaultDisk::new(fresh, fault))?;
     }
     Ok(())
 }
