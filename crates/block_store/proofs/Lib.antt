@@ -37,6 +37,7 @@ pub mod TakenEach
 pub mod TakenPlans
 pub mod Uses
 pub mod GivenBack
+pub mod Giving
 pub mod Settled
 pub mod Writing
 pub mod Loading

@@ -18,3 +18,4 @@ pub mod Steps
 pub mod Store
 pub mod Uses
 pub mod Maps
+pub mod Gone

@@ -1,6 +1,8 @@
 -- The space maps of a store's metaslabs.
-use Rattle.std.specs.Prelude.{ℕ, ◌≡◌, ◌<◌, Some, List, slice_get, slice_set}
+use Rattle.std.specs.Prelude.{ℕ, ◌≡◌, ◌<◌, Some, IsSomeAnd, List, slice_get, slice_set}
 use Rattle.space_map.specs.FreeRuns.{FreeRuns}
+use Rattle.metaslab.specs.Calls.{AreUnused}
+use Rattle.metaslab.specs.Space.{Space}
 use Rattle.metaslab.specs.State.{State}
 use Rattle.metaslab_group.specs.Maps.{AreWhollyFreeOf, HoldsAt, LoadsAt}
 use Rattle.metaslab_group.specs.Spaces.{Spaces, GroupSpaces}
@@ -19,7 +21,20 @@ pub record HasMetaslab (spaces : List VdevSpace) (vdev metaslab : ℕ) : Type 0 
   pub found : slice_get spaces vdev ≡ Some space
   pub is_there : metaslab < metaslabs space.shape
 
--- and this holds of the metaslab, without the plan and with it
+-- the metaslabs of the vdev have so many sectors
+abbrev pub HasSectors : List VdevSpace → ℕ → ℕ → Type 0
+HasSectors spaces vdev sectors = IsSomeAnd (slice_get spaces vdev) (λ space. sectors ≡ metaslab_sectors space.shape)
+
+-- By these marks the set has just the sectors of the metaslab that are not in use: they are free, or were released.
+pub record LeavesUnused (spaces : List VdevSpace) (marks : Marks) (vdev metaslab : ℕ) (free : FreeRuns) : Type 0 where
+  pub space : VdevSpace
+  pub found : slice_get spaces vdev ≡ Some space
+  pub there : Space
+  pub is_there : slice_get (marks space) metaslab ≡ Some there
+  pub sectors : free.sectors ≡ metaslab_sectors space.shape
+  pub unused : AreUnused there free
+
+-- the metaslab is there, and this holds of it, without the plan and with it
 pub record HoldsIn (are : Spaces → Type 0) (spaces : List VdevSpace) (vdev metaslab : ℕ) : Type 0 where
   pub space : VdevSpace
   pub found : slice_get spaces vdev ≡ Some space

@@ -6,6 +6,7 @@ mod block;
 mod choice;
 mod create;
 mod device;
+mod gone;
 mod honest;
 mod laws;
 mod maps;

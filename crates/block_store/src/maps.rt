@@ -1,14 +1,20 @@
-//! Space maps: what leads from the last committed group's to a plan's, and maps that are loaded as a pool is opened.
-ghost use Rattle.std.specs.Prelude.{◌≡◌, ◌↔◌, List, IsTrue, OnOk, IfOk};
+//! Space maps: what those of the last committed group leave free, and those of a plan; and maps that are loaded as a pool is opened.
+ghost use Rattle.std.specs.Prelude.{◌≡◌, ◌⊎◌, ◌↔◌, ℕ, List, IsTrue, IfOk, IfErr};
 ghost use Rattle.std.specs.Bool.{OnTrue, OnFalse};
-ghost use Rattle.metaslab.specs.Calls.{AreUnused};
-ghost use Rattle.metaslab_group.specs.Maps.{AppendsPlan, AreWhollyFreeOf};
-ghost use Rattle.block_store.specs.Maps.{HasMetaslab, HoldsIn, LoadsIn, StayElsewhere};
+ghost use Rattle.metaslab_group.specs.Maps.{AreWhollyFreeOf};
+ghost use Rattle.block_store.specs.Gone.{AreNotReleasable};
+ghost use Rattle.block_store.specs.Maps.{HasMetaslab, HasSectors, HoldsIn, LeavesUnused, LoadsIn};
+ghost use Rattle.block_store.specs.Maps.{StayElsewhere};
 ghost use Rattle.block_store.specs.Places.{shapes_of, filled, planned};
 ghost use Rattle.block_store.specs.Plans.{KeepsPlans};
+ghost use Rattle.block_store.specs.Releases.{AreReleased, copies_of_all};
+ghost use Rattle.block_store.specs.Spaces.{VdevSpace};
 ghost use Rattle.block_store.specs.Store.{Keeps, KeepsStored};
 
+use crate::gone::{MetaslabAt, give_back};
+use crate::refusal::Refusal;
 use crate::store::BlockStore;
+use block_pointer::Block;
 use model_disk::Disk;
 use space_map::FreeSet;
 use std::alloc::AllocError;
@@ -24,29 +30,47 @@ impl<D: Disk + Drop> BlockStore<D> {
         }
     }
 
-    /// Appends to the bytes of a metaslab's space map what leads from what the stored blocks leave unused in it to what
-    /// they do with the plan: nothing where the plan hasn't touched the metaslab. After an error, that memory is short,
-    /// `out` may have some of the entries.
-    pub fn append_map_update(
+    /// All sectors of a metaslab that the stored blocks leave unused, those too that were released and are not free yet: what its
+    /// space map leaves free as the last group was committed.
+    pub fn unused_before(&self, vdev: usize, metaslab: usize) -> Result<FreeSet, AllocError>
+        requires { HasMetaslab self.now.spaces vdev metaslab }
+        ensures { IfOk result (LeavesUnused self.now.spaces filled vdev metaslab) }
+    {
+        self.spaces[vdev].unused_before(metaslab)
+    }
+
+    /// The same with the plan, and once it gives back these blocks: what the metaslab's space map leaves free after the plan's
+    /// group. Nothing is given back by that. `BadPointer` only where the blocks can't all be given back.
+    pub fn unused_after(
         &self,
         vdev: usize,
         metaslab: usize,
-        out: &mut Vec<u8>,
-    ) -> Result<(), AllocError>
+        gone: &[Block],
+    ) -> Result<FreeSet, Refusal>
         requires { HasMetaslab self.now.spaces vdev metaslab }
-        ensures { OnOk result (HoldsIn
-            (λ both. AppendsPlan both out.old.items out.new.items)
-            self.now.spaces vdev metaslab) }
+        ensures unused { IfOk result (λ free. (after : List VdevSpace) (group : ℕ)
+            → AreReleased self.now.spaces (copies_of_all gone.now) group after
+            → LeavesUnused after planned vdev metaslab free) }
+        ensures sectors { IfOk result (λ free.
+            HasSectors self.now.spaces vdev free.sectors) }
+        ensures refused { IfErr result (λ refusal. (refusal ≡ Refusal.NoMemory)
+            ⊎ ((refusal ≡ Refusal.BadPointer)
+            × AreNotReleasable self.now.spaces gone.now)) }
     {
-        self.spaces[vdev].append_update(metaslab, out)
+        let mut free = self.unused_planned(vdev, metaslab)?;
+        let at = MetaslabAt {
+            shape: self.shape(vdev),
+            vdev,
+            metaslab,
+        };
+        give_back(&mut free, at, gone)?;
+        Ok(free)
     }
 
-    /// All sectors of a metaslab that are not in use with the plan, those too that were released and are not free yet: what
-    /// its space map leaves free once the plan is committed.
-    pub fn unused_in(&self, vdev: usize, metaslab: usize) -> Result<FreeSet, AllocError>
+    /// The sectors that are unused with the plan.
+    fn unused_planned(&self, vdev: usize, metaslab: usize) -> Result<FreeSet, AllocError>
         requires { HasMetaslab self.now.spaces vdev metaslab }
-        ensures { IfOk result (λ free. HoldsIn
-            (λ both. AreUnused both.planned free) self.now.spaces vdev metaslab) }
+        ensures { IfOk result (LeavesUnused self.now.spaces planned vdev metaslab) }
     {
         self.spaces[vdev].unused(metaslab)
     }

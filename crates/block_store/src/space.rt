@@ -46,7 +46,7 @@ impl VdevMetaslabs {
     ghost use Rattle.block_store.specs.Uses.{IsInUse};
     ghost use Rattle.block_store.specs.Shapes.{metaslab_of, metaslab_sectors, IsPlace};
     ghost use Rattle.metaslab.specs.Calls.{AreUnused};
-    ghost use Rattle.metaslab_group.specs.Maps.{AppendsPlan, AreWhollyFreeOf, HoldsAt, LoadsAt};
+    ghost use Rattle.metaslab_group.specs.Maps.{AreWhollyFreeOf, HoldsAt, LoadsAt};
     ghost use Rattle.block_store.specs.Maps.{group_of};
 
     /// The space of a vdev without blocks.
@@ -214,21 +214,23 @@ impl VdevMetaslabs {
         self.metaslabs.drop_planned();
     }
 
-    /// Appends to the bytes of a metaslab's space map what leads from what is unused without the plan to what is with it.
-    pub(crate) fn append_update(&self, metaslab: usize, out: &mut Vec<u8>) -> Result<(), AllocError>
+    /// All sectors of a metaslab that are not in use without the plan.
+    pub(crate) fn unused_before(&self, metaslab: usize) -> Result<FreeSet, AllocError>
         requires { metaslab < metaslabs self.now.shape }
-        ensures { OnOk result (HoldsAt
-            (λ both. AppendsPlan both out.old.items out.new.items) (group_of self.now) metaslab) }
+        ensures unused { IfOk result (λ free.
+            HoldsAt (λ both. AreUnused both.kept free) (group_of self.now) metaslab) }
+        ensures sectors { IfOk result (λ free. free.sectors ≡ metaslab_sectors self.now.shape) }
     {
         let _ = &self.shape;
-        self.metaslabs.append_update(metaslab, out)
+        self.metaslabs.unused_before(metaslab)
     }
 
     /// All sectors of a metaslab that are not in use with the plan.
     pub(crate) fn unused(&self, metaslab: usize) -> Result<FreeSet, AllocError>
         requires { metaslab < metaslabs self.now.shape }
-        ensures { IfOk result (λ free.
+        ensures unused { IfOk result (λ free.
             HoldsAt (λ both. AreUnused both.planned free) (group_of self.now) metaslab) }
+        ensures sectors { IfOk result (λ free. free.sectors ≡ metaslab_sectors self.now.shape) }
     {
         let _ = &self.shape;
         self.metaslabs.unused(metaslab)

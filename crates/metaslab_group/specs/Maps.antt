@@ -1,19 +1,9 @@
--- What the space maps of a vdev's metaslabs leave unused, and what leads from one to the next.
+-- What the space maps of a vdev's metaslabs leave unused.
 use Rattle.std.specs.Prelude.{ℕ, ◌≡◌, Some, List, slice_get, slice_set}
 use Rattle.space_map.specs.FreeRuns.{FreeRuns}
-use Rattle.space_map.specs.Updates.{AppendsUpdate}
 use Rattle.metaslab.specs.Calls.{IsOf}
-use Rattle.metaslab.specs.Space.{sectors_of}
-use Rattle.metaslab.specs.Unused.{is_unused, IsUnusedOf}
+use Rattle.metaslab.specs.Unused.{IsUnusedOf}
 use Rattle.metaslab_group.specs.Spaces.{Spaces, GroupSpaces, IsWhollyFree}
-
--- a metaslab has as many sectors with the plan as without it
-abbrev pub HaveOneSize : Spaces → Type 0
-HaveOneSize spaces = sectors_of spaces.planned ≡ sectors_of spaces.kept
-
--- the bytes are others with entries behind, which lead from what is unused without the plan to what is unused with it
-abbrev pub AppendsPlan : Spaces → List ℕ → List ℕ → Type 0
-AppendsPlan spaces before bytes = AppendsUpdate (sectors_of spaces.kept) (is_unused spaces.kept) (is_unused spaces.planned) before bytes
 
 -- there are so many sectors, and all are free, without the plan and with it
 abbrev pub AreWhollyFreeOf : ℕ → Spaces → Type 0

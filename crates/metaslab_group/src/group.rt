@@ -38,7 +38,7 @@ impl MetaslabGroup {
     ghost use Rattle.metaslab_group.specs.Spaces.{AreWhollyFree, HasFreeRunIn, IsFreeIn, IsInUseIn};
     ghost use Rattle.metaslab_group.specs.Spaces.{ChangesIn, AreSettled, AreSettledInPart, without};
     ghost use Rattle.metaslab.specs.Calls.{AreUnused};
-    ghost use Rattle.metaslab_group.specs.Maps.{AppendsPlan, AreWhollyFreeOf};
+    ghost use Rattle.metaslab_group.specs.Maps.{AreWhollyFreeOf};
     ghost use Rattle.metaslab_group.specs.Maps.{HoldsAt, LoadsAt};
 
     /// So many metaslabs of so many sectors each, all of them free, with no plan and no pinned group.
@@ -137,15 +137,13 @@ impl MetaslabGroup {
         self.metaslabs[metaslab].release(run, group)
     }
 
-    /// Appends to the bytes of a metaslab's space map what leads from what it leaves unused without the plan to what it
-    /// does with it: nothing where the plan hasn't touched the metaslab. After an error, that memory is short, `out` may
-    /// have some of the entries.
-    pub fn append_update(&self, metaslab: usize, out: &mut Vec<u8>) -> Result<(), AllocError>
-        requires { metaslab < length self.now.planned }
-        ensures { OnOk result (HoldsAt
-            (λ spaces. AppendsPlan spaces out.old.items out.new.items) self.now metaslab) }
+    /// All sectors of a metaslab that are not in use without the plan, those too that were released and are not free yet.
+    pub fn unused_before(&self, metaslab: usize) -> Result<FreeSet, AllocError>
+        requires { metaslab < length self.now.kept }
+        ensures { IfOk result (λ free.
+            HoldsAt (λ spaces. AreUnused spaces.kept free) self.now metaslab) }
     {
-        self.metaslabs[metaslab].append_update(out)
+        self.metaslabs[metaslab].unused_before()
     }
 
     /// All sectors of a metaslab that are not in use with the plan, those too that were released and are not free yet.

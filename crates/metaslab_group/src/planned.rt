@@ -3,7 +3,7 @@ ghost use Rattle.std.specs.Prelude.{◌≡◌, ◌<◌, ◌↔◌, map, IsTrue, 
 ghost use Rattle.metaslab_group.specs.Spaces.{AreSettled, AreSettledInPart, IsWhollyFree};
 
 use metaslab::{Metaslab, Refusal};
-use space_map::{FreeSet, Run, append_update};
+use space_map::{FreeSet, Run};
 use std::alloc::{AllocError, Global};
 use std::marker::Model;
 
@@ -20,14 +20,10 @@ pub struct PlannedMetaslab {
 impl Model for PlannedMetaslab {
     ghost use Rattle.std.specs.Prelude.{unwrap_or};
     ghost use Rattle.metaslab_group.specs.Spaces.{Spaces};
-    ghost use Rattle.metaslab_group.specs.Maps.{HaveOneSize};
 
     ghost Value = { Spaces };
 
     ghost view = { λ m. record { kept = m.kept; planned = unwrap_or m.copy m.kept } };
-
-    ghost invariant = { λ m. HaveOneSize
-        (record { kept = m.kept; planned = unwrap_or m.copy m.kept }) };
 }
 
 impl PlannedMetaslab {
@@ -36,7 +32,7 @@ impl PlannedMetaslab {
     ghost use Rattle.metaslab.specs.State.{Free, InUse, Released};
     ghost use Rattle.metaslab.specs.Calls.{IsRunOf, Changes, HasFreeRun, SettlesUnder, IsOf};
     ghost use Rattle.metaslab.specs.Calls.{AreUnused};
-    ghost use Rattle.metaslab_group.specs.Maps.{AppendsPlan, AreLoaded, AreWhollyFreeOf};
+    ghost use Rattle.metaslab_group.specs.Maps.{AreLoaded, AreWhollyFreeOf};
 
     /// A metaslab with this free set, as the replay of its space map gives it, before any plan.
     pub fn new(alloc: Global, free: FreeSet) -> PlannedMetaslab
@@ -164,16 +160,11 @@ impl PlannedMetaslab {
         self.copy = None;
     }
 
-    /// Appends to the bytes of the metaslab's space map what leads from what it leaves unused without the plan to what it
-    /// does with it: nothing where the plan hasn't touched the metaslab. After an error, that memory is short, `out` may
-    /// have some of the entries.
-    pub fn append_update(&self, out: &mut Vec<u8>) -> Result<(), AllocError>
-        ensures { OnOk result (AppendsPlan self.now out.old.items out.new.items) }
+    /// All sectors that are not in use without the plan, those too that were released and are not free yet.
+    pub fn unused_before(&self) -> Result<FreeSet, AllocError>
+        ensures { IfOk result (AreUnused self.now.kept) }
     {
-        let Some(copy) = &self.copy else {
-            return Ok(());
-        };
-        append_update(out, &self.kept.unused()?, &copy.unused()?)
+        self.kept.unused()
     }
 
     /// All sectors that are not in use with the plan, those too that were released and are not free yet.

@@ -1,17 +1,21 @@
-//! Tests of the space maps of a vdev's metaslabs: what a plan appends, and maps that are loaded.
+//! Tests of the space maps of a vdev's metaslabs: what they leave without a plan and with it, and maps that are loaded.
 ghost use Rattle.std.specs.Prelude.{◌<◌};
 
 use metaslab::Refusal;
 use metaslab_group::MetaslabGroup;
-use space_map::{FreeSet, Kind, Run};
+use space_map::{FreeSet, Kind, Run, append_update};
 use std::alloc::{AllocError, Global};
 use std::test::*;
 
-/// What the plan appends to the map of a metaslab.
+/// What leads from the map of a metaslab without the plan to that with it.
 fn appended(group: &MetaslabGroup, alloc: Global, metaslab: usize) -> Result<Vec<u8>, AllocError> {
     let mut out = Vec::new(alloc);
     if metaslab < group.count() {
-        group.append_update(metaslab, &mut out)?;
+        let before = group.unused_before(metaslab)?;
+        let after = group.unused(metaslab)?;
+        if before.sectors() == after.sectors() {
+            append_update(&mut out, &before, &after)?;
+        }
     }
     Ok(out)
 }
