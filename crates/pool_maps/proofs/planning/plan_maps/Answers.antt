@@ -1,0 +1,149 @@
+use Rattle.std.proofs.Common.{rules, false, [], List, inl, inr, refl, sym, ap, subst, ◌∙◌}
+use Rattle.std.proofs.lemmas.Result.{IfOk-weaker, IfErr-weaker}
+use Rattle.block_store.specs.Releases.{AreReleased, copies_of_all}
+use Rattle.block_store.specs.Spaces.{VdevSpace}
+use Rattle.block_store.proofs.Giving.{both_ok}
+use Rattle.block_store.proofs.Steps.{reads_on, true_before, true_after}
+use Rattle.dnode_tree.proofs.Refusing.{passed_on}
+use Rattle.metaslab.proofs.Holding.{cases}
+use Rattle.objset.specs.Changes.{changed}
+use Rattle.objset.specs.declared.changes.ObjectChange.{ObjectChange}
+use Rattle.pool_maps.specs.declared.steps.MapPlan.{MapPlan}
+use Rattle.pool_maps.specs.Plans.{Advances, AreAhead, AreAll, IsSound, MapAnew, MayBeMade}
+use Rattle.pool_maps.proofs.Among.{others_stay}
+use Rattle.pool_maps.proofs.Underway.{spaces_stay}
+use Rattle.pool_maps.proofs.Whole.{ahead, anew_grown, anew_idle, below, sound, table_apart, unmade}
+use Rattle.pool_maps.proofs.planning.plan_maps.Goals as goal
+
+pub returns-in_err-maps-clause-refused : goal.returns-in_err-maps-clause-refused
+returns-in_err-maps-clause-refused g c = passed_on _ _ _ c.from_residual.ensures.1 (elim c.in_err-maps.ensures.refused [
+  | inl memory ↦ inl memory
+  | inr why ↦ inr (inl why)
+])
+
+pub returns-in_err-maps-clause-known : goal.returns-in_err-maps-clause-known
+returns-in_err-maps-clause-known g c =
+    passed_on _ _ _ c.from_residual.ensures.1
+    (λ stored objects own blocks held aobj honest are others after group released.
+    elim (c.in_err-maps.ensures.known stored objects own blocks held aobj honest) [
+      | inl loss ↦ inl loss
+      | inr (bad, none) ↦ absurd (none are.maps are.table)
+    ])
+
+pub returns-in_err-plan_all-clause-reads : goal.returns-in_err-plan_all-clause-reads
+returns-in_err-plan_all-clause-reads g c = reads_on c.args.store.now c.read_space_maps.new.store c.plan_all.new.store [] c.read_space_maps.ensures.reads c.plan_all.ensures.reads
+
+pub returns-clause-reads : goal.returns-clause-reads
+returns-clause-reads g c = reads_on c.args.store.now c.read_space_maps.new.store c.plan_all.new.store [] c.read_space_maps.ensures.reads c.plan_all.ensures.reads
+
+pub returns-in_err-plan_all-clause-refused : goal.returns-in_err-plan_all-clause-refused
+returns-in_err-plan_all-clause-refused g c = passed_on _ _ _ c.from_residual-in_err-plan_all.ensures.1 (elim c.in_err-plan_all.ensures.refused [
+  | inl memory ↦ inl memory
+  | inr why ↦ inr (inr (record {
+    plan = record { maps = c.in_ok-maps.maps; grown = false; changes = c.args.changes; next = c.args.next };
+    changes_are = refl;
+    next_is = refl;
+    mid = c.read_space_maps.new.store;
+    before = c.read_space_maps.ensures.reads;
+    found = c.in_ok-maps.ensures.found;
+    why = inl why;
+  }))
+])
+
+pub returns-clause-refused : goal.returns-clause-refused
+returns-clause-refused g c =
+    IfErr-weaker c.with_table.result _ _
+    (λ refusal cause. elim cause [
+      | inl memory ↦ inl memory
+      | inr (bad, taken) ↦ inr (inr (record {
+        plan = record { maps = c.in_ok-maps.maps; grown = false; changes = c.args.changes; next = c.args.next };
+        changes_are = refl;
+        next_is = refl;
+        mid = c.read_space_maps.new.store;
+        before = c.read_space_maps.ensures.reads;
+        found = c.in_ok-maps.ensures.found;
+        why = inr (bad, (c.plan_all.new.self, c.in_ok-plan_all.ensures.step.goes_on, taken));
+      }))
+    ])
+    c.with_table.ensures.refused
+
+pub returns-clause-others : goal.returns-clause-others
+returns-clause-others g c =
+    let last = c.plan_all.new.self in
+    IfOk-weaker c.with_table.result _ _
+    (λ all both. (
+      c.in_ok-maps.maps,
+      c.in_ok-maps.ensures.found,
+      λ objects number not_table not_map.
+          let before = c.in_ok-plan_all.ensures.step.goes_on.others objects number not_map in
+          elim (cases last.grown) [
+            | inl grown ↦ let made = both.1 grown in
+                others_stay last.changes.items all.items (record { number = 4; change = made.0 }) made.1 objects number (λ same. not_table (sym same)) ∙ before
+            | inr idle ↦ ap (λ (them : List ObjectChange). changed them objects number) (both.0 idle) ∙ before
+          ],
+    ))
+    (both_ok c.with_table.result _ _ c.with_table.ensures.same c.with_table.ensures.table)
+
+pub returns-in_err-plan_all-clause-known : goal.returns-in_err-plan_all-clause-known
+returns-in_err-plan_all-clause-known g c =
+    let old = c.args.store.now in
+    let mid = c.read_space_maps.new.store in
+    let same = spaces_stay old mid [] c.read_space_maps.ensures.reads in
+    let first : MapPlan = record { maps = c.in_ok-maps.maps; grown = false; changes = c.args.changes; next = c.args.next } in
+    passed_on _ _ _ c.from_residual-in_err-plan_all.ensures.1
+    (λ stored objects own blocks held aobj honest are others after group released.
+    let maps_are = c.in_ok-maps.ensures.one stored objects own blocks held aobj (true_before old mid c.plan_all.new.store c.plan_all.ensures.reads.reads honest) are.maps are.table in
+    c.in_err-plan_all.ensures.known stored objects own blocks (c.read_space_maps.ensures.reads.keeps stored held) aobj (true_after old mid c.plan_all.new.store c.read_space_maps.ensures.reads.reads honest)
+    (subst (λ (spaces : List VdevSpace). IsSound spaces first) (sym same) (sound objects old.spaces are c.args.changes.items c.args.next others first maps_are refl refl))
+    (unmade objects old.spaces are c.args.changes.items c.args.next others first maps_are refl refl)
+    (below objects old.spaces are c.args.changes.items c.args.next others first maps_are refl refl)
+    (subst (λ (spaces : List VdevSpace). AreAhead objects spaces AreAll first) (sym same) (ahead objects old.spaces are c.args.changes.items c.args.next others first maps_are refl refl))
+    after group (subst (λ (spaces : List VdevSpace). AreReleased spaces (copies_of_all c.args.gone.now) group after) (sym same) released))
+
+pub returns-clause-known : goal.returns-clause-known
+returns-clause-known g c =
+    let old = c.args.store.now in
+    let mid = c.read_space_maps.new.store in
+    let same = spaces_stay old mid [] c.read_space_maps.ensures.reads in
+    let first : MapPlan = record { maps = c.in_ok-maps.maps; grown = false; changes = c.args.changes; next = c.args.next } in
+    let last = c.plan_all.new.self in
+    IfErr-weaker c.with_table.result _ _
+    (λ refusal cause stored objects own blocks held aobj honest are others after group released.
+    let maps_are = c.in_ok-maps.ensures.one stored objects own blocks held aobj (true_before old mid c.plan_all.new.store c.plan_all.ensures.reads.reads honest) are.maps are.table in
+    let is_sound = sound objects old.spaces are c.args.changes.items c.args.next others first maps_are refl refl in
+    let advances = subst (λ (spaces : List VdevSpace). Advances objects spaces c.args.gone.now AreAll first last) same
+    (c.in_ok-plan_all.ensures.advances stored objects own blocks (c.read_space_maps.ensures.reads.keeps stored held) aobj (true_after old mid c.plan_all.new.store c.read_space_maps.ensures.reads.reads honest)
+    (subst (λ (spaces : List VdevSpace). IsSound spaces first) (sym same) is_sound) (unmade objects old.spaces are c.args.changes.items c.args.next others first maps_are refl refl)) in
+    let later = subst (λ (spaces : List VdevSpace). IsSound spaces last) same (c.in_ok-plan_all.ensures.step.sound (subst (λ (spaces : List VdevSpace). IsSound spaces first) (sym same) is_sound)) in
+    elim cause [
+      | inl memory ↦ inl (inl memory)
+      | inr (bad, inl zero) ↦ absurd (cc)
+      | inr (bad, inr (inl past)) ↦ absurd (search rules)
+      | inr (bad, inr (inr some)) ↦ absurd (some (table_apart objects old.spaces are c.args.changes.items c.args.next others first maps_are refl refl c.args.gone.now last
+          c.in_ok-plan_all.ensures.step.goes_on later advances))
+    ])
+    c.with_table.ensures.refused
+
+pub returns-clause-value : goal.returns-clause-value
+returns-clause-value g c =
+    let old = c.args.store.now in
+    let mid = c.read_space_maps.new.store in
+    let same = spaces_stay old mid [] c.read_space_maps.ensures.reads in
+    let first : MapPlan = record { maps = c.in_ok-maps.maps; grown = false; changes = c.args.changes; next = c.args.next } in
+    let last = c.plan_all.new.self in
+    IfOk-weaker c.with_table.result _ _
+    (λ all both stored objects own blocks held aobj honest are others.
+    let maps_are = c.in_ok-maps.ensures.one stored objects own blocks held aobj (true_before old mid c.plan_all.new.store c.plan_all.ensures.reads.reads honest) are.maps are.table in
+    let is_sound = sound objects old.spaces are c.args.changes.items c.args.next others first maps_are refl refl in
+    let advances = subst (λ (spaces : List VdevSpace). Advances objects spaces c.args.gone.now AreAll first last) same
+    (c.in_ok-plan_all.ensures.advances stored objects own blocks (c.read_space_maps.ensures.reads.keeps stored held) aobj (true_after old mid c.plan_all.new.store c.read_space_maps.ensures.reads.reads honest)
+    (subst (λ (spaces : List VdevSpace). IsSound spaces first) (sym same) is_sound) (unmade objects old.spaces are c.args.changes.items c.args.next others first maps_are refl refl)) in
+    let later = subst (λ (spaces : List VdevSpace). IsSound spaces last) same (c.in_ok-plan_all.ensures.step.sound (subst (λ (spaces : List VdevSpace). IsSound spaces first) (sym same) is_sound)) in
+    elim (cases last.grown) [
+      | inl grown ↦ let made = both.1 grown in
+          anew_grown objects old.spaces are c.args.changes.items c.args.next others first maps_are refl refl c.args.gone.now last c.in_ok-plan_all.ensures.step.goes_on later advances
+          all.items made.0 made.1 made.2
+      | inr idle ↦ subst (λ (them : List ObjectChange). MayBeMade objects them × MapAnew objects old.spaces c.args.gone.now them) (sym (both.0 idle))
+          (anew_idle objects old.spaces are c.args.changes.items c.args.next others first maps_are refl refl c.args.gone.now last c.in_ok-plan_all.ensures.step.goes_on later advances idle)
+    ])
+    (both_ok c.with_table.result _ _ c.with_table.ensures.same c.with_table.ensures.table)

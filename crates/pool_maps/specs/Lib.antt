@@ -1,0 +1,4 @@
+pub mod Maps
+pub mod Updates
+pub mod Plans
+pub mod Refused

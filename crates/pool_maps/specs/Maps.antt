@@ -1,0 +1,54 @@
+-- What the space maps of a pool leave free, and what it uses.
+use Rattle.std.specs.Prelude.{ℕ, ◌≡◌, ◌⊎◌, ◌<◌, Some, IsSomeAnd, List, Option, slice_get, All, Contains}
+use Rattle.block_store.specs.Maps.{LeavesUnused}
+use Rattle.block_store.specs.Places.{Marks}
+use Rattle.block_store.specs.Shapes.{first_meta}
+use Rattle.block_store.specs.Spaces.{VdevSpace}
+use Rattle.meta_objset.specs.Reading.{HasSpaceMaps}
+use Rattle.meta_objset.specs.SpaceMaps.{LacksMetaslab}
+use Rattle.meta_objset.specs.declared.space_maps.MetaslabMap.{MetaslabMap}
+use Rattle.meta_objset.specs.declared.space_maps.MetaslabPlace.{MetaslabPlace}
+use Rattle.object_table.specs.Tables.{IsOfKind}
+use Rattle.objset.specs.Objects.{Object}
+use Rattle.space_map.specs.FreeRuns.{FreeRuns, AreFree}
+use Rattle.space_map.specs.Map.{all_free}
+use Rattle.space_map.specs.Sectors.{contains}
+use Rattle.space_map_objects.specs.Maps.{HasMap, map_kind}
+
+-- a row names the metaslab's map, which leaves this set free
+pub record IsInRow (objects : ℕ → Option Object) (maps : List MetaslabMap) (place : MetaslabPlace) (free : FreeRuns) : Type 0 where
+  pub row : MetaslabMap
+  pub there : Contains maps row
+  pub metaslab : row.metaslab ≡ place
+  pub map : HasMap (objects row.object) free.sectors free
+
+-- or no row is the metaslab's, and the set has all sectors
+abbrev pub IsMapped : (ℕ → Option Object) → List MetaslabMap → MetaslabPlace → FreeRuns → Type 0
+IsMapped objects maps place free =
+    IsInRow objects maps place free
+    ⊎ (LacksMetaslab maps place × ((s : ℕ) → contains free.runs s ≡ all_free free.sectors s))
+
+-- the metaslab is there, before its vdev's meta region
+pub record HasMapPlace (spaces : List VdevSpace) (place : MetaslabPlace) : Type 0 where
+  pub space : VdevSpace
+  pub found : slice_get spaces place.vdev ≡ Some space
+  pub before : place.index < first_meta space.shape
+
+-- The rows are of metaslabs before the meta regions, and each names an object of its own, behind the tables.
+pub record AreRowsOf (spaces : List VdevSpace) (maps : List MetaslabMap) : Type 0 where
+  pub places : All (λ map. HasMapPlace spaces map.metaslab) maps
+  pub behind : All (λ map. 4 < map.object) maps
+  pub apart : (map other : MetaslabMap) → Contains maps map → Contains maps other → map.object ≡ other.object → map ≡ other
+
+-- each names an object of a map's kind
+abbrev pub AreOfMaps : (ℕ → Option Object) → List MetaslabMap → Type 0
+AreOfMaps objects maps = All (λ map. IsSomeAnd (objects map.object) (IsOfKind map_kind)) maps
+
+-- Object 4 has the table of the space maps. Of each metaslab before a meta region they leave free what these marks leave unused.
+pub record AreMapsOf (objects : ℕ → Option Object) (spaces : List VdevSpace) (marks : Marks) : Type 0 where
+  pub maps : List MetaslabMap
+  pub table : HasSpaceMaps (objects 4) maps
+  pub rows : AreRowsOf spaces maps
+  pub kinds : AreOfMaps objects maps
+  pub each : (place : MetaslabPlace) (free : FreeRuns) → HasMapPlace spaces place → AreFree free
+      → LeavesUnused spaces marks place.vdev place.index free → IsMapped objects maps place free

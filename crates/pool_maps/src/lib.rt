@@ -1,0 +1,12 @@
+//! The space maps of a pool: for each metaslab before the meta regions what it leaves unused, as objects of the meta object set.
+//! They are loaded as a pool is opened, and changed by the plan of each group.
+#![tactic(auto)]
+
+mod changing;
+mod planning;
+mod putting;
+mod steps;
+mod update;
+
+pub use block_store::Refusal;
+pub use planning::plan_maps;

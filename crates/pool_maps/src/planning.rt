@@ -1,0 +1,83 @@
+//! The changes of a group's space maps.
+ghost use Rattle.std.specs.Prelude.{◌≡◌, ◌≢◌, ◌⊎◌, ◌<◌, ◌≤◌, [], ℕ, List, Option, Some, length, slice_get, OnOk, IfOk, IfErr};
+ghost use Rattle.block_pointer.specs.declared.block.Block.{Block};
+ghost use Rattle.block_store.specs.Blocks.{Contents};
+ghost use Rattle.block_store.specs.Losses.{IsForLoss};
+ghost use Rattle.block_store.specs.Places.{filled};
+ghost use Rattle.block_store.specs.Releases.{AreReleased, copies_of_all};
+ghost use Rattle.block_store.specs.Spaces.{VdevSpace};
+ghost use Rattle.block_store.specs.Steps.{OnlyReadsBlocks, AnswersAreTrue};
+ghost use Rattle.block_store.specs.Store.{Holds};
+ghost use Rattle.dnode.specs.ObjectSet.{FitsObjectSet};
+ghost use Rattle.meta_objset.specs.Found.{AreMapsFound};
+ghost use Rattle.meta_objset.specs.declared.space_maps.MetaslabMap.{MetaslabMap};
+ghost use Rattle.meta_objset.specs.declared.space_maps.MetaslabPlace.{MetaslabPlace};
+ghost use Rattle.objset.specs.Objects.{Object, AreObjects};
+ghost use Rattle.pool_maps.specs.Maps.{AreMapsOf};
+ghost use Rattle.pool_maps.specs.Plans.{AreOfOthers, AreOrdered, MapAnew, MayBeMade, OthersStay};
+ghost use Rattle.pool_maps.specs.Refused.{IsPlanRefused};
+
+use crate::steps::MapPlan;
+use block_pointer::Block;
+use block_store::{BlockStore, Refusal};
+use dnode::ObjectSet;
+use meta_objset::read_space_maps;
+use model_disk::Disk;
+use objset::ObjectChange;
+use std::alloc::Global;
+
+/// Plans the changes of the space maps of a group, which come among the other changes of its meta object set, in the order of the
+/// objects' numbers: for each metaslab before the meta regions they leave free what is unused once the plan is committed and the
+/// blocks `gone` are given back. A metaslab of which that is what it was has no change, and one that has no map gets one, of the
+/// number `next` or a later one. The set is the last committed group's, and its blocks were born in the transaction group `birth` or
+/// before.
+///
+/// `BadPointer` also where not all of the blocks can be given back, or a map's object is one that another change is of; `NoSpace`
+/// where no number is left for an object.
+pub fn plan_maps<D: Disk + Drop>(
+    set: &ObjectSet,
+    store: &mut BlockStore<D>,
+    alloc: Global,
+    birth: u64,
+    gone: &[Block],
+    changes: Vec<ObjectChange>,
+    next: u64,
+) -> Result<Vec<ObjectChange>, Refusal>
+    requires set { FitsObjectSet set.now }
+    requires ordered { AreOrdered changes.items }
+    ensures reads { OnlyReadsBlocks store.old store.new [] }
+    ensures ordered { IfOk result (λ all. AreOrdered all.items) }
+
+    // Whatever the set is: which other objects stay, and on a refusal its cause.
+    ensures others { IfOk result (λ all. (maps : List MetaslabMap)
+        × AreMapsFound store.old.spaces set.now birth maps
+        × OthersStay maps next changes.items all.items) }
+    ensures refused { IfErr result (λ refusal. (refusal ≡ Refusal.NoMemory)
+        ⊎ IsPlanRefused store.old store.new set.now birth gone.now changes.items next refusal) }
+
+    // Of a set whose maps are those of the stored blocks the changes make one whose maps are those of the plan.
+    ensures value { IfOk result (λ all. (stored : Contents) (objects : ℕ → Option Object)
+        (own : List Block) (blocks : ℕ → List Block) → Holds store.old stored
+        → AreObjects stored birth set.now objects own blocks → AnswersAreTrue store.old store.new
+        → (are : AreMapsOf objects store.old.spaces filled)
+        → AreOfOthers objects changes.items are.maps next
+        → MayBeMade objects all.items × MapAnew objects store.old.spaces gone.now all.items) }
+    ensures known { IfErr result (λ refusal. (stored : Contents) (objects : ℕ → Option Object)
+        (own : List Block) (blocks : ℕ → List Block) → Holds store.old stored
+        → AreObjects stored birth set.now objects own blocks → AnswersAreTrue store.old store.new
+        → (are : AreMapsOf objects store.old.spaces filled)
+        → AreOfOthers objects changes.items are.maps next
+        → (after : List VdevSpace) (group : ℕ)
+        → AreReleased store.old.spaces (copies_of_all gone.now) group after
+        → IsForLoss refusal ⊎ (refusal ≡ Refusal.NoSpace)) }
+{
+    let maps = read_space_maps(set, store, alloc, birth, &[])?;
+    let mut plan = MapPlan {
+        maps,
+        grown: false,
+        changes,
+        next,
+    };
+    plan.plan_all(set, store, alloc, birth, gone)?;
+    plan.with_table(alloc)
+}
