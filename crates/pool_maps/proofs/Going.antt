@@ -67,7 +67,7 @@ module _ (objects : ℕ → Option Object) (spaces : List VdevSpace) (gone : Lis
     untouched = λ place other is. is;
     anew = λ place is. absurd is;
     may = λ yet may. may;
-    kinds = λ yet are. are;
+    short = λ yet are. are;
   }
 
   pub advances_on : (first rest : MetaslabPlace → Type 0) (old mid new : MapPlan) → ((place : MetaslabPlace) → first place → ¬ rest place)
@@ -82,9 +82,9 @@ module _ (objects : ℕ → Option Object) (spaces : List VdevSpace) (gone : Lis
     may = λ yet may.
         two.may (λ place of there free are was. one.stay place free (λ sooner. apart place sooner of) (yet place (inr of) there free are was))
         (one.may (λ place of there. yet place (inl of) there) may);
-    kinds = λ yet are.
-        two.kinds (λ place of there free frees was. one.stay place free (λ sooner. apart place sooner of) (yet place (inr of) there free frees was))
-        (one.kinds (λ place of there. yet place (inl of) there) are);
+    short = λ yet are.
+        two.short (λ place of there free frees was. one.stay place free (λ sooner. apart place sooner of) (yet place (inr of) there free frees was))
+        (one.short (λ place of there. yet place (inl of) there) are);
   }
 
   -- the same metaslabs by other words
@@ -95,7 +95,7 @@ module _ (objects : ℕ → Option Object) (spaces : List VdevSpace) (gone : Lis
     untouched = λ place other. is.untouched place (λ of. other (into place of));
     anew = λ place of there. is.anew place (out place there of) there;
     may = λ yet may. is.may (λ place of there. yet place (into place of) there) may;
-    kinds = λ yet are. is.kinds (λ place of there. yet place (into place of) there) are;
+    short = λ yet are. is.short (λ place of there. yet place (into place of) there) are;
   }
 
   -- what is ahead is so still

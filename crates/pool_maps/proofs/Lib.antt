@@ -4,3 +4,4 @@ pub mod Going
 pub mod Planned
 pub mod Whole
 pub mod Underway
+pub mod Short

@@ -1,6 +1,6 @@
 -- The plan of one metaslab's map.
 use Rattle.std.proofs.Common.{◌≡◌, ◌≢◌, ℕ, ◌<◌, ◌≤◌, Bool, true, false, true≢false, length, List, [], ◌∷◌, None, Option, Result, Ok, Err, All, AllPairs, Contains, inl, inr, refl, sym, ap, subst, ◌∙◌, arith}
-use Rattle.std.specs.Prelude.{IsSomeAnd, OnOk}
+use Rattle.std.specs.Prelude.{OnOk}
 use Rattle.std.specs.Bool.{OnTrue}
 use Rattle.std.proofs.lemmas.Bool.{cases_eq}
 use Rattle.std.proofs.lemmas.List.Elements.{All-cons, All-contains, All-nil}
@@ -17,15 +17,14 @@ use Rattle.objset.specs.declared.changes.ObjectChange.{ObjectChange}
 use Rattle.objset.specs.Changes.{MayChange, after_change}
 use Rattle.objset.specs.Objects.{Object}
 use Rattle.objset.proofs.Numbers.{changed_left}
-use Rattle.space_map.specs.FreeRuns.{FreeRuns}
-use Rattle.object_table.specs.Tables.{IsOfKind}
-use Rattle.space_map_objects.specs.Maps.{HasMap, map_kind}
+use Rattle.space_map.specs.FreeRuns.{FreeRuns, AreFree}
+use Rattle.space_map_objects.specs.Maps.{HasMap}
 use Rattle.pool_maps.specs.declared.steps.MapPlan.{MapPlan}
 use Rattle.pool_maps.specs.declared.update.Update.{Update}
-use Rattle.pool_maps.specs.Maps.{AreOfMaps, AreRowsOf, HasMapPlace, IsMapped}
+use Rattle.pool_maps.specs.Maps.{AreShortMaps, AreRowsOf, HasMapPlace, HasShortMap, IsMapped}
 use Rattle.pool_maps.specs.Plans.{Advances, AreBelow, AreOrdered, AreUnmade, GoesOn, IsMade, IsMappedYet, IsRewritten, IsSound, IsStep, IsThat, IsUntouched, after_plan, numbers_end}
 use Rattle.pool_maps.specs.Refused.{IsTaken}
-use Rattle.pool_maps.specs.Updates.{IsUpdateOf, LeadsFrom}
+use Rattle.pool_maps.specs.Updates.{IsUpdateOf, LeadsFrom, Says}
 use Rattle.pool_maps.proofs.Among.{all_put, becomes, kept, only, others_stay, was}
 use Rattle.pool_maps.proofs.Sets.{map_same, mapped_same, nothing_leads, same_twice, same_unused}
 
@@ -78,9 +77,11 @@ mapped_by objects later maps place free same (inl row) = inl (record {
 })
 mapped_by objects later maps place free same (inr lacks) = inr lacks
 
--- what has a map is of a map's kind
-of_kind : (object : Option Object) (free : FreeRuns) → HasMap object free.sectors free → IsSomeAnd object (IsOfKind map_kind)
-of_kind object free (bytes, table, leaves) = subst (λ o. IsSomeAnd o (IsOfKind map_kind)) (sym table.is) table.of_kind
+says_map : (object : Option Object) (update : Update) → Says object update → HasMap object update.free.sectors update.free
+says_map object update says = (says.bytes, says.table, says.leaves)
+
+says_short : (object : Option Object) (update : Update) → AreFree update.free → Says object update → HasShortMap object
+says_short object update are says = record { free = update.free; are = are; bytes = says.bytes; table = says.table; leaves = says.leaves; few = says.few }
 
 -- ---- a metaslab whose map stays
 
@@ -96,7 +97,7 @@ module _ (objects : ℕ → Option Object) (spaces : List VdevSpace) (gone : Lis
         mapped_same (after_plan plan objects) plan.maps that is.before free
         (same_twice is.before update.free free (nothing_leads is.before update is.leads none) last) mapped;
     may = λ yet may. may;
-    kinds = λ yet are. are;
+    short = λ yet are. are;
   }
 
   -- ---- a map that gets entries, or is written anew
@@ -149,7 +150,7 @@ module _ (objects : ℕ → Option Object) (spaces : List VdevSpace) (gone : Lis
     own_map sound before (inr (lacks, all)) = absurd (lacks_not old.maps row place lacks there of)
 
     pub rewritten_advances : IsSound spaces old → ((before : FreeRuns) → HasMap (objects row.object) before.sectors before → LeadsFrom before update
-        → MayChange change (objects row.object) × HasMap (after_change change (objects row.object)) update.free.sectors update.free)
+        → MayChange change (objects row.object) × Says (after_change change (objects row.object)) update)
         → HasMapPlace spaces place → Advances objects spaces gone (IsThat place) old new
     rewritten_advances sound value is_there = record {
       stay = λ other free apart mapped.
@@ -172,23 +173,23 @@ module _ (objects : ℕ → Option Object) (spaces : List VdevSpace) (gone : Lis
             map = map_same (after_plan new objects row.object) update.free free last
                 (subst (λ object. HasMap object update.free.sectors update.free)
                 (sym (becomes old.changes.items new.changes.items (record { number = row.object; change = change }) by.put objects))
-                (value is.before had is.leads).1);
+                (says_map (after_change change (objects row.object)) update (value is.before had is.leads).1));
           });
       may = λ yet may.
           let had = own_map sound is.before (yet place refl is_there is.before is.are_before is.was) in
           all_put old.changes.items new.changes.items (record { number = row.object; change = change }) by.put (λ (c : ObjectChange). MayChange c.change (objects c.number)) may
           (value is.before had is.leads).0;
-      kinds = λ yet are.
+      short = λ yet are.
           let had = own_map sound is.before (yet place refl is_there is.before is.are_before is.was) in
-          subst (AreOfMaps (after_plan new objects)) (sym by.maps)
-          (all_from (λ (m : MetaslabMap). IsSomeAnd (after_plan new objects m.object) (IsOfKind map_kind)) old.maps
+          subst (AreShortMaps (after_plan new objects)) (sym by.maps)
+          (all_from (λ (m : MetaslabMap). HasShortMap (after_plan new objects m.object)) old.maps
           (λ other held. elim (cases_eq row.object other.object) [
-            | inl same ↦ subst (λ n. IsSomeAnd (after_plan new objects n) (IsOfKind map_kind)) same
-                (subst (λ object. IsSomeAnd object (IsOfKind map_kind)) (sym (becomes old.changes.items new.changes.items (record { number = row.object; change = change }) by.put objects))
-                (of_kind (after_change change (objects row.object)) update.free (value is.before had is.leads).1))
-            | inr apart ↦ subst (λ object. IsSomeAnd object (IsOfKind map_kind))
+            | inl same ↦ subst (λ n. HasShortMap (after_plan new objects n)) same
+                (subst (λ object. HasShortMap object) (sym (becomes old.changes.items new.changes.items (record { number = row.object; change = change }) by.put objects))
+                (says_short (after_change change (objects row.object)) update is.are (value is.before had is.leads).1))
+            | inr apart ↦ subst (λ object. HasShortMap object)
                 (sym (others_stay old.changes.items new.changes.items (record { number = row.object; change = change }) by.put objects other.object apart))
-                (All-contains (λ (m : MetaslabMap). IsSomeAnd (after_plan old objects m.object) (IsOfKind map_kind)) old.maps other are held)
+                (All-contains (λ (m : MetaslabMap). HasShortMap (after_plan old objects m.object)) old.maps other are held)
           ]));
     }
 
@@ -257,7 +258,7 @@ module _ (objects : ℕ → Option Object) (spaces : List VdevSpace) (gone : Lis
           (λ k d low. let less = are k d low in let more = by.next in omega (arith, less, more)) (let more = by.next in omega (arith, more));
     }
 
-    pub made_advances : IsSound spaces old → AreUnmade old objects → MayChange change None → HasMap (after_change change None) update.free.sectors update.free
+    pub made_advances : IsSound spaces old → AreUnmade old objects → MayChange change None → Says (after_change change None) update
         → Advances objects spaces gone (IsThat place) old new
     made_advances sound unmade may has = record {
       stay = λ other free apart mapped. elim mapped [
@@ -285,20 +286,20 @@ module _ (objects : ℕ → Option Object) (spaces : List VdevSpace) (gone : Lis
             metaslab = sym same;
             map = map_same (after_plan new objects old.next) update.free free last
                 (subst (λ object. HasMap object update.free.sectors update.free) (sym (becomes old.changes.items new.changes.items (record { number = old.next; change = change }) by.put objects
-                ∙ ap (after_change change) (unmade old.next (omega arith)))) has);
+                ∙ ap (after_change change) (unmade old.next (omega arith)))) (says_map (after_change change None) update has));
           });
       may = λ yet mays. all_put old.changes.items new.changes.items (record { number = old.next; change = change }) by.put (λ (c : ObjectChange). MayChange c.change (objects c.number)) mays
           (subst (MayChange change) (sym (unmade old.next (omega arith))) may);
-      kinds = λ yet are. all_from (λ (m : MetaslabMap). IsSomeAnd (after_plan new objects m.object) (IsOfKind map_kind)) new.maps
+      short = λ yet are. all_from (λ (m : MetaslabMap). HasShortMap (after_plan new objects m.object)) new.maps
           (λ row held. elim ((by.maps row).0 held) [
-            | inl before ↦ subst (λ object. IsSomeAnd object (IsOfKind map_kind))
+            | inl before ↦ subst (λ object. HasShortMap object)
                 (sym (others_stay old.changes.items new.changes.items (record { number = old.next; change = change }) by.put objects row.object
                 (λ same. no_twin old.next old.maps sound.below row before.0 (sym same))))
-                (All-contains (λ (m : MetaslabMap). IsSomeAnd (after_plan old objects m.object) (IsOfKind map_kind)) old.maps row are before.0)
-            | inr made ↦ subst (λ (m : MetaslabMap). IsSomeAnd (after_plan new objects m.object) (IsOfKind map_kind)) (sym made)
-                (subst (λ object. IsSomeAnd object (IsOfKind map_kind)) (sym (becomes old.changes.items new.changes.items (record { number = old.next; change = change }) by.put objects
+                (All-contains (λ (m : MetaslabMap). HasShortMap (after_plan old objects m.object)) old.maps row are before.0)
+            | inr made ↦ subst (λ (m : MetaslabMap). HasShortMap (after_plan new objects m.object)) (sym made)
+                (subst (λ object. HasShortMap object) (sym (becomes old.changes.items new.changes.items (record { number = old.next; change = change }) by.put objects
                 ∙ ap (after_change change) (unmade old.next (omega arith))))
-                (of_kind (after_change change None) update.free has))
+                (says_short (after_change change None) update is.are has))
           ]);
     }
 

@@ -99,10 +99,3 @@ nothing_leads before update leads none =
       sectors = sym leads.sectors;
       each = λ s. subst (λ es. free_set (contains before.runs) es s ≡ contains update.free.runs s) es_is (leads.entries.1.leads s);
     }
-
-pub condensed_map : (object : Option Object) (free : FreeRuns) → HasCondensedMap object free → HasMap object free.sectors free
-condensed_map object free (bytes, table, is) = (
-  bytes,
-  table,
-  record { entries = is.entries; spelled = is.spelled; is_map = is.is_map; leaves = is.keeps },
-)

@@ -1,5 +1,5 @@
 -- All maps of a plan.
-use Rattle.std.proofs.Common.{◌≡◌, ◌≢◌, ℕ, ◌<◌, ◌≤◌, false, List, Some, Option, All, Contains, inl, inr, refl, sym, ap, subst, ◌∙◌, arith}
+use Rattle.std.proofs.Common.{◌≡◌, ◌≢◌, ℕ, ◌<◌, ◌≤◌, false, List, Some, None, Option, All, Contains, inl, inr, refl, sym, ap, subst, ◌∙◌, arith}
 use Rattle.std.specs.Prelude.{IsSomeAnd}
 use Rattle.std.proofs.lemmas.Bool.{cases_lt}
 use Rattle.std.proofs.lemmas.List.Elements.{All-contains}
@@ -23,7 +23,7 @@ use Rattle.objset.specs.Objects.{Object}
 use Rattle.objset.proofs.Numbers.{changed_left}
 use Rattle.space_map_objects.specs.Maps.{map_kind}
 use Rattle.pool_maps.specs.declared.steps.MapPlan.{MapPlan}
-use Rattle.pool_maps.specs.Maps.{AreMapsOf, AreOfMaps, AreRowsOf, HasMapPlace, IsMapped}
+use Rattle.pool_maps.specs.Maps.{AreMapsOf, AreShortMaps, AreRowsOf, HasMapPlace, HasShortMap, IsMapped}
 use Rattle.pool_maps.specs.Plans.{Advances, AreAhead, AreAll, AreBelow, AreOfOthers, AreUnmade, GoesOn, IsMapNumber, IsPutIn, IsSound, MapAnew, MayBeMade, after_plan, numbers_end}
 use Rattle.pool_maps.proofs.Planned.{all_from, mapped_by}
 use Rattle.pool_maps.proofs.Among.{all_put, becomes, others_stay}
@@ -32,6 +32,9 @@ place_by : (spaces after : List VdevSpace) (place : MetaslabPlace) → shapes_of
 place_by spaces after place same is =
     let there = found_too spaces after place.vdev is.space same is.found in
     record { space = there.0; found = there.1; before = subst (λ (shape : VdevShape). place.index < first_meta shape) (sym there.2) is.before }
+
+no_map : ¬ HasShortMap None
+no_map short = (let clash : None ≡ Some short.table.there = short.table.is in cc)
 
 module _ (objects : ℕ → Option Object) (spaces : List VdevSpace) (are : AreMapsOf objects spaces filled) (changes : List ObjectChange) (next : ℕ)
     (of : AreOfOthers objects changes are.maps next) (first : MapPlan) (maps_are : first.maps ≡ are.maps) (changes_are : first.changes.items ≡ changes) (next_is : first.next ≡ next) where
@@ -54,8 +57,8 @@ module _ (objects : ℕ → Option Object) (spaces : List VdevSpace) (are : AreM
     rows = subst (AreRowsOf spaces) (sym maps_are) are.rows;
     below = all_from (λ (m : MetaslabMap). m.object < first.next) first.maps (λ row held. elim (cases_lt row.object first.next) [
       | inl less ↦ less
-      | inr later ↦ absurd (subst (λ object. IsSomeAnd object (IsOfKind map_kind)) (unmade row.object later)
-          (All-contains (λ (m : MetaslabMap). IsSomeAnd (objects m.object) (IsOfKind map_kind)) are.maps row are.kinds (in_maps row held)))
+      | inr later ↦ absurd (no_map (subst HasShortMap (unmade row.object later)
+          (All-contains (λ (m : MetaslabMap). HasShortMap (objects m.object)) are.maps row are.short (in_maps row held))))
     ]);
     behind = subst (λ n. 4 < n) (sym next_is) of.behind;
     within = subst (λ n. n ≤ numbers_end) (sym next_is) of.within;
@@ -79,10 +82,10 @@ module _ (objects : ℕ → Option Object) (spaces : List VdevSpace) (are : AreM
   first_may : MayBeMade objects first.changes.items
   first_may = subst (MayBeMade objects) (sym changes_are) of.may
 
-  first_kinds : AreOfMaps (after_plan first objects) first.maps
-  first_kinds = all_from (λ (m : MetaslabMap). IsSomeAnd (after_plan first objects m.object) (IsOfKind map_kind)) first.maps
-      (λ row held. subst (λ object. IsSomeAnd object (IsOfKind map_kind)) (sym (row_stays row (in_maps row held)))
-      (All-contains (λ (m : MetaslabMap). IsSomeAnd (objects m.object) (IsOfKind map_kind)) are.maps row are.kinds (in_maps row held)))
+  first_kinds : AreShortMaps (after_plan first objects) first.maps
+  first_kinds = all_from (λ (m : MetaslabMap). HasShortMap (after_plan first objects m.object)) first.maps
+      (λ row held. subst (λ object. HasShortMap object) (sym (row_stays row (in_maps row held)))
+      (All-contains (λ (m : MetaslabMap). HasShortMap (objects m.object)) are.maps row are.short (in_maps row held)))
 
   not_of_map : ¬ IsMapNumber first.maps first.next 4
   not_of_map (inl (row, held, is)) = let behind = All-contains (λ (m : MetaslabMap). 4 < m.object) are.maps row are.rows.behind (in_maps row held) in omega (arith, behind, is)
@@ -113,10 +116,10 @@ module _ (objects : ℕ → Option Object) (spaces : List VdevSpace) (are : AreM
             behind = last_sound.rows.behind;
             apart = last_sound.rows.apart;
           };
-          kinds = all_from (λ (m : MetaslabMap). IsSomeAnd (changed all objects m.object) (IsOfKind map_kind)) last.maps
-              (λ row held. subst (λ object. IsSomeAnd object (IsOfKind map_kind)) (sym (same row.object (not_table row held)))
-              (All-contains (λ (m : MetaslabMap). IsSomeAnd (after_plan last objects m.object) (IsOfKind map_kind)) last.maps row
-              (advances.kinds (λ place of_all there. (ahead place of_all there).0) first_kinds) held));
+          short = all_from (λ (m : MetaslabMap). HasShortMap (changed all objects m.object)) last.maps
+              (λ row held. subst (λ object. HasShortMap object) (sym (same row.object (not_table row held)))
+              (All-contains (λ (m : MetaslabMap). HasShortMap (after_plan last objects m.object)) last.maps row
+              (advances.short (λ place of_all there. (ahead place of_all there).0) first_kinds) held));
           each = λ place free there frees unused.
               let before : HasMapPlace spaces place = place_by after spaces place (sym shapes) there in
               mapped_by (after_plan last objects) (changed all objects) last.maps place free (λ row held of_place. same row.object (not_table row held))

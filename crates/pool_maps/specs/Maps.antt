@@ -1,5 +1,5 @@
 -- What the space maps of a pool leave free, and what it uses.
-use Rattle.std.specs.Prelude.{ℕ, ◌≡◌, ◌⊎◌, ◌<◌, Some, IsSomeAnd, List, Option, slice_get, All, Contains}
+use Rattle.std.specs.Prelude.{ℕ, ◌≡◌, ◌⊎◌, ◌+◌, ◌*◌, ◌<◌, ◌≤◌, Some, List, length, Option, slice_get, All, Contains}
 use Rattle.block_store.specs.Maps.{LeavesUnused}
 use Rattle.block_store.specs.Places.{Marks}
 use Rattle.block_store.specs.Shapes.{first_meta}
@@ -8,12 +8,13 @@ use Rattle.meta_objset.specs.Reading.{HasSpaceMaps}
 use Rattle.meta_objset.specs.SpaceMaps.{LacksMetaslab}
 use Rattle.meta_objset.specs.declared.space_maps.MetaslabMap.{MetaslabMap}
 use Rattle.meta_objset.specs.declared.space_maps.MetaslabPlace.{MetaslabPlace}
-use Rattle.object_table.specs.Tables.{IsOfKind}
+use Rattle.object_table.specs.Tables.{HasTable}
 use Rattle.objset.specs.Objects.{Object}
+use Rattle.space_map.specs.Allocated.{gaps_of}
 use Rattle.space_map.specs.FreeRuns.{FreeRuns, AreFree}
 use Rattle.space_map.specs.Map.{all_free}
 use Rattle.space_map.specs.Sectors.{contains}
-use Rattle.space_map_objects.specs.Maps.{HasMap, map_kind}
+use Rattle.space_map_objects.specs.Maps.{HasMap, LeavesFree, map_kind}
 
 -- a row names the metaslab's map, which leaves this set free
 pub record IsInRow (objects : ℕ → Option Object) (maps : List MetaslabMap) (place : MetaslabPlace) (free : FreeRuns) : Type 0 where
@@ -40,15 +41,27 @@ pub record AreRowsOf (spaces : List VdevSpace) (maps : List MetaslabMap) : Type 
   pub behind : All (λ map. 4 < map.object) maps
   pub apart : (map other : MetaslabMap) → Contains maps map → Contains maps other → map.object ≡ other.object → map ≡ other
 
--- each names an object of a map's kind
-abbrev pub AreOfMaps : (ℕ → Option Object) → List MetaslabMap → Type 0
-AreOfMaps objects maps = All (λ map. IsSomeAnd (objects map.object) (IsOfKind map_kind)) maps
+-- a map's bytes are at most two entries for each run of sectors in use, and 64
+abbrev pub IsShort : List ℕ → FreeRuns → Type 0
+IsShort bytes free = length bytes ≤ 8 * (2 * length (gaps_of free) + 64)
 
--- Object 4 has the table of the space maps. Of each metaslab before a meta region they leave free what these marks leave unused.
+-- the object has such a map
+pub record HasShortMap (object : Option Object) : Type 0 where
+  pub free : FreeRuns
+  pub are : AreFree free
+  pub bytes : List ℕ
+  pub table : HasTable map_kind object bytes
+  pub leaves : LeavesFree bytes free.sectors free
+  pub few : IsShort bytes free
+
+abbrev pub AreShortMaps : (ℕ → Option Object) → List MetaslabMap → Type 0
+AreShortMaps objects maps = All (λ map. HasShortMap (objects map.object)) maps
+
+-- Object 4 has the table of the space maps, and none of them has grown long. Of each metaslab before a meta region they leave free what these marks leave unused.
 pub record AreMapsOf (objects : ℕ → Option Object) (spaces : List VdevSpace) (marks : Marks) : Type 0 where
   pub maps : List MetaslabMap
   pub table : HasSpaceMaps (objects 4) maps
   pub rows : AreRowsOf spaces maps
-  pub kinds : AreOfMaps objects maps
+  pub short : AreShortMaps objects maps
   pub each : (place : MetaslabPlace) (free : FreeRuns) → HasMapPlace spaces place → AreFree free
       → LeavesUnused spaces marks place.vdev place.index free → IsMapped objects maps place free

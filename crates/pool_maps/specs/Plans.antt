@@ -14,7 +14,7 @@ use Rattle.objset.specs.Changes.{IsGoodChange, MayChange, changed}
 use Rattle.objset.specs.Objects.{Object}
 use Rattle.space_map.specs.FreeRuns.{FreeRuns, AreFree}
 use Rattle.pool_maps.specs.declared.steps.MapPlan.{MapPlan}
-use Rattle.pool_maps.specs.Maps.{AreMapsOf, AreOfMaps, AreRowsOf, HasMapPlace, IsMapped}
+use Rattle.pool_maps.specs.Maps.{AreMapsOf, AreShortMaps, AreRowsOf, HasMapPlace, IsMapped}
 
 -- object numbers are below this one
 abbrev pub numbers_end : ℕ
@@ -129,8 +129,8 @@ pub record Advances (objects : ℕ → Option Object) (spaces : List VdevSpace) 
   pub anew : (place : MetaslabPlace) → are place → HasMapPlace spaces place → IsMappedAnew objects spaces gone old place new
   pub may : ((place : MetaslabPlace) → are place → HasMapPlace spaces place → IsMappedYet objects spaces old place)
       → MayBeMade objects old.changes.items → MayBeMade objects new.changes.items
-  pub kinds : ((place : MetaslabPlace) → are place → HasMapPlace spaces place → IsMappedYet objects spaces old place)
-      → AreOfMaps (after_plan old objects) old.maps → AreOfMaps (after_plan new objects) new.maps
+  pub short : ((place : MetaslabPlace) → are place → HasMapPlace spaces place → IsMappedYet objects spaces old place)
+      → AreShortMaps (after_plan old objects) old.maps → AreShortMaps (after_plan new objects) new.maps
 
 -- all metaslabs, those of a vdev, or one
 abbrev pub AreAll : MetaslabPlace → Type 0

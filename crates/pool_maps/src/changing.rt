@@ -1,5 +1,5 @@
 //! The change of a metaslab's map.
-ghost use Rattle.std.specs.Prelude.{◌≡◌, ◌⊎◌, ◌/◌, ◌<◌, [], ℕ, List, Option, None, length, IfOk, IfErr};
+ghost use Rattle.std.specs.Prelude.{◌≡◌, ◌⊎◌, ◌+◌, ◌*◌, ◌/◌, ◌<◌, ◌≤◌, [], ℕ, List, Option, None, length, IfOk, IfErr};
 ghost use Rattle.block_pointer.specs.declared.block.Block.{Block};
 ghost use Rattle.block_store.specs.Blocks.{Contents};
 ghost use Rattle.block_store.specs.Losses.{IsForLoss};
@@ -11,10 +11,11 @@ ghost use Rattle.object_table.specs.Shape.{AreRows};
 ghost use Rattle.object_table.specs.Tables.{HasTable};
 ghost use Rattle.objset.specs.Changes.{IsGoodChange, MayChange, after_change};
 ghost use Rattle.objset.specs.Objects.{Object, AreObjects};
+ghost use Rattle.space_map.specs.Allocated.{gaps_of};
 ghost use Rattle.space_map.specs.FreeRuns.{FreeRuns};
 ghost use Rattle.space_map_objects.specs.Maps.{HasMap, map_kind};
 ghost use Rattle.pool_maps.specs.Refused.{of_map};
-ghost use Rattle.pool_maps.specs.Updates.{LeadsFrom};
+ghost use Rattle.pool_maps.specs.Updates.{IsSized, LeadsFrom, Says};
 
 use crate::update::Update;
 use block_store::{BlockStore, Refusal};
@@ -37,6 +38,7 @@ pub(crate) fn update_map<D: Disk + Drop>(
     update: &Update,
 ) -> Result<Change, Refusal>
     requires set { FitsObjectSet set.now }
+    requires sized { IsSized update.now }
     requires rows { AreRows map_kind.rows (length update.now.entries.items / 8)
         update.now.entries.items }
     requires some { 0 < length update.now.entries.items }
@@ -47,7 +49,7 @@ pub(crate) fn update_map<D: Disk + Drop>(
         → Holds store.old stored → AreObjects stored birth set.now objects own blocks
         → AnswersAreTrue store.old store.new → HasMap (objects number) before.sectors before
         → LeadsFrom before update.now → MayChange change (objects number)
-        × HasMap (after_change change (objects number)) update.now.free.sectors update.now.free) }
+        × Says (after_change change (objects number)) update.now) }
     ensures refused { IfErr result (λ refusal. (refusal ≡ Refusal.NoMemory)
         ⊎ IsEndRefused store.old store.new [] set.now birth map_kind number refusal) }
     ensures known { IfErr result (λ refusal. (stored : Contents) (objects : ℕ → Option Object)
@@ -65,6 +67,7 @@ pub(crate) fn update_map<D: Disk + Drop>(
 /// The change of a map of which this is the end: entries behind those that it has, or the shortest map, where it would have more than
 /// two for each run of allocated sectors, and 64.
 fn change_of(alloc: Global, end: &TableEnd, update: &Update) -> Result<Change, Refusal>
+    requires sized { IsSized update.now }
     requires rows { AreRows map_kind.rows (length update.now.entries.items / 8)
         update.now.entries.items }
     requires some { 0 < length update.now.entries.items }
@@ -74,11 +77,13 @@ fn change_of(alloc: Global, end: &TableEnd, update: &Update) -> Result<Change, R
         → IsEndOf map_kind object bytes end.now)
         → HasMap object before.sectors before → LeadsFrom before update.now
         → MayChange change object
-        × HasMap (after_change change object) update.now.free.sectors update.now.free) }
+        × Says (after_change change object) update.now) }
     ensures refused { IfErr result (λ refusal. refusal ≡ Refusal.NoMemory) }
 {
     let added = update.entries.len() / 8;
-    let entries = (end.rows as usize).saturating_add(added);
+    let Some(entries) = (end.rows as usize).checked_add(added) else {
+        return shortest_map(alloc, update);
+    };
     if wants_condensing(entries, &update.free) {
         return shortest_map(alloc, update);
     }
@@ -87,10 +92,11 @@ fn change_of(alloc: Global, end: &TableEnd, update: &Update) -> Result<Change, R
 
 /// The change that gives a map's object the shortest map of what is free.
 fn shortest_map(alloc: Global, update: &Update) -> Result<Change, Refusal>
+    requires { IsSized update.now }
     ensures good { IfOk result IsGoodChange }
     ensures value { IfOk result (λ change. (object : Option Object) (before : FreeRuns)
         → HasMap object before.sectors before → MayChange change object
-        × HasMap (after_change change object) update.now.free.sectors update.now.free) }
+        × Says (after_change change object) update.now) }
     ensures refused { IfErr result (λ refusal. refusal ≡ Refusal.NoMemory) }
 {
     match replacement(alloc, &update.free) {
@@ -104,13 +110,15 @@ fn more_entries(alloc: Global, end: &TableEnd, update: &Update) -> Result<Change
     requires rows { AreRows map_kind.rows (length update.now.entries.items / 8)
         update.now.entries.items }
     requires some { 0 < length update.now.entries.items }
+    requires few { end.now.rows + length update.now.entries.items / 8
+        ≤ 2 * length (gaps_of update.now.free) + 64 }
     ensures good { IfOk result IsGoodChange }
     ensures value { IfOk result (λ change. (object : Option Object) (before : FreeRuns)
         → ((bytes : List ℕ) → HasTable map_kind object bytes
         → IsEndOf map_kind object bytes end.now)
         → HasMap object before.sectors before → LeadsFrom before update.now
         → MayChange change object
-        × HasMap (after_change change object) update.now.free.sectors update.now.free) }
+        × Says (after_change change object) update.now) }
     ensures refused { IfErr result (λ refusal. refusal ≡ Refusal.NoMemory) }
 {
     match extension(alloc, end, &update.entries) {
@@ -121,10 +129,11 @@ fn more_entries(alloc: Global, end: &TableEnd, update: &Update) -> Result<Change
 
 /// The change that makes the object of a metaslab's first map, which is the shortest one of what is free.
 pub(crate) fn first_map(alloc: Global, update: &Update) -> Result<Change, Refusal>
+    requires { IsSized update.now }
     ensures good { IfOk result IsGoodChange }
     ensures may { IfOk result (λ change. MayChange change None) }
     ensures value { IfOk result (λ change.
-        HasMap (after_change change None) update.now.free.sectors update.now.free) }
+        Says (after_change change None) update.now) }
     ensures refused { IfErr result (λ refusal. refusal ≡ Refusal.NoMemory) }
 {
     match creation(alloc, &update.free) {

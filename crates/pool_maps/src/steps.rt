@@ -22,7 +22,7 @@ ghost use Rattle.pool_maps.specs.Maps.{HasMapPlace};
 ghost use Rattle.pool_maps.specs.Plans.{Advances, AreAhead, AreAll, AreBelow, AreIn, AreOrdered, AreUnmade};
 ghost use Rattle.pool_maps.specs.Plans.{IsMade, IsPutIn, IsRewritten, IsSound, IsStep, IsThat, numbers_end};
 ghost use Rattle.pool_maps.specs.Refused.{IsMapRefused, IsSomeRefused, IsTaken};
-ghost use Rattle.pool_maps.specs.Updates.{LeadsFrom};
+ghost use Rattle.pool_maps.specs.Updates.{IsSized, LeadsFrom, Says};
 
 use crate::changing::{first_map, update_map};
 use crate::putting::put_in;
@@ -193,6 +193,7 @@ impl MapPlan {
         requires rows { AreRows map_kind.rows (length update.now.entries.items / 8)
             update.now.entries.items }
         requires some { 0 < length update.now.entries.items }
+        requires sized { IsSized update.now }
         ensures reads { OnlyReadsBlocks store.old store.new [] }
         ensures ordered { OnOk result (AreOrdered self.new.changes.items) }
         ensures value { OnOk result ((change : Change)
@@ -202,8 +203,8 @@ impl MapPlan {
             → AreObjects stored birth set.now objects own blocks
             → AnswersAreTrue store.old store.new
             → HasMap (objects number) before.sectors before → LeadsFrom before update.now
-            → MayChange change (objects number) × HasMap (after_change change (objects number))
-            update.now.free.sectors update.now.free)) }
+            → MayChange change (objects number)
+            × Says (after_change change (objects number)) update.now)) }
         ensures known { IfErr result (λ refusal. (stored : Contents)
             (objects : ℕ → Option Object) (own : List Block) (blocks : ℕ → List Block)
             (before : FreeRuns) → Holds store.old stored
@@ -223,10 +224,11 @@ impl MapPlan {
     fn make(&mut self, alloc: Global, place: MetaslabPlace, update: &Update) -> Result<(), Refusal>
         requires ordered { AreOrdered self.old.changes.items }
         requires lacks { LacksMetaslab self.old.maps place }
+        requires sized { IsSized update.now }
         ensures ordered { OnOk result (AreOrdered self.new.changes.items) }
         ensures made { OnOk result ((change : Change) × IsMade self.old place change self.new
             × MayChange change None
-            × HasMap (after_change change None) update.now.free.sectors update.now.free) }
+            × Says (after_change change None) update.now) }
         ensures refused { IfErr result (λ refusal. (refusal ≡ Refusal.NoMemory)
             ⊎ (((refusal ≡ Refusal.NoSpace) × (numbers_end ≤ self.old.next))
             ⊎ ((refusal ≡ Refusal.BadPointer) × (self.old.next < numbers_end)

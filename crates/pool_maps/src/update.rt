@@ -1,5 +1,5 @@
 //! What a metaslab's space map is to say of a plan.
-ghost use Rattle.std.specs.Prelude.{◌≡◌, ◌⊎◌, ◌/◌, length, IfOk, IfErr};
+ghost use Rattle.std.specs.Prelude.{◌≡◌, ◌⊎◌, ◌/◌, ◌^◌, ◌≤◌, length, IfOk, IfErr};
 ghost use Rattle.block_store.specs.Gone.{AreNotReleasable};
 ghost use Rattle.object_table.specs.Shape.{AreRows};
 ghost use Rattle.space_map_objects.specs.Maps.{map_kind};
@@ -32,6 +32,7 @@ pub(crate) fn update_of<D: Disk + Drop>(
 ) -> Result<Update, Refusal>
     requires { HasMapPlace store.now.spaces place }
     ensures update { IfOk result (IsUpdateOf store.now.spaces gone.now place) }
+    ensures few { IfOk result (λ update. update.free.sectors ≤ 2 ^ 20) }
     ensures rows { IfOk result (λ update.
         AreRows map_kind.rows (length update.entries.items / 8) update.entries.items) }
     ensures refused { IfErr result (λ refusal. (refusal ≡ Refusal.NoMemory)
