@@ -4,6 +4,8 @@
 #[cfg(test)]
 mod dead_lists;
 #[cfg(test)]
+mod followed_maps;
+#[cfg(test)]
 mod longer_tables;
 #[cfg(test)]
 mod maps;

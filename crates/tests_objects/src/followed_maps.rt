@@ -1,0 +1,194 @@
+//! Space maps that follow what groups plan and give back.
+ghost use Rattle.std.specs.Prelude.{◌<◌, IfOk};
+ghost use Rattle.dnode.specs.ObjectSet.{FitsObjectSet};
+ghost use Rattle.pool_maps.specs.Plans.{AreOrdered};
+
+use crate::meta::{EMPTY, with};
+use crate::stores::{Store, new_store, store_plan};
+use block_pointer::{Block, Property};
+use block_store::{CopyCount, NewBlock};
+use dnode::{ObjectSet, ObjectSetKind};
+use meta_objset::{MetaslabPlace, SpaceMaps, read_space_maps};
+use objset::{ObjectChange, Refusal, change};
+use pool_maps::plan_maps;
+use space_map::FreeSet;
+use space_map_objects::read_free_set;
+use std::alloc::Global;
+use std::test::Fail;
+
+/// A meta object set with no object: its blocks lie in the meta region.
+const META: ObjectSet = ObjectSet {
+    kind: ObjectSetKind::Meta,
+    ..EMPTY
+};
+
+/// A set whose object 4 is the table of no space maps.
+fn without_maps(store: &mut Store, alloc: Global) -> Result<ObjectSet, Refusal>
+    ensures { IfOk result FitsObjectSet }
+{
+    let maps = SpaceMaps::new(alloc);
+    match maps.creation(alloc) {
+        Ok(made) => with(&META, store, alloc, 4, made, 1),
+        Err(_) => Err(Refusal::NoMemory),
+    }
+}
+
+/// Plans a block of two copies, each of which takes six sectors.
+fn plan_block(store: &mut Store, alloc: Global, birth: u64) -> Result<Block, Refusal>
+    requires { 0 < birth }
+{
+    let bytes = vec![in alloc; 5u8; 2048]?;
+    let new = NewBlock {
+        property: Property {
+            level: 0,
+            object_type: 23,
+            sectors: 4,
+        },
+        birth,
+        fill: 1,
+    };
+    store.plan_write(alloc, bytes.as_slice(), new, CopyCount::Two)
+}
+
+/// The changes of the maps alone.
+fn maps_of(
+    set: &ObjectSet,
+    store: &mut Store,
+    alloc: Global,
+    birth: u64,
+    gone: &[Block],
+    next: u64,
+) -> Result<Vec<ObjectChange>, Refusal>
+    requires { FitsObjectSet set.now }
+    ensures { IfOk result (λ all. AreOrdered all.items) }
+{
+    plan_maps(set, store, alloc, birth, gone, Vec::new(alloc), next)
+}
+
+/// The set with the changes, once all that is planned is stored.
+fn stored_with(
+    set: &ObjectSet,
+    store: &mut Store,
+    alloc: Global,
+    changes: &[ObjectChange],
+    before: u64,
+    birth: u64,
+) -> Result<ObjectSet, Refusal>
+    requires set { FitsObjectSet set.now }
+    requires changes { AreOrdered changes.now }
+    requires born { 0 < birth }
+    ensures { IfOk result FitsObjectSet }
+{
+    let done = change(set, store, alloc, changes, before, birth, &[])?;
+    store_plan(store);
+    Ok(done.set)
+}
+
+/// What a metaslab's map leaves free, or all of it.
+fn free_by_map(
+    set: &ObjectSet,
+    store: &mut Store,
+    alloc: Global,
+    maps: &SpaceMaps,
+    index: u64,
+    birth: u64,
+) -> Result<FreeSet, Fail>
+    requires { FitsObjectSet set.now }
+{
+    match maps.get(MetaslabPlace { vdev: 0, index }) {
+        Some(map) => Ok(read_free_set(set, store, alloc, map.object, 4096, birth, &[])?),
+        None => Ok(FreeSet::new(alloc, 4096)?),
+    }
+}
+
+/// Whether a metaslab is there, of which a set's map leaves other sectors free than the store leaves unused.
+fn differs(
+    set: &ObjectSet,
+    store: &mut Store,
+    alloc: Global,
+    maps: &SpaceMaps,
+    index: u64,
+    birth: u64,
+) -> Result<bool, Fail>
+    requires { FitsObjectSet set.now }
+{
+    let free = free_by_map(set, store, alloc, maps, index, birth)?;
+    if store.has_metaslab(0, index as usize) {
+        let unused = store.unused_before(0, index as usize)?;
+        return Ok(unused.runs() != free.runs());
+    }
+    Ok(false)
+}
+
+/// In how many metaslabs before the meta region they do.
+fn differ(set: &ObjectSet, store: &mut Store, alloc: Global, birth: u64) -> Result<usize, Fail>
+    requires { FitsObjectSet set.now }
+{
+    let maps = read_space_maps(set, store, alloc, birth, &[])?;
+    let mut count = 0usize;
+    for index in 0..metaslabs(store) {
+        if differs(set, store, alloc, &maps, index, birth)? {
+            count = count.saturating_add(1);
+        }
+    }
+    Ok(count)
+}
+
+/// How many metaslabs the vdev has before its meta region.
+fn metaslabs(store: &Store) -> u64 {
+    if store.vdev_count() == 0 {
+        return 0;
+    }
+    store.shape(0).first_meta()
+}
+
+/// A group that plans a block and gives others back: the set behind it, the block, and how many changes of maps there were.
+fn one_group(
+    set: &ObjectSet,
+    store: &mut Store,
+    alloc: Global,
+    birth: u64,
+    gone: &[Block],
+    next: u64,
+) -> Result<(ObjectSet, Block, usize), Refusal>
+    requires set { FitsObjectSet set.now }
+    requires born { 1 < birth }
+    ensures { IfOk result (λ after. FitsObjectSet after.0) }
+{
+    store.begin_plan(birth)?;
+    let block = plan_block(store, alloc, birth)?;
+    let changes = maps_of(set, store, alloc, birth - 1, gone, next)?;
+    store.release(gone, birth)?;
+    let after = stored_with(set, store, alloc, changes.as_slice(), birth - 1, birth)?;
+    Ok((after, block, changes.len()))
+}
+
+/// What two groups make of the maps: the second gives back the block that the first planned. Of each how many changes there were, and
+/// in how many metaslabs the maps before and behind it differ from the store; and how many changes a plan of nothing has.
+fn followed(store: &mut Store, alloc: Global) -> Result<[usize; 7], Fail> {
+    let none = without_maps(store, alloc)?;
+    let (first, block, made) = one_group(&none, store, alloc, 2, &[], 5)?;
+    let behind = [
+        differ(&none, store, alloc, 1)?,
+        differ(&first, store, alloc, 2)?,
+    ];
+    let (second, _, more) = one_group(&first, store, alloc, 3, &[block], 7)?;
+    let later = [
+        differ(&first, store, alloc, 2)?,
+        differ(&second, store, alloc, 3)?,
+    ];
+    let idle = maps_of(&second, store, alloc, 3, &[], 9)?.len();
+    Ok([made, behind[0], behind[1], more, later[0], later[1], idle])
+}
+
+fn followed_in_memory(alloc: Global) -> Result<[usize; 7], Fail> {
+    let mut store = new_store(alloc)?;
+    followed(&mut store, alloc)
+}
+
+#[test]
+fn maps_follow_what_groups_plan(rt: HostRuntime) -> Result<(), Fail> {
+    let found = followed_in_memory(rt.alloc())?;
+    assert!(rt; found == [3, 2, 0, 2, 2, 0, 0]);
+    Ok(())
+}
