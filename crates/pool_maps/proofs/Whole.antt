@@ -53,8 +53,8 @@ module _ (objects : ℕ → Option Object) (spaces : List VdevSpace) (are : AreM
 
   pub sound : IsSound spaces first
   sound = record {
-    order = subst AreSpaceMaps (sym maps_are) are.table.0;
-    rows = subst (AreRowsOf spaces) (sym maps_are) are.rows;
+    order = subst AreSpaceMaps (sym maps_are) are.are.table.0;
+    rows = subst (AreRowsOf spaces) (sym maps_are) are.are.rows;
     below = all_from (λ (m : MetaslabMap). m.object < first.next) first.maps (λ row held. elim (cases_lt row.object first.next) [
       | inl less ↦ less
       | inr later ↦ absurd (no_map (subst HasShortMap (unmade row.object later)
@@ -75,7 +75,7 @@ module _ (objects : ℕ → Option Object) (spaces : List VdevSpace) (are : AreM
   pub ahead : AreAhead objects spaces AreAll first
   ahead place _ there = (
     λ free frees was. mapped_by objects (after_plan first objects) first.maps place free (λ row held of_place. row_stays row (in_maps row held))
-        (subst (λ maps. IsMapped objects maps place free) (sym maps_are) (are.each place free there frees was)),
+        (subst (λ maps. IsMapped objects maps place free) (sym maps_are) (are.are.each place free there frees was)),
     λ row held of_place. subst (λ them. All (λ (c : ObjectChange). c.number ≢ row.object) them) (sym changes_are) (lacks_row row (in_maps row held)),
   )
 
@@ -88,7 +88,7 @@ module _ (objects : ℕ → Option Object) (spaces : List VdevSpace) (are : AreM
       (All-contains (λ (m : MetaslabMap). HasShortMap (objects m.object)) are.maps row are.short (in_maps row held)))
 
   not_of_map : ¬ IsMapNumber first.maps first.next 4
-  not_of_map (inl (row, held, is)) = let behind = All-contains (λ (m : MetaslabMap). 4 < m.object) are.maps row are.rows.behind (in_maps row held) in omega (arith, behind, is)
+  not_of_map (inl (row, held, is)) = let behind = All-contains (λ (m : MetaslabMap). 4 < m.object) are.maps row are.are.rows.behind (in_maps row held) in omega (arith, behind, is)
   not_of_map (inr later) = let behind = sound.behind in omega (arith, behind, later)
 
   module _ (gone : List Block) (last : MapPlan) (goes : GoesOn first last) (last_sound : IsSound spaces last) (advances : Advances objects spaces gone AreAll first last) where
@@ -109,21 +109,23 @@ module _ (objects : ℕ → Option Object) (spaces : List VdevSpace) (are : AreM
         λ row held is. (let behind = All-contains (λ (m : MetaslabMap). 4 < m.object) last.maps row last_sound.rows.behind held in omega (arith, behind, is)) in
         record {
           maps = last.maps;
-          table = table;
-          rows = record {
-            places = all_from (λ (m : MetaslabMap). HasMapPlace after m.metaslab) last.maps
-                (λ row held. place_by spaces after row.metaslab shapes (All-contains (λ (m : MetaslabMap). HasMapPlace spaces m.metaslab) last.maps row last_sound.rows.places held));
-            behind = last_sound.rows.behind;
-            apart = last_sound.rows.apart;
+          are = record {
+            table = table;
+            rows = record {
+              places = all_from (λ (m : MetaslabMap). HasMapPlace after m.metaslab) last.maps
+                  (λ row held. place_by spaces after row.metaslab shapes (All-contains (λ (m : MetaslabMap). HasMapPlace spaces m.metaslab) last.maps row last_sound.rows.places held));
+              behind = last_sound.rows.behind;
+              apart = last_sound.rows.apart;
+            };
+            each = λ place free there frees unused.
+                let before : HasMapPlace spaces place = place_by after spaces place (sym shapes) there in
+                mapped_by (after_plan last objects) (changed all objects) last.maps place free (λ row held of_place. same row.object (not_table row held))
+                (advances.anew place tt before (ahead place tt before).0 free after group released frees unused);
           };
           short = all_from (λ (m : MetaslabMap). HasShortMap (changed all objects m.object)) last.maps
               (λ row held. subst (λ object. HasShortMap object) (sym (same row.object (not_table row held)))
               (All-contains (λ (m : MetaslabMap). HasShortMap (after_plan last objects m.object)) last.maps row
               (advances.short (λ place of_all there. (ahead place of_all there).0) first_kinds) held));
-          each = λ place free there frees unused.
-              let before : HasMapPlace spaces place = place_by after spaces place (sym shapes) there in
-              mapped_by (after_plan last objects) (changed all objects) last.maps place free (λ row held of_place. same row.object (not_table row held))
-              (advances.anew place tt before (ahead place tt before).0 free after group released frees unused);
         }
 
     -- no metaslab got its first map: the table is as it was
@@ -132,7 +134,7 @@ module _ (objects : ℕ → Option Object) (spaces : List VdevSpace) (are : AreM
       last_may,
       anew_by last.changes.items
           (subst (λ maps. HasSpaceMaps (after_plan last objects 4) maps) (sym ((goes.idle idle).0 ∙ maps_are))
-          (subst (λ object. HasSpaceMaps object are.maps) (sym (changed_left last.changes.items objects 4 table_apart)) are.table))
+          (subst (λ object. HasSpaceMaps object are.maps) (sym (changed_left last.changes.items objects 4 table_apart)) are.are.table))
           (λ number other. refl),
     )
 
@@ -141,9 +143,9 @@ module _ (objects : ℕ → Option Object) (spaces : List VdevSpace) (are : AreM
         → ((object : Object) → IsOfKind maps_kind object → MayChange change (Some object) × HasSpaceMaps (after_change change (Some object)) last.maps)
         → MayBeMade objects all × MapAnew objects spaces gone all
     anew_grown all change put table =
-        let there = are.table.1.there in
-        let is : objects 4 ≡ Some there = are.table.1.is in
-        let made = table there are.table.1.of_kind in (
+        let there = are.are.table.1.there in
+        let is : objects 4 ≡ Some there = are.are.table.1.is in
+        let made = table there are.are.table.1.of_kind in (
           all_put last.changes.items all (record { number = 4; change = change }) put (λ (c : ObjectChange). MayChange c.change (objects c.number)) last_may
               (subst (MayChange change) (sym is) made.0),
           anew_by all

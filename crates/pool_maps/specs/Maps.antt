@@ -57,11 +57,15 @@ pub record HasShortMap (object : Option Object) : Type 0 where
 abbrev pub AreShortMaps : (ℕ → Option Object) → List MetaslabMap → Type 0
 AreShortMaps objects maps = All (λ map. HasShortMap (objects map.object)) maps
 
--- Object 4 has the table of the space maps, and none of them has grown long. Of each metaslab before a meta region they leave free what these marks leave unused.
-pub record AreMapsOf (objects : ℕ → Option Object) (spaces : List VdevSpace) (marks : Marks) : Type 0 where
-  pub maps : List MetaslabMap
+-- Object 4 has this table of space maps. Of each metaslab before a meta region they leave free what these marks leave unused.
+pub record AreMaps (objects : ℕ → Option Object) (spaces : List VdevSpace) (marks : Marks) (maps : List MetaslabMap) : Type 0 where
   pub table : HasSpaceMaps (objects 4) maps
   pub rows : AreRowsOf spaces maps
-  pub short : AreShortMaps objects maps
   pub each : (place : MetaslabPlace) (free : FreeRuns) → HasMapPlace spaces place → AreFree free
       → LeavesUnused spaces marks place.vdev place.index free → IsMapped objects maps place free
+
+-- object 4 has such a table, and none of the maps has grown long
+pub record AreMapsOf (objects : ℕ → Option Object) (spaces : List VdevSpace) (marks : Marks) : Type 0 where
+  pub maps : List MetaslabMap
+  pub are : AreMaps objects spaces marks maps
+  pub short : AreShortMaps objects maps

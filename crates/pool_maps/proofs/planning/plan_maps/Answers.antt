@@ -27,7 +27,7 @@ returns-in_err-maps-clause-known g c =
     (λ stored objects own blocks held aobj honest are others after group released.
     elim (c.in_err-maps.ensures.known stored objects own blocks held aobj honest) [
       | inl loss ↦ inl loss
-      | inr (bad, none) ↦ absurd (none are.maps are.table)
+      | inr (bad, none) ↦ absurd (none are.maps are.are.table)
     ])
 
 pub returns-in_err-plan_all-clause-reads : goal.returns-in_err-plan_all-clause-reads
@@ -92,7 +92,7 @@ returns-in_err-plan_all-clause-known g c =
     let first : MapPlan = record { maps = c.in_ok-maps.maps; grown = false; changes = c.args.changes; next = c.args.next } in
     passed_on _ _ _ c.from_residual-in_err-plan_all.ensures.1
     (λ stored objects own blocks held aobj honest are others after group released.
-    let maps_are = c.in_ok-maps.ensures.one stored objects own blocks held aobj (true_before old mid c.plan_all.new.store c.plan_all.ensures.reads.reads honest) are.maps are.table in
+    let maps_are = c.in_ok-maps.ensures.one stored objects own blocks held aobj (true_before old mid c.plan_all.new.store c.plan_all.ensures.reads.reads honest) are.maps are.are.table in
     c.in_err-plan_all.ensures.known stored objects own blocks (c.read_space_maps.ensures.reads.keeps stored held) aobj (true_after old mid c.plan_all.new.store c.read_space_maps.ensures.reads.reads honest)
     (subst (λ (spaces : List VdevSpace). IsSound spaces first) (sym same) (sound objects old.spaces are c.args.changes.items c.args.next others first maps_are refl refl))
     (unmade objects old.spaces are c.args.changes.items c.args.next others first maps_are refl refl)
@@ -109,7 +109,7 @@ returns-clause-known g c =
     let last = c.plan_all.new.self in
     IfErr-weaker c.with_table.result _ _
     (λ refusal cause stored objects own blocks held aobj honest are others after group released.
-    let maps_are = c.in_ok-maps.ensures.one stored objects own blocks held aobj (true_before old mid c.plan_all.new.store c.plan_all.ensures.reads.reads honest) are.maps are.table in
+    let maps_are = c.in_ok-maps.ensures.one stored objects own blocks held aobj (true_before old mid c.plan_all.new.store c.plan_all.ensures.reads.reads honest) are.maps are.are.table in
     let is_sound = sound objects old.spaces are c.args.changes.items c.args.next others first maps_are refl refl in
     let advances = subst (λ (spaces : List VdevSpace). Advances objects spaces c.args.gone.now AreAll first last) same
     (c.in_ok-plan_all.ensures.advances stored objects own blocks (c.read_space_maps.ensures.reads.keeps stored held) aobj (true_after old mid c.plan_all.new.store c.read_space_maps.ensures.reads.reads honest)
@@ -133,7 +133,7 @@ returns-clause-value g c =
     let last = c.plan_all.new.self in
     IfOk-weaker c.with_table.result _ _
     (λ all both stored objects own blocks held aobj honest are others.
-    let maps_are = c.in_ok-maps.ensures.one stored objects own blocks held aobj (true_before old mid c.plan_all.new.store c.plan_all.ensures.reads.reads honest) are.maps are.table in
+    let maps_are = c.in_ok-maps.ensures.one stored objects own blocks held aobj (true_before old mid c.plan_all.new.store c.plan_all.ensures.reads.reads honest) are.maps are.are.table in
     let is_sound = sound objects old.spaces are c.args.changes.items c.args.next others first maps_are refl refl in
     let advances = subst (λ (spaces : List VdevSpace). Advances objects spaces c.args.gone.now AreAll first last) same
     (c.in_ok-plan_all.ensures.advances stored objects own blocks (c.read_space_maps.ensures.reads.keeps stored held) aobj (true_after old mid c.plan_all.new.store c.read_space_maps.ensures.reads.reads honest)
