@@ -1,4 +1,5 @@
 -- A plan that goes on, step by step.
+use Rattle.objset.specs.declared.changes.ObjectChange.{ObjectChange}
 use Rattle.std.proofs.Common.{◌⊎◌, ℕ, ◌≤◌, List, Option, inl, inr, refl, subst, ◌∙◌, arith}
 use Rattle.block_pointer.specs.declared.block.Block.{Block}
 use Rattle.block_store.specs.Spaces.{VdevSpace}
@@ -6,7 +7,7 @@ use Rattle.meta_objset.specs.declared.space_maps.MetaslabPlace.{MetaslabPlace}
 use Rattle.objset.specs.Objects.{Object}
 use Rattle.pool_maps.specs.declared.steps.MapPlan.{MapPlan}
 use Rattle.pool_maps.specs.Maps.{HasMapPlace}
-use Rattle.pool_maps.specs.Plans.{Advances, AreAhead, AreOrdered, AreUnmade, GoesOn, IsMapNumber, IsStep}
+use Rattle.pool_maps.specs.Plans.{Advances, AreAhead, AreOrdered, AreUnmade, GoesOn, IsForMetaslab, IsMapNumber, IsStep}
 
 pub stands : (plan : MapPlan) → GoesOn plan plan
 stands plan = record {
@@ -44,12 +45,35 @@ goes_further old mid new first rest = record {
   idle = λ is. let later = rest.idle is in let sooner = first.idle later.1 in (later.0 ∙ sooner.0, sooner.1);
 }
 
-pub no_step : (spaces : List VdevSpace) (plan : MapPlan) → AreOrdered plan.changes.items → IsStep spaces plan plan
-no_step spaces plan ordered = record { ordered = ordered; goes_on = stands plan; sound = λ is. is; below = λ is are. are }
+pub no_step : (spaces : List VdevSpace) (gone : List Block) (plan : MapPlan) → AreOrdered plan.changes.items → IsStep spaces gone plan plan
+no_step spaces gone plan ordered = record { ordered = ordered; goes_on = stands plan; spare = λ change held. inl held; sound = λ is. is; below = λ is are. are }
 
-pub step_on : (spaces : List VdevSpace) (old mid new : MapPlan) → IsStep spaces old mid → IsStep spaces mid new → IsStep spaces old new
-step_on spaces old mid new first rest = record {
+metaslab_sooner : (spaces : List VdevSpace) (gone : List Block) (old mid : MapPlan) (change : ObjectChange) → GoesOn old mid → IsForMetaslab spaces gone mid.maps mid.next change
+    → IsForMetaslab spaces gone old.maps old.next change
+metaslab_sooner spaces gone old mid change first is = record {
+  place = is.place;
+  there = is.there;
+  before = is.before;
+  free = is.free;
+  was = is.was;
+  is = is.is;
+  differ = is.differ;
+  number = elim is.number [
+    | inl (row, held, of, number) ↦ elim (first.added row held) [
+      | inl sooner ↦ inl (row, sooner, of, number)
+      | inr made ↦ inr (subst (λ n. old.next ≤ n) number made)
+    ]
+    | inr later ↦ inr (let from = first.next in omega (arith, from, later))
+  ];
+}
+
+pub step_on : (spaces : List VdevSpace) (gone : List Block) (old mid new : MapPlan) → IsStep spaces gone old mid → IsStep spaces gone mid new → IsStep spaces gone old new
+step_on spaces gone old mid new first rest = record {
   ordered = rest.ordered;
+  spare = λ change held. elim (rest.spare change held) [
+    | inl before ↦ first.spare change before
+    | inr is ↦ inr (metaslab_sooner spaces gone old mid change first.goes_on is)
+  ];
   goes_on = goes_further old mid new first.goes_on rest.goes_on;
   sound = λ is. rest.sound (first.sound is);
   below = λ is are. rest.below (first.sound is) (first.below is are);

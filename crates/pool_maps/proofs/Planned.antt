@@ -1,5 +1,5 @@
 -- The plan of one metaslab's map.
-use Rattle.std.proofs.Common.{◌≡◌, ◌≢◌, ℕ, ◌<◌, ◌≤◌, Bool, true, false, true≢false, length, List, [], ◌∷◌, None, Option, Result, Ok, Err, All, AllPairs, Contains, inl, inr, refl, sym, ap, subst, ◌∙◌, arith}
+use Rattle.std.proofs.Common.{◌≡◌, ◌≢◌, ℕ, ◌<◌, ◌≤◌, Bool, true, false, true≢false, length, List, [], ◌∷◌, None, Option, Result, Ok, Err, All, AllPairs, Contains, inl, inr, refl, sym, ap, subst, ◌∙◌, arith, ◌⊎◌}
 use Rattle.std.specs.Prelude.{OnOk}
 use Rattle.std.specs.Bool.{OnTrue}
 use Rattle.std.proofs.lemmas.Bool.{cases_eq}
@@ -22,11 +22,11 @@ use Rattle.space_map_objects.specs.Maps.{HasMap}
 use Rattle.pool_maps.specs.declared.steps.MapPlan.{MapPlan}
 use Rattle.pool_maps.specs.declared.update.Update.{Update}
 use Rattle.pool_maps.specs.Maps.{AreShortMaps, AreRowsOf, HasMapPlace, HasShortMap, IsMapped}
-use Rattle.pool_maps.specs.Plans.{Advances, AreBelow, AreOrdered, AreUnmade, GoesOn, IsMade, IsMappedYet, IsRewritten, IsSound, IsStep, IsThat, IsUntouched, after_plan, numbers_end}
+use Rattle.pool_maps.specs.Plans.{Advances, AreBelow, AreOrdered, AreUnmade, GoesOn, IsForMetaslab, IsMade, IsMappedYet, IsRewritten, IsSound, IsStep, IsThat, IsUntouched, after_plan, numbers_end}
 use Rattle.pool_maps.specs.Refused.{IsTaken}
 use Rattle.pool_maps.specs.Updates.{IsUpdateOf, LeadsFrom, Says}
 use Rattle.pool_maps.proofs.Among.{all_put, becomes, kept, only, others_stay, was}
-use Rattle.pool_maps.proofs.Sets.{map_same, mapped_same, nothing_leads, same_twice, same_unused}
+use Rattle.pool_maps.proofs.Sets.{map_same, mapped_same, nothing_leads, same_twice, some_differ, same_unused}
 
 -- ---- rows
 
@@ -100,6 +100,19 @@ module _ (objects : ℕ → Option Object) (spaces : List VdevSpace) (gone : Lis
     short = λ yet are. are;
   }
 
+  for_it : (maps : List MetaslabMap) (next : ℕ) (change : ObjectChange) → HasMapPlace spaces place → update.entries.items ≢ []
+      → ((row : MetaslabMap) × Contains maps row × (row.metaslab ≡ place) × (row.object ≡ change.number)) ⊎ (next ≤ change.number) → IsForMetaslab spaces gone maps next change
+  for_it maps next change is_place some number = record {
+    place = place;
+    there = is_place;
+    before = is.before;
+    free = update.free;
+    was = is.was;
+    is = is.is;
+    differ = some_differ is.before update is.leads some;
+    number = number;
+  }
+
   -- ---- a map that gets entries, or is written anew
 
   module _ (old new : MapPlan) (row : MetaslabMap) (change : Change) (there : Contains old.maps row) (of : row.metaslab ≡ place)
@@ -122,10 +135,14 @@ module _ (objects : ℕ → Option Object) (spaces : List VdevSpace) (gone : Lis
     below_row : IsSound spaces old → row.object < old.next
     below_row sound = All-contains (λ (m : MetaslabMap). m.object < old.next) old.maps row sound.below there
 
-    pub rewritten_step : AreOrdered new.changes.items → IsStep spaces old new
-    rewritten_step ordered = record {
+    pub rewritten_step : AreOrdered new.changes.items → HasMapPlace spaces place → update.entries.items ≢ [] → IsStep spaces gone old new
+    rewritten_step ordered is_place some = record {
       ordered = ordered;
       goes_on = rewritten_goes;
+      spare = λ other held. elim (only old.changes.items new.changes.items (record { number = row.object; change = change }) by.put other held) [
+        | inl before ↦ inl before
+        | inr new_is ↦ inr (for_it old.maps old.next other is_place some (inl (row, there, of, ap (λ (c : ObjectChange). c.number) new_is)))
+      ];
       sound = λ sound. record {
         order = subst AreSpaceMaps (sym by.maps) sound.order;
         rows = subst (AreRowsOf spaces) (sym by.maps) sound.rows;
@@ -229,10 +246,14 @@ module _ (objects : ℕ → Option Object) (spaces : List VdevSpace) (gone : Lis
       | inr made ↦ subst P (sym made) is
     ])
 
-    pub made_step : AreOrdered new.changes.items → HasMapPlace spaces place → IsStep spaces old new
-    made_step ordered is_place = record {
+    pub made_step : AreOrdered new.changes.items → HasMapPlace spaces place → update.entries.items ≢ [] → IsStep spaces gone old new
+    made_step ordered is_place some = record {
       ordered = ordered;
       goes_on = made_goes;
+      spare = λ other held. elim (only old.changes.items new.changes.items (record { number = old.next; change = change }) by.put other held) [
+        | inl before ↦ inl before
+        | inr new_is ↦ inr (for_it old.maps old.next other is_place some (inr (let same = ap (λ (c : ObjectChange). c.number) new_is in omega (arith, same))))
+      ];
       sound = λ sound. record {
         order = by.order;
         rows = record {
@@ -340,6 +361,9 @@ ok_by (Err e) f p = tt
 pub at_true : (b : Bool) (P : Type 0) → b ≡ true → OnTrue b P → P
 at_true true P is holds = holds
 at_true false P is holds = absurd (true≢false (sym is))
+
+pub not_empty : (bytes : List ℕ) → 0 < length bytes → bytes ≢ []
+not_empty bytes some none = (let is = ap length none in omega (arith, some, is))
 
 pub empty_of : (bytes : List ℕ) → length bytes ≡ 0 → bytes ≡ []
 empty_of [] none = refl

@@ -1,6 +1,7 @@
 -- Sets of the sectors of a metaslab, and maps that leave them free.
-use Rattle.std.proofs.Common.{◌≡◌, ℕ, ◌/◌, List, [], ◌∷◌, ◌++◌, length, Option, inl, inr, refl, sym, ap, subst, ◌∙◌, arith, map}
+use Rattle.std.proofs.Common.{◌≡◌, ℕ, ◌/◌, List, [], ◌∷◌, ◌++◌, length, Option, inl, inr, refl, sym, ap, subst, ◌∙◌, arith, map, Bool, true, false, not, true≢false, ◌≢◌, ◌<◌, ◌+◌}
 use Rattle.std.specs.List.{slice_get}
+use Rattle.std.proofs.lemmas.Bool.Decides.{nat_tests}
 use Rattle.block_store.specs.Maps.{LeavesUnused}
 use Rattle.block_store.specs.Places.{Marks}
 use Rattle.block_store.specs.Spaces.{VdevSpace}
@@ -16,11 +17,11 @@ use Rattle.raidz_io.proofs.Written.{same_some}
 use Rattle.space_map.specs.declared.entry.Entry.{Entry}
 use Rattle.space_map.specs.Entry.{entry_word, spelling}
 use Rattle.space_map.specs.FreeRuns.{FreeRuns, AreFree}
-use Rattle.space_map.specs.Map.{all_free, free_set, IsMap}
-use Rattle.space_map.specs.Sectors.{contains}
-use Rattle.space_map.specs.Updates.{IsMapOf}
+use Rattle.space_map.specs.Map.{after, all_free, free_set, is_freed, IsMap}
+use Rattle.space_map.specs.Sectors.{contains, names}
+use Rattle.space_map.specs.Updates.{AreLongest, IsMapOf, IsUpdate}
 use Rattle.space_map.proofs.Updates.{map_updated}
-use Rattle.space_map_objects.specs.Maps.{HasCondensedMap, HasMap, LeavesFree, map_kind}
+use Rattle.space_map_objects.specs.Maps.{HasMap, LeavesFree, map_kind}
 use Rattle.pool_maps.specs.declared.update.Update.{Update}
 use Rattle.pool_maps.specs.Maps.{IsMapped}
 use Rattle.pool_maps.specs.Updates.{LeadsFrom}
@@ -99,3 +100,34 @@ nothing_leads before update leads none =
       sectors = sym leads.sectors;
       each = λ s. subst (λ es. free_set (contains before.runs) es s ≡ contains update.free.runs s) es_is (leads.entries.1.leads s);
     }
+
+-- ---- entries, and what differs by them
+
+-- entries that ascend from a sector on leave those before it
+untouched : (es : List Entry) (from s : ℕ) (set : ℕ → Bool) → AreLongest from es → s < from → free_set set es s ≡ set s
+untouched [] from s set longest low = refl
+untouched (e ∷ es) from s set (start, goes, rest) low =
+    let apart : names e.run s ≡ false = grind (arith, nat_tests) in
+    let later : free_set (after set e) es s ≡ after set e s = untouched es (e.run.start + e.run.len) s (after set e) rest (omega (arith, start, low)) in
+    later ∙ rw apart refl
+
+not_both : (b : Bool) → b ≢ not b
+not_both true is = true≢false is
+not_both false is = true≢false (sym is)
+
+first_differs : (sectors : ℕ) (old new : ℕ → Bool) (e : Entry) (es : List Entry) → IsUpdate sectors old new (e ∷ es) → old e.run.start ≢ new e.run.start
+first_differs sectors old new e es is same =
+    let some = is.fit.0.not_empty in
+    let named : names e.run e.run.start ≡ true = grind (arith, nat_tests) in
+    let was : old e.run.start ≡ not (is_freed e.kind) = is.is_map.0.each e.run.start named in
+    let later : free_set (after old e) es e.run.start ≡ after old e e.run.start =
+    untouched es (e.run.start + e.run.len) e.run.start (after old e) is.longest.2 (omega (arith, some)) in
+    let now : after old e e.run.start ≡ is_freed e.kind = rw named refl in
+    not_both (is_freed e.kind) (sym now ∙ sym later ∙ is.leads e.run.start ∙ sym same ∙ was)
+
+pub some_differ : (before : FreeRuns) (update : Update) → LeadsFrom before update → update.entries.items ≢ [] → before.runs ≢ update.free.runs
+some_differ before update leads some same = go leads.entries.0 leads.entries.1 leads.entries.2
+  where
+    go : (es : List Entry) → IsUpdate before.sectors (contains before.runs) (contains update.free.runs) es → update.entries.items ≡ [] ++ spelling es → ⊥
+    go [] is none = some none
+    go (e ∷ es) is are = first_differs before.sectors (contains before.runs) (contains update.free.runs) e es is (ap (λ runs. contains runs e.run.start) same)

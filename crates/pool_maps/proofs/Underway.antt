@@ -27,7 +27,7 @@ use Rattle.pool_maps.proofs.Going.{advances_as, advances_on, ahead_still, goes_f
 -- the maps of these metaslabs were planned
 pub record Underway (old new : Store) (set : ObjectSet) (birth : ℕ) (gone : List Block) (are : MetaslabPlace → Type 0) (first last : MapPlan) : Type 0 where
   pub reads : OnlyReadsBlocks old new []
-  pub step : IsStep old.spaces first last
+  pub step : IsStep old.spaces gone first last
   pub advances : (stored : Contents) (objects : ℕ → Option Object) (own : List Block) (blocks : ℕ → List Block) → Holds old stored
       → AreObjects stored birth set objects own blocks → AnswersAreTrue old new → IsSound old.spaces first → AreUnmade first objects
       → Advances objects old.spaces gone are first last
@@ -47,7 +47,7 @@ pub none_yet : (store : Store) (set : ObjectSet) (birth : ℕ) (gone : List Bloc
     → Underway store store set birth gone (λ place. ⊥) plan plan
 none_yet store set birth gone plan ordered = record {
   reads = reads_none store [];
-  step = no_step store.spaces plan ordered;
+  step = no_step store.spaces gone plan ordered;
   advances = λ stored objects own blocks held are honest sound unmade. none_advances objects store.spaces gone plan;
 }
 
@@ -59,7 +59,7 @@ module _ (old mid new : Store) (set : ObjectSet) (birth : ℕ) (gone : List Bloc
   pub one_more : (last : MapPlan) → Underway mid new set birth gone rest now last → Underway old new set birth gone (λ place. are place ⊎ rest place) first last
   one_more last two = record {
     reads = reads_on old mid new [] one.reads two.reads;
-    step = step_on old.spaces first now last one.step (subst (λ spaces. IsStep spaces now last) same two.step);
+    step = step_on old.spaces gone first now last one.step (subst (λ spaces. IsStep spaces gone now last) same two.step);
     advances = λ stored objects own blocks held of honest sound unmade.
         let before = one.advances stored objects own blocks held of (true_before old mid new two.reads.reads honest) sound unmade in
         let later = two.advances stored objects own blocks (one.reads.keeps stored held) of (true_after old mid new one.reads.reads honest)

@@ -1,6 +1,5 @@
 -- All maps of a plan.
 use Rattle.std.proofs.Common.{◌≡◌, ◌≢◌, ℕ, ◌<◌, ◌≤◌, false, List, Some, None, Option, All, Contains, inl, inr, refl, sym, ap, subst, ◌∙◌, arith}
-use Rattle.std.specs.Prelude.{IsSomeAnd}
 use Rattle.std.proofs.lemmas.Bool.{cases_lt}
 use Rattle.std.proofs.lemmas.List.Elements.{All-contains}
 use Rattle.block_pointer.specs.declared.block.Block.{Block}
@@ -21,7 +20,6 @@ use Rattle.objset.specs.declared.changes.ObjectChange.{ObjectChange}
 use Rattle.objset.specs.Changes.{MayChange, after_change, changed}
 use Rattle.objset.specs.Objects.{Object}
 use Rattle.objset.proofs.Numbers.{changed_left}
-use Rattle.space_map_objects.specs.Maps.{map_kind}
 use Rattle.pool_maps.specs.declared.steps.MapPlan.{MapPlan}
 use Rattle.pool_maps.specs.Maps.{AreMapsOf, AreShortMaps, AreRowsOf, HasMapPlace, HasShortMap, IsMapped}
 use Rattle.pool_maps.specs.Plans.{Advances, AreAhead, AreAll, AreBelow, AreOfOthers, AreUnmade, GoesOn, IsMapNumber, IsPutIn, IsSound, MapAnew, MayBeMade, after_plan, numbers_end}

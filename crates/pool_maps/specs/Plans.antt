@@ -44,6 +44,25 @@ pub record AreOfOthers (objects : ℕ → Option Object) (changes : List ObjectC
   pub behind : 4 < next
   pub within : next ≤ numbers_end
 
+-- The change is of a map, or makes one, of a metaslab of which other sectors are unused with the plan, once these blocks are given back,
+-- than the stored blocks leave unused.
+pub record IsForMetaslab (spaces : List VdevSpace) (gone : List Block) (maps : List MetaslabMap) (next : ℕ) (change : ObjectChange)
+    : Type 0 where
+  pub place : MetaslabPlace
+  pub there : HasMapPlace spaces place
+  pub before : FreeRuns
+  pub free : FreeRuns
+  pub was : LeavesUnused spaces filled place.vdev place.index before
+  pub is : (after : List VdevSpace) (group : ℕ) → AreReleased spaces (copies_of_all gone) group after
+      → LeavesUnused after planned place.vdev place.index free
+  pub differ : before.runs ≢ free.runs
+  pub number : ((row : MetaslabMap) × Contains maps row × (row.metaslab ≡ place) × (row.object ≡ change.number)) ⊎ (next ≤ change.number)
+
+-- each change is one of the others, is of the maps' table, or is of a map of such a metaslab
+abbrev pub AreSparing : List VdevSpace → List Block → List MetaslabMap → ℕ → List ObjectChange → List ObjectChange → Type 0
+AreSparing spaces gone maps next changes all = (change : ObjectChange) → Contains all change
+    → Contains changes change ⊎ ((change.number ≡ 4) ⊎ IsForMetaslab spaces gone maps next change)
+
 -- Behind the changes, once these blocks are given back, the space maps leave free what is unused with the plan.
 abbrev pub MapAnew : (ℕ → Option Object) → List VdevSpace → List Block → List ObjectChange → Type 0
 MapAnew objects spaces gone changes = (after : List VdevSpace) (group : ℕ) → AreReleased spaces (copies_of_all gone) group after
@@ -93,9 +112,11 @@ pub record GoesOn (old new : MapPlan) : Type 0 where
   pub idle : new.grown ≡ false → (new.maps ≡ old.maps) × (old.grown ≡ false)
 
 -- the plan went on, and the changes are of objects still, each once
-pub record IsStep (spaces : List VdevSpace) (old new : MapPlan) : Type 0 where
+pub record IsStep (spaces : List VdevSpace) (gone : List Block) (old new : MapPlan) : Type 0 where
   pub ordered : AreOrdered new.changes.items
   pub goes_on : GoesOn old new
+  pub spare : (change : ObjectChange) → Contains new.changes.items change
+      → Contains old.changes.items change ⊎ IsForMetaslab spaces gone old.maps old.next change
   pub sound : IsSound spaces old → IsSound spaces new
   pub below : IsSound spaces old → AreBelow old → AreBelow new
 

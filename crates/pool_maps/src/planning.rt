@@ -14,7 +14,8 @@ ghost use Rattle.meta_objset.specs.declared.space_maps.MetaslabMap.{MetaslabMap}
 ghost use Rattle.meta_objset.specs.declared.space_maps.MetaslabPlace.{MetaslabPlace};
 ghost use Rattle.objset.specs.Objects.{Object, AreObjects};
 ghost use Rattle.pool_maps.specs.Maps.{AreMapsOf};
-ghost use Rattle.pool_maps.specs.Plans.{AreOfOthers, AreOrdered, MapAnew, MayBeMade, OthersStay};
+ghost use Rattle.pool_maps.specs.Plans.{AreOfOthers, AreOrdered, AreSparing, MapAnew, MayBeMade};
+ghost use Rattle.pool_maps.specs.Plans.{OthersStay};
 ghost use Rattle.pool_maps.specs.Refused.{IsPlanRefused};
 
 use crate::steps::MapPlan;
@@ -48,10 +49,11 @@ pub fn plan_maps<D: Disk + Drop>(
     ensures reads { OnlyReadsBlocks store.old store.new [] }
     ensures ordered { IfOk result (λ all. AreOrdered all.items) }
 
-    // Whatever the set is: which other objects stay, and on a refusal its cause.
+    // Whatever the set is: which other objects stay, that no map is changed of which nothing is to change, and on a refusal its cause.
     ensures others { IfOk result (λ all. (maps : List MetaslabMap)
         × AreMapsFound store.old.spaces set.now birth maps
-        × OthersStay maps next changes.items all.items) }
+        × OthersStay maps next changes.items all.items
+        × AreSparing store.old.spaces gone.now maps next changes.items all.items) }
     ensures refused { IfErr result (λ refusal. (refusal ≡ Refusal.NoMemory)
         ⊎ IsPlanRefused store.old store.new set.now birth gone.now changes.items next refusal) }
 

@@ -69,7 +69,7 @@ impl MapPlan {
         requires set { FitsObjectSet set.now }
         requires ordered { AreOrdered self.old.changes.items }
         ensures reads { OnlyReadsBlocks store.old store.new [] }
-        ensures step { OnOk result (IsStep store.old.spaces self.old self.new) }
+        ensures step { OnOk result (IsStep store.old.spaces gone.now self.old self.new) }
         ensures advances { OnOk result ((stored : Contents) (objects : ℕ → Option Object)
             (own : List Block) (blocks : ℕ → List Block) → Holds store.old stored
             → AreObjects stored birth set.now objects own blocks
@@ -107,7 +107,7 @@ impl MapPlan {
         requires there { vdev < length store.old.spaces }
         requires ordered { AreOrdered self.old.changes.items }
         ensures reads { OnlyReadsBlocks store.old store.new [] }
-        ensures step { OnOk result (IsStep store.old.spaces self.old self.new) }
+        ensures step { OnOk result (IsStep store.old.spaces gone.now self.old self.new) }
         ensures advances { OnOk result ((stored : Contents) (objects : ℕ → Option Object)
             (own : List Block) (blocks : ℕ → List Block) → Holds store.old stored
             → AreObjects stored birth set.now objects own blocks
@@ -150,7 +150,7 @@ impl MapPlan {
         requires place { HasMapPlace store.old.spaces place }
         requires ordered { AreOrdered self.old.changes.items }
         ensures reads { OnlyReadsBlocks store.old store.new [] }
-        ensures step { OnOk result (IsStep store.old.spaces self.old self.new) }
+        ensures step { OnOk result (IsStep store.old.spaces gone.now self.old self.new) }
         ensures advances { OnOk result ((stored : Contents) (objects : ℕ → Option Object)
             (own : List Block) (blocks : ℕ → List Block) → Holds store.old stored
             → AreObjects stored birth set.now objects own blocks

@@ -1,4 +1,4 @@
-use Rattle.std.proofs.Common.{rules, false, [], List, inl, inr, refl, sym, ap, subst, ◌∙◌}
+use Rattle.std.proofs.Common.{rules, false, [], List, Contains, inl, inr, refl, sym, ap, subst, ◌∙◌, ◌⊎◌, ◌≡◌}
 use Rattle.std.proofs.lemmas.Result.{IfOk-weaker, IfErr-weaker}
 use Rattle.block_store.specs.Releases.{AreReleased, copies_of_all}
 use Rattle.block_store.specs.Spaces.{VdevSpace}
@@ -9,8 +9,8 @@ use Rattle.metaslab.proofs.Holding.{cases}
 use Rattle.objset.specs.Changes.{changed}
 use Rattle.objset.specs.declared.changes.ObjectChange.{ObjectChange}
 use Rattle.pool_maps.specs.declared.steps.MapPlan.{MapPlan}
-use Rattle.pool_maps.specs.Plans.{Advances, AreAhead, AreAll, IsSound, MapAnew, MayBeMade}
-use Rattle.pool_maps.proofs.Among.{others_stay}
+use Rattle.pool_maps.specs.Plans.{Advances, AreAhead, AreAll, IsForMetaslab, IsSound, MapAnew, MayBeMade}
+use Rattle.pool_maps.proofs.Among.{only, others_stay}
 use Rattle.pool_maps.proofs.Underway.{spaces_stay}
 use Rattle.pool_maps.proofs.Whole.{ahead, anew_grown, anew_idle, below, sound, table_apart, unmade}
 use Rattle.pool_maps.proofs.planning.plan_maps.Goals as goal
@@ -70,6 +70,13 @@ returns-clause-refused g c =
 pub returns-clause-others : goal.returns-clause-others
 returns-clause-others g c =
     let last = c.plan_all.new.self in
+    let same = spaces_stay c.args.store.now c.read_space_maps.new.store [] c.read_space_maps.ensures.reads in
+    let spare : (change : ObjectChange) → Contains last.changes.items change
+    → Contains c.args.changes.items change ⊎ ((change.number ≡ 4) ⊎ IsForMetaslab c.args.store.now.spaces c.args.gone.now c.in_ok-maps.maps c.args.next change) =
+    λ change held. elim (c.in_ok-plan_all.ensures.step.spare change held) [
+      | inl before ↦ inl before
+      | inr is ↦ inr (inr (subst (λ (spaces : List VdevSpace). IsForMetaslab spaces c.args.gone.now c.in_ok-maps.maps c.args.next change) same is))
+    ] in
     IfOk-weaker c.with_table.result _ _
     (λ all both. (
       c.in_ok-maps.maps,
@@ -80,6 +87,15 @@ returns-clause-others g c =
             | inl grown ↦ let made = both.1 grown in
                 others_stay last.changes.items all.items (record { number = 4; change = made.0 }) made.1 objects number (λ same. not_table (sym same)) ∙ before
             | inr idle ↦ ap (λ (them : List ObjectChange). changed them objects number) (both.0 idle) ∙ before
+          ],
+      λ change held.
+          elim (cases last.grown) [
+            | inl grown ↦ let made = both.1 grown in
+                elim (only last.changes.items all.items (record { number = 4; change = made.0 }) made.1 change held) [
+                  | inl sooner ↦ spare change sooner
+                  | inr table ↦ inr (inl (sym (ap (λ (c : ObjectChange). c.number) table)))
+                ]
+            | inr idle ↦ spare change (subst (λ (them : List ObjectChange). Contains them change) (both.0 idle) held)
           ],
     ))
     (both_ok c.with_table.result _ _ c.with_table.ensures.same c.with_table.ensures.table)

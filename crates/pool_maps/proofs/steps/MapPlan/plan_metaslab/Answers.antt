@@ -1,7 +1,7 @@
-use Rattle.std.proofs.Common.{◌≡◌, None, length, inl, inr, refl, arith}
+use Rattle.std.proofs.Common.{rules, ◌≡◌, None, length, inl, inr, refl, arith}
 use Rattle.std.proofs.lemmas.Bool.Decides.{nat_tests}
 use Rattle.std.proofs.lemmas.Result.{IfErr-weaker}
-use Rattle.pool_maps.proofs.Planned.{both_ok, empty_of, had_map, made_advances, made_step, not_taken, ok_by, rewritten_advances, rewritten_step, stays_so}
+use Rattle.pool_maps.proofs.Planned.{both_ok, empty_of, had_map, made_advances, made_step, not_empty, not_taken, ok_by, rewritten_advances, rewritten_step, stays_so}
 use Rattle.pool_maps.proofs.steps.MapPlan.plan_metaslab.Goals as goal
 
 pub returns-then-is_empty-clause-advances : goal.returns-then-is_empty-clause-advances
@@ -14,7 +14,8 @@ pub returns-in-Some-clause-step : goal.returns-in-Some-clause-step
 returns-in-Some-clause-step g c =
     both_ok c.rewrite.result
     (λ ordered value. rewritten_step (λ n. None) c.args.store.now.spaces c.args.gone.now c.args.place c.in_ok-update.update c.in_ok-update.ensures.update c.args.self.now c.rewrite.new.self
-    c.in-Some.map value.0 c.in-Some.ensures.found.0 c.in-Some.ensures.found.1 value.1 ordered)
+    c.in-Some.map value.0 c.in-Some.ensures.found.0 c.in-Some.ensures.found.1 value.1 ordered c.requires.place
+    (not_empty c.in_ok-update.update.entries.items (search rules)))
     c.rewrite.ensures.ordered c.rewrite.ensures.value
 
 pub returns-in-Some-clause-advances : goal.returns-in-Some-clause-advances
@@ -44,7 +45,7 @@ pub returns-clause-step : goal.returns-clause-step
 returns-clause-step g c =
     both_ok c.make.result
     (λ ordered made. made_step (λ n. None) c.args.store.now.spaces c.args.gone.now c.args.place c.in_ok-update.update c.in_ok-update.ensures.update c.args.self.now c.make.new.self
-    made.0 made.1 ordered c.requires.place)
+    made.0 made.1 ordered c.requires.place (not_empty c.in_ok-update.update.entries.items (search rules)))
     c.make.ensures.ordered c.make.ensures.made
 
 pub returns-clause-advances : goal.returns-clause-advances
