@@ -59,15 +59,27 @@ pub(crate) fn write_labels<D: Disk + Drop>(
     write_label(alloc, disks, which, 3, claim)
 }
 
+/// Writes the labels of three disks, with claim 1.
+pub(crate) fn label_three<D: Disk + Drop>(
+    alloc: Global,
+    disks: &mut DiskArray<D>,
+) -> Result<(), Fail>
+    requires count { length disks.old.starts ≡ 3 }
+    requires labels { HaveLabels disks.old.starts }
+    ensures starts { disks.new.starts ≡ disks.old.starts }
+{
+    write_labels(alloc, disks, 0, 1)?;
+    write_labels(alloc, disks, 1, 1)?;
+    write_labels(alloc, disks, 2, 1)
+}
+
 /// Three disks of four labels each, with claim 1.
 pub(crate) fn pool(alloc: Global) -> Result<DiskArray<MemDisk>, Fail>
     ensures count { IfOk result (λ disks. length disks.starts ≡ 3) }
     ensures labels { IfOk result (λ disks. HaveLabels disks.starts) }
 {
     let mut disks = DiskArray::in_memory(alloc, 3, 0x10_0000)?;
-    write_labels(alloc, &mut disks, 0, 1)?;
-    write_labels(alloc, &mut disks, 1, 1)?;
-    write_labels(alloc, &mut disks, 2, 1)?;
+    label_three(alloc, &mut disks)?;
     Ok(disks)
 }
 
@@ -81,11 +93,8 @@ fn opened(alloc: Global, out: [bool; 3]) -> Result<Result<Uberblock, Refusal>, F
 #[test]
 fn what_was_committed_is_opened_under_the_next_claim(rt: HostRuntime) -> Result<(), Fail> {
     let claimed = Uberblock { claim: 2, ..FIRST };
-    assert_eq!(rt; opened(rt.alloc(), [false, true, true])?, Ok(claimed));
-    assert_eq!(rt;
-        opened(rt.alloc(), [true, false, true])?,
-        Err(Refusal::NoUberblock)
-    );
+    assert!(rt; opened(rt.alloc(), [false, true, true])? == Ok(claimed));
+    assert!(rt; opened(rt.alloc(), [true, false, true])? == Err(Refusal::NoUberblock));
     Ok(())
 }
 
@@ -110,9 +119,9 @@ fn an_open_goes_back_and_never_below_what_was_claimed(rt: HostRuntime) -> Result
     let newest = Uberblock { claim: 2, ..SECOND };
     let before = Uberblock { claim: 2, ..FIRST };
     let missing = Err(Refusal::NoUberblock);
-    assert_eq!(rt; gone_back(rt.alloc(), 0)?, (Ok(newest), missing));
-    assert_eq!(rt; gone_back(rt.alloc(), 1)?, (Ok(before), missing));
-    assert_eq!(rt; gone_back(rt.alloc(), 2)?.0, missing);
+    assert!(rt; gone_back(rt.alloc(), 0)? == (Ok(newest), missing));
+    assert!(rt; gone_back(rt.alloc(), 1)? == (Ok(before), missing));
+    assert!(rt; gone_back(rt.alloc(), 2)?.0 == missing);
     Ok(())
 }
 
@@ -144,8 +153,8 @@ fn claims(
 #[test]
 fn a_claim_is_above_one_that_a_single_label_shows(rt: HostRuntime) -> Result<(), Fail> {
     let all = [false, false, false];
-    assert_eq!(rt; claims(rt.alloc(), (2, 3, 9), all)?, [Ok(10), Ok(11)]);
-    assert_eq!(rt; claims(rt.alloc(), (0, 1, 0), all)?, [Ok(2), Ok(3)]);
+    assert!(rt; claims(rt.alloc(), (2, 3, 9), all)? == [Ok(10), Ok(11)]);
+    assert!(rt; claims(rt.alloc(), (0, 1, 0), all)? == [Ok(2), Ok(3)]);
     Ok(())
 }
 
@@ -153,8 +162,8 @@ fn a_claim_is_above_one_that_a_single_label_shows(rt: HostRuntime) -> Result<(),
 #[test]
 fn a_stopped_claim_is_taken_again_only_without_the_disk(rt: HostRuntime) -> Result<(), Fail> {
     let without = [true, false, false];
-    assert_eq!(rt; claims(rt.alloc(), (0, 0, 2), without)?, [Ok(2), Ok(3)]);
-    assert_eq!(rt; claims(rt.alloc(), (0, 0, 2), [false; 3])?, [Ok(3), Ok(4)]);
+    assert!(rt; claims(rt.alloc(), (0, 0, 2), without)? == [Ok(2), Ok(3)]);
+    assert!(rt; claims(rt.alloc(), (0, 0, 2), [false; 3])? == [Ok(3), Ok(4)]);
     Ok(())
 }
 
@@ -168,6 +177,6 @@ fn unlabeled(alloc: Global) -> Result<Result<Uberblock, Refusal>, Fail> {
 
 #[test]
 fn a_disk_without_a_label_is_not_opened(rt: HostRuntime) -> Result<(), Fail> {
-    assert_eq!(rt; unlabeled(rt.alloc())?, Err(Refusal::NoLabel));
+    assert!(rt; unlabeled(rt.alloc())? == Err(Refusal::NoLabel));
     Ok(())
 }

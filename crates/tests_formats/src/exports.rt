@@ -5,8 +5,8 @@ ghost use Rattle.uberblock_ring.specs.Uberblock.{IsNumber};
 
 use crate::claims::FIRST;
 use crate::labels::{first_label, numbers_of};
-use crate::new_pools::label_all;
-use crate::scans::{Disks, NEVER, empty_disks};
+use crate::new_pools::label_first;
+use crate::scans::{Disks, NEVER, SIZE, empty_disks};
 use model_disk::Fault;
 use pool_export::{Refusal, export_labels};
 use std::alloc::Global;
@@ -38,6 +38,17 @@ fn told(
     Ok((numbers_of(&label), label.state))
 }
 
+/// What labels of three disks say, each in another place.
+fn told_by_all(alloc: Global, disks: &mut Disks) -> Result<[([u64; 5], State); 4], Fail>
+    requires count { length disks.old.starts ≡ 3 }
+    requires labels { HaveLabels disks.old.starts }
+{
+    let first = told(alloc, disks, 0, 0)?;
+    let second = told(alloc, disks, 0, 3)?;
+    let third = told(alloc, disks, 1, 1)?;
+    Ok([first, second, third, told(alloc, disks, 2, 2)?])
+}
+
 type Outcome = (Result<(), Refusal>, [([u64; 5], State); 4]);
 
 /// What an export of three disks that were labeled answers, where the last has this fault and the second is out;
@@ -46,15 +57,10 @@ fn exported(alloc: Global, fault: Fault, uberblock: &Uberblock) -> Result<Outcom
     requires claim { IsNumber uberblock.now.claim }
     requires group { IsNumber uberblock.now.group }
 {
-    let label = first_label(alloc)?;
-    let mut disks = empty_disks(alloc, fault)?;
-    label_all(alloc, &mut disks, label)?;
+    let mut disks = empty_disks(alloc, SIZE, fault)?;
+    label_first(alloc, &mut disks)??;
     let answer = export_labels(alloc, &mut disks, &[false, true, false], uberblock);
-    let first = told(alloc, &mut disks, 0, 0)?;
-    let second = told(alloc, &mut disks, 0, 3)?;
-    let third = told(alloc, &mut disks, 1, 1)?;
-    let fourth = told(alloc, &mut disks, 2, 2)?;
-    Ok((answer, [first, second, third, fourth]))
+    Ok((answer, told_by_all(alloc, &mut disks)?))
 }
 
 const ACTIVE: State = State::Active;
@@ -64,15 +70,15 @@ const AWAY: State = State::Exported;
 #[test]
 fn labels_of_disks_in_use_are_put_away(rt: HostRuntime) -> Result<(), Fail> {
     let (answer, labels) = exported(rt.alloc(), NEVER, &LAST)?;
-    assert_eq!(rt; answer, Ok(()));
-    assert_eq!(rt;
-        labels,
-        [
-            ([3, 101, 1, 100, 4], AWAY),
-            ([3, 101, 1, 100, 4], AWAY),
-            ([1, 102, 1, 100, 2], ACTIVE),
-            ([3, 103, 1, 100, 4], AWAY),
-        ]
+    assert!(rt; answer == Ok(()));
+    assert!(rt;
+        labels
+            == [
+                ([3, 101, 1, 100, 4], AWAY),
+                ([3, 101, 1, 100, 4], AWAY),
+                ([1, 102, 1, 100, 2], ACTIVE),
+                ([3, 103, 1, 100, 4], AWAY),
+            ]
     );
     Ok(())
 }
@@ -87,14 +93,8 @@ fn even_labels_wait_until_odd_ones_are_flushed(rt: HostRuntime) -> Result<(), Fa
         ([1, 102, 1, 100, 2], ACTIVE),
         ([1, 103, 1, 100, 2], ACTIVE),
     ];
-    assert_eq!(rt;
-        exported(rt.alloc(), Fault::Write(5), &LAST)?,
-        (failed, labels)
-    );
-    assert_eq!(rt;
-        exported(rt.alloc(), Fault::Flush(1), &LAST)?,
-        (failed, labels)
-    );
+    assert!(rt; exported(rt.alloc(), Fault::Write(5), &LAST)? == (failed, labels));
+    assert!(rt; exported(rt.alloc(), Fault::Flush(1), &LAST)? == (failed, labels));
     Ok(())
 }
 
@@ -109,13 +109,7 @@ fn all_labels_are_read_before_any_is_written(rt: HostRuntime) -> Result<(), Fail
     ];
     let unread = Err(Refusal::DiskFault { disk: 2 });
     let missing = Err(Refusal::NoLabel { disk: 0 });
-    assert_eq!(rt;
-        exported(rt.alloc(), Fault::Read(3), &LAST)?,
-        (unread, labels)
-    );
-    assert_eq!(rt;
-        exported(rt.alloc(), NEVER, &OTHER_CONFIG)?,
-        (missing, labels)
-    );
+    assert!(rt; exported(rt.alloc(), Fault::Read(3), &LAST)? == (unread, labels));
+    assert!(rt; exported(rt.alloc(), NEVER, &OTHER_CONFIG)? == (missing, labels));
     Ok(())
 }

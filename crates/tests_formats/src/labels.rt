@@ -23,8 +23,7 @@ pub(crate) fn area_with(
 ) -> Result<Vec<u8>, AllocError>
     ensures { IfOk result (λ area. length area.items ≡ AREA_LEN) }
 {
-    let mut area = Vec::new(alloc);
-    area.extend_from_slice(list)?;
+    let mut area = Vec::from_slice(alloc, list)?;
     area.resize(AREA_LEN, 0)?;
     if place < area.len() {
         area[place] = byte;
@@ -69,20 +68,22 @@ fn is_first_label(label: &Label) -> bool {
         && vdev_of(label) == Some(([100, 1, 7168, 12, 1], [101, 102, 103]))
 }
 
-/// The area of the label that an area has, and whether it is the one spelled by hand.
-fn read_again(alloc: Global, area: &[u8]) -> Result<(Vec<u8>, bool), Refusal>
+/// Whether the label of an area is the one spelled by hand, and is written as the area.
+fn is_kept(alloc: Global, area: &[u8]) -> Result<bool, Refusal>
     requires { length area.now ≡ AREA_LEN }
 {
     let label = decode_area(alloc, area)?;
-    Ok((encode_area(alloc, &label)?, is_first_label(&label)))
+    Ok(encode_area(alloc, &label)?.as_slice() == area && is_first_label(&label))
+}
+
+fn is_first_kept(alloc: Global) -> Result<bool, Refusal> {
+    let area = area_with(alloc, LIST, 1000, 0)?;
+    is_kept(alloc, &area)
 }
 
 #[test]
-fn a_label_is_read_and_written(rt: HostRuntime) -> Result<(), Fail> {
-    let area = area_with(rt.alloc(), LIST, 1000, 0)?;
-    let (again, is_first) = read_again(rt.alloc(), &area)?;
-    assert!(rt; is_first && again.as_slice() == area.as_slice());
-    Ok(())
+fn a_label_is_read_and_written(rt: HostRuntime) {
+    assert!(rt; is_first_kept(rt.alloc()) == Ok(true));
 }
 
 /// The disk that a label is of, or what is wrong with the label, if not memory or the disk.
@@ -110,12 +111,21 @@ pub(crate) fn first_label(alloc: Global) -> Result<Label, Refusal>
     decode_area(alloc, &area)
 }
 
+/// Writes the first disk's label to the last place of a disk.
+fn write_first(alloc: Global, disks: &mut DiskArray<MemDisk>) -> Result<(), Refusal>
+    requires which { 0 < length disks.old.starts }
+    requires size { LABELS * LABEL_LEN ≤ length (bytes_of disks.old.starts 0) }
+    ensures { disks.new.starts ≡ disks.old.starts }
+{
+    let label = first_label(alloc)?;
+    write_label(alloc, disks, 0, 3, &label)
+}
+
 /// What stands in the last two labels of a disk of 8 MiB whose last label is written, and at the
 /// front of the list.
 fn written_last(alloc: Global) -> Result<([Found; 2], [u8; 4]), Fail> {
-    let label = first_label(alloc)?;
     let mut disks = DiskArray::in_memory(alloc, 1, 0x80_0000)?;
-    write_label(alloc, &mut disks, 0, 3, &label)?;
+    write_first(alloc, &mut disks)?;
     let third = found_at(alloc, &mut disks, 2);
     let last = found_at(alloc, &mut disks, 3);
     let mut front = [0; 4];
@@ -126,8 +136,8 @@ fn written_last(alloc: Global) -> Result<([Found; 2], [u8; 4]), Fail> {
 #[test]
 fn a_disk_keeps_four_labels(rt: HostRuntime) -> Result<(), Fail> {
     let (found, front) = written_last(rt.alloc())?;
-    assert_eq!(rt; found, [Err(Some(Breach::Tail)), Ok(101)]);
-    assert_eq!(rt; front, [0, 0, 0, 9]);
+    assert!(rt; found == [Err(Some(Breach::Tail)), Ok(101)]);
+    assert!(rt; front == [0, 0, 0, 9]);
     Ok(())
 }
 
@@ -136,10 +146,10 @@ const PLACES: [(u64, u64); 4] = [(0, 0), (1, 262_144), (2, 7_864_320), (3, 8_126
 
 #[test]
 fn labels_lie_in_front_and_at_the_end(rt: HostRuntime) {
-    for (number, place) in PLACES {
+    for &(number, place) in &PLACES {
         let number = number.min(3);
-        assert_eq!(rt; label_offset(8_388_608, number), place);
-        assert_eq!(rt; label_offset(8_388_608 + 262_143, number), place);
+        assert!(rt; label_offset(8_388_608, number) == place);
+        assert!(rt; label_offset(8_388_608 + 262_143, number) == place);
     }
 }
 
@@ -194,27 +204,27 @@ fn breach_with(
 }
 
 #[test]
-fn each_breach_is_found(rt: HostRuntime) -> Result<(), Fail> {
-    for (place, byte, breach, why) in BREACHES {
-        let found = breach_with(rt.alloc(), LIST, place, byte)?;
-        assert_eq!(rt; found, Some(breach), "{why}");
+fn each_breach_is_found(rt: HostRuntime) {
+    for &(place, byte, breach, why) in &BREACHES {
+        assert!(rt;
+            breach_with(rt.alloc(), LIST, place, byte) == Ok(Some(breach)),
+            "{why}"
+        );
     }
-    Ok(())
 }
 
-/// The list without its last pair, or with one more.
-fn other_lists(alloc: Global) -> Result<[Option<Breach>; 2], AllocError> {
-    let fewer = breach_with(alloc, &LIST[..552], 3, 8)?;
+/// What is wrong with the list with one pair more.
+fn longer_breach(alloc: Global) -> Result<Option<Breach>, AllocError> {
     let mut list = Vec::from_slice(alloc, LIST)?;
     list.extend_from_slice(b"\0\0\0\x04zone\0\0\0\x08\0\0\0\0\0\0\0\0")?;
-    Ok([fewer, breach_with(alloc, &list, 3, 10)?])
+    breach_with(alloc, &list, 3, 10)
 }
 
 #[test]
-fn pairs_are_these_and_no_others(rt: HostRuntime) -> Result<(), Fail> {
-    let found = other_lists(rt.alloc())?;
-    assert_eq!(rt; found, [Some(Breach::Pairs); 2]);
-    Ok(())
+fn pairs_are_these_and_no_others(rt: HostRuntime) {
+    let fewer = breach_with(rt.alloc(), &LIST[..552], 3, 8);
+    assert!(rt; fewer == Ok(Some(Breach::Pairs)));
+    assert!(rt; longer_breach(rt.alloc()) == Ok(Some(Breach::Pairs)));
 }
 
 /// Bytes of a sealed area that are changed, and the first thing that is wrong then.
@@ -237,10 +247,9 @@ fn broken(alloc: Global, place: usize, other: usize) -> Result<Option<Breach>, A
 }
 
 #[test]
-fn the_first_breach_is_told(rt: HostRuntime) -> Result<(), Fail> {
-    for (place, other, breach) in BROKEN_SEALS {
-        let found = broken(rt.alloc(), place.min(AREA_LEN - 1), other.min(AREA_LEN - 1))?;
-        assert_eq!(rt; found, Some(breach), "at {place}");
+fn the_first_breach_is_told(rt: HostRuntime) {
+    for &(place, other, breach) in &BROKEN_SEALS {
+        let found = broken(rt.alloc(), place.min(AREA_LEN - 1), other.min(AREA_LEN - 1));
+        assert!(rt; found == Ok(Some(breach)), "at {place}");
     }
-    Ok(())
 }

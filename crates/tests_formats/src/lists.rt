@@ -24,12 +24,9 @@ fn is_kept(alloc: Global, bytes: &[u8]) -> Result<bool, Refusal> {
 }
 
 #[test]
-fn lists_are_read_and_written(rt: HostRuntime) -> Result<(), Fail> {
-    let one_pair = is_kept(rt.alloc(), ONE_PAIR)?;
-    let each_type = is_kept(rt.alloc(), EACH_TYPE)?;
-    assert!(rt; one_pair, "the list with one pair");
-    assert!(rt; each_type, "the list with each type");
-    Ok(())
+fn lists_are_read_and_written(rt: HostRuntime) {
+    assert!(rt; is_kept(rt.alloc(), ONE_PAIR) == Ok(true));
+    assert!(rt; is_kept(rt.alloc(), EACH_TYPE) == Ok(true));
 }
 
 fn number_of(list: Option<&NvList>, name: &str) -> Option<u64> {
@@ -53,13 +50,22 @@ fn is_each_type(list: &NvList) -> bool {
         && told_of(list.lists("c")) == Some((2, true, Some(9)))
 }
 
+/// Whether each type is found in the list that has them.
+fn is_each_type_found(alloc: Global) -> Result<bool, Refusal> {
+    let (list, _) = decode(alloc, EACH_TYPE)?;
+    Ok(is_each_type(&list))
+}
+
+/// The number of the list with one pair.
+fn one_number(alloc: Global) -> Result<Option<u64>, Refusal> {
+    let (list, _) = decode(alloc, ONE_PAIR)?;
+    Ok(list.number("txg"))
+}
+
 #[test]
-fn each_type_is_found(rt: HostRuntime) -> Result<(), Fail> {
-    let (list, _) = decode(rt.alloc(), EACH_TYPE)?;
-    let found = is_each_type(&list);
-    let one = decode(rt.alloc(), ONE_PAIR)?.0.number("txg");
-    assert!(rt; found && one == Some(4));
-    Ok(())
+fn each_type_is_found(rt: HostRuntime) {
+    assert!(rt; is_each_type_found(rt.alloc()) == Ok(true));
+    assert!(rt; one_number(rt.alloc()) == Ok(Some(4)));
 }
 
 fn refusal(alloc: Global, bytes: &[u8]) -> Option<Refusal> {
@@ -83,16 +89,20 @@ const BREACHES: [(usize, u8, &str); 13] = [
     (103, 1, "an empty list has a pair"),
 ];
 
+/// Why the list with each type is refused under which this byte is another.
+fn refusal_with(alloc: Global, place: usize, byte: u8) -> Option<Refusal> {
+    let mut bytes = *EACH_TYPE;
+    if place < bytes.len() {
+        bytes[place] = byte;
+    }
+    refusal(alloc, &bytes)
+}
+
 #[test]
 fn breaches_are_refused(rt: HostRuntime) {
-    for (place, byte, why) in BREACHES {
-        let mut bytes = *EACH_TYPE;
-        bytes[place] = byte;
-        assert_eq!(rt;
-            refusal(rt.alloc(), &bytes),
-            Some(Refusal::BadLabel),
-            "{why}"
-        );
+    for &(place, byte, why) in &BREACHES {
+        let refusal = refusal_with(rt.alloc(), place, byte);
+        assert!(rt; refusal == Some(Refusal::BadLabel), "{why}");
     }
 }
 
@@ -100,9 +110,8 @@ fn breaches_are_refused(rt: HostRuntime) {
 fn a_list_with_a_byte_less_is_refused(rt: HostRuntime) {
     for len in 0..128 {
         let front = &EACH_TYPE[..len];
-        assert_eq!(rt;
-            refusal(rt.alloc(), front),
-            Some(Refusal::BadLabel),
+        assert!(rt;
+            refusal(rt.alloc(), front) == Some(Refusal::BadLabel),
             "{len} bytes"
         );
     }
@@ -125,12 +134,9 @@ fn nested_refusal(alloc: Global, depth: usize) -> Result<Option<Refusal>, AllocE
 }
 
 #[test]
-fn lists_nest_six_deep(rt: HostRuntime) -> Result<(), Fail> {
-    let six = nested_refusal(rt.alloc(), 6)?;
-    let seven = nested_refusal(rt.alloc(), 7)?;
-    assert_eq!(rt; six, None);
-    assert_eq!(rt; seven, Some(Refusal::BadLabel));
-    Ok(())
+fn lists_nest_six_deep(rt: HostRuntime) {
+    assert!(rt; nested_refusal(rt.alloc(), 6) == Ok(None));
+    assert!(rt; nested_refusal(rt.alloc(), 7) == Ok(Some(Refusal::BadLabel)));
 }
 
 /// Names that are added one after another, and whether each is taken.
@@ -159,17 +165,24 @@ fn taken(list: &mut NvList) -> [bool; 7] {
     taken
 }
 
-#[test]
-fn pairs_are_pushed_in_order(rt: HostRuntime) -> Result<(), Fail> {
-    let mut list = NvList::new(rt.alloc());
-    list.push("a", Value::Text(String::from_str(rt.alloc(), "pool")?))?;
+/// A list with one text.
+fn one_text(alloc: Global) -> Result<NvList, Refusal> {
+    let pool = Value::Text(String::from_str(alloc, "pool")?);
+    let mut list = NvList::new(alloc);
+    list.push("a", pool)?;
+    Ok(list)
+}
+
+/// Which of the names are taken behind a text, and how many pairs, which number and whether the text there are then.
+fn pushed(alloc: Global) -> Result<([bool; 7], usize, Option<u64>, bool), Refusal> {
+    let mut list = one_text(alloc)?;
     let taken = taken(&mut list);
-    let found = (
-        list.len(),
-        list.number("txg"),
-        list.text("a") == Some("pool"),
-    );
-    assert_eq!(rt; taken, NAMES.map(|(_, wanted)| wanted));
-    assert_eq!(rt; found, (4, Some(4), true));
-    Ok(())
+    let is_kept = list.text("a") == Some("pool");
+    Ok((taken, list.len(), list.number("txg"), is_kept))
+}
+
+#[test]
+fn pairs_are_pushed_in_order(rt: HostRuntime) {
+    let wanted = NAMES.map(|(_, wanted)| wanted);
+    assert!(rt; pushed(rt.alloc()) == Ok((wanted, 4, Some(4), true)));
 }

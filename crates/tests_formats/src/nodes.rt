@@ -113,10 +113,13 @@ const LEVELS: [(u64, u8); 9] = [
 
 #[test]
 fn levels_are_the_least(rt: HostRuntime) {
-    for (highest, levels) in LEVELS {
-        assert_eq!(rt; levels_of(highest.min(34_359_738_367)), levels);
+    for &(highest, levels) in &LEVELS {
+        assert!(rt;
+            levels_of(highest.min(34_359_738_367)) == levels,
+            "of {highest}"
+        );
     }
-    assert_eq!(rt; MANY_HOLES.levels(), 5);
+    assert!(rt; MANY_HOLES.levels() == 5);
 }
 
 /// Whether the bytes are those of a dnode, and are read as it.
@@ -173,12 +176,19 @@ const DNODE_BREACHES: [(usize, u8, &str); 22] = [
     (511, 1, "the last byte is not zero"),
 ];
 
+/// Whether the dnode is refused under which this byte is another.
+fn is_refused_with(place: usize, byte: u8) -> bool {
+    let mut bytes = one_block_bytes();
+    if place < bytes.len() {
+        bytes[place] = byte;
+    }
+    Dnode::decode(&bytes) == Err(Refusal::BadPointer)
+}
+
 #[test]
 fn breaches_of_a_dnode_are_refused(rt: HostRuntime) {
-    for (place, byte, why) in DNODE_BREACHES {
-        let mut bytes = one_block_bytes();
-        bytes[place] = byte;
-        assert_eq!(rt; Dnode::decode(&bytes), Err(Refusal::BadPointer), "{why}");
+    for &(place, byte, why) in &DNODE_BREACHES {
+        assert!(rt; is_refused_with(place, byte), "{why}");
     }
 }
 
@@ -222,19 +232,23 @@ fn parts_of(block: &[u8]) -> Option<(bool, bool, u8)> {
     Some((holes, is_data_block(first), last[88]))
 }
 
-#[test]
-fn an_indirect_block_is_written(rt: HostRuntime) -> Result<(), Fail> {
-    let parts = parts_of(&two_pointers_bytes(rt.alloc())?);
-    assert_eq!(rt; parts, Some((true, true, 5)));
-    Ok(())
+fn written_parts(alloc: Global) -> Result<Option<(bool, bool, u8)>, AllocError> {
+    Ok(parts_of(&two_pointers_bytes(alloc)?))
 }
 
 #[test]
-fn an_indirect_block_is_read(rt: HostRuntime) -> Result<(), Fail> {
-    let bytes = two_pointers_bytes(rt.alloc())?;
-    let found = has_two_pointers(&Indirect::decode(rt.alloc(), &bytes)?);
-    assert!(rt; found);
-    Ok(())
+fn an_indirect_block_is_written(rt: HostRuntime) {
+    assert!(rt; written_parts(rt.alloc()) == Ok(Some((true, true, 5))));
+}
+
+fn is_read_again(alloc: Global) -> Result<bool, Refusal> {
+    let bytes = two_pointers_bytes(alloc)?;
+    Ok(has_two_pointers(&Indirect::decode(alloc, &bytes)?))
+}
+
+#[test]
+fn an_indirect_block_is_read(rt: HostRuntime) {
+    assert!(rt; is_read_again(rt.alloc()) == Ok(true));
 }
 
 /// Lengths, a byte of so many zeros that is 1, and why they are no indirect block.
@@ -264,10 +278,8 @@ fn taken_block(alloc: Global) -> Result<Option<&'static str>, AllocError> {
 }
 
 #[test]
-fn what_is_no_indirect_block_is_refused(rt: HostRuntime) -> Result<(), Fail> {
-    let taken = taken_block(rt.alloc())?;
-    assert_eq!(rt; taken, None);
-    Ok(())
+fn what_is_no_indirect_block_is_refused(rt: HostRuntime) {
+    assert!(rt; taken_block(rt.alloc()) == Ok(None));
 }
 
 /// The fills of an indirect block of holes, of one with one block, and of one with two blocks.
@@ -283,14 +295,12 @@ fn fills(alloc: Global, great: Block) -> Result<[Option<u64>; 3], AllocError>
 }
 
 #[test]
-fn a_fill_that_is_too_great_has_no_sum(rt: HostRuntime) -> Result<(), Fail> {
+fn a_fill_that_is_too_great_has_no_sum(rt: HostRuntime) {
     let great = Block {
         fill: u64::MAX,
         ..INDIRECT_BLOCK
     };
-    let fills = fills(rt.alloc(), great)?;
-    assert_eq!(rt; fills, [Some(0), Some(u64::MAX), None]);
-    Ok(())
+    assert!(rt; fills(rt.alloc(), great) == Ok([Some(0), Some(u64::MAX), None]));
 }
 
 /// Whether the bytes are those of an object set, and are read as it.
@@ -328,15 +338,18 @@ const SET_BREACHES: [(usize, u8, &str); 10] = [
     (1023, 1, "the last byte is not zero"),
 ];
 
+/// Whether the object set is refused of which this byte is another.
+fn is_set_refused_with(place: usize, byte: u8) -> bool {
+    let mut bytes = meta_bytes();
+    if place < bytes.len() {
+        bytes[place] = byte;
+    }
+    ObjectSet::decode(&bytes) == Err(Refusal::BadPointer)
+}
+
 #[test]
 fn breaches_of_an_object_set_are_refused(rt: HostRuntime) {
-    for (place, byte, why) in SET_BREACHES {
-        let mut bytes = meta_bytes();
-        bytes[place] = byte;
-        assert_eq!(rt;
-            ObjectSet::decode(&bytes),
-            Err(Refusal::BadPointer),
-            "{why}"
-        );
+    for &(place, byte, why) in &SET_BREACHES {
+        assert!(rt; is_set_refused_with(place, byte), "{why}");
     }
 }

@@ -1,5 +1,5 @@
 //! Which pool the disks are that an open is handed.
-ghost use Rattle.std.specs.Prelude.{◌≡◌, ◌<◌, ◌+◌, length, IfOk, OnOk};
+ghost use Rattle.std.specs.Prelude.{◌≡◌, ◌<◌, ◌≤◌, ◌+◌, length, IfOk, OnOk};
 ghost use Rattle.pool_labels.specs.Choices.{AreSound};
 ghost use Rattle.pool_slots.specs.Slots.{HaveLabels};
 
@@ -29,7 +29,7 @@ const SECTORS: usize = 259;
 /// A place behind the list, where a label has a zero.
 const NOWHERE: (usize, u8) = (600, 0);
 
-const SIZE: usize = 0x80_0000;
+pub(crate) const SIZE: usize = 0x80_0000;
 
 /// The uberblock of the configuration that the labels have, and some that nothing can be taken of.
 const TAKEN: Uberblock = Uberblock {
@@ -62,26 +62,28 @@ enum Slot {
     LastClaim,
 }
 
-/// Adds an empty disk of 8 MiB with this fault.
-fn add_disk(alloc: Global, disks: &mut Disks, fault: Fault) -> Result<(), Fail>
+/// Adds an empty disk of this size with this fault.
+fn add_disk(alloc: Global, disks: &mut Disks, size: usize, fault: Fault) -> Result<(), Fail>
+    requires size { 1_048_576 ≤ size }
     requires labels { HaveLabels disks.old.starts }
     ensures count { OnOk result (length disks.new.starts ≡ length disks.old.starts + 1) }
     ensures labels { OnOk result (HaveLabels disks.new.starts) }
 {
-    let disk = FaultDisk::new(MemDisk::new(alloc, SIZE)?, fault);
+    let disk = FaultDisk::new(MemDisk::new(alloc, size)?, fault);
     disks.push(disk)?;
     Ok(())
 }
 
-/// Three empty disks, the last one with this fault.
-pub(crate) fn empty_disks(alloc: Global, fault: Fault) -> Result<Disks, Fail>
+/// Three empty disks of this size, the last one with this fault.
+pub(crate) fn empty_disks(alloc: Global, size: usize, fault: Fault) -> Result<Disks, Fail>
+    requires size { 1_048_576 ≤ size }
     ensures count { IfOk result (λ disks. length disks.starts ≡ 3) }
     ensures labels { IfOk result (λ disks. HaveLabels disks.starts) }
 {
     let mut disks = DiskArray::new(Vec::new(alloc));
-    add_disk(alloc, &mut disks, NEVER)?;
-    add_disk(alloc, &mut disks, NEVER)?;
-    add_disk(alloc, &mut disks, fault)?;
+    add_disk(alloc, &mut disks, size, NEVER)?;
+    add_disk(alloc, &mut disks, size, NEVER)?;
+    add_disk(alloc, &mut disks, size, fault)?;
     Ok(disks)
 }
 
@@ -96,6 +98,19 @@ fn write_area(disks: &mut Disks, which: usize, number: u64, area: &[u8]) -> Resu
     let at = label_offset(disks.size(which), number) + 0x4000;
     disks.write_at(which, at, area)?;
     Ok(())
+}
+
+/// Writes the area of all four labels.
+fn write_areas(disks: &mut Disks, which: usize, area: &[u8]) -> Result<(), Fail>
+    requires which { which < length disks.old.starts }
+    requires labels { HaveLabels disks.old.starts }
+    requires len { length area.now ≡ 114_688 }
+    ensures starts { disks.new.starts ≡ disks.old.starts }
+{
+    write_area(disks, which, 0, area)?;
+    write_area(disks, which, 1, area)?;
+    write_area(disks, which, 2, area)?;
+    write_area(disks, which, 3, area)
 }
 
 /// Writes the four labels of the disk with this guid, one byte of them changed. Guid 0 has none.
@@ -118,10 +133,7 @@ fn label_disk(
         list[GUID] = guid;
     }
     let area = area_with(alloc, &list, change.0, change.1)?;
-    write_area(disks, which, 0, &area)?;
-    write_area(disks, which, 1, &area)?;
-    write_area(disks, which, 2, &area)?;
-    write_area(disks, which, 3, &area)
+    write_areas(disks, which, &area)
 }
 
 /// Writes the uberblock to the first label of the first disk.
@@ -144,17 +156,16 @@ fn write_uberblock(disks: &mut Disks, slot: Slot) -> Result<(), Fail>
 /// the fault of the last disk.
 type Case = ([u8; 3], (usize, u8), Slot, Fault);
 
-fn handed_in(alloc: Global, case: &Case) -> Result<Disks, Fail>
-    ensures count { IfOk result (λ disks. length disks.starts ≡ 3) }
-    ensures labels { IfOk result (λ disks. HaveLabels disks.starts) }
+/// Writes to three empty disks what is on them.
+fn write_all(alloc: Global, disks: &mut Disks, case: &Case) -> Result<(), Fail>
+    requires count { length disks.old.starts ≡ 3 }
+    requires labels { HaveLabels disks.old.starts }
 {
-    let (guids, change, slot, fault) = *case;
-    let mut disks = empty_disks(alloc, fault)?;
-    label_disk(alloc, &mut disks, 0, guids[0], NOWHERE)?;
-    label_disk(alloc, &mut disks, 1, guids[1], NOWHERE)?;
-    label_disk(alloc, &mut disks, 2, guids[2], change)?;
-    write_uberblock(&mut disks, slot)?;
-    Ok(disks)
+    let (guids, change, slot, _) = *case;
+    label_disk(alloc, disks, 0, guids[0], NOWHERE)?;
+    label_disk(alloc, disks, 1, guids[1], NOWHERE)?;
+    label_disk(alloc, disks, 2, guids[2], change)?;
+    write_uberblock(disks, slot)
 }
 
 /// The disks of the children of the one vdev.
@@ -188,7 +199,8 @@ fn outcome(alloc: Global, scan: &Scan, rewind: u64) -> Chosen
 }
 
 fn chosen(alloc: Global, case: &Case, rewind: u64) -> Result<Chosen, Fail> {
-    let mut disks = handed_in(alloc, case)?;
+    let mut disks = empty_disks(alloc, SIZE, case.3)?;
+    write_all(alloc, &mut disks, case)?;
     let found = scan(alloc, &mut disks)?;
     Ok(outcome(alloc, &found, rewind))
 }
@@ -219,11 +231,8 @@ const CHOICES: [(Case, [Option<usize>; 3], usize); 4] = [
 
 #[test]
 fn disks_are_found_in_any_order(rt: HostRuntime) -> Result<(), Fail> {
-    for (case, members, source) in CHOICES {
-        assert_eq!(rt;
-            chosen(rt.alloc(), &case, 0)?,
-            Ok((Some(members), source, true))
-        );
+    for &(case, members, source) in &CHOICES {
+        assert!(rt; chosen(rt.alloc(), &case, 0)? == Ok((Some(members), source, true)));
     }
     Ok(())
 }
@@ -273,10 +282,10 @@ const REFUSALS: [(Case, Refusal); 10] = [
 
 #[test]
 fn each_refusal_comes_in_its_turn(rt: HostRuntime) -> Result<(), Fail> {
-    for (case, refusal) in REFUSALS {
-        assert_eq!(rt; chosen(rt.alloc(), &case, 0)?, Err(refusal));
+    for &(case, refusal) in &REFUSALS {
+        assert!(rt; chosen(rt.alloc(), &case, 0)? == Err(refusal));
     }
     let (case, _, _) = CHOICES[0];
-    assert_eq!(rt; chosen(rt.alloc(), &case, 1)?, Err(Refusal::NoUberblock));
+    assert!(rt; chosen(rt.alloc(), &case, 1)? == Err(Refusal::NoUberblock));
     Ok(())
 }

@@ -1,8 +1,12 @@
+ghost use Rattle.std.specs.Prelude.{◌≡◌, ◌<◌, ◌≤◌, ◌*◌, length};
+ghost use Rattle.model_disk.specs.Joint.{bytes_of};
+
 use block_pointer::{Block, Copies, Dva, Property};
-use model_disk::DiskArray;
+use model_disk::{DiskArray, DiskError, MemDisk};
 use std::alloc::Global;
 use std::test::*;
 use uberblock_ring::*;
+use vdev_label::{LABEL_LEN, LABELS};
 use words::seal;
 
 const ROOT: Block = Block {
@@ -44,10 +48,10 @@ pub(crate) const UBERBLOCK: Uberblock = Uberblock {
 
 #[test]
 fn slots_of_groups(rt: HostRuntime) {
-    assert_eq!(rt; slot_of(4), 4);
-    assert_eq!(rt; slot_offset(4), 135_168);
-    assert_eq!(rt; slot_of(130), 2);
-    assert_eq!(rt; slot_offset(130), 133_120);
+    assert!(rt; slot_of(4) == 4);
+    assert!(rt; slot_offset(4) == 135_168);
+    assert!(rt; slot_of(130) == 2);
+    assert!(rt; slot_offset(130) == 133_120);
 }
 
 /// Bytes of the slot, from a place on.
@@ -63,10 +67,10 @@ const FIELDS: [(usize, &[u8]); 6] = [
 #[test]
 fn an_uberblock_is_written_and_read(rt: HostRuntime) {
     let bytes = encode_slot(&UBERBLOCK);
-    for (place, field) in FIELDS {
+    for &(place, field) in &FIELDS {
         assert!(rt; bytes[place..].starts_with(field), "at {place}");
     }
-    assert_eq!(rt; decode_slot(4, &bytes), Ok(UBERBLOCK));
+    assert!(rt; decode_slot(4, &bytes) == Ok(UBERBLOCK));
 }
 
 fn is_refused(slot: usize, bytes: &[u8; 1024]) -> bool {
@@ -105,12 +109,19 @@ const BREACHES: [(usize, u8, &str); 14] = [
     (983, 1, "the last byte before the seal is not zero"),
 ];
 
+/// Whether the slot is refused of which this byte is another, as it is and under a seal of its own.
+fn are_refused_with(place: usize, byte: u8) -> (bool, bool) {
+    let mut bytes = encode_slot(&UBERBLOCK);
+    if place < bytes.len() {
+        bytes[place] = byte;
+    }
+    are_refused(&mut bytes)
+}
+
 #[test]
 fn breaches_are_refused(rt: HostRuntime) {
-    for (place, byte, why) in BREACHES {
-        let mut bytes = encode_slot(&UBERBLOCK);
-        bytes[place] = byte;
-        assert_eq!(rt; are_refused(&mut bytes), (true, true), "{why}");
+    for &(place, byte, why) in &BREACHES {
+        assert!(rt; are_refused_with(place, byte) == (true, true), "{why}");
     }
 }
 
@@ -120,23 +131,32 @@ fn a_hole_and_two_copies_are_no_root(rt: HostRuntime) {
     two[72..88].fill(0);
     let mut hole = encode_slot(&UBERBLOCK);
     hole[40..168].fill(0);
-    assert_eq!(rt; are_refused(&mut two), (true, true));
-    assert_eq!(rt; are_refused(&mut hole), (true, true));
+    assert!(rt; are_refused(&mut two) == (true, true));
+    assert!(rt; are_refused(&mut hole) == (true, true));
 }
+
+const CLAIMED: Uberblock = Uberblock {
+    claim: 2,
+    ..UBERBLOCK
+};
+
+const LATER: Uberblock = Uberblock {
+    group: 5,
+    ..UBERBLOCK
+};
+
+/// Uberblocks, and the best of them.
+const BESTS: [(&[Uberblock], Option<Uberblock>); 3] = [
+    (&[UBERBLOCK, LATER], Some(LATER)),
+    (&[LATER, UBERBLOCK, CLAIMED], Some(CLAIMED)),
+    (&[], None),
+];
 
 #[test]
 fn the_claim_counts_before_the_group(rt: HostRuntime) {
-    let claimed = Uberblock {
-        claim: 2,
-        ..UBERBLOCK
-    };
-    let later = Uberblock {
-        group: 5,
-        ..UBERBLOCK
-    };
-    assert_eq!(rt; best(&[UBERBLOCK, later]), Some(later));
-    assert_eq!(rt; best(&[later, UBERBLOCK, claimed]), Some(claimed));
-    assert_eq!(rt; best(&[]), None);
+    for (uberblocks, wanted) in &BESTS {
+        assert!(rt; best(uberblocks) == *wanted);
+    }
 }
 
 /// The uberblock of the group behind.
@@ -146,12 +166,21 @@ pub(crate) const NEXT: Uberblock = Uberblock {
     ..UBERBLOCK
 };
 
+/// Writes the one to the last label of a disk, and the next to its second.
+fn write_two(disks: &mut DiskArray<MemDisk>) -> Result<(), DiskError>
+    requires which { 0 < length disks.old.starts }
+    requires size { LABELS * LABEL_LEN ≤ length (bytes_of disks.old.starts 0) }
+    ensures { disks.new.starts ≡ disks.old.starts }
+{
+    write_slot(disks, 0, 3, &UBERBLOCK)?;
+    write_slot(disks, 0, 1, &NEXT)
+}
+
 /// How many slots a disk has, which one has the highest uberblock, and what is one group before, where
 /// the one is in its last label and the next in its second.
 fn two_slots(alloc: Global) -> Result<(usize, Option<usize>, Option<Uberblock>), Fail> {
     let mut disks = DiskArray::in_memory(alloc, 1, 0x10_0000)?;
-    write_slot(&mut disks, 0, 3, &UBERBLOCK)?;
-    write_slot(&mut disks, 0, 1, &NEXT)?;
+    write_two(&mut disks)?;
     let slots = read_slots(alloc, &mut disks, 0)?;
     Ok((slots.len(), highest(&slots), rewound(&slots, &NEXT, 1)))
 }
@@ -159,13 +188,13 @@ fn two_slots(alloc: Global) -> Result<(usize, Option<usize>, Option<Uberblock>),
 #[test]
 fn slots_of_a_disk_are_written_and_read(rt: HostRuntime) -> Result<(), Fail> {
     let found = two_slots(rt.alloc())?;
-    assert_eq!(rt; found, (512, Some(133), Some(UBERBLOCK)));
+    assert!(rt; found == (512, Some(133), Some(UBERBLOCK)));
     Ok(())
 }
 
 #[test]
 fn what_is_not_there_is_not_gone_back_to(rt: HostRuntime) {
     let slots = [None, Some(UBERBLOCK)];
-    assert_eq!(rt; rewound(&slots, &NEXT, 2), None);
-    assert_eq!(rt; highest(&slots[..1]), None);
+    assert!(rt; rewound(&slots, &NEXT, 2) == None);
+    assert!(rt; highest(&slots[..1]) == None);
 }

@@ -16,15 +16,12 @@ const WORDS: [(Kind, u64); 2] = [(Kind::Allocated, 0xa_0003), (Kind::Freed, 0xa_
 
 #[test]
 fn words_of_entries(rt: HostRuntime) {
-    for (kind, word) in WORDS {
+    for &(kind, word) in &WORDS {
         let entry = Entry { kind, run: RUN };
-        assert_eq!(rt; entry.to_word(), word);
-        assert_eq!(rt; Entry::from_word(word), Ok(entry));
+        assert!(rt; entry.to_word() == word);
+        assert!(rt; Entry::from_word(word) == Ok(entry));
     }
-    assert_eq!(rt;
-        Entry::from_word(0x8000_0000_000a_0003),
-        Err(Refusal::BadMap)
-    );
+    assert!(rt; Entry::from_word(0x8000_0000_000a_0003) == Err(Refusal::BadMap));
 }
 
 /// The map of changes, each of so many sectors from a start on.
@@ -65,16 +62,20 @@ fn condensed(alloc: Global, map: &[u8]) -> Result<Vec<u8>, Refusal> {
     Ok(condense(alloc, &set)?)
 }
 
+const TAKEN_AND_FREED: [(Kind, u32, u32); 2] = [(Kind::Allocated, 10, 4), (Kind::Freed, 10, 4)];
+
+const LONG: [(Kind, u32, u32); 1] = [(Kind::Allocated, 1, 65_537)];
+
+/// Whether the map of what is taken and freed is these bytes, and how long that of a long run is.
+fn appended(alloc: Global) -> Result<(bool, usize), AllocError> {
+    let is_spelled = map_of(alloc, &TAKEN_AND_FREED)?.as_slice()
+        == [ALLOCATED, FREED].as_flattened();
+    Ok((is_spelled, map_of(alloc, &LONG)?.len()))
+}
+
 #[test]
-fn a_map_is_appended(rt: HostRuntime) -> Result<(), Fail> {
-    let map = map_of(
-        rt.alloc(),
-        &[(Kind::Allocated, 10, 4), (Kind::Freed, 10, 4)],
-    )?;
-    assert_eq!(rt; &map[..], [ALLOCATED, FREED].as_flattened());
-    let long = map_of(rt.alloc(), &[(Kind::Allocated, 1, 65_537)])?;
-    assert_eq!(rt; long.len(), 24);
-    Ok(())
+fn a_map_is_appended(rt: HostRuntime) {
+    assert!(rt; appended(rt.alloc()) == Ok((true, 24)));
 }
 
 const fn run(start: u64, len: u64) -> Run {
@@ -89,12 +90,15 @@ fn a_map_is_replayed(rt: HostRuntime) {
     assert!(rt; leaves(rt.alloc(), both.as_flattened(), 4096, &[run(0, 4096)]));
 }
 
+/// Whether the map of a long run leaves what is around it.
+fn is_long_replayed(alloc: Global) -> Result<bool, AllocError> {
+    let long = map_of(alloc, &LONG)?;
+    Ok(leaves(alloc, &long, 1 << 20, &[run(0, 1), run(65_538, 983_038)]))
+}
+
 #[test]
-fn a_long_run_is_replayed(rt: HostRuntime) -> Result<(), Fail> {
-    let long = map_of(rt.alloc(), &[(Kind::Allocated, 1, 65_537)])?;
-    let around = [run(0, 1), run(65_538, 983_038)];
-    assert!(rt; leaves(rt.alloc(), &long, 1 << 20, &around));
-    Ok(())
+fn a_long_run_is_replayed(rt: HostRuntime) {
+    assert!(rt; is_long_replayed(rt.alloc()) == Ok(true));
 }
 
 /// Bytes that are no map of so many sectors, and why.
@@ -111,20 +115,25 @@ const BREACHES: [(&[u8], u64, &str); 4] = [
 
 #[test]
 fn what_changes_nothing_is_no_map(rt: HostRuntime) {
-    for (map, sectors, why) in BREACHES {
+    for &(map, sectors, why) in &BREACHES {
         let refusal = refusal(rt.alloc(), map, sectors.clamp(1, 4096));
-        assert_eq!(rt; refusal, Some(Refusal::BadMap), "{why}");
+        assert!(rt; refusal == Some(Refusal::BadMap), "{why}");
     }
 }
 
+const CHANGES: [(Kind, u32, u32); 3] = [
+    (Kind::Allocated, 0, 10),
+    (Kind::Allocated, 10, 4),
+    (Kind::Freed, 0, 10),
+];
+
+/// Whether the map of the changes is condensed to what is allocated in the end.
+fn is_condensed(alloc: Global) -> Result<bool, Refusal> {
+    let map = map_of(alloc, &CHANGES)?;
+    Ok(condensed(alloc, &map)?.as_slice() == ALLOCATED.as_slice())
+}
+
 #[test]
-fn a_map_is_condensed(rt: HostRuntime) -> Result<(), Fail> {
-    let changes = [
-        (Kind::Allocated, 0, 10),
-        (Kind::Allocated, 10, 4),
-        (Kind::Freed, 0, 10),
-    ];
-    let map = map_of(rt.alloc(), &changes)?;
-    assert_eq!(rt; &condensed(rt.alloc(), &map)?[..], ALLOCATED.as_slice());
-    Ok(())
+fn a_map_is_condensed(rt: HostRuntime) {
+    assert!(rt; is_condensed(rt.alloc()) == Ok(true));
 }

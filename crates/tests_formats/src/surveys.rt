@@ -28,14 +28,8 @@ fn found(
 fn a_survey_takes_what_a_claim_claims(rt: HostRuntime) -> Result<(), Fail> {
     let newest = Uberblock { claim: 2, ..SECOND };
     let before = Uberblock { claim: 2, ..FIRST };
-    assert_eq!(rt;
-        found(rt.alloc(), 0)?,
-        Ok(([SECOND, SECOND, newest], Some(newest)))
-    );
-    assert_eq!(rt;
-        found(rt.alloc(), 1)?,
-        Ok(([SECOND, FIRST, before], Some(before)))
-    );
-    assert_eq!(rt; found(rt.alloc(), 2)?, Err(Refusal::NoUberblock));
+    assert!(rt; found(rt.alloc(), 0)? == Ok(([SECOND, SECOND, newest], Some(newest))));
+    assert!(rt; found(rt.alloc(), 1)? == Ok(([SECOND, FIRST, before], Some(before))));
+    assert!(rt; found(rt.alloc(), 2)? == Err(Refusal::NoUberblock));
     Ok(())
 }
