@@ -63,21 +63,18 @@ fn with_one_more(alloc: Global) -> Result<(usize, [u8; 4]), Fail> {
 
 #[test]
 fn disks_are_kept_apart(rt: HostRuntime) -> Result<(), Fail> {
-    let held = two(rt.alloc())?;
-    assert_eq!(rt; held, [[0; 4], *b"\0abc"]);
+    assert!(rt; two(rt.alloc())? == [[0; 4], *b"\0abc"]);
     Ok(())
 }
 
 #[test]
 fn used_disks_keep_their_bytes(rt: HostRuntime) -> Result<(), Fail> {
-    let held = handed_in_again(rt.alloc())?;
-    assert_eq!(rt; held, *b"\0abc");
+    assert!(rt; handed_in_again(rt.alloc())? == *b"\0abc");
     Ok(())
 }
 
 #[test]
 fn disks_are_added(rt: HostRuntime) -> Result<(), Fail> {
-    let added = with_one_more(rt.alloc())?;
-    assert_eq!(rt; added, (1, [7; 4]));
+    assert!(rt; with_one_more(rt.alloc())? == (1, [7; 4]));
     Ok(())
 }

@@ -91,8 +91,17 @@ fn fresh<R: Abort>(
     Ok((extent, disks))
 }
 
+/// Changes the sectors of the disks of a set.
+fn spoil(alloc: Global, disks: &mut Disks, wrong: u32) -> Result<(), Fail>
+    ensures { disks.new.starts ≡ disks.old.starts }
+{
+    let wrong = members(alloc, wrong)?;
+    spoil_each(disks, &wrong)?;
+    Ok(())
+}
+
 /// Changes the sectors of these disks.
-fn spoil(disks: &mut Disks, wrong: &[usize]) -> Result<(), DiskError>
+fn spoil_each(disks: &mut Disks, wrong: &[usize]) -> Result<(), DiskError>
     ensures { disks.new.starts ≡ disks.old.starts }
 {
     for &which in wrong {
@@ -129,6 +138,24 @@ fn judged(answer: Result<Vec<u8>, Refusal>, block: &[u8]) -> Outcome {
     }
 }
 
+/// What comes of a read of the block where these disks are missing.
+fn read_again(
+    alloc: Global,
+    extent: Extent,
+    disks: &mut Disks,
+    missing: u32,
+    block: &[u8],
+) -> Result<Outcome, Fail>
+    requires sectors { extent.sectors ≡ 5 }
+    requires fits { CanHold extent }
+    requires on_disks { IsOnDisks extent disks.old.starts }
+    ensures { disks.new.starts ≡ disks.old.starts }
+{
+    let missing = members(alloc, missing)?;
+    let answer = extent.read_checked(disks, alloc, &missing, &Sha256::digest(block));
+    Ok(judged(answer, block))
+}
+
 /// Writes a block, changes the disks that are to be wrong, and reads it back.
 fn written_and_read(
     alloc: Global,
@@ -143,13 +170,9 @@ fn written_and_read(
     ensures { disks.new.starts ≡ disks.old.starts }
 {
     let block = pattern(alloc)?;
-    let missing = members(alloc, missing)?;
-    let wrong = members(alloc, wrong)?;
     extent.write(disks, alloc, &block)?;
-    spoil(disks, &wrong)?;
-    let digest = Sha256::digest(&block);
-    let answer = extent.read_checked(disks, alloc, &missing, &digest);
-    Ok(judged(answer, &block))
+    spoil(alloc, disks, wrong)?;
+    read_again(alloc, extent, disks, missing, &block)
 }
 
 /// What is to come of a block with so many parities, each of whose columns lies on a disk of its own.
@@ -214,20 +237,30 @@ fn odd_pair(
     Ok(odd)
 }
 
+/// The same of a block with so many parities.
+fn odd_of<R: Abort>(
+    rt: &R,
+    alloc: Global,
+    parity: u32,
+    sets: u32,
+) -> Result<Option<(u32, u32)>, Fail>
+    requires parity { parity ≤ 2 }
+    requires sets { sets ≤ 64 }
+{
+    let (extent, mut disks) = fresh(rt, alloc, parity + 3, parity, 0)?;
+    odd_pair(alloc, extent, &mut disks, sets)
+}
+
 // Any columns, no more than there are parities, may be missing or wrong, and no further ones.
 #[test]
 fn one_parity(rt: HostRuntime) -> Result<(), Fail> {
-    let (extent, mut disks) = fresh(&rt, rt.alloc(), 4, 1, 0)?;
-    let odd = odd_pair(rt.alloc(), extent, &mut disks, 16)?;
-    assert_eq!(rt; odd, None);
+    assert!(rt; odd_of(&rt, rt.alloc(), 1, 16)? == None);
     Ok(())
 }
 
 #[test]
 fn two_parities(rt: HostRuntime) -> Result<(), Fail> {
-    let (extent, mut disks) = fresh(&rt, rt.alloc(), 5, 2, 0)?;
-    let odd = odd_pair(rt.alloc(), extent, &mut disks, 32)?;
-    assert_eq!(rt; odd, None);
+    assert!(rt; odd_of(&rt, rt.alloc(), 2, 32)? == None);
     Ok(())
 }
 
@@ -241,8 +274,8 @@ fn of_failing<R: Abort>(rt: &R, alloc: Global, missing: u32) -> Result<Outcome, 
 fn failing_disks(rt: HostRuntime) -> Result<(), Fail> {
     let without_two = of_failing(&rt, rt.alloc(), 0)?;
     let without_three = of_failing(&rt, rt.alloc(), 0b10)?;
-    assert_eq!(rt; without_two, Outcome::Same);
-    assert_eq!(rt; without_three, Outcome::DiskFault);
+    assert!(rt; without_two == Outcome::Same);
+    assert!(rt; without_three == Outcome::DiskFault);
     Ok(())
 }
 
@@ -263,11 +296,15 @@ fn of_plain_read(
     Ok(judged(answer, &block))
 }
 
+/// What it gives where disk 3 fails at its second call and disk 5 is missing.
+fn of_failing_plain<R: Abort>(rt: &R, alloc: Global) -> Result<Outcome, Fail> {
+    let (extent, mut disks) = fresh(rt, alloc, 5, 2, 0b1000)?;
+    Ok(of_plain_read(alloc, extent, &mut disks, &[5])?)
+}
+
 #[test]
 fn read_without_digest(rt: HostRuntime) -> Result<(), Fail> {
-    let (extent, mut disks) = fresh(&rt, rt.alloc(), 5, 2, 0b1000)?;
-    let outcome = of_plain_read(rt.alloc(), extent, &mut disks, &[5])?;
-    assert_eq!(rt; outcome, Outcome::Same);
+    assert!(rt; of_failing_plain(&rt, rt.alloc())? == Outcome::Same);
     Ok(())
 }
 
@@ -317,15 +354,13 @@ fn shared_writes(alloc: Global, extent: Extent) -> Result<bool, AllocError>
 #[test]
 fn writes_with_shared_bytes(rt: HostRuntime) -> Result<(), Fail> {
     let (extent, _disks) = fresh(&rt, rt.alloc(), 4, 1, 0)?;
-    let right = shared_writes(rt.alloc(), extent)?;
-    assert!(rt; right);
+    assert!(rt; shared_writes(rt.alloc(), extent) == Ok(true));
     Ok(())
 }
 
 #[test]
 fn writes_by_column(rt: HostRuntime) -> Result<(), Fail> {
     let (extent, _disks) = fresh(&rt, rt.alloc(), 4, 1, 0)?;
-    let right = column_writes(rt.alloc(), extent)?;
-    assert!(rt; right);
+    assert!(rt; column_writes(rt.alloc(), extent) == Ok(true));
     Ok(())
 }

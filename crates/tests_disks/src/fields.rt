@@ -3,23 +3,23 @@ use gf256::{double, inverse, mul, power_of_x};
 
 #[test]
 fn multiplies(rt: HostRuntime) {
-    assert_eq!(rt; double(0x80), 0x1d);
+    assert!(rt; double(0x80) == 0x1d);
     for (a, b, product) in [(0x80, 0x80, 0x13), (0x02, 0x8e, 0x01)] {
-        assert_eq!(rt; mul(a, b), product, "{a} and {b}");
+        assert!(rt; mul(a, b) == product, "{a} and {b}");
     }
 }
 
 #[test]
 fn raises_x(rt: HostRuntime) {
     for (exponent, power) in [(0, 1), (8, 0x1d), (255, 1)] {
-        assert_eq!(rt; power_of_x(exponent), power, "x^{exponent}");
+        assert!(rt; power_of_x(exponent) == power, "x^{exponent}");
     }
 }
 
 #[test]
 fn inverts(rt: HostRuntime) {
     for (a, b) in [(0, None), (1, Some(1)), (2, Some(0x8e))] {
-        assert_eq!(rt; inverse(a), b, "of {a}");
+        assert!(rt; inverse(a) == b, "of {a}");
     }
 }
 
@@ -30,5 +30,5 @@ fn weighs_columns_by_horner(rt: HostRuntime) {
     for column in [0x01, 0x02, 0x80] {
         sum = double(sum) ^ column;
     }
-    assert_eq!(rt; sum, 0x80);
+    assert!(rt; sum == 0x80);
 }

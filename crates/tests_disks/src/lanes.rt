@@ -4,7 +4,6 @@ ghost use Rattle.std.specs.Prelude.{◌≡◌, IfOk, length, vec_len};
 use gf_lanes::{horner2_into, horner4_into, mul_add_into, mul_into, xor_into};
 use gf256::{double, mul};
 use std::alloc::{AllocError, Global};
-use std::test::Fail;
 
 const LENGTHS: [usize; 9] = [0, 1, 31, 32, 33, 63, 64, 65, 131072];
 
@@ -79,13 +78,21 @@ fn is_right(alloc: Global, kernel: Kernel, len: usize) -> Result<bool, AllocErro
     Ok(agree(kernel, &target, &before, &source))
 }
 
-#[test]
-fn kernels_equal_plain_loops(rt: HostRuntime) -> Result<(), Fail> {
-    for (which, kernel) in KERNELS.into_iter().enumerate() {
-        for len in LENGTHS {
-            let right = is_right(rt.alloc(), kernel, len)?;
-            assert!(rt; right, "kernel {which} at length {len}");
+/// A length at which the kernel differs from the loop.
+fn wrong_length(alloc: Global, kernel: Kernel) -> Result<Option<usize>, AllocError> {
+    let mut wrong = None;
+    for len in &LENGTHS {
+        if !is_right(alloc, kernel, *len)? {
+            wrong = Some(*len);
         }
     }
-    Ok(())
+    Ok(wrong)
+}
+
+#[test]
+fn kernels_equal_plain_loops(rt: HostRuntime) {
+    for (which, kernel) in KERNELS.iter().enumerate() {
+        let wrong = wrong_length(rt.alloc(), *kernel);
+        assert!(rt; wrong == Ok(None), "kernel {which}");
+    }
 }

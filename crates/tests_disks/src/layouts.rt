@@ -101,6 +101,6 @@ fn limits_of_geometries(rt: HostRuntime) {
     ] {
         let answer = Geometry::new(children, parity, shift);
         let refused = matches!(answer, Err(Refusal::BadConfig));
-        assert_eq!(rt; refused, !taken, "{children} children, {parity} parities");
+        assert!(rt; refused == !taken, "{children} children, {parity} parities");
     }
 }

@@ -2,7 +2,6 @@
 use model_disk::{Disk, DiskArray, MemDisk, Member};
 use pool_members::{Arranged, Child, Refusal, arrange};
 use std::alloc::{AllocError, Global};
-use std::test::Fail;
 
 /// Three disks in memory of 16 bytes each: sevens, eights and nines.
 fn three(alloc: Global) -> Result<Vec<MemDisk>, AllocError> {
@@ -73,40 +72,46 @@ fn why(alloc: Global, children: &[Child]) -> Result<Option<Refusal>, AllocError>
 }
 
 #[test]
-fn disks_are_put_in_order(rt: HostRuntime) -> Result<(), Fail> {
-    let held = shown(rt.alloc())?;
-    assert_eq!(rt; held, [(16, Some(9)), (40, None), (16, Some(7))]);
-    Ok(())
+fn disks_are_put_in_order(rt: HostRuntime) {
+    let wanted = [(16, Some(9)), (40, None), (16, Some(7))];
+    assert!(rt; shown(rt.alloc()) == Ok(wanted));
+}
+
+/// Whether these are marked.
+fn are_marked(alloc: Global, out: &[bool]) -> Result<bool, Refusal> {
+    Ok(arranged(alloc)?.out.as_slice() == out)
 }
 
 #[test]
-fn absent_disks_are_marked(rt: HostRuntime) -> Result<(), Fail> {
-    let out = arranged(rt.alloc())?.out;
-    assert_eq!(rt; out.as_slice(), [false, true, false].as_slice());
-    Ok(())
+fn absent_disks_are_marked(rt: HostRuntime) {
+    assert!(rt; are_marked(rt.alloc(), &[false, true, false]) == Ok(true));
 }
 
-#[test]
-fn calls_on_an_absent_disk_fail(rt: HostRuntime) -> Result<(), Fail> {
+/// Whether calls on an absent disk fail, and whether it is told to be absent.
+fn absent_fails() -> ([bool; 2], bool) {
     let mut disk: Member<MemDisk> = Member::absent(8);
-    assert_eq!(rt; fails(&mut disk), [true, true]);
-    assert!(rt; disk.is_absent());
-    Ok(())
+    (fails(&mut disk), disk.is_absent())
 }
 
 #[test]
-fn disks_are_given_back(rt: HostRuntime) -> Result<(), Fail> {
-    let last = arranged(rt.alloc())?.disks.pop().and_then(byte_in);
-    assert_eq!(rt; last, Some(7));
-    assert_eq!(rt; byte_in(Member::absent(8)), None);
-    Ok(())
+fn calls_on_an_absent_disk_fail(rt: HostRuntime) {
+    assert!(rt; absent_fails() == ([true, true], true));
+}
+
+/// The first byte of the last disk that is given back.
+fn last_byte(alloc: Global) -> Result<Option<u8>, Refusal> {
+    Ok(arranged(alloc)?.disks.pop().and_then(byte_in))
 }
 
 #[test]
-fn each_disk_is_named_once(rt: HostRuntime) -> Result<(), Fail> {
-    let twice = why(rt.alloc(), &[there(1), absent(8), there(1)])?;
-    assert_eq!(rt; twice, Some(Refusal::NotEachOnce));
-    let past = why(rt.alloc(), &[there(3)])?;
-    assert_eq!(rt; past, Some(Refusal::NotEachOnce));
-    Ok(())
+fn disks_are_given_back(rt: HostRuntime) {
+    assert!(rt; last_byte(rt.alloc()) == Ok(Some(7)));
+    assert!(rt; byte_in(Member::absent(8)) == None);
+}
+
+#[test]
+fn each_disk_is_named_once(rt: HostRuntime) {
+    let twice = why(rt.alloc(), &[there(1), absent(8), there(1)]);
+    assert!(rt; twice == Ok(Some(Refusal::NotEachOnce)));
+    assert!(rt; why(rt.alloc(), &[there(3)]) == Ok(Some(Refusal::NotEachOnce)));
 }

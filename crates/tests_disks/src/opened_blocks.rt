@@ -2,11 +2,10 @@
 ghost use Rattle.std.specs.Prelude.{◌<◌};
 
 use crate::stored_blocks::{
-    NEVER, SMALL_DISK, TestDisk, TestStore, disks, pattern, property, vdev, write_due,
+    NEVER, SMALL_DISK, TestStore, pattern, property, small_store, vdev, write_due,
 };
 use block_pointer::{Block, Copies};
 use block_store::{Asked, BlockStore, CopyCount, NewBlock, Refusal, VdevShape, sectors_for_blocks};
-use model_disk::DiskArray;
 use raidz_io::Vdev;
 use std::alloc::{AllocError, Global};
 use std::test::Fail;
@@ -20,10 +19,10 @@ const FIRST: u64 = 4;
 /// The seeds of their bytes, and that of the block that is written later.
 const SEEDS: [u8; 3] = [3, 5, 9];
 
-/// A store on one vdev of three disks with one parity.
-fn small_store(alloc: Global, disks: Vec<TestDisk>) -> Result<TestStore, Fail> {
+/// A store without blocks over the disks of another one.
+fn over_disks_of(alloc: Global, store: TestStore) -> Result<TestStore, Fail> {
     let vdevs = [vdev(3, 1, 12)?];
-    Ok(BlockStore::new(alloc, disks, &vdevs)?)
+    Ok(BlockStore::new(alloc, store.into_disks(), &vdevs)?)
 }
 
 /// Adds a block of two copies to the plan of a group.
@@ -57,12 +56,17 @@ fn write_two(store: &mut TestStore, alloc: Global) -> Result<[Block; 2], Refusal
     Ok([first, second])
 }
 
+/// A store that wrote two blocks.
+fn written(alloc: Global) -> Result<(TestStore, [Block; 2]), Fail> {
+    let mut store = small_store(alloc, NEVER)?;
+    let blocks = write_two(&mut store, alloc)?;
+    Ok((store, blocks))
+}
+
 /// Disks with two blocks, and a store without blocks over them.
 fn opened(alloc: Global) -> Result<(TestStore, [Block; 2]), Fail> {
-    let empty = disks(alloc, &[SMALL_DISK; 3], NEVER)?;
-    let mut store = small_store(alloc, empty)?;
-    let blocks = write_two(&mut store, alloc)?;
-    Ok((small_store(alloc, store.into_disks())?, blocks))
+    let (store, blocks) = written(alloc)?;
+    Ok((over_disks_of(alloc, store)?, blocks))
 }
 
 /// Whether a block is read as it was written.
@@ -98,17 +102,17 @@ fn go_on(
 }
 
 /// What is read where both blocks are taken in, where the second is not, and where none is.
-fn outcomes(alloc: Global, count: usize) -> Result<[bool; 3], Fail> {
+fn outcomes(alloc: Global, count: usize) -> Result<Result<[bool; 3], Refusal>, Fail> {
     let (mut store, blocks) = opened(alloc)?;
     let taken = blocks.get(..count).unwrap_or(&[]);
-    Ok(go_on(&mut store, alloc, &blocks, taken)?)
+    Ok(go_on(&mut store, alloc, &blocks, taken))
 }
 
 #[test]
 fn what_is_taken_in_is_kept(rt: HostRuntime) -> Result<(), Fail> {
-    assert_eq!(rt; outcomes(rt.alloc(), 2)?, [true, true, true]);
-    assert_eq!(rt; outcomes(rt.alloc(), 1)?, [true, false, true]);
-    assert_eq!(rt; outcomes(rt.alloc(), 0)?, [false, true, true]);
+    assert!(rt; outcomes(rt.alloc(), 2)? == Ok([true, true, true]));
+    assert!(rt; outcomes(rt.alloc(), 1)? == Ok([true, false, true]));
+    assert!(rt; outcomes(rt.alloc(), 0)? == Ok([false, true, true]));
     Ok(())
 }
 
@@ -134,12 +138,16 @@ fn answers(store: &mut TestStore, blocks: [Block; 2]) -> [Option<Refusal>; 4] {
     ]
 }
 
+fn answers_in_memory(alloc: Global) -> Result<[Option<Refusal>; 4], Fail> {
+    let (mut store, blocks) = opened(alloc)?;
+    Ok(answers(&mut store, blocks))
+}
+
 #[test]
 fn what_is_not_free_is_refused(rt: HostRuntime) -> Result<(), Fail> {
-    let (mut store, blocks) = opened(rt.alloc())?;
     let refused = Some(Refusal::BadPointer);
-    let answers = answers(&mut store, blocks);
-    assert_eq!(rt; answers, [None, refused, refused, refused]);
+    let answers = answers_in_memory(rt.alloc())?;
+    assert!(rt; answers == [None, refused, refused, refused]);
     Ok(())
 }
 
@@ -161,45 +169,42 @@ fn small_shape() -> Result<VdevShape, Fail> {
     })
 }
 
-/// The array of a store that wrote two blocks.
-fn written(alloc: Global) -> Result<(DiskArray<TestDisk>, [Block; 2]), Fail> {
-    let empty = disks(alloc, &[SMALL_DISK; 3], NEVER)?;
-    let mut store = small_store(alloc, empty)?;
-    let blocks = write_two(&mut store, alloc)?;
-    Ok((store.into_array(), blocks))
-}
-
 /// Whether two blocks are read.
 fn are_read(store: &mut TestStore, alloc: Global, blocks: &[Block; 2]) -> Result<bool, AllocError> {
     let first = is_read(store, alloc, &blocks[0], SEEDS[0])?;
     Ok(first && is_read(store, alloc, &blocks[1], SEEDS[1])?)
 }
 
-/// A store that is opened over that array with these disks out: whether the blocks are read before they are taken in, and what
-/// is read once a block was written behind them.
-fn reopened(alloc: Global, out: &[bool]) -> Result<(bool, [bool; 3]), Fail> {
+/// Whether the blocks are read before they are taken in, and what is read once a block was written behind them.
+fn read_and_go_on(
+    store: &mut TestStore,
+    alloc: Global,
+    blocks: &[Block; 2],
+) -> Result<(bool, [bool; 3]), Refusal> {
+    let before = are_read(store, alloc, blocks)?;
+    Ok((before, go_on(store, alloc, blocks, blocks)?))
+}
+
+/// What comes of a store that is opened over the array of another, with these disks out.
+fn reopened(alloc: Global, out: &[bool]) -> Result<Result<(bool, [bool; 3]), Refusal>, Fail> {
     let shape = small_shape()?;
-    let (disks, blocks) = written(alloc)?;
-    let mut store = BlockStore::opened(alloc, disks, &[shape], out)?;
-    let before = are_read(&mut store, alloc, &blocks)?;
-    Ok((before, go_on(&mut store, alloc, &blocks, &blocks)?))
+    let (store, blocks) = written(alloc)?;
+    let mut store = BlockStore::opened(alloc, store.into_array(), &[shape], out)?;
+    Ok(read_and_go_on(&mut store, alloc, &blocks))
 }
 
 /// Why it is not opened with marks for two disks.
 fn not_opened(alloc: Global) -> Result<Option<Refusal>, Fail> {
     let shape = small_shape()?;
-    let (disks, _) = written(alloc)?;
-    Ok(BlockStore::opened(alloc, disks, &[shape], &[false; 2]).err())
+    let (store, _) = written(alloc)?;
+    Ok(BlockStore::opened(alloc, store.into_array(), &[shape], &[false; 2]).err())
 }
 
 #[test]
 fn an_array_is_opened(rt: HostRuntime) -> Result<(), Fail> {
-    assert_eq!(rt; reopened(rt.alloc(), &[false; 3])?, (true, [true; 3]));
-    assert_eq!(rt;
-        reopened(rt.alloc(), &[false, true, false])?,
-        (true, [true; 3])
-    );
-    assert_eq!(rt; not_opened(rt.alloc())?, Some(Refusal::BadConfig));
+    assert!(rt; reopened(rt.alloc(), &[false; 3])? == Ok((true, [true; 3])));
+    assert!(rt; reopened(rt.alloc(), &[false, true, false])? == Ok((true, [true; 3])));
+    assert!(rt; not_opened(rt.alloc())? == Some(Refusal::BadConfig));
     Ok(())
 }
 
@@ -211,10 +216,14 @@ fn size_of_disk(store: &TestStore, disk: usize) -> Option<u64> {
     Some(store.disk_size(disk))
 }
 
+/// The sizes of the last disk of a store, and of one behind it.
+fn sizes(alloc: Global) -> Result<[Option<u64>; 2], Fail> {
+    let (store, _) = opened(alloc)?;
+    Ok([size_of_disk(&store, 2), size_of_disk(&store, 3)])
+}
+
 #[test]
 fn a_store_tells_the_sizes_of_its_disks(rt: HostRuntime) -> Result<(), Fail> {
-    let (store, _) = opened(rt.alloc())?;
-    assert_eq!(rt; size_of_disk(&store, 2), Some(SMALL_DISK as u64));
-    assert_eq!(rt; size_of_disk(&store, 3), None);
+    assert!(rt; sizes(rt.alloc())? == [Some(SMALL_DISK as u64), None]);
     Ok(())
 }

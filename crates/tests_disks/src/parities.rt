@@ -5,7 +5,9 @@ use arrayvec::ArrayVec;
 use gf256::double;
 use raidz_parity::{Columns, Parity, Refusal};
 use std::alloc::{AllocError, Global};
-use std::test::Fail;
+
+/// The columns 01, 02 and 80 with their parities.
+const WHOLE: [u8; 5] = [0x83, 0x80, 0x01, 0x02, 0x80];
 
 /// The lengths of two columns.
 fn two(first: usize, second: usize) -> ArrayVec<usize, 32>
@@ -41,47 +43,44 @@ fn all_bytes(alloc: Global, columns: &Columns) -> Result<Vec<u8>, AllocError>
     Ok(bytes)
 }
 
-/// The same of what `generate` makes of a block.
-fn generated(
+/// Whether `generate` makes these of a block.
+fn makes(
     alloc: Global,
     lengths: ArrayVec<usize, 32>,
     block: &[u8],
-) -> Result<Vec<u8>, AllocError>
+    bytes: &[u8],
+) -> Result<bool, AllocError>
     requires first { 0 < length lengths.items }
     requires longest { All (λ n. n ≤ slice_index lengths.items 0) lengths.items }
     requires fits { sum lengths.items ≡ length block.now }
 {
     let block = Vec::from_slice(alloc, block)?;
     let columns = Columns::generate(alloc, 2, lengths, block)?;
-    all_bytes(alloc, &columns)
+    Ok(all_bytes(alloc, &columns)?.as_slice() == bytes)
 }
 
 #[test]
-fn three_columns(rt: HostRuntime) -> Result<(), Fail> {
-    let bytes = generated(rt.alloc(), three(), &[0x01, 0x02, 0x80])?;
-    assert_eq!(rt; bytes.as_slice(), [0x83, 0x80, 0x01, 0x02, 0x80].as_slice());
-    Ok(())
+fn three_columns(rt: HostRuntime) {
+    let right = makes(rt.alloc(), three(), &WHOLE[2..], &WHOLE);
+    assert!(rt; right == Ok(true));
 }
 
 #[test]
-fn last_column_has_weight_one(rt: HostRuntime) -> Result<(), Fail> {
-    let bytes = generated(rt.alloc(), two(1, 1), &[0x80, 0x00])?;
-    assert_eq!(rt; bytes.as_slice(), [0x80, 0x1d, 0x80, 0x00].as_slice());
-    Ok(())
-}
-
-#[test]
-fn shorter_column(rt: HostRuntime) -> Result<(), Fail> {
-    let bytes = generated(rt.alloc(), two(2, 1), &[0x01, 0x02, 0x03])?;
-    assert_eq!(rt;
-        bytes.as_slice(),
-        [0x02, 0x02, 0x01, 0x04, 0x01, 0x02, 0x03].as_slice()
+fn last_column_has_weight_one(rt: HostRuntime) {
+    let right = makes(
+        rt.alloc(),
+        two(1, 1),
+        &[0x80, 0x00],
+        &[0x80, 0x1d, 0x80, 0x00],
     );
-    Ok(())
+    assert!(rt; right == Ok(true));
 }
 
-/// The columns 01, 02 and 80 with their parities.
-const WHOLE: [u8; 5] = [0x83, 0x80, 0x01, 0x02, 0x80];
+#[test]
+fn shorter_column(rt: HostRuntime) {
+    let bytes = [0x02, 0x02, 0x01, 0x04, 0x01, 0x02, 0x03];
+    assert!(rt; makes(rt.alloc(), two(2, 1), &bytes[4..], &bytes) == Ok(true));
+}
 
 /// These columns of one byte as they are read.
 fn read(alloc: Global, bytes: [u8; 5]) -> Result<Columns, AllocError>
@@ -106,25 +105,30 @@ fn rebuilt(alloc: Global, bytes: [u8; 5], lost: &[usize]) -> Result<(bool, bool)
     Ok((refused, all))
 }
 
-#[test]
-fn any_two_columns_rebuilt(rt: HostRuntime) -> Result<(), Fail> {
-    for lost in 0..5usize {
-        for other in 0..5usize {
-            let mut bytes = WHOLE;
-            bytes[lost] = 9;
-            bytes[other] = 9;
-            let answer = rebuilt(rt.alloc(), bytes, &[lost, other])?;
-            assert_eq!(rt; answer, (false, true), "{lost} and {other}");
-        }
-    }
-    Ok(())
+/// The same without two columns.
+fn without(alloc: Global, lost: usize, other: usize) -> Result<(bool, bool), AllocError>
+    requires lost { lost < 5 }
+    requires other { other < 5 }
+{
+    let mut bytes = WHOLE;
+    bytes[lost] = 9;
+    bytes[other] = 9;
+    rebuilt(alloc, bytes, &[lost, other])
 }
 
 #[test]
-fn three_lost_columns_refused(rt: HostRuntime) -> Result<(), Fail> {
-    let answer = rebuilt(rt.alloc(), WHOLE, &[0, 2, 3])?;
-    assert_eq!(rt; answer, (true, true));
-    Ok(())
+fn any_two_columns_rebuilt(rt: HostRuntime) {
+    for lost in 0..5usize {
+        for other in 0..5usize {
+            let answer = without(rt.alloc(), lost, other);
+            assert!(rt; answer == Ok((false, true)), "{lost} and {other}");
+        }
+    }
+}
+
+#[test]
+fn three_lost_columns_refused(rt: HostRuntime) {
+    assert!(rt; rebuilt(rt.alloc(), WHOLE, &[0, 2, 3]) == Ok((true, true)));
 }
 
 /// Both columns of two lengths made again from their parities alone.
@@ -140,10 +144,8 @@ fn from_parities(alloc: Global) -> Result<bool, AllocError> {
 }
 
 #[test]
-fn both_columns_of_two_lengths_rebuilt(rt: HostRuntime) -> Result<(), Fail> {
-    let right = from_parities(rt.alloc())?;
-    assert!(rt; right);
-    Ok(())
+fn both_columns_of_two_lengths_rebuilt(rt: HostRuntime) {
+    assert!(rt; from_parities(rt.alloc()) == Ok(true));
 }
 
 fn byte(place: usize) -> u8 {
@@ -178,8 +180,6 @@ fn longer_than_lanes(alloc: Global) -> Result<bool, AllocError> {
 }
 
 #[test]
-fn columns_longer_than_lanes(rt: HostRuntime) -> Result<(), Fail> {
-    let right = longer_than_lanes(rt.alloc())?;
-    assert!(rt; right);
-    Ok(())
+fn columns_longer_than_lanes(rt: HostRuntime) {
+    assert!(rt; longer_than_lanes(rt.alloc()) == Ok(true));
 }

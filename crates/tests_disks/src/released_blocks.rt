@@ -1,11 +1,9 @@
 //! Tests of what `block_store` is given back: when its place is handed out again, and what is refused.
 ghost use Rattle.std.specs.Prelude.{◌<◌};
 
-use crate::stored_blocks::{
-    NEVER, SMALL_DISK, TestStore, disks, pattern, property, vdev, write_due,
-};
+use crate::stored_blocks::{NEVER, TestStore, pattern, property, small_store, write_due};
 use block_pointer::Block;
-use block_store::{BlockStore, CopyCount, NewBlock, Refusal};
+use block_store::{CopyCount, NewBlock, Refusal};
 use std::alloc::Global;
 use std::test::Fail;
 
@@ -14,13 +12,6 @@ const SECTORS: u32 = 12;
 
 /// The group that writes the first block.
 const FIRST: u64 = 4;
-
-/// A store on one vdev of three small disks with one parity.
-fn small_store(alloc: Global) -> Result<TestStore, Fail> {
-    let vdevs = [vdev(3, 1, 12)?];
-    let disks = disks(alloc, &[SMALL_DISK; 3], NEVER)?;
-    Ok(BlockStore::new(alloc, disks, &vdevs)?)
-}
 
 /// Adds a block of two copies to the plan of a group.
 fn plan(store: &mut TestStore, alloc: Global, group: u64) -> Result<Block, Refusal>
@@ -66,11 +57,15 @@ fn comes_back(store: &mut TestStore, alloc: Global) -> Result<[bool; 3], Refusal
     Ok(is_there)
 }
 
+fn comes_back_in_memory(alloc: Global) -> Result<Result<[bool; 3], Refusal>, Fail> {
+    let mut store = small_store(alloc, NEVER)?;
+    Ok(comes_back(&mut store, alloc))
+}
+
 #[test]
 fn a_released_place_comes_back(rt: HostRuntime) -> Result<(), Fail> {
-    let mut store = small_store(rt.alloc())?;
-    let is_there = comes_back(&mut store, rt.alloc());
-    assert_eq!(rt; is_there, Ok([false, false, true]));
+    let is_there = comes_back_in_memory(rt.alloc())?;
+    assert!(rt; is_there == Ok([false, false, true]));
     Ok(())
 }
 
@@ -88,11 +83,15 @@ fn answers(store: &mut TestStore, alloc: Global) -> Result<[Option<Refusal>; 4],
     Ok([first, again, dropped, later])
 }
 
+fn answers_in_memory(alloc: Global) -> Result<Result<[Option<Refusal>; 4], Refusal>, Fail> {
+    let mut store = small_store(alloc, NEVER)?;
+    Ok(answers(&mut store, alloc))
+}
+
 #[test]
 fn what_is_not_in_use_is_refused(rt: HostRuntime) -> Result<(), Fail> {
-    let mut store = small_store(rt.alloc())?;
     let refused = Some(Refusal::BadPointer);
-    let answers = answers(&mut store, rt.alloc());
-    assert_eq!(rt; answers, Ok([None, refused, None, refused]));
+    let answers = answers_in_memory(rt.alloc())?;
+    assert!(rt; answers == Ok([None, refused, None, refused]));
     Ok(())
 }

@@ -6,6 +6,7 @@ use block_store::{Asked, BlockStore, CopyCount, NewBlock, Refusal, VdevConfig};
 use model_disk::{Fault, FaultDisk, MemDisk};
 use raidz_map::Geometry;
 use std::alloc::{AllocError, Global};
+use std::process::Abort;
 use std::test::Fail;
 
 pub(crate) type TestDisk = FaultDisk<MemDisk>;
@@ -348,152 +349,189 @@ pub(crate) fn disks(alloc: Global, sizes: &[usize], fault: Fault) -> Result<Vec<
 
 /// One vdev of three small disks with one parity, whose 21504 sectors are five metaslabs of 4096, the last one its meta
 /// region; the second disk has this fault.
+pub(crate) fn small_store(alloc: Global, fault: Fault) -> Result<TestStore, Fail> {
+    let vdevs = [vdev(3, 1, 12)?];
+    let disks = disks(alloc, &[SMALL_DISK; 3], fault)?;
+    Ok(BlockStore::new(alloc, disks, &vdevs)?)
+}
+
 fn walk(
     alloc: Global,
     fault: Fault,
     steps: &[(Step, Outcome)],
 ) -> Result<Option<(usize, Outcome)>, Fail> {
-    let vdevs = [vdev(3, 1, 12)?];
-    let disks = disks(alloc, &[SMALL_DISK; 3], fault)?;
-    let mut store = BlockStore::new(alloc, disks, &vdevs)?;
+    let mut store = small_store(alloc, fault)?;
     Ok(first_wrong(&mut store, alloc, steps))
 }
 
-#[test]
-fn blocks_are_read_with_a_disk_missing(rt: HostRuntime) -> Result<(), Fail> {
-    let lost = Outcome::Refused(Refusal::DiskFault);
-    let steps = [
-        (Step::Begin, Outcome::Done),
-        (Step::Plan(3, 1, CopyCount::One), Outcome::Done),
-        (Step::Plan(5, 7, CopyCount::Two), Outcome::Done),
-        (Step::Plan(9, LARGE, CopyCount::Three), Outcome::Done),
-        (Step::Write, Outcome::Count(0)),
-        (Step::Finish, Outcome::Done),
-        (Step::Read(0, &[]), Outcome::Right),
-        (Step::Read(1, &[]), Outcome::Right),
-        (Step::Read(2, &[]), Outcome::Right),
-        (Step::Read(0, &[0]), Outcome::Right),
-        (Step::Read(1, &[0]), Outcome::Right),
-        (Step::Read(2, &[0]), Outcome::Right),
-        (Step::Read(0, &[1]), Outcome::Right),
-        (Step::Read(1, &[1]), Outcome::Right),
-        (Step::Read(2, &[1]), Outcome::Right),
-        (Step::Read(0, &[2]), Outcome::Right),
-        (Step::Read(1, &[2]), Outcome::Right),
-        (Step::Read(2, &[2]), Outcome::Right),
-        (Step::Read(2, &[0, 1]), lost),
-        (Step::Read(2, &[0, 2]), lost),
-        (Step::Read(2, &[1, 2]), lost),
-    ];
-    assert_eq!(rt; walk(rt.alloc(), NEVER, &steps)?, None);
+const LOST: Outcome = Outcome::Refused(Refusal::DiskFault);
+
+const BAD: Outcome = Outcome::Refused(Refusal::BadPointer);
+
+const FULL: Outcome = Outcome::Refused(Refusal::NoSpace);
+
+/// Walks the list on a small store, and expects of each step what is to come of it.
+fn expect_all<R: Abort>(
+    rt: &R,
+    alloc: Global,
+    fault: Fault,
+    steps: &[(Step, Outcome)],
+) -> Result<(), Fail> {
+    let wrong = walk(alloc, fault, steps)?;
+    assert_eq!(rt; wrong, None);
     Ok(())
 }
+
+/// Blocks are read with a disk missing, and not with two.
+const READS: [(Step<'static>, Outcome); 21] = [
+    (Step::Begin, Outcome::Done),
+    (Step::Plan(3, 1, CopyCount::One), Outcome::Done),
+    (Step::Plan(5, 7, CopyCount::Two), Outcome::Done),
+    (Step::Plan(9, LARGE, CopyCount::Three), Outcome::Done),
+    (Step::Write, Outcome::Count(0)),
+    (Step::Finish, Outcome::Done),
+    (Step::Read(0, &[]), Outcome::Right),
+    (Step::Read(1, &[]), Outcome::Right),
+    (Step::Read(2, &[]), Outcome::Right),
+    (Step::Read(0, &[0]), Outcome::Right),
+    (Step::Read(1, &[0]), Outcome::Right),
+    (Step::Read(2, &[0]), Outcome::Right),
+    (Step::Read(0, &[1]), Outcome::Right),
+    (Step::Read(1, &[1]), Outcome::Right),
+    (Step::Read(2, &[1]), Outcome::Right),
+    (Step::Read(0, &[2]), Outcome::Right),
+    (Step::Read(1, &[2]), Outcome::Right),
+    (Step::Read(2, &[2]), Outcome::Right),
+    (Step::Read(2, &[0, 1]), LOST),
+    (Step::Read(2, &[0, 2]), LOST),
+    (Step::Read(2, &[1, 2]), LOST),
+];
+
+#[test]
+fn blocks_are_read_with_a_disk_missing(rt: HostRuntime) -> Result<(), Fail> {
+    expect_all(&rt, rt.alloc(), NEVER, &READS)
+}
+
+/// A plan is dropped between two that are finished.
+const DROPPED: [(Step<'static>, Outcome); 16] = [
+    (Step::Begin, Outcome::Done),
+    (Step::Plan(1, 12, CopyCount::One), Outcome::Done),
+    (Step::Write, Outcome::Count(0)),
+    (Step::Finish, Outcome::Done),
+    (Step::Begin, Outcome::Done),
+    (Step::Plan(2, 12, CopyCount::One), Outcome::Done),
+    (Step::Write, Outcome::Count(0)),
+    (Step::Read(0, &[]), Outcome::Right),
+    (Step::Begin, Outcome::Done),
+    (Step::Plan(3, 12, CopyCount::One), Outcome::Done),
+    (Step::Write, Outcome::Count(0)),
+    (Step::Finish, Outcome::Done),
+    (Step::AreInOnePlace(1, 2), Outcome::Right),
+    (Step::AreInOnePlace(0, 2), Outcome::Wrong),
+    (Step::Read(0, &[]), Outcome::Right),
+    (Step::Read(2, &[]), Outcome::Right),
+];
 
 #[test]
 fn a_dropped_plan_leaves_what_is_stored(rt: HostRuntime) -> Result<(), Fail> {
-    let steps = [
-        (Step::Begin, Outcome::Done),
-        (Step::Plan(1, 12, CopyCount::One), Outcome::Done),
-        (Step::Write, Outcome::Count(0)),
-        (Step::Finish, Outcome::Done),
-        (Step::Begin, Outcome::Done),
-        (Step::Plan(2, 12, CopyCount::One), Outcome::Done),
-        (Step::Write, Outcome::Count(0)),
-        (Step::Read(0, &[]), Outcome::Right),
-        (Step::Begin, Outcome::Done),
-        (Step::Plan(3, 12, CopyCount::One), Outcome::Done),
-        (Step::Write, Outcome::Count(0)),
-        (Step::Finish, Outcome::Done),
-        (Step::AreInOnePlace(1, 2), Outcome::Right),
-        (Step::AreInOnePlace(0, 2), Outcome::Wrong),
-        (Step::Read(0, &[]), Outcome::Right),
-        (Step::Read(2, &[]), Outcome::Right),
-    ];
-    assert_eq!(rt; walk(rt.alloc(), NEVER, &steps)?, None);
-    Ok(())
+    expect_all(&rt, rt.alloc(), NEVER, &DROPPED)
 }
+
+/// A block is read by other pointers.
+const FORGED: [(Step<'static>, Outcome); 14] = [
+    (Step::Begin, Outcome::Done),
+    (Step::Plan(1, 12, CopyCount::One), Outcome::Done),
+    (Step::Write, Outcome::Count(0)),
+    (Step::Finish, Outcome::Done),
+    (Step::ReadForged(0, Forgery::AskedEarlier), BAD),
+    (Step::ReadForged(0, Forgery::AskedLarger), BAD),
+    (Step::ReadForged(0, Forgery::AskedHigher), BAD),
+    (Step::ReadForged(0, Forgery::NoVdev), BAD),
+    (Step::ReadForged(0, Forgery::BehindAll), BAD),
+    (Step::ReadForged(0, Forgery::AcrossMetaslabs), BAD),
+    (Step::ReadForged(0, Forgery::InMetaRegion), BAD),
+    (Step::ReadForged(0, Forgery::Wide), BAD),
+    (
+        Step::ReadForged(0, Forgery::Digest),
+        Outcome::Refused(Refusal::BadDigest),
+    ),
+    (Step::Read(0, &[]), Outcome::Right),
+];
 
 #[test]
 fn other_pointers_are_refused(rt: HostRuntime) -> Result<(), Fail> {
-    let bad = Outcome::Refused(Refusal::BadPointer);
-    let steps = [
-        (Step::Begin, Outcome::Done),
-        (Step::Plan(1, 12, CopyCount::One), Outcome::Done),
-        (Step::Write, Outcome::Count(0)),
-        (Step::Finish, Outcome::Done),
-        (Step::ReadForged(0, Forgery::AskedEarlier), bad),
-        (Step::ReadForged(0, Forgery::AskedLarger), bad),
-        (Step::ReadForged(0, Forgery::AskedHigher), bad),
-        (Step::ReadForged(0, Forgery::NoVdev), bad),
-        (Step::ReadForged(0, Forgery::BehindAll), bad),
-        (Step::ReadForged(0, Forgery::AcrossMetaslabs), bad),
-        (Step::ReadForged(0, Forgery::InMetaRegion), bad),
-        (Step::ReadForged(0, Forgery::Wide), bad),
-        (
-            Step::ReadForged(0, Forgery::Digest),
-            Outcome::Refused(Refusal::BadDigest),
-        ),
-        (Step::Read(0, &[]), Outcome::Right),
-    ];
-    assert_eq!(rt; walk(rt.alloc(), NEVER, &steps)?, None);
-    Ok(())
+    expect_all(&rt, rt.alloc(), NEVER, &FORGED)
 }
+
+/// The second write of a disk fails.
+const FAILED: [(Step<'static>, Outcome); 24] = [
+    (Step::Begin, Outcome::Done),
+    (Step::Plan(1, LARGE, CopyCount::One), Outcome::Done),
+    (Step::Write, Outcome::Count(0)),
+    (Step::Finish, Outcome::Done),
+    (Step::IsOut(1), Outcome::Wrong),
+    (Step::Begin, Outcome::Done),
+    (Step::Plan(2, LARGE, CopyCount::One), Outcome::Done),
+    (Step::Due, Outcome::Count(3)),
+    (Step::Write, Outcome::Count(1)),
+    (Step::Finish, Outcome::Done),
+    (Step::IsOut(0), Outcome::Wrong),
+    (Step::IsOut(1), Outcome::Right),
+    (Step::IsOut(2), Outcome::Wrong),
+    (Step::OutSince(0), Outcome::Since(None)),
+    (Step::OutSince(1), Outcome::Since(Some(BIRTH))),
+    (Step::Begin, Outcome::Done),
+    (Step::Plan(3, LARGE, CopyCount::One), Outcome::Done),
+    (Step::Due, Outcome::Count(2)),
+    (Step::Write, Outcome::Count(0)),
+    (Step::Finish, Outcome::Done),
+    (Step::Read(0, &[]), Outcome::Right),
+    (Step::Read(1, &[]), Outcome::Right),
+    (Step::Read(2, &[]), Outcome::Right),
+    (Step::Flush(0), Outcome::Done),
+];
 
 #[test]
 fn a_disk_whose_write_fails_is_out(rt: HostRuntime) -> Result<(), Fail> {
-    let steps = [
-        (Step::Begin, Outcome::Done),
-        (Step::Plan(1, LARGE, CopyCount::One), Outcome::Done),
-        (Step::Write, Outcome::Count(0)),
-        (Step::Finish, Outcome::Done),
-        (Step::IsOut(1), Outcome::Wrong),
-        (Step::Begin, Outcome::Done),
-        (Step::Plan(2, LARGE, CopyCount::One), Outcome::Done),
-        (Step::Due, Outcome::Count(3)),
-        (Step::Write, Outcome::Count(1)),
-        (Step::Finish, Outcome::Done),
-        (Step::IsOut(0), Outcome::Wrong),
-        (Step::IsOut(1), Outcome::Right),
-        (Step::IsOut(2), Outcome::Wrong),
-        (Step::OutSince(0), Outcome::Since(None)),
-        (Step::OutSince(1), Outcome::Since(Some(BIRTH))),
-        (Step::Begin, Outcome::Done),
-        (Step::Plan(3, LARGE, CopyCount::One), Outcome::Done),
-        (Step::Due, Outcome::Count(2)),
-        (Step::Write, Outcome::Count(0)),
-        (Step::Finish, Outcome::Done),
-        (Step::Read(0, &[]), Outcome::Right),
-        (Step::Read(1, &[]), Outcome::Right),
-        (Step::Read(2, &[]), Outcome::Right),
-        (Step::Flush(0), Outcome::Done),
-    ];
-    assert_eq!(rt; walk(rt.alloc(), Fault::Write(1), &steps)?, None);
-    Ok(())
+    expect_all(&rt, rt.alloc(), Fault::Write(1), &FAILED)
+}
+
+/// What a plan of a block has: of the first three, three copies, and of the others two.
+fn copies_of(seed: u8) -> CopyCount {
+    if seed < 3 {
+        CopyCount::Three
+    } else {
+        CopyCount::Two
+    }
+}
+
+/// What is refused once 23 blocks are there.
+const REFUSED: [(Step<'static>, Outcome); 3] = [
+    (Step::Plan(23, LARGE, CopyCount::Three), FULL),
+    (Step::Plan(24, LARGE, CopyCount::Two), FULL),
+    (Step::Finish, Outcome::Done),
+];
+
+/// What is wrong as 23 blocks are planned and written, as others are refused, and as the 23 are read.
+fn filled(alloc: Global) -> Result<Option<(usize, Outcome)>, Fail> {
+    let mut steps = Vec::from_slice(alloc, &[(Step::Begin, Outcome::Done)])?;
+    for seed in 0..23u8 {
+        let plan = Step::Plan(seed, LARGE, copies_of(seed));
+        let both = [(plan, Outcome::Done), (Step::Write, Outcome::Count(0))];
+        steps.extend_from_slice(&both)?;
+    }
+    steps.extend_from_slice(&REFUSED)?;
+    for which in 0..23 {
+        steps.push((Step::Read(which, &[]), Outcome::Right))?;
+    }
+    walk(alloc, NEVER, steps.as_slice())
 }
 
 /// A copy of 128 KiB takes up 384 sectors here, so ten have room in each of the five metaslabs: in the meta region three
 /// of three blocks, and one more, and before it two of twenty blocks.
 #[test]
 fn a_full_store_refuses_and_keeps_its_blocks(rt: HostRuntime) -> Result<(), Fail> {
-    let mut steps = Vec::new(rt.alloc());
-    steps.push((Step::Begin, Outcome::Done))?;
-    for seed in 0..23u8 {
-        let copies = if seed < 3 {
-            CopyCount::Three
-        } else {
-            CopyCount::Two
-        };
-        steps.push((Step::Plan(seed, LARGE, copies), Outcome::Done))?;
-        steps.push((Step::Write, Outcome::Count(0)))?;
-    }
-    let full = Outcome::Refused(Refusal::NoSpace);
-    steps.push((Step::Plan(23, LARGE, CopyCount::Three), full))?;
-    steps.push((Step::Plan(24, LARGE, CopyCount::Two), full))?;
-    steps.push((Step::Finish, Outcome::Done))?;
-    for which in 0..23 {
-        steps.push((Step::Read(which, &[]), Outcome::Right))?;
-    }
-    assert_eq!(rt; walk(rt.alloc(), NEVER, steps.as_slice())?, None);
+    assert!(rt; filled(rt.alloc())? == None);
     Ok(())
 }
 
@@ -541,19 +579,21 @@ fn shown_by(
     Ok(show(store, alloc, steps))
 }
 
+/// A block is read of whose two copies one has lost its disks.
+const TWO_COPIES: [(Step<'static>, Outcome); 7] = [
+    (Step::Begin, Outcome::Done),
+    (Step::Plan(1, LARGE, CopyCount::Two), Outcome::Done),
+    (Step::Write, Outcome::Count(0)),
+    (Step::Finish, Outcome::Done),
+    (Step::IsOnTwoVdevs(0), Outcome::Right),
+    (Step::Read(0, &[0, 1]), Outcome::Right),
+    (Step::Read(0, &[2, 3]), Outcome::Right),
+];
+
 #[test]
 fn two_copies_are_on_two_vdevs(rt: HostRuntime) -> Result<(), Fail> {
-    let steps = [
-        (Step::Begin, Outcome::Done),
-        (Step::Plan(1, LARGE, CopyCount::Two), Outcome::Done),
-        (Step::Write, Outcome::Count(0)),
-        (Step::Finish, Outcome::Done),
-        (Step::IsOnTwoVdevs(0), Outcome::Right),
-        (Step::Read(0, &[0, 1]), Outcome::Right),
-        (Step::Read(0, &[2, 3]), Outcome::Right),
-    ];
-    let vdevs = [vdev(2, 1, 12)?, vdev(2, 1, 12)?];
-    let shown = shown_by(rt.alloc(), &[SMALL_DISK; 4], &vdevs, &steps)?;
+    let pair = vdev(2, 1, 12)?;
+    let shown = shown_by(rt.alloc(), &[SMALL_DISK; 4], &[pair, pair], &TWO_COPIES)?;
     let expected = Shown {
         wrong: None,
         vdevs: 2,
@@ -562,7 +602,7 @@ fn two_copies_are_on_two_vdevs(rt: HostRuntime) -> Result<(), Fail> {
         child_sectors: 7168,
         metaslabs: 3,
     };
-    assert_eq!(rt; shown, expected);
+    assert!(rt; shown == expected);
     Ok(())
 }
 
@@ -578,7 +618,7 @@ fn a_vdev_has_the_sectors_of_its_smallest_disk(rt: HostRuntime) -> Result<(), Fa
         child_sectors: 7168,
         metaslabs: 3,
     };
-    assert_eq!(rt; shown, expected);
+    assert!(rt; shown == expected);
     Ok(())
 }
 
@@ -592,22 +632,35 @@ fn refusal_of(
     Ok(BlockStore::new(alloc, disks, vdevs).err())
 }
 
+const SMALL: &[usize] = &[SMALL_DISK; 3];
+
+/// Sizes of disks, and the metaslab shift of a vdev of two of them with one parity, if there is one, which are refused.
+const BEYOND: [(&[usize], Option<u32>); 7] = [
+    (&[], None),
+    (&[SMALL_DISK], Some(12)),
+    (SMALL, Some(12)),
+    (&[SMALL_DISK - 1; 2], Some(12)),
+    (&[SMALL_DISK; 2], Some(11)),
+    (&[SMALL_DISK; 2], Some(13)),
+    (&[SMALL_DISK; 2], Some(20)),
+];
+
+fn refusal_with(
+    alloc: Global,
+    sizes: &[usize],
+    shift: Option<u32>,
+) -> Result<Option<Refusal>, Fail> {
+    match shift {
+        Some(shift) => refusal_of(alloc, sizes, &[vdev(2, 1, shift)?]),
+        None => refusal_of(alloc, sizes, &[]),
+    }
+}
+
 #[test]
 fn what_is_not_within_the_limits_is_refused(rt: HostRuntime) -> Result<(), Fail> {
-    let small = [SMALL_DISK; 3];
-    let pair = [vdev(2, 1, 12)?];
-    let cases = [
-        (&small[..0], [].as_slice()),
-        (&small[..1], &pair),
-        (&small, &pair),
-        (&[SMALL_DISK - 1; 2], &pair),
-        (&small[..2], &[vdev(2, 1, 11)?]),
-        (&small[..2], &[vdev(2, 1, 13)?]),
-        (&small[..2], &[vdev(2, 1, 20)?]),
-    ];
-    for (index, (sizes, vdevs)) in cases.iter().enumerate() {
-        let refusal = refusal_of(rt.alloc(), sizes, vdevs)?;
-        assert_eq!(rt; refusal, Some(Refusal::BadConfig), "case {index}");
+    for &(sizes, shift) in &BEYOND {
+        let refusal = refusal_with(rt.alloc(), sizes, shift)?;
+        assert!(rt; refusal == Some(Refusal::BadConfig), "{sizes:?}");
     }
     Ok(())
 }
