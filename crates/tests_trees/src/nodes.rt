@@ -163,17 +163,17 @@ fn five(store: &mut Store, alloc: Global) -> Result<(ObjectSetKind, [usize; 3], 
     ))
 }
 
-fn five_in_memory(alloc: Global) -> Result<(ObjectSetKind, [usize; 3], bool), Fail> {
+fn five_in_memory(
+    alloc: Global,
+) -> Result<Result<(ObjectSetKind, [usize; 3], bool), Refusal>, Fail> {
     let mut store = new_store(alloc)?;
-    Ok(five(&mut store, alloc)?)
+    Ok(five(&mut store, alloc))
 }
 
 #[test]
 fn dnodes_are_read_as_they_were_written(rt: HostRuntime) -> Result<(), Fail> {
-    let (kind, numbers, all) = five_in_memory(rt.alloc())?;
-    assert_eq!(rt; kind, ObjectSetKind::Meta);
-    assert_eq!(rt; numbers, [5001, 156, 0]);
-    assert!(rt; all);
+    let wanted = (ObjectSetKind::Meta, [5001, 156, 0], true);
+    assert!(rt; five_in_memory(rt.alloc())? == Ok(wanted));
     Ok(())
 }
 
@@ -205,17 +205,15 @@ fn twice(store: &mut Store, alloc: Global) -> Result<([usize; 2], [bool; 3]), Re
     Ok(([set.objects as usize, replaced], [before, after, freed]))
 }
 
-fn twice_in_memory(alloc: Global) -> Result<([usize; 2], [bool; 3]), Fail> {
+fn twice_in_memory(alloc: Global) -> Result<Result<([usize; 2], [bool; 3]), Refusal>, Fail> {
     let mut store = new_store(alloc)?;
-    Ok(twice(&mut store, alloc)?)
+    Ok(twice(&mut store, alloc))
 }
 
 #[test]
 fn the_set_before_stays(rt: HostRuntime) -> Result<(), Fail> {
-    let (counts, all) = twice_in_memory(rt.alloc())?;
     // Three blocks of dnodes, the two indirect blocks above them, and the root gave way.
-    assert_eq!(rt; counts, [5001, 6]);
-    assert_eq!(rt; all, [true; 3]);
+    assert!(rt; twice_in_memory(rt.alloc())? == Ok(([5001, 6], [true; 3])));
     Ok(())
 }
 
@@ -231,16 +229,14 @@ fn set_block(store: &mut Store, alloc: Global) -> Result<(u8, bool, bool), Refus
     Ok((block.property.object_type, found, early))
 }
 
-fn set_block_in_memory(alloc: Global) -> Result<(u8, bool, bool), Fail> {
+fn set_block_in_memory(alloc: Global) -> Result<Result<(u8, bool, bool), Refusal>, Fail> {
     let mut store = new_store(alloc)?;
-    Ok(set_block(&mut store, alloc)?)
+    Ok(set_block(&mut store, alloc))
 }
 
 #[test]
 fn the_block_of_a_set_is_read_as_it_was_planned(rt: HostRuntime) -> Result<(), Fail> {
-    let (object_type, found, early) = set_block_in_memory(rt.alloc())?;
-    assert_eq!(rt; object_type, 11);
-    assert!(rt; found && early);
+    assert!(rt; set_block_in_memory(rt.alloc())? == Ok((11, true, true)));
     Ok(())
 }
 
@@ -292,15 +288,14 @@ fn refusals(store: &mut Store, alloc: Global) -> Result<[bool; 2], Refusal> {
     Ok([before, after])
 }
 
-fn refusals_in_memory(alloc: Global) -> Result<[bool; 2], Fail> {
+fn refusals_in_memory(alloc: Global) -> Result<Result<[bool; 2], Refusal>, Fail> {
     let mut store = new_store(alloc)?;
-    Ok(refusals(&mut store, alloc)?)
+    Ok(refusals(&mut store, alloc))
 }
 
 #[test]
 fn bytes_that_spell_no_dnode_are_refused_and_kept(rt: HostRuntime) -> Result<(), Fail> {
-    let refused = refusals_in_memory(rt.alloc())?;
-    assert_eq!(rt; refused, [true, true]);
+    assert!(rt; refusals_in_memory(rt.alloc())? == Ok([true, true]));
     Ok(())
 }
 
@@ -316,14 +311,13 @@ fn zeros(store: &mut Store, alloc: Global) -> Result<[bool; 2], Refusal> {
     ])
 }
 
-fn zeros_in_memory(alloc: Global) -> Result<[bool; 2], Fail> {
+fn zeros_in_memory(alloc: Global) -> Result<Result<[bool; 2], Refusal>, Fail> {
     let mut store = new_store(alloc)?;
-    Ok(zeros(&mut store, alloc)?)
+    Ok(zeros(&mut store, alloc))
 }
 
 #[test]
 fn zeros_stand_where_there_is_no_object(rt: HostRuntime) -> Result<(), Fail> {
-    let judged = zeros_in_memory(rt.alloc())?;
-    assert_eq!(rt; judged, [true, true]);
+    assert!(rt; zeros_in_memory(rt.alloc())? == Ok([true, true]));
     Ok(())
 }

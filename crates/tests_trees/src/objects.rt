@@ -185,27 +185,24 @@ fn made(store: &mut Store, alloc: Global) -> Result<(usize, [usize; 4], [usize; 
     Ok((replaced, bytes, blocks))
 }
 
-fn made_in_memory(alloc: Global) -> Result<(usize, [usize; 4], [usize; 2]), Fail> {
+fn made_in_memory(alloc: Global) -> Result<Result<(usize, [usize; 4], [usize; 2]), Refusal>, Fail> {
     let mut store = new_store(alloc)?;
-    Ok(made(&mut store, alloc)?)
+    Ok(made(&mut store, alloc))
 }
 
 #[test]
-fn copies_are_as_many_as_the_kind_asks(rt: HostRuntime) -> Result<(), Fail> {
+fn copies_are_as_many_as_the_kind_asks(rt: HostRuntime) {
     let volume = SetCopies::of_kind(ObjectSetKind::Volume);
     let meta = SetCopies::of_kind(ObjectSetKind::Meta);
-    assert_eq!(rt; [volume.data.count(), volume.other.count()], [1, 2]);
-    assert_eq!(rt; [meta.data.count(), meta.other.count()], [3, 3]);
-    Ok(())
+    assert!(rt; [volume.data.count(), volume.other.count()] == [1, 2]);
+    assert!(rt; [meta.data.count(), meta.other.count()] == [3, 3]);
 }
 
 #[test]
 fn objects_read_as_they_were_written(rt: HostRuntime) -> Result<(), Fail> {
-    let (replaced, bytes, blocks) = made_in_memory(rt.alloc())?;
-    assert_eq!(rt; replaced, 0);
-    assert_eq!(rt; bytes, [5, HOLE, 6, BAD]);
     // A root, an indirect block and the block itself.
-    assert_eq!(rt; blocks, [3, BAD]);
+    let wanted = (0, [5, HOLE, 6, BAD], [3, BAD]);
+    assert!(rt; made_in_memory(rt.alloc())? == Ok(wanted));
     Ok(())
 }
 
@@ -243,17 +240,15 @@ fn changed(store: &mut Store, alloc: Global) -> Result<(usize, [usize; 4]), Refu
     Ok((replaced, bytes))
 }
 
-fn changed_in_memory(alloc: Global) -> Result<(usize, [usize; 4]), Fail> {
+fn changed_in_memory(alloc: Global) -> Result<Result<(usize, [usize; 4]), Refusal>, Fail> {
     let mut store = new_store(alloc)?;
-    Ok(changed(&mut store, alloc)?)
+    Ok(changed(&mut store, alloc))
 }
 
 #[test]
 fn the_set_before_stays(rt: HostRuntime) -> Result<(), Fail> {
-    let (replaced, bytes) = changed_in_memory(rt.alloc())?;
     // Three blocks of 3, the one of 40, and those of the dnodes: two of 32 dnodes each, and the root above them.
-    assert_eq!(rt; replaced, 7);
-    assert_eq!(rt; bytes, [7, BAD, 5, 6]);
+    assert!(rt; changed_in_memory(rt.alloc())? == Ok((7, [7, BAD, 5, 6])));
     Ok(())
 }
 
@@ -299,19 +294,17 @@ fn replaced(store: &mut Store, alloc: Global) -> Result<(usize, [usize; 4], usiz
     Ok((replaced, bytes, blocks))
 }
 
-fn replaced_in_memory(alloc: Global) -> Result<(usize, [usize; 4], usize), Fail> {
+fn replaced_in_memory(alloc: Global) -> Result<Result<(usize, [usize; 4], usize), Refusal>, Fail> {
     let mut store = new_store(alloc)?;
-    Ok(replaced(&mut store, alloc)?)
+    Ok(replaced(&mut store, alloc))
 }
 
 #[test]
 fn an_object_becomes_shorter(rt: HostRuntime) -> Result<(), Fail> {
-    let (replaced, bytes, blocks) = replaced_in_memory(rt.alloc())?;
-    // Three blocks of 3, the one of 40, and those of the dnodes: two of 32 dnodes each, and the root above them.
-    assert_eq!(rt; replaced, 7);
-    assert_eq!(rt; bytes, [9, HOLE, 8, 5]);
-    // Its root and the block.
-    assert_eq!(rt; blocks, 2);
+    // Three blocks of 3, the one of 40, and those of the dnodes: two of 32 dnodes each, and the root above them, gave way; there
+    // are its root and the block.
+    let wanted = (7, [9, HOLE, 8, 5], 2);
+    assert!(rt; replaced_in_memory(rt.alloc())? == Ok(wanted));
     Ok(())
 }
 
@@ -357,15 +350,14 @@ fn several(store: &mut Store, alloc: Global) -> Result<[usize; 4], Refusal> {
     })
 }
 
-fn several_in_memory(alloc: Global) -> Result<[usize; 4], Fail> {
+fn several_in_memory(alloc: Global) -> Result<Result<[usize; 4], Refusal>, Fail> {
     let mut store = new_store(alloc)?;
-    Ok(several(&mut store, alloc)?)
+    Ok(several(&mut store, alloc))
 }
 
 #[test]
 fn blocks_are_read_at_once(rt: HostRuntime) -> Result<(), Fail> {
-    let bytes = several_in_memory(rt.alloc())?;
-    assert_eq!(rt; bytes, [HOLE, 9, 5, HOLE]);
+    assert!(rt; several_in_memory(rt.alloc())? == Ok([HOLE, 9, 5, HOLE]));
     Ok(())
 }
 
@@ -420,15 +412,14 @@ fn refusals(store: &mut Store, alloc: Global) -> Result<[bool; 3], Refusal> {
     ])
 }
 
-fn refusals_in_memory(alloc: Global) -> Result<[bool; 3], Fail> {
+fn refusals_in_memory(alloc: Global) -> Result<Result<[bool; 3], Refusal>, Fail> {
     let mut store = new_store(alloc)?;
-    Ok(refusals(&mut store, alloc)?)
+    Ok(refusals(&mut store, alloc))
 }
 
 #[test]
 fn changes_that_cannot_be_made_are_refused(rt: HostRuntime) -> Result<(), Fail> {
-    let refused = refusals_in_memory(rt.alloc())?;
-    assert_eq!(rt; refused, [true; 3]);
+    assert!(rt; refusals_in_memory(rt.alloc())? == Ok([true; 3]));
     Ok(())
 }
 
@@ -482,15 +473,14 @@ fn late_births(store: &mut Store, alloc: Global) -> Result<[bool; 3], Refusal> {
     ])
 }
 
-fn late_births_in_memory(alloc: Global) -> Result<[bool; 3], Fail> {
+fn late_births_in_memory(alloc: Global) -> Result<Result<[bool; 3], Refusal>, Fail> {
     let mut store = new_store(alloc)?;
-    Ok(late_births(&mut store, alloc)?)
+    Ok(late_births(&mut store, alloc))
 }
 
 #[test]
 fn what_was_born_after_its_parent_is_not_changed(rt: HostRuntime) -> Result<(), Fail> {
-    let late = late_births_in_memory(rt.alloc())?;
-    assert_eq!(rt; late, [false, true, true]);
+    assert!(rt; late_births_in_memory(rt.alloc())? == Ok([false, true, true]));
     Ok(())
 }
 
@@ -540,17 +530,15 @@ fn walks_within(store: &mut Store, alloc: Global) -> Result<[(usize, u64); 3], R
     ])
 }
 
-fn walks_within_in_memory(alloc: Global) -> Result<[(usize, u64); 3], Fail> {
+fn walks_within_in_memory(alloc: Global) -> Result<Result<[(usize, u64); 3], Refusal>, Fail> {
     let mut store = new_store(alloc)?;
-    Ok(walks_within(&mut store, alloc)?)
+    Ok(walks_within(&mut store, alloc))
 }
 
 #[test]
 fn a_walk_over_a_set_reads_as_many_blocks_as_it_may(rt: HostRuntime) -> Result<(), Fail> {
-    let [more, enough, fewer] = walks_within_in_memory(rt.alloc())?;
     // Of the dnodes a root and three blocks, of the objects five blocks, one, and two; four of these stand above the data.
-    assert_eq!(rt; more, (12, 2));
-    assert_eq!(rt; enough, (12, 0));
-    assert_eq!(rt; fewer, (BAD, 0));
+    let wanted = [(12, 2), (12, 0), (BAD, 0)];
+    assert!(rt; walks_within_in_memory(rt.alloc())? == Ok(wanted));
     Ok(())
 }

@@ -30,34 +30,58 @@ fn younger(
     Ok((found.as_slice() == wanted, found.len(), READS - left))
 }
 
+/// What all blocks of an object are found to be by a walk over what was born after group 4.
+fn all_younger(
+    node: &ObjectNode,
+    store: &mut Store,
+    alloc: Global,
+) -> Result<(bool, usize, u64), Refusal>
+    requires { node.now.highest < 128 ^ 5 }
+{
+    let all = walk(node, store, alloc, 6, &[])?;
+    younger(node, store, alloc, 4, &all)
+}
+
+/// What the blocks that only the later object has are found to be by one over what was born after group 5.
+fn new_younger(
+    node: &ObjectNode,
+    before: &ObjectNode,
+    store: &mut Store,
+    alloc: Global,
+) -> Result<(bool, usize, u64), Refusal>
+    requires node { node.now.highest < 128 ^ 5 }
+    requires before { before.now.highest < 128 ^ 5 }
+{
+    let new = free_blocks(node, before, store, alloc, 6, &[])?;
+    younger(node, store, alloc, 5, &new)
+}
+
 /// An object with the blocks 0 and 200 of group 5, of which 200 is written again in group 6: what was born after 4, 5 and 6.
 fn tree_walks(store: &mut Store, alloc: Global) -> Result<[(bool, usize, u64); 3], Refusal> {
     let one = put(&ONE_PLACE, store, alloc, (0, 200, 2), 5)?.node;
     let two = put(&one, store, alloc, (200, 1, 1), 6)?.node;
-    let all = walk(&two, store, alloc, 6, &[])?;
-    let new = free_blocks(&two, &one, store, alloc, 6, &[])?;
-    Ok([
-        younger(&two, store, alloc, 4, &all)?,
-        younger(&two, store, alloc, 5, &new)?,
-        younger(&two, store, alloc, 6, &[])?,
-    ])
+    let all = all_younger(&two, store, alloc)?;
+    let new = new_younger(&two, &one, store, alloc)?;
+    Ok([all, new, younger(&two, store, alloc, 6, &[])?])
 }
 
-fn tree_walks_in_memory(alloc: Global) -> Result<[(bool, usize, u64); 3], Fail> {
+fn tree_walks_in_memory(alloc: Global) -> Result<Result<[(bool, usize, u64); 3], Refusal>, Fail> {
     let mut store = new_store(alloc)?;
-    Ok(tree_walks(&mut store, alloc)?)
+    Ok(tree_walks(&mut store, alloc))
 }
 
 #[test]
 fn what_is_younger_than_a_group_is_found_by_reading_nothing_else(
     rt: HostRuntime,
 ) -> Result<(), Fail> {
-    let [all, new, none] = tree_walks_in_memory(rt.alloc())?;
-    // A root, and below it for each of the two blocks an indirect block and the block itself.
-    assert_eq!(rt; all, (true, 5, 3));
-    // The root, the indirect block above 200, and 200.
-    assert_eq!(rt; new, (true, 3, 2));
-    assert_eq!(rt; none, (true, 0, 0));
+    let wanted = [
+        // A root, and below it for each of the two blocks an indirect block and the block itself.
+        (true, 5, 3),
+        // The root, the indirect block above 200, and 200.
+        (true, 3, 2),
+        (true, 0, 0),
+    ];
+    assert!(rt; tree_walks_in_memory(rt.alloc())? == Ok(wanted));
     Ok(())
 }
 
@@ -87,18 +111,20 @@ fn set_walks(store: &mut Store, alloc: Global) -> Result<[(usize, bool, u64); 3]
     ])
 }
 
-fn set_walks_in_memory(alloc: Global) -> Result<[(usize, bool, u64); 3], Fail> {
+fn set_walks_in_memory(alloc: Global) -> Result<Result<[(usize, bool, u64); 3], Refusal>, Fail> {
     let mut store = new_store(alloc)?;
-    Ok(set_walks(&mut store, alloc)?)
+    Ok(set_walks(&mut store, alloc))
 }
 
 #[test]
 fn objects_of_older_dnodes_are_not_read(rt: HostRuntime) -> Result<(), Fail> {
-    let [all, new, none] = set_walks_in_memory(rt.alloc())?;
-    // Of the dnodes a root and three blocks, of the objects five blocks, one, and two; four of these stand above the data.
-    assert_eq!(rt; all, (12, true, 8));
-    // The root, two blocks of dnodes, three blocks of the object that was changed, and two of the new one.
-    assert_eq!(rt; new, (8, true, 6));
-    assert_eq!(rt; none, (0, true, 0));
+    let wanted = [
+        // Of the dnodes a root and three blocks, of the objects five blocks, one, and two; four of these stand above the data.
+        (12, true, 8),
+        // The root, two blocks of dnodes, three blocks of the object that was changed, and two of the new one.
+        (8, true, 6),
+        (0, true, 0),
+    ];
+    assert!(rt; set_walks_in_memory(rt.alloc())? == Ok(wanted));
     Ok(())
 }
