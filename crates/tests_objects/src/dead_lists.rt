@@ -67,26 +67,64 @@ fn births_of(alloc: Global, list: DeadList) -> Result<Vec<u64>, AllocError> {
     Ok(births)
 }
 
-/// A list of a block, which is written anew with another one: what is read of each.
-fn lists(alloc: Global) -> Result<(Vec<u64>, Vec<u64>), Fail> {
-    let mut store = new_store(alloc)?;
+/// A list of a block that was born in group 7.
+fn one_block(alloc: Global) -> Result<DeadList, AllocError>
+    ensures { IfOk result (λ list. All FitsBlock list) }
+{
     let mut list = DeadList::new(alloc);
     add(&mut list, born_in(7))?;
-    let made = creation(alloc, &list)?;
-    let first = with(&EMPTY, &mut store, alloc, 5, made, 1)?;
-    let one = dead_list_in(&first, &mut store, alloc, 5, 1)?;
+    Ok(list)
+}
+
+/// The change that makes it an object.
+fn one_made(alloc: Global) -> Result<Change, Fail>
+    ensures { IfOk result IsGoodChange }
+{
+    let list = one_block(alloc)?;
+    Ok(creation(alloc, &list)?)
+}
+
+/// The change that writes it anew with a block that was born in group 9.
+fn two_made(alloc: Global) -> Result<Change, Fail>
+    ensures { IfOk result IsGoodChange }
+{
+    let mut list = one_block(alloc)?;
     add(&mut list, born_in(9))?;
-    let made = replacement(alloc, &list)?;
-    let second = with(&first, &mut store, alloc, 5, made, 2)?;
-    let two = dead_list_in(&second, &mut store, alloc, 5, 2)?;
-    Ok((births_of(alloc, one)?, births_of(alloc, two)?))
+    Ok(replacement(alloc, &list)?)
+}
+
+/// Whether the blocks of the list that is read were born in these groups.
+fn has_births(
+    set: &ObjectSet,
+    store: &mut Store,
+    alloc: Global,
+    birth: u64,
+    births: &[u64],
+) -> Result<bool, Fail>
+    requires { FitsObjectSet set.now }
+{
+    let list = dead_list_in(set, store, alloc, 5, birth)?;
+    Ok(births_of(alloc, list)?.as_slice() == births)
+}
+
+/// A list of a block, which is written anew with another one: whether each is read as it was written.
+fn lists(store: &mut Store, alloc: Global) -> Result<[bool; 2], Fail> {
+    let made = one_made(alloc)?;
+    let first = with(&EMPTY, store, alloc, 5, made, 1)?;
+    let one = has_births(&first, store, alloc, 1, &[7])?;
+    let made = two_made(alloc)?;
+    let second = with(&first, store, alloc, 5, made, 2)?;
+    Ok([one, has_births(&second, store, alloc, 2, &[7, 9])?])
+}
+
+fn lists_in_memory(alloc: Global) -> Result<[bool; 2], Fail> {
+    let mut store = new_store(alloc)?;
+    lists(&mut store, alloc)
 }
 
 #[test]
 fn dead_lists_are_read_as_they_were_written(rt: HostRuntime) -> Result<(), Fail> {
-    let (one, two) = lists(rt.alloc())?;
-    assert_eq!(rt; one.as_slice(), &[7][..]);
-    assert_eq!(rt; two.as_slice(), &[7, 9][..]);
+    assert!(rt; lists_in_memory(rt.alloc())? == [true; 2]);
     Ok(())
 }
 
@@ -99,45 +137,66 @@ fn added(alloc: Global, end: &TableEnd, first: Block, second: Block) -> Result<C
     extension(alloc, end, &[first, second])
 }
 
-/// A list of a block, which gets two more: how many blocks it has before and after them, and what is read of it.
-fn longer_list(store: &mut Store, alloc: Global) -> Result<([u64; 2], Vec<u64>), Fail> {
-    let mut list = DeadList::new(alloc);
-    add(&mut list, born_in(7))?;
-    let made = creation(alloc, &list)?;
-    let first = with(&EMPTY, store, alloc, 5, made, 1)?;
-    let one = read_dead_list_end(&first, store, alloc, 5, 1, &[])?;
-    let made = added(alloc, &one, born_in(9), born_in(8))?;
-    let second = with(&first, store, alloc, 5, made, 2)?;
-    let three = read_dead_list_end(&second, store, alloc, 5, 2, &[])?;
-    let found = dead_list_in(&second, store, alloc, 5, 2)?;
-    Ok(([one.rows, three.rows], births_of(alloc, found)?))
+/// How many blocks the list has, and the change that adds two to it.
+fn two_more(set: &ObjectSet, store: &mut Store, alloc: Global) -> Result<(u64, Change), Refusal>
+    requires { FitsObjectSet set.now }
+    ensures { IfOk result (λ it. IsGoodChange it.1) }
+{
+    let end = read_dead_list_end(set, store, alloc, 5, 1, &[])?;
+    let made = added(alloc, &end, born_in(9), born_in(8))?;
+    Ok((end.rows, made))
 }
 
-fn longer_list_in_memory(alloc: Global) -> Result<([u64; 2], Vec<u64>), Fail> {
+/// How many blocks the list has.
+fn count_in(set: &ObjectSet, store: &mut Store, alloc: Global, birth: u64) -> Result<u64, Refusal>
+    requires { FitsObjectSet set.now }
+{
+    Ok(read_dead_list_end(set, store, alloc, 5, birth, &[])?.rows)
+}
+
+/// A list of a block, which gets two more: how many blocks it has before and after them, and whether it is read so.
+fn longer_list(store: &mut Store, alloc: Global) -> Result<([u64; 2], bool), Fail> {
+    let made = one_made(alloc)?;
+    let first = with(&EMPTY, store, alloc, 5, made, 1)?;
+    let (one, made) = two_more(&first, store, alloc)?;
+    let second = with(&first, store, alloc, 5, made, 2)?;
+    let three = count_in(&second, store, alloc, 2)?;
+    let found = has_births(&second, store, alloc, 2, &[7, 8, 9])?;
+    Ok(([one, three], found))
+}
+
+fn longer_list_in_memory(alloc: Global) -> Result<([u64; 2], bool), Fail> {
     let mut store = new_store(alloc)?;
     longer_list(&mut store, alloc)
 }
 
 #[test]
 fn dead_lists_get_more_blocks(rt: HostRuntime) -> Result<(), Fail> {
-    let (counts, births) = longer_list_in_memory(rt.alloc())?;
-    assert_eq!(rt; counts, [1, 3]);
-    assert_eq!(rt; births.as_slice(), &[7, 8, 9][..]);
+    assert!(rt; longer_list_in_memory(rt.alloc())? == ([1, 3], true));
     Ok(())
 }
 
 /// Why an object of a dead list with this one row is refused, or one by another number.
+fn refusal_in(
+    store: &mut Store,
+    alloc: Global,
+    row: &[u8; 128],
+    number: u64,
+) -> Result<Option<Refusal>, Fail> {
+    let made = object_table::creation(alloc, DEAD_LIST_KIND, row)?;
+    let set = with(&EMPTY, store, alloc, 5, made, 1)?;
+    Ok(dead_list_in(&set, store, alloc, number, 1).err())
+}
+
 fn refusal(alloc: Global, row: &[u8; 128], number: u64) -> Result<Option<Refusal>, Fail> {
     let mut store = new_store(alloc)?;
-    let made = object_table::creation(alloc, DEAD_LIST_KIND, row)?;
-    let set = with(&EMPTY, &mut store, alloc, 5, made, 1)?;
-    Ok(dead_list_in(&set, &mut store, alloc, number, 1).err())
+    refusal_in(&mut store, alloc, row, number)
 }
 
 #[test]
 fn a_hole_is_no_dead_block(rt: HostRuntime) -> Result<(), Fail> {
-    assert_eq!(rt; refusal(rt.alloc(), &[0; 128], 5)?, Some(Refusal::BadList));
+    assert!(rt; refusal(rt.alloc(), &[0; 128], 5)? == Some(Refusal::BadList));
     let unread = Some(Refusal::Unread(block_store::Refusal::BadPointer));
-    assert_eq!(rt; refusal(rt.alloc(), &[0; 128], 6)?, unread);
+    assert!(rt; refusal(rt.alloc(), &[0; 128], 6)? == unread);
     Ok(())
 }

@@ -42,46 +42,76 @@ fn rows_in(
     read(set, store, alloc, LONG, 5, birth, &[])
 }
 
-/// The ids of the blocks that a change writes.
-fn ids_of(alloc: Global, change: &Change) -> Result<Vec<u64>, AllocError> {
-    match change {
-        Change::Put { writes } => writes.iter().map(|write| write.id).collect(alloc),
-        _ => Ok(Vec::new(alloc)),
-    }
+/// Whether a change writes the blocks of these ids.
+fn has_ids(alloc: Global, change: &Change, ids: &[u64]) -> Result<bool, AllocError> {
+    let found: Vec<u64> = match change {
+        Change::Put { writes } => writes.iter().map(|write| write.id).collect(alloc)?,
+        _ => Vec::new(alloc),
+    };
+    Ok(found.as_slice() == ids)
 }
 
-/// What a table of 3 rows has become with 2 and then 4 more: its numbers of rows, the blocks that were written, and its rows.
-#[derive(Drop)]
-struct Longer {
-    counts: [u64; 3],
-    first: Vec<u64>,
-    second: Vec<u64>,
-    five: Vec<u8>,
-    nine: Vec<u8>,
+/// Three rows of sevens, two of eights and four of nines.
+fn nine_rows() -> [u8; 9000] {
+    let mut rows = [9; 9000];
+    rows[..3000].copy_from_slice(&[7; 3000]);
+    rows[3000..5000].copy_from_slice(&[8; 2000]);
+    rows
 }
+
+/// Whether the bytes are those of the first of these rows, so many.
+fn are_rows(bytes: &[u8], count: usize) -> bool {
+    bytes.len() == count.min(9) * 1000 && nine_rows().starts_with(bytes)
+}
+
+/// Whether a table is read as so many of these rows.
+fn has_rows(
+    set: &ObjectSet,
+    store: &mut Store,
+    alloc: Global,
+    birth: u64,
+    count: usize,
+) -> Result<bool, Refusal>
+    requires { FitsObjectSet set.now }
+{
+    Ok(are_rows(&rows_in(set, store, alloc, birth)?, count))
+}
+
+/// How many rows a table has, whether the change that adds two writes the first two blocks, and the change.
+fn two_more(set: &ObjectSet, store: &mut Store, alloc: Global) -> Result<(u64, bool, Change), Fail>
+    requires { FitsObjectSet set.now }
+    ensures { IfOk result (λ it. IsGoodChange it.2) }
+{
+    let end = end_in(set, store, alloc, 1)?;
+    let made = extension(alloc, LONG, &end, &[8; 2000])?;
+    Ok((end.rows, has_ids(alloc, &made, &[0, 1])?, made))
+}
+
+/// How many rows it has then, whether the change that adds four writes the first three blocks, and the change.
+fn four_more(set: &ObjectSet, store: &mut Store, alloc: Global) -> Result<(u64, bool, Change), Fail>
+    requires { FitsObjectSet set.now }
+    ensures { IfOk result (λ it. IsGoodChange it.2) }
+{
+    let end = end_in(set, store, alloc, 2)?;
+    let made = extension(alloc, LONG, &end, &[9; 4000])?;
+    Ok((end.rows, has_ids(alloc, &made, &[0, 1, 2])?, made))
+}
+
+/// What a table of 3 rows becomes with 2 and then 4 more: its numbers of rows, whether the blocks are written that are to be, and
+/// whether its rows are read as they were written.
+type Longer = ([u64; 3], [bool; 2], [bool; 2]);
 
 fn extended(store: &mut Store, alloc: Global) -> Result<Longer, Fail> {
     let made = creation(alloc, LONG, &[7; 3000])?;
     let set = with(&EMPTY, store, alloc, 5, made, 1)?;
-    let three = end_in(&set, store, alloc, 1)?;
-    let made = extension(alloc, LONG, &three, &[8; 2000])?;
-    let first = ids_of(alloc, &made)?;
+    let (three, first, made) = two_more(&set, store, alloc)?;
     let set = with(&set, store, alloc, 5, made, 2)?;
-    let five = rows_in(&set, store, alloc, 2)?;
-    let end = end_in(&set, store, alloc, 2)?;
-    let made = extension(alloc, LONG, &end, &[9; 4000])?;
-    let second = ids_of(alloc, &made)?;
+    let as_five = has_rows(&set, store, alloc, 2, 5)?;
+    let (five, second, made) = four_more(&set, store, alloc)?;
     let set = with(&set, store, alloc, 5, made, 3)?;
-    let nine = rows_in(&set, store, alloc, 3)?;
-    let last = end_in(&set, store, alloc, 3)?;
-    let counts = [three.rows, end.rows, last.rows];
-    Ok(Longer {
-        counts,
-        first,
-        second,
-        five,
-        nine,
-    })
+    let as_nine = has_rows(&set, store, alloc, 3, 9)?;
+    let nine = end_in(&set, store, alloc, 3)?.rows;
+    Ok(([three, five, nine], [first, second], [as_five, as_nine]))
 }
 
 fn extended_in_memory(alloc: Global) -> Result<Longer, Fail> {
@@ -89,18 +119,13 @@ fn extended_in_memory(alloc: Global) -> Result<Longer, Fail> {
     extended(&mut store, alloc)
 }
 
+/// The old rows end in the first block, and in the second: the third is the last one.
 #[test]
 fn tables_get_more_rows(rt: HostRuntime) -> Result<(), Fail> {
-    let made = extended_in_memory(rt.alloc())?;
-    assert_eq!(rt; made.counts, [3, 5, 9]);
-    // The old rows end in the first block, and in the second: the third is the last one.
-    assert_eq!(rt; made.first.as_slice(), &[0, 1][..]);
-    assert_eq!(rt; made.second.as_slice(), &[0, 1, 2][..]);
-    let mut rows = [9; 9000];
-    rows[..3000].copy_from_slice(&[7; 3000]);
-    rows[3000..5000].copy_from_slice(&[8; 2000]);
-    assert_eq!(rt; made.five.as_slice(), &rows[..5000]);
-    assert_eq!(rt; made.nine.as_slice(), &rows[..]);
+    let (counts, written, read) = extended_in_memory(rt.alloc())?;
+    assert!(rt; counts == [3, 5, 9]);
+    assert!(rt; written == [true; 2]);
+    assert!(rt; read == [true; 2]);
     Ok(())
 }
 
@@ -155,6 +180,6 @@ fn ends_in_memory(alloc: Global) -> Result<[Result<u64, Refusal>; 4], Fail> {
 #[test]
 fn what_is_no_end_is_refused(rt: HostRuntime) -> Result<(), Fail> {
     let bad = Err(Refusal::BadPointer);
-    assert_eq!(rt; ends_in_memory(rt.alloc())?, [Ok(2), bad, bad, bad]);
+    assert!(rt; ends_in_memory(rt.alloc())? == [Ok(2), bad, bad, bad]);
     Ok(())
 }

@@ -75,24 +75,37 @@ fn rows_in(
     read(set, store, alloc, KIND, 5, birth, &[])
 }
 
+/// Whether a table is read as these rows.
+fn has_rows(
+    set: &ObjectSet,
+    store: &mut Store,
+    alloc: Global,
+    birth: u64,
+    rows: &[u8],
+) -> Result<bool, Refusal>
+    requires { FitsObjectSet set.now }
+{
+    Ok(rows_in(set, store, alloc, birth)?.as_slice() == rows)
+}
+
 /// A table of 300 rows, which are written anew by two: whether each is read as it was written.
-fn tables(alloc: Global) -> Result<[bool; 2], Fail> {
-    let mut store = new_store(alloc)?;
+fn tables(store: &mut Store, alloc: Global) -> Result<[bool; 2], Fail> {
     let made = creation(alloc, KIND, &[7; 9600])?;
-    let first = with(&EMPTY, &mut store, alloc, 5, made, 1)?;
-    let long = rows_in(&first, &mut store, alloc, 1)?;
+    let first = with(&EMPTY, store, alloc, 5, made, 1)?;
+    let long = has_rows(&first, store, alloc, 1, &[7; 9600])?;
     let made = replacement(alloc, KIND, &[8; 64])?;
-    let second = with(&first, &mut store, alloc, 5, made, 2)?;
-    let short = rows_in(&second, &mut store, alloc, 2)?;
-    Ok([
-        long.as_slice() == [7; 9600].as_slice(),
-        short.as_slice() == [8; 64].as_slice(),
-    ])
+    let second = with(&first, store, alloc, 5, made, 2)?;
+    Ok([long, has_rows(&second, store, alloc, 2, &[8; 64])?])
+}
+
+fn tables_in_memory(alloc: Global) -> Result<[bool; 2], Fail> {
+    let mut store = new_store(alloc)?;
+    tables(&mut store, alloc)
 }
 
 #[test]
 fn tables_are_read_as_they_were_written(rt: HostRuntime) -> Result<(), Fail> {
-    assert_eq!(rt; tables(rt.alloc())?, [true; 2]);
+    assert!(rt; tables_in_memory(rt.alloc())? == [true; 2]);
     Ok(())
 }
 
@@ -135,54 +148,75 @@ fn named(directory: &Directory) -> [(u8, u64); 3] {
     [0, 1, 2].map(|place| row_at(directory, place))
 }
 
+/// Whether each of the names was added, which names there are, what stood under one that is removed twice, and which names there
+/// are then.
+type Names = ([bool; 4], [(u8, u64); 3], [Option<u64>; 2], [(u8, u64); 3]);
+
+fn names(alloc: Global) -> Result<Names, Fail> {
+    let (mut directory, added) = three_names(alloc)?;
+    let before = named(&directory);
+    let removed = [
+        directory.remove(&name_of(b'm')),
+        directory.remove(&name_of(b'm')),
+    ];
+    Ok((added, before, removed, named(&directory)))
+}
+
 #[test]
 fn names_come_in_order(rt: HostRuntime) -> Result<(), Fail> {
-    let (mut directory, added) = three_names(rt.alloc())?;
-    assert_eq!(rt; added, [true, true, true, false]);
-    assert_eq!(rt; named(&directory), [(b'a', 6), (b'm', 4), (b'z', 5)]);
-    assert_eq!(rt; directory.remove(&name_of(b'm')), Some(4));
-    assert_eq!(rt; directory.remove(&name_of(b'm')), None);
-    assert_eq!(rt; named(&directory), [(b'a', 6), (b'z', 5), (0, 0)]);
+    let (added, before, removed, after) = names(rt.alloc())?;
+    assert!(rt; added == [true, true, true, false]);
+    assert!(rt; before == [(b'a', 6), (b'm', 4), (b'z', 5)]);
+    assert!(rt; removed == [Some(4), None]);
+    assert!(rt; after == [(b'a', 6), (b'z', 5), (0, 0)]);
     Ok(())
 }
 
 /// A directory that is stored as object 1: whether it is read as it was.
-fn stored(alloc: Global) -> Result<bool, Fail> {
-    let mut store = new_store(alloc)?;
+fn stored(store: &mut Store, alloc: Global) -> Result<bool, Fail> {
     let (directory, _) = three_names(alloc)?;
     if directory.rows().len() != 3 {
         return Ok(false);
     }
     let made = directory.creation(alloc)?;
-    let set = with(&EMPTY, &mut store, alloc, 1, made, 1)?;
-    let found = read_directory(&set, &mut store, alloc, 1, &[])?;
+    let set = with(&EMPTY, store, alloc, 1, made, 1)?;
+    let found = read_directory(&set, store, alloc, 1, &[])?;
     Ok(found.rows() == directory.rows())
+}
+
+fn stored_in_memory(alloc: Global) -> Result<bool, Fail> {
+    let mut store = new_store(alloc)?;
+    stored(&mut store, alloc)
 }
 
 #[test]
 fn a_directory_is_read_as_it_was_stored(rt: HostRuntime) -> Result<(), Fail> {
-    assert!(rt; stored(rt.alloc())?);
+    assert!(rt; stored_in_memory(rt.alloc())?);
     Ok(())
 }
 
 /// A configuration with no vdevs, made as object 2 and written anew: how many vdevs are read then.
-fn configs(alloc: Global) -> Result<[usize; 2], Fail> {
-    let mut store = new_store(alloc)?;
+fn configs(store: &mut Store, alloc: Global) -> Result<[usize; 2], Fail> {
     let config = Config {
         vdevs: Vec::new(alloc),
     };
     let made = config_creation(alloc, &config)?;
-    let first = with(&EMPTY, &mut store, alloc, 2, made, 1)?;
-    let before = read_config(&first, &mut store, alloc, 1, &[])?;
+    let first = with(&EMPTY, store, alloc, 2, made, 1)?;
+    let before = read_config(&first, store, alloc, 1, &[])?.vdevs.len();
     let made = config_replacement(alloc, &config)?;
-    let second = with(&first, &mut store, alloc, 2, made, 2)?;
-    let after = read_config(&second, &mut store, alloc, 2, &[])?;
-    Ok([before.vdevs.len(), after.vdevs.len()])
+    let second = with(&first, store, alloc, 2, made, 2)?;
+    let after = read_config(&second, store, alloc, 2, &[])?.vdevs.len();
+    Ok([before, after])
+}
+
+fn configs_in_memory(alloc: Global) -> Result<[usize; 2], Fail> {
+    let mut store = new_store(alloc)?;
+    configs(&mut store, alloc)
 }
 
 #[test]
 fn a_configuration_is_read_as_it_was_stored(rt: HostRuntime) -> Result<(), Fail> {
-    assert_eq!(rt; configs(rt.alloc())?, [0; 2]);
+    assert!(rt; configs_in_memory(rt.alloc())? == [0; 2]);
     Ok(())
 }
 
@@ -230,21 +264,25 @@ fn is_there(
 }
 
 /// A record that is made, and written once more.
-fn records(alloc: Global) -> Result<[[bool; 2]; 2], Fail> {
-    let mut store = new_store(alloc)?;
-    let block = block_of_set(&mut store, alloc)?;
+fn records(store: &mut Store, alloc: Global) -> Result<[[bool; 2]; 2], Fail> {
+    let block = block_of_set(store, alloc)?;
     let one = record_of(block, 1);
     let two = record_of(block, 2);
     let made = record_creation(alloc, &one)?;
-    let first = with(&EMPTY, &mut store, alloc, 3, made, 1)?;
-    let before = is_there(&first, &mut store, alloc, &one, 1);
+    let first = with(&EMPTY, store, alloc, 3, made, 1)?;
+    let before = is_there(&first, store, alloc, &one, 1);
     let made = record_change(alloc, &two)?;
-    let second = with(&first, &mut store, alloc, 3, made, 2)?;
-    Ok([before, is_there(&second, &mut store, alloc, &two, 2)])
+    let second = with(&first, store, alloc, 3, made, 2)?;
+    Ok([before, is_there(&second, store, alloc, &two, 2)])
+}
+
+fn records_in_memory(alloc: Global) -> Result<[[bool; 2]; 2], Fail> {
+    let mut store = new_store(alloc)?;
+    records(&mut store, alloc)
 }
 
 #[test]
 fn records_are_read_as_they_were_written(rt: HostRuntime) -> Result<(), Fail> {
-    assert_eq!(rt; records(rt.alloc())?, [[true; 2]; 2]);
+    assert!(rt; records_in_memory(rt.alloc())? == [[true; 2]; 2]);
     Ok(())
 }
