@@ -69,7 +69,7 @@ fn are_kept_in_memory(alloc: Global) -> Result<[bool; 4], Fail> {
 
 #[test]
 fn roots_come_with_their_directories(rt: HostRuntime) -> Result<(), Fail> {
-    assert_eq!(rt; are_kept_in_memory(rt.alloc())?, [true; 4]);
+    assert!(rt; are_kept_in_memory(rt.alloc())? == [true; 4]);
     Ok(())
 }
 
@@ -146,7 +146,7 @@ fn outcomes_in_memory(alloc: Global) -> Result<[bool; 5], Fail> {
 
 #[test]
 fn volumes_are_read_by_a_kept_directory(rt: HostRuntime) -> Result<(), Fail> {
-    assert_eq!(rt; outcomes_in_memory(rt.alloc())?, [true; 5]);
+    assert!(rt; outcomes_in_memory(rt.alloc())? == [true; 5]);
     Ok(())
 }
 
@@ -251,9 +251,9 @@ fn is_last_read(
 /// How many reads of disks a range of the last of so many volumes takes, by the directory that was kept, or by one that is read first.
 fn reads_among(alloc: Global, count: u8, is_kept: bool) -> Result<u64, Fail> {
     let mut store = counted_store(alloc)?;
-    let is_read = is_last_read(&mut store, alloc, count, is_kept)?;
+    let is_read = is_last_read(&mut store, alloc, count, is_kept);
     let reads = reads_of(store);
-    Ok(if is_read { reads } else { 0 })
+    Ok(if is_read? { reads } else { 0 })
 }
 
 /// Each block takes two reads of disks, but the record, of one sector, one. Among three volumes they are: the root; the block of
@@ -271,7 +271,7 @@ fn counts(alloc: Global) -> Result<[u64; 4], Fail> {
 
 #[test]
 fn reads_do_not_grow_with_the_names(rt: HostRuntime) -> Result<(), Fail> {
-    assert_eq!(rt; counts(rt.alloc())?, [13, 17, 17, 39]);
+    assert!(rt; counts(rt.alloc())? == [13, 17, 17, 39]);
     Ok(())
 }
 
@@ -291,12 +291,17 @@ fn written_of_many(store: &mut CountedStore, alloc: Global, count: u8) -> Result
     )?)
 }
 
+/// The group that it is born in.
+fn birth_of_many(store: &mut CountedStore, alloc: Global, count: u8) -> Result<u64, Fail> {
+    Ok(written_of_many(store, alloc, count)?.root.birth)
+}
+
 /// How many reads of disks the plan of that group takes.
 fn plan_reads_among(alloc: Global, count: u8) -> Result<u64, Fail> {
     let mut store = counted_store(alloc)?;
-    let next = written_of_many(&mut store, alloc, count)?;
+    let birth = birth_of_many(&mut store, alloc, count);
     let reads = reads_of(store);
-    Ok(if next.root.birth == 2 { reads } else { 0 })
+    Ok(if birth? == 2 { reads } else { 0 })
 }
 
 /// Among 20 or more volumes an indirect block lies above the set's dnodes, on each way to one of them. Nothing else grows.
@@ -310,6 +315,6 @@ fn plan_counts(alloc: Global) -> Result<[u64; 3], Fail> {
 
 #[test]
 fn plans_do_not_grow_with_the_names(rt: HostRuntime) -> Result<(), Fail> {
-    assert_eq!(rt; plan_counts(rt.alloc())?, [25, 35, 35]);
+    assert!(rt; plan_counts(rt.alloc())? == [25, 35, 35]);
     Ok(())
 }

@@ -108,29 +108,42 @@ fn is_of(bytes: &[u8], count: usize, first: u8, next: u8) -> bool {
         && bytes.iter().enumerate().all(|(at, byte)| *byte == if at < count { first } else { next })
 }
 
+/// Whether so many bytes of a volume from a place on, as a group has them, have the first value, and those behind them the next.
+fn reads_as(
+    volume: &VolumeSet,
+    store: &mut Store,
+    alloc: Global,
+    at: (u64, u64),
+    wanted: (usize, u8, u8),
+) -> Result<bool, Refusal>
+    requires few { at.0 + 768 ≤ size_of volume.now }
+{
+    let bytes = bytes_at(volume, store, alloc, at.0, at.1)?;
+    Ok(is_of(&bytes, wanted.0, wanted.1, wanted.2))
+}
+
 /// How many blocks gave way, and whether the volume after the writes and the one before read as they are to.
 fn outcomes(store: &mut Store, alloc: Global) -> Result<(usize, bool, bool), Refusal> {
     let before = made(store, alloc)?;
     let Rewritten { volume, replaced } = rewritten(&before, store, alloc)?;
-    let near = bytes_at(&volume, store, alloc, 256, 2)?;
-    let far = bytes_at(&volume, store, alloc, FAR - 512, 2)?;
-    let old = bytes_at(&before, store, alloc, 256, 1)?;
-    let is_after = is_of(&near, 256, 5, 0) && is_of(&far, 512, 0, 6);
-    Ok((replaced.len(), is_after, is_of(&old, 0, 0, 0)))
+    let replaced = replaced.len();
+    let near = reads_as(&volume, store, alloc, (256, 2), (256, 5, 0))?;
+    let far = reads_as(&volume, store, alloc, (FAR - 512, 2), (512, 0, 6))?;
+    let old = reads_as(&before, store, alloc, (256, 1), (0, 0, 0))?;
+    Ok((replaced, near && far, old))
 }
 
-fn outcomes_in_memory(alloc: Global) -> Result<(usize, bool, bool), Fail> {
+type Outcomes = Result<(usize, bool, bool), Refusal>;
+
+fn outcomes_in_memory(alloc: Global) -> Result<Outcomes, Fail> {
     let mut store = new_store(alloc)?;
-    Ok(outcomes(&mut store, alloc)?)
+    Ok(outcomes(&mut store, alloc))
 }
 
 #[test]
 fn a_volume_reads_as_it_was_written(rt: HostRuntime) -> Result<(), Fail> {
-    let (replaced, is_after, is_before) = outcomes_in_memory(rt.alloc())?;
     // The block of the dnodes, and that of the object set.
-    assert_eq!(rt; replaced, 2);
-    assert!(rt; is_after);
-    assert!(rt; is_before);
+    assert!(rt; outcomes_in_memory(rt.alloc())? == Ok((2, true, true)));
     Ok(())
 }
 
@@ -150,14 +163,14 @@ fn is_written_at_once(store: &mut Store, alloc: Global) -> Result<bool, Refusal>
     Ok(done.replaced.len() == 2 && is_of(&near, 256, 5, 0))
 }
 
-fn is_written_in_memory(alloc: Global) -> Result<bool, Fail> {
+fn is_written_in_memory(alloc: Global) -> Result<Result<bool, Refusal>, Fail> {
     let mut store = new_store(alloc)?;
-    Ok(is_written_at_once(&mut store, alloc)?)
+    Ok(is_written_at_once(&mut store, alloc))
 }
 
 #[test]
 fn a_volume_is_written_in_one_call(rt: HostRuntime) -> Result<(), Fail> {
-    assert!(rt; is_written_in_memory(rt.alloc())?);
+    assert!(rt; is_written_in_memory(rt.alloc())? == Ok(true));
     Ok(())
 }
 
@@ -170,13 +183,13 @@ fn is_other_size_refused(store: &mut Store, alloc: Global) -> Result<bool, Refus
     Ok(matches!(found, Err(Refusal::BadPointer)))
 }
 
-fn is_refused_in_memory(alloc: Global) -> Result<bool, Fail> {
+fn is_refused_in_memory(alloc: Global) -> Result<Result<bool, Refusal>, Fail> {
     let mut store = new_store(alloc)?;
-    Ok(is_other_size_refused(&mut store, alloc)?)
+    Ok(is_other_size_refused(&mut store, alloc))
 }
 
 #[test]
 fn blocks_of_another_size_are_refused(rt: HostRuntime) -> Result<(), Fail> {
-    assert!(rt; is_refused_in_memory(rt.alloc())?);
+    assert!(rt; is_refused_in_memory(rt.alloc())? == Ok(true));
     Ok(())
 }
