@@ -6,28 +6,25 @@ use std::alloc::{AllocError, Global};
 use std::test::*;
 use vdev_label::{Config, Vdev};
 
+fn vdev(alloc: Global, numbers: [u64; 4], disks: &[u64]) -> Result<Vdev, AllocError> {
+    let [guid, parity, child_sectors, slab_shift] = numbers;
+    Ok(Vdev {
+        guid,
+        parity,
+        child_sectors,
+        slab_shift,
+        meta_slabs: 1,
+        children: Vec::from_slice(alloc, disks)?,
+    })
+}
+
 /// Three disks with one parity, and behind them five with two.
 fn two_vdevs(alloc: Global) -> Result<Config, AllocError> {
-    let first = Vdev {
-        guid: 100,
-        parity: 1,
-        child_sectors: 7168,
-        slab_shift: 12,
-        meta_slabs: 1,
-        children: Vec::from_slice(alloc, &[101, 102, 103])?,
-    };
-    let second = Vdev {
-        guid: 200,
-        parity: 2,
-        child_sectors: 8192,
-        slab_shift: 13,
-        meta_slabs: 1,
-        children: Vec::from_slice(alloc, &[201, 202, 203, 204, 205])?,
-    };
-    let mut vdevs = Vec::new(alloc);
-    vdevs.push(first)?;
-    vdevs.push(second)?;
-    Ok(Config { vdevs })
+    let first = vdev(alloc, [100, 1, 7168, 12], &[101, 102, 103])?;
+    let second = vdev(alloc, [200, 2, 8192, 13], &[201, 202, 203, 204, 205])?;
+    Ok(Config {
+        vdevs: vec![in alloc; first, second]?,
+    })
 }
 
 /// The first disk of a vdev, its children and parities, its sectors on each, and the shift of its metaslabs.
@@ -57,20 +54,16 @@ fn shapes(alloc: Global) -> Result<Option<[Told; 2]>, AllocError> {
 }
 
 #[test]
-fn vdevs_take_the_disks_in_order(rt: HostRuntime) -> Result<(), Fail> {
-    assert_eq!(rt;
-        shapes(rt.alloc())?,
-        Some([(0, 3, 1, 7168, 12), (3, 5, 2, 8192, 13)])
-    );
-    Ok(())
+fn vdevs_take_the_disks_in_order(rt: HostRuntime) {
+    let wanted = [(0, 3, 1, 7168, 12), (3, 5, 2, 8192, 13)];
+    assert!(rt; shapes(rt.alloc()) == Ok(Some(wanted)));
 }
 
 /// The disks that were found: of the first vdev not the second, and of the other only the last.
 fn found(alloc: Global) -> Result<Vec<Vec<Option<usize>>>, AllocError> {
-    let mut members = Vec::new(alloc);
-    members.push(Vec::from_slice(alloc, &[Some(1), None, Some(0)])?)?;
-    members.push(Vec::from_slice(alloc, &[None, None, None, None, Some(2)])?)?;
-    Ok(members)
+    let first = Vec::from_slice(alloc, &[Some(1), None, Some(0)])?;
+    let second = Vec::from_slice(alloc, &[None, None, None, None, Some(2)])?;
+    Ok(vec![in alloc; first, second]?)
 }
 
 fn children(alloc: Global) -> Result<Vec<Child>, AllocError> {
@@ -82,23 +75,34 @@ fn children(alloc: Global) -> Result<Vec<Child>, AllocError> {
     children_of(alloc, &config, &members)
 }
 
-fn child(disk: Option<usize>, size: u64) -> Child {
-    Child { disk, size }
+const SMALL: u64 = 0x80_0000;
+
+const LARGE: u64 = 0x88_0000;
+
+/// The disk that was found of each child, if one was, and its size: a disk of the first vdev takes 8 MiB, and one of the second
+/// 512 KiB more.
+const CHILDREN: [(Option<usize>, u64); 8] = [
+    (Some(1), SMALL),
+    (None, SMALL),
+    (Some(0), SMALL),
+    (None, LARGE),
+    (None, LARGE),
+    (None, LARGE),
+    (None, LARGE),
+    (Some(2), LARGE),
+];
+
+/// Whether the children are these.
+fn are_children(alloc: Global, wanted: &[(Option<usize>, u64)]) -> Result<bool, AllocError> {
+    let found = children(alloc)?;
+    let mut right = found.len() == wanted.len();
+    for (child, (disk, size)) in found.iter().zip(wanted) {
+        right = right && child.disk == *disk && child.size == *size;
+    }
+    Ok(right)
 }
 
-/// A disk of the first vdev takes 8 MiB, and one of the second 512 KiB more.
 #[test]
-fn children_have_the_disks_that_were_found(rt: HostRuntime) -> Result<(), Fail> {
-    let expected = [
-        child(Some(1), 0x80_0000),
-        child(None, 0x80_0000),
-        child(Some(0), 0x80_0000),
-        child(None, 0x88_0000),
-        child(None, 0x88_0000),
-        child(None, 0x88_0000),
-        child(None, 0x88_0000),
-        child(Some(2), 0x88_0000),
-    ];
-    assert_eq!(rt; children(rt.alloc())?.as_slice(), expected.as_slice());
-    Ok(())
+fn children_have_the_disks_that_were_found(rt: HostRuntime) {
+    assert!(rt; are_children(rt.alloc(), &CHILDREN) == Ok(true));
 }

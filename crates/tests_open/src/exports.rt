@@ -1,9 +1,9 @@
 //! Pools that are exported, and opened again.
 use crate::pools::{Shown, blank, blocks_of, committed, fill, make, present, sync, write_block};
 use model_disk::{MemDisk, Member};
-use pool_core::Refusal;
+use pool_core::{Core, Refusal};
 use pool_open::{NotExported, OpenedPool, export, open};
-use std::alloc::Global;
+use std::alloc::{AllocError, Global};
 use std::test::*;
 
 type Pool = OpenedPool<Member<MemDisk>>;
@@ -34,34 +34,58 @@ fn refused(alloc: Global, pool: Pool) -> Result<(Refusal, Pool), Fail> {
     }
 }
 
+/// What a pool's volume shows, where nothing is done with the pool then.
+fn blocks_in(alloc: Global, core: Core<Member<MemDisk>>) -> Result<Option<(u8, u8)>, AllocError> {
+    let mut core = core;
+    blocks_of(alloc, &mut core, "v")
+}
+
 /// What an open finds on the disks, and its claim.
-fn opened(alloc: Global, disks: Vec<MemDisk>) -> Result<(Shown, u64), Fail> {
-    let OpenedPool {
-        mut core,
-        uberblock,
-    } = open(alloc, disks, 0)?;
-    let blocks = blocks_of(alloc, &mut core, "v")?;
+type Found = (Shown, u64);
+
+fn opened(alloc: Global, disks: Vec<MemDisk>) -> Result<Found, Fail> {
+    let OpenedPool { core, uberblock } = open(alloc, disks, 0)?;
+    let blocks = blocks_in(alloc, core)?;
     Ok(((Some(uberblock.group), blocks), uberblock.claim))
+}
+
+/// How many disks a pool has that is put away, and what an open finds on them.
+fn opened_again(alloc: Global) -> Result<(usize, Found), Fail> {
+    let pool = filled(alloc)?;
+    let disks = put_away(alloc, pool)?;
+    let count = disks.len();
+    Ok((count, opened(alloc, disks)?))
 }
 
 #[test]
 fn an_exported_pool_is_opened_again(rt: HostRuntime) -> Result<(), Fail> {
-    let pool = filled(rt.alloc())?;
-    let disks = put_away(rt.alloc(), pool)?;
-    assert_eq!(rt; disks.len(), 3);
-    assert_eq!(rt; opened(rt.alloc(), disks)?, ((Some(5), Some((0, 0xaa))), 2));
+    let wanted = (3, ((Some(5), Some((0, 0xaa))), 2));
+    assert!(rt; opened_again(rt.alloc())? == wanted);
     Ok(())
+}
+
+/// A pool that was filled and has accepted one more write.
+fn accepted(alloc: Global) -> Result<Pool, Fail> {
+    let mut pool = filled(alloc)?;
+    write_block(alloc, &mut pool.core, "v", 3, 0xbb)?;
+    Ok(pool)
+}
+
+/// Why it is not put away, the group that is committed then, and what an open finds once it was put away.
+fn put_away_later(alloc: Global) -> Result<(Refusal, Option<u64>, Found), Fail> {
+    let pool = accepted(alloc)?;
+    let (refusal, mut pool) = refused(alloc, pool)?;
+    let group = committed(sync(&mut pool.core));
+    let disks = put_away(alloc, pool)?;
+    Ok((refusal, group, opened(alloc, disks)?))
 }
 
 /// While something is accepted and not committed the pool isn't exported, and goes on.
 #[test]
 fn what_is_accepted_is_committed_first(rt: HostRuntime) -> Result<(), Fail> {
-    let mut pool = filled(rt.alloc())?;
-    write_block(rt.alloc(), &mut pool.core, "v", 3, 0xbb)?;
-    let (refusal, mut pool) = refused(rt.alloc(), pool)?;
-    assert_eq!(rt; refusal, Refusal::NotNow);
-    assert_eq!(rt; committed(sync(&mut pool.core)), Some(6));
-    let disks = put_away(rt.alloc(), pool)?;
-    assert_eq!(rt; opened(rt.alloc(), disks)?, ((Some(6), Some((0, 0xbb))), 2));
+    let (refusal, group, found) = put_away_later(rt.alloc())?;
+    assert!(rt; refusal == Refusal::NotNow);
+    assert!(rt; group == Some(6));
+    assert!(rt; found == ((Some(6), Some((0, 0xbb))), 2));
     Ok(())
 }

@@ -18,7 +18,7 @@ const OTHER_PATHS: [&str; 3] = ["tests_open_3.img", "tests_open_4.img", "tests_o
 const SHORT_BYTES: u64 = 0x7c_0000;
 
 /// What is handed in as one of a pool's files.
-#[derive(Clone, Copy, Debug)]
+#[derive(Clone, Copy)]
 enum Given {
     /// The file as the pool left it.
     Whole,
@@ -43,6 +43,25 @@ fn remove_all<R: Files<File = File>>(files: &R) {
     }
 }
 
+/// Disks in new files.
+fn new_files<R: Files<File = File>>(
+    alloc: Global,
+    files: &R,
+    paths: &[&str],
+) -> Result<Vec<FileDisk>, Fail> {
+    let mut disks = Vec::new(alloc);
+    for path in paths {
+        disks.push(FileDisk::create(files, path, DISK_BYTES as u64)?)?;
+    }
+    Ok(disks)
+}
+
+/// Makes a pool of this guid on these disks and fills it.
+fn fill_new(alloc: Global, disks: Vec<FileDisk>, guid: u64) -> Result<Shown, Refusal> {
+    let mut core = made(alloc, disks, guid)?;
+    Ok(fill(alloc, &mut core)?)
+}
+
 /// Makes a pool of this guid in new files and fills it. The files are closed then.
 fn write_pool<R: Files<File = File>>(
     alloc: Global,
@@ -50,12 +69,8 @@ fn write_pool<R: Files<File = File>>(
     paths: &[&str],
     guid: u64,
 ) -> Result<Shown, Fail> {
-    let mut disks = Vec::new(alloc);
-    for path in paths {
-        disks.push(FileDisk::create(files, path, DISK_BYTES as u64)?)?;
-    }
-    let mut core = made(alloc, disks, guid)?;
-    Ok(fill(alloc, &mut core)?)
+    let disks = new_files(alloc, files, paths)?;
+    Ok(fill_new(alloc, disks, guid)?)
 }
 
 /// Gives the file another length: its end is gone, or zeros are added.
@@ -123,8 +138,9 @@ fn found_on(alloc: Global, disks: Vec<FileDisk>) -> Found {
         mut core,
         uberblock,
     } = open(alloc, disks, 0)?;
-    let shown = (Some(uberblock.group), blocks_of(alloc, &mut core, "v")?);
-    Ok((shown, first_absent(&core.into_disks())))
+    let blocks = blocks_of(alloc, &mut core, "v");
+    let absent = first_absent(&core.into_disks());
+    Ok(((Some(uberblock.group), blocks?), absent))
 }
 
 /// Makes two pools, and opens the first on files that are handed in so.
@@ -139,24 +155,47 @@ fn reopened<R: Files<File = File>>(
     Ok(found_on(alloc, disks_of(alloc, files, given)?))
 }
 
+/// What the pool shows that was written.
+const WRITTEN: Shown = (Some(5), Some((0, 0xaa)));
+
+const BLANK: Refusal = Refusal::BadLabel(Breach::Tail);
+
+/// The files that are handed in, what an open gives, and which they are.
+const CASES: [([Given; 3], Found, &str); 7] = [
+    ([Whole, Whole, Whole], Ok((WRITTEN, None)), "all"),
+    ([Short, Whole, Whole], Ok((WRITTEN, Some(0))), "one is cut"),
+    (
+        [Whole, Shrunk, Whole],
+        Ok((WRITTEN, Some(1))),
+        "one is cut later",
+    ),
+    (
+        [Whole, Whole, Zeros],
+        Ok((WRITTEN, Some(2))),
+        "one has zeros",
+    ),
+    (
+        [Whole, Other, Whole],
+        Err(Refusal::PoolMismatch),
+        "one is another pool's",
+    ),
+    (
+        [Short, Whole, Zeros],
+        Err(Refusal::TooManyMissing),
+        "two are absent",
+    ),
+    ([Zeros, Zeros, Zeros], Err(BLANK), "all have zeros"),
+];
+
 /// With one parity the pool opens without one of its files. A file that was cut has less than the 8 MiB of the least disk, so that
 /// nothing is read of it; of one that is cut later a label can't be read; and a file of zeros has no valid label: for each of them the
 /// child is absent. Without two of its files the pool is refused, and where no label is valid it isn't known whose they are.
 /// A valid label of another pool is refused even where the other files would do: whoever handed it in mistook it.
 #[test]
 fn pools_in_files_open_again(rt: HostRuntime) -> Result<(), Fail> {
-    let written = (Some(5), Some((0, 0xaa)));
-    for (given, wanted) in [
-        ([Whole, Whole, Whole], Ok((written, None))),
-        ([Short, Whole, Whole], Ok((written, Some(0)))),
-        ([Whole, Shrunk, Whole], Ok((written, Some(1)))),
-        ([Whole, Whole, Zeros], Ok((written, Some(2)))),
-        ([Whole, Other, Whole], Err(Refusal::PoolMismatch)),
-        ([Short, Whole, Zeros], Err(Refusal::TooManyMissing)),
-        ([Zeros, Zeros, Zeros], Err(Refusal::BadLabel(Breach::Tail))),
-    ] {
-        let found = reopened(rt.alloc(), &rt, given)?;
-        assert_eq!(rt; found, wanted, "{given:?}");
+    for (given, wanted, which) in &CASES {
+        let found = reopened(rt.alloc(), &rt, *given)?;
+        assert!(rt; found == *wanted, "{which}");
     }
     remove_all(&rt);
     Ok(())

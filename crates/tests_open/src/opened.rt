@@ -3,18 +3,31 @@ use crate::pools::{
     Opening, Shown, blank, blocks_of, committed, fill, made, making, opening, pool_disks, present,
     sync, write_block,
 };
-use model_disk::MemDisk;
+use model_disk::{MemDisk, Member};
+use pool_core::Core;
 use pool_open::{OpenedPool, Refusal, open};
-use std::alloc::Global;
+use std::alloc::{AllocError, Global};
 use std::test::*;
 use vdev_label::Breach;
 
 /// A pool that was filled: its disks, and what it shows.
 fn written(alloc: Global) -> Result<(Vec<MemDisk>, Shown), Fail> {
-    let disks = blank(alloc)?;
-    let mut core = made(alloc, disks, 1)?;
-    let shown = fill(alloc, &mut core)?;
-    Ok((present(alloc, core.into_disks())?, shown))
+    let mut core = made(alloc, blank(alloc)?, 1)?;
+    let shown = fill(alloc, &mut core);
+    let members = core.into_disks();
+    Ok((present(alloc, members)?, shown?))
+}
+
+/// What an opened pool shows, and behind one more write.
+fn go_on(
+    alloc: Global,
+    core: &mut Core<Member<MemDisk>>,
+    group: u64,
+) -> Result<[Shown; 2], AllocError> {
+    let first = (Some(group), blocks_of(alloc, core, "v")?);
+    write_block(alloc, core, "v", 1, 0xbb)?;
+    let group = committed(sync(core));
+    Ok([first, (group, blocks_of(alloc, core, "v")?)])
 }
 
 /// The same pool opened: what it shows, and behind one more write.
@@ -27,43 +40,42 @@ fn opened(
         mut core,
         uberblock,
     } = open(alloc, disks, rewind.min(2))?;
-    let first = (Some(uberblock.group), blocks_of(alloc, &mut core, "v")?);
-    write_block(alloc, &mut core, "v", 1, 0xbb)?;
-    let group = committed(sync(&mut core));
-    let blocks = blocks_of(alloc, &mut core, "v")?;
-    Ok((present(alloc, core.into_disks())?, [first, (group, blocks)]))
+    let shown = go_on(alloc, &mut core, uberblock.group);
+    let members = core.into_disks();
+    Ok((present(alloc, members)?, shown?))
+}
+
+/// What a pool shows as it is made, as it is opened, and as it is opened again, and what a last open gives.
+fn outlived(alloc: Global) -> Result<(Shown, [[Shown; 2]; 2], Opening), Fail> {
+    let (disks, first) = written(alloc)?;
+    let (disks, second) = opened(alloc, disks, 0)?;
+    let (disks, third) = opened(alloc, disks, 0)?;
+    Ok((first, [second, third], opening(alloc, disks, 0)))
 }
 
 #[test]
 fn a_pool_outlives_its_program(rt: HostRuntime) -> Result<(), Fail> {
-    let (disks, shown) = written(rt.alloc())?;
-    assert_eq!(rt; shown, (Some(5), Some((0, 0xaa))));
-    let (disks, shown) = opened(rt.alloc(), disks, 0)?;
-    assert_eq!(rt;
-        shown,
-        [(Some(5), Some((0, 0xaa))), (Some(6), Some((0, 0xbb)))]
-    );
-    let (disks, shown) = opened(rt.alloc(), disks, 0)?;
-    assert_eq!(rt;
-        shown,
-        [(Some(6), Some((0, 0xbb))), (Some(7), Some((0, 0xbb)))]
-    );
-    assert_eq!(rt; opening(rt.alloc(), disks, 0), Ok((7, 4)));
+    let (first, [second, third], last) = outlived(rt.alloc())?;
+    assert!(rt; first == (Some(5), Some((0, 0xaa))));
+    assert!(rt; second == [(Some(5), Some((0, 0xaa))), (Some(6), Some((0, 0xbb)))]);
+    assert!(rt; third == [(Some(6), Some((0, 0xbb))), (Some(7), Some((0, 0xbb)))]);
+    assert!(rt; last == Ok((7, 4)));
     Ok(())
+}
+
+/// What a pool shows that is opened so many groups back.
+fn gone_back(alloc: Global, rewind: u64) -> Result<[Shown; 2], Fail> {
+    let (disks, _) = written(alloc)?;
+    Ok(opened(alloc, disks, rewind)?.1)
 }
 
 /// Opened one group back, so that the volume is there without what group 5 wrote; and two back, before there was a volume.
 #[test]
 fn groups_are_gone_back(rt: HostRuntime) -> Result<(), Fail> {
-    let (disks, _) = written(rt.alloc())?;
-    let (_, shown) = opened(rt.alloc(), disks, 1)?;
-    assert_eq!(rt;
-        shown,
-        [(Some(4), Some((0, 0))), (Some(5), Some((0, 0xbb)))]
-    );
-    let (disks, _) = written(rt.alloc())?;
-    let (_, shown) = opened(rt.alloc(), disks, 2)?;
-    assert_eq!(rt; shown, [(Some(3), None), (Some(4), None)]);
+    let one = gone_back(rt.alloc(), 1)?;
+    assert!(rt; one == [(Some(4), Some((0, 0))), (Some(5), Some((0, 0xbb)))]);
+    let two = gone_back(rt.alloc(), 2)?;
+    assert!(rt; two == [(Some(3), None), (Some(4), None)]);
     Ok(())
 }
 
@@ -80,35 +92,56 @@ fn without(alloc: Global, absent: &[usize]) -> Result<Opening, Fail> {
 
 #[test]
 fn disks_may_be_missing(rt: HostRuntime) -> Result<(), Fail> {
-    assert_eq!(rt; without(rt.alloc(), &[])?, Ok((3, 2)));
-    assert_eq!(rt; without(rt.alloc(), &[0])?, Ok((3, 2)));
-    assert_eq!(rt; without(rt.alloc(), &[2, 0])?, Err(Refusal::TooManyMissing));
+    assert!(rt; without(rt.alloc(), &[])? == Ok((3, 2)));
+    assert!(rt; without(rt.alloc(), &[0])? == Ok((3, 2)));
+    assert!(rt; without(rt.alloc(), &[2, 0])? == Err(Refusal::TooManyMissing));
     Ok(())
+}
+
+/// The disks of two pools.
+fn mixed_disks(alloc: Global) -> Result<Vec<MemDisk>, Fail> {
+    let mut disks = pool_disks(alloc, 1)?;
+    for other in pool_disks(alloc, 2)? {
+        disks.push(other)?;
+    }
+    Ok(disks)
+}
+
+/// What an open gives of blank disks, of a new pool one group back, and of the disks of two pools.
+fn other_openings(alloc: Global) -> Result<[Opening; 3], Fail> {
+    let blank = opening(alloc, blank(alloc)?, 0);
+    let new = opening(alloc, pool_disks(alloc, 1)?, 1);
+    Ok([blank, new, opening(alloc, mixed_disks(alloc)?, 0)])
 }
 
 /// Blank disks, a new pool gone back, and a disk of another pool among the disks.
 #[test]
 fn other_disks_are_refused(rt: HostRuntime) -> Result<(), Fail> {
-    let tail = Err(Refusal::BadLabel(Breach::Tail));
-    assert_eq!(rt; opening(rt.alloc(), blank(rt.alloc())?, 0), tail);
-    let disks = pool_disks(rt.alloc(), 1)?;
-    assert_eq!(rt; opening(rt.alloc(), disks, 1), Err(Refusal::NoUberblock));
-    let mut disks = pool_disks(rt.alloc(), 1)?;
-    for other in pool_disks(rt.alloc(), 2)? {
-        disks.push(other)?;
-    }
-    assert_eq!(rt; opening(rt.alloc(), disks, 0), Err(Refusal::PoolMismatch));
+    let [blank, new, mixed] = other_openings(rt.alloc())?;
+    assert!(rt; blank == Err(Refusal::BadLabel(Breach::Tail)));
+    assert!(rt; new == Err(Refusal::NoUberblock));
+    assert!(rt; mixed == Err(Refusal::PoolMismatch));
     Ok(())
+}
+
+/// Blank disks without the last of them.
+fn two_blank(alloc: Global) -> Result<Vec<MemDisk>, Fail> {
+    let mut disks = blank(alloc)?;
+    disks.pop();
+    Ok(disks)
+}
+
+/// What is made of blank disks, of those of a pool, and of blank ones of which one is missing.
+fn makings(alloc: Global) -> Result<[Opening; 3], Fail> {
+    let blank = making(alloc, blank(alloc)?, 1);
+    let labeled = making(alloc, pool_disks(alloc, 1)?, 2);
+    Ok([blank, labeled, making(alloc, two_blank(alloc)?, 1)])
 }
 
 /// A pool is made on blank disks (`pool_create::create`), and not where one of them has a label, or one is missing.
 #[test]
 fn disks_of_a_pool_make_no_other(rt: HostRuntime) -> Result<(), Fail> {
-    assert_eq!(rt; making(rt.alloc(), blank(rt.alloc())?, 1), Ok((3, 1)));
-    let disks = pool_disks(rt.alloc(), 1)?;
-    assert_eq!(rt; making(rt.alloc(), disks, 2), Err(Refusal::BadConfig));
-    let mut disks = blank(rt.alloc())?;
-    disks.pop();
-    assert_eq!(rt; making(rt.alloc(), disks, 1), Err(Refusal::BadConfig));
+    let refused = Err(Refusal::BadConfig);
+    assert!(rt; makings(rt.alloc())? == [Ok((3, 1)), refused, refused]);
     Ok(())
 }
