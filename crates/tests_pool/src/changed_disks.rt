@@ -12,7 +12,13 @@ use std::fs::{self, File, Files, OpenOptions};
 use std::os::unix::fs::FileExt;
 use std::test::Fail;
 
-const PATHS: [&str; 3] = ["tests_pool_0.img", "tests_pool_1.img", "tests_pool_2.img"];
+const FIRST: &str = "tests_pool_0.img";
+
+const SECOND: &str = "tests_pool_1.img";
+
+const THIRD: &str = "tests_pool_2.img";
+
+const PATHS: [&str; 3] = [FIRST, SECOND, THIRD];
 
 const DISK_BYTES: u64 = 0x80_0000;
 
@@ -97,12 +103,25 @@ fn said(alloc: Global, pool: &mut FilePool, line: &str) -> Result<String, Fail> 
 
 /// Whether the pool replies to each of these lines as is said there.
 fn says_all(alloc: Global, pool: &mut FilePool) -> Result<bool, Fail> {
-    for (line, wanted) in COMMITTED {
+    for &(line, wanted) in &COMMITTED {
         if said(alloc, pool, line)?.as_str() != wanted {
             return Ok(false);
         }
     }
     Ok(true)
+}
+
+fn read_behind<R: Files<File = File>>(
+    alloc: Global,
+    files: &R,
+    pool: &mut FilePool,
+    changed: &[&str],
+) -> Result<String, Fail> {
+    if !says_all(alloc, pool)? {
+        return Err(Fail::from(Refusal::NotNow));
+    }
+    change_all(alloc, files, changed)?;
+    said(alloc, pool, "read v 0 1024")
 }
 
 /// What a read of the block is answered where these disks were changed once it was committed.
@@ -112,11 +131,17 @@ fn read_changed<R: Files<File = File>>(
     changed: &[&str],
 ) -> Result<String, Fail> {
     let mut pool = pool(alloc, files)?;
-    if !says_all(alloc, &mut pool)? {
-        return Err(Fail::from(Refusal::NotNow));
-    }
-    change_all(alloc, files, changed)?;
-    said(alloc, &mut pool, "read v 0 1024")
+    read_behind(alloc, files, &mut pool, changed)
+}
+
+/// Whether that is what it is to be.
+fn is_answered<R: Files<File = File>>(
+    alloc: Global,
+    files: &R,
+    changed: &[&str],
+    wanted: &str,
+) -> Result<bool, Fail> {
+    Ok(read_changed(alloc, files, changed)?.as_str() == wanted)
 }
 
 fn remove_all<R: Files<File = File>>(files: &R) {
@@ -125,19 +150,21 @@ fn remove_all<R: Files<File = File>>(files: &R) {
     }
 }
 
+/// Which disks are changed, what a read is answered then, and which they are.
+const CHANGED: [(&[&str], &str, &str); 6] = [
+    (&[], "07x1024", "none"),
+    (&[FIRST], "07x1024", "the first"),
+    (&[SECOND], "07x1024", "the second"),
+    (&[THIRD], "07x1024", "the third"),
+    (&[FIRST, SECOND], "refused 21 BadDigest", "the first two"),
+    (&[SECOND, THIRD], "refused 21 BadDigest", "the last two"),
+];
+
 #[test]
 fn changed_disks_are_found_out(rt: HostRuntime) -> Result<(), Fail> {
-    for (changed, wanted) in [
-        (&PATHS[..0], "07x1024"),
-        (&PATHS[..1], "07x1024"),
-        (&PATHS[1..2], "07x1024"),
-        (&PATHS[2..], "07x1024"),
-        (&PATHS[..2], "refused 21 BadDigest"),
-        (&PATHS[1..], "refused 21 BadDigest"),
-    ] {
+    for &(changed, wanted, which) in &CHANGED {
         remove_all(&rt);
-        let reply = read_changed(rt.alloc(), &rt, changed)?;
-        assert_eq!(rt; reply.as_str(), wanted);
+        assert!(rt; is_answered(rt.alloc(), &rt, changed, wanted)?, "{which}");
     }
     remove_all(&rt);
     Ok(())

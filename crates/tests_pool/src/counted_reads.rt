@@ -156,6 +156,6 @@ fn reads_do_not_grow_with_the_volumes(rt: HostRuntime) -> Result<(), Fail> {
     let few = reads_among(rt.alloc(), 3)?;
     let more = reads_among(rt.alloc(), 20)?;
     let many = reads_among(rt.alloc(), 70)?;
-    assert_eq!(rt; [few, more, many], [16, 20, 20]);
+    assert!(rt; [few, more, many] == [16, 20, 20]);
     Ok(())
 }

@@ -33,14 +33,22 @@ fn filled(
     }))
 }
 
-/// A pipeline whose open group has these writes, each a volume, an offset, how many bytes, and of which value.
-fn with_writes(alloc: Global, writes: &[(&str, u64, usize, u8)]) -> Result<Pipeline, Fail> {
-    let mut pipeline = Pipeline::new(alloc, 3);
+/// A write by its volume, its offset, how many bytes it has, and of which value.
+type Placed<'a> = (&'a str, u64, usize, u8);
+
+fn accept_all(alloc: Global, pipeline: &mut Pipeline, writes: &[Placed]) -> Result<(), Fail> {
     pipeline.hold(1)?;
     for (volume, offset, len, value) in writes {
         let number = pipeline.expected(1);
         pipeline.accept(filled(alloc, number, volume, (*offset, *len), *value)?)?;
     }
+    Ok(())
+}
+
+/// A pipeline whose open group has these writes.
+fn with_writes(alloc: Global, writes: &[Placed]) -> Result<Pipeline, Fail> {
+    let mut pipeline = Pipeline::new(alloc, 3);
+    accept_all(alloc, &mut pipeline, writes)?;
     Ok(pipeline)
 }
 
@@ -53,46 +61,60 @@ fn places(alloc: Global, pipeline: &Pipeline, volume: &str, piece: u64) -> Resul
     Ok(format!(in alloc; "{all:?} {touching:?}")?)
 }
 
-// A piece has 0x20000 bytes.
+/// Up to a border, from it on, to another volume, none, across two borders, and at the end of all offsets. A piece has 0x20000
+/// bytes.
+const WRITES: [(&str, u64, usize, u8); 6] = [
+    ("v", 0x1fe00, 512, 1),
+    ("v", 0x20000, 512, 1),
+    ("w", 0x20000, 512, 1),
+    ("v", 0x20000, 0, 1),
+    ("v", 0x1fe00, 0x20400, 1),
+    ("w", u64::MAX, 2, 1),
+];
+
+/// A volume, a piece of it, and the places of the writes.
+const PLACES: [(&str, u64, &str); 8] = [
+    ("v", 0, "[0, 1, 3, 4] [0, 4]"),
+    ("v", 1, "[0, 1, 3, 4] [1, 4]"),
+    ("v", 2, "[0, 1, 3, 4] [4]"),
+    ("v", 3, "[0, 1, 3, 4] []"),
+    ("w", 1, "[2, 5] [2]"),
+    ("w", 0x7fff_ffff_ffff, "[2, 5] [5]"),
+    ("w", 0x8000_0000_0000, "[2, 5] [5]"),
+    ("u", 1, "[] []"),
+];
+
+/// The first of these whose places are others.
+fn first_misplaced(alloc: Global, pipeline: &Pipeline) -> Result<Option<usize>, Fail> {
+    for (index, (volume, piece, wanted)) in PLACES.iter().enumerate() {
+        if places(alloc, pipeline, volume, *piece)?.as_str() != *wanted {
+            return Ok(Some(index));
+        }
+    }
+    Ok(None)
+}
+
+fn misplaced(alloc: Global) -> Result<Option<usize>, Fail> {
+    let pipeline = with_writes(alloc, &WRITES)?;
+    first_misplaced(alloc, &pipeline)
+}
+
 #[test]
 fn writes_are_found_by_place(rt: HostRuntime) -> Result<(), Fail> {
-    // Up to a border, from it on, to another volume, none, across two borders, and at the end of all offsets.
-    let writes = [
-        ("v", 0x1fe00, 512, 1),
-        ("v", 0x20000, 512, 1),
-        ("w", 0x20000, 512, 1),
-        ("v", 0x20000, 0, 1),
-        ("v", 0x1fe00, 0x20400, 1),
-        ("w", u64::MAX, 2, 1),
-    ];
-    let pipeline = with_writes(rt.alloc(), &writes)?;
-    for (volume, piece, wanted) in [
-        ("v", 0, "[0, 1, 3, 4] [0, 4]"),
-        ("v", 1, "[0, 1, 3, 4] [1, 4]"),
-        ("v", 2, "[0, 1, 3, 4] [4]"),
-        ("v", 3, "[0, 1, 3, 4] []"),
-        ("w", 1, "[2, 5] [2]"),
-        ("w", 0x7fff_ffff_ffff, "[2, 5] [5]"),
-        ("w", 0x8000_0000_0000, "[2, 5] [5]"),
-        ("u", 1, "[] []"),
-    ] {
-        assert_eq!(rt;
-            places(rt.alloc(), &pipeline, volume, piece)?.as_str(),
-            wanted
-        );
-    }
+    assert!(rt; misplaced(rt.alloc())? == None);
     Ok(())
 }
 
+const ACROSS: [(&str, u64, usize, u8); 3] = [
+    ("v", 0x1fffc, 6, 1),
+    ("v", 0x1fffe, 1, 2),
+    ("v", 0x1ffff, 4, 3),
+];
+
 /// Twelve bytes across the border of a piece, which were 9, and whether one write has so many from two bytes on.
 fn read_across(alloc: Global, len: u64) -> Result<([u8; 12], bool), Fail> {
-    let writes = [
-        ("v", 0x1fffc, 6, 1),
-        ("v", 0x1fffe, 1, 2),
-        ("v", 0x1ffff, 4, 3),
-    ];
-    let pipeline = with_writes(alloc, &writes)?;
     let volume = name(alloc, "v")?;
+    let pipeline = with_writes(alloc, &ACROSS)?;
     let mut buffer = [9; 12];
     read_pending(&pipeline, SHAPE, &volume, 0x1fffa, &mut buffer);
     let covered = is_covered(&pipeline, SHAPE, &volume, 0x1fffc, len);
@@ -102,8 +124,8 @@ fn read_across(alloc: Global, len: u64) -> Result<([u8; 12], bool), Fail> {
 #[test]
 fn a_read_goes_across_the_border_of_a_piece(rt: HostRuntime) -> Result<(), Fail> {
     let bytes = [9, 9, 1, 1, 2, 3, 3, 3, 3, 9, 9, 9];
-    assert_eq!(rt; read_across(rt.alloc(), 6)?, (bytes, true));
-    assert_eq!(rt; read_across(rt.alloc(), 7)?, (bytes, false));
-    assert_eq!(rt; read_across(rt.alloc(), 0)?, (bytes, true));
+    assert!(rt; read_across(rt.alloc(), 6)? == (bytes, true));
+    assert!(rt; read_across(rt.alloc(), 7)? == (bytes, false));
+    assert!(rt; read_across(rt.alloc(), 0)? == (bytes, true));
     Ok(())
 }

@@ -1,6 +1,7 @@
 //! Schedules over disks that fail, and what is read with disks missing.
 use crate::playing::played;
 use std::alloc::Global;
+use std::process::Abort;
 use std::test::Fail;
 
 /// Blocks of two sectors, partly written by two groups, with each disk missing in turn, and with
@@ -494,49 +495,54 @@ fn changed_in(alloc: Global, texts: &[&str]) -> Result<String, Fail> {
     Ok(changed)
 }
 
+/// Plays schedules, which are to have the replies that they tell.
+fn play<R: Abort>(rt: &R, alloc: Global, texts: &[&str]) -> Result<(), Fail> {
+    let changed = changed_in(alloc, texts)?;
+    assert!(rt; changed.as_str() == "", "{changed}");
+    Ok(())
+}
+
 #[test]
 fn groups_have_their_replies(rt: HostRuntime) -> Result<(), Fail> {
-    let texts = [VOLUMES_OF_GROUPS, KEPT_GROUPS, PENDING_WRITES];
-    assert_eq!(rt; changed_in(rt.alloc(), &texts)?.as_str(), "");
-    Ok(())
+    play(
+        &rt,
+        rt.alloc(),
+        &[VOLUMES_OF_GROUPS, KEPT_GROUPS, PENDING_WRITES],
+    )
 }
 
 #[test]
 fn missing_disks_have_their_replies(rt: HostRuntime) -> Result<(), Fail> {
-    let texts = [PARTS_OF_BLOCKS, FIVE_DISKS];
-    assert_eq!(rt; changed_in(rt.alloc(), &texts)?.as_str(), "");
-    Ok(())
+    play(&rt, rt.alloc(), &[PARTS_OF_BLOCKS, FIVE_DISKS])
 }
 
 #[test]
 fn failing_disks_have_their_replies(rt: HostRuntime) -> Result<(), Fail> {
-    let texts = [LEFT_OUT, SUSPENDED, TOO_FEW_SLOTS, COVERED];
-    assert_eq!(rt; changed_in(rt.alloc(), &texts)?.as_str(), "");
-    Ok(())
+    play(
+        &rt,
+        rt.alloc(),
+        &[LEFT_OUT, SUSPENDED, TOO_FEW_SLOTS, COVERED],
+    )
 }
 
 #[test]
 fn a_full_pool_has_its_replies(rt: HostRuntime) -> Result<(), Fail> {
-    assert_eq!(rt; changed_in(rt.alloc(), &[FULL, ONE_VOLUME])?.as_str(), "");
-    Ok(())
+    play(&rt, rt.alloc(), &[FULL, ONE_VOLUME])
 }
 
 #[test]
 fn a_pool_with_just_room_has_its_replies(rt: HostRuntime) -> Result<(), Fail> {
-    assert_eq!(rt; changed_in(rt.alloc(), &[JUST_ROOM])?.as_str(), "");
-    Ok(())
+    play(&rt, rt.alloc(), &[JUST_ROOM])
 }
 
 #[test]
 fn a_volume_that_is_written_twice_has_its_replies(rt: HostRuntime) -> Result<(), Fail> {
-    assert_eq!(rt; changed_in(rt.alloc(), &[WRITTEN_TWICE])?.as_str(), "");
-    Ok(())
+    play(&rt, rt.alloc(), &[WRITTEN_TWICE])
 }
 
 #[test]
 fn room_is_given_back(rt: HostRuntime) -> Result<(), Fail> {
-    assert_eq!(rt; changed_in(rt.alloc(), &[ROOM_GIVEN_BACK])?.as_str(), "");
-    Ok(())
+    play(&rt, rt.alloc(), &[ROOM_GIVEN_BACK])
 }
 
 /// Behind a schedule, that disk 0 is out: with another one missing nothing is read.
@@ -622,26 +628,29 @@ fn changed_by(alloc: Global, faults: &[(&str, &str)]) -> Result<String, Fail> {
     Ok(changed)
 }
 
+/// Plays the schedule behind each fault, with its own end.
+fn play_with<R: Abort>(rt: &R, alloc: Global, faults: &[(&str, &str)]) -> Result<(), Fail> {
+    let changed = changed_by(alloc, faults)?;
+    assert!(rt; changed.as_str() == "", "{changed}");
+    Ok(())
+}
+
 #[test]
 fn a_write_of_a_disk_may_fail(rt: HostRuntime) -> Result<(), Fail> {
-    assert_eq!(rt; changed_by(rt.alloc(), &WRITE_FAULTS)?.as_str(), "");
-    Ok(())
+    play_with(&rt, rt.alloc(), &WRITE_FAULTS)
 }
 
 #[test]
 fn a_slot_of_a_disk_may_fail(rt: HostRuntime) -> Result<(), Fail> {
-    assert_eq!(rt; changed_by(rt.alloc(), &SLOT_FAULTS)?.as_str(), "");
-    Ok(())
+    play_with(&rt, rt.alloc(), &SLOT_FAULTS)
 }
 
 #[test]
 fn a_flush_of_a_disk_may_fail(rt: HostRuntime) -> Result<(), Fail> {
-    assert_eq!(rt; changed_by(rt.alloc(), &FLUSH_FAULTS)?.as_str(), "");
-    Ok(())
+    play_with(&rt, rt.alloc(), &FLUSH_FAULTS)
 }
 
 #[test]
 fn a_read_of_a_disk_may_fail(rt: HostRuntime) -> Result<(), Fail> {
-    assert_eq!(rt; changed_by(rt.alloc(), &READ_FAULTS)?.as_str(), "");
-    Ok(())
+    play_with(&rt, rt.alloc(), &READ_FAULTS)
 }
