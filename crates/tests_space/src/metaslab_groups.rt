@@ -58,9 +58,9 @@ fn handed_out(alloc: Global, sectors: u64) -> Result<[u64; 4], Refusal>
 
 #[test]
 fn metaslabs_run_out(rt: HostRuntime) {
-    assert_eq!(rt; handed_out(rt.alloc(), 16), Ok([4, 4, 4, 4]));
-    assert_eq!(rt; handed_out(rt.alloc(), 24), Ok([2, 2, 2, 2]));
-    assert_eq!(rt; handed_out(rt.alloc(), 65), Ok([0, 0, 0, 0]));
+    assert!(rt; handed_out(rt.alloc(), 16) == Ok([4, 4, 4, 4]));
+    assert!(rt; handed_out(rt.alloc(), 24) == Ok([2, 2, 2, 2]));
+    assert!(rt; handed_out(rt.alloc(), 65) == Ok([0, 0, 0, 0]));
 }
 
 /// Whether what group 4 released in the last of four metaslabs is free as the groups 5, 6, 7 and 8 are planned, of
@@ -85,10 +85,10 @@ fn comes_back(alloc: Global, pinned: u64) -> Result<[bool; 4], Refusal> {
 #[test]
 fn what_is_released_comes_back(rt: HostRuntime) {
     let late = Ok([false, false, true, true]);
-    assert_eq!(rt; comes_back(rt.alloc(), 9), late);
-    assert_eq!(rt; comes_back(rt.alloc(), 4), late);
+    assert!(rt; comes_back(rt.alloc(), 9) == late);
+    assert!(rt; comes_back(rt.alloc(), 4) == late);
     let held = Ok([false, false, false, true]);
-    assert_eq!(rt; comes_back(rt.alloc(), 3), held);
+    assert!(rt; comes_back(rt.alloc(), 3) == held);
 }
 
 /// Whether the first metaslab is wholly free after a plan that took from it is dropped, after one is kept, and after
@@ -108,7 +108,7 @@ fn planned(alloc: Global) -> Result<(bool, bool, bool), Refusal> {
 
 #[test]
 fn plans_are_dropped_and_kept(rt: HostRuntime) {
-    assert_eq!(rt; planned(rt.alloc()), Ok((true, false, false)));
+    assert!(rt; planned(rt.alloc()) == Ok((true, false, false)));
 }
 
 /// Whether a run of a metaslab is in use, beside what is planned, where there is such a metaslab and a run.
@@ -140,10 +140,9 @@ const USES: [(usize, u64, u64, bool, &str); 8] = [
 ];
 
 #[test]
-fn runs_are_in_use(rt: HostRuntime) -> Result<(), Fail> {
-    for (metaslab, start, len, expected, why) in USES {
-        let found = in_use(rt.alloc(), metaslab, start, len)?;
-        assert_eq!(rt; found, (expected, false), "{why}");
+fn runs_are_in_use(rt: HostRuntime) {
+    for &(metaslab, start, len, expected, why) in &USES {
+        let found = in_use(rt.alloc(), metaslab, start, len);
+        assert!(rt; found == Ok((expected, false)), "{why}");
     }
-    Ok(())
 }

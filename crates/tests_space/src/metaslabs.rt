@@ -41,12 +41,11 @@ const SETTLES: [(u64, u64, u64, (bool, bool), &str); 6] = [
 ];
 
 #[test]
-fn what_is_released_waits(rt: HostRuntime) -> Result<(), Fail> {
-    for (released, settled, pinned, back, why) in SETTLES {
-        let found = comes_back(rt.alloc(), released, settled, pinned)?;
-        assert_eq!(rt; found, back, "{why}");
+fn what_is_released_waits(rt: HostRuntime) {
+    for &(released, settled, pinned, back, why) in &SETTLES {
+        let found = comes_back(rt.alloc(), released, settled, pinned);
+        assert!(rt; found == Ok(back), "{why}");
     }
-    Ok(())
 }
 
 /// How many sectors two runs have that are allocated in turn in a metaslab of 16.
@@ -62,9 +61,9 @@ fn allocated(alloc: Global, first: u64, second: u64) -> Result<(u64, u64), Refus
 
 #[test]
 fn space_runs_out(rt: HostRuntime) {
-    assert_eq!(rt; allocated(rt.alloc(), 10, 6), Ok((10, 6)));
-    assert_eq!(rt; allocated(rt.alloc(), 10, 7), Err(Refusal::NoSpace));
-    assert_eq!(rt; allocated(rt.alloc(), 17, 1), Err(Refusal::NoSpace));
+    assert!(rt; allocated(rt.alloc(), 10, 6) == Ok((10, 6)));
+    assert!(rt; allocated(rt.alloc(), 10, 7) == Err(Refusal::NoSpace));
+    assert!(rt; allocated(rt.alloc(), 17, 1) == Err(Refusal::NoSpace));
 }
 
 /// The run of a whole metaslab, taken from a copy that is dropped and then from the metaslab.
@@ -79,7 +78,7 @@ fn taken_twice(alloc: Global) -> Result<(Run, Run), Refusal> {
 #[test]
 fn a_copy_is_dropped(rt: HostRuntime) {
     let whole = Run { start: 0, len: 16 };
-    assert_eq!(rt; taken_twice(rt.alloc()), Ok((whole, whole)));
+    assert!(rt; taken_twice(rt.alloc()) == Ok((whole, whole)));
 }
 
 /// Whether a metaslab of 4 sectors, of which 200 groups took and released one each, has one sector free, two in a row,
@@ -98,7 +97,7 @@ fn worn(alloc: Global) -> Result<(bool, bool, bool), Refusal> {
 
 #[test]
 fn nothing_is_lost_over_many_groups(rt: HostRuntime) {
-    assert_eq!(rt; worn(rt.alloc()), Ok((true, false, true)));
+    assert!(rt; worn(rt.alloc()) == Ok((true, false, true)));
 }
 
 /// Whether a run is in use of a metaslab of 16 sectors, of which 2 were released and the 6 behind them are in use.
@@ -125,12 +124,10 @@ const USES: [(u64, u64, bool, &str); 10] = [
 ];
 
 #[test]
-fn runs_are_in_use(rt: HostRuntime) -> Result<(), Fail> {
-    for (start, len, expected, why) in USES {
-        let found = is_in_use(rt.alloc(), start, len)?;
-        assert_eq!(rt; found, expected, "{why}");
+fn runs_are_in_use(rt: HostRuntime) {
+    for &(start, len, expected, why) in &USES {
+        assert!(rt; is_in_use(rt.alloc(), start, len) == Ok(expected), "{why}");
     }
-    Ok(())
 }
 
 /// Whether a run is taken in by a metaslab of 16 sectors, of which the first 4 are in use; whether it is in use then, and
@@ -148,13 +145,10 @@ fn taken_in(alloc: Global, start: u64, len: u64) -> Result<[bool; 3], Refusal>
 
 #[test]
 fn free_runs_are_taken_in(rt: HostRuntime) {
-    assert_eq!(rt; taken_in(rt.alloc(), 4, 12), Ok([true, true, false]));
-    assert_eq!(rt; taken_in(rt.alloc(), 9, 1), Ok([true, true, false]));
-    assert_eq!(rt; taken_in(rt.alloc(), 3, 2), Ok([false, false, false]));
-    assert_eq!(rt; taken_in(rt.alloc(), 0, 4), Ok([false, true, false]));
-    assert_eq!(rt; taken_in(rt.alloc(), 15, 2), Ok([false, false, false]));
-    assert_eq!(rt;
-        taken_in(rt.alloc(), u64::MAX, 1),
-        Ok([false, false, false])
-    );
+    assert!(rt; taken_in(rt.alloc(), 4, 12) == Ok([true, true, false]));
+    assert!(rt; taken_in(rt.alloc(), 9, 1) == Ok([true, true, false]));
+    assert!(rt; taken_in(rt.alloc(), 3, 2) == Ok([false, false, false]));
+    assert!(rt; taken_in(rt.alloc(), 0, 4) == Ok([false, true, false]));
+    assert!(rt; taken_in(rt.alloc(), 15, 2) == Ok([false, false, false]));
+    assert!(rt; taken_in(rt.alloc(), u64::MAX, 1) == Ok([false, false, false]));
 }

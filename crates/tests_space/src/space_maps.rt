@@ -49,27 +49,70 @@ fn bytes_of(alloc: Global, words: &[u64]) -> Result<Vec<u8>, AllocError> {
     Ok(bytes)
 }
 
-#[test]
-fn what_differs_is_entered(rt: HostRuntime) -> Result<(), Fail> {
-    let alloc = rt.alloc();
-    let both = update(alloc, 64, &[(0, 8), (16, 8)], &[(4, 16)])?;
-    assert_eq!(rt; both, bytes_of(alloc, &[0x8003, 0x8_0007, 0x14_8003])?);
-    let side_by_side = update(alloc, 64, &[(0, 4)], &[(4, 4)])?;
-    assert_eq!(rt; side_by_side, bytes_of(alloc, &[0x8003, 0x4_0003])?);
-    let same = update(alloc, 64, &[(0, 8), (63, 1)], &[(0, 8), (63, 1)])?;
-    assert_eq!(rt; same, bytes_of(alloc, &[])?);
-    Ok(())
+/// What leads from one set of so many sectors to another: the runs that they leave allocated, the words of the entries, and
+/// what this shows.
+type Update = (
+    u32,
+    &'static [(u32, u32)],
+    &'static [(u32, u32)],
+    &'static [u64],
+    &'static str,
+);
+
+/// Whether these words lead from the one set to the other.
+fn is_entered(alloc: Global, case: &Update) -> Result<bool, Refusal> {
+    let (sectors, old, new, words, _) = *case;
+    let found = update(alloc, sectors.max(1), old, new)?;
+    Ok(found == bytes_of(alloc, words)?)
 }
 
+const DIFFERENCES: [Update; 3] = [
+    (
+        64,
+        &[(0, 8), (16, 8)],
+        &[(4, 16)],
+        &[0x8003, 0x8_0007, 0x14_8003],
+        "runs that overlap",
+    ),
+    (
+        64,
+        &[(0, 4)],
+        &[(4, 4)],
+        &[0x8003, 0x4_0003],
+        "side by side",
+    ),
+    (64, &[(0, 8), (63, 1)], &[(0, 8), (63, 1)], &[], "the same"),
+];
+
 #[test]
-fn a_long_run_is_several_entries(rt: HostRuntime) -> Result<(), Fail> {
-    let alloc = rt.alloc();
-    let taken = update(alloc, 100_000, &[], &[(10, 70_000)])?;
-    let expected = bytes_of(alloc, &[0xa_7fff, 0x800a_7fff, 0x1_000a_116f])?;
-    assert_eq!(rt; taken, expected);
-    let given = update(alloc, 100_000, &[(10, 32_769)], &[])?;
-    assert_eq!(rt; given, bytes_of(alloc, &[0xa_ffff, 0x800a_8000])?);
-    Ok(())
+fn what_differs_is_entered(rt: HostRuntime) {
+    for case in &DIFFERENCES {
+        assert!(rt; is_entered(rt.alloc(), case) == Ok(true), "{}", case.4);
+    }
+}
+
+const LONG_RUNS: [Update; 2] = [
+    (
+        100_000,
+        &[],
+        &[(10, 70_000)],
+        &[0xa_7fff, 0x800a_7fff, 0x1_000a_116f],
+        "taken",
+    ),
+    (
+        100_000,
+        &[(10, 32_769)],
+        &[],
+        &[0xa_ffff, 0x800a_8000],
+        "given back",
+    ),
+];
+
+#[test]
+fn a_long_run_is_several_entries(rt: HostRuntime) {
+    for case in &LONG_RUNS {
+        assert!(rt; is_entered(rt.alloc(), case) == Ok(true), "{}", case.4);
+    }
 }
 
 /// Whether the shortest map of one set, with what leads to another behind it, replays as that other.
@@ -90,13 +133,12 @@ fn leads(
 }
 
 #[test]
-fn an_update_leads_to_the_other_set(rt: HostRuntime) -> Result<(), Fail> {
+fn an_update_leads_to_the_other_set(rt: HostRuntime) {
     let alloc = rt.alloc();
-    let led = leads(alloc, 64, &[(0, 8), (16, 8)], &[(4, 16), (60, 4)])?;
-    assert!(rt; led);
-    assert!(rt; leads(alloc, 64, &[(0, 64)], &[])?);
-    assert!(rt; leads(alloc, 100_000, &[(5, 40_000)], &[(3, 90_000)])?);
-    Ok(())
+    let led = leads(alloc, 64, &[(0, 8), (16, 8)], &[(4, 16), (60, 4)]);
+    assert!(rt; led == Ok(true));
+    assert!(rt; leads(alloc, 64, &[(0, 64)], &[]) == Ok(true));
+    assert!(rt; leads(alloc, 100_000, &[(5, 40_000)], &[(3, 90_000)]) == Ok(true));
 }
 
 /// How many runs of allocated sectors a set of 64 sectors has.
@@ -106,12 +148,12 @@ fn counted(alloc: Global, runs: &[(u32, u32)]) -> Result<usize, Refusal> {
 
 #[test]
 fn allocated_runs_are_counted(rt: HostRuntime) {
-    assert_eq!(rt; counted(rt.alloc(), &[]), Ok(0));
-    assert_eq!(rt; counted(rt.alloc(), &[(0, 64)]), Ok(1));
-    assert_eq!(rt; counted(rt.alloc(), &[(0, 8), (8, 8)]), Ok(1));
-    assert_eq!(rt; counted(rt.alloc(), &[(8, 8)]), Ok(1));
+    assert!(rt; counted(rt.alloc(), &[]) == Ok(0));
+    assert!(rt; counted(rt.alloc(), &[(0, 64)]) == Ok(1));
+    assert!(rt; counted(rt.alloc(), &[(0, 8), (8, 8)]) == Ok(1));
+    assert!(rt; counted(rt.alloc(), &[(8, 8)]) == Ok(1));
     let three = counted(rt.alloc(), &[(0, 8), (16, 8), (60, 4)]);
-    assert_eq!(rt; three, Ok(3));
+    assert!(rt; three == Ok(3));
 }
 
 /// Whether a map of so many entries that leaves two runs of 64 sectors allocated is to be condensed.
@@ -122,6 +164,6 @@ fn wanted(alloc: Global, entries: usize) -> Result<bool, Refusal> {
 
 #[test]
 fn long_maps_are_condensed(rt: HostRuntime) {
-    assert_eq!(rt; wanted(rt.alloc(), 68), Ok(false));
-    assert_eq!(rt; wanted(rt.alloc(), 69), Ok(true));
+    assert!(rt; wanted(rt.alloc(), 68) == Ok(false));
+    assert!(rt; wanted(rt.alloc(), 69) == Ok(true));
 }
