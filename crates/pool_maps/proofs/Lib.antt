@@ -5,3 +5,6 @@ pub mod Planned
 pub mod Whole
 pub mod Underway
 pub mod Short
+pub mod Judged
+pub mod LoadedRows
+pub mod LoadedStores

@@ -5,7 +5,7 @@ use Rattle.std.specs.Bool.{OnTrue}
 use Rattle.std.proofs.lemmas.Bool.{cases_eq}
 use Rattle.std.proofs.lemmas.List.Elements.{All-cons, All-contains, All-nil}
 use Rattle.block_pointer.specs.declared.block.Block.{Block}
-use Rattle.block_store.specs.Maps.{LeavesUnused}
+use Rattle.block_store.specs.Maps.{LeavesUnused, HasMetaslab}
 use Rattle.block_store.specs.Places.{filled, planned}
 use Rattle.block_store.specs.Spaces.{VdevSpace}
 use Rattle.meta_objset.specs.SpaceMaps.{AreSpaceMaps, IsEarlier, LacksMetaslab}
@@ -30,7 +30,7 @@ use Rattle.pool_maps.proofs.Sets.{map_same, mapped_same, nothing_leads, same_twi
 
 -- ---- rows
 
-never_earlier : (place other : MetaslabPlace) → place ≡ other → ¬ IsEarlier place other
+pub never_earlier : (place other : MetaslabPlace) → place ≡ other → ¬ IsEarlier place other
 never_earlier place other same (inl less) = (let is = ap (λ (p : MetaslabPlace). p.vdev) same in omega (arith, less, is))
 never_earlier place other same (inr (vdev, less)) = (let is = ap (λ (p : MetaslabPlace). p.index) same in omega (arith, less, is))
 
@@ -368,3 +368,11 @@ not_empty bytes some none = (let is = ap length none in omega (arith, some, is))
 pub empty_of : (bytes : List ℕ) → length bytes ≡ 0 → bytes ≡ []
 empty_of [] none = refl
 empty_of (byte ∷ bytes) none = absurd (omega (arith, none))
+
+-- a metaslab before the meta region is there
+pub metaslab_there : (spaces : List VdevSpace) (place : MetaslabPlace) → HasMapPlace spaces place → HasMetaslab spaces place.vdev place.index
+metaslab_there spaces place is = record {
+  space = is.space;
+  found = is.found;
+  is_there = (let less = is.before in omega (arith, less));
+}

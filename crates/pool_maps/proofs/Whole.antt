@@ -26,7 +26,7 @@ use Rattle.pool_maps.specs.Plans.{Advances, AreAhead, AreAll, AreBelow, AreOfOth
 use Rattle.pool_maps.proofs.Planned.{all_from, mapped_by}
 use Rattle.pool_maps.proofs.Among.{all_put, becomes, others_stay}
 
-place_by : (spaces after : List VdevSpace) (place : MetaslabPlace) → shapes_of after ≡ shapes_of spaces → HasMapPlace spaces place → HasMapPlace after place
+pub place_by : (spaces after : List VdevSpace) (place : MetaslabPlace) → shapes_of after ≡ shapes_of spaces → HasMapPlace spaces place → HasMapPlace after place
 place_by spaces after place same is =
     let there = found_too spaces after place.vdev is.space same is.found in
     record { space = there.0; found = there.1; before = subst (λ (shape : VdevShape). place.index < first_meta shape) (sym there.2) is.before }

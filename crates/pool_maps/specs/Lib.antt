@@ -2,3 +2,4 @@ pub mod Maps
 pub mod Updates
 pub mod Plans
 pub mod Refused
+pub mod Loads

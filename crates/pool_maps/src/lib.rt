@@ -3,10 +3,13 @@
 #![tactic(auto)]
 
 mod changing;
+mod judging;
+mod loading;
 mod planning;
 mod putting;
 mod steps;
 mod update;
 
 pub use block_store::Refusal;
+pub use loading::load_maps;
 pub use planning::plan_maps;

@@ -6,13 +6,13 @@ ghost use Rattle.pool_maps.specs.Plans.{AreOrdered};
 use crate::meta::{EMPTY, with};
 use crate::stores::{Store, new_store, store_plan};
 use block_pointer::{Block, Property};
-use block_store::{CopyCount, NewBlock};
+use block_store::{BlockStore, CopyCount, NewBlock};
 use dnode::{ObjectSet, ObjectSetKind};
 use meta_objset::{MetaslabPlace, SpaceMaps, read_space_maps};
 use objset::{ObjectChange, Refusal, change};
-use pool_maps::plan_maps;
+use pool_maps::{load_maps, plan_maps};
 use space_map::FreeSet;
-use space_map_objects::read_free_set;
+use space_map_objects::{Refusal as MapRefusal, read_free_set};
 use std::alloc::Global;
 use std::test::Fail;
 
@@ -165,7 +165,9 @@ fn one_group(
 
 /// What two groups make of the maps: the second gives back the block that the first planned. Of each how many changes there were, and
 /// in how many metaslabs the maps before and behind it differ from the store; and how many changes a plan of nothing has.
-fn followed(store: &mut Store, alloc: Global) -> Result<[usize; 7], Fail> {
+fn followed(store: &mut Store, alloc: Global) -> Result<(ObjectSet, [usize; 7]), Fail>
+    ensures { IfOk result (λ after. FitsObjectSet after.0) }
+{
     let none = without_maps(store, alloc)?;
     let (first, block, made) = one_group(&none, store, alloc, 2, &[], 5)?;
     let behind = [
@@ -178,17 +180,52 @@ fn followed(store: &mut Store, alloc: Global) -> Result<[usize; 7], Fail> {
         differ(&second, store, alloc, 3)?,
     ];
     let idle = maps_of(&second, store, alloc, 3, &[], 9)?.len();
-    Ok([made, behind[0], behind[1], more, later[0], later[1], idle])
+    Ok((
+        second,
+        [made, behind[0], behind[1], more, later[0], later[1], idle],
+    ))
 }
 
-fn followed_in_memory(alloc: Global) -> Result<[usize; 7], Fail> {
+/// A store without blocks over the disks of another of one vdev.
+fn over_disks_of(store: Store, alloc: Global) -> Result<Store, Refusal> {
+    if store.vdev_count() == 0 {
+        return Err(Refusal::BadConfig);
+    }
+    let shapes = [store.shape(0)];
+    BlockStore::opened(alloc, store.into_array(), &shapes, &[false; 3])
+}
+
+/// In how many metaslabs the maps of a set differ from a store without blocks before they are loaded and behind that; and why they are
+/// not loaded twice.
+fn loaded(
+    store: &mut Store,
+    set: &ObjectSet,
+    alloc: Global,
+) -> Result<([usize; 2], Option<MapRefusal>), Fail>
+    requires { FitsObjectSet set.now }
+{
+    let before = differ(set, store, alloc, 3)?;
+    load_maps(set, store, alloc, 3, &[])?;
+    let behind = differ(set, store, alloc, 3)?;
+    let again = load_maps(set, store, alloc, 3, &[]).err();
+    Ok(([before, behind], again))
+}
+
+type Found = ([usize; 7], [usize; 2], Option<MapRefusal>);
+
+fn found_in_memory(alloc: Global) -> Result<Found, Fail> {
     let mut store = new_store(alloc)?;
-    followed(&mut store, alloc)
+    let (set, counts) = followed(&mut store, alloc)?;
+    let mut later = over_disks_of(store, alloc)?;
+    let (differences, again) = loaded(&mut later, &set, alloc)?;
+    Ok((counts, differences, again))
 }
 
 #[test]
-fn maps_follow_what_groups_plan(rt: HostRuntime) -> Result<(), Fail> {
-    let found = followed_in_memory(rt.alloc())?;
-    assert!(rt; found == [3, 2, 0, 2, 2, 0, 0]);
+fn maps_follow_what_groups_plan_and_are_loaded(rt: HostRuntime) -> Result<(), Fail> {
+    let (counts, differences, again) = found_in_memory(rt.alloc())?;
+    assert!(rt; counts == [3, 2, 0, 2, 2, 0, 0]);
+    assert!(rt; differences == [2, 0]);
+    assert!(rt; again == Some(MapRefusal::Unread(Refusal::BadPointer)));
     Ok(())
 }

@@ -1,11 +1,10 @@
-use Rattle.std.proofs.Common.{◌≡◌, ℕ, ◌≤◌, ◌^◌, Some, List, sym, subst, arith}
+use Rattle.pool_maps.proofs.Planned.{metaslab_there}
+use Rattle.std.proofs.Common.{◌≡◌, ℕ, ◌≤◌, ◌^◌, Some, List, sym, subst}
 use Rattle.std.specs.List.{slice_get}
-use Rattle.block_store.specs.Maps.{HasMetaslab, HasSectors}
+use Rattle.block_store.specs.Maps.{HasSectors}
 use Rattle.block_store.specs.Shapes.{metaslab_sectors}
 use Rattle.block_store.specs.Spaces.{VdevSpace}
 use Rattle.block_store.proofs.Sizes.{slab_bound}
-use Rattle.meta_objset.specs.declared.space_maps.MetaslabPlace.{MetaslabPlace}
-use Rattle.pool_maps.specs.Maps.{HasMapPlace}
 use Rattle.pool_maps.proofs.Sets.{whole_rows}
 use Rattle.pool_maps.proofs.update.update_of.Goals as goal
 
@@ -13,13 +12,6 @@ few_sectors : (spaces : List VdevSpace) (vdev sectors : ℕ) (space : VdevSpace)
 few_sectors spaces vdev sectors space found has =
     let size : sectors ≡ metaslab_sectors space.shape = rw found at has in
     subst (λ n. n ≤ 2 ^ 20) (sym size) (slab_bound space.shape.metaslab_shift space.shape.most_shift)
-
-metaslab_there : (spaces : List VdevSpace) (place : MetaslabPlace) → HasMapPlace spaces place → HasMetaslab spaces place.vdev place.index
-metaslab_there spaces place is = record {
-  space = is.space;
-  found = is.found;
-  is_there = (let less = is.before in omega (arith, less));
-}
 
 pub unused_before-requires : goal.unused_before-requires
 unused_before-requires g c = metaslab_there c.args.store.now.spaces c.args.place c.requires
