@@ -28,7 +28,8 @@ pub(crate) fn are_rows<D: Disk + Drop>(store: &BlockStore<D>, rows: &[MetaslabMa
 
 /// Whether a row is of a metaslab before a meta region, and names no table.
 fn is_row<D: Disk + Drop>(store: &BlockStore<D>, row: &MetaslabMap) -> bool
-    ensures { IsTrue result ↔ (HasMapPlace store.now.spaces row.now.metaslab × (4 < row.now.object)) }
+    ensures { IsTrue result ↔
+        (HasMapPlace store.now.spaces row.now.metaslab × (4 < row.now.object)) }
 {
     is_place(store, row.metaslab) && row.object > LAST_TABLE
 }

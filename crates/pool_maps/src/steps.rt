@@ -80,7 +80,8 @@ impl MapPlan {
             (objects : ℕ → Option Object) (own : List Block) (blocks : ℕ → List Block)
             → Holds store.old stored → AreObjects stored birth set.now objects own blocks
             → AnswersAreTrue store.old store.new → IsSound store.old.spaces self.old
-            → AreUnmade self.old objects → AreBelow self.old → AreAhead objects store.old.spaces AreAll self.old
+            → AreUnmade self.old objects → AreBelow self.old
+            → AreAhead objects store.old.spaces AreAll self.old
             → (after : List VdevSpace) (group : ℕ)
             → AreReleased store.old.spaces (copies_of_all gone.now) group after
             → IsForLoss refusal ⊎ (refusal ≡ Refusal.NoSpace)) }
@@ -118,7 +119,8 @@ impl MapPlan {
             (objects : ℕ → Option Object) (own : List Block) (blocks : ℕ → List Block)
             → Holds store.old stored → AreObjects stored birth set.now objects own blocks
             → AnswersAreTrue store.old store.new → IsSound store.old.spaces self.old
-            → AreUnmade self.old objects → AreBelow self.old → AreAhead objects store.old.spaces (AreIn vdev) self.old
+            → AreUnmade self.old objects → AreBelow self.old
+            → AreAhead objects store.old.spaces (AreIn vdev) self.old
             → (after : List VdevSpace) (group : ℕ)
             → AreReleased store.old.spaces (copies_of_all gone.now) group after
             → IsForLoss refusal ⊎ (refusal ≡ Refusal.NoSpace)) }
@@ -161,7 +163,8 @@ impl MapPlan {
             (objects : ℕ → Option Object) (own : List Block) (blocks : ℕ → List Block)
             → Holds store.old stored → AreObjects stored birth set.now objects own blocks
             → AnswersAreTrue store.old store.new → IsSound store.old.spaces self.old
-            → AreUnmade self.old objects → AreBelow self.old → AreAhead objects store.old.spaces (IsThat place) self.old
+            → AreUnmade self.old objects → AreBelow self.old
+            → AreAhead objects store.old.spaces (IsThat place) self.old
             → (after : List VdevSpace) (group : ℕ)
             → AreReleased store.old.spaces (copies_of_all gone.now) group after
             → IsForLoss refusal ⊎ (refusal ≡ Refusal.NoSpace)) }
