@@ -8,3 +8,4 @@ pub mod Short
 pub mod Judged
 pub mod LoadedRows
 pub mod LoadedStores
+pub mod Staying

@@ -4,6 +4,7 @@
 
 mod changing;
 mod judging;
+mod laws;
 mod loading;
 mod planning;
 mod putting;
@@ -11,5 +12,8 @@ mod steps;
 mod update;
 
 pub use block_store::Refusal;
+pub use laws::{
+    maps_follow_marks, maps_stay_as_plans_begin, new_pools_have_no_maps, other_objects_have_no_maps,
+};
 pub use loading::load_maps;
 pub use planning::plan_maps;

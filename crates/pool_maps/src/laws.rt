@@ -1,0 +1,39 @@
+//! Laws of space maps: what leaves them those of a pool.
+ghost use Rattle.std.specs.Prelude.{◌≡◌, ◌≢◌, ℕ, List, [], Option, Some, All};
+ghost use Rattle.block_store.specs.Places.{AreEmpty, HaveMarks, Marks, filled, planned, shapes_of};
+ghost use Rattle.block_store.specs.Releases.{AreSettledInSome};
+ghost use Rattle.block_store.specs.Spaces.{VdevSpace};
+ghost use Rattle.meta_objset.specs.Reading.{HasSpaceMaps};
+ghost use Rattle.meta_objset.specs.declared.space_maps.MetaslabMap.{MetaslabMap};
+ghost use Rattle.objset.specs.Objects.{Object};
+ghost use Rattle.pool_maps.specs.Maps.{AreMaps, AreMapsOf, AreShortMaps};
+
+/// Maps leave free what is unused by other marks too, where each vdev has the same of them: so it is as blocks are read and planned,
+/// and as what is planned is kept.
+pub fn maps_follow_marks()
+    ensures { (objects : ℕ → Option Object) (spaces after : List VdevSpace) (marks later : Marks)
+        (maps : List MetaslabMap) → shapes_of after ≡ shapes_of spaces
+        → HaveMarks spaces marks after later → AreMaps objects spaces marks maps
+        → AreMaps objects after later maps }
+{}
+
+/// What is due becomes free as a plan begins, in some metaslabs or in all: that changes nothing of what is unused.
+pub fn maps_stay_as_plans_begin()
+    ensures { (objects : ℕ → Option Object) (spaces after : List VdevSpace) (group : ℕ)
+        (maps : List MetaslabMap) → shapes_of after ≡ shapes_of spaces
+        → AreSettledInSome group spaces after → AreMaps objects spaces filled maps
+        → AreMaps objects after filled maps }
+{}
+
+/// A store without blocks has no maps.
+pub fn new_pools_have_no_maps()
+    ensures { (objects : ℕ → Option Object) (spaces : List VdevSpace) → AreEmpty spaces
+        → HasSpaceMaps (objects 4) [] → AreMapsOf objects spaces filled × AreMapsOf objects spaces planned }
+{}
+
+/// Objects of another type have no maps.
+pub fn other_objects_have_no_maps()
+    ensures { (objects : ℕ → Option Object) (maps : List MetaslabMap) (number : ℕ) (there : Object)
+        → AreShortMaps objects maps → objects number ≡ Some there → there.object_type ≢ 8
+        → All (λ map. map.object ≢ number) maps }
+{}
