@@ -17,11 +17,11 @@ use Rattle.objset.specs.declared.changes.ObjectChange.{ObjectChange}
 use Rattle.objset.specs.Changes.{MayChange, after_change}
 use Rattle.objset.specs.Objects.{Object}
 use Rattle.objset.proofs.Numbers.{changed_left}
-use Rattle.space_map.specs.FreeRuns.{FreeRuns, AreFree}
+use Rattle.space_map.specs.FreeRuns.{FreeRuns}
 use Rattle.space_map_objects.specs.Maps.{HasMap}
 use Rattle.pool_maps.specs.declared.steps.MapPlan.{MapPlan}
 use Rattle.pool_maps.specs.declared.update.Update.{Update}
-use Rattle.pool_maps.specs.Maps.{AreShortMaps, AreRowsOf, HasMapPlace, HasShortMap, IsMapped}
+use Rattle.pool_maps.specs.Maps.{AreShortMaps, AreRowsOf, HasMapPlace, HasShortMapOf, IsMapped}
 use Rattle.pool_maps.specs.Plans.{Advances, AreBelow, AreOrdered, AreUnmade, GoesOn, IsForMetaslab, IsMade, IsMappedYet, IsRewritten, IsSound, IsStep, IsThat, IsUntouched, after_plan, numbers_end}
 use Rattle.pool_maps.specs.Refused.{IsTaken}
 use Rattle.pool_maps.specs.Updates.{IsUpdateOf, LeadsFrom, Says}
@@ -80,8 +80,17 @@ mapped_by objects later maps place free same (inr lacks) = inr lacks
 says_map : (object : Option Object) (update : Update) → Says object update → HasMap object update.free.sectors update.free
 says_map object update says = (says.bytes, says.table, says.leaves)
 
-says_short : (object : Option Object) (update : Update) → AreFree update.free → Says object update → HasShortMap object
-says_short object update are says = record { free = update.free; are = are; bytes = says.bytes; table = says.table; leaves = says.leaves; few = says.few }
+says_short : (object : Option Object) (spaces : List VdevSpace) (gone : List Block) (place : MetaslabPlace) (update : Update) → IsUpdateOf spaces gone place update → Says object update
+    → HasShortMapOf spaces place object
+says_short object spaces gone place update is says sectors has = record {
+  free = update.free;
+  are = is.are;
+  size = is.leads.sectors ∙ is.was.sectors ∙ sym (rw is.was.found at has);
+  bytes = says.bytes;
+  table = says.table;
+  leaves = says.leaves;
+  few = says.few;
+}
 
 -- ---- a metaslab whose map stays
 
@@ -198,15 +207,16 @@ module _ (objects : ℕ → Option Object) (spaces : List VdevSpace) (gone : Lis
           (value is.before had is.leads).0;
       short = λ yet are.
           let had = own_map sound is.before (yet place refl is_there is.before is.are_before is.was) in
-          subst (AreShortMaps (after_plan new objects)) (sym by.maps)
-          (all_from (λ (m : MetaslabMap). HasShortMap (after_plan new objects m.object)) old.maps
+          subst (AreShortMaps (after_plan new objects) spaces) (sym by.maps)
+          (all_from (λ (m : MetaslabMap). HasShortMapOf spaces m.metaslab (after_plan new objects m.object)) old.maps
           (λ other held. elim (cases_eq row.object other.object) [
-            | inl same ↦ subst (λ n. HasShortMap (after_plan new objects n)) same
-                (subst (λ object. HasShortMap object) (sym (becomes old.changes.items new.changes.items (record { number = row.object; change = change }) by.put objects))
-                (says_short (after_change change (objects row.object)) update is.are (value is.before had is.leads).1))
-            | inr apart ↦ subst (λ object. HasShortMap object)
+            | inl same ↦ subst (λ (m : MetaslabMap). HasShortMapOf spaces m.metaslab (after_plan new objects m.object)) (sound.rows.apart row other there held same)
+                (subst (λ p. HasShortMapOf spaces p (after_plan new objects row.object)) (sym of)
+                (subst (HasShortMapOf spaces place) (sym (becomes old.changes.items new.changes.items (record { number = row.object; change = change }) by.put objects))
+                (says_short (after_change change (objects row.object)) spaces gone place update is (value is.before had is.leads).1)))
+            | inr apart ↦ subst (HasShortMapOf spaces other.metaslab)
                 (sym (others_stay old.changes.items new.changes.items (record { number = row.object; change = change }) by.put objects other.object apart))
-                (All-contains (λ (m : MetaslabMap). HasShortMap (after_plan old objects m.object)) old.maps other are held)
+                (All-contains (λ (m : MetaslabMap). HasShortMapOf spaces m.metaslab (after_plan old objects m.object)) old.maps other are held)
           ]));
     }
 
@@ -311,16 +321,16 @@ module _ (objects : ℕ → Option Object) (spaces : List VdevSpace) (gone : Lis
           });
       may = λ yet mays. all_put old.changes.items new.changes.items (record { number = old.next; change = change }) by.put (λ (c : ObjectChange). MayChange c.change (objects c.number)) mays
           (subst (MayChange change) (sym (unmade old.next (omega arith))) may);
-      short = λ yet are. all_from (λ (m : MetaslabMap). HasShortMap (after_plan new objects m.object)) new.maps
+      short = λ yet are. all_from (λ (m : MetaslabMap). HasShortMapOf spaces m.metaslab (after_plan new objects m.object)) new.maps
           (λ row held. elim ((by.maps row).0 held) [
-            | inl before ↦ subst (λ object. HasShortMap object)
+            | inl before ↦ subst (HasShortMapOf spaces row.metaslab)
                 (sym (others_stay old.changes.items new.changes.items (record { number = old.next; change = change }) by.put objects row.object
                 (λ same. no_twin old.next old.maps sound.below row before.0 (sym same))))
-                (All-contains (λ (m : MetaslabMap). HasShortMap (after_plan old objects m.object)) old.maps row are before.0)
-            | inr made ↦ subst (λ (m : MetaslabMap). HasShortMap (after_plan new objects m.object)) (sym made)
-                (subst (λ object. HasShortMap object) (sym (becomes old.changes.items new.changes.items (record { number = old.next; change = change }) by.put objects
+                (All-contains (λ (m : MetaslabMap). HasShortMapOf spaces m.metaslab (after_plan old objects m.object)) old.maps row are before.0)
+            | inr made ↦ subst (λ (m : MetaslabMap). HasShortMapOf spaces m.metaslab (after_plan new objects m.object)) (sym made)
+                (subst (HasShortMapOf spaces place) (sym (becomes old.changes.items new.changes.items (record { number = old.next; change = change }) by.put objects
                 ∙ ap (after_change change) (unmade old.next (omega arith))))
-                (says_short (after_change change None) update is.are has))
+                (says_short (after_change change None) spaces gone place update is has))
           ]);
     }
 

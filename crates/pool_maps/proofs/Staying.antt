@@ -1,4 +1,6 @@
 -- Maps that stay those of a pool.
+use Rattle.space_map_objects.specs.Maps.{HasMap}
+use Rattle.pool_maps.specs.Loads.{HasMapFor, HaveMaps}
 use Rattle.std.proofs.lemmas.Option.{get_or_from_slice_get, slice_get_within}
 use Rattle.std.proofs.Common.{◌≡◌, ◌≢◌, ◌⊎◌, ℕ, ◌<◌, true, false, ltb, not, List, [], ◌∷◌, Some, None, Option, All, Contains, length, inl, inr, refl, sym, ap, subst, ◌∙◌, arith, zero, suc}
 use Rattle.std.specs.List.{slice_get}
@@ -26,9 +28,9 @@ use Rattle.raidz_io.proofs.Written.{same_some}
 use Rattle.space_map.specs.FreeRuns.{FreeRuns, AreFree}
 use Rattle.space_map.specs.Map.{all_free}
 use Rattle.space_map.specs.Sectors.{contains}
-use Rattle.pool_maps.specs.Maps.{AreMaps, AreMapsOf, AreRowsOf, AreShortMaps, HasMapPlace, HasShortMap}
+use Rattle.pool_maps.specs.Maps.{AreMaps, AreMapsOf, AreRowsOf, AreShortMaps, HasMapPlace, HasShortMap, HasShortMapOf}
 use Rattle.pool_maps.proofs.Planned.{all_from}
-use Rattle.pool_maps.proofs.Whole.{place_by}
+use Rattle.pool_maps.proofs.Whole.{own_sectors, place_by}
 
 -- where other marks leave no more and no less unused, the maps are theirs too
 maps_by : (objects : ℕ → Option Object) (spaces after : List VdevSpace) (marks later : Marks) (maps : List MetaslabMap) → shapes_of after ≡ shapes_of spaces
@@ -142,7 +144,7 @@ none_mapped objects spaces marks table free = record {
           wholly_unused unused.there set (subst (IsWhollyFree unused.there) (sym whole.size) whole) are unused.unused),
     );
   };
-  short = All-nil (λ (m : MetaslabMap). HasShortMap (objects m.object));
+  short = All-nil (λ (m : MetaslabMap). HasShortMapOf spaces m.metaslab (objects m.object));
 }
 
 pub none_yet : (objects : ℕ → Option Object) (spaces : List VdevSpace) → AreEmpty spaces → HasSpaceMaps (objects 4) [] → AreMapsOf objects spaces filled × AreMapsOf objects spaces planned
@@ -153,9 +155,23 @@ none_yet objects spaces empty table =
           (λ v space found. subst (λ them. AreWhollyFree them (metaslab_sectors space.shape)) (sym (at v space found).none_planned) (at v space found).none_filled),
     )
 
-pub no_map_there : (objects : ℕ → Option Object) (maps : List MetaslabMap) (number : ℕ) (there : Object) → AreShortMaps objects maps → objects number ≡ Some there → there.object_type ≢ 8
-    → All (λ (m : MetaslabMap). m.object ≢ number) maps
-no_map_there objects maps number there short is other =
+short_here : (objects : ℕ → Option Object) (spaces : List VdevSpace) (maps : List MetaslabMap) (row : MetaslabMap) → AreRowsOf spaces maps → AreShortMaps objects spaces maps → Contains maps row
+    → (sectors : ℕ) × HasShortMap (objects row.object) sectors
+short_here objects spaces maps row rows short held =
+    let there = All-contains (λ (m : MetaslabMap). HasMapPlace spaces m.metaslab) maps row rows.places held in (
+      metaslab_sectors there.space.shape,
+      All-contains (λ (m : MetaslabMap). HasShortMapOf spaces m.metaslab (objects m.object)) maps row short held (metaslab_sectors there.space.shape) (own_sectors spaces row.metaslab there),
+    )
+
+pub no_map_there : (objects : ℕ → Option Object) (spaces : List VdevSpace) (maps : List MetaslabMap) (number : ℕ) (there : Object) → AreRowsOf spaces maps → AreShortMaps objects spaces maps
+    → objects number ≡ Some there → there.object_type ≢ 8 → All (λ (m : MetaslabMap). m.object ≢ number) maps
+no_map_there objects spaces maps number there rows short is other =
     all_from (λ (m : MetaslabMap). m.object ≢ number) maps (λ row held same.
-    let has = All-contains (λ (m : MetaslabMap). HasShortMap (objects m.object)) maps row short held in
+    let has = (short_here objects spaces maps row rows short held).1 in
     other (ap (λ (o : Object). o.object_type) (same_some there has.table.there (sym is ∙ ap objects (sym same) ∙ has.table.is)) ∙ has.table.of_kind.0))
+
+pub short_maps_there : (objects : ℕ → Option Object) (spaces : List VdevSpace) (maps : List MetaslabMap) → AreShortMaps objects spaces maps → HaveMaps objects spaces maps
+short_maps_there objects spaces maps short =
+    all_from (λ (m : MetaslabMap). HasMapFor (objects m.object) spaces m.metaslab) maps (λ row held sectors has.
+    let is = All-contains (λ (m : MetaslabMap). HasShortMapOf spaces m.metaslab (objects m.object)) maps row short held sectors has in
+    (is.free, subst (λ n. HasMap (objects row.object) n is.free) is.size (is.bytes, is.table, is.leaves)))

@@ -1,4 +1,5 @@
 -- All maps of a plan.
+use Rattle.block_store.specs.Maps.{HasSectors}
 use Rattle.std.proofs.Common.{◌≡◌, ◌≢◌, ℕ, ◌<◌, ◌≤◌, false, List, Some, None, Option, All, Contains, inl, inr, refl, sym, ap, subst, ◌∙◌, arith}
 use Rattle.std.proofs.lemmas.Bool.{cases_lt}
 use Rattle.std.proofs.lemmas.List.Elements.{All-contains}
@@ -7,7 +8,7 @@ use Rattle.block_store.specs.Places.{shapes_of, filled}
 use Rattle.block_store.specs.Releases.{copies_of_all}
 use Rattle.block_store.specs.Spaces.{VdevSpace}
 use Rattle.block_store.specs.declared.shape.VdevShape.{VdevShape}
-use Rattle.block_store.specs.Shapes.{first_meta}
+use Rattle.block_store.specs.Shapes.{first_meta, metaslab_sectors}
 use Rattle.block_store.proofs.GivenBack.{released_shapes}
 use Rattle.block_store.proofs.Taking.{found_too}
 use Rattle.meta_objset.specs.Reading.{HasSpaceMaps}
@@ -21,7 +22,7 @@ use Rattle.objset.specs.Changes.{MayChange, after_change, changed}
 use Rattle.objset.specs.Objects.{Object}
 use Rattle.objset.proofs.Numbers.{changed_left}
 use Rattle.pool_maps.specs.declared.steps.MapPlan.{MapPlan}
-use Rattle.pool_maps.specs.Maps.{AreMapsOf, AreShortMaps, AreRowsOf, HasMapPlace, HasShortMap, IsMapped}
+use Rattle.pool_maps.specs.Maps.{AreMapsOf, AreShortMaps, AreRowsOf, HasMapPlace, HasShortMap, HasShortMapOf, IsMapped}
 use Rattle.pool_maps.specs.Plans.{Advances, AreAhead, AreAll, AreBelow, AreOfOthers, AreUnmade, GoesOn, IsMapNumber, IsPutIn, IsSound, MapAnew, MayBeMade, after_plan, numbers_end}
 use Rattle.pool_maps.proofs.Planned.{all_from, mapped_by}
 use Rattle.pool_maps.proofs.Among.{all_put, becomes, others_stay}
@@ -31,8 +32,21 @@ place_by spaces after place same is =
     let there = found_too spaces after place.vdev is.space same is.found in
     record { space = there.0; found = there.1; before = subst (λ (shape : VdevShape). place.index < first_meta shape) (sym there.2) is.before }
 
-no_map : ¬ HasShortMap None
-no_map short = (let clash : None ≡ Some short.table.there = short.table.is in cc)
+-- of the metaslab there are as many sectors
+pub sectors_back : (spaces after : List VdevSpace) (place : MetaslabPlace) (sectors : ℕ) → shapes_of after ≡ shapes_of spaces → HasMapPlace spaces place
+    → HasSectors after place.vdev sectors → HasSectors spaces place.vdev sectors
+sectors_back spaces after place sectors same there has =
+    let new = found_too spaces after place.vdev there.space same there.found in
+    let size : sectors ≡ metaslab_sectors new.0.shape = rw new.1 at has in
+    rw there.found (size ∙ ap metaslab_sectors new.2)
+
+pub own_sectors : (spaces : List VdevSpace) (place : MetaslabPlace) → (there : HasMapPlace spaces place) → HasSectors spaces place.vdev (metaslab_sectors there.space.shape)
+own_sectors spaces place there = rw there.found refl
+
+no_map : (spaces : List VdevSpace) (place : MetaslabPlace) → HasMapPlace spaces place → ¬ HasShortMapOf spaces place None
+no_map spaces place there short =
+    let is = short (metaslab_sectors there.space.shape) (own_sectors spaces place there) in
+    (let clash : None ≡ Some is.table.there = is.table.is in cc)
 
 module _ (objects : ℕ → Option Object) (spaces : List VdevSpace) (are : AreMapsOf objects spaces filled) (changes : List ObjectChange) (next : ℕ)
     (of : AreOfOthers objects changes are.maps next) (first : MapPlan) (maps_are : first.maps ≡ are.maps) (changes_are : first.changes.items ≡ changes) (next_is : first.next ≡ next) where
@@ -55,8 +69,10 @@ module _ (objects : ℕ → Option Object) (spaces : List VdevSpace) (are : AreM
     rows = subst (AreRowsOf spaces) (sym maps_are) are.are.rows;
     below = all_from (λ (m : MetaslabMap). m.object < first.next) first.maps (λ row held. elim (cases_lt row.object first.next) [
       | inl less ↦ less
-      | inr later ↦ absurd (no_map (subst HasShortMap (unmade row.object later)
-          (All-contains (λ (m : MetaslabMap). HasShortMap (objects m.object)) are.maps row are.short (in_maps row held))))
+      | inr later ↦ absurd (no_map spaces row.metaslab
+          (All-contains (λ (m : MetaslabMap). HasMapPlace spaces m.metaslab) are.maps row are.are.rows.places (in_maps row held))
+          (subst (HasShortMapOf spaces row.metaslab) (unmade row.object later)
+          (All-contains (λ (m : MetaslabMap). HasShortMapOf spaces m.metaslab (objects m.object)) are.maps row are.short (in_maps row held))))
     ]);
     behind = subst (λ n. 4 < n) (sym next_is) of.behind;
     within = subst (λ n. n ≤ numbers_end) (sym next_is) of.within;
@@ -80,10 +96,10 @@ module _ (objects : ℕ → Option Object) (spaces : List VdevSpace) (are : AreM
   first_may : MayBeMade objects first.changes.items
   first_may = subst (MayBeMade objects) (sym changes_are) of.may
 
-  first_kinds : AreShortMaps (after_plan first objects) first.maps
-  first_kinds = all_from (λ (m : MetaslabMap). HasShortMap (after_plan first objects m.object)) first.maps
-      (λ row held. subst (λ object. HasShortMap object) (sym (row_stays row (in_maps row held)))
-      (All-contains (λ (m : MetaslabMap). HasShortMap (objects m.object)) are.maps row are.short (in_maps row held)))
+  first_kinds : AreShortMaps (after_plan first objects) spaces first.maps
+  first_kinds = all_from (λ (m : MetaslabMap). HasShortMapOf spaces m.metaslab (after_plan first objects m.object)) first.maps
+      (λ row held. subst (HasShortMapOf spaces row.metaslab) (sym (row_stays row (in_maps row held)))
+      (All-contains (λ (m : MetaslabMap). HasShortMapOf spaces m.metaslab (objects m.object)) are.maps row are.short (in_maps row held)))
 
   not_of_map : ¬ IsMapNumber first.maps first.next 4
   not_of_map (inl (row, held, is)) = let behind = All-contains (λ (m : MetaslabMap). 4 < m.object) are.maps row are.are.rows.behind (in_maps row held) in omega (arith, behind, is)
@@ -120,10 +136,12 @@ module _ (objects : ℕ → Option Object) (spaces : List VdevSpace) (are : AreM
                 mapped_by (after_plan last objects) (changed all objects) last.maps place free (λ row held of_place. same row.object (not_table row held))
                 (advances.anew place tt before (ahead place tt before).0 free after group released frees unused);
           };
-          short = all_from (λ (m : MetaslabMap). HasShortMap (changed all objects m.object)) last.maps
-              (λ row held. subst (λ object. HasShortMap object) (sym (same row.object (not_table row held)))
-              (All-contains (λ (m : MetaslabMap). HasShortMap (after_plan last objects m.object)) last.maps row
-              (advances.short (λ place of_all there. (ahead place of_all there).0) first_kinds) held));
+          short = all_from (λ (m : MetaslabMap). HasShortMapOf after m.metaslab (changed all objects m.object)) last.maps
+              (λ row held sectors has. subst (λ object. HasShortMap object sectors) (sym (same row.object (not_table row held)))
+              (All-contains (λ (m : MetaslabMap). HasShortMapOf spaces m.metaslab (after_plan last objects m.object)) last.maps row
+              (advances.short (λ place of_all there. (ahead place of_all there).0) first_kinds) held sectors
+              (sectors_back spaces after row.metaslab sectors shapes
+              (All-contains (λ (m : MetaslabMap). HasMapPlace spaces m.metaslab) last.maps row last_sound.rows.places held) has)));
         }
 
     -- no metaslab got its first map: the table is as it was

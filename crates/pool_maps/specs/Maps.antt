@@ -1,6 +1,6 @@
 -- What the space maps of a pool leave free, and what it uses.
 use Rattle.std.specs.Prelude.{ℕ, ◌≡◌, ◌⊎◌, ◌+◌, ◌*◌, ◌<◌, ◌≤◌, Some, List, length, Option, slice_get, All, Contains}
-use Rattle.block_store.specs.Maps.{LeavesUnused}
+use Rattle.block_store.specs.Maps.{HasSectors, LeavesUnused}
 use Rattle.block_store.specs.Places.{Marks}
 use Rattle.block_store.specs.Shapes.{first_meta}
 use Rattle.block_store.specs.Spaces.{VdevSpace}
@@ -45,17 +45,23 @@ pub record AreRowsOf (spaces : List VdevSpace) (maps : List MetaslabMap) : Type 
 abbrev pub IsShort : List ℕ → FreeRuns → Type 0
 IsShort bytes free = length bytes ≤ 8 * (2 * length (gaps_of free) + 64)
 
--- the object has such a map
-pub record HasShortMap (object : Option Object) : Type 0 where
+-- the object has such a map, of a metaslab of so many sectors
+pub record HasShortMap (object : Option Object) (sectors : ℕ) : Type 0 where
   pub free : FreeRuns
   pub are : AreFree free
+  pub size : free.sectors ≡ sectors
   pub bytes : List ℕ
   pub table : HasTable map_kind object bytes
   pub leaves : LeavesFree bytes free.sectors free
   pub few : IsShort bytes free
 
-abbrev pub AreShortMaps : (ℕ → Option Object) → List MetaslabMap → Type 0
-AreShortMaps objects maps = All (λ map. HasShortMap (objects map.object)) maps
+-- of that metaslab
+abbrev pub HasShortMapOf : List VdevSpace → MetaslabPlace → Option Object → Type 0
+HasShortMapOf spaces place object = (sectors : ℕ) → HasSectors spaces place.vdev sectors → HasShortMap object sectors
+
+-- so have the objects that the rows name
+abbrev pub AreShortMaps : (ℕ → Option Object) → List VdevSpace → List MetaslabMap → Type 0
+AreShortMaps objects spaces maps = All (λ map. HasShortMapOf spaces map.metaslab (objects map.object)) maps
 
 -- Object 4 has this table of space maps. Of each metaslab before a meta region they leave free what these marks leave unused.
 pub record AreMaps (objects : ℕ → Option Object) (spaces : List VdevSpace) (marks : Marks) (maps : List MetaslabMap) : Type 0 where
@@ -68,4 +74,4 @@ pub record AreMaps (objects : ℕ → Option Object) (spaces : List VdevSpace) (
 pub record AreMapsOf (objects : ℕ → Option Object) (spaces : List VdevSpace) (marks : Marks) : Type 0 where
   pub maps : List MetaslabMap
   pub are : AreMaps objects spaces marks maps
-  pub short : AreShortMaps objects maps
+  pub short : AreShortMaps objects spaces maps

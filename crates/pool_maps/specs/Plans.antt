@@ -151,7 +151,7 @@ pub record Advances (objects : ℕ → Option Object) (spaces : List VdevSpace) 
   pub may : ((place : MetaslabPlace) → are place → HasMapPlace spaces place → IsMappedYet objects spaces old place)
       → MayBeMade objects old.changes.items → MayBeMade objects new.changes.items
   pub short : ((place : MetaslabPlace) → are place → HasMapPlace spaces place → IsMappedYet objects spaces old place)
-      → AreShortMaps (after_plan old objects) old.maps → AreShortMaps (after_plan new objects) new.maps
+      → AreShortMaps (after_plan old objects) spaces old.maps → AreShortMaps (after_plan new objects) spaces new.maps
 
 -- all metaslabs, those of a vdev, or one
 abbrev pub AreAll : MetaslabPlace → Type 0

@@ -6,7 +6,8 @@ ghost use Rattle.block_store.specs.Spaces.{VdevSpace};
 ghost use Rattle.meta_objset.specs.Reading.{HasSpaceMaps};
 ghost use Rattle.meta_objset.specs.declared.space_maps.MetaslabMap.{MetaslabMap};
 ghost use Rattle.objset.specs.Objects.{Object};
-ghost use Rattle.pool_maps.specs.Maps.{AreMaps, AreMapsOf, AreShortMaps};
+ghost use Rattle.pool_maps.specs.Loads.{HaveMaps};
+ghost use Rattle.pool_maps.specs.Maps.{AreMaps, AreMapsOf, AreRowsOf, AreShortMaps};
 
 /// Maps leave free what is unused by other marks too, where each vdev has the same of them: so it is as blocks are read and planned,
 /// and as what is planned is kept.
@@ -33,7 +34,14 @@ pub fn new_pools_have_no_maps()
 
 /// Objects of another type have no maps.
 pub fn other_objects_have_no_maps()
-    ensures { (objects : ℕ → Option Object) (maps : List MetaslabMap) (number : ℕ) (there : Object)
-        → AreShortMaps objects maps → objects number ≡ Some there → there.object_type ≢ 8
+    ensures { (objects : ℕ → Option Object) (spaces : List VdevSpace) (maps : List MetaslabMap)
+        (number : ℕ) (there : Object) → AreRowsOf spaces maps → AreShortMaps objects spaces maps
+        → objects number ≡ Some there → there.object_type ≢ 8
         → All (λ map. map.object ≢ number) maps }
+{}
+
+/// Maps that haven't grown long are maps of their metaslabs: so nothing but memory and disks keeps them from being loaded.
+pub fn short_maps_can_be_loaded()
+    ensures { (objects : ℕ → Option Object) (spaces : List VdevSpace) (maps : List MetaslabMap)
+        → AreShortMaps objects spaces maps → HaveMaps objects spaces maps }
 {}

@@ -13,7 +13,8 @@ mod update;
 
 pub use block_store::Refusal;
 pub use laws::{
-    maps_follow_marks, maps_stay_as_plans_begin, new_pools_have_no_maps, other_objects_have_no_maps,
+    maps_follow_marks, maps_stay_as_plans_begin, new_pools_have_no_maps,
+    other_objects_have_no_maps, short_maps_can_be_loaded,
 };
 pub use loading::load_maps;
 pub use planning::plan_maps;
