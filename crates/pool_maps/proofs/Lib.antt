@@ -9,3 +9,4 @@ pub mod Judged
 pub mod LoadedRows
 pub mod LoadedStores
 pub mod Staying
+pub mod Besides

@@ -33,7 +33,7 @@ use Rattle.pool_maps.proofs.Planned.{all_from}
 use Rattle.pool_maps.proofs.Whole.{own_sectors, place_by}
 
 -- where other marks leave no more and no less unused, the maps are theirs too
-maps_by : (objects : ℕ → Option Object) (spaces after : List VdevSpace) (marks later : Marks) (maps : List MetaslabMap) → shapes_of after ≡ shapes_of spaces
+pub maps_by : (objects : ℕ → Option Object) (spaces after : List VdevSpace) (marks later : Marks) (maps : List MetaslabMap) → shapes_of after ≡ shapes_of spaces
     → ((place : MetaslabPlace) (free : FreeRuns) → LeavesUnused after later place.vdev place.index free → LeavesUnused spaces marks place.vdev place.index free)
     → AreMaps objects spaces marks maps → AreMaps objects after later maps
 maps_by objects spaces after marks later maps shapes back are = record {

@@ -3,3 +3,4 @@ pub mod Updates
 pub mod Plans
 pub mod Refused
 pub mod Loads
+pub mod Beside

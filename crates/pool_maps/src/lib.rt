@@ -13,8 +13,9 @@ mod update;
 
 pub use block_store::Refusal;
 pub use laws::{
-    maps_follow_marks, maps_stay_as_plans_begin, new_pools_have_no_maps,
-    other_objects_have_no_maps, short_maps_can_be_loaded,
+    maps_are_those_of_the_whole_plan, maps_follow_marks, maps_stay_as_plans_begin,
+    meta_blocks_leave_the_others, new_pools_have_no_maps, other_objects_have_no_maps,
+    short_maps_can_be_loaded,
 };
 pub use loading::load_maps;
 pub use planning::plan_maps;
