@@ -4,7 +4,7 @@ ghost use Rattle.dnode.specs.ObjectSet.{FitsObjectSet};
 ghost use Rattle.pool_maps.specs.Plans.{AreOrdered};
 
 use crate::meta::{EMPTY, with};
-use crate::stores::{Store, new_store, store_plan};
+use crate::stores::{Store, new_store, roomy_store, store_plan};
 use block_pointer::{Block, Property};
 use block_store::{BlockStore, CopyCount, NewBlock};
 use dnode::{ObjectSet, ObjectSetKind};
@@ -12,7 +12,7 @@ use meta_objset::{MetaslabPlace, SpaceMaps, read_space_maps};
 use objset::{ObjectChange, Refusal, change};
 use pool_maps::{load_maps, plan_maps};
 use space_map::FreeSet;
-use space_map_objects::{Refusal as MapRefusal, read_free_set};
+use space_map_objects::{Refusal as MapRefusal, read_free_set, read_map_end};
 use std::alloc::Global;
 use std::test::Fail;
 
@@ -227,5 +227,55 @@ fn maps_follow_what_groups_plan_and_are_loaded(rt: HostRuntime) -> Result<(), Fa
     assert!(rt; counts == [3, 2, 0, 2, 2, 0, 0]);
     assert!(rt; differences == [2, 0]);
     assert!(rt; again == Some(MapRefusal::Unread(Refusal::BadPointer)));
+    Ok(())
+}
+
+/// Thirty-eight groups, each of which plans a block and gives back the one before: the set behind them.
+fn many_groups(set: ObjectSet, store: &mut Store, alloc: Global) -> Result<ObjectSet, Refusal>
+    requires { FitsObjectSet set }
+    ensures { IfOk result FitsObjectSet }
+{
+    let mut set = set;
+    let mut gone = Vec::new(alloc);
+    for birth in 2..40u64 {
+        let (after, block, _) = one_group(&set, store, alloc, birth, gone.as_slice(), 4 * birth)?;
+        set = after;
+        gone = vec![in alloc; block; 1]?;
+    }
+    Ok(set)
+}
+
+/// How many entries the longest map has.
+fn longest(set: &ObjectSet, store: &mut Store, alloc: Global, birth: u64) -> Result<u64, Fail>
+    requires { FitsObjectSet set.now }
+{
+    let maps = read_space_maps(set, store, alloc, birth, &[])?;
+    let mut most = 0u64;
+    for map in maps.rows() {
+        let end = read_map_end(set, store, alloc, map.object, birth, &[])?;
+        most = most.max(end.rows);
+    }
+    Ok(most)
+}
+
+/// How many entries the longest map has after many groups, and in how many metaslabs the maps differ from the store.
+fn short(store: &mut Store, alloc: Global) -> Result<(u64, usize), Fail> {
+    let none = without_maps(store, alloc)?;
+    let last = many_groups(none, store, alloc)?;
+    let most = longest(&last, store, alloc, 39)?;
+    let count = differ(&last, store, alloc, 39)?;
+    Ok((most, count))
+}
+
+fn short_in_memory(alloc: Global) -> Result<(u64, usize), Fail> {
+    let mut store = roomy_store(alloc)?;
+    short(&mut store, alloc)
+}
+
+#[test]
+fn maps_are_written_anew_where_they_have_grown_long(rt: HostRuntime) -> Result<(), Fail> {
+    let (most, count) = short_in_memory(rt.alloc())?;
+    assert!(rt; count == 0);
+    assert!(rt; 2 < most && most < 67, "{most}");
     Ok(())
 }

@@ -9,12 +9,19 @@ pub(crate) type Store = BlockStore<MemDisk>;
 
 const DISK_BYTES: usize = 16 << 20;
 
-fn three_disks() -> Result<VdevConfig, Fail> {
+fn three_disks(meta_slabs: u64) -> Result<VdevConfig, Fail> {
     Ok(VdevConfig {
         geometry: Geometry::new(3, 1, 9)?,
         metaslab_shift: 12,
-        meta_slabs: 1,
+        meta_slabs,
     })
+}
+
+/// A store with room for the blocks of many meta object sets.
+pub(crate) fn roomy_store(alloc: Global) -> Result<Store, Fail> {
+    let vdev = three_disks(12)?;
+    let disks = MemDisk::several(alloc, 3, DISK_BYTES)?;
+    Ok(BlockStore::new(alloc, disks, &[vdev])?)
 }
 
 pub(crate) fn new_store(alloc: Global) -> Result<Store, Fail> {
@@ -26,7 +33,7 @@ pub(crate) fn store_of<D: Disk + Drop>(
     alloc: Global,
     disks: Vec<D>,
 ) -> Result<BlockStore<D>, Fail> {
-    let vdev = three_disks()?;
+    let vdev = three_disks(1)?;
     Ok(BlockStore::new(alloc, disks, &[vdev])?)
 }
 
