@@ -48,6 +48,7 @@ impl VdevMetaslabs {
     ghost use Rattle.metaslab.specs.Calls.{AreUnused};
     ghost use Rattle.metaslab_group.specs.Maps.{AreWhollyFreeOf, HoldsAt, LoadsAt};
     ghost use Rattle.block_store.specs.Maps.{group_of};
+    ghost use Rattle.block_store.specs.Spaces.{IsSpace};
 
     /// The space of a vdev without blocks.
     pub(crate) fn new(alloc: Global, shape: VdevShape) -> Result<Self, AllocError>
@@ -60,6 +61,13 @@ impl VdevMetaslabs {
             shape,
             metaslabs: MetaslabGroup::new(alloc, metaslabs, sectors)?,
         })
+    }
+
+    /// Its metaslabs are as many, and of as many sectors, as its shape says.
+    pub(crate) fn is_sized(&self)
+        ensures { IsSpace self.now }
+    {
+        let _ = &self.metaslabs;
     }
 
     /// The shape of the vdev.

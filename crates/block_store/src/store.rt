@@ -1,6 +1,7 @@
 //! The store.
-ghost use Rattle.std.specs.Prelude.{◌≡◌, ◌+◌, ◌<◌, ◌≤◌, length, slice_get, slice_index, Some, None, if◌then◌else◌, option_map};
+ghost use Rattle.std.specs.Prelude.{◌≡◌, ◌+◌, ◌<◌, ◌≤◌, length, slice_get, slice_index, Some, None, if◌then◌else◌, option_map, All};
 ghost use Rattle.model_disk.specs.Joint.{bytes_of};
+ghost use Rattle.block_store.specs.Spaces.{IsSpace};
 ghost use Rattle.block_store.specs.Store.{is_out};
 
 use crate::shape::VdevShape;
@@ -100,6 +101,15 @@ impl<D: Disk + Drop> BlockStore<D> {
         ensures few { result ≤ 8 }
     {
         self.spaces.len()
+    }
+
+    /// The metaslabs of each vdev are as many, and of as many sectors, as its shape says.
+    pub fn are_sized(&self)
+        ensures { All IsSpace self.now.spaces }
+    {
+        for space in &self.spaces {
+            space.is_sized();
+        }
     }
 
     /// The shape of a vdev.
