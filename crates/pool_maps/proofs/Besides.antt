@@ -26,6 +26,7 @@ use Rattle.raidz_io.proofs.Written.{same_some}
 use Rattle.pool_maps.specs.Beside.{AreSameBefore, IsBeforeMeta, IsInMeta, LieBeforeMeta, LieInMeta}
 use Rattle.pool_maps.specs.Maps.{AreMaps, AreMapsOf, HasMapPlace, HasShortMapOf}
 use Rattle.pool_maps.specs.Plans.{MapAnew}
+use Rattle.pool_maps.specs.Reached.{AreThere}
 use Rattle.pool_maps.proofs.Planned.{all_from}
 use Rattle.pool_maps.proofs.Whole.{place_by, sectors_back}
 
@@ -88,6 +89,27 @@ maps_of_same objects spaces after same are = record {
             sectors = unused.sectors ∙ ap metaslab_sectors shape_is;
             unused = unused.unused;
           });
+    }
+
+-- and sets of what is unused
+there_of_same : (spaces after : List VdevSpace) → AreSameBefore spaces after → AreThere spaces planned → AreThere after planned
+there_of_same spaces after same there = λ place is.
+    let before : HasMapPlace spaces place = place_by after spaces place (sym same.shapes) is in
+    let has = there place before in
+    let space_is : before.space ≡ has.unused.space = same_some before.space has.unused.space (sym before.found ∙ has.unused.found) in
+    let later = found_too spaces after place.vdev has.unused.space same.shapes has.unused.found in
+    record {
+      free = has.free;
+      are = has.are;
+      unused = record {
+        space = later.0;
+        found = later.1;
+        there = has.unused.there;
+        is_there = same.same place.vdev place.index has.unused.space later.0 has.unused.found later.1
+            (subst (λ (s : VdevSpace). place.index < first_meta s.shape) space_is before.before) ∙ has.unused.is_there;
+        sectors = has.unused.sectors ∙ ap metaslab_sectors (sym later.2);
+        unused = has.unused.unused;
+      };
     }
 
 -- ---- copies that are given back
@@ -232,7 +254,7 @@ parts spaces after (copy ∷ copies) others group (next, is, rest) = let these =
 -- the blocks between are given back as if the others were not
 pub anew_beside : (objects : ℕ → Option Object) (spaces now after : List VdevSpace) (front gone back : List CopyAt) (blocks : List Block) (group : ℕ) (changes : List ObjectChange)
     → gone ≡ copies_of_all blocks → MapAnew objects spaces blocks changes → AreSameBefore spaces now → All (IsInMeta spaces) front → All (IsBeforeMeta spaces) gone
-    → All (IsInMeta spaces) back → AreReleased now (front ++ (gone ++ back)) group after → AreMapsOf (changed changes objects) after planned
+    → All (IsInMeta spaces) back → AreReleased now (front ++ (gone ++ back)) group after → AreMapsOf (changed changes objects) after planned × AreThere after planned
 anew_beside objects spaces now after front gone back blocks group changes gone_is anew same first mid_all last are =
     let one = parts now after front (gone ++ back) group are in
     let two = parts one.0 after gone back group one.2 in
@@ -241,8 +263,9 @@ anew_beside objects spaces now after front gone back blocks group changes gone_i
     let before = same_on spaces now one.0 same (released_in_meta now one.0 front group (all_still front (λ copy is. still_in_meta spaces now copy same.shapes is) first) one.1) in
     let these = moved spaces one.0 two.0 gone group before mid_all two.1 in
     let behind = released_in_meta two.0 after back group (all_still back (λ copy is. still_in_meta spaces two.0 copy (shapes_two ∙ before.shapes) is) last) two.2 in
-    maps_of_same (changed changes objects) these.0 after (same_on these.0 two.0 after these.2 behind)
-    (anew these.0 group (subst (λ copies. AreReleased spaces copies group these.0) gone_is these.1))
+    let whole = same_on these.0 two.0 after these.2 behind in
+    let made = anew these.0 group (subst (λ copies. AreReleased spaces copies group these.0) gone_is these.1) in
+    (maps_of_same (changed changes objects) these.0 after whole made.0, there_of_same these.0 after whole made.1)
 
 copies_split : (blocks others : List Block) → copies_of_all (blocks ++ others) ≡ copies_of_all blocks ++ copies_of_all others
 copies_split [] others = refl
@@ -250,7 +273,7 @@ copies_split (block ∷ blocks) others = ap (λ rest. copies_of block ++ rest) (
 
 pub whole_plan : (objects : ℕ → Option Object) (spaces now after : List VdevSpace) (front gone back : List Block) (group : ℕ) (changes : List ObjectChange)
     → MapAnew objects spaces gone changes → AreSameBefore spaces now → LieInMeta spaces front → LieBeforeMeta spaces gone → LieInMeta spaces back
-    → AreReleased now (copies_of_all (front ++ (gone ++ back))) group after → AreMapsOf (changed changes objects) after planned
+    → AreReleased now (copies_of_all (front ++ (gone ++ back))) group after → AreMapsOf (changed changes objects) after planned × AreThere after planned
 whole_plan objects spaces now after front gone back group changes anew same first mid_all last are =
     anew_beside objects spaces now after (copies_of_all front) (copies_of_all gone) (copies_of_all back) gone group changes refl anew same first mid_all last
     (subst (λ copies. AreReleased now copies group after) (copies_split front (gone ++ back) ∙ ap (λ rest. copies_of_all front ++ rest) (copies_split gone back)) are)

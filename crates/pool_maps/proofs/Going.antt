@@ -90,6 +90,7 @@ module _ (objects : ℕ → Option Object) (spaces : List VdevSpace) (gone : Lis
     stay = λ place free other is. is;
     untouched = λ place other is. is;
     anew = λ place is. absurd is;
+    there = λ place is. absurd is;
     may = λ yet may. may;
     short = λ yet are. are;
   }
@@ -102,6 +103,10 @@ module _ (objects : ℕ → Option Object) (spaces : List VdevSpace) (gone : Lis
     anew = λ place which there. elim which [
       | inl of ↦ λ yet free after group released frees is. two.stay place free (apart place of) (one.anew place of there yet free after group released frees is)
       | inr of ↦ λ yet. two.anew place of there (λ free are was. one.stay place free (λ sooner. apart place sooner of) (yet free are was))
+    ];
+    there = λ place which there. elim which [
+      | inl of ↦ one.there place of there
+      | inr of ↦ two.there place of there
     ];
     may = λ yet may.
         two.may (λ place of there free are was. one.stay place free (λ sooner. apart place sooner of) (yet place (inr of) there free are was))
@@ -118,6 +123,7 @@ module _ (objects : ℕ → Option Object) (spaces : List VdevSpace) (gone : Lis
     stay = λ place free other. is.stay place free (λ of. other (into place of));
     untouched = λ place other. is.untouched place (λ of. other (into place of));
     anew = λ place of there. is.anew place (out place there of) there;
+    there = λ place of there. is.there place (out place there of) there;
     may = λ yet may. is.may (λ place of there. yet place (into place of) there) may;
     short = λ yet are. is.short (λ place of there. yet place (into place of) there) are;
   }

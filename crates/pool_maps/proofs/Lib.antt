@@ -3,6 +3,7 @@ pub mod Sets
 pub mod Going
 pub mod Planned
 pub mod Whole
+pub mod First
 pub mod Underway
 pub mod Short
 pub mod Judged
@@ -10,3 +11,5 @@ pub mod LoadedRows
 pub mod LoadedStores
 pub mod Staying
 pub mod Besides
+pub mod Reaching
+pub mod Givable

@@ -22,7 +22,7 @@ use Rattle.space_map_objects.specs.Maps.{HasMap}
 use Rattle.pool_maps.specs.declared.steps.MapPlan.{MapPlan}
 use Rattle.pool_maps.specs.declared.update.Update.{Update}
 use Rattle.pool_maps.specs.Maps.{AreShortMaps, AreRowsOf, HasMapPlace, HasShortMapOf, IsMapped}
-use Rattle.pool_maps.specs.Plans.{Advances, AreBelow, AreOrdered, AreUnmade, GoesOn, IsForMetaslab, IsMade, IsMappedYet, IsRewritten, IsSound, IsStep, IsThat, IsUntouched, after_plan, numbers_end}
+use Rattle.pool_maps.specs.Plans.{Advances, AreBelow, AreOrdered, AreUnmade, GoesOn, HasSetBehind, IsForMetaslab, IsMade, IsMappedYet, IsRewritten, IsSound, IsStep, IsThat, IsUntouched, after_plan, numbers_end}
 use Rattle.pool_maps.specs.Refused.{IsTaken}
 use Rattle.pool_maps.specs.Updates.{IsUpdateOf, LeadsFrom, Says}
 use Rattle.pool_maps.proofs.Among.{all_put, becomes, kept, only, others_stay, was}
@@ -95,6 +95,13 @@ says_short object spaces gone place update is says sectors has = record {
 -- ---- a metaslab whose map stays
 
 module _ (objects : ℕ → Option Object) (spaces : List VdevSpace) (gone : List Block) (place : MetaslabPlace) (update : Update) (is : IsUpdateOf spaces gone place update) where
+  set_there : (that : MetaslabPlace) → IsThat place that → HasSetBehind spaces gone that
+  set_there that same = record {
+    free = update.free;
+    are = is.are;
+    is = λ after group released. subst (λ p. LeavesUnused after planned p.vdev p.index update.free) (sym same) (is.is after group released);
+  }
+
   pub stays_so : (plan : MapPlan) → update.entries.items ≡ [] → Advances objects spaces gone (IsThat place) plan plan
   stays_so plan none = record {
     stay = λ other free apart mapped. mapped;
@@ -105,6 +112,7 @@ module _ (objects : ℕ → Option Object) (spaces : List VdevSpace) (gone : Lis
         (subst (λ p. LeavesUnused after planned p.vdev p.index free) same now) in
         mapped_same (after_plan plan objects) plan.maps that is.before free
         (same_twice is.before update.free free (nothing_leads is.before update is.leads none) last) mapped;
+    there = λ that same there. set_there that same;
     may = λ yet may. may;
     short = λ yet are. are;
   }
@@ -201,6 +209,7 @@ module _ (objects : ℕ → Option Object) (spaces : List VdevSpace) (gone : Lis
                 (sym (becomes old.changes.items new.changes.items (record { number = row.object; change = change }) by.put objects))
                 (says_map (after_change change (objects row.object)) update (value is.before had is.leads).1));
           });
+      there = λ that same there_too. set_there that same;
       may = λ yet may.
           let had = own_map sound is.before (yet place refl is_there is.before is.are_before is.was) in
           all_put old.changes.items new.changes.items (record { number = row.object; change = change }) by.put (λ (c : ObjectChange). MayChange c.change (objects c.number)) may
@@ -319,6 +328,7 @@ module _ (objects : ℕ → Option Object) (spaces : List VdevSpace) (gone : Lis
                 (subst (λ object. HasMap object update.free.sectors update.free) (sym (becomes old.changes.items new.changes.items (record { number = old.next; change = change }) by.put objects
                 ∙ ap (after_change change) (unmade old.next (omega arith)))) (says_map (after_change change None) update has));
           });
+      there = λ that same there. set_there that same;
       may = λ yet mays. all_put old.changes.items new.changes.items (record { number = old.next; change = change }) by.put (λ (c : ObjectChange). MayChange c.change (objects c.number)) mays
           (subst (MayChange change) (sym (unmade old.next (omega arith))) may);
       short = λ yet are. all_from (λ (m : MetaslabMap). HasShortMapOf spaces m.metaslab (after_plan new objects m.object)) new.maps

@@ -48,6 +48,46 @@ no_map spaces place there short =
     let is = short (metaslab_sectors there.space.shape) (own_sectors spaces place there) in
     (let clash : None ≡ Some is.table.there = is.table.is in cc)
 
+-- ---- all of them were planned
+
+module _ (objects : ℕ → Option Object) (spaces : List VdevSpace) (gone : List Block) (first last : MapPlan) (last_sound : IsSound spaces last)
+    (advances : Advances objects spaces gone AreAll first last) (ahead : AreAhead objects spaces AreAll first) (kinds : AreShortMaps (after_plan first objects) spaces first.maps) where
+  pub anew_by : (all : List ObjectChange) → HasSpaceMaps (changed all objects 4) last.maps
+      → ((number : ℕ) → number ≢ 4 → changed all objects number ≡ after_plan last objects number) → MapAnew objects spaces gone all
+  anew_by all table same = λ after group released.
+      let shapes = released_shapes spaces (copies_of_all gone) group after released in
+      let not_table : (row : MetaslabMap) → Contains last.maps row → row.object ≢ 4 =
+      λ row held is. (let behind = All-contains (λ (m : MetaslabMap). 4 < m.object) last.maps row last_sound.rows.behind held in omega (arith, behind, is)) in (
+        record {
+          maps = last.maps;
+          are = record {
+            table = table;
+            rows = record {
+              places = all_from (λ (m : MetaslabMap). HasMapPlace after m.metaslab) last.maps
+                  (λ row held. place_by spaces after row.metaslab shapes (All-contains (λ (m : MetaslabMap). HasMapPlace spaces m.metaslab) last.maps row last_sound.rows.places held));
+              behind = last_sound.rows.behind;
+              apart = last_sound.rows.apart;
+            };
+            each = λ place free there frees unused.
+                let before : HasMapPlace spaces place = place_by after spaces place (sym shapes) there in
+                mapped_by (after_plan last objects) (changed all objects) last.maps place free (λ row held of_place. same row.object (not_table row held))
+                (advances.anew place tt before (ahead place tt before).0 free after group released frees unused);
+          };
+          short = all_from (λ (m : MetaslabMap). HasShortMapOf after m.metaslab (changed all objects m.object)) last.maps
+              (λ row held sectors has. subst (λ object. HasShortMap object sectors) (sym (same row.object (not_table row held)))
+              (All-contains (λ (m : MetaslabMap). HasShortMapOf spaces m.metaslab (after_plan last objects m.object)) last.maps row
+              (advances.short (λ place of_all there. (ahead place of_all there).0) kinds) held sectors
+              (sectors_back spaces after row.metaslab sectors shapes
+              (All-contains (λ (m : MetaslabMap). HasMapPlace spaces m.metaslab) last.maps row last_sound.rows.places held) has)));
+        },
+        λ place there.
+            let before : HasMapPlace spaces place = place_by after spaces place (sym shapes) there in
+            let behind = advances.there place tt before in
+            record { free = behind.free; are = behind.are; unused = behind.is after group released },
+      )
+
+-- ---- of maps that there were
+
 module _ (objects : ℕ → Option Object) (spaces : List VdevSpace) (are : AreMapsOf objects spaces filled) (changes : List ObjectChange) (next : ℕ)
     (of : AreOfOthers objects changes are.maps next) (first : MapPlan) (maps_are : first.maps ≡ are.maps) (changes_are : first.changes.items ≡ changes) (next_is : first.next ≡ next) where
   lacks_row : (row : MetaslabMap) → Contains are.maps row → All (λ (c : ObjectChange). c.number ≢ row.object) changes
@@ -115,40 +155,11 @@ module _ (objects : ℕ → Option Object) (spaces : List VdevSpace) (are : AreM
     last_may : MayBeMade objects last.changes.items
     last_may = advances.may (λ place all there. (ahead place all there).0) first_may
 
-    anew_by : (all : List ObjectChange) → HasSpaceMaps (changed all objects 4) last.maps
-        → ((number : ℕ) → number ≢ 4 → changed all objects number ≡ after_plan last objects number) → MapAnew objects spaces gone all
-    anew_by all table same = λ after group released.
-        let shapes = released_shapes spaces (copies_of_all gone) group after released in
-        let not_table : (row : MetaslabMap) → Contains last.maps row → row.object ≢ 4 =
-        λ row held is. (let behind = All-contains (λ (m : MetaslabMap). 4 < m.object) last.maps row last_sound.rows.behind held in omega (arith, behind, is)) in
-        record {
-          maps = last.maps;
-          are = record {
-            table = table;
-            rows = record {
-              places = all_from (λ (m : MetaslabMap). HasMapPlace after m.metaslab) last.maps
-                  (λ row held. place_by spaces after row.metaslab shapes (All-contains (λ (m : MetaslabMap). HasMapPlace spaces m.metaslab) last.maps row last_sound.rows.places held));
-              behind = last_sound.rows.behind;
-              apart = last_sound.rows.apart;
-            };
-            each = λ place free there frees unused.
-                let before : HasMapPlace spaces place = place_by after spaces place (sym shapes) there in
-                mapped_by (after_plan last objects) (changed all objects) last.maps place free (λ row held of_place. same row.object (not_table row held))
-                (advances.anew place tt before (ahead place tt before).0 free after group released frees unused);
-          };
-          short = all_from (λ (m : MetaslabMap). HasShortMapOf after m.metaslab (changed all objects m.object)) last.maps
-              (λ row held sectors has. subst (λ object. HasShortMap object sectors) (sym (same row.object (not_table row held)))
-              (All-contains (λ (m : MetaslabMap). HasShortMapOf spaces m.metaslab (after_plan last objects m.object)) last.maps row
-              (advances.short (λ place of_all there. (ahead place of_all there).0) first_kinds) held sectors
-              (sectors_back spaces after row.metaslab sectors shapes
-              (All-contains (λ (m : MetaslabMap). HasMapPlace spaces m.metaslab) last.maps row last_sound.rows.places held) has)));
-        }
-
     -- no metaslab got its first map: the table is as it was
     pub anew_idle : last.grown ≡ false → MayBeMade objects last.changes.items × MapAnew objects spaces gone last.changes.items
     anew_idle idle = (
       last_may,
-      anew_by last.changes.items
+      anew_by objects spaces gone first last last_sound advances ahead first_kinds last.changes.items
           (subst (λ maps. HasSpaceMaps (after_plan last objects 4) maps) (sym ((goes.idle idle).0 ∙ maps_are))
           (subst (λ object. HasSpaceMaps object are.maps) (sym (changed_left last.changes.items objects 4 table_apart)) are.are.table))
           (λ number other. refl),
@@ -164,7 +175,7 @@ module _ (objects : ℕ → Option Object) (spaces : List VdevSpace) (are : AreM
         let made = table there are.are.table.1.of_kind in (
           all_put last.changes.items all (record { number = 4; change = change }) put (λ (c : ObjectChange). MayChange c.change (objects c.number)) last_may
               (subst (MayChange change) (sym is) made.0),
-          anew_by all
+          anew_by objects spaces gone first last last_sound advances ahead first_kinds all
               (subst (λ object. HasSpaceMaps object last.maps) (sym (becomes last.changes.items all (record { number = 4; change = change }) put objects ∙ ap (after_change change) is)) made.1)
               (λ number other. others_stay last.changes.items all (record { number = 4; change = change }) put objects number (λ same. other (sym same))),
         )

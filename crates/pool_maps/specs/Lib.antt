@@ -4,3 +4,4 @@ pub mod Plans
 pub mod Refused
 pub mod Loads
 pub mod Beside
+pub mod Reached

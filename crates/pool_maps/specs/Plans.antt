@@ -14,6 +14,7 @@ use Rattle.objset.specs.Changes.{IsGoodChange, MayChange, changed}
 use Rattle.objset.specs.Objects.{Object}
 use Rattle.space_map.specs.FreeRuns.{FreeRuns, AreFree}
 use Rattle.pool_maps.specs.declared.steps.MapPlan.{MapPlan}
+use Rattle.pool_maps.specs.Reached.{AreThere}
 use Rattle.pool_maps.specs.Maps.{AreMapsOf, AreShortMaps, AreRowsOf, HasMapPlace, IsMapped}
 
 -- object numbers are below this one
@@ -63,10 +64,11 @@ abbrev pub AreSparing : List VdevSpace → List Block → List MetaslabMap → �
 AreSparing spaces gone maps next changes all = (change : ObjectChange) → Contains all change
     → Contains changes change ⊎ ((change.number ≡ 4) ⊎ IsForMetaslab spaces gone maps next change)
 
--- Behind the changes, once these blocks are given back, the space maps leave free what is unused with the plan.
+-- Behind the changes, once these blocks are given back, the space maps leave free what is unused with the plan; of each metaslab before
+-- the meta regions there is a set of that.
 abbrev pub MapAnew : (ℕ → Option Object) → List VdevSpace → List Block → List ObjectChange → Type 0
 MapAnew objects spaces gone changes = (after : List VdevSpace) (group : ℕ) → AreReleased spaces (copies_of_all gone) group after
-    → AreMapsOf (changed changes objects) after planned
+    → AreMapsOf (changed changes objects) after planned × AreThere after planned
 
 -- objects that are no map, and not the maps' table, read as they would without the maps' changes
 abbrev pub OthersStay : List MetaslabMap → ℕ → List ObjectChange → List ObjectChange → Type 0
@@ -141,6 +143,13 @@ IsUntouched plan place = (row : MetaslabMap) → Contains plan.maps row → row.
 abbrev pub AreUnmade : MapPlan → (ℕ → Option Object) → Type 0
 AreUnmade plan objects = (number : ℕ) → plan.next ≤ number → objects number ≡ None
 
+-- There is a set of what the stored blocks leave unused of the metaslab with the plan, once these blocks are given back.
+pub record HasSetBehind (spaces : List VdevSpace) (gone : List Block) (place : MetaslabPlace) : Type 0 where
+  pub free : FreeRuns
+  pub are : AreFree free
+  pub is : (after : List VdevSpace) (group : ℕ) → AreReleased spaces (copies_of_all gone) group after
+      → LeavesUnused after planned place.vdev place.index free
+
 -- the maps of these metaslabs were planned, and those of all others are as they were
 pub record Advances (objects : ℕ → Option Object) (spaces : List VdevSpace) (gone : List Block) (are : MetaslabPlace → Type 0)
     (old new : MapPlan) : Type 0 where
@@ -148,6 +157,7 @@ pub record Advances (objects : ℕ → Option Object) (spaces : List VdevSpace) 
       → IsMapped (after_plan old objects) old.maps place free → IsMapped (after_plan new objects) new.maps place free
   pub untouched : (place : MetaslabPlace) → ¬ are place → IsUntouched old place → IsUntouched new place
   pub anew : (place : MetaslabPlace) → are place → HasMapPlace spaces place → IsMappedAnew objects spaces gone old place new
+  pub there : (place : MetaslabPlace) → are place → HasMapPlace spaces place → HasSetBehind spaces gone place
   pub may : ((place : MetaslabPlace) → are place → HasMapPlace spaces place → IsMappedYet objects spaces old place)
       → MayBeMade objects old.changes.items → MayBeMade objects new.changes.items
   pub short : ((place : MetaslabPlace) → are place → HasMapPlace spaces place → IsMappedYet objects spaces old place)

@@ -80,3 +80,12 @@ abbrev pub IsPlanRefused : Store → Store → ObjectSet → ℕ → List Block 
 IsPlanRefused old new set birth gone changes next refusal =
     IsRowsRefused old new [] set birth maps_kind 4 AreMapRows refusal
     ⊎ AreMapsRefused old new set birth gone changes next refusal
+
+-- why no first space maps are planned: a metaslab is refused, or behind all of them another change is of the maps' table
+pub record AreFirstRefused (old new : Store) (changes : List ObjectChange) (next : ℕ) (refusal : Refusal) : Type 0 where
+  pub set : ObjectSet
+  pub plan : MapPlan
+  pub changes_are : plan.changes.items ≡ changes
+  pub next_is : plan.next ≡ next
+  pub none : plan.maps ≡ []
+  pub why : IsSomeRefused old new set 0 [] plan refusal ⊎ ((refusal ≡ BadPointer) × IsTableTaken plan)

@@ -1,10 +1,14 @@
 //! Laws of space maps: what leaves them those of a pool.
-ghost use Rattle.std.specs.Prelude.{◌≡◌, ◌≢◌, ◌++◌, ℕ, List, [], Option, Some, All};
+ghost use Rattle.std.specs.Prelude.{◌≡◌, ◌≢◌, ◌++◌, ℕ, List, [], Option, Some, All, Contains, length};
 ghost use Rattle.block_pointer.specs.declared.block.Block.{Block};
-ghost use Rattle.block_store.specs.Places.{AreEmpty, HaveMarks, Marks, filled, planned, shapes_of};
-ghost use Rattle.block_store.specs.Releases.{AreReleased, AreSettledInSome, copies_of_all};
-ghost use Rattle.block_store.specs.Spaces.{VdevSpace};
+ghost use Rattle.block_pointer.specs.Copies.{dvas};
+ghost use Rattle.block_store.specs.Blocks.{Contents, AreDistinct, AreStored};
+ghost use Rattle.block_store.specs.Places.{AreEmpty, ArePlacesIn, HaveMarks, Marks, filled, planned, shapes_of};
+ghost use Rattle.block_store.specs.Plans.{Plans};
+ghost use Rattle.block_store.specs.Releases.{AreAllInUse, AreReleased, AreSettledInSome, copies_of_all};
+ghost use Rattle.block_store.specs.Spaces.{IsSpace, VdevSpace};
 ghost use Rattle.block_store.specs.Steps.{HavePlaced, Placed};
+ghost use Rattle.block_store.specs.Store.{Store};
 ghost use Rattle.meta_objset.specs.Reading.{HasSpaceMaps};
 ghost use Rattle.meta_objset.specs.declared.space_maps.MetaslabMap.{MetaslabMap};
 ghost use Rattle.objset.specs.Changes.{changed};
@@ -13,6 +17,7 @@ ghost use Rattle.objset.specs.declared.changes.ObjectChange.{ObjectChange};
 ghost use Rattle.pool_maps.specs.Beside.{AreSameBefore, LieBeforeMeta, LieInMeta};
 ghost use Rattle.pool_maps.specs.Loads.{HaveMaps};
 ghost use Rattle.pool_maps.specs.Plans.{MapAnew};
+ghost use Rattle.pool_maps.specs.Reached.{AreMapsFor, AreThere, UseJust};
 ghost use Rattle.pool_maps.specs.Maps.{AreMaps, AreMapsOf, AreRowsOf, AreShortMaps};
 
 /// Maps leave free what is unused by other marks too, where each vdev has the same of them: so it is as blocks are read and planned,
@@ -61,7 +66,7 @@ pub fn maps_are_those_of_the_whole_plan()
         → MapAnew objects spaces gone changes → AreSameBefore spaces now
         → LieInMeta spaces front → LieBeforeMeta spaces gone → LieInMeta spaces back
         → AreReleased now (copies_of_all (front ++ (gone ++ back))) group after
-        → AreMapsOf (changed changes objects) after planned }
+        → AreMapsOf (changed changes objects) after planned × AreThere after planned }
 {}
 
 /// Blocks of the meta object set, which have three copies, take no place before the meta regions.
@@ -69,4 +74,45 @@ pub fn meta_blocks_leave_the_others()
     ensures { (spaces after : List VdevSpace) (placed : List Placed)
         → All (λ block. block.copies ≡ 3) placed → HavePlaced spaces placed after
         → AreSameBefore spaces after }
+{}
+
+/// Blocks of three copies lie in the meta regions, and all others before them.
+pub fn blocks_lie_by_their_copies()
+    ensures meta { (spaces : List VdevSpace) (blocks : List Block)
+        → ((block : Block) → Contains blocks block
+        → ArePlacesIn spaces block.property.sectors (dvas block.copies))
+        → All (λ block. length (dvas block.copies) ≡ 3) blocks → LieInMeta spaces blocks }
+    ensures others { (spaces : List VdevSpace) (blocks : List Block)
+        → ((block : Block) → Contains blocks block
+        → ArePlacesIn spaces block.property.sectors (dvas block.copies))
+        → All (λ block. length (dvas block.copies) ≢ 3) blocks → LieBeforeMeta spaces blocks }
+{}
+
+/// Blocks that are stored, each of them once, and in use can be given back, where the metaslabs are as large as their vdevs say.
+pub fn stored_blocks_can_be_given_back()
+    ensures { (store : Store) (stored later : Contents) (blocks : List Block) (group : ℕ)
+        → Plans store stored later → AreStored stored blocks → AreDistinct blocks
+        → AreAllInUse store.spaces blocks → All IsSpace store.spaces
+        → (after : List VdevSpace) × AreReleased store.spaces (copies_of_all blocks) group after }
+{}
+
+/// Where just the sectors of these blocks are in use, their maps are those of what is in use.
+pub fn maps_for_blocks_are_of_their_marks()
+    ensures { (objects : ℕ → Option Object) (spaces : List VdevSpace) (marks : Marks)
+        (blocks : List Block) → AreMapsFor objects spaces blocks → UseJust spaces marks blocks
+        → AreMapsOf objects spaces marks }
+{}
+
+/// And the maps of what is in use are theirs.
+pub fn maps_of_marks_are_for_their_blocks()
+    ensures { (objects : ℕ → Option Object) (spaces : List VdevSpace) (marks : Marks)
+        (blocks : List Block) → AreMapsOf objects spaces marks → AreThere spaces marks
+        → UseJust spaces marks blocks → AreMapsFor objects spaces blocks }
+{}
+
+/// Maps that call allocated what blocks take do so whatever is in use, as long as the vdevs are the same.
+pub fn maps_for_blocks_stay()
+    ensures { (objects : ℕ → Option Object) (spaces after : List VdevSpace)
+        (blocks : List Block) → shapes_of after ≡ shapes_of spaces
+        → AreMapsFor objects spaces blocks → AreMapsFor objects after blocks }
 {}

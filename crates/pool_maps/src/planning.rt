@@ -1,9 +1,9 @@
 //! The changes of a group's space maps.
-ghost use Rattle.std.specs.Prelude.{◌≡◌, ◌≢◌, ◌⊎◌, ◌<◌, ◌≤◌, [], ℕ, List, Option, Some, length, slice_get, OnOk, IfOk, IfErr};
+ghost use Rattle.std.specs.Prelude.{◌≡◌, ◌≢◌, ◌⊎◌, ◌<◌, ◌≤◌, [], ℕ, List, Option, Some, None, length, slice_get, OnOk, IfOk, IfErr};
 ghost use Rattle.block_pointer.specs.declared.block.Block.{Block};
 ghost use Rattle.block_store.specs.Blocks.{Contents};
 ghost use Rattle.block_store.specs.Losses.{IsForLoss};
-ghost use Rattle.block_store.specs.Places.{filled};
+ghost use Rattle.block_store.specs.Places.{filled, planned};
 ghost use Rattle.block_store.specs.Releases.{AreReleased, copies_of_all};
 ghost use Rattle.block_store.specs.Spaces.{VdevSpace};
 ghost use Rattle.block_store.specs.Steps.{OnlyReadsBlocks, AnswersAreTrue};
@@ -12,17 +12,19 @@ ghost use Rattle.dnode.specs.ObjectSet.{FitsObjectSet};
 ghost use Rattle.meta_objset.specs.Found.{AreMapsFound};
 ghost use Rattle.meta_objset.specs.declared.space_maps.MetaslabMap.{MetaslabMap};
 ghost use Rattle.meta_objset.specs.declared.space_maps.MetaslabPlace.{MetaslabPlace};
+ghost use Rattle.objset.specs.Changes.{changed};
 ghost use Rattle.objset.specs.Objects.{Object, AreObjects};
 ghost use Rattle.pool_maps.specs.Maps.{AreMapsOf};
 ghost use Rattle.pool_maps.specs.Plans.{AreOfOthers, AreOrdered, AreSparing, MapAnew, MayBeMade};
 ghost use Rattle.pool_maps.specs.Plans.{OthersStay};
-ghost use Rattle.pool_maps.specs.Refused.{IsPlanRefused};
+ghost use Rattle.pool_maps.specs.Reached.{AreThere, UseNothing};
+ghost use Rattle.pool_maps.specs.Refused.{AreFirstRefused, IsPlanRefused};
 
 use crate::steps::MapPlan;
-use block_pointer::Block;
+use block_pointer::{Block, BlockPtr};
 use block_store::{BlockStore, Refusal};
-use dnode::ObjectSet;
-use meta_objset::read_space_maps;
+use dnode::{ObjectNode, ObjectSet, ObjectSetKind};
+use meta_objset::{SpaceMaps, read_space_maps};
 use model_disk::Disk;
 use objset::ObjectChange;
 use std::alloc::Global;
@@ -57,13 +59,15 @@ pub fn plan_maps<D: Disk + Drop>(
     ensures refused { IfErr result (λ refusal. (refusal ≡ Refusal.NoMemory)
         ⊎ IsPlanRefused store.old store.new set.now birth gone.now changes.items next refusal) }
 
-    // Of a set whose maps are those of the stored blocks the changes make one whose maps are those of the plan.
+    // Of a set whose maps are those of the stored blocks the changes make one whose maps are those of the plan, and change no other
+    // objects but as the changes so far do.
     ensures value { IfOk result (λ all. (stored : Contents) (objects : ℕ → Option Object)
         (own : List Block) (blocks : ℕ → List Block) → Holds store.old stored
         → AreObjects stored birth set.now objects own blocks → AnswersAreTrue store.old store.new
         → (are : AreMapsOf objects store.old.spaces filled)
         → AreOfOthers objects changes.items are.maps next
-        → MayBeMade objects all.items × MapAnew objects store.old.spaces gone.now all.items) }
+        → MayBeMade objects all.items × MapAnew objects store.old.spaces gone.now all.items
+        × OthersStay are.maps next changes.items all.items) }
     ensures known { IfErr result (λ refusal. (stored : Contents) (objects : ℕ → Option Object)
         (own : List Block) (blocks : ℕ → List Block) → Holds store.old stored
         → AreObjects stored birth set.now objects own blocks → AnswersAreTrue store.old store.new
@@ -82,4 +86,57 @@ pub fn plan_maps<D: Disk + Drop>(
     };
     plan.plan_all(set, store, alloc, birth, gone)?;
     plan.with_table(alloc)
+}
+
+/// A meta object set with no object.
+const EMPTY: ObjectSet = ObjectSet {
+    dnodes: ObjectNode {
+        object_type: 10,
+        data_sectors: 32,
+        highest: 0,
+        pointer: BlockPtr::Hole,
+    },
+    kind: ObjectSetKind::Meta,
+    objects: 1,
+};
+
+/// Plans the space maps of a pool that had none, which come among the changes that make its meta object set, in the order of the
+/// objects' numbers: for each metaslab before the meta regions they leave free what is unused with the plan. Their table is made
+/// too, as object 4. Nothing is read.
+///
+/// `BadPointer` where another change is of object 4, or of a number that a map gets; `NoSpace` where no number is left for an object.
+pub fn first_maps<D: Disk + Drop>(
+    store: &mut BlockStore<D>,
+    alloc: Global,
+    changes: Vec<ObjectChange>,
+    next: u64,
+) -> Result<Vec<ObjectChange>, Refusal>
+    requires ordered { AreOrdered changes.items }
+    ensures reads { OnlyReadsBlocks store.old store.new [] }
+    ensures ordered { IfOk result (λ all. AreOrdered all.items) }
+
+    // Whatever the changes are: which other objects stay, that no map is made of which nothing is in use, and on a refusal its cause.
+    ensures others { IfOk result (λ all. OthersStay [] next changes.items all.items
+        × AreSparing store.old.spaces [] [] next changes.items all.items) }
+    ensures refused { IfErr result (λ refusal. (refusal ≡ Refusal.NoMemory)
+        ⊎ AreFirstRefused store.old store.new changes.items next refusal) }
+
+    // Where there are no objects and nothing is in use, over disks that answer truly, the changes make maps that are those of the plan.
+    ensures value { IfOk result (λ all. AreOfOthers (λ number. None) changes.items [] next
+        → UseNothing store.old.spaces filled → AnswersAreTrue store.old store.new
+        → MayBeMade (λ number. None) all.items
+        × AreMapsOf (changed all.items (λ number. None)) store.old.spaces planned
+        × AreThere store.old.spaces planned) }
+    ensures known { IfErr result (λ refusal. AreOfOthers (λ number. None) changes.items [] next
+        → UseNothing store.old.spaces filled → AnswersAreTrue store.old store.new
+        → (refusal ≡ Refusal.NoMemory) ⊎ (refusal ≡ Refusal.NoSpace)) }
+{
+    let mut plan = MapPlan {
+        maps: SpaceMaps::new(alloc),
+        grown: false,
+        changes,
+        next,
+    };
+    plan.plan_all(&EMPTY, store, alloc, 0, &[])?;
+    plan.with_first_table(alloc)
 }

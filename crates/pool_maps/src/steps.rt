@@ -268,6 +268,26 @@ impl MapPlan {
         Err(Refusal::BadPointer)
     }
 
+    /// All changes, with the one that makes the maps' table.
+    pub fn with_first_table(mut self, alloc: Global) -> Result<Vec<ObjectChange>, Refusal>
+        requires ordered { AreOrdered self.changes.items }
+        ensures ordered { IfOk result (λ all. AreOrdered all.items) }
+        ensures table { IfOk result (λ all. (change : Change)
+            × IsPutIn self.changes.items (record { number = 4; change = change }) all.items
+            × MayChange change None × HasSpaceMaps (after_change change None) self.maps) }
+        ensures refused { IfErr result (λ refusal. (refusal ≡ Refusal.NoMemory)
+            ⊎ ((refusal ≡ Refusal.BadPointer) × IsTaken self.changes.items 4)) }
+    {
+        if self.maps.rows().len() >= MOST_MAPS {
+            return Err(Refusal::NoMemory);
+        }
+        let Ok(change) = self.maps.creation(alloc) else {
+            return Err(Refusal::NoMemory);
+        };
+        self.put(SPACE_MAPS, change)?;
+        Ok(self.changes)
+    }
+
     /// All changes, with that of the maps' table where a metaslab got its first map.
     pub fn with_table(mut self, alloc: Global) -> Result<Vec<ObjectChange>, Refusal>
         requires ordered { AreOrdered self.changes.items }

@@ -1,4 +1,7 @@
-use Rattle.std.proofs.Common.{rules, false, [], List, Contains, inl, inr, refl, sym, ap, subst, ◌∙◌, ◌⊎◌, ◌≡◌}
+use Rattle.meta_objset.specs.declared.space_maps.MetaslabMap.{MetaslabMap}
+use Rattle.objset.specs.declared.changes.Change.{Change}
+use Rattle.objset.specs.Objects.{Object}
+use Rattle.std.proofs.Common.{rules, false, [], List, Contains, inl, inr, refl, sym, ap, subst, ◌∙◌, ◌⊎◌, ◌≡◌, ℕ, Option, true}
 use Rattle.std.proofs.lemmas.Result.{IfOk-weaker, IfErr-weaker}
 use Rattle.block_store.specs.Releases.{AreReleased, copies_of_all}
 use Rattle.block_store.specs.Spaces.{VdevSpace}
@@ -9,7 +12,7 @@ use Rattle.metaslab.proofs.Holding.{cases}
 use Rattle.objset.specs.Changes.{changed}
 use Rattle.objset.specs.declared.changes.ObjectChange.{ObjectChange}
 use Rattle.pool_maps.specs.declared.steps.MapPlan.{MapPlan}
-use Rattle.pool_maps.specs.Plans.{Advances, AreAhead, AreAll, IsForMetaslab, IsSound, MapAnew, MayBeMade}
+use Rattle.pool_maps.specs.Plans.{Advances, AreAhead, AreAll, IsForMetaslab, IsSound, MapAnew, MayBeMade, IsMapNumber, IsPutIn, OthersStay}
 use Rattle.pool_maps.proofs.Among.{only, others_stay}
 use Rattle.pool_maps.proofs.Underway.{spaces_stay}
 use Rattle.pool_maps.proofs.Whole.{ahead, anew_grown, anew_idle, below, sound, table_apart, unmade}
@@ -67,6 +70,19 @@ returns-clause-refused g c =
     ])
     c.with_table.ensures.refused
 
+-- what the plan's own steps and the table's change leave as it was
+left_by : (last : MapPlan) (changes all : List ObjectChange) (maps : List MetaslabMap) (next : ℕ)
+    → ((objects : ℕ → Option Object) (number : ℕ) → ¬ IsMapNumber maps next number → changed last.changes.items objects number ≡ changed changes objects number)
+    → (last.grown ≡ false → all ≡ last.changes.items)
+    → (last.grown ≡ true → (change : Change) × IsPutIn last.changes.items (record { number = 4; change = change }) all) → OthersStay maps next changes all
+left_by last changes all maps next steps idle_is grown_is objects number not_table not_map =
+    let before = steps objects number not_map in
+    elim (cases last.grown) [
+      | inl grown ↦ let made = grown_is grown in
+          others_stay last.changes.items all (record { number = 4; change = made.0 }) made.1 objects number (λ same. not_table (sym same)) ∙ before
+      | inr idle ↦ ap (λ (them : List ObjectChange). changed them objects number) (idle_is idle) ∙ before
+    ]
+
 pub returns-clause-others : goal.returns-clause-others
 returns-clause-others g c =
     let last = c.plan_all.new.self in
@@ -81,13 +97,7 @@ returns-clause-others g c =
     (λ all both. (
       c.in_ok-maps.maps,
       c.in_ok-maps.ensures.found,
-      λ objects number not_table not_map.
-          let before = c.in_ok-plan_all.ensures.step.goes_on.others objects number not_map in
-          elim (cases last.grown) [
-            | inl grown ↦ let made = both.1 grown in
-                others_stay last.changes.items all.items (record { number = 4; change = made.0 }) made.1 objects number (λ same. not_table (sym same)) ∙ before
-            | inr idle ↦ ap (λ (them : List ObjectChange). changed them objects number) (both.0 idle) ∙ before
-          ],
+      left_by last c.args.changes.items all.items c.in_ok-maps.maps c.args.next c.in_ok-plan_all.ensures.step.goes_on.others both.0 (λ grown. let made = both.1 grown in (made.0, made.1)),
       λ change held.
           elim (cases last.grown) [
             | inl grown ↦ let made = both.1 grown in
@@ -155,11 +165,15 @@ returns-clause-value g c =
     (c.in_ok-plan_all.ensures.advances stored objects own blocks (c.read_space_maps.ensures.reads.keeps stored held) aobj (true_after old mid c.plan_all.new.store c.read_space_maps.ensures.reads.reads honest)
     (subst (λ (spaces : List VdevSpace). IsSound spaces first) (sym same) is_sound) (unmade objects old.spaces are c.args.changes.items c.args.next others first maps_are refl refl)) in
     let later = subst (λ (spaces : List VdevSpace). IsSound spaces last) same (c.in_ok-plan_all.ensures.step.sound (subst (λ (spaces : List VdevSpace). IsSound spaces first) (sym same) is_sound)) in
+    let stay = subst (λ (maps : List MetaslabMap). OthersStay maps c.args.next c.args.changes.items all.items) maps_are
+    (left_by last c.args.changes.items all.items c.in_ok-maps.maps c.args.next c.in_ok-plan_all.ensures.step.goes_on.others both.0 (λ grown. let made = both.1 grown in (made.0, made.1))) in
     elim (cases last.grown) [
       | inl grown ↦ let made = both.1 grown in
-          anew_grown objects old.spaces are c.args.changes.items c.args.next others first maps_are refl refl c.args.gone.now last c.in_ok-plan_all.ensures.step.goes_on later advances
-          all.items made.0 made.1 made.2
-      | inr idle ↦ subst (λ (them : List ObjectChange). MayBeMade objects them × MapAnew objects old.spaces c.args.gone.now them) (sym (both.0 idle))
-          (anew_idle objects old.spaces are c.args.changes.items c.args.next others first maps_are refl refl c.args.gone.now last c.in_ok-plan_all.ensures.step.goes_on later advances idle)
+          let anew = anew_grown objects old.spaces are c.args.changes.items c.args.next others first maps_are refl refl c.args.gone.now last c.in_ok-plan_all.ensures.step.goes_on later advances
+          all.items made.0 made.1 made.2 in
+          (anew.0, anew.1, stay)
+      | inr idle ↦ let anew = subst (λ (them : List ObjectChange). MayBeMade objects them × MapAnew objects old.spaces c.args.gone.now them) (sym (both.0 idle))
+          (anew_idle objects old.spaces are c.args.changes.items c.args.next others first maps_are refl refl c.args.gone.now last c.in_ok-plan_all.ensures.step.goes_on later advances idle) in
+          (anew.0, anew.1, stay)
     ])
     (both_ok c.with_table.result _ _ c.with_table.ensures.same c.with_table.ensures.table)
