@@ -1,5 +1,5 @@
 -- The first root of a pool, from the volumes that are made and the tables.
-use Rattle.std.proofs.Common.{◌≡◌, ◌≢◌, ◌⊎◌, inl, inr, ℕ, ◌<◌, ◌≤◌, List, [], ◌∷◌, ◌++◌, Option, Some, None, All, AllPairs, ⊎_elim, refl, sym, ap, ◌∙◌, subst, arith}
+use Rattle.std.proofs.Common.{◌≡◌, ◌≢◌, ◌⊎◌, inl, inr, ℕ, ◌+◌, ◌*◌, ◌<◌, ◌≤◌, List, [], ◌∷◌, ◌++◌, length, Option, Some, None, All, AllPairs, ⊎_elim, refl, sym, ap, ◌∙◌, subst, arith}
 use Rattle.std.specs.Prelude.{fold}
 use Rattle.std.specs.List.{AllZip}
 use Rattle.std.proofs.lemmas.Bool.{cases_lt}
@@ -10,37 +10,35 @@ use Rattle.block_store.proofs.Demands.{have_both}
 use Rattle.block_store.specs.declared.refusal.Refusal.{Refusal}
 use Rattle.block_store.specs.declared.refusal.Refusal.TheVariants.{NoMemory}
 use Rattle.block_store.specs.Blocks.{Contents, Extends}
-use Rattle.block_store.specs.Steps.{OnlyReadsAndPlans}
+use Rattle.block_store.specs.Demands.{HavePlaces}
+use Rattle.block_store.specs.Places.{shapes_of}
+use Rattle.block_store.specs.Steps.{OnlyReadsAndPlans, OnlyReadsBlocks}
 use Rattle.block_store.specs.Store.{Store}
 use Rattle.dnode.specs.declared.object_set.ObjectSetKind.TheVariants as sets
 use Rattle.meta_objset.specs.declared.directory.DirectoryRow.{DirectoryRow}
 use Rattle.meta_objset.specs.Datasets.{HasRecord}
-use Rattle.meta_objset.specs.Reading.{HasConfig, HasDirectory}
-use Rattle.meta_objset.specs.SpaceMaps.{maps_kind}
-use Rattle.meta_objset.specs.StaleSpans.{spans_kind}
 use Rattle.object_table.specs.Tables.{HasTable}
 use Rattle.objset.specs.declared.changes.Change.{Change}
 use Rattle.objset.specs.declared.changes.ObjectChange.{ObjectChange}
 use Rattle.objset.specs.Changes.{MayChange, changed}
 use Rattle.objset.specs.Objects.{Object}
+use Rattle.pool_maps.specs.Plans.{AreSparing, OthersStay}
+use Rattle.pool_maps.specs.Refused.{AreFirstRefused}
 use Rattle.pool_model.specs.declared.item.Action.{Action}
 use Rattle.pool_model.specs.declared.item.Write.{Write}
 use Rattle.pool_model.specs.Pools.{Entry, PlainPool, applied, no_volumes, written}
 use Rattle.pool_model.specs.Pools.{changed as pool_changed}
 use Rattle.vdev_label.specs.Plain.{PlainVdev}
 use Rattle.dataset_snapshots.specs.declared.making.Making.{Making}
-use Rattle.dataset_snapshots.specs.Creating.{HasFirstTables}
 use Rattle.dataset_snapshots.specs.Demands.{HasRootPlaces, IsActionRefused, IsRootRefused}
-use Rattle.dataset_snapshots.specs.FirstGroup.{AreFirstGroupChanges, AreFirstVolumes, AreTableChanges, HasFirstPlaces, IsFirstRefused, IsWithTables, empty_meta}
-use Rattle.dataset_snapshots.specs.Groups.{IsSetOf}
+use Rattle.dataset_snapshots.specs.FirstGroup.{AreFirstGroupChanges, AreFirstVolumes, AreTableChanges, HasFirstPlaces, IsFirstRefused, IsWithTables, empty_meta, AreFirstPlaced, AreWithFirstMaps}
 use Rattle.dataset_snapshots.specs.Leaving.{IsReachExchanged}
-use Rattle.dataset_snapshots.specs.Reach.{HasBlocksOf, blocks_listed, reach_of}
+use Rattle.dataset_snapshots.specs.Reach.{HasBlocksOf}
 use Rattle.dataset_snapshots.proofs.Exchanges.{both_given, given_as}
-use Rattle.dataset_snapshots.proofs.KeptVolumes.{datasets_listed_stay, listed_spell}
 use Rattle.dnode_tree.proofs.Exchanging.{count_by-append}
 use Rattle.objset.specs.Within.{blocks_of_set}
 use Rattle.dataset_snapshots.specs.Making.{IsReady, SpellsMaking, after_all}
-use Rattle.dataset_snapshots.specs.Pools.{AreApart, SpellsPool, dead_list_kind}
+use Rattle.dataset_snapshots.specs.Pools.{AreApart, dead_list_kind}
 use Rattle.dataset_snapshots.proofs.Asking.{all_demands_in}
 use Rattle.dataset_snapshots.proofs.GroupRoot.{behind_tables, zip_each}
 use Rattle.dataset_snapshots.proofs.MakingChanges.{changed_behind, changed_front, may_make, unchanged}
@@ -84,12 +82,11 @@ abbrev one : ℕ → Change → ObjectChange
 one number change = record { number = number; change = change }
 
 module _ (vdevs : List PlainVdev) (rows : List DirectoryRow) (tables : List ObjectChange) (are : AreTableChanges vdevs rows tables) where
-  each_table : (P : ObjectChange → Type 0) → P (one 1 are.directory) → P (one 2 are.config) → P (one 3 are.spans) → P (one 4 are.maps) → All P tables
-  each_table P first second third fourth =
+  each_table : (P : ObjectChange → Type 0) → P (one 1 are.directory) → P (one 2 are.config) → P (one 3 are.spans) → All P tables
+  each_table P first second third =
       subst (All P) (sym are.are)
-      (All-cons P (one 1 are.directory) (one 2 are.config ∷ one 3 are.spans ∷ one 4 are.maps ∷ []) first
-      (All-cons P (one 2 are.config) (one 3 are.spans ∷ one 4 are.maps ∷ []) second
-      (All-cons P (one 3 are.spans) (one 4 are.maps ∷ []) third (All-cons P (one 4 are.maps) [] fourth (none_in P)))))
+      (All-cons P (one 1 are.directory) (one 2 are.config ∷ one 3 are.spans ∷ []) first
+      (All-cons P (one 2 are.config) (one 3 are.spans ∷ []) second (All-cons P (one 3 are.spans) [] third (none_in P))))
 
   -- they may be made where there is nothing
   tables_may : All (λ change. MayChange change.change (nothing change.number)) tables
@@ -98,10 +95,9 @@ module _ (vdevs : List PlainVdev) (rows : List DirectoryRow) (tables : List Obje
       (may_make are.directory are.has_directory.1.there are.has_directory.1.is)
       (may_make are.config are.has_config.1.there are.has_config.1.is)
       (may_make are.spans are.has_spans.there are.has_spans.is)
-      (may_make are.maps are.has_maps.there are.has_maps.is)
 
-  tables_low : All (λ change. (0 < change.number) × (change.number ≤ 4)) tables
-  tables_low = each_table (λ change. (0 < change.number) × (change.number ≤ 4)) (omega arith, omega arith) (omega arith, omega arith) (omega arith, omega arith) (omega arith, omega arith)
+  tables_low : All (λ change. (0 < change.number) × (change.number ≤ 3)) tables
+  tables_low = each_table (λ change. (0 < change.number) × (change.number ≤ 3)) (omega arith, omega arith) (omega arith, omega arith) (omega arith, omega arith)
 
   -- they stand in order in front of others
   pub in_front : (others : List ObjectChange) → All (λ change. (4 < change.number)) others → AllPairs (λ change later. change.number < later.number) others
@@ -110,18 +106,13 @@ module _ (vdevs : List PlainVdev) (rows : List DirectoryRow) (tables : List Obje
       let first = one 1 are.directory in
       let second = one 2 are.config in
       let third = one 3 are.spans in
-      let fourth = one 4 are.maps in
       let behind : (n : ℕ) → n ≤ 4 → All (λ (later : ObjectChange). n < later.number) others = λ n low.
       All-weaker (λ (change : ObjectChange). 4 < change.number) (λ change. n < change.number) (λ change high. omega (arith, high, low)) others high in
-      let four = AllPairs-cons Comes fourth others (behind 4 (omega arith)) order in
-      let three = AllPairs-cons Comes third (fourth ∷ others) (All-cons (λ (later : ObjectChange). 3 < later.number) fourth others (omega arith) (behind 3 (omega arith))) four in
-      let two = AllPairs-cons Comes second (third ∷ fourth ∷ others)
-      (All-cons (λ (later : ObjectChange). 2 < later.number) third (fourth ∷ others) (omega arith)
-      (All-cons (λ (later : ObjectChange). 2 < later.number) fourth others (omega arith) (behind 2 (omega arith)))) three in
-      let all = AllPairs-cons Comes first (second ∷ third ∷ fourth ∷ others)
-      (All-cons (λ (later : ObjectChange). 1 < later.number) second (third ∷ fourth ∷ others) (omega arith)
-      (All-cons (λ (later : ObjectChange). 1 < later.number) third (fourth ∷ others) (omega arith)
-      (All-cons (λ (later : ObjectChange). 1 < later.number) fourth others (omega arith) (behind 1 (omega arith))))) two in
+      let three = AllPairs-cons Comes third others (behind 3 (omega arith)) order in
+      let two = AllPairs-cons Comes second (third ∷ others) (All-cons (λ (later : ObjectChange). 2 < later.number) third others (omega arith) (behind 2 (omega arith))) three in
+      let all = AllPairs-cons Comes first (second ∷ third ∷ others)
+      (All-cons (λ (later : ObjectChange). 1 < later.number) second (third ∷ others) (omega arith)
+      (All-cons (λ (later : ObjectChange). 1 < later.number) third others (omega arith) (behind 1 (omega arith)))) two in
       subst (λ (front : List ObjectChange). AllPairs Comes (front ++ others)) (sym are.are) all
 
 -- ---- the tables and the objects of the volumes
@@ -131,10 +122,20 @@ module _ (vdevs : List PlainVdev) (making : Making) (changes : List ObjectChange
   made = making.changes.items
 
   -- the changes may be made of nothing
-  pub first_may : (stored : Contents) (group : ℕ) (lists : ℕ → List Block) (pool : PlainPool) → SpellsMaking stored group nothing lists making pool → All (λ change. MayChange change.change (nothing change.number)) changes
+  pub first_may : (stored : Contents) (group : ℕ) (lists : ℕ → List Block) (pool : PlainPool) → SpellsMaking stored group nothing lists making pool
+      → All (λ change. MayChange change.change (nothing change.number)) changes
   first_may stored group lists pool spells =
       subst (All (λ (change : ObjectChange). MayChange change.change (nothing change.number))) (sym all.2)
       (All-append (λ (change : ObjectChange). MayChange change.change (nothing change.number)) all.0 made (tables_may vdevs making.directory all.0 all.1) spells.may)
+
+  -- none is of the space maps' table
+  pub lacks_maps : All (λ change. change.number ≢ 4) changes
+  lacks_maps =
+      subst (All (λ (change : ObjectChange). change.number ≢ 4)) (sym all.2)
+      (All-append (λ (change : ObjectChange). change.number ≢ 4) all.0 made
+      (All-weaker (λ (change : ObjectChange). (0 < change.number) × (change.number ≤ 3)) (λ change. change.number ≢ 4) (λ change low is. omega (arith, low.1, is)) all.0
+      (tables_low vdevs making.directory all.0 all.1))
+      (behind_tables making 4 ready (omega arith)))
 
   -- each object is that of a table or of a volume
   table_is : (number : ℕ) → number ≤ 4 → changed changes nothing number ≡ changed all.0 nothing number
@@ -145,7 +146,7 @@ module _ (vdevs : List PlainVdev) (making : Making) (changes : List ObjectChange
   volume_is number high =
       ap (λ (cs : List ObjectChange). changed cs nothing number) all.2
       ∙ changed_behind all.0 made nothing number
-      (All-weaker (λ (change : ObjectChange). (0 < change.number) × (change.number ≤ 4)) (λ change. change.number ≢ number) (λ change low is. omega (arith, low.1, is, high)) all.0
+      (All-weaker (λ (change : ObjectChange). (0 < change.number) × (change.number ≤ 3)) (λ change. change.number ≢ number) (λ change low is. omega (arith, low.1, is, high)) all.0
       (tables_low vdevs making.directory all.0 all.1))
 
   -- what was made is behind the tables
@@ -155,12 +156,12 @@ module _ (vdevs : List PlainVdev) (making : Making) (changes : List ObjectChange
       (λ low. let clash : None ≡ Some there = sym (unchanged made nothing number (behind_tables making number ready (omega (arith, low)))) ∙ is in absurd cc)
       (cases_lt 4 number)
 
-  table_has : (Has : Option Object → Type 0) (number : ℕ) → number ≤ 4
-      → Has (changed (one 1 all.1.directory ∷ one 2 all.1.config ∷ one 3 all.1.spans ∷ one 4 all.1.maps ∷ []) nothing number) → Has (changed changes nothing number)
+  pub table_has : (Has : Option Object → Type 0) (number : ℕ) → number ≤ 4
+      → Has (changed (one 1 all.1.directory ∷ one 2 all.1.config ∷ one 3 all.1.spans ∷ []) nothing number) → Has (changed changes nothing number)
   table_has Has number low has =
       subst Has (sym (table_is number low ∙ ap (λ (cs : List ObjectChange). changed cs nothing number) all.1.are)) has
 
-  first_volumes : (stored : Contents) (group : ℕ) (lists : ℕ → List Block) (pool : PlainPool) → SpellsMaking stored group nothing lists making pool
+  pub first_volumes : (stored : Contents) (group : ℕ) (lists : ℕ → List Block) (pool : PlainPool) → SpellsMaking stored group nothing lists making pool
       → AllZip (HasBlocksOf stored group (changed changes nothing) lists) making.directory pool.volumes
   first_volumes stored group lists pool spells =
       zip_each (HasBlocksOf stored group (after_all making nothing) lists) (HasBlocksOf stored group (changed changes nothing) lists) making.directory pool.volumes (λ row volume one. (
@@ -175,37 +176,6 @@ module _ (vdevs : List PlainVdev) (making : Making) (changes : List ObjectChange
         },
         one.1,
       )) spells.volumes
-
-  -- the set of these objects is that of the pool, with the first tables, and leads to its own blocks and those of the volumes
-  pub spells_first : (stored later : Contents) (group : ℕ) (root : Block) (lists : ℕ → List Block) (pool : PlainPool) → SpellsMaking stored group nothing lists making pool → Extends stored later
-      → (set : IsSetOf later group root sets.Meta (changed changes nothing)) → root.birth ≡ group
-      → (is : SpellsPool later group root pool) × HasFirstTables is.objects vdevs
-      × (reach_of is ≡ root ∷ blocks_of_set set.set set.own set.blocks ++ blocks_listed lists making.directory) × (is.rows ≡ making.directory)
-  spells_first stored later group root lists pool spells more set born =
-      let listed = subst (λ n. AllZip (HasBlocksOf later n (changed changes nothing) lists) making.directory pool.volumes) (sym born)
-      (datasets_listed_stay stored later group (changed changes nothing) lists making.directory pool.volumes more (first_volumes stored group lists pool spells)) in
-      let spelled = listed_spell later root.birth (changed changes nothing) lists making.directory pool.volumes listed in (
-        record {
-          set = set.set;
-          is_set = set.is_set;
-          kind = set.kind_is;
-          objects = changed changes nothing;
-          own = set.own;
-          blocks = set.blocks;
-          are = set.are;
-          rows = making.directory;
-          directory = table_has (λ o. HasDirectory o making.directory) 1 (omega arith) all.1.has_directory;
-          apart = spells.apart;
-          volumes = spelled.0;
-        },
-        record {
-          config = table_has (λ o. HasConfig o vdevs) 2 (omega arith) all.1.has_config;
-          spans = table_has (λ o. HasTable spans_kind o []) 3 (omega arith) all.1.has_spans;
-          maps = table_has (λ o. HasTable maps_kind o []) 4 (omega arith) all.1.has_maps;
-        },
-        ap (λ below. root ∷ blocks_of_set set.set set.own set.blocks ++ below) spelled.1,
-        refl,
-      )
 
 -- ---- what is planned
 
@@ -235,37 +205,62 @@ group_changes old mid group vdevs making actions changes volumes all = record {
   are = all.2;
 }
 
-module _ (old mid new : Store) (group : ℕ) (vdevs : List PlainVdev) (items : Entry) (making : Making) (changes : List ObjectChange) (steps : OnlyReadsAndPlans old mid [])
-    (volumes : AreFirstVolumes old mid group items.actions making) (all : IsWithTables vdevs making changes) where
-  pub first_has : HasRootPlaces mid new empty_meta group changes → HasFirstPlaces old new group vdevs items
-  first_has (of_root, root_asks, root_has) = record {
+module _ (old mid : Store) (group : ℕ) (vdevs : List PlainVdev) (items : Entry) (making : Making) (changes : List ObjectChange) (next : ℕ) (steps : OnlyReadsAndPlans old mid [])
+    (volumes : AreFirstVolumes old mid group items.actions making) (all : IsWithTables vdevs making changes) (next_is : next ≡ making.next) where
+  placed_first : AreFirstPlaced old mid group vdevs items.actions changes next
+  placed_first = record {
     made = volumes.made;
     made_are = volumes.are;
-    of_made = volumes.places.0;
-    made_ask = volumes.places.1;
-    changes = changes;
+    before = steps;
+    places = volumes.places;
     changes_are = group_changes old mid group vdevs making items.actions changes volumes all;
-    of_root = of_root;
-    root_asks = record {
-      of_objects = root_asks.of_objects;
-      are = all_demands_in old.spaces mid.spaces steps.shapes empty_meta group (copies_of sets.Meta) changes root_asks.of_objects root_asks.are;
-      is = root_asks.is;
-    };
-    places = have_both old.spaces mid.spaces new.spaces volumes.places.0 of_root volumes.places.2 root_has;
+    next_is = next_is ∙ volumes.next;
   }
 
-  pub first_set_refused : (refusal : Refusal) → IsRootRefused mid new empty_meta group group changes refusal → IsFirstRefused old new group vdevs items refusal
-  first_set_refused refusal why =
-      inr (inr (record {
+  pub first_has : (planned new : Store) (whole : List ObjectChange) → OnlyReadsBlocks mid planned [] → OthersStay [] next changes whole × AreSparing mid.spaces [] [] next changes whole
+      → HasRootPlaces planned new empty_meta group whole → HasFirstPlaces old new group vdevs items
+  first_has planned new whole reads (others, sparing) (of_root, root_asks, root_has) =
+      let spaces_are : planned.spaces ≡ mid.spaces = ap (λ (s : Store). s.spaces) reads.rest in
+      let numbered : next ≡ 5 + 2 * length volumes.made = next_is ∙ volumes.next in
+      record {
         made = volumes.made;
         made_are = volumes.are;
-        mid = mid;
-        before = steps;
-        places = volumes.places;
+        of_made = volumes.places.0;
+        made_ask = volumes.places.1;
         changes = changes;
         changes_are = group_changes old mid group vdevs making items.actions changes volumes all;
+        mid = mid.spaces;
+        volumes = volumes.places.2;
+        all = whole;
+        with_maps = subst (λ n. AreWithFirstMaps mid.spaces n changes whole) numbered (record { others = others; sparing = sparing });
+        of_root = of_root;
+        root_asks = record {
+          of_objects = root_asks.of_objects;
+          are = all_demands_in old.spaces planned.spaces (ap shapes_of spaces_are ∙ steps.shapes) empty_meta group (copies_of sets.Meta) whole root_asks.of_objects root_asks.are;
+          is = root_asks.is;
+        };
+        places = have_both old.spaces mid.spaces new.spaces volumes.places.0 of_root volumes.places.2 (subst (λ spaces. HavePlaces spaces of_root new.spaces) spaces_are root_has);
+      }
+
+  pub first_maps_refused : (new : Store) (refusal : Refusal) → (refusal ≡ NoMemory) ⊎ AreFirstRefused mid new changes next refusal → IsFirstRefused old new group vdevs items refusal
+  first_maps_refused new refusal (inl memory) = inl memory
+  first_maps_refused new refusal (inr why) = inr (inr (inl (record { mid = mid; changes = changes; next = next; volumes = placed_first; why = why })))
+
+  pub first_set_refused : (planned new : Store) (whole : List ObjectChange) (refusal : Refusal) → OnlyReadsBlocks mid planned []
+      → OthersStay [] next changes whole × AreSparing mid.spaces [] [] next changes whole → IsRootRefused planned new empty_meta group group whole refusal
+      → IsFirstRefused old new group vdevs items refusal
+  first_set_refused planned new whole refusal reads (others, sparing) why =
+      inr (inr (inr (record {
+        mid = mid;
+        changes = changes;
+        next = next;
+        volumes = placed_first;
+        planned = planned;
+        reads = reads;
+        all = whole;
+        with_maps = record { others = others; sparing = sparing };
         why = why;
-      }))
+      })))
 
 pub first_volumes_refused : (old new : Store) (group : ℕ) (vdevs : List PlainVdev) (items : Entry) (actions : List Action) (refusal : Refusal) → actions ≡ items.actions
     → (refusal ≡ NoMemory) ⊎ IsActionRefused old new group [] 5 actions refusal → IsFirstRefused old new group vdevs items refusal

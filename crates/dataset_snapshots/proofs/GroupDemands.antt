@@ -1,5 +1,5 @@
 -- What a group's root asks places for, from what its parts ask.
-use Rattle.std.proofs.Common.{◌≡◌, ◌⊎◌, ◌↔◌, inl, inr, Ok, Err, Result, ℕ, ◌+◌, ◌-◌, List, [], ◌∷◌, ◌++◌, length, map, Contains, refl, ap, subst, ◌∙◌, arith}
+use Rattle.std.proofs.Common.{◌≡◌, ◌⊎◌, ◌↔◌, inl, inr, Ok, Err, Result, ℕ, ◌+◌, ◌-◌, List, [], ◌∷◌, ◌++◌, length, map, Contains, refl, ap, subst, ◌∙◌, arith, ◌*◌, sym}
 use Rattle.std.specs.Prelude.{◌≢◌, IfErr, IfOk, OnOk, All}
 use Rattle.std.proofs.lemmas.List.{append-nil, length-append}
 use Rattle.block_pointer.specs.declared.block.Block.{Block}
@@ -25,7 +25,7 @@ use Rattle.pool_model.specs.Pools.{Entry}
 use Rattle.volume.specs.Demands.{empty_set}
 use Rattle.dataset_snapshots.specs.declared.groups.Opened.{Opened}
 use Rattle.dataset_snapshots.specs.declared.making.Making.{Making}
-use Rattle.dataset_snapshots.specs.Demands.{AreAsked, AreGroupChanges, AreMade, AreNewObjects, AreVolumesRefused, HasActionDemands, HasGroupDemands, HasGroupPlaces, HasRootDemands, HasRootPlaces, HasVolumeDemands, HasVolumePlaces, HavePlacesFor, IsActionRefused, IsGroupRefused, IsRootRefused, IsVolumeUnplaced, IsWithDirectory, MakesAll, MakesObjectsOf, WritesDirectory, WritesRecord, demand_of_root, first_number}
+use Rattle.dataset_snapshots.specs.Demands.{AreAsked, AreGroupChanges, AreMade, AreNewObjects, AreVolumesRefused, HasActionDemands, HasGroupDemands, HasGroupPlaces, HasRootDemands, HasRootPlaces, HasVolumeDemands, HasVolumePlaces, HavePlacesFor, IsActionRefused, IsGroupRefused, IsRootRefused, IsVolumeUnplaced, IsWithDirectory, MakesAll, MakesObjectsOf, WritesDirectory, WritesRecord, demand_of_root, first_number, AreMappedRefused, AreWithMaps, HasMappedPlaces}
 use Rattle.dataset_snapshots.specs.Finding.{IsMetaFound}
 use Rattle.dataset_snapshots.specs.Groups.{objects_of}
 use Rattle.dataset_snapshots.specs.Opening.{IsGroupFound, IsGroupUnread, IsOneUnread}
@@ -166,12 +166,13 @@ module _ (old mid new : Store) (group : ℕ) (opened : Opened) (first : Making) 
         why = subst (λ n. IsActionRefused mid new group opened.directory n actions refusal) next why;
       }))
 
-  pub volumes_have : (last : Making) (changes : List ObjectChange) → shapes_of mid.spaces ≡ shapes_of old.spaces → HavePlacesFor old mid (HasVolumeDemands old.spaces group) opened.written.items
+  pub volumes_have : (last : Making) (changes : List ObjectChange) (next : ℕ) → next ≡ last.next → first.next ≡ first_number opened.set → shapes_of mid.spaces ≡ shapes_of old.spaces → HavePlacesFor old mid (HasVolumeDemands old.spaces group) opened.written.items
       → first.directory ≡ opened.directory → (made : MakesAll mid new group first last actions) → AreGroupChanges opened made.made changes
-      → HasVolumePlaces old new group opened actions changes
-  volumes_have last changes same written is made are =
+      → HasVolumePlaces old new group opened actions changes next
+  volumes_have last changes next next_is first_is same written is made are =
       let asked = made.places in record {
         made = made.made;
+        next_is = next_is ∙ made.objects.next ∙ ap (λ n. n + 2 * length made.made) first_is;
         made_are = subst (λ (rows : List DirectoryRow). AreMade rows [] actions made.made) is made.are;
         changes_are = are;
         of_written = written.0;
@@ -186,10 +187,10 @@ module _ (old mid new : Store) (group : ℕ) (opened : Opened) (first : Making) 
 
 module _ (old first second new : Store) (root : Block) (rows : List DirectoryRow) (group : ℕ) (items : Entry) (opened : Opened) (reads : OnlyReadsBlocks old first [])
     (found : IsGroupFound old.spaces (group - 1) root rows items.writes opened) where
-  pub group_volumes_refused : (refusal : Refusal) → AreVolumesRefused first new group opened items.actions refusal → IsGroupRefused old new root rows group items refusal
+  pub group_volumes_refused : (refusal : Refusal) → AreMappedRefused first new root.birth group opened items.actions refusal → IsGroupRefused old new root rows group items refusal
   group_volumes_refused refusal why = inr (inr (record { opened = opened; found = found; mid = first; before = reads; why = inl why }))
 
-  pub group_changes_refused : (changes : List ObjectChange) (refusal : Refusal) → OnlyReadsAndPlans first second [] → HasVolumePlaces first second group opened items.actions changes
+  pub group_changes_refused : (changes : List ObjectChange) (refusal : Refusal) → OnlyReadsAndPlans first second [] → HasMappedPlaces first second root.birth group opened items.actions changes
       → IsRootRefused second new opened.set root.birth group changes refusal → IsGroupRefused old new root rows group items refusal
   group_changes_refused changes refusal steps volumes why =
       inr (inr (record {
@@ -197,37 +198,45 @@ module _ (old first second new : Store) (root : Block) (rows : List DirectoryRow
         found = found;
         mid = first;
         before = reads;
-        why = inr (record { mid = second; before = steps; changes = changes; volumes = volumes; why = why });
+        why = inr (record { mid = second; before = steps; all = changes; volumes = volumes; why = why });
       }))
 
-  pub group_has : (changes : List ObjectChange) → OnlyReadsAndPlans first second [] → HasVolumePlaces first second group opened items.actions changes
-      → HasRootPlaces second new opened.set group changes → HasGroupPlaces old new root rows group items
-  group_has changes steps volumes (of_root, root_asks, root_has) =
+  pub group_has : (all : List ObjectChange) → OnlyReadsAndPlans first second [] → HasMappedPlaces first second root.birth group opened items.actions all
+      → HasRootPlaces second new opened.set group all → HasGroupPlaces old new root rows group items
+  group_has all steps mapped (of_root, root_asks, root_has) =
+      let volumes = mapped.volumes in
       let same : first.spaces ≡ old.spaces = ap (λ (s : Store). s.spaces) reads.rest in
+      let now : second.spaces ≡ mapped.mid.spaces = ap (λ (s : Store). s.spaces) mapped.reads.rest in
       let demands : List Demand = (volumes.of_written ++ volumes.of_made) ++ of_root in
-      let ask : HasGroupDemands first.spaces group opened items.actions demands = record {
+      let ask : HasGroupDemands first.spaces root.birth group opened items.actions demands = record {
         made = volumes.made;
         made_are = volumes.made_are;
         of_written = volumes.of_written;
         written_ask = volumes.written_ask;
         of_made = volumes.of_made;
         made_ask = volumes.made_ask;
-        changes = changes;
+        changes = mapped.changes;
         changes_are = volumes.changes_are;
+        mid = mapped.mid.spaces;
+        places = volumes.places;
+        gone = mapped.gone;
+        all = all;
+        with_maps = subst (λ n. AreWithMaps mapped.mid.spaces opened.set root.birth mapped.gone n mapped.changes all) volumes.next_is mapped.with_maps;
         of_root = of_root;
         root_asks = record {
           of_objects = root_asks.of_objects;
-          are = all_demands_in first.spaces second.spaces steps.shapes opened.set group (copies_of kinds.Meta) changes root_asks.of_objects root_asks.are;
+          are = all_demands_in first.spaces second.spaces steps.shapes opened.set group (copies_of kinds.Meta) all root_asks.of_objects root_asks.are;
           is = root_asks.is;
         };
         is = refl;
       } in
       let have : HavePlaces first.spaces demands new.spaces =
-      have_both first.spaces second.spaces new.spaces (volumes.of_written ++ volumes.of_made) of_root volumes.places root_has in record {
+      have_both first.spaces second.spaces new.spaces (volumes.of_written ++ volumes.of_made) of_root
+      (subst (λ (spaces : List VdevSpace). HavePlaces first.spaces (volumes.of_written ++ volumes.of_made) spaces) (sym now) volumes.places) root_has in record {
         opened = opened;
         found = found;
         demands = demands;
-        ask = subst (λ (spaces : List VdevSpace). HasGroupDemands spaces group opened items.actions demands) same ask;
+        ask = subst (λ (spaces : List VdevSpace). HasGroupDemands spaces root.birth group opened items.actions demands) same ask;
         places = subst (λ (spaces : List VdevSpace). HavePlaces spaces demands new.spaces) same have;
       }
 

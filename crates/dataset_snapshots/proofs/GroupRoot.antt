@@ -26,7 +26,6 @@ use Rattle.volume_rules.specs.Overlay.{after_writes}
 use Rattle.vdev_label.specs.Plain.{PlainVdev}
 use Rattle.dataset_snapshots.specs.declared.groups.Opened.{Opened}
 use Rattle.dataset_snapshots.specs.declared.making.Making.{Making}
-use Rattle.meta_objset.specs.SpaceMaps.{maps_kind}
 use Rattle.meta_objset.specs.StaleSpans.{spans_kind}
 use Rattle.dataset_snapshots.specs.Creating.{HasFirstTables}
 use Rattle.dataset_snapshots.specs.Groups.{IsOpened, IsOpenedFrom, IsSetOf, SpellsAfter, objects_of}
@@ -37,6 +36,8 @@ use Rattle.dataset_snapshots.specs.Writing.{AreChangedFrom, FitsWritten, IsReadF
 use Rattle.dataset_snapshots.proofs.ChangedRows.{all_from, first_or_later, is_first, is_later, look, none_behind, nothing_in, some_within, with_parts, zip_has, others_stay, all_may, rows_after_all}
 use Rattle.dataset_snapshots.proofs.KeptVolumes.{datasets_listed_stay, listed_spell}
 use Rattle.dataset_snapshots.proofs.Numbered.{AreApartNumbers, changes_apart}
+use Rattle.dataset_snapshots.specs.Mapped.{AreCopied}
+use Rattle.block_pointer.specs.Copies.{dvas}
 
 -- ---- numbers
 
@@ -158,7 +159,7 @@ module _ (stored : Contents) (birth : ℕ) (objects : ℕ → Option Object) (li
       directory = subst (λ o. HasDirectory o rows) (sym (table_left 1 (omega arith))) directory;
       apart = subst AreApart same spells.apart;
       may = spells.may;
-      tables = λ number low high. table_left number high;
+      tables = λ number low high. table_left number (omega (arith, high));
       volumes = subst (λ rs. AllZip (HasBlocksOf stored birth (λ number. changed making.changes.items objects number) lists) rs pool.volumes) same spells.volumes;
     },
     sym same,
@@ -179,7 +180,7 @@ module _ (stored : Contents) (birth : ℕ) (objects : ℕ → Option Object) (li
           apart = spells.apart;
           may = All-cons (λ (c : ObjectChange). MayChange c.change (objects c.number)) change making.changes.items
               (subst (λ n. MayChange change.change (objects n)) (sym is) (subst (MayChange change.change) (sym directory.1.is) (may there directory.1.of_kind))) spells.may;
-          tables = λ number low high. rest number (λ same. omega (arith, low, same)) ∙ table_left number high;
+          tables = λ number low high. rest number (λ same. omega (arith, low, same)) ∙ table_left number (omega (arith, high));
           volumes = zip_each (HasBlocksOf stored birth (λ number. changed making.changes.items objects number) lists) (HasBlocksOf stored birth (λ number. changed (change ∷ making.changes.items) objects number) lists)
               making.directory pool.volumes (λ row volume one. (
                 record {
@@ -207,17 +208,18 @@ module _ (stored : Contents) (birth : ℕ) (objects : ℕ → Option Object) (li
 
 -- ---- the root
 
-tables_stay : (objects now : ℕ → Option Object) (vdevs : List PlainVdev) → ((number : ℕ) → 1 < number → number ≤ 4 → now number ≡ objects number) → HasFirstTables objects vdevs → HasFirstTables now vdevs
+tables_stay : (objects now : ℕ → Option Object) (vdevs : List PlainVdev) → ((number : ℕ) → 1 < number → number ≤ 3 → now number ≡ objects number) → HasFirstTables objects vdevs → HasFirstTables now vdevs
 tables_stay objects now vdevs same tables = record {
   config = subst (λ o. HasConfig o vdevs) (sym (same 2 (omega arith) (omega arith))) tables.config;
   spans = subst (λ o. HasTable spans_kind o []) (sym (same 3 (omega arith) (omega arith))) tables.spans;
-  maps = subst (λ o. HasTable maps_kind o []) (sym (same 4 (omega arith) (omega arith))) tables.maps;
 }
 
 pub spells_root : (stored later : Contents) (group : ℕ) (root : Block) (objects : ℕ → Option Object) (lists : ℕ → List Block) (changes : List ObjectChange) (pool : PlainPool)
     → (after : SpellsAfter stored group objects lists changes pool) → Extends stored later → (set : IsSetOf later group root sets.Meta (changed changes objects)) → root.birth ≡ group
     → (then : SpellsPool later group root pool) × ((vdevs : List PlainVdev) → HasFirstTables objects vdevs → HasFirstTables then.objects vdevs)
-    × (reach_of then ≡ root ∷ blocks_of_set set.set set.own set.blocks ++ blocks_listed lists after.rows) × (then.rows ≡ after.rows)
+    × (reach_of then ≡ root ∷ blocks_of_set set.set set.own set.blocks ++ blocks_listed lists after.rows) × (then.rows ≡ after.rows) × (then.objects ≡ changed changes objects)
+    × (All (λ block. length (dvas block.copies) ≡ 3) (root ∷ blocks_of_set set.set set.own set.blocks)
+    → All (λ block. length (dvas block.copies) ≢ 3) (blocks_listed lists after.rows) → AreCopied then)
 spells_root stored later group root objects lists changes pool after more set born =
     let listed = subst (λ n. AllZip (HasBlocksOf later n (changed changes objects) lists) after.rows pool.volumes) (sym born)
     (datasets_listed_stay stored later group (changed changes objects) lists after.rows pool.volumes more after.volumes) in
@@ -238,4 +240,6 @@ spells_root stored later group root objects lists changes pool after more set bo
       λ vdevs tables. tables_stay objects (changed changes objects) vdevs after.tables tables,
       ap (λ below. root ∷ blocks_of_set set.set set.own set.blocks ++ below) spelled.1,
       refl,
+      refl,
+      λ meta others. record { meta = meta; others = subst (All (λ (block : Block). length (dvas block.copies) ≢ 3)) (sym spelled.1) others },
     )

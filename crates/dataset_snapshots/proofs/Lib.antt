@@ -1,8 +1,10 @@
 pub mod Asking
 pub mod BlocksOnce
 pub mod ChangedRows
+pub mod Copied
 pub mod Datasets
 pub mod Exchanges
+pub mod FirstMaps
 pub mod FirstRoots
 pub mod FoundRanges
 pub mod GoodNames
@@ -11,13 +13,16 @@ pub mod GroupReach
 pub mod GroupRoot
 pub mod KeptVolumes
 pub mod Losses
+pub mod LostMaps
 pub mod MakingChanges
 pub mod MakingDemands
 pub mod MakingRefusals
 pub mod MakingSteps
 pub mod MakingVolumes
+pub mod MetaPlaces
 pub mod NamedRows
 pub mod NamingOrder
+pub mod NextMaps
 pub mod Numbered
 pub mod Opening
 pub mod PlacedRecord
@@ -32,3 +37,5 @@ pub mod Staying
 pub mod VolumeBlocks
 pub mod WalkedRows
 pub mod WrittenObjects
+pub mod MappedGroups
+pub mod MapsUnderway

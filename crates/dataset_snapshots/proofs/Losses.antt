@@ -10,22 +10,25 @@ use Rattle.dnode.specs.declared.object_set.ObjectSet.{ObjectSet}
 use Rattle.dnode_slots.proofs.Losses.{set_lost}
 use Rattle.meta_objset.proofs.Losses.{record_lost, rows_lost}
 use Rattle.meta_objset.specs.declared.directory.DirectoryRow.{DirectoryRow}
-use Rattle.meta_objset.specs.Found.{AreDirectoryRows}
+use Rattle.meta_objset.specs.Found.{AreDirectoryRows, AreMapRows}
 use Rattle.meta_objset.specs.Reading.{directory_kind}
+use Rattle.meta_objset.specs.SpaceMaps.{maps_kind}
 use Rattle.objset.proofs.Losses.{change_lost}
 use Rattle.objset.specs.declared.changes.ObjectChange.{ObjectChange}
+use Rattle.pool_maps.specs.Refused.{AreFirstRefused, IsPlanRefused as AreMapsUnplanned}
 use Rattle.pool_model.specs.declared.item.Action.{Action}
 use Rattle.pool_model.specs.declared.item.Change.{Change}
 use Rattle.pool_model.specs.declared.item.Write.{Write}
 use Rattle.volume.proofs.Losses.{placing_lost, plan_lost, read_lost}
 use Rattle.volume.specs.Demands.{empty_set}
 use Rattle.dataset_snapshots.specs.declared.groups.Opened.{Opened}
-use Rattle.dataset_snapshots.specs.Demands.{AreVolumesRefused, IsActionRefused, IsMakingRefused, IsRootRefused}
+use Rattle.dataset_snapshots.specs.Demands.{AreMappedRefused, AreVolumesRefused, IsActionRefused, IsMakingRefused, IsRootRefused}
 use Rattle.dataset_snapshots.specs.Finding.{IsDirectoryRefused, IsMetaRefused, IsRefusedIn}
 use Rattle.dataset_snapshots.specs.FirstGroup.{empty_meta}
 use Rattle.dataset_snapshots.specs.Laws.{LossesByRows, LossesOfDatasets, LossesOfFirstGroups, LossesOfGroups, LossesOfRanges}
 use Rattle.dataset_snapshots.specs.Opening.{IsGroupUnread, IsWrittenRefused}
 use Rattle.dataset_snapshots.specs.Ranges.{IsRangeRefusedIn}
+use Rattle.dataset_snapshots.proofs.LostMaps.{some_map_lost}
 
 pub meta_lost : (old new : Store) (missing : List ℕ) (birth : ℕ) (root : Block) (refusal : Refusal) → IsMetaRefused old new missing birth root refusal → refusal ≡ DiskFault → IsBlockLost old new missing
 meta_lost old new missing birth root refusal (inl unread) is = set_lost old new missing birth root refusal unread is
@@ -86,22 +89,45 @@ root_lost old new set before group changes refusal (inl memory) is = absurd (cc)
 root_lost old new set before group changes refusal (inr (inl (space, lacks))) is = absurd (cc)
 root_lost old new set before group changes refusal (inr (inr refused)) is = change_lost old new [] set before group changes refusal refused is
 
+maps_lost : (old new : Store) (set : ObjectSet) (birth : ℕ) (gone : List Block) (changes : List ObjectChange) (next : ℕ) (refusal : Refusal)
+    → AreMapsUnplanned old new set birth gone changes next refusal → refusal ≡ DiskFault → IsBlockLost old new []
+maps_lost old new set birth gone changes next refusal (inl table) is = rows_lost old new [] set birth maps_kind 4 AreMapRows refusal table is
+maps_lost old new set birth gone changes next refusal (inr maps) is = lost_behind_reads old maps.mid new [] maps.before (elim maps.why [
+  | inl some ↦ some_map_lost maps.mid new set birth gone maps.plan refusal some is
+  | inr (bad, taken) ↦ absurd (cc)
+])
+
+mapped_lost : (old new : Store) (born group : ℕ) (opened : Opened) (actions : List Action) (refusal : Refusal) → AreMappedRefused old new born group opened actions refusal → refusal ≡ DiskFault
+    → IsBlockLost old new []
+mapped_lost old new born group opened actions refusal (inl volumes) is = volumes_lost old new group opened actions refusal volumes is
+mapped_lost old new born group opened actions refusal (inr maps) is =
+    lost_later old maps.mid new [] maps.before (maps_lost maps.mid new opened.set born maps.gone maps.changes maps.next refusal maps.why is)
+
 pub losses_of_groups : LossesOfGroups
 losses_of_groups old new root rows group items refusal (inl memory) is = absurd (cc)
 losses_of_groups old new root rows group items refusal (inr (inl unread)) is = unread_lost old new _ root rows items.writes refusal unread is
 losses_of_groups old new root rows group items refusal (inr (inr unplanned)) is =
     lost_behind_reads old unplanned.mid new [] unplanned.before (elim unplanned.why [
-      | inl volumes ↦ volumes_lost unplanned.mid new group unplanned.opened items.actions refusal volumes is
-      | inr changes ↦ lost_later unplanned.mid changes.mid new [] changes.before (root_lost changes.mid new unplanned.opened.set root.birth group changes.changes refusal changes.why is)
+      | inl mapped ↦ mapped_lost unplanned.mid new root.birth group unplanned.opened items.actions refusal mapped is
+      | inr changes ↦ lost_later unplanned.mid changes.mid new [] changes.before (root_lost changes.mid new unplanned.opened.set root.birth group changes.all refusal changes.why is)
     ])
 
 -- ---- the first root
 
+first_maps_lost : (old new : Store) (changes : List ObjectChange) (next : ℕ) (refusal : Refusal) → AreFirstRefused old new changes next refusal → refusal ≡ DiskFault → IsBlockLost old new []
+first_maps_lost old new changes next refusal maps is = elim maps.why [
+  | inl some ↦ some_map_lost old new maps.set 0 [] maps.plan refusal some is
+  | inr (bad, taken) ↦ absurd (cc)
+]
+
 pub losses_of_first_groups : LossesOfFirstGroups
 losses_of_first_groups old new group vdevs items refusal (inl memory) is = absurd (cc)
 losses_of_first_groups old new group vdevs items refusal (inr (inl action)) is = action_lost old new group [] 5 items.actions refusal action is
-losses_of_first_groups old new group vdevs items refusal (inr (inr set)) is =
-    lost_later old set.mid new [] set.before (root_lost set.mid new empty_meta group group set.changes refusal set.why is)
+losses_of_first_groups old new group vdevs items refusal (inr (inr (inl maps))) is =
+    lost_later old maps.mid new [] maps.volumes.before (first_maps_lost maps.mid new maps.changes maps.next refusal maps.why is)
+losses_of_first_groups old new group vdevs items refusal (inr (inr (inr set))) is =
+    lost_later old set.mid new [] set.volumes.before
+    (lost_behind_reads set.mid set.planned new [] set.reads (root_lost set.planned new empty_meta group group set.all refusal set.why is))
 
 -- ---- ranges
 

@@ -13,10 +13,11 @@ use Rattle.objset.specs.Objects.{Object}
 use Rattle.pool_model.specs.declared.item.Write.{Write}
 use Rattle.pool_model.specs.declared.volume.PlainVolume.{PlainVolume}
 use Rattle.volume_rules.specs.Overlay.{after_writes}
+use Rattle.dataset_snapshots.proofs.Copied.{adds_none, adds_on}
 use Rattle.dataset_snapshots.proofs.Exchanges.{both_given, given_as, nothing_given}
 use Rattle.dataset_snapshots.proofs.GroupRoot.{zip_each}
 use Rattle.dataset_snapshots.proofs.PlacedRecord.{change_stays}
-use Rattle.dataset_snapshots.specs.Leaving.{IsReachExchanged}
+use Rattle.dataset_snapshots.specs.Leaving.{AddsData, IsReachExchanged}
 use Rattle.dataset_snapshots.specs.Writing.{AreChangedFrom, ChangesRecord, IsChangedFrom, blocks_of_change, numbers_of}
 
 -- what is planned of these volumes, and what of them gave way
@@ -24,12 +25,13 @@ abbrev pub ArePlaced : Store → Contents → Contents → ℕ → (ℕ → Opti
 ArePlaced store stored planned group there writes volumes lists before after changes =
     (later : Contents) × Plans store stored later × Extends planned later × (parts : List (List Block)) × AreChangedFrom later group there volumes writes changes parts
     × (gone : List Block) × (after ≡ before ++ gone) × IsReachExchanged group planned later (flat_map lists (numbers_of changes)) (joined parts) gone
+    × AddsData planned later
 
 pub none_placed : (store : Store) (stored planned : Contents) (group : ℕ) (there : ℕ → Option Object) (writes : List Write) (volumes : ℕ → PlainVolume) (lists : ℕ → List Block) (before : List Block)
     (changes : List ObjectChange) → Plans store stored planned → changes ≡ [] → ArePlaced store stored planned group there writes volumes lists before before changes
 none_placed store stored planned group there writes volumes lists before changes plans none =
     subst (λ (cs : List ObjectChange). ArePlaced store stored planned group there writes volumes lists before before cs) (sym none)
-    (planned, plans, λ block bytes known. known, [], tt, [], sym (append-nil before), nothing_given group planned)
+    (planned, plans, λ block bytes known. known, [], tt, [], sym (append-nil before), nothing_given group planned, adds_none planned)
 
 zip_push : {A B : Type 0} (R : A → B → Type 0) (xs : List A) (ys : List B) (x : A) (y : B) → AllZip R xs ys → R x y → AllZip R (xs ++ x ∷ []) (ys ++ y ∷ [])
 zip_push R [] [] x y all one = (one, tt)
@@ -49,7 +51,7 @@ pub one_placed : (mid new : Store) (stored planned : Contents) (group : ℕ) (th
     (front so_far now : List Block) (changes all : List ObjectChange) (one : ObjectChange) (object : ℕ) (old : List Block) → all ≡ changes ++ one ∷ []
     → (before : ArePlaced mid stored planned group there writes volumes lists front so_far changes) → object ≡ one.number → old ≡ lists object
     → ((later : Contents) × Plans new stored later × Extends before.0 later × (to : ChangesRecord later group there object (after_writes (volumes object) writes) one.change)
-    × (gone : List Block) × (now ≡ so_far ++ gone) × IsReachExchanged group before.0 later old (blocks_of_change to) gone)
+    × (gone : List Block) × (now ≡ so_far ++ gone) × IsReachExchanged group before.0 later old (blocks_of_change to) gone × AddsData before.0 later)
     → ArePlaced new stored planned group there writes volumes lists front now all
 one_placed mid new stored planned group there writes volumes lists front so_far now changes all one object old more before number old_is placed =
     let later : Contents = placed.0 in
@@ -74,4 +76,5 @@ one_placed mid new stored planned group there writes volumes lists front so_far 
           (λ test. omega (arith, ap (count_by test) (listed_push lists changes one ∙ ap (λ (bs : List Block). first ++ bs) (sym (old_is ∙ ap lists number)))))
           (λ test. omega (arith, ap (count_by test) (joined_push before.3 blocks)))
           (λ test. omega arith),
+      adds_on planned before.0 later before.8 placed.7,
     )

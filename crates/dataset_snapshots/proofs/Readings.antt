@@ -1,5 +1,7 @@
 -- A root spells one pool, and leads to one list of blocks.
-use Rattle.std.proofs.Common.{◌≡◌, ℕ, ◌%◌, List, [], ◌∷◌, ◌++◌, Option, refl, sym, ap, subst, ◌∙◌}
+use Rattle.pool_maps.specs.Reached.{AreMapsFor}
+use Rattle.block_pointer.specs.Copies.{dvas}
+use Rattle.std.proofs.Common.{◌≡◌, ℕ, ◌%◌, List, [], ◌∷◌, ◌++◌, Option, refl, sym, ap, subst, ◌∙◌, All, length, ◌≢◌}
 use Rattle.std.specs.List.{AllZip}
 use Rattle.block_pointer.specs.declared.block.Block.{Block}
 use Rattle.block_store.specs.Blocks.{Contents}
@@ -19,7 +21,7 @@ use Rattle.volume.specs.Volume.{IsVolume}
 use Rattle.volume.specs.Walking.{blocks_of_volume}
 use Rattle.dataset_snapshots.specs.Laws.{RootsSpellOnePool}
 use Rattle.dataset_snapshots.specs.Pools.{SpellsDataset}
-use Rattle.dataset_snapshots.specs.Reach.{blocks_of_dataset, parts_of}
+use Rattle.dataset_snapshots.specs.Reach.{blocks_of_dataset, parts_of, reach_of}
 use Rattle.dataset_snapshots.proofs.KeptVolumes.{volume_blocks}
 
 -- ---- datasets
@@ -91,4 +93,15 @@ roots_spell_one_pool stored birth later root pool other one two =
     let datasets = datasets_alike stored root.birth one.objects two.objects one.rows two.rows pool.volumes other.volumes same.0 rows one.volumes two.volumes in
     let volumes = datasets.0 in
     let parts = datasets.1 in
-    (λ i. record { volumes = volumes i }, λ i. root ∷ blocks_of_set (set i) (own i) (blocks i) ++ joined (parts i), rows)
+    let reach : reach_of one ≡ reach_of two = λ i. root ∷ blocks_of_set (set i) (own i) (blocks i) ++ joined (parts i) in (
+      λ i. record { volumes = volumes i },
+      reach,
+      rows,
+      λ spaces has. record {
+        copied = record {
+          meta = subst (λ (them : List Block). All (λ block. length (dvas block.copies) ≡ 3) them) (λ i. root ∷ blocks_of_set (set i) (own i) (blocks i)) has.copied.meta;
+          others = subst (λ (them : List (List Block)). All (λ block. length (dvas block.copies) ≢ 3) (joined them)) parts has.copied.others;
+        };
+        maps = subst (λ objects. AreMapsFor objects spaces (reach_of two)) same.0 (subst (λ (them : List Block). AreMapsFor one.objects spaces them) reach has.maps);
+      },
+    )

@@ -1,5 +1,7 @@
 -- A root stands on the blocks that it leads to.
-use Rattle.std.proofs.Common.{◌≡◌, ℕ, zero, suc, ◌+◌, ◌<◌, ◌≤◌, List, [], ◌∷◌, ◌++◌, Option, Contains, inl, inr, refl, ap, ◌∙◌, arith}
+use Rattle.pool_maps.specs.Reached.{AreMapsFor}
+use Rattle.block_pointer.specs.Copies.{dvas}
+use Rattle.std.proofs.Common.{◌≡◌, ℕ, zero, suc, ◌+◌, ◌<◌, ◌≤◌, List, [], ◌∷◌, ◌++◌, Option, Contains, inl, inr, refl, ap, ◌∙◌, arith, All, length, ◌≢◌, subst, sym}
 use Rattle.std.specs.List.{AllZip, flat_map, range_with_len}
 use Rattle.std.proofs.lemmas.Bool.{cases_eq}
 use Rattle.std.proofs.lemmas.List.Elements.{Contains-append_left, Contains-append_right}
@@ -123,6 +125,13 @@ roots_stand old new bound birth root pool le is keeps =
       },
       ap (λ parts. root ∷ own ++ joined parts) stand.1,
       refl,
+      λ spaces has. record {
+        copied = record {
+          meta = has.copied.meta;
+          others = subst (λ (them : List (List Block)). All (λ block. length (dvas block.copies) ≢ 3) (joined them)) (sym stand.1) has.copied.others;
+        };
+        maps = subst (λ (them : List Block). AreMapsFor is.objects spaces them) (sym (ap (λ parts. root ∷ own ++ joined parts) stand.1)) has.maps;
+      },
     )
 
 pub reach_is_known : ReachIsKnown

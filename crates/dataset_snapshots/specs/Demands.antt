@@ -1,4 +1,8 @@
 -- What a group's root asks places for, and why it is not planned.
+use Rattle.meta_objset.specs.Found.{AreMapsFound}
+use Rattle.meta_objset.specs.declared.space_maps.MetaslabMap.{MetaslabMap}
+use Rattle.pool_maps.specs.Plans.{AreSparing, OthersStay}
+use Rattle.pool_maps.specs.Refused.{IsPlanRefused as AreMapsUnplanned}
 use Rattle.std.specs.Prelude.{ℕ, ◌≡◌, ◌≢◌, ◌⊎◌, ◌↔◌, ◌+◌, ◌*◌, ◌<◌, ◌-◌, List, [], ◌∷◌, ◌++◌, length, map, max, Any, All, Contains, Some, None}
 use Rattle.block_pointer.specs.declared.block.Block.{Block}
 use Rattle.block_store.specs.declared.refusal.Refusal.{Refusal}
@@ -294,11 +298,12 @@ pub record AreGroupChanges (opened : Opened) (made : List Action) (changes : Lis
   pub are : changes ≡ of_directory ++ of_written ++ of_made
 
 -- the volumes of a group were placed, those that are written to and then those that are made, and
--- the meta object set is to have these changes
+-- the meta object set is to have these changes; the next object has that number
 pub record HasVolumePlaces (old new : Store) (group : ℕ) (opened : Opened) (actions : List Action)
-    (changes : List ObjectChange) : Type 0 where
+    (changes : List ObjectChange) (next : ℕ) : Type 0 where
   pub made : List Action
   pub made_are : AreMade opened.directory [] actions made
+  pub next_is : next ≡ first_number opened.set + 2 * length made
   pub changes_are : AreGroupChanges opened made changes
   pub of_written : List Demand
   pub written_ask : AreAsked (HasVolumeDemands old.spaces group) opened.written.items of_written
@@ -322,8 +327,51 @@ AreVolumesRefused old new group opened actions refusal =
     ⊎ (IsVolumeUnplaced old new group opened.written.items refusal
     ⊎ AreActionsRefused old new group opened actions refusal)
 
--- what a group asks: its volumes, and then its changes of the meta object set
-pub record HasGroupDemands (spaces : List VdevSpace) (group : ℕ) (opened : Opened)
+-- ---- its space maps
+
+-- The changes of space maps came among these: the maps that there are were found under the set, whose
+-- blocks were born by then, and there is a change of none but those of metaslabs of which other
+-- sectors are unused with the plan, once these blocks are given back.
+pub record AreWithMaps (spaces : List VdevSpace) (set : ObjectSet) (birth : ℕ) (gone : List Block)
+    (next : ℕ) (changes all : List ObjectChange) : Type 0 where
+  pub maps : List MetaslabMap
+  pub found : AreMapsFound spaces set birth maps
+  pub others : OthersStay maps next changes all
+  pub sparing : AreSparing spaces gone maps next changes all
+
+-- the volumes of a group were placed, and then its space maps were planned
+pub record HasMappedPlaces (old new : Store) (born group : ℕ) (opened : Opened)
+    (actions : List Action) (all : List ObjectChange) : Type 0 where
+  pub mid : Store
+  pub steps : OnlyReadsAndPlans old mid []
+  pub changes : List ObjectChange
+  pub next : ℕ
+  pub volumes : HasVolumePlaces old mid group opened actions changes next
+  pub reads : OnlyReadsBlocks mid new []
+  pub gone : List Block
+  pub with_maps : AreWithMaps mid.spaces opened.set born gone next changes all
+
+-- all volumes were placed, and then the space maps were refused
+pub record AreGroupMapsRefused (old new : Store) (born group : ℕ) (opened : Opened)
+    (actions : List Action) (refusal : Refusal) : Type 0 where
+  pub mid : Store
+  pub before : OnlyReadsAndPlans old mid []
+  pub changes : List ObjectChange
+  pub next : ℕ
+  pub volumes : HasVolumePlaces old mid group opened actions changes next
+  pub gone : List Block
+  pub why : AreMapsUnplanned mid new opened.set born gone changes next refusal
+
+-- why a group's volumes and space maps were not planned
+abbrev pub AreMappedRefused :
+    Store → Store → ℕ → ℕ → Opened → List Action → Refusal → Type 0
+AreMappedRefused old new born group opened actions refusal =
+    AreVolumesRefused old new group opened actions refusal
+    ⊎ AreGroupMapsRefused old new born group opened actions refusal
+
+-- what a group asks, whose root before was born then: its volumes, and then its changes of the meta
+-- object set, with those of the space maps as its volumes leave the vdevs
+pub record HasGroupDemands (spaces : List VdevSpace) (born group : ℕ) (opened : Opened)
     (actions : List Action) (demands : List Demand) : Type 0 where
   pub made : List Action
   pub made_are : AreMade opened.directory [] actions made
@@ -333,8 +381,14 @@ pub record HasGroupDemands (spaces : List VdevSpace) (group : ℕ) (opened : Ope
   pub made_ask : AreAsked (HasActionDemands spaces group) made of_made
   pub changes : List ObjectChange
   pub changes_are : AreGroupChanges opened made changes
+  pub mid : List VdevSpace
+  pub places : HavePlaces spaces (of_written ++ of_made) mid
+  pub gone : List Block
+  pub all : List ObjectChange
+  pub with_maps : AreWithMaps mid opened.set born gone
+      (first_number opened.set + 2 * length made) changes all
   pub of_root : List Demand
-  pub root_asks : HasRootDemands spaces opened.set group changes of_root
+  pub root_asks : HasRootDemands spaces opened.set group all of_root
   pub is : demands ≡ of_written ++ of_made ++ of_root
 
 -- the root was read, and then places were taken for what the group asks, and for nothing else
@@ -343,26 +397,27 @@ pub record HasGroupPlaces (old new : Store) (root : Block) (rows : List Director
   pub opened : Opened
   pub found : IsGroupFound old.spaces (group - 1) root rows items.writes opened
   pub demands : List Demand
-  pub ask : HasGroupDemands old.spaces group opened items.actions demands
+  pub ask : HasGroupDemands old.spaces root.birth group opened items.actions demands
   pub places : HavePlaces old.spaces demands new.spaces
 
--- all volumes were placed, and then the changes of the meta object set, born by then, were refused
+-- all volumes were placed and the space maps planned, and then the changes of the meta object set,
+-- born by then, were refused
 pub record AreChangesRefused (old new : Store) (born group : ℕ) (opened : Opened)
     (actions : List Action) (refusal : Refusal) : Type 0 where
   pub mid : Store
   pub before : OnlyReadsAndPlans old mid []
-  pub changes : List ObjectChange
-  pub volumes : HasVolumePlaces old mid group opened actions changes
-  pub why : IsRootRefused mid new opened.set born group changes refusal
+  pub all : List ObjectChange
+  pub volumes : HasMappedPlaces old mid born group opened actions all
+  pub why : IsRootRefused mid new opened.set born group all refusal
 
--- the root was read, and then the group's volumes were refused, or its changes
+-- the root was read, and then the group's volumes or space maps were refused, or its changes
 pub record IsGroupUnplanned (old new : Store) (root : Block) (rows : List DirectoryRow) (group : ℕ)
     (items : Entry) (refusal : Refusal) : Type 0 where
   pub opened : Opened
   pub found : IsGroupFound old.spaces (group - 1) root rows items.writes opened
   pub mid : Store
   pub before : OnlyReadsBlocks old mid []
-  pub why : AreVolumesRefused mid new group opened items.actions refusal
+  pub why : AreMappedRefused mid new root.birth group opened items.actions refusal
       ⊎ AreChangesRefused mid new root.birth group opened items.actions refusal
 
 -- why the root after a group was not planned, by the rows of the directory before: the root before

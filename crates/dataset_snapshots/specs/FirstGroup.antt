@@ -1,21 +1,23 @@
 -- What the first root of a pool asks places for, and why it is not planned.
-use Rattle.std.specs.Prelude.{ℕ, ◌≡◌, ◌⊎◌, List, [], ◌∷◌, ◌++◌, length, None}
+use Rattle.std.specs.Prelude.{ℕ, ◌≡◌, ◌⊎◌, ◌+◌, ◌*◌, List, [], ◌∷◌, ◌++◌, length, None}
 use Rattle.block_pointer.specs.declared.pointer.BlockPtr.TheVariants.{Hole}
 use Rattle.block_store.specs.declared.refusal.Refusal.{Refusal}
 use Rattle.block_store.specs.declared.refusal.Refusal.TheVariants.{NoMemory}
 use Rattle.block_store.specs.Demands.{Demand, HavePlaces}
-use Rattle.block_store.specs.Steps.{OnlyReadsAndPlans}
+use Rattle.block_store.specs.Spaces.{VdevSpace}
+use Rattle.block_store.specs.Steps.{OnlyReadsAndPlans, OnlyReadsBlocks}
 use Rattle.block_store.specs.Store.{Store}
 use Rattle.dnode.specs.declared.object_set.ObjectSet.{ObjectSet}
 use Rattle.dnode.specs.declared.object_set.ObjectSetKind.TheVariants as sets
 use Rattle.meta_objset.specs.declared.directory.DirectoryRow.{DirectoryRow}
 use Rattle.meta_objset.specs.Reading.{HasConfig, HasDirectory}
-use Rattle.meta_objset.specs.SpaceMaps.{maps_kind}
 use Rattle.meta_objset.specs.StaleSpans.{spans_kind}
 use Rattle.object_table.specs.Tables.{HasTable}
 use Rattle.objset.specs.declared.changes.Change.{Change}
 use Rattle.objset.specs.declared.changes.ObjectChange.{ObjectChange}
 use Rattle.objset.specs.Changes.{after_change}
+use Rattle.pool_maps.specs.Plans.{AreSparing, OthersStay}
+use Rattle.pool_maps.specs.Refused.{AreFirstRefused}
 use Rattle.pool_model.specs.declared.item.Action.{Action}
 use Rattle.pool_model.specs.Pools.{Entry}
 use Rattle.vdev_label.specs.Plain.{PlainVdev}
@@ -30,21 +32,19 @@ empty_meta = record {
   objects = 1;
 }
 
--- the changes of the objects 1 to 4 that make a directory of these rows, the configuration, and tables of stale spans and of
--- space maps with no rows
+-- the changes of the objects 1 to 3 that make a directory of these rows, the configuration, and a table of stale spans with no
+-- rows
 pub record AreTableChanges (vdevs : List PlainVdev) (rows : List DirectoryRow) (changes : List ObjectChange)
     : Type 0 where
   pub directory : Change
   pub config : Change
   pub spans : Change
-  pub maps : Change
   pub are : changes
       ≡ record { number = 1; change = directory } ∷ record { number = 2; change = config }
-      ∷ record { number = 3; change = spans } ∷ record { number = 4; change = maps } ∷ []
+      ∷ record { number = 3; change = spans } ∷ []
   pub has_directory : HasDirectory (after_change directory None) rows
   pub has_config : HasConfig (after_change config None) vdevs
   pub has_spans : HasTable spans_kind (after_change spans None) []
-  pub has_maps : HasTable maps_kind (after_change maps None) []
 
 -- the changes that make the objects of a pool of these volumes: the tables, of which the directory names each, and behind them
 -- two for each volume
@@ -58,11 +58,12 @@ pub record AreFirstGroupChanges (vdevs : List PlainVdev) (made : List Action) (c
   pub made_are : AreNewObjects 5 made of_made
   pub are : changes ≡ tables ++ of_made
 
--- the volumes of the actions were made where there were none: each has a row, and its two objects
+-- the volumes of the actions were made where there were none: each has a row, and its two objects, with the numbers behind the tables
 pub record AreFirstVolumes (old new : Store) (group : ℕ) (actions : List Action) (making : Making) : Type 0 where
   pub made : List Action
   pub are : AreMade [] [] actions made
   pub count : length making.directory ≡ length made
+  pub next : making.next ≡ 5 + 2 * length made
   pub of_made : AreNewObjects 5 made making.changes.items
   pub places : HavePlacesFor old new (HasActionDemands old.spaces group) made
 
@@ -71,6 +72,11 @@ abbrev pub IsWithTables : List PlainVdev → Making → List ObjectChange → Ty
 IsWithTables vdevs making changes =
     (tables : List ObjectChange) × AreTableChanges vdevs making.directory tables
     × (changes ≡ tables ++ making.changes.items)
+
+-- the changes that make the space maps came among these, of no metaslab but those of which something is in use with the plan
+pub record AreWithFirstMaps (spaces : List VdevSpace) (next : ℕ) (changes all : List ObjectChange) : Type 0 where
+  pub others : OthersStay [] next changes all
+  pub sparing : AreSparing spaces [] [] next changes all
 
 -- places were taken for the volumes that are made and then for the meta object set, and for nothing else
 pub record HasFirstPlaces (old new : Store) (group : ℕ) (vdevs : List PlainVdev) (items : Entry)
@@ -81,25 +87,50 @@ pub record HasFirstPlaces (old new : Store) (group : ℕ) (vdevs : List PlainVde
   pub made_ask : AreAsked (HasActionDemands old.spaces group) made of_made
   pub changes : List ObjectChange
   pub changes_are : AreFirstGroupChanges vdevs made changes
+  pub mid : List VdevSpace
+  pub volumes : HavePlaces old.spaces of_made mid
+  pub all : List ObjectChange
+  pub with_maps : AreWithFirstMaps mid (5 + 2 * length made) changes all
   pub of_root : List Demand
-  pub root_asks : HasRootDemands old.spaces empty_meta group changes of_root
+  pub root_asks : HasRootDemands old.spaces empty_meta group all of_root
   pub places : HavePlaces old.spaces (of_made ++ of_root) new.spaces
 
--- the volumes were placed, and then the meta object set was refused
-pub record IsFirstSetRefused (old new : Store) (group : ℕ) (vdevs : List PlainVdev) (actions : List Action)
-    (refusal : Refusal) : Type 0 where
+-- the volumes were placed, and these are the changes of the meta object set but for the space maps'
+pub record AreFirstPlaced (old mid : Store) (group : ℕ) (vdevs : List PlainVdev) (actions : List Action)
+    (changes : List ObjectChange) (next : ℕ) : Type 0 where
   pub made : List Action
   pub made_are : AreMade [] [] actions made
-  pub mid : Store
   pub before : OnlyReadsAndPlans old mid []
   pub places : HavePlacesFor old mid (HasActionDemands old.spaces group) made
-  pub changes : List ObjectChange
   pub changes_are : AreFirstGroupChanges vdevs made changes
-  pub why : IsRootRefused mid new empty_meta group group changes refusal
+  pub next_is : next ≡ 5 + 2 * length made
 
--- why the first root was not planned: there was no memory, or one of its volumes was refused, or its object set
+-- and then the space maps were refused
+pub record AreFirstMapsRefused (old new : Store) (group : ℕ) (vdevs : List PlainVdev) (actions : List Action)
+    (refusal : Refusal) : Type 0 where
+  pub mid : Store
+  pub changes : List ObjectChange
+  pub next : ℕ
+  pub volumes : AreFirstPlaced old mid group vdevs actions changes next
+  pub why : AreFirstRefused mid new changes next refusal
+
+-- or they were planned, and then the meta object set was refused
+pub record IsFirstSetRefused (old new : Store) (group : ℕ) (vdevs : List PlainVdev) (actions : List Action)
+    (refusal : Refusal) : Type 0 where
+  pub mid : Store
+  pub changes : List ObjectChange
+  pub next : ℕ
+  pub volumes : AreFirstPlaced old mid group vdevs actions changes next
+  pub planned : Store
+  pub reads : OnlyReadsBlocks mid planned []
+  pub all : List ObjectChange
+  pub with_maps : AreWithFirstMaps mid.spaces next changes all
+  pub why : IsRootRefused planned new empty_meta group group all refusal
+
+-- why the first root was not planned: there was no memory, or one of its volumes was refused, or its space maps, or its object set
 abbrev pub IsFirstRefused : Store → Store → ℕ → List PlainVdev → Entry → Refusal → Type 0
 IsFirstRefused old new group vdevs items refusal =
     (refusal ≡ NoMemory)
     ⊎ (IsActionRefused old new group [] 5 items.actions refusal
-    ⊎ IsFirstSetRefused old new group vdevs items.actions refusal)
+    ⊎ (AreFirstMapsRefused old new group vdevs items.actions refusal
+    ⊎ IsFirstSetRefused old new group vdevs items.actions refusal))

@@ -16,6 +16,7 @@ use Rattle.objset.specs.Objects.{Object, AreObjects}
 use Rattle.pool_model.specs.declared.item.Write.{Write}
 use Rattle.pool_model.specs.Pools.{PlainPool}
 use Rattle.dataset_snapshots.specs.declared.groups.Opened.{Opened}
+use Rattle.dataset_snapshots.specs.Making.{numbers_end}
 use Rattle.dataset_snapshots.specs.Pools.{AreApart, SpellsPool}
 use Rattle.dataset_snapshots.specs.Reach.{HasBlocksOf}
 use Rattle.dataset_snapshots.specs.Writing.{FitsWritten, IsReadFrom, IsWritten}
@@ -38,6 +39,12 @@ pub record IsOpenedFrom (stored : Contents) (birth : ℕ) (root : Block) (pool :
   pub directory : opened.directory ≡ is.rows
   pub read : All (IsReadFrom stored root.birth is.objects writes is.rows) opened.written.items
 
+-- the changes are of objects below the next number, which is behind the tables
+pub record IsNextOf (changes : List ObjectChange) (next : ℕ) : Type 0 where
+  pub below : All (λ change. change.number < next) changes
+  pub behind : 4 < next
+  pub within : next ≤ numbers_end
+
 -- The block spells a set of this kind, with these objects.
 pub record IsSetOf (stored : Contents) (birth : ℕ) (root : Block) (kind : ObjectSetKind) (objects : ℕ → Option Object) : Type 0 where
   pub set : ObjectSet
@@ -48,12 +55,12 @@ pub record IsSetOf (stored : Contents) (birth : ℕ) (root : Block) (kind : Obje
   pub are : AreObjects stored root.birth set objects own blocks
 
 -- Of these objects the changes make those of the pool: the directory, which names its volumes in the order of their names, no more
--- and no fewer, each with the blocks listed for its object. The other tables are as they were.
+-- and no fewer, each with the blocks listed for its object. The configuration and the stale spans are as they were.
 pub record SpellsAfter (stored : Contents) (birth : ℕ) (objects : ℕ → Option Object) (lists : ℕ → List Block)
     (changes : List ObjectChange) (pool : PlainPool) : Type 0 where
   pub rows : List DirectoryRow
   pub directory : HasDirectory (changed changes objects 1) rows
   pub apart : AreApart rows
   pub may : All (λ change. MayChange change.change (objects change.number)) changes
-  pub tables : (number : ℕ) → 1 < number → number ≤ 4 → changed changes objects number ≡ objects number
+  pub tables : (number : ℕ) → 1 < number → number ≤ 3 → changed changes objects number ≡ objects number
   pub volumes : AllZip (HasBlocksOf stored birth (λ number. changed changes objects number) lists) rows pool.volumes

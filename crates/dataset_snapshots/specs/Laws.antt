@@ -21,6 +21,8 @@ use Rattle.dataset_snapshots.specs.Finding.{IsDirectoryRefused, IsMetaRefused, I
 use Rattle.dataset_snapshots.specs.FirstGroup.{IsFirstRefused}
 use Rattle.dataset_snapshots.specs.Making.{AreGoodCreations}
 use Rattle.dataset_snapshots.specs.Leaving.{IsReachExchanged}
+use Rattle.dataset_snapshots.specs.Mapped.{HasItsMaps}
+use Rattle.block_store.specs.Spaces.{VdevSpace}
 use Rattle.dataset_snapshots.specs.Pools.{SpellsPool}
 use Rattle.dataset_snapshots.specs.Ranges.{IsRangeRefused, IsRangeRefusedIn}
 use Rattle.dataset_snapshots.specs.Reach.{reach_of, IsReachRefused}
@@ -37,17 +39,22 @@ KeepsEach old new blocks =
     (block : Block) (bytes : List ℕ) → Contains blocks block → old block ≡ Some bytes
     → new block ≡ Some bytes
 
--- A root spells its pool still, by the same rows, and leads to the same blocks, where the blocks that
--- it leads to stay known, whatever becomes of others, and also for a later group.
+-- what maps the one has on vdevs, the other has
+abbrev pub KeepsItsMaps : {old new : Contents} {bound birth : ℕ} {root : Block} {pool other : PlainPool}
+    → SpellsPool old bound root pool → SpellsPool new birth root other → Type 0
+KeepsItsMaps is still = (spaces : List VdevSpace) → HasItsMaps spaces is → HasItsMaps spaces still
+
+-- A root spells its pool still, by the same rows, leads to the same blocks and has the same maps,
+-- where the blocks that it leads to stay known, whatever becomes of others, and also for a later group.
 abbrev pub RootsStandOnTheirReach : Type 0
 RootsStandOnTheirReach =
     (old new : Contents) (bound birth : ℕ) (root : Block) (pool : PlainPool) → bound ≤ birth
     → (is : SpellsPool old bound root pool) → KeepsEach old new (reach_of is)
     → (still : SpellsPool new birth root pool) × (reach_of still ≡ reach_of is)
-    × (still.rows ≡ is.rows)
+    × (still.rows ≡ is.rows) × KeepsItsMaps is still
 
--- Each block that a root leads to is known; and where more is known it leads to the same blocks, and
--- spells its pool by the same rows.
+-- Each block that a root leads to is known; and where more is known it leads to the same blocks,
+-- spells its pool by the same rows, and has the same maps.
 pub record ReachIsKnown : Type 0 where
   pub known : (stored : Contents) (birth : ℕ) (root : Block) (pool : PlainPool)
       (is : SpellsPool stored birth root pool) (block : Block) → Contains (reach_of is) block
@@ -55,15 +62,15 @@ pub record ReachIsKnown : Type 0 where
   pub stays : (old new : Contents) (bound birth : ℕ) (root : Block) (pool : PlainPool)
       → bound ≤ birth → Extends old new → (is : SpellsPool old bound root pool)
       → (still : SpellsPool new birth root pool) × (reach_of still ≡ reach_of is)
-      × (still.rows ≡ is.rows)
+      × (still.rows ≡ is.rows) × KeepsItsMaps is still
 
--- A root spells one pool, by one list of rows, and leads to one list of blocks, whatever births are
--- asked.
+-- A root spells one pool, by one list of rows, leads to one list of blocks and has one table of maps,
+-- whatever births are asked.
 abbrev pub RootsSpellOnePool : Type 0
 RootsSpellOnePool =
     (stored : Contents) (birth later : ℕ) (root : Block) (pool other : PlainPool)
     → (one : SpellsPool stored birth root pool) → (two : SpellsPool stored later root other)
-    → (pool ≡ other) × (reach_of one ≡ reach_of two) × (one.rows ≡ two.rows)
+    → (pool ≡ other) × (reach_of one ≡ reach_of two) × (one.rows ≡ two.rows) × KeepsItsMaps one two
 
 -- A block is lost where a name is not found for a fault of disks.
 abbrev pub LossesOfDatasets : Type 0

@@ -1,5 +1,6 @@
 -- Blocks that leave a reach, and blocks that join it.
-use Rattle.std.specs.Prelude.{ℕ, ◌≡◌, ◌⊎◌, List, Some, None, Contains}
+use Rattle.std.specs.Prelude.{ℕ, ◌≡◌, ◌≢◌, ◌⊎◌, List, Some, None, Contains, length}
+use Rattle.block_pointer.specs.Copies.{dvas}
 use Rattle.block_pointer.specs.declared.block.Block.{Block}
 use Rattle.block_store.specs.Blocks.{Contents}
 use Rattle.dnode_tree.specs.Rewriting.{AreDistinct, AreTogether}
@@ -20,3 +21,13 @@ pub record IsReachExchanged (birth : ℕ) (planned later : Contents) (before aft
       → (bytes : List ℕ) × (later block ≡ Some bytes)
   pub only : (block : Block) (bytes : List ℕ) → later block ≡ Some bytes
       → Contains added block ⊎ (planned block ≡ Some bytes)
+
+-- each block that is known now and was not has three copies
+abbrev pub AddsMeta : Contents → Contents → Type 0
+AddsMeta planned later = (block : Block) (bytes : List ℕ) → later block ≡ Some bytes
+    → planned block ≡ None → length (dvas block.copies) ≡ 3
+
+-- or none of them has
+abbrev pub AddsData : Contents → Contents → Type 0
+AddsData planned later = (block : Block) (bytes : List ℕ) → later block ≡ Some bytes
+    → planned block ≡ None → length (dvas block.copies) ≢ 3

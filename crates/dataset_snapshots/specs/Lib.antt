@@ -7,6 +7,7 @@ pub mod Groups
 pub mod Laws
 pub mod Leaving
 pub mod Making
+pub mod Mapped
 pub mod NewVolumes
 pub mod Opening
 pub mod Pools

@@ -4,19 +4,23 @@ ghost use Rattle.block_pointer.specs.declared.block.Block.{Block};
 ghost use Rattle.block_pointer.specs.Block.{FitsBlock};
 ghost use Rattle.block_pointer.specs.Copies.{dvas};
 ghost use Rattle.block_store.specs.Blocks.{Contents, Extends};
+ghost use Rattle.block_store.specs.Places.{filled};
 ghost use Rattle.block_store.specs.Plans.{Plans};
 ghost use Rattle.block_store.specs.Steps.{OnlyReadsAndPlans, AnswersAreTrue};
 ghost use Rattle.dnode_slots.specs.Sets.{asked_of_set};
 ghost use Rattle.dnode_tree.specs.Writes.{IsForRoom};
 ghost use Rattle.objset.specs.Changes.{IsGoodChange};
 ghost use Rattle.pool_model.specs.Pools.{applied, changed, no_volumes};
+ghost use Rattle.pool_maps.specs.Reached.{UseNothing};
 ghost use Rattle.vdev_label.specs.Config.{FitsConfig, config_bytes};
 ghost use Rattle.vdev_label.specs.Plain.{config_view};
 ghost use Rattle.dataset_snapshots.specs.Creating.{HasFirstTables};
 ghost use Rattle.dataset_snapshots.specs.Demands.{IsActionRefused};
 ghost use Rattle.dataset_snapshots.specs.FirstGroup.{AreFirstVolumes, AreTableChanges, HasFirstPlaces, IsFirstRefused, IsWithTables};
-ghost use Rattle.dataset_snapshots.specs.Leaving.{IsReachExchanged};
+ghost use Rattle.dataset_snapshots.specs.Groups.{IsNextOf};
+ghost use Rattle.dataset_snapshots.specs.Leaving.{AddsData, IsReachExchanged};
 ghost use Rattle.dataset_snapshots.specs.Making.{AreGoodCreations, IsReady, SpellsMaking};
+ghost use Rattle.dataset_snapshots.specs.Mapped.{HasMapsBehind};
 ghost use Rattle.dataset_snapshots.specs.Pools.{SpellsPool};
 ghost use Rattle.dataset_snapshots.specs.Reach.{blocks_listed, reach_of};
 
@@ -25,9 +29,10 @@ use crate::making::{Made, Making};
 use block_pointer::{Block, BlockPtr};
 use block_store::{BlockStore, Refusal};
 use dnode::{ObjectNode, ObjectSet, ObjectSetKind};
-use meta_objset::{Directory, SPACE_MAPS_KIND, STALE_SPANS_KIND, config_creation};
+use meta_objset::{Directory, STALE_SPANS_KIND, config_creation};
 use model_disk::Disk;
 use objset::{Change, ObjectChange};
+use pool_maps::first_maps;
 use pool_model::Action;
 use std::alloc::{AllocError, Global};
 use txg_pipeline::Pending;
@@ -54,8 +59,8 @@ pub struct FirstRoot {
 }
 
 /// Plans the first root of a pool, which had no volumes so far, after the items of the transaction group `group`: the volumes that it
-/// makes, and then the tables of the meta object set: the directory, the configuration, and tables of stale spans and of space
-/// maps with no rows. Writes do nothing where there are no volumes. `BadConfig` where a volume can't have its name or its sizes;
+/// makes, and then the tables of the meta object set: the directory, the configuration, a table of stale spans with no rows, and
+/// the space maps. Writes do nothing where there are no volumes. `BadConfig` where a volume can't have its name or its sizes;
 /// `NoSpace` also where no numbers are left for objects.
 ///
 /// After an error blocks may be planned that no root has: begin another plan.
@@ -76,20 +81,23 @@ pub fn first_group<D: Disk + Drop>(
         first.root.property ≡ (asked_of_set group).property) }
     ensures copies { IfOk result (λ first. length (dvas first.root.copies) ≡ 3) }
 
-    // It spells the pool after the group, once the plan is stored, and has the tables of a new pool. What is planned is what it
-    // leads to, and nothing else. The directory is the one that it spells the pool by.
+    // Where nothing was in use, it spells the pool after the group, once the plan is stored, and has the tables of a new pool. What is
+    // planned is what it leads to, and nothing else, and the space maps are those of the plan. The directory is the one that it
+    // spells the pool by.
     ensures value { IfOk result (λ first. (stored planned : Contents)
-        → Plans store.old stored planned → AnswersAreTrue store.old store.new
+        → Plans store.old stored planned → UseNothing store.old.spaces filled
+        → AnswersAreTrue store.old store.new
         → (later : Contents) × Plans store.new stored later × Extends planned later
         × (is : SpellsPool later group first.root (applied group no_volumes items.now))
         × HasFirstTables is.objects (config_view config.now)
         × IsReachExchanged group planned later [] (reach_of is) []
-        × (first.directory ≡ is.rows)) }
+        × (first.directory ≡ is.rows)
+        × HasMapsBehind store.new.spaces [] is) }
 
     // Over disks that answer truly, and where all may be made, only room is wanting.
     ensures known { IfErr result (λ refusal. (stored planned : Contents)
-        → Plans store.old stored planned → AnswersAreTrue store.old store.new
-        → AreGoodCreations items.now.actions
+        → Plans store.old stored planned → UseNothing store.old.spaces filled
+        → AnswersAreTrue store.old store.new → AreGoodCreations items.now.actions
         → IsForRoom refusal ⊎ (refusal ≡ Refusal.DiskFault)) }
 
     // What places are taken for, and on a refusal its cause.
@@ -99,21 +107,15 @@ pub fn first_group<D: Disk + Drop>(
         (IsFirstRefused store.old store.new group (config_view config.now) items.now) }
 {
     let making = first_volumes(store, alloc, group, items.actions())?;
-    let made = with_tables(making, alloc, config)?;
+    let Made {
+        directory,
+        changes,
+        next,
+    } = with_tables(making, alloc, config)?;
+    let changes = first_maps(store, alloc, changes, next)?;
     let mut replaced = Vec::new(alloc);
-    let root = plan_root(
-        &EMPTY,
-        store,
-        alloc,
-        &made.changes,
-        group,
-        group,
-        &mut replaced,
-    )?;
-    Ok(FirstRoot {
-        root,
-        directory: made.directory,
-    })
+    let root = plan_root(&EMPTY, store, alloc, &changes, group, group, &mut replaced)?;
+    Ok(FirstRoot { root, directory })
 }
 
 /// Makes the volumes of these actions where there are none, in order, and plans their sets.
@@ -131,7 +133,8 @@ fn first_volumes<D: Disk + Drop>(
         → (later : Contents) × Plans store.new stored later × Extends planned later
         × (lists : ℕ → List Block) × SpellsMaking later group (λ number. None) lists making
         (fold (λ p a. changed group p a.change) no_volumes actions.now)
-        × IsReachExchanged group planned later [] (blocks_listed lists making.directory) []) }
+        × IsReachExchanged group planned later [] (blocks_listed lists making.directory) []
+        × AddsData planned later) }
     ensures known { IfErr result (λ refusal. (stored planned : Contents)
         → Plans store.old stored planned → AnswersAreTrue store.old store.new
         → AreGoodCreations actions.now
@@ -149,8 +152,8 @@ fn first_volumes<D: Disk + Drop>(
     Ok(making)
 }
 
-/// What was made, with the changes that make the tables in front of those of the volumes' objects; the directory has a row for each
-/// volume. `NoMemory` is the only error, also where the directory would have 2^40 names.
+/// What was made, with the changes that make the tables but for the space maps' in front of those of the volumes' objects; the directory
+/// has a row for each volume. `NoMemory` is the only error, also where the directory would have 2^40 names.
 fn with_tables(making: Making, alloc: Global, config: &Config) -> Result<Made, Refusal>
     requires fits { FitsConfig (config_view config.now) }
     requires few { length (config_bytes (config_view config.now)) < 2 ^ 46 }
@@ -161,6 +164,8 @@ fn with_tables(making: Making, alloc: Global, config: &Config) -> Result<Made, R
         AllPairs (λ change later. change.number < later.number) made.changes.items) }
     ensures good { IfOk result (λ made. All (λ change. IsGoodChange change.change)
         made.changes.items) }
+    ensures next { IfOk result (λ made. IsNextOf made.changes.items made.next) }
+    ensures next_is { IfOk result (λ made. made.next ≡ making.next) }
     ensures tables { IfOk result (λ made.
         IsWithTables (config_view config.now) making made.changes.items) }
     ensures directory { IfOk result (λ made. made.directory ≡ making.directory) }
@@ -169,19 +174,23 @@ fn with_tables(making: Making, alloc: Global, config: &Config) -> Result<Made, R
     let Making {
         directory,
         changes,
-        ..
+        next,
     } = making;
     let Ok(tables) = table_changes(&directory, alloc, config) else {
         return Err(Refusal::NoMemory);
     };
     let changes = put_behind(alloc, tables, changes)?;
-    Ok(Made { directory, changes })
+    Ok(Made {
+        directory,
+        changes,
+        next,
+    })
 }
 
 /// The first changes and then the others.
 fn put_behind(
     alloc: Global,
-    first: [ObjectChange; 4],
+    first: [ObjectChange; 3],
     mut others: Vec<ObjectChange>,
 ) -> Result<Vec<ObjectChange>, AllocError>
     ensures { IfOk result (λ all. all.items ≡ first ++ others.items) }
@@ -191,12 +200,12 @@ fn put_behind(
     Ok(all)
 }
 
-/// The changes that make the tables of a pool with this directory. `NoMemory` is the only error, also where it has 2^40 names.
+/// The changes that make the tables of a pool with this directory, but for that of the space maps. `NoMemory` is the only error, also where it has 2^40 names.
 fn table_changes(
     directory: &Directory,
     alloc: Global,
     config: &Config,
-) -> Result<[ObjectChange; 4], object_table::Refusal>
+) -> Result<[ObjectChange; 3], object_table::Refusal>
     requires fits { FitsConfig (config_view config.now) }
     requires few { length (config_bytes (config_view config.now)) < 2 ^ 46 }
     ensures are { IfOk result (AreTableChanges (config_view config.now) directory.now) }
@@ -208,12 +217,10 @@ fn table_changes(
     let directory = directory.creation(alloc)?;
     let config = config_creation(alloc, config)?;
     let spans = object_table::creation(alloc, STALE_SPANS_KIND, &[])?;
-    let maps = object_table::creation(alloc, SPACE_MAPS_KIND, &[])?;
     Ok([
         change_of(1, directory),
         change_of(2, config),
         change_of(3, spans),
-        change_of(4, maps),
     ])
 }
 

@@ -5,6 +5,7 @@ ghost use Rattle.block_pointer.specs.Copies.{dvas};
 ghost use Rattle.block_pointer.specs.declared.block.Block.{Block};
 ghost use Rattle.block_store.specs.Blocks.{Contents, Extends};
 ghost use Rattle.block_store.specs.Losses.{IsForLoss};
+ghost use Rattle.block_store.specs.Places.{filled};
 ghost use Rattle.block_store.specs.Plans.{Plans};
 ghost use Rattle.block_store.specs.Steps.{OnlyReadsAndPlans, OnlyReadsBlocks, AnswersAreTrue, HasNoRoomFor};
 ghost use Rattle.block_store.specs.Store.{Holds};
@@ -19,15 +20,18 @@ ghost use Rattle.object_table.specs.Tables.{IsOfKind};
 ghost use Rattle.objset.specs.Changes.{HasNoRoom, IsGoodChange, MayChange, after_change, changed};
 ghost use Rattle.objset.specs.Objects.{Object, AreObjects};
 ghost use Rattle.objset.specs.Within.{blocks_of_set};
+ghost use Rattle.pool_maps.specs.Maps.{AreMapsOf};
+ghost use Rattle.pool_maps.specs.Plans.{AreOrdered, MapAnew};
 ghost use Rattle.pool_model.specs.declared.item.Write.{Write};
 ghost use Rattle.pool_model.specs.Pools.{PlainPool, applied, written};
 ghost use Rattle.pool_model.specs.Pools.{changed as pool_changed};
 ghost use Rattle.vdev_label.specs.Plain.{PlainVdev};
 ghost use Rattle.dataset_snapshots.specs.Creating.{HasFirstTables};
-ghost use Rattle.dataset_snapshots.specs.Demands.{AreVolumesRefused, HasGroupPlaces, HasRootPlaces, HasVolumePlaces, IsGroupRefused, IsRootRefused, IsWithDirectory};
-ghost use Rattle.dataset_snapshots.specs.Groups.{IsOpened, IsOpenedFrom, IsSetOf, SpellsAfter};
-ghost use Rattle.dataset_snapshots.specs.Leaving.{IsReachExchanged};
+ghost use Rattle.dataset_snapshots.specs.Demands.{AreMappedRefused, AreVolumesRefused, HasGroupPlaces, HasMappedPlaces, HasRootPlaces, HasVolumePlaces, IsGroupRefused, IsRootRefused, IsWithDirectory};
+ghost use Rattle.dataset_snapshots.specs.Groups.{IsNextOf, IsOpened, IsOpenedFrom, IsSetOf, SpellsAfter};
+ghost use Rattle.dataset_snapshots.specs.Leaving.{AddsData, AddsMeta, IsReachExchanged};
 ghost use Rattle.dataset_snapshots.specs.Making.{AreGoodCreations, IsReady, SpellsMaking};
+ghost use Rattle.dataset_snapshots.specs.Mapped.{HasMapsBehind, HasMapsBy, StandsOnce};
 ghost use Rattle.dataset_snapshots.specs.Opening.{IsGroupFound, IsGroupUnread};
 ghost use Rattle.dataset_snapshots.specs.Pools.{SpellsPool};
 ghost use Rattle.dataset_snapshots.specs.Reach.{blocks_listed, parts_of, reach_of};
@@ -42,6 +46,7 @@ use dnode::ObjectSet;
 use meta_objset::Directory;
 use model_disk::Disk;
 use objset::{ObjectChange, plan_set};
+use pool_maps::plan_maps;
 use pool_model::Action;
 use std::alloc::{AllocError, Global};
 use txg_pipeline::Pending;
@@ -97,24 +102,28 @@ pub fn after_group<D: Disk + Drop>(
         after.root.property ≡ (asked_of_set group).property) }
     ensures copies { IfOk result (λ after. length (dvas after.root.copies) ≡ 3) }
 
-    // Where the directory is the root's, it spells the pool after the group, once the plan is stored, and has the other tables
-    // that there were. The blocks that gave way are those that the root before leads to and this one doesn't; what is planned
-    // is what it leads to besides. The directory then is the one that it spells the pool by.
+    // Where the directory is the root's, and the space maps are those of what is stored, it spells the pool after the group, once
+    // the plan is stored, and has the other tables that there were. The blocks that gave way are those that the root before leads
+    // to and this one doesn't; what is planned is what it leads to besides. Once they are given back the space maps are those of
+    // the plan. The directory then is the one that it spells the pool by.
     ensures value { IfOk result (λ after. (stored planned : Contents) (pool : PlainPool)
         → Plans store.old stored planned → (is : SpellsPool stored (group - 1) root.now pool)
-        → directory.now ≡ is.rows → AnswersAreTrue store.old store.new
+        → directory.now ≡ is.rows → HasMapsBy store.old.spaces filled is
+        → AnswersAreTrue store.old store.new
         → (later : Contents) × Plans store.new stored later × Extends planned later
         × (then : SpellsPool later group after.root (applied group pool items.now))
         × ((vdevs : List PlainVdev) → HasFirstTables is.objects vdevs
         → HasFirstTables then.objects vdevs)
         × IsReachExchanged group planned later (reach_of is) (reach_of then)
         after.replaced.items
-        × (after.directory ≡ then.rows)) }
+        × (after.directory ≡ then.rows)
+        × HasMapsBehind store.new.spaces after.replaced.items then) }
 
     // Over disks that answer truly, and where all may be made, only room is wanting, or disks.
     ensures known { IfErr result (λ refusal. (stored planned : Contents) (pool : PlainPool)
         → Plans store.old stored planned → (is : SpellsPool stored (group - 1) root.now pool)
-        → directory.now ≡ is.rows → AnswersAreTrue store.old store.new
+        → directory.now ≡ is.rows → HasMapsBy store.old.spaces filled is
+        → StandsOnce store.old.spaces is → AnswersAreTrue store.old store.new
         → AreGoodCreations items.now.actions
         → IsForRoom refusal ⊎ (refusal ≡ Refusal.DiskFault)) }
 
@@ -126,17 +135,21 @@ pub fn after_group<D: Disk + Drop>(
 {
     let opened = open_group(root, store, alloc, group - 1, directory, items)?;
     let set = opened.set;
-    let mut replaced = only(root, alloc)?;
-    let made = changes_of(opened, store, alloc, group, items.actions(), &mut replaced)?;
-    let next = plan_root(
-        &set,
+    let born = root.birth;
+    let mut gone = Vec::new(alloc);
+    let made = mapped_changes(
+        opened,
         store,
         alloc,
-        &made.changes,
-        root.birth,
+        born,
         group,
-        &mut replaced,
+        items.actions(),
+        &mut gone,
     )?;
+    let mut replaced = only(root, alloc)?;
+    replaced.extend_from_slice(&gone)?;
+    let changes = &made.changes;
+    let next = plan_root(&set, store, alloc, changes, born, group, &mut replaced)?;
     Ok(NextRoot {
         root: next,
         replaced,
@@ -190,6 +203,66 @@ fn open_group<D: Disk + Drop>(
     })
 }
 
+/// Plans the volumes after the group and the space maps: the directory then, and the changes of the meta object set, whose root was
+/// born in the group `born`. The volumes' blocks that gave way to others are in `gone` then, which was empty.
+fn mapped_changes<D: Disk + Drop>(
+    opened: Opened,
+    store: &mut BlockStore<D>,
+    alloc: Global,
+    born: u64,
+    group: u64,
+    actions: &[Action],
+    gone: &mut Vec<Block>,
+) -> Result<Made, Refusal>
+    requires born { 0 < group }
+    requires opened { (writes : List Write) × IsOpened writes opened }
+    requires none { gone.old.items ≡ [] }
+    ensures steps { OnlyReadsAndPlans store.old store.new [] }
+    ensures ordered { IfOk result (λ made. AreOrdered made.changes.items) }
+    ensures value { IfOk result (λ made. (stored planned : Contents) (birth : ℕ)
+        (root : Block) (pool : PlainPool) (writes : List Write)
+        → Plans store.old stored planned → (is : SpellsPool stored birth root pool)
+        → root.birth ≡ born → born ≤ group → IsOpened writes opened
+        → IsOpenedFrom stored birth root pool is writes opened
+        → AreMapsOf is.objects store.old.spaces filled → AnswersAreTrue store.old store.new
+        → (later : Contents) × Plans store.new stored later × Extends planned later
+        × (lists : ℕ → List Block)
+        × (then : SpellsAfter later group is.objects lists made.changes.items
+        (fold (λ p a. pool_changed group p a.change) (fold written pool writes) actions.now))
+        × IsReachExchanged group planned later
+        (joined (parts_of stored root.birth is.objects is.rows pool.volumes is.volumes))
+        (blocks_listed lists then.rows) gone.new.items
+        × (then.rows ≡ made.directory) × AddsData planned later
+        × MapAnew is.objects store.new.spaces gone.new.items made.changes.items) }
+    ensures known { IfErr result (λ refusal. (stored planned : Contents) (birth : ℕ)
+        (root : Block) (pool : PlainPool) (writes : List Write)
+        → Plans store.old stored planned → (is : SpellsPool stored birth root pool)
+        → root.birth ≡ born → born ≤ group → IsOpened writes opened
+        → IsOpenedFrom stored birth root pool is writes opened
+        → AreMapsOf is.objects store.old.spaces filled → StandsOnce store.old.spaces is
+        → AnswersAreTrue store.old store.new → AreGoodCreations actions.now
+        → IsForRoom refusal ⊎ (refusal ≡ Refusal.DiskFault)) }
+    ensures places { IfOk result (λ made.
+        HasMappedPlaces store.old store.new born group opened actions.now made.changes.items) }
+    ensures refused { IfErr result
+        (AreMappedRefused store.old store.new born group opened actions.now) }
+{
+    let set = opened.set;
+    let made = changes_of(opened, store, alloc, group, actions, gone)?;
+    let Made {
+        directory,
+        changes,
+        next,
+    } = made;
+    store.are_sized();
+    let changes = plan_maps(&set, store, alloc, born, gone, changes, next)?;
+    Ok(Made {
+        directory,
+        changes,
+        next,
+    })
+}
+
 /// Plans the volumes after the group: the directory then, and the changes of the meta object set. The volumes' blocks that gave way
 /// to others come behind those in `replaced`.
 fn changes_of<D: Disk + Drop>(
@@ -209,6 +282,7 @@ fn changes_of<D: Disk + Drop>(
         AllPairs (λ change later. change.number < later.number) made.changes.items) }
     ensures good { IfOk result (λ made. All (λ change. IsGoodChange change.change)
         made.changes.items) }
+    ensures next { IfOk result (λ made. IsNextOf made.changes.items made.next) }
     ensures value { IfOk result (λ made. (stored planned : Contents) (birth : ℕ)
         (root : Block) (pool : PlainPool) (writes : List Write)
         → Plans store.old stored planned → (is : SpellsPool stored birth root pool)
@@ -223,7 +297,7 @@ fn changes_of<D: Disk + Drop>(
         × IsReachExchanged group planned later
         (joined (parts_of stored root.birth is.objects is.rows pool.volumes is.volumes))
         (blocks_listed lists then.rows) gone
-        × (then.rows ≡ made.directory)) }
+        × (then.rows ≡ made.directory) × AddsData planned later) }
     ensures known { IfErr result (λ refusal. (stored planned : Contents) (birth : ℕ)
         (root : Block) (pool : PlainPool) (writes : List Write)
         → Plans store.old stored planned → (is : SpellsPool stored birth root pool)
@@ -232,7 +306,8 @@ fn changes_of<D: Disk + Drop>(
         → AnswersAreTrue store.old store.new → AreGoodCreations actions.now
         → IsForRoom refusal ⊎ (refusal ≡ Refusal.DiskFault)) }
     ensures places { IfOk result (λ made.
-        HasVolumePlaces store.old store.new group opened actions.now made.changes.items) }
+        HasVolumePlaces store.old store.new group opened actions.now made.changes.items
+        made.next) }
     ensures refused { IfErr result
         (AreVolumesRefused store.old store.new group opened actions.now) }
 {
@@ -265,6 +340,8 @@ fn with_directory(making: Making, alloc: Global, count: usize) -> Result<Made, R
         AllPairs (λ change later. change.number < later.number) made.changes.items) }
     ensures good { IfOk result (λ made. All (λ change. IsGoodChange change.change)
         made.changes.items) }
+    ensures next { IfOk result (λ made. IsNextOf made.changes.items made.next) }
+    ensures next_is { IfOk result (λ made. made.next ≡ making.next) }
     ensures value { IfOk result (λ made. (stored : Contents) (birth : ℕ)
         (objects : ℕ → Option Object) (lists : ℕ → List Block) (pool : PlainPool)
         (rows : List DirectoryRow)
@@ -282,14 +359,22 @@ fn with_directory(making: Making, alloc: Global, count: usize) -> Result<Made, R
     let Making {
         directory,
         mut changes,
-        ..
+        next,
     } = making;
     if changes.len() == count {
-        return Ok(Made { directory, changes });
+        return Ok(Made {
+            directory,
+            changes,
+            next,
+        });
     }
     let change = directory_change(&directory, alloc)?;
     put_first(&mut changes, change)?;
-    Ok(Made { directory, changes })
+    Ok(Made {
+        directory,
+        changes,
+        next,
+    })
 }
 
 /// Puts a change in front of others.
@@ -353,7 +438,7 @@ pub(crate) fn plan_root<D: Disk + Drop>(
         × (then : IsSetOf later group root set.now.kind (changed changes.now objects))
         × (gone : List Block) × (replaced.new.items ≡ replaced.old.items ++ gone)
         × IsReachExchanged group planned later (blocks_of_set set.now own blocks)
-        (root ∷ blocks_of_set then.set then.own then.blocks) gone) }
+        (root ∷ blocks_of_set then.set then.own then.blocks) gone × AddsMeta planned later) }
     ensures no_room { IfErr result (λ refusal. refusal ≡ Refusal.NoSpace
         → HasNoRoom store.old store.new [] (copies_of sets.Meta)
         ⊎ HasNoRoomFor store.old store.new [] 2 3) }

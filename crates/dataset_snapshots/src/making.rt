@@ -12,7 +12,7 @@ ghost use Rattle.objset.specs.Objects.{Object};
 ghost use Rattle.pool_model.specs.Pools.{PlainPool, changed};
 ghost use Rattle.volume.specs.Placing.{LacksRoom};
 ghost use Rattle.dataset_snapshots.specs.Demands.{IsActionRefused, IsMakingRefused, MakesAll, MakesOne};
-ghost use Rattle.dataset_snapshots.specs.Leaving.{IsReachExchanged};
+ghost use Rattle.dataset_snapshots.specs.Leaving.{AddsData, IsReachExchanged};
 ghost use Rattle.dataset_snapshots.specs.NewVolumes.{IsAdded, MakesObjects};
 ghost use Rattle.dataset_snapshots.specs.Making.{AreGoodCreations, GoesOn, HasNoNumbers, IsGoodCreation, IsReady, SpellsMaking, numbers_end};
 ghost use Rattle.dataset_snapshots.specs.Reach.{blocks_listed};
@@ -58,6 +58,8 @@ pub(crate) struct Made {
     pub directory: Directory,
     /// The changes of all objects, in the order of their numbers; that of the directory is among them where it changed.
     pub changes: Vec<ObjectChange>,
+    /// The number of the next object that is made.
+    pub next: u64,
 }
 
 impl Making {
@@ -86,7 +88,7 @@ impl Making {
             × (new : ℕ → List Block) × SpellsMaking later group objects new self.new
             (fold (λ p a. changed group p a.change) pool actions.now)
             × IsReachExchanged group planned later (blocks_listed lists self.old.directory)
-            (blocks_listed new self.new.directory) []) }
+            (blocks_listed new self.new.directory) [] × AddsData planned later) }
         ensures bad { IfErr result (λ refusal. refusal ≡ Refusal.BadConfig
             → ¬ AreGoodCreations actions.now) }
         ensures no_room { IfErr result (λ refusal. refusal ≡ Refusal.NoSpace
@@ -133,7 +135,7 @@ impl Making {
             → (new : ℕ → List Block)
             × SpellsMaking later group objects new self.new (changed group pool change.now)
             × IsReachExchanged group planned later (blocks_listed lists self.old.directory)
-            (blocks_listed new self.new.directory) [])) }
+            (blocks_listed new self.new.directory) []) × AddsData planned later) }
         ensures bad { IfErr result (λ refusal. refusal ≡ Refusal.BadConfig
             → ¬ IsGoodCreation change.now) }
         ensures no_room { IfErr result (λ refusal. refusal ≡ Refusal.NoSpace

@@ -11,7 +11,7 @@ ghost use Rattle.volume_rules.specs.GoodChanges.{is_good_size};
 ghost use Rattle.volume.specs.Placing.{LacksRoom};
 ghost use Rattle.volume.specs.Volume.{IsVolume};
 ghost use Rattle.volume.specs.Walking.{blocks_of_volume};
-ghost use Rattle.dataset_snapshots.specs.Leaving.{IsReachExchanged};
+ghost use Rattle.dataset_snapshots.specs.Leaving.{AddsData, IsReachExchanged};
 
 use block_pointer::Block;
 use block_store::{BlockStore, Refusal};
@@ -101,7 +101,8 @@ impl NewVolume {
             × (is : IsVolume later group object_set self.now.size self.now.block_size
             (replicate self.now.size 0))
             × IsReachExchanged group planned later []
-            (blocks_of_volume object_set is.set is.has.own is.has.blocks) []) }
+            (blocks_of_volume object_set is.set is.has.own is.has.blocks) []
+            × AddsData planned later) }
         ensures cause { IfErr result (λ refusal. refusal ≢ Refusal.BadConfig) }
         ensures no_room { IfErr result (λ refusal. refusal ≡ Refusal.NoSpace
             → LacksRoom store.old store.new) }

@@ -23,7 +23,7 @@ ghost use Rattle.volume.specs.Demands.{IsPlacingRefused};
 ghost use Rattle.volume.specs.Volume.{Spells, block_size_of};
 ghost use Rattle.volume.specs.Writing.{AreBlocksOf, IsArrayWith};
 ghost use Rattle.dataset_snapshots.specs.Demands.{HavePlacesFor, HasVolumeDemands, IsVolumeUnplaced, WritesRecord};
-ghost use Rattle.dataset_snapshots.specs.Leaving.{IsReachExchanged};
+ghost use Rattle.dataset_snapshots.specs.Leaving.{AddsData, IsReachExchanged};
 ghost use Rattle.dataset_snapshots.specs.Opening.{AreBlocksFound, AreBlocksRefused, IsOneUnread, IsWrittenFound, IsWrittenOf, IsWrittenRefused};
 ghost use Rattle.dataset_snapshots.specs.Pools.{SpellsDataset};
 ghost use Rattle.dataset_snapshots.specs.Reach.{blocks_of_dataset};
@@ -236,7 +236,7 @@ pub(crate) fn place_written<D: Disk + Drop>(
         × AreChangedFrom later group there volumes writes changes.items parts
         × (gone : List Block) × (replaced.new.items ≡ replaced.old.items ++ gone)
         × IsReachExchanged group planned later (flat_map lists (numbers_of changes.items))
-        (joined parts) gone) }
+        (joined parts) gone × AddsData planned later) }
     ensures known { IfErr result (λ refusal. (stored planned : Contents) (bound : ℕ)
         (there : ℕ → Option Object) (writes : List Write) (rows : List DirectoryRow)
         (volumes : ℕ → PlainVolume) (lists : ℕ → List Block)
@@ -287,7 +287,7 @@ fn place_one<D: Disk + Drop>(
         change.change)
         × (gone : List Block) × (replaced.new.items ≡ replaced.old.items ++ gone)
         × IsReachExchanged group planned later (blocks_of_dataset is) (blocks_of_change to)
-        gone) }
+        gone × AddsData planned later) }
     ensures known { IfErr result (λ refusal. (stored planned : Contents) (bound : ℕ)
         (there : ℕ → Option Object) (writes : List Write) (row : DirectoryRow)
         (volume : PlainVolume)

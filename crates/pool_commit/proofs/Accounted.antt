@@ -1,23 +1,20 @@
 -- No room is lost, and none is used twice.
-use Rattle.std.proofs.Common.{ℕ, suc, ◌≡◌, ◌≢◌, ◌⊎◌, inl, inr, ◌≤◌, ◌<◌, Some, List, Contains, refl, sym, ap, subst, ◌∙◌, arith}
+use Rattle.std.proofs.Common.{ℕ, suc, ◌≡◌, ◌⊎◌, inl, inr, ◌≤◌, ◌<◌, List, Contains, refl, sym, ap, subst, ◌∙◌, arith}
 use Rattle.std.specs.List.{slice_get}
 use Rattle.raidz_io.proofs.Written.{same_some}
-use Rattle.metaslab.specs.Space.{Space, state, sectors_of}
+use Rattle.metaslab.specs.Space.{state, sectors_of}
 use Rattle.metaslab.specs.State.{State as SectorState, Free, InUse, Released, settled}
 use Rattle.block_pointer.specs.declared.block.Block.{Block}
 use Rattle.block_pointer.specs.declared.dva.Dva.{Dva}
 use Rattle.block_store.specs.Accounts.{SectorAt, IsUsed, HasSector}
 use Rattle.block_store.specs.Places.{filled, EachSector}
-use Rattle.block_store.specs.Shapes.{metaslab_of}
 use Rattle.block_store.specs.Spaces.{VdevSpace}
 use Rattle.block_store.specs.Uses.{LiesOn, Passes, IsInUse, IsSpared}
 use Rattle.block_store.proofs.Accounting.{OnPlace, has_on_place}
 use Rattle.block_store.proofs.Planning.{stored_by}
-use Rattle.pool_model.specs.View.{View}
-use Rattle.pool_commit.specs.Accounted.{IsWithheld, WasReleasedLate, HasAllRoom, NoRoomIsLost}
-use Rattle.pool_commit.specs.Backs.{Backs, kept_pool}
+use Rattle.pool_commit.specs.Accounted.{IsWithheld, WasReleasedLate, NoRoomIsLost}
+use Rattle.pool_commit.specs.Backs.{kept_pool}
 use Rattle.pool_commit.specs.Space.{is_held_for}
-use Rattle.pool_commit.specs.State.{State}
 use Rattle.pool_commit.proofs.Accounting.{waits}
 use Rattle.pool_commit.proofs.Holding.{weaker, near, held_is_spared}
 

@@ -1,6 +1,6 @@
 -- Which block each sector in use is in, as groups are planned and committed.
-use Rattle.std.proofs.Common.{Bool, true, false, if◌then◌else◌, ℕ, zero, suc, ◌≡◌, ◌≢◌, ◌⊎◌, inl, inr, ◌+◌, ◌<◌, ◌≤◌, ◌&&◌, Option, Some, None, List, [], ◌∷◌, ◌++◌, length, Contains, refl, sym, ap, subst, ◌∙◌, arith}
-use Rattle.std.specs.Prelude.{nat_le, map}
+use Rattle.std.proofs.Common.{Bool, true, false, if◌then◌else◌, ℕ, zero, suc, ◌≡◌, ◌≢◌, ◌⊎◌, inl, inr, ◌+◌, ◌<◌, ◌≤◌, ◌&&◌, Some, None, List, [], ◌∷◌, length, Contains, refl, sym, ap, subst, ◌∙◌, arith}
+use Rattle.std.specs.Prelude.{nat_le}
 use Rattle.std.specs.List.{slice_get, list_all, count_by}
 use Rattle.std.proofs.lemmas.Bool.{cases_lt}
 use Rattle.std.proofs.lemmas.Bool.Decides.{nat_tests}
@@ -13,7 +13,7 @@ use Rattle.raidz_io.proofs.Written.{same_some, slice_get_some}
 use Rattle.metaslab.specs.Space.{Space, state}
 use Rattle.metaslab.specs.State.{State, Free, InUse, Released, settled, is_due}
 use Rattle.metaslab_group.specs.Spaces.{IsWhollyFree, AreWhollyFree}
-use Rattle.block_store.specs.Accounts.{SectorAt, IsUsed, HasSector, AreAccounted}
+use Rattle.block_store.specs.Accounts.{SectorAt, IsUsed, AreAccounted}
 use Rattle.block_store.specs.Blocks.{Contents}
 use Rattle.block_store.specs.Places.{IsNotFree, Marks, shapes_of, HaveMarks, IsEmpty, AreEmpty}
 use Rattle.block_store.specs.Places.{filled as filled_marks, planned as planned_marks}
@@ -21,7 +21,7 @@ use Rattle.block_store.specs.Releases.{CopyAt, copy_of_at, copies_of_at, copies_
 use Rattle.block_store.specs.Spaces.{VdevSpace}
 use Rattle.block_store.specs.Steps.{Placed, HavePlaced}
 use Rattle.block_store.specs.Uses.{IsInUse}
-use Rattle.block_store.proofs.Accounting.{OnPlace, on_place_too, has_too, has_on_place, used_before, in_use_before, released_uses, not_in_released, placed_uses}
+use Rattle.block_store.proofs.Accounting.{has_too, has_on_place, used_before, in_use_before, released_uses, not_in_released, placed_uses}
 use Rattle.block_store.proofs.Taking.{found_too}
 use Rattle.dataset_snapshots.specs.Leaving.{IsReachExchanged}
 use Rattle.dnode_tree.proofs.SameBlocks.{same_as, counted, found}

@@ -1,5 +1,5 @@
 -- The labels of a pool's disks lie beside its blocks.
-use Rattle.std.proofs.Common.{◌≡◌, ◌⊎◌, ⊎_elim, inl, inr, ℕ, zero, suc, ◌+◌, ◌-◌, ◌*◌, ◌/◌, ◌≤◌, ◌<◌, List, [], ◌∷◌, length, Option, Some, refl, sym, ap, ◌∙◌, subst, arith}
+use Rattle.std.proofs.Common.{◌≡◌, inl, inr, ℕ, zero, suc, ◌+◌, ◌-◌, ◌*◌, ◌/◌, ◌≤◌, ◌<◌, List, [], ◌∷◌, length, Some, sym, ap, ◌∙◌, subst, arith}
 use Rattle.std.specs.Prelude.{slice_get, option_map}
 use Rattle.std.proofs.lemmas.Bool.{cases_lt}
 use Rattle.std.proofs.lemmas.Bool.Decides.{nat_tests}
@@ -8,7 +8,7 @@ use Rattle.model_disk.specs.Joint.{bytes_of}
 use Rattle.raidz_io.specs.Places.{offset_of_sector}
 use Rattle.block_store.specs.declared.create.VdevConfig.{VdevConfig}
 use Rattle.block_store.specs.declared.shape.VdevShape.{VdevShape}
-use Rattle.block_store.specs.Config.{AreShapes, IsAllowedSize, IsShapeOf, used_bytes, sectors_of, size_of}
+use Rattle.block_store.specs.Config.{AreShapes, IsAllowedSize, used_bytes, sectors_of, size_of}
 use Rattle.block_store.specs.Elsewhere.{IsForBlocks}
 use Rattle.block_store.specs.Opened.{LieOn}
 use Rattle.block_store.specs.Places.{shapes_of}

@@ -6,7 +6,9 @@ pub mod Disks
 pub mod Keeping
 pub mod Labels
 pub mod Made
+pub mod Mapping
 pub mod SlotWrites
+pub mod PlanMaps
 pub mod Planning
 pub mod Progressing
 pub mod Spellings

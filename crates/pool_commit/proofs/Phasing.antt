@@ -1,21 +1,19 @@
 -- What is left of a plan after the calls of each of its phases.
-use Rattle.std.proofs.Common.{◌≡◌, ◌≢◌, ◌⊎◌, ⊎_elim, inl, inr, ℕ, ◌<◌, ◌≤◌, List, [], ◌++◌, length, refl, sym, ap, ◌∙◌, subst, Contains, Global}
-use Rattle.std.specs.Prelude.{◌||◌, ◌==◌, filter, not}
+use Rattle.std.proofs.Common.{◌≡◌, ⊎_elim, inl, inr, ℕ, ◌<◌, List, [], ◌++◌, length, refl, sym, ap, ◌∙◌, subst, Contains, Global}
+use Rattle.std.specs.Prelude.{◌==◌, filter, not}
 use Rattle.std.specs.declared.collections.VecDeque.{VecDeque}
 use Rattle.raidz_io.specs.declared.writes.ColumnWrite.{ColumnWrite}
 use Rattle.block_store.specs.Store.{Store}
-use Rattle.pool_model.specs.declared.step.Phase.{Phase}
-use Rattle.pool_model.specs.declared.step.Phase.TheVariants.{Blocks, BlocksFlush, Slots, SlotsFlush}
+use Rattle.pool_model.specs.declared.step.Phase.TheVariants.{BlocksFlush, Slots, SlotsFlush}
 use Rattle.pool_model.specs.View.{View, DueCall}
 use Rattle.pool_commit.specs.declared.kept.Behind.{Behind}
 use Rattle.pool_commit.specs.declared.kept.Planned.{Planned}
 use Rattle.pool_commit.specs.declared.kept.SlotWrite.{SlotWrite}
 use Rattle.pool_commit.specs.Backs.{left_calls}
-use Rattle.pool_commit.specs.Making.{writes_left, behind_left, flushes_left, slots_left, IsFlushPhase, MadeCalls, FailedCall, FlushesMove, FlushesMoveBut, KeepsContent, SlotsMove, SlotsMoveBut}
+use Rattle.pool_commit.specs.Making.{writes_left, behind_left, flushes_left, slots_left, FailedCall, FlushesMove, FlushesMoveBut, KeepsContent, SlotsMove, SlotsMoveBut}
 use Rattle.pool_commit.specs.Progress.{LeftOut}
-use Rattle.pool_commit.specs.Slots.{ShowsIn}
 use Rattle.pool_commit.specs.State.{State}
-use Rattle.pool_commit.proofs.Progressing.{AreFrom, StaysOn, LeavesRest, with_tail, failed_tail, behind_from, slots_from_there, last_from_there, filtered_behind, kept_others, kept_slots, not_that, not_empty, in_none}
+use Rattle.pool_commit.proofs.Progressing.{StaysOn, LeavesRest, filtered_behind, kept_others, kept_slots, not_that, not_empty, in_none}
 use Rattle.pool_commit.proofs.SlotWrites.{shows_still}
 
 -- the plan with other flushes, slots, or flushes behind them

@@ -42,7 +42,7 @@ use Rattle.dnode_tree.proofs.SameBlocks.{same_as, found}
 use Rattle.dnode_tree.proofs.SameBlocks.{counted as counted_in}
 use Rattle.pool_commit.specs.declared.kept.Behind.{Behind}
 use Rattle.pool_commit.specs.declared.kept.SlotWrite.{SlotWrite}
-use Rattle.pool_commit.specs.Backs.{Backs, AreDueBehind, IsPlanOf, IsUberblockOf, LeadsTo, kept_pool, left_calls, SpellsGroup}
+use Rattle.pool_commit.specs.Backs.{Backs, AreDueBehind, BeginsWithMaps, HasMaps, LeavesMaps, IsPlanOf, IsUberblockOf, LeadsTo, kept_pool, left_calls, SpellsGroup}
 use Rattle.pool_commit.specs.Making.{writes_left, slots_left, flushes_left}
 use Rattle.pool_commit.specs.Slots.{slots_of_disk, all_slots}
 use Rattle.pool_commit.specs.Config.{shown, vdevs_of}
@@ -50,8 +50,10 @@ use Rattle.pool_commit.specs.Room.{IsBegun}
 use Rattle.pool_commit.specs.Space.{is_held_for, AreHeld, AreInUse, AreInBlocks, WereReleasedBy, GivesBack}
 use Rattle.pool_commit.proofs.Accounting.{settled_in_blocks, settled_released_by, planned_in_blocks, planned_released_by, in_blocks_by, released_by_marks}
 use Rattle.pool_commit.specs.State.{State, group_at}
-use Rattle.pool_commit.proofs.Backing.{last_at, last_spelled}
-use Rattle.pool_commit.proofs.Reaching.{kept_leads, led_known, plan_reaches, reached_over}
+use Rattle.pool_commit.proofs.Backing.{last_spelled}
+use Rattle.pool_commit.proofs.Mapping.{kept_maps_over}
+use Rattle.pool_commit.proofs.PlanMaps.{begins_with_maps, last_leads, maps_made}
+use Rattle.pool_commit.proofs.Reaching.{led_known, plan_reaches, reached_over}
 use Rattle.pool_commit.proofs.Holding.{weaker, by_marks, held_on, held_is_in_use, is_used, held_settles, held_is_spared, near, released_is_held, used_is}
 use Rattle.pool_commit.proofs.Reaching.{no_plan as no_reach}
 use Rattle.pool_commit.proofs.Tolerating.{vdev_at}
@@ -253,6 +255,7 @@ backs_begun s store group v out shapes begins next sync none backs =
         kept = backs.blocks.kept;
         plan = none;
         reached = record {
+          mapped = λ g. kept_maps_over s.store.spaces store.spaces backs.blocks.stored g (group_at s.kept g) (kept_pool v g) shapes (backs.blocks.reached.mapped g);
           reach = backs.blocks.reached.reach;
           leads = backs.blocks.reached.leads;
           once = backs.blocks.reached.once;
@@ -303,24 +306,20 @@ backs_still s new v no_plan kept backs =
 pub unplanned_still : (s : State) (planned : Option Planned) (v : View) → planned ≡ None → Backs (record s { planned = None }) v → Backs (record s { planned = planned }) v
 unplanned_still s planned v none backs = subst (λ (o : Option Planned). Backs (record s { planned = o }) v) (sym none) backs
 
--- the committed group leads to the blocks of its reach
-last_leads : (s : State) (v : View) (backs : Backs s v) → LeadsTo backs.blocks.stored v.committed s.kept.last.root (v.pools v.committed) (backs.blocks.reached.reach v.committed)
-last_leads s v backs =
-    kept_leads backs.blocks.stored v v.committed (group_at s.kept v.committed) s.kept.last (backs.blocks.reached.reach v.committed)
-    (ap (group_at s.kept) (sym backs.committed) ∙ last_at s.kept) (backs.blocks.reached.leads v.committed)
-
 -- the next group, once it was planned
-abbrev pub IsAfter : Store → Store → ℕ → KeptGroup → Entry → KeptGroup → List Block → Type 0
-IsAfter old new group last items after gone =
+abbrev pub IsAfter : Store → Store → ℕ → KeptGroup → Entry → KeptGroup → Block → List Block → Type 0
+IsAfter old new group last items after root gone =
     (stored planned : Contents) (pool : PlainPool) (before : List Block) → Plans old stored planned → SpellsGroup stored (group - 1) last pool
-    → LeadsTo stored (group - 1) last.root pool before → AnswersAreTrue old new
+    → LeadsTo stored (group - 1) last.root pool before → BeginsWithMaps old.spaces stored (group - 1) last.root pool → AnswersAreTrue old new
     → (later : Contents) × Plans new stored later × Extends planned later × SpellsGroup later group after (applied group pool items)
     × (reach : List Block) × LeadsTo later group after.root (applied group pool items) reach × IsReachExchanged group planned later before reach gone
+    × LeavesMaps new.spaces gone later group root (applied group pool items)
 
--- and its blocks are what its root leads to, for those of the group before
-abbrev LeadsOn : Contents → Contents → ℕ → KeptGroup → PlainPool → List Block → List Block → Type 0
-LeadsOn stored later group after pool before gone =
+-- and its blocks are what its root leads to, for those of the group before; its maps are left
+abbrev LeadsOn : List VdevSpace → Contents → Contents → ℕ → KeptGroup → Block → PlainPool → List Block → List Block → Type 0
+LeadsOn spaces stored later group after root pool before gone =
     (reach : List Block) × LeadsTo later group after.root pool reach × IsReachExchanged group stored later before reach gone
+    × LeavesMaps spaces gone later group root pool
 
 -- what was planned before blocks were given back, for what was stored
 module _ (begun made new : Store) (last : ℕ) (earlier : ℕ → List Block) (stored later : Contents) (reach gone : List Block)
@@ -387,9 +386,9 @@ AreGivenBack made new gone group = (stored planned : Contents) → Plans made st
 
 pub plan_is_backed : (s : State) (made new : Store) (group : ℕ) (last : KeptGroup) (plan : Planned) (gone : List Block) (items : Entry) (v : View) → (backs : Backs s v) → s.store.due ≡ []
     → group ≡ suc v.committed → last ≡ s.kept.last → items ≡ v.ledger (suc v.committed)
-    → AreDueBehind plan.behind (filter (λ disk. not (is_out s.store.out disk)) (disks_of (vdevs_of s.store.spaces))) → IsUberblockOf s.stamp group plan
+    → AreDueBehind plan.behind (filter (λ disk. not (is_out s.store.out disk)) (disks_of (vdevs_of s.store.spaces))) → (uberblock : IsUberblockOf s.stamp group plan)
     → OnlyReadsAndPlans s.store made [] → GivesBack made new gone group → HaveMarks s.store.spaces filled_marks s.store.spaces planned_marks
-    → AnswersAreTrue s.store made → Plans s.store backs.blocks.stored backs.blocks.stored → IsAfter s.store made group last items plan.after gone
+    → AnswersAreTrue s.store made → Plans s.store backs.blocks.stored backs.blocks.stored → IsAfter s.store made group last items plan.after uberblock.root gone
     → made.stray ≡ false → AreGivenBack made new gone group
     → (calls : List DueCall) × IsPlan v calls × Backs (record s { store = new; planned = Some plan }) (record v { sync = Due calls })
 plan_is_backed s made new group last plan gone items v backs none next is_last are behind uberblock kept gives free honest begun after whole given =
@@ -404,11 +403,15 @@ plan_is_backed s made new group last plan gone items v backs none next is_last a
     subst (λ (kept : KeptGroup). LeadsTo stored v.committed kept.root pool (earlier v.committed)) (sym is_last) (last_leads s v backs) in
     let led : LeadsTo stored (group - 1) last.root pool (earlier v.committed) =
     subst (λ (n : ℕ). LeadsTo stored n last.root pool (earlier v.committed)) (sym before) led_last in
-    let there = after stored stored pool (earlier v.committed) begun spelled led honest in
+    let begins : BeginsWithMaps s.store.spaces stored (group - 1) last.root pool =
+    subst (λ (n : ℕ). BeginsWithMaps s.store.spaces stored n last.root pool) (sym before)
+    (subst (λ (kept : KeptGroup). BeginsWithMaps s.store.spaces stored v.committed kept.root pool) (sym is_last) (begins_with_maps s v backs free)) in
+    let there = after stored stored pool (earlier v.committed) begun spelled led begins honest in
     let later : Contents = there.0 in
-    let on : LeadsOn stored later (suc v.committed) plan.after (applied (suc v.committed) pool (v.ledger (suc v.committed))) (earlier v.committed) gone =
-    subst (λ (entry : Entry). LeadsOn stored later (suc v.committed) plan.after (applied (suc v.committed) pool entry) (earlier v.committed) gone) are
-    (subst (λ (n : ℕ). LeadsOn stored later n plan.after (applied n pool items) (earlier v.committed) gone) next (there.4, there.5, there.6)) in
+    let root : Block = uberblock.root in
+    let on : LeadsOn made.spaces stored later (suc v.committed) plan.after root (applied (suc v.committed) pool (v.ledger (suc v.committed))) (earlier v.committed) gone =
+    subst (λ (entry : Entry). LeadsOn made.spaces stored later (suc v.committed) plan.after root (applied (suc v.committed) pool entry) (earlier v.committed) gone) are
+    (subst (λ (n : ℕ). LeadsOn made.spaces stored later n plan.after root (applied n pool items) (earlier v.committed) gone) next (there.4, there.5, there.6, there.7)) in
     let all : AreDueBehind plan.behind (disks_in_use v) =
     subst (AreDueBehind plan.behind) (λ i. filter (λ disk. not (sym (backs.out disk) i)) (disks_of (sym backs.vdevs i))) behind in
     let due : new.due ≡ made.due = gives.due in
@@ -446,7 +449,10 @@ plan_is_backed s made new group last plan gone items v backs none next is_last a
     (subst (λ c. WereReleasedBy s.store.spaces filled_marks c) backs.committed backs.blocks.reached.released) in
     let released_new : WereReleasedBy new.spaces planned_marks (suc v.committed) =
     planned_released_by s.store.spaces made.spaces new.spaces kept.placed (copies_of_all gone) v.committed (suc v.committed) (omega arith) released_before
-    kept.were_placed released in (
+    kept.were_placed released in
+    let mapped : HasMaps new.spaces later (suc v.committed) plan.after.root (applied (suc v.committed) pool (v.ledger (suc v.committed))) =
+    maps_made made.spaces new.spaces gone later (suc v.committed) plan.after.root root (applied (suc v.committed) pool (v.ledger (suc v.committed))) on.0 uberblock.is_root on.3 on.1
+    released in_use_new accounted_new in (
       left_calls none_before (slot_counts_of new) new.due plan.behind,
       plan_is,
       record {
@@ -472,7 +478,7 @@ plan_is_backed s made new group last plan gone items v backs none next is_last a
           };
           reached = reached_over made.spaces new.spaces stored s.kept (kept_pool v) gives.shapes gives.filled_stays
               (reached_over s.store.spaces made.spaces stored s.kept (kept_pool v) kept.shapes (marks_by_map filled_marks s.store.spaces made.spaces kept.filled) backs.blocks.reached);
-          plan_reached = plan_reaches new.spaces earlier stored later plan.after v last.root pool (earlier v.committed) on.0 gone led_last distinct on.1 on.2 held_new in_use_new accounted_new released_new;
+          plan_reached = plan_reaches new.spaces earlier stored later plan.after v last.root pool (earlier v.committed) on.0 gone led_last distinct on.1 on.2 held_new in_use_new accounted_new released_new mapped;
         };
       },
     )

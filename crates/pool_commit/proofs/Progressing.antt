@@ -15,7 +15,6 @@ use Rattle.block_store.specs.Store.{Store, IsOutToo, is_out}
 use Rattle.pool_commit.specs.declared.kept.KeptGroup.{KeptGroup}
 use Rattle.pool_model.specs.declared.step.Phase.{Phase}
 use Rattle.pool_model.specs.declared.step.Phase.TheVariants.{Blocks, BlocksFlush, Slots, SlotsFlush}
-use Rattle.raidz_io.specs.declared.writes.ColumnWrite.{ColumnWrite}
 use Rattle.uberblock_ring.specs.declared.uberblock.Uberblock.{Uberblock}
 use Rattle.pool_model.specs.View.{View, DueCall, Due, disks_in_use, disks_of, is_suspended, is_tolerable}
 use Rattle.pool_model.specs.Flow.{counted_on}

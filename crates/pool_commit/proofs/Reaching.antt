@@ -26,13 +26,14 @@ use Rattle.dnode_tree.specs.Rewriting.{AreDistinct}
 use Rattle.pool_commit.specs.declared.kept.Kept.{Kept}
 use Rattle.pool_commit.specs.declared.kept.KeptGroup.{KeptGroup}
 use Rattle.pool_commit.specs.declared.kept.Planned.{Planned}
-use Rattle.pool_commit.specs.Backs.{IsReachOfPlan, KeptLeadsTo, LeadsTo, PlansReach, SpellsKept, SpellsRoot, StoresReach, kept_pool, pool_after}
+use Rattle.pool_commit.specs.Backs.{HasMaps, IsReachOfPlan, KeptHasMaps, KeptLeadsTo, LeadsTo, PlansReach, SpellsKept, SpellsRoot, StoresReach, kept_pool, pool_after}
 use Rattle.pool_commit.specs.State.{group_at}
 use Rattle.pool_commit.specs.Space.{is_held_for, AreHeld, AreInUse, AreInBlocks, WereReleasedBy}
 use Rattle.pool_commit.proofs.Accounting.{in_blocks_by, released_by_marks}
 use Rattle.pool_commit.proofs.Directories.{spells_by_stands}
 use Rattle.pool_commit.proofs.Holding.{weaker, held_by_marks, in_use_is_held}
 use Rattle.pool_commit.proofs.Keeping.{gone_group, gone_pool, new_group, new_pool, old_group, old_pool}
+use Rattle.pool_commit.proofs.Mapping.{kept_maps_over, kept_maps_stand, kept_maps_stay}
 use Rattle.pool_model.specs.Machine.{committed_next}
 use Rattle.pool_model.specs.Pools.{PlainPool}
 use Rattle.pool_model.specs.View.{View}
@@ -98,9 +99,10 @@ pub plan_reaches : (spaces : List VdevSpace) (earlier : ℕ → List Block) (sto
     (before reach gone : List Block) → LeadsTo stored v.committed root pool before
     → AreDistinct before → LeadsTo later (suc v.committed) after.root (pool_after v) reach → IsReachExchanged (suc v.committed) stored later before reach gone
     → AreHeld spaces planned_marks (suc v.committed) earlier → AreInUse spaces planned_marks reach
-    → AreInBlocks spaces planned_marks reach → WereReleasedBy spaces planned_marks (suc v.committed)
+    → AreInBlocks spaces planned_marks reach → WereReleasedBy spaces planned_marks (suc v.committed) → HasMaps spaces later (suc v.committed) after.root (pool_after v)
     → PlansReach spaces earlier stored later (suc v.committed) after (pool_after v)
-plan_reaches spaces earlier stored later after v root pool before reach gone was distinct leads exchanged held in_use accounted released = record {
+plan_reaches spaces earlier stored later after v root pool before reach gone was distinct leads exchanged held in_use accounted released mapped = record {
+  mapped = mapped;
   held = held;
   in_use = in_use;
   accounted = accounted;
@@ -132,6 +134,7 @@ reached_over spaces after stored kept pools shapes are reached = record {
   held = held_by_marks spaces after filled_marks filled_marks kept.committed reached.reach shapes are reached.held;
   accounted = in_blocks_by spaces after filled_marks filled_marks (reached.reach kept.committed) shapes are reached.accounted;
   released = released_by_marks spaces after filled_marks filled_marks kept.committed shapes are reached.released;
+  mapped = λ group. kept_maps_over spaces after stored group (group_at kept group) (pools group) shapes (reached.mapped group);
 }
 
 pub same_spaces : (spaces after : List VdevSpace) (marks : Marks) → after ≡ spaces → HaveMarks spaces marks after marks
@@ -287,6 +290,25 @@ next_leads v kept new stored planned reach blocks low k n b e more leads old gro
         (subst (λ (pool : Option PlainPool). KeptLeadsTo planned group None pool (next_reach v.committed reach blocks group)) (sym (gone_pool v group far other another))
         (next_gone v.committed reach blocks group far other another))
 
+-- the maps of the three are their own still
+next_mapped : (v : View) (kept new : Kept) (spaces : List VdevSpace) (stored planned : Contents) → v.first ≤ v.committed → kept.committed ≡ v.committed → new.committed ≡ suc v.committed
+    → new.before ≡ Some kept.last → new.earliest ≡ kept.before → Extends stored planned → HasMaps spaces planned (suc v.committed) new.last.root (pool_after v)
+    → ((group : ℕ) → KeptHasMaps spaces stored group (group_at kept group) (kept_pool v group))
+    → (group : ℕ) → KeptHasMaps spaces planned group (group_at new group) (kept_pool (committed_next v) group)
+next_mapped v kept new spaces stored planned low k n b e more mapped old group = by_cases (which v.committed group)
+  where
+    by_cases : Which v.committed group → KeptHasMaps spaces planned group (group_at new group) (kept_pool (committed_next v) group)
+    by_cases (IsNew at) =
+        let is : HasMaps spaces planned group new.last.root (pool_after v) = subst (λ g. HasMaps spaces planned g new.last.root (pool_after v)) (sym at) mapped in
+        subst (λ (found : Option KeptGroup). KeptHasMaps spaces planned group found (kept_pool (committed_next v) group)) (sym (new_group kept new v.committed group n at))
+        (subst (λ (pool : Option PlainPool). KeptHasMaps spaces planned group (Some new.last) pool) (sym (new_pool v group low at)) is)
+    by_cases (IsOld at) =
+        subst (λ (found : Option KeptGroup). KeptHasMaps spaces planned group found (kept_pool (committed_next v) group)) (sym (old_group kept new v.committed group k n b e at))
+        (subst (λ (pool : Option PlainPool). KeptHasMaps spaces planned group (group_at kept group) pool) (sym (old_pool v group at))
+        (kept_maps_stay spaces stored planned group (group_at kept group) (kept_pool v group) more (old group)))
+    by_cases (IsGone far other another) =
+        subst (λ (found : Option KeptGroup). KeptHasMaps spaces planned group found (kept_pool (committed_next v) group)) (sym (gone_group new v.committed group n far other another)) tt
+
 module _ (v : View) (kept new : Kept) (spaces after : List VdevSpace) (stored planned : Contents) (reached : StoresReach spaces stored kept (kept_pool v))
     (plan : PlansReach spaces reached.reach stored planned (suc v.committed) new.last (pool_after v)) (shapes : shapes_of after ≡ shapes_of spaces)
     (filled_by : HaveMarks spaces planned_marks after filled_marks) (low : v.first ≤ v.committed)
@@ -320,8 +342,16 @@ module _ (v : View) (kept new : Kept) (spaces after : List VdevSpace) (stored pl
       subst (AreInBlocks after filled_marks) (sym (next_new v.committed reached.reach plan.reach new.committed n))
       (in_blocks_by spaces after planned_marks filled_marks plan.reach shapes filled_by plan.accounted)
 
+  mapped_next : (group : ℕ) → KeptHasMaps after left group (group_at new group) (kept_pool (committed_next v) group)
+  mapped_next group =
+      kept_maps_over spaces after left group (group_at new group) (kept_pool (committed_next v) group) shapes
+      (kept_maps_stand spaces planned left group (group_at new group) (kept_pool (committed_next v) group) (next_reach v.committed reached.reach plan.reach group) (keeps_each group)
+      (next_leads v kept new stored planned reached.reach plan.reach low k n b e more plan.leads reached.leads group)
+      (next_mapped v kept new spaces stored planned low k n b e more plan.mapped reached.mapped group))
+
   pub reached_next : StoresReach after left new (kept_pool (committed_next v))
   reached_next = record {
+    mapped = mapped_next;
     accounted = accounted_next;
     released = subst (λ last. WereReleasedBy after filled_marks last) (sym n)
         (released_by_marks spaces after planned_marks filled_marks (suc v.committed) shapes filled_by plan.released);

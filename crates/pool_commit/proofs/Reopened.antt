@@ -1,5 +1,5 @@
 -- A pool that is opened.
-use Rattle.std.proofs.Common.{◌≡◌, ◌≢◌, ℕ, ◌≤◌, ◌==◌, Bool, true, false, List, [], Option, Some, None, Contains, refl, sym, ap, ◌∙◌, subst, arith, inl, inr}
+use Rattle.std.proofs.Common.{◌≡◌, ◌≢◌, ℕ, ◌==◌, Bool, List, [], Option, Some, None, Contains, refl, sym, ap, ◌∙◌, subst, arith, inl, inr}
 use Rattle.std.specs.Prelude.{if◌then◌else◌, map}
 use Rattle.std.proofs.lemmas.Bool.{cases_eq}
 use Rattle.std.proofs.lemmas.Bool.Decides.{nat_tests}
@@ -16,7 +16,6 @@ use Rattle.block_store.proofs.Accounting.{has_too}
 use Rattle.dataset_snapshots.specs.declared.contents.RootContents.{RootContents}
 use Rattle.dataset_snapshots.specs.Contents.{AreContentsOf}
 use Rattle.dataset_snapshots.specs.Laws.{KeepsEach}
-use Rattle.dataset_snapshots.specs.Pools.{SpellsPool}
 use Rattle.dataset_snapshots.specs.Reach.{reach_of}
 use Rattle.dataset_snapshots.proofs.ChangedRows.{nothing_in}
 use Rattle.dataset_snapshots.proofs.Standing.{roots_stand}
@@ -29,7 +28,7 @@ use Rattle.pool_commit.specs.declared.kept.Kept.{Kept}
 use Rattle.pool_commit.specs.declared.kept.KeptGroup.{KeptGroup}
 use Rattle.pool_commit.specs.declared.kept.Planned.{Planned}
 use Rattle.pool_commit.specs.declared.stamp.Stamp.{Stamp}
-use Rattle.pool_commit.specs.Backs.{Backs, IsPlanOf, KeptLeadsTo, LeadsTo, SpellsGroup, SpellsKept, SpellsRoot, kept_pool}
+use Rattle.pool_commit.specs.Backs.{Backs, HasMaps, IsPlanOf, KeptHasMaps, KeptLeadsTo, LeadsTo, SpellsGroup, SpellsKept, SpellsRoot, kept_pool}
 use Rattle.pool_commit.specs.Config.{shown, vdevs_of}
 use Rattle.pool_commit.specs.Directories.{SpellsBy}
 use Rattle.pool_commit.specs.Reopened.{IsEmptyGroup, IsGroupOf, IsOfGroup}
@@ -37,6 +36,7 @@ use Rattle.pool_commit.specs.Space.{is_held_for, AreInBlocks, WereReleasedBy}
 use Rattle.pool_commit.specs.State.{State, group_at}
 use Rattle.pool_commit.proofs.Accounting.{none_in_use, none_released}
 use Rattle.pool_commit.proofs.Holding.{weaker}
+use Rattle.pool_commit.proofs.Mapping.{maps_over, maps_stand}
 use Rattle.pool_commit.proofs.Reaching.{among, among_are, among_keeps, no_plan, none_distinct}
 
 -- ---- one group is kept
@@ -103,6 +103,17 @@ module _ (kept : Kept) (vdevs : List Vdev) (out : ℕ → Bool) (group : ℕ) (p
         (subst (λ (o : Option PlainPool). KeptLeadsTo stored other None o (only_reach blocks other)) (sym (pool_gone other another)) (reach_gone blocks other another))
   ]
 
+  pub mapped_opened : (spaces : List VdevSpace) (stored : Contents) → HasMaps spaces stored group kept.last.root pool → (other : ℕ)
+      → KeptHasMaps spaces stored other (group_at kept other) (kept_pool (opened_as vdevs out group pool) other)
+  mapped_opened spaces stored has other = elim (cases_eq other group) [
+    | inl at ↦
+        subst (λ (o : Option KeptGroup). KeptHasMaps spaces stored other o (kept_pool (opened_as vdevs out group pool) other)) (sym (there other at))
+        (subst (λ (o : Option PlainPool). KeptHasMaps spaces stored other (Some kept.last) o) (sym (pool_there other at))
+        (subst (λ g. HasMaps spaces stored g kept.last.root pool) (sym at) has))
+    | inr another ↦
+        subst (λ (o : Option KeptGroup). KeptHasMaps spaces stored other o (kept_pool (opened_as vdevs out group pool) other)) (sym (gone other another)) tt
+  ]
+
 -- ---- the blocks that were taken in
 
 -- what is in use is held for whichever group
@@ -155,9 +166,9 @@ backs_only : (s : State) (spaces : List VdevSpace) (flags : List Bool) (group : 
     → IsFound mine group last pool blocks → AreDistinct blocks
     → ((block : Block) (bytes : List ℕ) → mine block ≡ Some bytes → Contains blocks block)
     → ((block : Block) → Contains blocks block → CopiesLieOn IsInUse s.store.spaces filled block)
-    → AreInBlocks s.store.spaces filled blocks → WereReleasedBy s.store.spaces filled s.kept.committed
+    → AreInBlocks s.store.spaces filled blocks → WereReleasedBy s.store.spaces filled s.kept.committed → HasMaps s.store.spaces mine group last.root pool
     → Backs s (opened_as (vdevs_of spaces) (is_out flags) group pool)
-backs_only s spaces flags group last pool mine blocks is shapes out plans found once known in_use accounted released =
+backs_only s spaces flags group last pool mine blocks is shapes out plans found once known in_use accounted released mapped =
     let vdevs = vdevs_of spaces in
     let only : IsOnly s.kept group = record { committed = is.committed; before = is.before; earliest = is.earliest } in
     let spells : SpellsGroup mine group s.kept.last pool = subst (λ k. SpellsGroup mine group k pool) (sym is.last_is) found.spells in
@@ -190,6 +201,8 @@ backs_only s spaces flags group last pool mine blocks is shapes out plans found 
           accounted = subst (AreInBlocks s.store.spaces filled)
               (sym (ap (only_reach s.kept vdevs (is_out flags) group pool only blocks) only.committed ∙ reach_here s.kept vdevs (is_out flags) group pool only blocks)) accounted;
           released = released;
+          mapped = mapped_opened s.kept vdevs (is_out flags) group pool only s.store.spaces mine
+              (subst (λ (k : KeptGroup). HasMaps s.store.spaces mine group k.root pool) (sym is.last_is) mapped);
         };
         plan_reached = no_plan s.store.spaces (only_reach s.kept vdevs (is_out flags) group pool only blocks) mine mine s.planned
             (opened_as vdevs (is_out flags) group pool) is.unplanned;
@@ -211,9 +224,9 @@ over store stamp group last s is = record {
 pub backs_opened : (old new : Store) (stamp : Stamp) (group : ℕ) (root : Block) (contents : RootContents) (last : KeptGroup) (s : State)
     → AreTaken old new contents.blocks.items → IsGroupOf root contents last → IsOfGroup new stamp group last s
     → Plans old nothing_stored nothing_stored → AreEmpty old.spaces → (stored : Contents) (pool : PlainPool)
-    → Holds old stored → AreContentsOf stored group root pool contents
+    → Holds old stored → AreContentsOf stored group root pool contents → HasMaps old.spaces stored group (Some root) pool
     → Backs s (opened_as (vdevs_of old.spaces) (is_out old.out) group pool)
-backs_opened old new stamp group root contents last s taken is_group is plans empty stored pool holds are =
+backs_opened old new stamp group root contents last s taken is_group is plans empty stored pool holds are has =
     let blocks = contents.blocks.items in
     let at : s.store ≡ new = is.store_is in
     backs_only s old.spaces old.out group last pool (among blocks stored) blocks (over new stamp group last s is)
@@ -230,6 +243,10 @@ backs_opened old new stamp group root contents last s taken is_group is plans em
       | inl was ↦ none_released old.spaces s.kept.committed empty by mark was
       | inr clash ↦ absurd (let no : InUse ≡ Released by = clash in cc)
     ]))
+    (maps_over old.spaces s.store.spaces (among blocks stored) group last.root pool (ap (λ (store : Store). shapes_of store.spaces) at ∙ taken.shapes)
+    (subst (λ (o : Option Block). HasMaps old.spaces (among blocks stored) group o pool) (sym is_group.root_is)
+    (maps_stand old.spaces stored (among blocks stored) group (Some root) pool blocks
+    (λ block bytes held known. among_keeps blocks stored block bytes held known) (are.is, sym are.blocks) has)))
 
 -- ---- an empty pool
 
@@ -255,3 +272,4 @@ backs_empty store stamp group last s empty_group is plans empty =
     (λ block held. absurd (nothing_in block held))
     (subst (λ (st : Store). AreInBlocks st.spaces filled []) (sym at) (none_in_use store.spaces [] empty))
     (subst (λ (st : Store). WereReleasedBy st.spaces filled s.kept.committed) (sym at) (none_released store.spaces s.kept.committed empty))
+    (subst (λ (o : Option Block). HasMaps s.store.spaces nothing_stored group o no_volumes) (sym empty_group.root_is) tt)

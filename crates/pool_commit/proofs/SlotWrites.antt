@@ -1,12 +1,10 @@
 -- Writes of slots, and what stays in the other slots.
-use Rattle.std.proofs.Common.{◌≡◌, ◌≢◌, ◌⊎◌, ⊎_elim, inl, inr, ℕ, zero, suc, ◌+◌, ◌*◌, ◌≤◌, ◌<◌, Bool, true, false, List, [], ◌∷◌, length, refl, sym, ap, ◌∙◌, subst, arith, Contains}
-use Rattle.std.specs.Prelude.{slice_get}
-use Rattle.std.proofs.lemmas.Bool.Decides.{nat_tests}
+use Rattle.std.proofs.Common.{◌≡◌, ◌≢◌, ◌⊎◌, ⊎_elim, inl, inr, ℕ, zero, suc, ◌+◌, ◌*◌, ◌≤◌, ◌<◌, true, false, List, ◌∷◌, length, refl, sym, ap, ◌∙◌, subst, arith, Contains}
 use Rattle.std.proofs.Common.{Result, Ok, Err, is_ok}
 use Rattle.model_disk.proofs.LawLemmas.{written_bytes_stand, other_bytes_stay}
-use Rattle.model_disk.specs.Call.{Call, Wrote, FailedWrite, is_failed, write_call, flush_call}
+use Rattle.model_disk.specs.Call.{is_failed, write_call, flush_call}
 use Rattle.model_disk.specs.Contents.{covers, touches}
-use Rattle.model_disk.specs.Joint.{Disks, on, bytes_of, content, Stands}
+use Rattle.model_disk.specs.Joint.{Disks, on, bytes_of, content}
 use Rattle.block_store.specs.Plans.{KeepsPlans}
 use Rattle.block_store.specs.Store.{Store}
 use Rattle.pool_model.specs.declared.step.Phase.TheVariants.{Slots}
@@ -17,11 +15,9 @@ use Rattle.uberblock_ring.specs.Place.{slot_at}
 use Rattle.uberblock_ring.specs.Slot.{slot_bytes, slot_number}
 use Rattle.uberblock_ring.specs.Uberblock.{Fits}
 use Rattle.uberblock_ring.specs.declared.uberblock.Uberblock.{Uberblock}
-use Rattle.vdev_label.specs.Place.{label_at}
 use Rattle.pool_commit.specs.declared.kept.SlotWrite.{SlotWrite}
-use Rattle.pool_commit.specs.HasDisks.{AreSlotsBelow}
 use Rattle.pool_commit.specs.Making.{KeepsContent, SlotsMove, SlotsMoveBut}
-use Rattle.pool_commit.specs.Slots.{place_of, ShowsIn, IsShownOrDue}
+use Rattle.pool_commit.specs.Slots.{place_of, ShowsIn}
 use Rattle.pool_commit.proofs.Made.{MadeOne}
 
 pub cases_in : {X : Type 0} (x : X) (xs : List X) (y : X) → Contains (x ∷ xs) y → (y ≡ x) ⊎ Contains xs y

@@ -1,5 +1,5 @@
 -- Uberblocks that have a spelling.
-use Rattle.std.proofs.Common.{◌≡◌, sym, ℕ, zero, suc, ◌<◌, List, [], ◌∷◌, Contains, subst, arith}
+use Rattle.std.proofs.Common.{sym, zero, suc, ◌<◌, List, [], ◌∷◌, Contains, subst, arith}
 use Rattle.std.specs.List.{AllByRecursion}
 use Rattle.block_pointer.specs.Copies.{dvas}
 use Rattle.block_pointer.specs.Dva.{FitsDva}

@@ -12,12 +12,13 @@ use Rattle.block_store.specs.Places.{shapes_of, AreEmpty}
 use Rattle.block_pointer.specs.declared.block.Block.{Block}
 use Rattle.block_store.specs.Blocks.{Contents, nothing_stored}
 use Rattle.block_store.specs.Plans.{Plans}
+use Rattle.block_store.specs.Spaces.{VdevSpace}
 use Rattle.block_store.specs.Store.{Store, is_out}
 use Rattle.pool_commit.specs.declared.kept.KeptGroup.{KeptGroup}
 use Rattle.pool_model.specs.Pools.{PlainPool, no_volumes}
 use Rattle.pool_model.specs.View.{Vdev, started}
 use Rattle.pool_commit.specs.declared.kept.Kept.{Kept}
-use Rattle.pool_commit.specs.Backs.{Backs, KeptLeadsTo, LeadsTo, SpellsKept, kept_pool, SpellsGroup, SpellsRoot}
+use Rattle.pool_commit.specs.Backs.{Backs, HasMaps, KeptHasMaps, KeptLeadsTo, LeadsTo, SpellsKept, kept_pool, SpellsGroup, SpellsRoot}
 use Rattle.pool_commit.specs.Config.{shown, vdevs_from}
 use Rattle.pool_commit.specs.Directories.{SpellsBy}
 use Rattle.pool_commit.specs.Started.{started_on_disks}
@@ -97,6 +98,26 @@ leads_first kept vdevs is group = elim (cases_eq group 3) [
     pool_gone : group ≢ 3 → kept_pool (started vdevs) group ≡ None
     pool_gone other = grind (arith, nat_tests, other)
 
+-- so there are no maps to be its own
+mapped_first : (spaces : List VdevSpace) (kept : Kept) (vdevs : List Vdev) → IsFirst kept → (group : ℕ)
+    → KeptHasMaps spaces nothing_stored group (group_at kept group) (kept_pool (started vdevs) group)
+mapped_first spaces kept vdevs is group = elim (cases_eq group 3) [
+  | inl at ↦
+      subst (λ (o : Option KeptGroup). KeptHasMaps spaces nothing_stored group o (kept_pool (started vdevs) group)) (sym (there at))
+      (subst (λ (o : Option PlainPool). KeptHasMaps spaces nothing_stored group (Some kept.last) o) (sym (pool_there at))
+      (subst (λ (root : Option Block). HasMaps spaces nothing_stored group root no_volumes) (sym is.root) tt))
+  | inr other ↦ subst (λ (o : Option KeptGroup). KeptHasMaps spaces nothing_stored group o (kept_pool (started vdevs) group)) (sym (gone other)) tt
+]
+  where
+    there : group ≡ 3 → group_at kept group ≡ Some kept.last
+    there at = grind (arith, nat_tests, is.committed, at)
+
+    pool_there : group ≡ 3 → kept_pool (started vdevs) group ≡ Some no_volumes
+    pool_there at = grind (arith, nat_tests, at)
+
+    gone : group ≢ 3 → group_at kept group ≡ None
+    gone other = grind (arith, nat_tests, is.committed, is.before, is.earliest, other)
+
 pub starts : (store : Store) (kept : Kept) (stamp : Stamp) (configs : List VdevConfig) → AreShapes store.disks.starts 0 configs (shapes_of store.spaces)
     → ((disk : ℕ) → is_out store.out disk ≡ false) → Plans store nothing_stored nothing_stored → AreEmpty store.spaces → IsFirst kept
     → Backs (record { store = store; kept = kept; planned = None; stamp = stamp }) (started_on_disks (vdevs_from 0 configs))
@@ -112,6 +133,7 @@ starts store kept stamp configs shapes out plans empty first = record {
     kept = kept_first kept (vdevs_from 0 configs) first.committed first.before first.earliest (no_volumes_first kept first);
     plan = refl;
     reached = record {
+      mapped = mapped_first store.spaces kept (vdevs_from 0 configs) first;
       reach = λ group. [];
       leads = leads_first kept (vdevs_from 0 configs) first;
       once = λ group. none_distinct;

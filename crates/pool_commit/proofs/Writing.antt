@@ -1,5 +1,5 @@
 -- What the steps of a plan write.
-use Rattle.std.proofs.Common.{rules, true, false, ◌≡◌, ◌⊎◌, ⊎_elim, inl, inr, ℕ, suc, ◌<◌, Bool, List, [], ◌∷◌, ◌++◌, length, Option, Some, None, refl, sym, ap, ◌∙◌, subst, Contains, Result, arith}
+use Rattle.std.proofs.Common.{rules, true, false, ◌≡◌, ◌⊎◌, ⊎_elim, inl, inr, ℕ, suc, ◌<◌, Bool, List, [], ◌∷◌, ◌++◌, length, Some, None, refl, sym, ap, ◌∙◌, subst, Contains, Result, arith}
 use Rattle.std.specs.Prelude.{◌==◌, ◌||◌}
 use Rattle.std.proofs.lemmas.List.{append_assoc}
 use Rattle.model_disk.specs.Joint.{Disks, on}

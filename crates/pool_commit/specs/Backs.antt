@@ -9,9 +9,11 @@ use Rattle.block_store.specs.Plans.{Plans}
 use Rattle.block_store.specs.Spaces.{VdevSpace}
 use Rattle.block_store.specs.Store.{Store, is_out}
 use Rattle.block_pointer.specs.declared.block.Block.{Block}
+use Rattle.dataset_snapshots.specs.Mapped.{HasItsMaps, HasMapsBehind, HasMapsBy, StandsOnce}
 use Rattle.dataset_snapshots.specs.Pools.{SpellsPool}
 use Rattle.dataset_snapshots.specs.Reach.{reach_of}
 use Rattle.dnode_tree.specs.Rewriting.{AreDistinct}
+use Rattle.pool_maps.specs.Reached.{UseNothing}
 use Rattle.pool_model.specs.Pools.{PlainPool, applied, no_volumes}
 use Rattle.pool_model.specs.View.{View, DueCall, Due, is_planned, is_kept, disks_in_use}
 use Rattle.volume_rules.specs.Index.{Knows}
@@ -109,9 +111,30 @@ KeptLeadsTo stored group None None blocks = blocks ≡ []
 KeptLeadsTo stored group (Some kept) None blocks = ⊥
 KeptLeadsTo stored group None (Some pool) blocks = ⊥
 
+-- on these vdevs the space maps under a group's root call allocated just what it leads to; with no root there are none
+abbrev pub HasMaps : List VdevSpace → Contents → ℕ → Option Block → PlainPool → Type 0
+HasMaps spaces stored group (Some root) pool = (is : SpellsPool stored group root pool) × HasItsMaps spaces is
+HasMaps spaces stored group None pool = Unit {0}
+
+-- so it is of a kept group; one that isn't there has none
+abbrev pub KeptHasMaps : List VdevSpace → Contents → ℕ → Option KeptGroup → Option PlainPool → Type 0
+KeptHasMaps spaces stored group (Some kept) (Some pool) = HasMaps spaces stored group kept.root pool
+KeptHasMaps spaces stored group (Some kept) None = Unit {0}
+KeptHasMaps spaces stored group None pool = Unit {0}
+
+-- What a plan begins with: the space maps under the last root leave free what is unused, and the root leads to each of its blocks once
+-- and has all their sectors in use. With no root no sector is in use.
+abbrev pub BeginsWithMaps : List VdevSpace → Contents → ℕ → Option Block → PlainPool → Type 0
+BeginsWithMaps spaces stored group (Some root) pool = (is : SpellsPool stored group root pool) × HasMapsBy spaces filled is × StandsOnce spaces is
+BeginsWithMaps spaces stored group None pool = UseNothing spaces filled
+
+-- and what it leaves: once these blocks are given back the space maps under the root leave free what is unused with the plan
+abbrev pub LeavesMaps : List VdevSpace → List Block → Contents → ℕ → Block → PlainPool → Type 0
+LeavesMaps spaces gone stored group root pool = (is : SpellsPool stored group root pool) × HasMapsBehind spaces gone is
+
 -- Each kept group leads to blocks, to none of them twice, and no other block is stored. Each of their sectors is in use, or was
 -- released by a later group. What is in use is in a block that the committed group leads to, and what was released was so by that
--- group or an earlier one.
+-- group or an earlier one. Each kept group's space maps call allocated just what it leads to.
 pub record StoresReach (spaces : List VdevSpace) (stored : Contents) (kept : Kept) (pools : ℕ → Option PlainPool) : Type 0 where
   pub reach : ℕ → List Block
   pub leads : (group : ℕ) → KeptLeadsTo stored group (group_at kept group) (pools group) (reach group)
@@ -120,9 +143,11 @@ pub record StoresReach (spaces : List VdevSpace) (stored : Contents) (kept : Kep
   pub held : AreHeld spaces filled kept.committed reach
   pub accounted : AreInBlocks spaces filled (reach kept.committed)
   pub released : WereReleasedBy spaces filled kept.committed
+  pub mapped : (group : ℕ) → KeptHasMaps spaces stored group (group_at kept group) (pools group)
 
 -- A group that is planned leads to blocks, to none of them twice, and beside what is stored no other block is planned. All their
 -- sectors are in use, and no others; those of what the groups before lead to are held for these. No later group released a sector.
+-- Its space maps call allocated just what it leads to.
 pub record PlansReach (spaces : List VdevSpace) (before : ℕ → List Block) (stored planned : Contents) (group : ℕ) (after : KeptGroup) (pool : PlainPool)
     : Type 0 where
   pub reach : List Block
@@ -133,6 +158,7 @@ pub record PlansReach (spaces : List VdevSpace) (before : ℕ → List Block) (s
   pub in_use : AreInUse spaces planned_marks reach
   pub accounted : AreInBlocks spaces planned_marks reach
   pub released : WereReleasedBy spaces planned_marks group
+  pub mapped : HasMaps spaces planned group after.root pool
 
 abbrev pub IsReachOfPlan : List VdevSpace → (ℕ → List Block) → Contents → Contents → Option Planned → View → Type 0
 IsReachOfPlan spaces before stored planned None v = Unit {0}

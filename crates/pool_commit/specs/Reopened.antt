@@ -1,5 +1,5 @@
 -- A pool of which one group is kept: as it is opened, or made on disks.
-use Rattle.std.specs.Prelude.{ℕ, ◌≡◌, ◌≤◌, [], Some, None}
+use Rattle.std.specs.Prelude.{ℕ, ◌≡◌, [], Some, None}
 use Rattle.block_pointer.specs.declared.block.Block.{Block}
 use Rattle.block_store.specs.Opened.{MayBeOpened}
 use Rattle.block_store.specs.Places.{shapes_of}

@@ -3,11 +3,13 @@ ghost use Rattle.std.specs.Prelude.{◌≡◌, ◌⊎◌, ◌↔◌, ◌<◌, �
 ghost use Rattle.block_pointer.specs.Block.{FitsBlock};
 ghost use Rattle.block_pointer.specs.declared.block.Block.{Block};
 ghost use Rattle.block_store.specs.Blocks.{Contents, Extends, AreDistinct, AreStored};
+ghost use Rattle.block_store.specs.Places.{filled};
 ghost use Rattle.block_store.specs.Plans.{Plans};
 ghost use Rattle.block_store.specs.Releases.{copies_of_all, AreReleased, AreAllInUse};
 ghost use Rattle.block_store.specs.Steps.{OnlyReadsAndPlans, AnswersAreTrue};
 ghost use Rattle.dnode_tree.specs.Writes.{IsForRoom};
 ghost use Rattle.raidz_io.specs.Reads.{OnlyReads, AreUntouched};
+ghost use Rattle.pool_maps.specs.Reached.{UseNothing};
 ghost use Rattle.pool_model.specs.Pools.{PlainPool, applied, no_volumes};
 ghost use Rattle.pool_model.specs.View.{View, DueCall, Unplanned, Due, is_planned};
 ghost use Rattle.pool_model.specs.Machine.{IsPlan};
@@ -16,7 +18,7 @@ ghost use Rattle.volume_rules.specs.GoodChanges.{MakesGoodVolumes};
 ghost use Rattle.volume_rules.specs.Index.{Knows};
 ghost use Rattle.block_store.specs.declared.refusal.Refusal.TheVariants as lost_blocks;
 ghost use Rattle.dataset_snapshots.specs.Leaving.{IsReachExchanged};
-ghost use Rattle.pool_commit.specs.Backs.{Backs, LeadsTo, SpellsGroup, SpellsRoot};
+ghost use Rattle.pool_commit.specs.Backs.{Backs, BeginsWithMaps, LeadsTo, LeavesMaps, SpellsGroup, SpellsRoot};
 ghost use Rattle.pool_commit.specs.Directories.{SpellsBy};
 ghost use Rattle.pool_commit.specs.Reading.{PoolAnswersTruly, IsReadFault};
 ghost use Rattle.pool_commit.specs.Reading.{IsUnreadForPlan, IsLostForPlan};
@@ -41,7 +43,7 @@ use txg_pipeline::Pending;
 use volume_rules::{NameIndex, makes_good_volumes};
 use words::LAST_COUNT;
 
-/// Plans the first root of a pool.
+/// Plans the first root of a pool, of which nothing is in use so far.
 fn first_root<D: Disk + Drop>(
     store: &mut BlockStore<D>,
     alloc: Global,
@@ -52,16 +54,20 @@ fn first_root<D: Disk + Drop>(
     ensures steps { OnlyReadsAndPlans store.old store.new [] }
     ensures root { IfOk result (λ first. IsRoot group first.root × FitsBlock first.root) }
     ensures value { IfOk result (λ first. (stored planned : Contents)
-        → Plans store.old stored planned → AnswersAreTrue store.old store.new
+        → Plans store.old stored planned → UseNothing store.old.spaces filled
+        → AnswersAreTrue store.old store.new
         → (later : Contents) × Plans store.new stored later × Extends planned later
         × SpellsRoot later group (Some first.root) (applied group no_volumes items.now)
         × (reach : List Block) × LeadsTo later group (Some first.root)
         (applied group no_volumes items.now) reach
         × IsReachExchanged group planned later [] reach []
         × SpellsBy later group (Some first.root) (applied group no_volumes items.now)
-        first.directory) }
+        first.directory
+        × LeavesMaps store.new.spaces [] later group first.root
+        (applied group no_volumes items.now)) }
     ensures known { IfErr result (λ refusal. (stored planned : Contents)
-        → Plans store.old stored planned → AnswersAreTrue store.old store.new
+        → Plans store.old stored planned → UseNothing store.old.spaces filled
+        → AnswersAreTrue store.old store.new
         → MakesGoodVolumes items.now → IsForRoom refusal ⊎ (refusal ≡ lost_blocks.DiskFault)) }
     ensures refused { IfErr result
         (IsNextRefused store.old store.new None [] group items.now) }
@@ -94,6 +100,7 @@ fn root_after<D: Disk + Drop>(
         (before : List Block)
         → Plans store.old stored planned → SpellsGroup stored (group - 1) last.now pool
         → LeadsTo stored (group - 1) last.now.root pool before
+        → BeginsWithMaps store.old.spaces stored (group - 1) last.now.root pool
         → AnswersAreTrue store.old store.new
         → (later : Contents) × Plans store.new stored later × Extends planned later
         × SpellsRoot later group (Some next.root) (applied group pool items.now)
@@ -101,9 +108,12 @@ fn root_after<D: Disk + Drop>(
         (applied group pool items.now) reach
         × IsReachExchanged group planned later before reach next.replaced.items
         × SpellsBy later group (Some next.root) (applied group pool items.now)
-        next.directory) }
+        next.directory
+        × LeavesMaps store.new.spaces next.replaced.items later group next.root
+        (applied group pool items.now)) }
     ensures known { IfErr result (λ refusal. (stored planned : Contents) (pool : PlainPool)
         → Plans store.old stored planned → SpellsGroup stored (group - 1) last.now pool
+        → BeginsWithMaps store.old.spaces stored (group - 1) last.now.root pool
         → AnswersAreTrue store.old store.new → MakesGoodVolumes items.now
         → IsForRoom refusal ⊎ (refusal ≡ lost_blocks.DiskFault)) }
     ensures refused { IfErr result (IsNextRefused store.old store.new last.now.root
@@ -184,14 +194,18 @@ fn group_after<D: Disk + Drop>(
         (before : List Block)
         → Plans store.old stored planned → SpellsGroup stored (group - 1) last.now pool
         → LeadsTo stored (group - 1) last.now.root pool before
+        → BeginsWithMaps store.old.spaces stored (group - 1) last.now.root pool
         → AnswersAreTrue store.old store.new
         → (later : Contents) × Plans store.new stored later × Extends planned later
         × SpellsGroup later group next.after (applied group pool items.now)
         × (reach : List Block) × LeadsTo later group next.after.root
         (applied group pool items.now) reach
-        × IsReachExchanged group planned later before reach next.replaced.items) }
+        × IsReachExchanged group planned later before reach next.replaced.items
+        × LeavesMaps store.new.spaces next.replaced.items later group next.root
+        (applied group pool items.now)) }
     ensures known { IfErr result (λ refusal. (stored planned : Contents) (pool : PlainPool)
         → Plans store.old stored planned → SpellsGroup stored (group - 1) last.now pool
+        → BeginsWithMaps store.old.spaces stored (group - 1) last.now.root pool
         → AnswersAreTrue store.old store.new → MakesGoodVolumes items.now
         → IsForRoom refusal ⊎ (refusal ≡ lost_blocks.DiskFault)) }
     ensures refused { IfErr result (IsNextRefused store.old store.new last.now.root

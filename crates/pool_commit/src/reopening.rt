@@ -55,7 +55,7 @@ fn empty_group(alloc: Global) -> Result<KeptGroup, AllocError>
 }
 
 impl<D: Disk + Drop> Commit<D> {
-    ghost use Rattle.pool_commit.specs.Backs.{Backs};
+    ghost use Rattle.pool_commit.specs.Backs.{Backs, HasMaps};
     ghost use Rattle.pool_commit.specs.StateOf.{state_of, disks_in};
 
     /// A group over a store, with nothing planned.
@@ -117,9 +117,11 @@ impl<D: Disk + Drop> Commit<D> {
         ensures shapes { IfOk result (λ commit.
             shapes_of (state_of commit).store.spaces ≡ shapes_of store.spaces) }
 
-        // Where the store's disks have the blocks, and the root spells a pool, that pool is committed as the group.
+        // Where the store's disks have the blocks, and the root spells a pool and has its space maps, that pool is committed as the
+        // group.
         ensures backs { IfOk result (λ commit. (stored : Contents) (pool : PlainPool)
             → Holds store stored → AreContentsOf stored group root pool contents
+            → HasMaps store.spaces stored group (Some root) pool
             → Backs (state_of commit)
             (opened_as (vdevs_of store.spaces) (is_out store.out) group pool)) }
         ensures refused { IfErr result (λ refusal. (refusal ≡ Refusal.NoMemory)

@@ -16,7 +16,7 @@ use Rattle.pool_model.proofs.Plans.{nothing_quiet, may_nothing}
 use Rattle.pool_intake.specs.declared.intake.Intake.{Intake}
 use Rattle.pool_intake.specs.Follows.{Follows, KeepsCommitted}
 use Rattle.pool_commit.specs.declared.kept.Planned.{Planned}
-use Rattle.pool_commit.specs.Backs.{IsUberblockOf, Backs, IsPlanOf, IsReachOfPlan, KeptLeadsTo, PlansReach, SpellsGroup, SpellsKept, kept_pool, pool_after}
+use Rattle.pool_commit.specs.Backs.{IsUberblockOf, Backs, IsPlanOf, IsReachOfPlan, KeptHasMaps, KeptLeadsTo, PlansReach, SpellsGroup, SpellsKept, kept_pool, pool_after}
 use Rattle.pool_commit.specs.Calls.{fault_call, unread_call, which_call}
 use Rattle.pool_commit.specs.State.{State, group_at}
 use Rattle.pool_commit.proofs.Made.{made_by_none, told_by_none}
@@ -82,6 +82,8 @@ backs_kept s v w k backs = record {
       held = backs.blocks.reached.held;
       accounted = backs.blocks.reached.accounted;
       released = backs.blocks.reached.released;
+      mapped = λ group.
+          subst (λ (o : Option PlainPool). KeptHasMaps s.store.spaces backs.blocks.stored group (group_at s.kept group) o) (sym (pool_kept v w k group)) (backs.blocks.reached.mapped group);
     };
     plan_reached = reach_kept s v w backs s.planned k backs.blocks.plan backs.blocks.plan_reached;
   };

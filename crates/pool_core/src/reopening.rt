@@ -8,6 +8,7 @@ ghost use Rattle.block_store.specs.Releases.{copies_of_all};
 ghost use Rattle.block_store.specs.Spaces.{VdevSpace};
 ghost use Rattle.block_store.specs.Store.{Holds, is_out};
 ghost use Rattle.dataset_snapshots.specs.Contents.{AreContentsOf};
+ghost use Rattle.pool_commit.specs.Backs.{HasMaps};
 ghost use Rattle.pool_commit.specs.Config.{vdevs_of};
 ghost use Rattle.pool_commit.specs.Slots.{LabelsLieAside};
 ghost use Rattle.pool_model.specs.Pools.{PlainPool, no_volumes};
@@ -81,11 +82,12 @@ impl<D: Disk + Drop> Core<D> {
         ensures shapes { IfOk result (λ core.
             shapes_of (state_of core).commit.store.spaces ≡ shapes_of store.spaces) }
 
-        // Where the store's disks have the blocks, and the root spells a pool whose volumes were made by then, the core is sound, and
-        // represents that pool, committed as the group.
+        // Where the store's disks have the blocks, and the root spells a pool whose volumes were made by then and has its space maps,
+        // the core is sound, and represents that pool, committed as the group.
         ensures represents { IfOk result (λ core. (stored : Contents) (pool : PlainPool)
             → Holds store stored → AreContentsOf stored group root pool contents
-            → IsMadeBy group pool → Represents (state_of core)
+            → HasMaps store.spaces stored group (Some root) pool → IsMadeBy group pool
+            → Represents (state_of core)
             (opened_as (vdevs_of store.spaces) (is_out store.out) group pool)) }
         ensures refused { IfErr result (λ refusal. (refusal ≡ Refusal.NoMemory)
             ⊎ ((refusal ≡ Refusal.BadPointer) × (after : List VdevSpace)

@@ -4,11 +4,13 @@ use Rattle.std.specs.Prelude.{replicate}
 use Rattle.block_pointer.specs.declared.block.Block.{Block}
 use Rattle.block_store.specs.Blocks.{Contents}
 use Rattle.block_store.specs.Places.{shapes_of}
+use Rattle.block_store.specs.Spaces.{VdevSpace}
 use Rattle.block_store.specs.Store.{is_out}
 use Rattle.block_store.specs.declared.shape.VdevShape.{VdevShape}
-use Rattle.dataset_snapshots.specs.Pools.{SpellsPool}
+use Rattle.dataset_snapshots.specs.Mapped.{SpellsWithMaps}
 use Rattle.model_disk.specs.Joint.{Disks}
-use Rattle.pool_commit.specs.Backs.{SpellsGroup, SpellsKept, SpellsRoot, kept_pool}
+use Rattle.pool_commit.proofs.Mapping.{its_maps_over}
+use Rattle.pool_commit.specs.Backs.{HasMaps, KeptHasMaps, SpellsKept, kept_pool}
 use Rattle.pool_commit.specs.Calls.{GrewTo}
 use Rattle.pool_commit.specs.State.{NoneIsOut, group_at}
 use Rattle.pool_commit.specs.declared.kept.Kept.{Kept}
@@ -78,13 +80,18 @@ last_at : (kept : Kept) (group : ℕ) → kept.committed ≡ 3 → group_at kept
 last_at kept group is =
     ap (λ (n : ℕ). if 3 == n then Some kept.last else (if 4 == n then kept.before else (if 5 == n then kept.earliest else None))) is
 
-spelled_if : (stored : Contents) (group : ℕ) (last : KeptGroup) (kept : Bool) (pool : PlainPool) → SpellsKept stored group (Some last) (if kept then Some pool else None) → SpellsGroup stored group last pool
-spelled_if stored group last true pool it = it
-spelled_if stored group last false pool it = absurd it
+mapped_if : (spaces : List VdevSpace) (stored : Contents) (group : ℕ) (last : KeptGroup) (kept : Bool) (pool : PlainPool)
+    → SpellsKept stored group (Some last) (if kept then Some pool else None) → KeptHasMaps spaces stored group (Some last) (if kept then Some pool else None)
+    → HasMaps spaces stored group last.root pool
+mapped_if spaces stored group last true pool it maps = maps
+mapped_if spaces stored group last false pool it maps = absurd it
 
-spelled_root : (stored : Contents) (group : ℕ) (root : Option Block) (b : Block) (pool : PlainPool) → root ≡ Some b → pool ≡ no_volumes → SpellsRoot stored group root pool → SpellsPool stored group b no_volumes
-spelled_root stored group root b pool is none it =
-    subst (λ (p : PlainPool). SpellsPool stored group b p) none (subst (λ (r : Option Block). SpellsRoot stored group r pool) is it)
+mapped_root : (spaces : List VdevSpace) (shapes : List VdevShape) (stored : Contents) (group : ℕ) (root : Option Block) (b : Block) (pool : PlainPool) → root ≡ Some b → pool ≡ no_volumes
+    → shapes_of spaces ≡ shapes → HasMaps spaces stored group root pool → SpellsWithMaps stored shapes group b no_volumes
+mapped_root spaces shapes stored group root b pool is none same maps =
+    let has : HasMaps spaces stored group (Some b) no_volumes =
+    subst (λ (p : PlainPool). HasMaps spaces stored group (Some b) p) none (subst (λ (r : Option Block). HasMaps spaces stored group r pool) is maps) in
+    (has.0, λ after shapes_are. its_maps_over spaces after stored group b no_volumes has.0 (shapes_are ∙ sym same) has.1)
 
 pub spells_none : (old : Disks) (it : NewPool) (before after : CoreState) (root : Block) → it.out.items ≡ none_out (length old.starts) → IsInFront old it before → IsCommitted it before after root
     → SpellsNone old it (disks_of after) root
@@ -105,12 +112,14 @@ spells_none old it before after root none in_front_of done honest =
     let blocks = backs.blocks in
     let kept = after.commit.kept in
     let at = last_at kept 3 (backs.committed ∙ committed) in
-    let spelled = spelled_if blocks.stored 3 kept.last (is_kept w 3) (w.pools 3)
-    (subst (λ (g : Option KeptGroup). SpellsKept blocks.stored 3 g (kept_pool w 3)) at (blocks.kept 3)) in (
+    let spaces = after.commit.store.spaces in
+    let maps = mapped_if spaces blocks.stored 3 kept.last (is_kept w 3) (w.pools 3)
+    (subst (λ (g : Option KeptGroup). SpellsKept blocks.stored 3 g (kept_pool w 3)) at (blocks.kept 3))
+    (subst (λ (g : Option KeptGroup). KeptHasMaps spaces blocks.stored 3 g (kept_pool w 3)) at (blocks.reached.mapped 3)) in (
       blocks.stored,
       λ store over. held_whole after.commit.store store blocks.stored over.disks_are (over.shapes_are ∙ sym done.done.2) done.done.1
           (λ disk. none_marked_in store.out (length old.starts) disk (over.out_is ∙ none)) blocks.plans.held,
-      spelled_root blocks.stored 3 kept.last.root root (w.pools 3) done.root_is pool spelled.root,
+      mapped_root spaces it.shapes.items blocks.stored 3 kept.last.root root (w.pools 3) done.root_is pool done.done.2 maps,
     )
 
 -- and no byte of the disks is lost

@@ -5,7 +5,7 @@ use Rattle.block_pointer.specs.declared.block.Block.{Block}
 use Rattle.block_store.specs.Blocks.{Contents}
 use Rattle.block_store.specs.Places.{shapes_of}
 use Rattle.block_store.specs.Store.{is_out}
-use Rattle.dataset_snapshots.specs.Pools.{SpellsPool}
+use Rattle.dataset_snapshots.specs.Mapped.{SpellsWithMaps}
 use Rattle.model_disk.specs.Joint.{Disks}
 use Rattle.pool_commit.specs.Calls.{GrewTo}
 use Rattle.pool_commit.specs.State.{NoneIsOut}
@@ -78,10 +78,10 @@ pub record IsUnfinished (it : NewPool) (old new : CoreState) (refusal : Refusal)
   pub uncommitted : (¬ IsDone it new replies) ⊎ (new.commit.kept.last.root ≡ None)
   pub cause_is : refusal ≡ cause_in replies
 
--- where all answers were true, the disks have the blocks of a root that spells no volumes
+-- where all answers were true, the disks have the blocks of a root that spells no volumes and has its space maps
 abbrev pub SpellsNone : Disks → NewPool → Disks → Block → Type 0
 SpellsNone old it new root =
-    IsHonestSince old new → (stored : Contents) × HoldOver new it.shapes.items it.out.items stored × SpellsPool stored 3 root no_volumes
+    IsHonestSince old new → (stored : Contents) × HoldOver new it.shapes.items it.out.items stored × SpellsWithMaps stored it.shapes.items 3 root no_volumes
 
 -- bytes of disks that were known are so still, where all answers were true
 abbrev pub KeepsKnown : Disks → NewPool → Disks → Type 0

@@ -5,7 +5,7 @@ use Rattle.block_store.specs.Places.{shapes_of}
 use Rattle.block_store.specs.Blocks.{Contents}
 use Rattle.block_store.specs.Store.{is_out}
 use Rattle.block_store.specs.declared.refusal.Refusal.{Refusal as StoreRefusal}
-use Rattle.dataset_snapshots.specs.Pools.{SpellsPool}
+use Rattle.dataset_snapshots.specs.Mapped.{SpellsWithMaps}
 use Rattle.dataset_snapshots.specs.declared.contents.RootContents.{RootContents}
 use Rattle.model_disk.specs.Joint.{Disks}
 use Rattle.model_disk.specs.Runs.{Makes, no_write}
@@ -51,7 +51,7 @@ pub record IsReadBack (old : Disks) (it : NewPool) (root : Block) (u : Uberblock
   pub root_is : core.commit.kept.last.root ≡ Some u.root
   pub outs : core.commit.store.out ≡ it.out.items
   pub vdevs : shapes_of core.commit.store.spaces ≡ it.shapes.items
-  pub represents : (stored : Contents) → HoldOver old it.shapes.items it.out.items stored → SpellsPool stored 3 root no_volumes
+  pub represents : (stored : Contents) → HoldOver old it.shapes.items it.out.items stored → SpellsWithMaps stored it.shapes.items 3 root no_volumes
       → IsHonestSince old (disks_of core) → Represents core (opened_as (vdevs_in it.shapes.items) (is_out it.out.items) 3 no_volumes)
 
 -- the slots or labels of the disks in use were refused

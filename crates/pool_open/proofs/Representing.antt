@@ -8,6 +8,7 @@ use Rattle.block_store.specs.Elsewhere.{IsForBlocks, WritesElsewhereKeep}
 use Rattle.block_store.specs.Store.{Store, Holds, is_out}
 use Rattle.block_store.specs.declared.shape.VdevShape.{VdevShape}
 use Rattle.dataset_snapshots.specs.Contents.{AreContentsOf}
+use Rattle.dataset_snapshots.specs.Mapped.{SpellsWithMaps}
 use Rattle.dataset_snapshots.specs.declared.contents.RootContents.{RootContents}
 use Rattle.pool_commit.specs.Slots.{LabelsLieAside}
 use Rattle.pool_core.specs.Represents.{Represents}
@@ -55,8 +56,8 @@ held_behind_claim keep old read new shapes out later u stored laid makes claims 
 -- what is said of a core over claimed disks, for what was read of the root
 abbrev pub CoreRepresents : Disks → List VdevShape → List Bool → Uberblock → RootContents → CoreState → Type 0
 CoreRepresents new shapes later claimed contents core =
-    (stored : Contents) (pool : PlainPool) → HoldOver new shapes later stored → AreContentsOf stored claimed.group claimed.root pool contents → IsMadeBy claimed.group pool
-    → Represents core (opened_as (vdevs_in shapes) (is_out later) claimed.group pool)
+    (stored : Contents) (pool : PlainPool) → HoldOver new shapes later stored → AreContentsOf stored claimed.group claimed.root pool contents
+    → SpellsWithMaps stored shapes claimed.group claimed.root pool → IsMadeBy claimed.group pool → Represents core (opened_as (vdevs_in shapes) (is_out later) claimed.group pool)
 
 pub represents_root : WritesElsewhereKeep → (old surveyed read new : Disks) (shapes : List VdevShape) (out later : List Bool) (claimed : Uberblock) (contents : RootContents)
     (core : CoreState) → IsLaidOver old shapes out → length later ≡ length old.starts → Makes no_write old surveyed → Makes no_write surveyed read
@@ -67,6 +68,6 @@ represents_root keep old surveyed read new shapes out later claimed contents cor
     let before = both_made no_write old surveyed read surveys reads in
     represents stored pool
     (held_behind_claim keep old read new shapes out later claimed stored laid before claims count fits hold)
-    (root stored pool (held_behind_reads keep old surveyed shapes out later stored laid surveys hold) spells
+    (root stored pool (held_behind_reads keep old surveyed shapes out later stored laid surveys hold) spells.0
     (honest_within (IsClaimWrite read.starts later claimed) old surveyed read new surveys claims.makes honest_now))
-    made
+    spells made

@@ -6,7 +6,7 @@ use Rattle.raidz_io.specs.Reads.{IsHonestSince}
 use Rattle.block_pointer.specs.declared.block.Block.{Block}
 use Rattle.block_store.specs.Store.{is_out}
 use Rattle.block_store.specs.declared.shape.VdevShape.{VdevShape}
-use Rattle.dataset_snapshots.specs.Pools.{SpellsPool}
+use Rattle.dataset_snapshots.specs.Mapped.{SpellsWithMaps}
 use Rattle.pool_core.specs.Represents.{Represents}
 use Rattle.pool_core.specs.State.{CoreState, disks_of}
 use Rattle.pool_model.specs.View.{opened_as}
@@ -32,8 +32,8 @@ opens_possible may old read new shapes later rewind s core few on surveyed makes
     let taken = it.claim.taken in
     let tree = are taken it.claim.reached in
     let stands : TreeStands trees later (content old) taken.root = subst (λ (root : Block). TreeStands trees later (content old) root) (ap (λ (u : Uberblock). u.root) it.claim.is) it.may.tree in
-    let spells : SpellsPool tree.stored s.claimed.group s.claimed.root (pools taken) =
-    subst (λ (u : Uberblock). SpellsPool tree.stored u.group u.root (pools taken)) (sym it.claim.is) tree.spells in
+    let spells : SpellsWithMaps tree.stored shapes s.claimed.group s.claimed.root (pools taken) =
+    subst (λ (u : Uberblock). SpellsWithMaps tree.stored shapes u.group u.root (pools taken)) (sym it.claim.is) (tree.spells, tree.mapped) in
     let made : IsMadeBy s.claimed.group (pools taken) = subst (λ (u : Uberblock). IsMadeBy u.group (pools taken)) (sym it.claim.is) tree.made in
     record {
       claim = it.claim;

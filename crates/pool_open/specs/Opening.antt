@@ -10,7 +10,7 @@ use Rattle.block_store.specs.Spaces.{VdevSpace}
 use Rattle.block_store.specs.Store.{Store, is_out}
 use Rattle.block_store.specs.declared.refusal.Refusal.{Refusal as StoreRefusal}
 use Rattle.block_store.specs.declared.shape.VdevShape.{VdevShape}
-use Rattle.dataset_snapshots.specs.Pools.{SpellsPool}
+use Rattle.dataset_snapshots.specs.Mapped.{SpellsWithMaps}
 use Rattle.dataset_snapshots.specs.declared.contents.RootContents.{RootContents}
 use Rattle.pool_core.specs.Represents.{Represents}
 use Rattle.pool_core.specs.State.{CoreState, disks_of}
@@ -60,10 +60,11 @@ pub record IsKeptThrough (later : List Bool) (rewind : ℕ) (old new : Disks) : 
 
 -- ---- an open that is done
 
--- Where the disks still in use have the blocks of a root that spells a pool, and all answers were true, the core represents that pool.
+-- Where the disks still in use have the blocks of a root that spells a pool and has its space maps, and all answers were true, the core
+-- represents that pool.
 abbrev pub RepresentsRoot : Disks → List VdevShape → List Bool → Uberblock → CoreState → Type 0
 RepresentsRoot old shapes later claimed core =
-    (stored : Contents) (pool : PlainPool) → HoldOver old shapes later stored → SpellsPool stored claimed.group claimed.root pool
+    (stored : Contents) (pool : PlainPool) → HoldOver old shapes later stored → SpellsWithMaps stored shapes claimed.group claimed.root pool
     → IsHonestSince old (disks_of core) → IsMadeBy claimed.group pool
     → Represents core (opened_as (vdevs_in shapes) (is_out later) claimed.group pool)
 

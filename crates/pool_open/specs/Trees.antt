@@ -5,6 +5,7 @@ use Rattle.raidz_io.specs.Reads.{IsHonestSince}
 use Rattle.block_store.specs.Blocks.{Contents}
 use Rattle.block_store.specs.Store.{is_out}
 use Rattle.block_store.specs.declared.shape.VdevShape.{VdevShape}
+use Rattle.dataset_snapshots.specs.Mapped.{HasItsMapsOver}
 use Rattle.dataset_snapshots.specs.Pools.{SpellsPool}
 use Rattle.pool_core.specs.Represents.{Represents}
 use Rattle.pool_core.specs.State.{CoreState, disks_of}
@@ -17,10 +18,12 @@ use Rattle.volume_rules.specs.NowMoves.{IsMadeBy}
 use Rattle.pool_open.specs.Held.{HoldOver}
 use Rattle.pool_open.specs.Words.{vdevs_in}
 
--- The tree below the uberblock's root is that of the pool: where it stands on disks of these sizes, the blocks that spell the pool may be read.
+-- The tree below the uberblock's root is that of the pool, and has its space maps: where it stands on disks of these sizes, the blocks that
+-- spell the pool may be read.
 pub record IsTreeOf (trees : Trees) (starts : List (List ℕ)) (shapes : List VdevShape) (out : List Bool) (u : Uberblock) (pool : PlainPool) : Type 0 where
   pub stored : Contents
   pub spells : SpellsPool stored u.group u.root pool
+  pub mapped : HasItsMapsOver shapes spells
   pub made : IsMadeBy u.group pool
   pub held : (disks : Disks) → map length disks.starts ≡ map length starts → TreeStands trees out (content disks) u.root → HoldOver disks shapes out stored
 

@@ -5,6 +5,7 @@ ghost use Rattle.block_store.specs.Opened.{MayBeOpened};
 ghost use Rattle.block_store.specs.Places.{shapes_of};
 ghost use Rattle.block_store.specs.Store.{is_out};
 ghost use Rattle.dataset_snapshots.specs.Contents.{AreContentsOf};
+ghost use Rattle.dataset_snapshots.specs.Mapped.{SpellsWithMaps};
 ghost use Rattle.pool_core.specs.Represents.{Represents};
 ghost use Rattle.pool_core.specs.StateOf.{disks_in, state_of};
 ghost use Rattle.pool_model.specs.Pools.{PlainPool};
@@ -126,6 +127,7 @@ pub fn core_over<D: Disk + Drop>(
     ensures represents { IfOk result (λ core. (stored : Contents) (pool : PlainPool)
         → HoldOver disks shapes.now out.now stored
         → AreContentsOf stored claimed.now.group claimed.now.root pool contents
+        → SpellsWithMaps stored shapes.now claimed.now.group claimed.now.root pool
         → IsMadeBy claimed.now.group pool → Represents (state_of core)
         (opened_as (vdevs_in shapes.now) (is_out out.now) claimed.now.group pool)) }
     ensures refused { IfErr result (λ refusal. (refusal ≡ Refusal.NoMemory)

@@ -14,16 +14,19 @@ use Rattle.block_store.specs.Elsewhere.{IsForBlocks}
 use Rattle.block_store.specs.Places.{ArePlacesIn, IsCopy, shapes_of}
 use Rattle.block_store.specs.Places.{filled as filled_marks, planned as planned_marks}
 use Rattle.block_store.specs.Plans.{Plans}
+use Rattle.block_store.specs.Spaces.{VdevSpace}
 use Rattle.block_store.specs.Store.{Store, is_out, outs, outs_from}
 use Rattle.block_store.proofs.Planning.{arrived, is_among, placed_lies, some_or_none, stored_by}
 use Rattle.block_store.proofs.Sectors.{lie_in_sectors}
+use Rattle.dataset_snapshots.specs.Mapped.{SpellsWithMaps}
 use Rattle.dataset_snapshots.specs.Pools.{SpellsPool}
 use Rattle.dataset_snapshots.specs.Reach.{reach_of}
 use Rattle.uberblock_ring.specs.declared.uberblock.Uberblock.{Uberblock}
 use Rattle.pool_commit.specs.declared.kept.KeptGroup.{KeptGroup}
 use Rattle.pool_commit.specs.declared.kept.Planned.{Planned}
-use Rattle.pool_commit.specs.Backs.{Backs, HasPlan, IsPlanOf, IsReachOfPlan, PlansReach, SpellsKept, SpellsRoot, pool_after}
+use Rattle.pool_commit.specs.Backs.{Backs, HasMaps, HasPlan, IsPlanOf, IsReachOfPlan, KeptHasMaps, PlansReach, SpellsKept, pool_after}
 use Rattle.pool_commit.specs.State.{NoneIsOut, State, group_at}
+use Rattle.pool_commit.proofs.Mapping.{its_maps_over}
 use Rattle.pool_model.specs.Pools.{PlainPool}
 use Rattle.pool_model.specs.View.{View, is_kept}
 use Rattle.pool_open.specs.Held.{HoldOver}
@@ -70,15 +73,19 @@ hold_over store disks held none written places stand =
 
 -- ---- a kept group
 
-spells_root : (stored : Contents) (group : ℕ) (root : Block) (found : Option Block) (pool : PlainPool) → found ≡ Some root → SpellsRoot stored group found pool
-    → SpellsPool stored group root pool
-spells_root stored group root found pool is spells = subst (λ (o : Option Block). SpellsRoot stored group o pool) is spells
+-- with its maps, on all vdevs of these shapes
+root_with_maps : (spaces : List VdevSpace) (stored : Contents) (group : ℕ) (root : Block) (found : Option Block) (pool : PlainPool) → found ≡ Some root
+    → HasMaps spaces stored group found pool → SpellsWithMaps stored (shapes_of spaces) group root pool
+root_with_maps spaces stored group root found pool is has =
+    let here : HasMaps spaces stored group (Some root) pool = subst (λ (o : Option Block). HasMaps spaces stored group o pool) is has in
+    (here.0, λ after same. its_maps_over spaces after stored group root pool here.0 same here.1)
 
-spells_kept : (stored : Contents) (group : ℕ) (root : Block) (found : Option KeptGroup) (kept : KeptGroup) (pool : PlainPool) (here : Bool) → found ≡ Some kept
-    → kept.root ≡ Some root → SpellsKept stored group found (if here then Some pool else None) → SpellsPool stored group root pool
-spells_kept stored group root found kept pool true is root_is spells =
-    spells_root stored group root kept.root pool root_is (subst (λ (o : Option KeptGroup). SpellsKept stored group o (Some pool)) is spells).root
-spells_kept stored group root found kept pool false is root_is spells = absurd (subst (λ (o : Option KeptGroup). SpellsKept stored group o None) is spells)
+kept_with_maps : (spaces : List VdevSpace) (stored : Contents) (group : ℕ) (root : Block) (found : Option KeptGroup) (kept : KeptGroup) (pool : PlainPool) (here : Bool)
+    → found ≡ Some kept → kept.root ≡ Some root → SpellsKept stored group found (if here then Some pool else None)
+    → KeptHasMaps spaces stored group found (if here then Some pool else None) → SpellsWithMaps stored (shapes_of spaces) group root pool
+kept_with_maps spaces stored group root found kept pool true is root_is spells has =
+    root_with_maps spaces stored group root kept.root pool root_is (subst (λ (o : Option KeptGroup). KeptHasMaps spaces stored group o (Some pool)) is has)
+kept_with_maps spaces stored group root found kept pool false is root_is spells has = absurd (subst (λ (o : Option KeptGroup). SpellsKept stored group o None) is spells)
 
 -- all that is filled is the tree of each kept group
 pub kept_tree : (s : State) (v : View) (u : Uberblock) → Backs s v → IsWhole s → IsOfKept s v u
@@ -90,9 +97,13 @@ kept_tree s v u backs whole of =
     let reached = backs.blocks.reached in
     let leads = led_kept stored u.group u.root (group_at s.kept u.group) of.kept (v.pools u.group) (is_kept v u.group) (reached.reach u.group) of.is of.root
     (reached.leads u.group) in
+    let mapped : SpellsWithMaps stored (shapes_of s.store.spaces) u.group u.root (v.pools u.group) =
+    kept_with_maps s.store.spaces stored u.group u.root (group_at s.kept u.group) of.kept (v.pools u.group) (is_kept v u.group) of.is of.root (backs.blocks.kept u.group)
+    (reached.mapped u.group) in
     let tree : IsTreeOf (filled_trees s.store.spaces s.store.disks) s.store.disks.starts (shapes_of s.store.spaces) s.store.out u (v.pools u.group) = record {
       stored = stored;
-      spells = spells_kept stored u.group u.root (group_at s.kept u.group) of.kept (v.pools u.group) (is_kept v u.group) of.is of.root (backs.blocks.kept u.group);
+      spells = mapped.0;
+      mapped = mapped.1;
       made = of.made;
       held = λ disks same tree.
           hold_over s.store disks stored none stores.held.blocks stores.held.places
@@ -123,6 +134,7 @@ kept_tree_too s u pool it = record {
   tree = record {
     stored = it.tree.stored;
     spells = it.tree.spells;
+    mapped = it.tree.mapped;
     made = it.tree.made;
     held = λ disks same stands. it.tree.held disks same (more_stand s disks u.root stands);
   };
@@ -190,10 +202,13 @@ plan_tree s v plan backs whole is written made =
     let Leads : Uberblock → Type 0 = λ u. (spells : SpellsPool planned (suc v.committed) u.root (pool_after v)) × (reach_of spells ≡ reached.reach) in
     let leads : Leads plan.uberblock = subst Leads (sym has.uberblock.is)
     (led_root planned (suc v.committed) plan.after.root has.uberblock.root (pool_after v) reached.reach has.uberblock.is_root reached.leads) in
+    let WithMaps : Uberblock → Type 0 = λ u. SpellsWithMaps planned (shapes_of s.store.spaces) u.group u.root (pool_after v) in
+    let mapped : WithMaps plan.uberblock = subst WithMaps (sym has.uberblock.is)
+    (root_with_maps s.store.spaces planned (suc v.committed) has.uberblock.root plan.after.root (pool_after v) has.uberblock.is_root reached.mapped) in
     let tree : IsTreeOf (block_trees s.store.spaces s.store.disks) s.store.disks.starts (shapes_of s.store.spaces) s.store.out plan.uberblock (pool_after v) = record {
       stored = planned;
-      spells = subst (λ (u : Uberblock). SpellsPool planned u.group u.root (pool_after v)) (sym has.uberblock.is)
-          (spells_root planned (suc v.committed) has.uberblock.root plan.after.root (pool_after v) has.uberblock.is_root has.spells.root);
+      spells = mapped.0;
+      mapped = mapped.1;
       made = subst (λ (u : Uberblock). IsMadeBy u.group (pool_after v)) (sym has.uberblock.is)
           (made_by_applied v.committed (v.pools v.committed) (v.ledger (suc v.committed)) made);
       held = λ disks same tree.

@@ -4,7 +4,6 @@ use Rattle.std.specs.Prelude.{◌-◌, ◌^◌, map, replicate}
 use Rattle.std.proofs.lemmas.List.{length-replicate}
 use Rattle.std.proofs.lemmas.List.Elements.{Contains-append_left, Contains-append_right}
 use Rattle.model_disk.specs.Joint.{JointCall, MayLeaveAll, bytes_of, content}
-use Rattle.block_pointer.specs.declared.block.Block.{Block}
 use Rattle.block_store.specs.Places.{shapes_of}
 use Rattle.block_store.specs.Opened.{LieOn, MayBeOpened}
 use Rattle.block_store.specs.Store.{Store, is_out}
@@ -12,7 +11,6 @@ use Rattle.block_store.specs.declared.shape.VdevShape.{VdevShape}
 use Rattle.block_store.proofs.Making.{none_since}
 use Rattle.block_store.proofs.Reopening.{is_opened}
 use Rattle.uberblock_ring.specs.declared.uberblock.Uberblock.{Uberblock}
-use Rattle.dataset_snapshots.specs.Pools.{SpellsPool}
 use Rattle.pool_commit.specs.declared.kept.Planned.{Planned}
 use Rattle.pool_commit.specs.Backs.{Backs, HasPlan, IsPlanOf}
 use Rattle.pool_commit.specs.State.{State}
@@ -32,7 +30,7 @@ use Rattle.pool_slots.specs.Commits.{AreAt, AreOffLabels, LeadAlways, only_last}
 use Rattle.pool_slots.specs.Opens.{CanOpen, OpenGives, also_begun}
 use Rattle.pool_slots.specs.PhaseLaws.{BlocksBegin, BlocksEnd}
 use Rattle.pool_slots.specs.Phases.{AreInBlocks}
-use Rattle.pool_slots.specs.Possible.{IsInReach, Leads, Possible, TreeStands, Trees, held_by}
+use Rattle.pool_slots.specs.Possible.{IsInReach, Leads, Possible, Trees, held_by}
 use Rattle.pool_slots.specs.Slots.{AreSettled, InUse, IsOffLabels}
 use Rattle.volume_rules.specs.NowMoves.{IsMadeBy}
 use Rattle.pool_stops.specs.Filled.{is_filled}
@@ -67,6 +65,7 @@ tree_on : (trees : Trees) (starts others : List (List ℕ)) (shapes : List VdevS
 tree_on trees starts others shapes out u pool sizes tree = record {
   stored = tree.stored;
   spells = tree.spells;
+  mapped = tree.mapped;
   made = tree.made;
   held = λ disks same stands. tree.held disks (same ∙ sizes) stands;
 }
@@ -104,14 +103,14 @@ stopped_steps_lead s v new last before images whole stops leaves =
 claimed_tree : (trees : Trees) (starts : List (List ℕ)) (shapes : List VdevShape) (out : List Bool) (taken u : Uberblock) (pool : PlainPool) → u ≡ record taken { claim = u.claim }
     → IsTreeOf trees starts shapes out taken pool → IsTreeOf trees starts shapes out u pool
 claimed_tree trees starts shapes out taken u pool is tree =
-    let group : u.group ≡ taken.group = ap (λ (x : Uberblock). x.group) is in
-    let root : u.root ≡ taken.root = ap (λ (x : Uberblock). x.root) is in
-    record {
+    let here : IsTreeOf trees starts shapes out (record taken { claim = u.claim }) pool = record {
       stored = tree.stored;
-      spells = subst (λ n. SpellsPool tree.stored n u.root pool) (sym group) (subst (λ (b : Block). SpellsPool tree.stored taken.group b pool) (sym root) tree.spells);
-      made = subst (λ n. IsMadeBy n pool) (sym group) tree.made;
-      held = λ disks same stands. tree.held disks same (subst (λ (b : Block). TreeStands trees out (content disks) b) root stands);
-    }
+      spells = tree.spells;
+      mapped = tree.mapped;
+      made = tree.made;
+      held = tree.held;
+    } in
+    subst (λ (w : Uberblock). IsTreeOf trees starts shapes out w pool) (sym is) here
 
 pub reach_behind : (p : Possible) (u w : Uberblock) → IsInReach (also_begun u p) w → (w ≡ u) ⊎ IsInReach p w
 reach_behind p u w (inr before) = inr (inr before)

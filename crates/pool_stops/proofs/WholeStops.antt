@@ -37,6 +37,7 @@ whole_on trees starts others shapes out u pool sizes it = record {
   tree = record {
     stored = it.tree.stored;
     spells = it.tree.spells;
+    mapped = it.tree.mapped;
     made = it.tree.made;
     held = λ disks same stands. it.tree.held disks (same ∙ sizes) stands;
   };
@@ -51,6 +52,7 @@ claimed_whole trees starts shapes out taken u pool is it =
       tree = record {
         stored = it.tree.stored;
         spells = it.tree.spells;
+        mapped = it.tree.mapped;
         made = it.tree.made;
         held = it.tree.held;
       };

@@ -503,10 +503,10 @@ fn replies_to(alloc: Global, writing: u32) -> Result<String, Fail> {
 
 /// The steps that write the first root and an empty volume over three disks with one parity. Of
 /// the volume the dnodes and the set have two copies of three columns: 12 columns. Of the meta
-/// object set all has three copies: the directory, the configuration, stale spans, space maps, a
-/// dead list, the dnodes and the set of three columns, and a record, which is one sector, of two:
-/// 69. A step writes four.
-pub(crate) const WRITING: u32 = 21;
+/// object set all has three copies: the directory, the configuration, stale spans, the table of space
+/// maps, two space maps, since the volume's copies lie in two metaslabs, a dead list, the dnodes and
+/// the set of three columns, and a record, which is one sector, of two: 87. A step writes four.
+pub(crate) const WRITING: u32 = 25;
 
 /// Behind these one flushes, and three write slots.
 pub(crate) const BEHIND: u32 = 4;

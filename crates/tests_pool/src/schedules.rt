@@ -6,11 +6,12 @@ use std::test::Fail;
 
 /// Blocks of two sectors, partly written by two groups, with each disk missing in turn, and with
 /// two. The way to a volume lies on the disks: where too many are missing, a hole can't be read
-/// either. Group 5 writes 75 columns: three of each of the three blocks of data; 18 of each
+/// either. Group 5 writes 93 columns: three of each of the three blocks of data; 18 of each
 /// volume, whose indirect block, dnodes and set have two copies of three columns; and of the meta
-/// object set, of which all has three copies, six of each record, which has one sector, and 18 of
-/// the dnodes and the set. So group 6 writes 48, and group 7 those nine of the set alone. A step
-/// makes four.
+/// object set, of which all has three copies, six of each record, which has one sector, 18 of
+/// the dnodes and the set, and 18 of two space maps, of one block each: of the metaslab that has the
+/// data and the first copies, and of the one that has the second copies. So group 6 writes 66, and group 7,
+/// which changes no map, those nine of the set alone. A step makes four.
 const PARTS_OF_BLOCKS: &str = "pool 1 3 8388608 12 2
 hold 1 -> held 4
 create 1 1 v 4096 1024 -> receipt 4
@@ -30,7 +31,7 @@ release 1 -> released
 close -> closed 5
 quiesced -> quiesced 5
 plan -> planned 5
-times 19 device -> moved Blocks
+times 24 device -> moved Blocks
 device -> moved BlocksFlush
 times 3 device -> moved Slots
 device -> committed 5
@@ -61,7 +62,7 @@ release 1 -> released
 close -> closed 6
 quiesced -> quiesced 6
 plan -> planned 6
-times 12 device -> moved Blocks
+times 17 device -> moved Blocks
 device -> moved BlocksFlush
 times 3 device -> moved Slots
 device -> committed 6
@@ -115,8 +116,9 @@ under 4 w 0 4 -> 00x4
 
 /// Two blocks with a column on each of five disks. Behind their ten columns group 5 writes 26 of
 /// the volume, two copies of five of the indirect block and the dnodes and of three of the set,
-/// and 30 of the meta object set, three copies of two of the record, of five of the dnodes and of
-/// three of the set: 66 writes, and then five flushes, 20 slots and five flushes.
+/// and 60 of the meta object set, three copies of two of the record, of five of the dnodes, of
+/// three of the set and of five of each of two space maps: 96 writes, and then five flushes, 20 slots and
+/// five flushes.
 const FIVE_DISKS: &str = "pool 1 5 8388608 12 2
 device -> refused 13 NotNow
 hold 1 -> held 4
@@ -132,7 +134,7 @@ close -> closed 5
 quiesced -> quiesced 5
 plan -> planned 5
 plan -> refused 13 NotNow
-times 17 device -> moved Blocks
+times 24 device -> moved Blocks
 times 2 device -> moved BlocksFlush
 times 5 device -> moved Slots
 device -> moved SlotsFlush
@@ -221,10 +223,10 @@ read w 510 4 -> 05x2 00x2
 under 5 v 510 4 -> 03x4
 ";
 
-/// Disk 1 fails its first write for group 5, behind 27 of blocks and four of slots for group 4, and disk 2 its first flush for
-/// group 6, behind two for each group before: that is one disk too many. Groups 5 and 6 have 39 columns each, of which the other
-/// two disks have 26.
-const LEFT_OUT: &str = "fault 1 write 31
+/// Disk 1 fails its first write for group 5, behind 33 of blocks and four of slots for group 4, and disk 2 its first flush for
+/// group 6, behind two for each group before: that is one disk too many. Groups 5 and 6 have 57 columns each, 18 of them of two space
+/// maps, of which the other two disks have 38.
+const LEFT_OUT: &str = "fault 1 write 37
 fault 2 flush 4
 pool 1 3 8388608 12 2
 hold 1 -> held 4
@@ -241,7 +243,7 @@ device -> replan 1
 device -> refused 13 NotNow
 under 4 v 511 2 -> 00x2
 plan -> planned 5
-times 7 device -> moved Blocks
+times 10 device -> moved Blocks
 device -> moved BlocksFlush
 times 2 device -> moved Slots
 device -> committed 5
@@ -252,7 +254,7 @@ release 1 -> released
 close -> closed 6
 quiesced -> quiesced 6
 plan -> planned 6
-times 7 device -> moved Blocks
+times 10 device -> moved Blocks
 device -> refused 4 Suspended
 device -> refused 4 Suspended
 under 5 v 511 2 -> refused 2 DiskFault
@@ -275,10 +277,10 @@ release 1 -> refused 6 NoHold
 device -> refused 4 Suspended
 ";
 
-/// Two disks fail their first slot for group 5, behind 27 writes of blocks and four slots each for group 4, and 15 and 16 writes for
+/// Two disks fail their first slot for group 5, behind 33 writes of blocks and four slots each for group 4, and 21 and 22 writes for
 /// group 5: without the first the commit goes on, without the second the pool is suspended, and the group isn't committed.
-const TOO_FEW_SLOTS: &str = "fault 0 write 46
-fault 1 write 47
+const TOO_FEW_SLOTS: &str = "fault 0 write 58
+fault 1 write 59
 pool 1 3 8388608 12 2
 hold 1 -> held 4
 create 1 1 v 1024 512 -> receipt 4
@@ -291,7 +293,7 @@ release 1 -> released
 close -> closed 5
 quiesced -> quiesced 5
 plan -> planned 5
-times 12 device -> moved Blocks
+times 16 device -> moved Blocks
 device -> moved BlocksFlush
 device -> moved Slots
 device -> refused 4 Suspended
@@ -302,11 +304,11 @@ under 4 v 510 4 -> refused 2 DiskFault
 under 5 v 510 4 -> refused 17 GroupGone
 ";
 
-/// Each disk fails each call behind group 4, for which each has 27 writes, a flush, four slots and a flush: what one pending write
+/// Each disk fails each call behind group 4, for which each has 33 writes, a flush, four slots and a flush: what one pending write
 /// has whole is read all the same, and a byte beside it isn't.
-const COVERED: &str = "fault 0 from 33
-fault 1 from 33
-fault 2 from 33
+const COVERED: &str = "fault 0 from 39
+fault 1 from 39
+fault 2 from 39
 pool 1 3 8388608 12 2
 hold 1 -> held 4
 create 1 1 v 2048 512 -> receipt 4
@@ -363,9 +365,9 @@ read v 0 512 -> aax512
 ";
 
 /// With 13 blocks it is full: what is above them lies in what is left behind them. The ninth
-/// write of the plan to disk 1 fails, behind 50 for the groups before, and the next plan uses its
-/// room.
-const JUST_ROOM: &str = "fault 1 write 58
+/// write of the plan to disk 1 fails, behind 62 for the groups before, six of each for two space maps, and the
+/// next plan uses its room.
+const JUST_ROOM: &str = "fault 1 write 70
 pool 1 2 8388608 12 1
 hold 1 -> held 4
 create 1 1 v 4194304 131072 -> receipt 4
@@ -558,44 +560,47 @@ const NO_DISK_2: &str = "missing 0
 under 5 v 510 4 -> refused 2 DiskFault
 ";
 
-/// One write of blocks of one disk fails. For group 4 the disks have 27 of these each, for group 5 15, 16 and 15, behind four of
-/// slots: the first on disk 0, one in the middle on disk 1, and the last on disk 2, of each group.
+/// One write of blocks of one disk fails. For group 4 the disks have 33 of these each, for group 5 21, 22 and 21, behind four of
+/// slots, of which six are for two space maps: the first on disk 0, one in the middle on disk 1, and the last on disk 2, of each
+/// group.
 const WRITE_FAULTS: [(&str, &str); 6] = [
     ("fault 0 at 0\n", NO_DISK_0),
-    ("fault 1 write 13\n", NO_DISK_1),
-    ("fault 2 write 26\n", NO_DISK_2),
-    ("fault 0 write 31\n", NO_DISK_0),
-    ("fault 1 write 38\n", NO_DISK_1),
-    ("fault 2 write 45\n", NO_DISK_2),
+    ("fault 1 write 16\n", NO_DISK_1),
+    ("fault 2 write 32\n", NO_DISK_2),
+    ("fault 0 write 37\n", NO_DISK_0),
+    ("fault 1 write 47\n", NO_DISK_1),
+    ("fault 2 write 57\n", NO_DISK_2),
 ];
 
 /// One write of a slot fails: the first on disk 0 for group 4, or the last on disk 2 for group 5.
 const SLOT_FAULTS: [(&str, &str); 2] = [
-    ("fault 0 write 27\n", NO_DISK_0),
-    ("fault 2 write 49\n", NO_DISK_2),
+    ("fault 0 write 33\n", NO_DISK_0),
+    ("fault 2 write 61\n", NO_DISK_2),
 ];
 
 /// One flush of one disk fails: the first for group 4, which is the call behind the writes of blocks, or the one behind its slots, or
 /// one of those for group 5.
 const FLUSH_FAULTS: [(&str, &str); 6] = [
-    ("fault 0 at 27\n", NO_DISK_0),
-    ("fault 1 at 27\n", NO_DISK_1),
-    ("fault 2 at 27\n", NO_DISK_2),
+    ("fault 0 at 33\n", NO_DISK_0),
+    ("fault 1 at 33\n", NO_DISK_1),
+    ("fault 2 at 33\n", NO_DISK_2),
     ("fault 0 flush 1\n", NO_DISK_0),
     ("fault 1 flush 2\n", NO_DISK_1),
     ("fault 2 flush 3\n", NO_DISK_2),
 ];
 
-/// One read of one disk fails. The disks have 3, 4 and 6 reads for what is pending, then 5, 7 and 11 for the plan of group 5, then 7, 6
-/// and 4 under it, and 3, 4 and 6 under group 4: so each of these faults comes, the first on the first read of a disk, and the last on
-/// the last.
-const READ_FAULTS: [(&str, &str); 6] = [
+/// One read of one disk fails. The disks have 3, 4 and 6 reads for what is pending, then 15, 8 and 22 for the plan of group 5, of which
+/// 10, 1 and 11 are for the space maps, then 7, 6 and 4 under it, and 3, 4 and 6 under group 4: so each of these faults comes, the
+/// first on the first read of a disk, and the last on the last. Those of number 16 are for the maps.
+const READ_FAULTS: [(&str, &str); 8] = [
     ("fault 0 read 0\n", ""),
     ("fault 1 read 3\n", ""),
     ("fault 2 read 6\n", ""),
-    ("fault 0 read 8\n", ""),
-    ("fault 1 read 20\n", ""),
-    ("fault 2 read 26\n", ""),
+    ("fault 0 read 16\n", ""),
+    ("fault 2 read 16\n", ""),
+    ("fault 0 read 18\n", ""),
+    ("fault 1 read 21\n", ""),
+    ("fault 2 read 37\n", ""),
 ];
 
 /// Behind it, two groups are committed all the same.

@@ -63,7 +63,19 @@ const COMMITTED: &str = "device -> committed 5
 ";
 
 /// Steps between the two, which write four columns each.
-const WRITES: &str = "device -> moved Blocks
+const FIVE_WRITES: &str = "device -> moved Blocks
+device -> moved Blocks
+device -> moved Blocks
+device -> moved Blocks
+device -> moved Blocks
+";
+
+const SIX_WRITES: &str = "device -> moved Blocks
+device -> moved Blocks
+device -> moved Blocks
+device -> moved Blocks
+device -> moved Blocks
+device -> moved Blocks
 ";
 
 const TEN_WRITES: &str = "device -> moved Blocks
@@ -164,15 +176,24 @@ const IN_MEMORY: [[&str; 4]; 5] = [
 /// What the core replies. The block that is written in group 5 has two columns; the indirect
 /// block above it, the volume's dnodes and its set two copies of three, which are 18; the record
 /// three copies of two; the dnodes of the meta object set and that set three of three, which are
-/// 18: 44 columns. Group 4 makes a volume and the first root: 81 columns.
+/// 18, and two space maps too, which are 18 more: 62 columns. Group 4 makes a volume and the first root,
+/// with its maps: 99 columns.
 const OVER_DISKS: [[&str; 7]; 5] = [
     [FIRST, "", "", "", "", "", ""],
     [FIRST, TWO_GROUPS, "", "", "", "", ""],
     [
-        FIRST, REFUSALS, PLANNED, TEN_WRITES, WRITES, SLOTS, COMMITTED,
+        FIRST, REFUSALS, PLANNED, TEN_WRITES, SIX_WRITES, SLOTS, COMMITTED,
     ],
     [FIRST, KEPT, "", "", "", "", ""],
-    [CAUSES, TEN_WRITES, TEN_WRITES, WRITES, SLOTS, NO_CAUSES, ""],
+    [
+        CAUSES,
+        TEN_WRITES,
+        TEN_WRITES,
+        FIVE_WRITES,
+        SLOTS,
+        NO_CAUSES,
+        "",
+    ],
 ];
 
 /// Pools that are made over disks, and those that are not.

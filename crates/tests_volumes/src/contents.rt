@@ -33,7 +33,8 @@ fn shape_of(
     Ok(contents.names.find(&name))
 }
 
-/// Whether the contents have the rows of the directory, the shape of `v` and none of `u`, and all 18 blocks of the root.
+/// Whether the contents have the rows of the directory, the shape of `v` and none of `u`, and all 20 blocks of the root: two are space
+/// maps, since the volumes' blocks lie in two metaslabs.
 fn outcomes(contents: &RootContents, alloc: Global) -> Result<[bool; 4], Fail> {
     let shape = VolumeShape {
         size: SIZE,
@@ -45,7 +46,7 @@ fn outcomes(contents: &RootContents, alloc: Global) -> Result<[bool; 4], Fail> {
         has_rows(&contents.directory, &[(b'v', 5), (b'w', 7)]),
         shape_of(contents, alloc, b'v')? == Some(shape),
         shape_of(contents, alloc, b'u')?.is_none(),
-        contents.blocks.len() == 18,
+        contents.blocks.len() == 20,
     ])
 }
 

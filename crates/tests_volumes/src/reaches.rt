@@ -72,13 +72,14 @@ fn is_replaced(root: &Block, store: &mut Store, alloc: Global) -> Result<bool, F
 
 /// What that root leads to: with as many reads as it asks, and with one less.
 ///
-/// Ten blocks have three copies: the root; the one block of its set's dnodes; and a block each of the four tables, the two
-/// records and the two dead lists. Of `w` there are two blocks, the object set and its dnodes, and of `v` besides an indirect
-/// block and the three of data. Seven of all are read: the root, its dnodes, two of `w` and three of `v`.
+/// Twelve blocks have three copies: the root; the one block of its set's dnodes; and a block each of the four tables, the two
+/// records, the two dead lists, and the space maps of the two metaslabs where the volumes lie: all else has one copy, or two in two
+/// metaslabs. Of `w` there are two blocks, the object set and its dnodes, and of `v` besides an indirect block and the three of
+/// data. Seven of all are read: the root, its dnodes, two of `w` and three of `v`.
 fn outcomes(store: &mut Store, alloc: Global) -> Result<[bool; 3], Fail> {
     let root = written_root(store, alloc)?;
     Ok([
-        reached(&root, store, alloc, 7) == Ok(([3, 5, 10], 0)),
+        reached(&root, store, alloc, 7) == Ok(([3, 5, 12], 0)),
         reached(&root, store, alloc, 6) == Err(Refusal::BadPointer),
         is_replaced(&root, store, alloc)?,
     ])

@@ -21,4 +21,5 @@ returns-clause-value g c = λ stored planned plans honest.
       made.3,
       made.4,
       subst (λ (rows : List DirectoryRow). IsReachExchanged c.args.group planned made.0 (blocks_listed (λ number. []) rows) (blocks_listed made.3 c.make_all.new.self.directory) []) c.new.ensures made.5,
+      made.6,
     )

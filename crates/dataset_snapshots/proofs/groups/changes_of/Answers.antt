@@ -14,6 +14,7 @@ use Rattle.meta_objset.specs.declared.directory.DirectoryRow.{DirectoryRow}
 use Rattle.dataset_snapshots.specs.Leaving.{IsReachExchanged}
 use Rattle.dataset_snapshots.specs.Reach.{blocks_listed, parts_of}
 use Rattle.dataset_snapshots.proofs.ChangedRows.{blocks_at, look, looked_listed, with_parts}
+use Rattle.dataset_snapshots.proofs.Copied.{adds_on}
 use Rattle.dataset_snapshots.proofs.Exchanges.{given_then}
 use Rattle.dataset_snapshots.proofs.Numbered.{parts_listed, rows_given}
 use Rattle.dataset_snapshots.proofs.GroupRoot.{changes_once, changes_within, making_begins, ready}
@@ -89,6 +90,7 @@ returns-clause-value g c =
       given_then c.args.group planned placed.0 made.0 (joined (parts_of stored root.birth is.objects is.rows pool.volumes is.volumes)) (blocks_listed changed_lists is.rows)
           (blocks_listed made.3 then.0.rows) placed.5 placed.2 made.2 from_parts to_rows,
       then.1 ∙ sym both.1,
+      adds_on planned placed.0 made.0 placed.8 made.6,
     )) (ok_both c.with_directory.result _ _ c.with_directory.ensures.value c.with_directory.ensures.directory)
 
 pub returns-in_err-changes-clause-refused : goal.returns-in_err-changes-clause-refused
@@ -109,8 +111,8 @@ returns-clause-places g c =
     let made = c.in_ok-make_all.ensures.places in
     IfOk-weaker c.with_directory.result _ _
     (λ all both.
-    volumes_have c.args.store.now c.place_written.new.store c.make_all.new.store c.args.group c.args.opened making c.args.actions.now last all.changes.items c.in_ok-changes.ensures.steps.shapes
-    c.in_ok-changes.ensures.places refl made
+    volumes_have c.args.store.now c.place_written.new.store c.make_all.new.store c.args.group c.args.opened making c.args.actions.now last all.changes.items all.next both.1 c.max-next.ensures
+    c.in_ok-changes.ensures.steps.shapes c.in_ok-changes.ensures.places refl made
     (group_changes c.args.opened making last c.args.actions.now made.made c.len-count.result all.changes.items c.in_ok-changes.ensures.numbers c.in_ok-changes.ensures.writes refl c.max-next.ensures
-    (omega (arith, c.len-count.ensures, c.in_ok-changes.changes.ok.0)) made.objects both.0 both.1))
-    (ok_both c.with_directory.result _ _ c.with_directory.ensures.same c.with_directory.ensures.more)
+    (omega (arith, c.len-count.ensures, c.in_ok-changes.changes.ok.0)) made.objects both.0.0 both.0.1))
+    (ok_both c.with_directory.result _ _ (ok_both c.with_directory.result _ _ c.with_directory.ensures.same c.with_directory.ensures.more) c.with_directory.ensures.next_is)

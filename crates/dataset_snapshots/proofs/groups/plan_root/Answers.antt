@@ -14,6 +14,7 @@ use Rattle.dnode.specs.declared.object_set.ObjectSetKind.{ObjectSetKind}
 use Rattle.dnode.specs.declared.object_set.ObjectSetKind.TheVariants.{Meta}
 use Rattle.objset.specs.declared.changes.SetCopies.{SetCopies}
 use Rattle.objset.specs.Changes.{HasNoRoom, changed, copies_of}
+use Rattle.dataset_snapshots.proofs.Copied.{adds_of_root}
 use Rattle.dataset_snapshots.proofs.Numbered.{none_behind, set_planned}
 use Rattle.dataset_snapshots.proofs.groups.plan_root.Goals as goal
 
@@ -46,7 +47,8 @@ returns-clause-steps g c = steps_on _ _ _ _ c.in_ok-rewrite.ensures.steps c.plan
 pub returns-clause-value : goal.returns-clause-value
 returns-clause-value g c =
     IfOk-weaker c.plan_set.result _ _
-    (λ root both stored planned bound objects own blocks plans are le honest.
+    (λ root all stored planned bound objects own blocks plans are le honest.
+    let both = all.0 in
     let one = c.in_ok-rewrite.ensures.changed stored planned bound objects own blocks plans are le
     (true_before c.args.store.now c.change.new.store c.plan_set.new.store c.plan_set.ensures.steps.reads honest) in
     let two = both.0 stored one.1 one.2 in (
@@ -66,8 +68,10 @@ returns-clause-value g c =
       c.in_ok-extend_from_slice.ensures.items ∙ ap (λ (bs : List Block). c.args.replaced.now.items ++ bs) c.deref.ensures.value,
       set_planned (copies_of c.args.set.now.kind) planned one.1 two.0 c.args.group c.args.set.now c.in_ok-rewrite.rewrite c.args.changes.now (changed c.args.changes.now objects) own blocks root _
           (none_behind stored bound c.args.set.now objects own blocks are) c.requires.order one.3 two.2 both.1,
+      adds_of_root c.args.set.now.kind planned one.1 two.0 c.args.group c.in_ok-rewrite.rewrite c.args.changes.now _ own blocks root _ c.requires.kind one.3 two.2
+          (all.1 ∙ three (c.in_ok-rewrite.ensures.kind ∙ c.requires.kind)),
     ))
-    (ok_both c.plan_set.result _ _ c.plan_set.ensures.planned c.plan_set.ensures.birth)
+    (ok_both c.plan_set.result _ _ (ok_both c.plan_set.result _ _ c.plan_set.ensures.planned c.plan_set.ensures.birth) c.plan_set.ensures.copies)
 
 pub returns-clause-no_room : goal.returns-clause-no_room
 returns-clause-no_room g c =

@@ -1,4 +1,7 @@
-use Rattle.std.proofs.Common.{◌≡◌, ◌∷◌, ℕ, List, length, refl, sym, ap, ◌∙◌, subst, arith}
+use Rattle.dataset_snapshots.specs.declared.making.Making.{Making}
+use Rattle.dataset_snapshots.specs.Making.{IsReady}
+use Rattle.std.proofs.lemmas.List.Elements.{All-cons, All-weaker}
+use Rattle.std.proofs.Common.{◌≡◌, ◌∷◌, ℕ, List, length, refl, sym, ap, ◌∙◌, subst, arith, All, ◌<◌}
 use Rattle.objset.specs.declared.changes.Change.{Change}
 use Rattle.objset.specs.declared.changes.ObjectChange.{ObjectChange}
 use Rattle.dataset_snapshots.specs.Demands.{WritesDirectory}
@@ -32,3 +35,20 @@ returns-clause-more c = λ other.
     let directory = c.in_ok-change.ensures in
     first_is (length c.args.making.directory) c.args.making.changes.items _ c.in_ok-change.change c.in_ok-put_first.ensures directory.number
     (c.args.making.directory, refl, λ object is. (directory.may object is, directory.made object is))
+
+below_next : (making : Making) → IsReady making → All (λ change. change.number < making.next) making.changes.items
+below_next making ready =
+    All-weaker (λ (change : ObjectChange). (4 < change.number) × (change.number < making.next)) (λ change. change.number < making.next) (λ change both. both.1) making.changes.items ready.numbers
+
+pub returns-then-len-count-clause-next : goal.returns-then-len-count-clause-next
+returns-then-len-count-clause-next c = record { below = below_next c.args.making c.requires.ready; behind = c.requires.ready.behind; within = c.requires.ready.within }
+
+pub returns-clause-next : goal.returns-clause-next
+returns-clause-next c =
+    let ready = c.requires.ready in record {
+      below = subst (All (λ (change : ObjectChange). change.number < c.args.making.next)) (sym c.in_ok-put_first.ensures)
+          (All-cons (λ (change : ObjectChange). change.number < c.args.making.next) c.in_ok-change.change c.args.making.changes.items
+          (let behind = ready.behind in omega (arith, c.in_ok-change.ensures.number, behind)) (below_next c.args.making ready));
+      behind = ready.behind;
+      within = ready.within;
+    }

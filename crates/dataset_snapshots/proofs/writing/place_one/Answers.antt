@@ -17,8 +17,9 @@ use Rattle.block_pointer.specs.Block.{FitsBlock}
 use Rattle.volume_rules.specs.Overlay.{after_writes}
 use Rattle.volume.specs.Writing.{AreBlocksOf, IsArrayWith}
 use Rattle.dataset_snapshots.proofs.Asking.{volume_places}
+use Rattle.dataset_snapshots.proofs.Copied.{adds_none, adds_of_set}
 use Rattle.dataset_snapshots.proofs.Datasets.{has_dataset}
-use Rattle.dataset_snapshots.specs.Leaving.{IsReachExchanged}
+use Rattle.dataset_snapshots.specs.Leaving.{AddsData, IsReachExchanged}
 use Rattle.dataset_snapshots.specs.Reach.{blocks_of_dataset}
 use Rattle.dataset_snapshots.proofs.Reaching.{of_record}
 use Rattle.dataset_snapshots.proofs.KeptVolumes.{volume_blocks}
@@ -29,7 +30,7 @@ use Rattle.dataset_snapshots.proofs.writing.place_one.Goals as goal
 -- what is planned of a volume that had these blocks
 abbrev HasPlaced : Store → Contents → Contents → ℕ → Rewritten → List ℕ → List Block → Type 0
 HasPlaced new stored planned group done after before =
-    (later : Contents) × Plans new stored later × Extends planned later × IsExchangedVolume planned later group done.volume after before done.replaced.items
+    (later : Contents) × Plans new stored later × Extends planned later × IsExchangedVolume planned later group done.volume after before done.replaced.items × AddsData planned later
 
 -- whether or not blocks were put
 by_blocks : (old new : Store) (stored planned : Contents) (bound group : ℕ) (volume : VolumeSet) (array after : List ℕ) (is : Spells stored bound volume array) (puts : Vec BlockWrite Global) (done : Rewritten)
@@ -47,14 +48,16 @@ by_blocks old new stored planned bound group volume array after is puts done le 
           subst (λ (s : Store). Plans s stored planned) (sym same.0) plans,
           λ block bytes known. known,
           volume_unplaced stored planned bound group volume array after is puts.items done le plans.kept none with same.1.0 same.1.1,
+          adds_none planned,
         )
-    by_list (item ∷ items) some = (
-      placed.0,
-      placed.1,
-      placed.2,
-      volume_placed stored planned placed.0 bound group volume array after is puts done are with shape.0 shape.1
-          (placed.4 (λ none. let clash : item ∷ items ≡ [] = sym some ∙ none in absurd cc)),
-    )
+    by_list (item ∷ items) some =
+        let put = placed.4 (λ none. let clash : item ∷ items ≡ [] = sym some ∙ none in absurd cc) in (
+          placed.0,
+          placed.1,
+          placed.2,
+          volume_placed stored planned placed.0 bound group volume array after is puts done are with shape.0 shape.1 put,
+          adds_of_set planned placed.0 group _ _ _ _ _ _ _ put.planned_is,
+        )
 
 pub returns-in_err-placed-clause-known : goal.returns-in_err-placed-clause-known
 returns-in_err-placed-clause-known g c =
@@ -93,6 +96,7 @@ returns-clause-value g c = λ stored planned bound there writes row volume plans
       c.in_ok-placed.placed.replaced.items,
       c.in_ok-extend_from_slice.ensures.items ∙ ap (λ (bs : List Block). c.args.replaced.now.items ++ bs) c.deref.ensures.value,
       subst (λ (bs : List Block). IsReachExchanged c.args.group planned given.0 (blocks_of_dataset is) bs c.in_ok-placed.placed.replaced.items) (sym to.1) given.3.2,
+      given.4,
     )
 
 pub returns-clause-places : goal.returns-clause-places

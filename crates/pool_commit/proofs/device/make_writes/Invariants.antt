@@ -1,4 +1,3 @@
-use Rattle.std.proofs.Common.{List}
 use Rattle.model_disk.specs.Runs.{Makes}
 use Rattle.raidz_io.specs.declared.writes.ColumnWrite.{ColumnWrite}
 use Rattle.pool_commit.specs.Making.{MadeWrites}

@@ -21,7 +21,7 @@ opened-requires-2-clause-labels g c =
     lies_of c.labels_of_opened_lie.ensures c.args.disks c.args.shapes.now c.args.out.now c.in_ok-store.store over c.requires.may
 
 pub returns-in-Ok-clause-represents : goal.returns-in-Ok-clause-represents
-returns-in-Ok-clause-represents g c stored pool hold are made =
+returns-in-Ok-clause-represents g c stored pool hold are spells made =
     let over : IsStoreOver c.args.disks c.args.shapes.now c.args.out.now c.in_ok-store.store = record {
       disks_are = c.in_ok-store.ensures.disks;
       shapes_are = c.in_ok-store.ensures.shapes;
@@ -31,7 +31,8 @@ returns-in-Ok-clause-represents g c stored pool hold are made =
     let S : List VdevShape → List Bool → Type 0 = λ s o. Represents (state_of c.in-Ok.core) (opened_as (vdevs_in s) (is_out o) c.args.claimed.now.group pool) in
     subst (λ (s : List VdevShape). S s c.args.out.now) c.in_ok-store.ensures.shapes
     (subst (λ (o : List Bool). S (shapes_of c.in_ok-store.store.spaces) o) c.in_ok-store.ensures.out
-    (c.in-Ok.ensures.represents stored pool (hold c.in_ok-store.store over) are made))
+    (c.in-Ok.ensures.represents stored pool (hold c.in_ok-store.store over) are
+    (spells.0, spells.1 c.in_ok-store.store.spaces c.in_ok-store.ensures.shapes) made))
 
 pub returns-in-Err-clause-refused : goal.returns-in-Err-clause-refused
 returns-in-Err-clause-refused g c =

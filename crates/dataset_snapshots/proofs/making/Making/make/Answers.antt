@@ -10,6 +10,7 @@ use Rattle.pool_model.specs.declared.item.Change.{Change}
 use Rattle.dataset_snapshots.specs.declared.new_volume.NewVolume.{NewVolume}
 use Rattle.dataset_snapshots.specs.Demands.{HasNewPlaces, IsThereAlready}
 use Rattle.dataset_snapshots.specs.NewVolumes.{IsNewVolume}
+use Rattle.dataset_snapshots.proofs.Copied.{adds_none}
 use Rattle.dataset_snapshots.proofs.MakingDemands.{has_change, lacks_change, one_made, sized_change, sized_refused}
 use Rattle.dataset_snapshots.proofs.MakingSteps.{goes_on_after, ready_after, volume_made, volume_passed}
 use Rattle.dataset_snapshots.proofs.making.Making.make.Goals as goal
@@ -35,6 +36,7 @@ returns-then-is_some-clause-value g c = λ stored planned plans honest.
       plans,
       λ block bytes known. known,
       λ objects lists pool spells. volume_passed c.args.self.now c.args.change.now c.in_ok-new.new c.args.group there.0 planned objects lists pool c.in_ok-new.ensures.is there.1 spells,
+      adds_none planned,
     )
 
 pub returns-then-self-gt-NUMBERS_END-clause-steps : goal.returns-then-self-gt-NUMBERS_END-clause-steps
@@ -64,6 +66,7 @@ returns-clause-value g c =
       λ objects lists pool spells.
           volume_made c.args.self.now c.add.new.self c.args.change.now c.in_ok-new.new c.args.group c.in_ok-object_set.object_set c.record-dataset.result planned is.0 objects lists pool
           c.in_ok-new.ensures.is c.requires.ready lacks added c.record-dataset.ensures.value is.2 is.3 is.4 spells,
+      is.5,
     ))
     c.add.ensures.added
 

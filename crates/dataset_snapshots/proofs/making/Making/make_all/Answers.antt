@@ -9,6 +9,7 @@ use Rattle.volume.proofs.Putting.{lacks_on}
 use Rattle.dataset_snapshots.specs.Demands.{MakesAll}
 use Rattle.dataset_snapshots.specs.Making.{SpellsMaking}
 use Rattle.dataset_snapshots.specs.Reach.{blocks_listed}
+use Rattle.dataset_snapshots.proofs.Copied.{adds_none, adds_on}
 use Rattle.dataset_snapshots.proofs.Exchanges.{given_then, same_given}
 use Rattle.dataset_snapshots.proofs.MakingDemands.{action_refused, makes_more, makes_none, taken_more}
 use Rattle.dataset_snapshots.proofs.MakingSteps.{goes_on_none, goes_on_on, one_good, pool_more}
@@ -20,7 +21,13 @@ loop-action-init g c = record {
   ready = c.requires.ready;
   goes_on = goes_on_none c.args.self.now;
   next = omega arith;
-  value = λ stored planned plans honest. (planned, plans, λ block bytes known. known, λ objects lists pool spells. (lists, spells, same_given c.args.group planned (blocks_listed lists c.args.self.now.directory)));
+  value = λ stored planned plans honest. (
+    planned,
+    plans,
+    λ block bytes known. known,
+    λ objects lists pool spells. (lists, spells, same_given c.args.group planned (blocks_listed lists c.args.self.now.directory)),
+    adds_none planned,
+  );
   made = makes_none c.args.store.now c.args.group c.args.self.now;
 }
 
@@ -70,6 +77,7 @@ loop-action-preserved g c =
                   given_then c.args.group planned one.0 two.0 (blocks_listed lists c.args.self.now.directory) (blocks_listed first.0 c.loop-action.self.directory)
                       (blocks_listed last.0 c.make.new.self.directory) [] one.2 two.2 first.2 last.2,
                 ),
+            adds_on planned one.0 two.0 one.4 two.4,
           );
       made = subst (λ (actions : List Action). MakesAll c.args.store.now c.make.new.store c.args.group c.args.self.now c.make.new.self actions)
           (sym (taken_more c.args.actions.now c.loop-action.action-index c.action-item.result c.loop-action-test.true c.action-item.is))
@@ -100,4 +108,5 @@ returns-clause-value g c = λ stored planned objects lists pool plans spells hon
       subst (λ actions. SpellsMaking done.0 c.args.group objects made.0 c.loop-action.self (fold (λ p a. changed c.args.group p a.change) pool actions))
           (take_all c.loop-action.action-index c.args.actions.now c.loop-action-test.false) made.1,
       made.2,
+      done.4,
     )

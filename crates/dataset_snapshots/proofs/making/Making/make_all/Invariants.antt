@@ -7,6 +7,7 @@ use Rattle.block_store.specs.Steps.{OnlyReadsAndPlans, AnswersAreTrue}
 use Rattle.objset.specs.Objects.{Object}
 use Rattle.pool_model.specs.Pools.{PlainPool, changed}
 use Rattle.dataset_snapshots.specs.Demands.{MakesAll}
+use Rattle.dataset_snapshots.specs.Leaving.{AddsData}
 use Rattle.dataset_snapshots.specs.Making.{GoesOn, IsReady, SpellsMaking}
 use Rattle.dataset_snapshots.proofs.MakingSteps.{IsMadeFrom}
 use Rattle.dataset_snapshots.proofs.making.Making.make_all.Given as goal
@@ -21,6 +22,6 @@ invariant-loop-action g l = record {
   value : (stored planned : Contents) → Plans l.fn.store stored planned → AnswersAreTrue l.fn.store l.store
       → (later : Contents) × Plans l.store stored later × Extends planned later
       × ((objects : ℕ → Option Object) (lists : ℕ → List Block) (pool : PlainPool) → SpellsMaking planned l.group objects lists l.fn.self pool
-      → IsMadeFrom planned later l.group objects lists l.fn.self l.self (fold (λ p a. changed l.group p a.change) pool (take l.action-index l.actions)));
+      → IsMadeFrom planned later l.group objects lists l.fn.self l.self (fold (λ p a. changed l.group p a.change) pool (take l.action-index l.actions))) × AddsData planned later;
   made : MakesAll l.fn.store l.store l.group l.fn.self l.self (take l.action-index l.actions);
 }

@@ -2,6 +2,7 @@ use Rattle.std.proofs.Common.{ap, sym, subst}
 use Rattle.std.specs.Prelude.{replicate}
 use Rattle.block_pointer.specs.declared.block.Block.{Block}
 use Rattle.dnode_tree.proofs.Refusing.{passed_on}
+use Rattle.dataset_snapshots.proofs.Copied.{adds_of_set}
 use Rattle.dataset_snapshots.proofs.VolumeBlocks.{IsNew, volume_new}
 use Rattle.dataset_snapshots.proofs.MakingRefusals.{not_config}
 use Rattle.dataset_snapshots.proofs.new_volume.NewVolume.planned.Goals as goal
@@ -32,6 +33,7 @@ returns-clause-value g c = λ stored planned plans honest.
       is.2,
       new.0,
       new.1,
+      adds_of_set planned is.0 c.args.group _ _ _ _ _ _ _ is.4.planned_is,
     )
 
 pub returns-in_err-volume-clause-refused : goal.returns-in_err-volume-clause-refused

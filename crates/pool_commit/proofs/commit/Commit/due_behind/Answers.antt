@@ -1,6 +1,5 @@
-use Rattle.std.proofs.Common.{ℕ, ◌≡◌, List, length, sym, subst}
+use Rattle.std.proofs.Common.{length, sym, subst}
 use Rattle.pool_commit.specs.HasDisks.{AreSlotsBelow}
-use Rattle.pool_commit.specs.declared.kept.SlotWrite.{SlotWrite}
 use Rattle.pool_commit.proofs.Disks.{slots_below}
 use Rattle.pool_commit.proofs.commit.Commit.due_behind.Goals as goal
 

@@ -1,11 +1,10 @@
-use Rattle.std.proofs.Common.{◌≡◌, inl, inr, ⊎_elim, List, [], ◌++◌, ℕ, Option, Some, None, min, refl, sym, ap, ◌∙◌, subst, length}
+use Rattle.std.proofs.Common.{◌≡◌, inl, inr, ⊎_elim, List, [], ℕ, Option, Some, None, min, refl, sym, ap, ◌∙◌, subst, length}
 use Rattle.pool_commit.specs.Calls.{GrewTo}
 use Rattle.model_disk.specs.Joint.{Disks}
-use Rattle.pool_commit.specs.declared.device.Progress.{Progress}
 use Rattle.pool_commit.specs.declared.kept.Planned.{Planned}
 use Rattle.pool_commit.specs.HasDisks.{HasDisks, IsPlannedOn}
-use Rattle.pool_commit.specs.Making.{flushes_left, slots_left, MadeCalls, FailedCall}
-use Rattle.pool_commit.specs.Progress.{Progresses, CarriesOn, LeavesOut}
+use Rattle.pool_commit.specs.Making.{flushes_left, MadeCalls}
+use Rattle.pool_commit.specs.Progress.{CarriesOn, LeavesOut}
 use Rattle.pool_commit.specs.Backs.{left_calls}
 use Rattle.block_store.specs.Store.{Store}
 use Rattle.pool_model.specs.View.{DueCall}

@@ -1,4 +1,4 @@
-use Rattle.std.proofs.Common.{◌≡◌, ℕ, List, Option, Some, None, ap, arith, subst, sym, ◌∙◌}
+use Rattle.std.proofs.Common.{List, ap, arith, subst, sym, ◌∙◌}
 use Rattle.pool_model.specs.Pools.{no_volumes}
 use Rattle.vdev_label.specs.Plain.{PlainVdev}
 use Rattle.volume_rules.specs.Index.{Knows}

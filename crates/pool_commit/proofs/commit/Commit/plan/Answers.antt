@@ -7,7 +7,8 @@ use Rattle.block_store.specs.Store.{outs}
 use Rattle.pool_model.specs.View.{Unplanned}
 use Rattle.pool_commit.specs.declared.kept.KeptGroup.{KeptGroup}
 use Rattle.pool_commit.specs.declared.kept.Planned.{Planned}
-use Rattle.pool_commit.specs.Backs.{SpellsGroup}
+use Rattle.pool_commit.specs.Backs.{BeginsWithMaps, SpellsGroup}
+use Rattle.pool_commit.proofs.PlanMaps.{begins_with_maps}
 use Rattle.pool_commit.specs.Reading.{IsFaultIn}
 use Rattle.pool_commit.specs.Room.{IsNextRefused, IsPlanRefused}
 use Rattle.pool_commit.specs.Space.{GivesBack}
@@ -204,6 +205,10 @@ returns-in-Err-clause-refused g c = λ v backs none few items good.
     let spelled : SpellsGroup begun.blocks.stored (c.saturating_add-group.result - 1) c.last-last.result.now (v.pools v.committed) =
     subst (λ (n : ℕ). SpellsGroup begun.blocks.stored n c.last-last.result.now (v.pools v.committed)) (sym before)
     (subst (λ (kept : KeptGroup). SpellsGroup begun.blocks.stored v.committed kept (v.pools v.committed)) (sym c.last-last.ensures) (last_spelled s v begun)) in
+    let begins : BeginsWithMaps c.begin_plan.new.self.spaces begun.blocks.stored (c.saturating_add-group.result - 1) c.last-last.result.now.root (v.pools v.committed) =
+    subst (λ (n : ℕ). BeginsWithMaps c.begin_plan.new.self.spaces begun.blocks.stored n c.last-last.result.now.root (v.pools v.committed)) (sym before)
+    (subst (λ (kept : KeptGroup). BeginsWithMaps c.begin_plan.new.self.spaces begun.blocks.stored v.committed kept.root (v.pools v.committed)) (sym c.last-last.ensures)
+    (begins_with_maps s v begun c.begin_plan.ensures.free)) in
     ⊎_elim (λ memory. inl (c.from.ensures ∙ memory))
     (λ other. inr (⊎_elim
     (λ space. inr (c.from.ensures ∙ space))
@@ -211,7 +216,7 @@ returns-in-Err-clause-refused g c = λ v backs none few items good.
     (record { cause = c.in-Err.refusal; refused = refused g c; answered = c.from.ensures }) begun c.in-Err.ensures.steps.reads
     (subst (IsFaultIn c.begin_plan.new.self c.group_after.new.store) (sym c.from.ensures) fault))) other))
     (plan_faults c.begin_plan.new.self c.group_after.new.store c.in-Err.refusal
-    (λ honest. c.in-Err.ensures.known begun.blocks.stored begun.blocks.planned (v.pools v.committed) begun.blocks.plans spelled honest good))
+    (λ honest. c.in-Err.ensures.known begun.blocks.stored begun.blocks.planned (v.pools v.committed) begun.blocks.plans spelled begins honest good))
 
 pub returns-in-Err-clause-bad : goal.returns-in-Err-clause-bad
 returns-in-Err-clause-bad g c = λ is. absurd (no_config c.in-Err.refusal (sym c.from.ensures ∙ is))

@@ -1,5 +1,4 @@
-use Rattle.std.proofs.Common.{rules, ℕ, ◌≡◌, ◌<◌, ◌≤◌, ◌^◌, List, length, sym, subst, arith}
-use Rattle.uberblock_ring.specs.Uberblock.{Fits}
+use Rattle.std.proofs.Common.{rules}
 use Rattle.pool_commit.proofs.stamp.Stamp.uberblock.Goals as goal
 
 pub returns-clause-fits : goal.returns-clause-fits
