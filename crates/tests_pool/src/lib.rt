@@ -11,6 +11,8 @@ mod faulty_pool;
 #[cfg(test)]
 mod many_blocks;
 #[cfg(test)]
+mod overwritten;
+#[cfg(test)]
 mod parts;
 #[cfg(test)]
 mod places;
