@@ -7,7 +7,7 @@ use Rattle.std.proofs.lemmas.List.{append-nil, append_assoc}
 use Rattle.block_pointer.specs.declared.dva.Dva.{Dva}
 use Rattle.raidz_map.specs.Layout.{asize}
 use Rattle.raidz_io.proofs.Written.{same_some}
-use Rattle.block_store.specs.declared.choice.Spread.{Spread}
+use Rattle.block_store.specs.declared.choice.Wanted.{Wanted}
 use Rattle.block_store.specs.declared.choice.Spread.TheVariants.{Vdevs, Metaslabs, Anywhere}
 use Rattle.block_store.specs.Spaces.{VdevSpace}
 use Rattle.space_map.proofs.RunLemmas.{is_named}
@@ -21,36 +21,40 @@ at_item [] i x within is = absurd (omega arith)
 at_item (y ∷ ys) zero x within is = ap Some (sym is)
 at_item (y ∷ ys) (suc i) x within is = at_item ys i x (omega arith) is
 
--- no metaslab of the vdevs before this one has room and may be taken
-abbrev pub NoneBefore : List VdevSpace → List Dva → ℕ → ℕ → Spread → ℕ → Type 0
-NoneBefore spaces taken sectors copies spread n =
-    (v metaslab : ℕ) → v < n → (there : HasRoomFor spaces sectors copies v metaslab) → ¬ MayTake there.room.space.shape taken v metaslab spread
+-- no metaslab of the vdevs from this one on and before that one has room and may be taken
+abbrev pub NoneBetween : List VdevSpace → List Dva → Wanted → ℕ → ℕ → Type 0
+NoneBetween spaces taken wanted first n =
+    (v metaslab : ℕ) → first ≤ v → v < n → (there : HasRoomFor spaces wanted.sectors wanted.copies v metaslab)
+    → ¬ MayTake there.room.space.shape taken v metaslab wanted.spread
 
-pub none_of_one_more : (spaces : List VdevSpace) (taken : List Dva) (sectors copies : ℕ) (spread : Spread) (n : ℕ) (space : VdevSpace)
-    → NoneBefore spaces taken sectors copies spread n → slice_get spaces n ≡ Some space
-    → ((metaslab : ℕ) → metaslab < metaslabs space.shape → HasRoomIn space metaslab sectors → IsInRegion space.shape copies metaslab
-    → ¬ MayTake space.shape taken n metaslab spread)
-    → NoneBefore spaces taken sectors copies spread (n + 1)
-none_of_one_more spaces taken sectors copies spread n space before found here v metaslab below there may =
+pub none_of_one_more : (spaces : List VdevSpace) (taken : List Dva) (wanted : Wanted) (first n : ℕ) (space : VdevSpace)
+    → NoneBetween spaces taken wanted first n → slice_get spaces n ≡ Some space
+    → ((metaslab : ℕ) → metaslab < metaslabs space.shape → HasRoomIn space metaslab wanted.sectors → IsInRegion space.shape wanted.copies metaslab
+    → ¬ MayTake space.shape taken n metaslab wanted.spread)
+    → NoneBetween spaces taken wanted first (n + 1)
+none_of_one_more spaces taken wanted first n space before found here v metaslab from below there may =
     let room = there.room in
     elim (cases_lt v n) [
-      | inl less ↦ before v metaslab less there may
+      | inl less ↦ before v metaslab from less there may
       | inr not_less ↦
           let same_v : v ≡ n = omega (arith, below, not_less) in
           let same : room.space ≡ space = same_some room.space space (sym room.found ∙ ap (λ k. slice_get spaces k) same_v ∙ found) in
           let P : VdevSpace → Type 0 = λ s. metaslab < metaslabs s.shape in
-          let Q : VdevSpace → Type 0 = λ s. HasRoomIn s metaslab sectors in
-          let T : VdevSpace → Type 0 = λ s. IsInRegion s.shape copies metaslab in
-          let R : VdevSpace → Type 0 = λ s. MayTake s.shape taken v metaslab spread in
-          let M : ℕ → Type 0 = λ k. MayTake space.shape taken k metaslab spread in
+          let Q : VdevSpace → Type 0 = λ s. HasRoomIn s metaslab wanted.sectors in
+          let T : VdevSpace → Type 0 = λ s. IsInRegion s.shape wanted.copies metaslab in
+          let R : VdevSpace → Type 0 = λ s. MayTake s.shape taken v metaslab wanted.spread in
+          let M : ℕ → Type 0 = λ k. MayTake space.shape taken k metaslab wanted.spread in
           here metaslab (subst P same room.is_there) (subst Q same room.room) (subst T same there.region) (subst M same_v (subst R same may))
     ]
 
--- after all vdevs
-pub none_at_all : (spaces : List VdevSpace) (taken : List Dva) (sectors copies : ℕ) (spread : Spread) (n : ℕ) → length spaces ≤ n → NoneBefore spaces taken sectors copies spread n
-    → (v metaslab : ℕ) → (there : HasRoomFor spaces sectors copies v metaslab) → ¬ MayTake there.room.space.shape taken v metaslab spread
-none_at_all spaces taken sectors copies spread n all before v metaslab there may =
-    before v metaslab (omega (arith, all, within spaces v there.room.space there.room.found)) there may
+-- on no vdev, where on none from one on and on none before it
+pub none_at_all : (spaces : List VdevSpace) (taken : List Dva) (wanted : Wanted) (start : ℕ) → NoneBetween spaces taken wanted start (length spaces)
+    → NoneBetween spaces taken wanted 0 start → NoneIsFound spaces taken wanted.sectors wanted.copies wanted.spread
+none_at_all spaces taken wanted start behind front v metaslab there may =
+    elim (cases_lt v start) [
+      | inl less ↦ front v metaslab (omega arith) less there may
+      | inr not_less ↦ behind v metaslab (omega (arith, not_less)) (within spaces v there.room.space there.room.found) there may
+    ]
   where
     within : (xs : List VdevSpace) (k : ℕ) (x : VdevSpace) → slice_get xs k ≡ Some x → k < length xs
     within [] k x is = absurd (cc)

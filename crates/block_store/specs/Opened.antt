@@ -3,13 +3,14 @@ use Rattle.std.specs.Prelude.{ℕ, ◌≡◌, ◌+◌, ◌<◌, ◌≤◌, ◌�
 use Rattle.model_disk.specs.Joint.{content}
 use Rattle.block_pointer.specs.declared.block.Block.{Block}
 use Rattle.block_pointer.specs.Copies.{dvas}
+use Rattle.block_pointer.specs.declared.dva.Dva.{Dva}
 use Rattle.metaslab.specs.State.{State, Free, InUse}
 use Rattle.metaslab_group.specs.Spaces.{ChangesIn}
 use Rattle.raidz_io.specs.declared.vdev.Extent.{Extent}
 use Rattle.raidz_io.specs.Stands.{ExtentStands}
 use Rattle.block_store.specs.Accounts.{SectorAt, IsUsed, HasSector}
 use Rattle.block_store.specs.Blocks.{Contents, IsWrittenAs, nothing_stored}
-use Rattle.block_store.specs.Places.{Marks, filled, run_at, IsFree, IsCopy, IsPlaceFor, ArePlacesIn}
+use Rattle.block_store.specs.Places.{Marks, filled, run_at, IsFree, IsCopy, IsPlaceFor, ArePlacesIn, ArePlacesApart}
 use Rattle.block_store.specs.Places.{planned as planned_marks}
 use Rattle.block_store.specs.Releases.{CopyAt}
 use Rattle.block_store.specs.declared.shape.VdevShape.{VdevShape}
@@ -17,7 +18,8 @@ use Rattle.block_store.specs.Config.{AreAllowedSizes, sectors_of, size_of}
 use Rattle.block_store.specs.Shapes.{metaslab_of, metaslabs, IsPlace, HasRegions, IsInRegion}
 use Rattle.block_store.specs.Spaces.{VdevSpace}
 use Rattle.block_store.specs.Store.{Store, Holds, lost}
-use Rattle.block_store.specs.Uses.{LiesOn, IsInUse}
+use Rattle.block_store.specs.Plans.{Plans}
+use Rattle.block_store.specs.Uses.{LiesOn, CopiesLieOn, IsInUse}
 
 -- ---- the vdevs of a pool that is there
 
@@ -117,3 +119,18 @@ AreFound store blocks before stored = (block : Block) (bytes : List ℕ) → sto
 abbrev pub FoundAreHeld : Type 0
 FoundAreHeld = (store : Store) (blocks : List Block) (stored : Contents) → AreFound store blocks nothing_stored stored
     → ((block : Block) → Contains blocks block → ArePlacesIn store.spaces block.property.sectors (dvas block.copies)) → Holds store stored
+
+-- no two copies of these blocks share a sector, be they of one block or of two
+abbrev pub AreBlocksApart : List Block → Type 0
+AreBlocksApart blocks = (block other : Block) (i k : ℕ) (place behind : Dva) → Contains blocks block → Contains blocks other
+    → slice_get (dvas block.copies) i ≡ Some place → slice_get (dvas other.copies) k ≡ Some behind
+    → ((block ≡ other) × (i ≡ k)) ⊎ ArePlacesApart place behind
+
+-- Where nothing was stored and nothing planned, blocks that are on the disks are stored once all their sectors are in use, without what is
+-- planned and with it, if they lie apart, in places of the pool: as where a metaslab's space map was loaded, in place of its blocks.
+abbrev pub FoundInUseAreStored : Type 0
+FoundInUseAreStored = (store : Store) (blocks : List Block) (stored : Contents) → Plans store nothing_stored nothing_stored
+    → AreFound store blocks nothing_stored stored
+    → ((block : Block) → Contains blocks block → ArePlacesIn store.spaces block.property.sectors (dvas block.copies))
+    → ((block : Block) → Contains blocks block → CopiesLieOn IsInUse store.spaces filled block × CopiesLieOn IsInUse store.spaces planned_marks block)
+    → AreBlocksApart blocks → Plans store stored stored

@@ -46,31 +46,72 @@ fn may_take(shape: VdevShape, taken: &[Dva], vdev: usize, metaslab: usize, sprea
     }
 }
 
+/// What a copy of a block wants of its place.
+#[derive(Debug, Clone, Copy)]
+pub(crate) struct Wanted {
+    pub sectors: u32,
+    /// How many copies the block has.
+    pub copies: usize,
+    pub spread: Spread,
+}
+
 impl VdevMetaslabs {
-    /// The first metaslab of the region for blocks of so many copies that has room and may be taken.
+    /// A metaslab of the region for the block that has room and may be taken: the first from the one on where the search begins, or else
+    /// the first before it.
     fn find_metaslab(
         &self,
+        start: usize,
         vdev: usize,
-        sectors: u32,
-        copies: usize,
+        wanted: Wanted,
         taken: &[Dva],
-        spread: Spread,
     ) -> Option<usize>
-        requires { 0 < sectors }
+        requires { 0 < wanted.sectors }
         ensures is_there { IfSome result (λ metaslab. metaslab < metaslabs self.now.shape) }
-        ensures room { IfSome result (λ metaslab. HasRoomIn self.now metaslab sectors) }
-        ensures region { IfSome result (λ metaslab. IsInRegion self.now.shape copies metaslab) }
+        ensures room { IfSome result (λ metaslab. HasRoomIn self.now metaslab wanted.sectors) }
+        ensures region { IfSome result (λ metaslab.
+            IsInRegion self.now.shape wanted.copies metaslab) }
         ensures may { IfSome result (λ metaslab.
-            MayTake self.now.shape taken.now vdev metaslab spread) }
+            MayTake self.now.shape taken.now vdev metaslab wanted.spread) }
         ensures none { IfNone result ((metaslab : ℕ) → metaslab < metaslabs self.now.shape
-            → HasRoomIn self.now metaslab sectors → IsInRegion self.now.shape copies metaslab
-            → ¬ MayTake self.now.shape taken.now vdev metaslab spread) }
+            → HasRoomIn self.now metaslab wanted.sectors
+            → IsInRegion self.now.shape wanted.copies metaslab
+            → ¬ MayTake self.now.shape taken.now vdev metaslab wanted.spread) }
+    {
+        let count = self.count();
+        let start = start.min(count);
+        if let Some(metaslab) = self.find_between(start, count, vdev, wanted, taken) {
+            return Some(metaslab);
+        }
+        self.find_between(0, start, vdev, wanted, taken)
+    }
+
+    /// The first such metaslab from `first` on and before `end`.
+    fn find_between(
+        &self,
+        first: usize,
+        end: usize,
+        vdev: usize,
+        wanted: Wanted,
+        taken: &[Dva],
+    ) -> Option<usize>
+        requires some { 0 < wanted.sectors }
+        requires end { end ≤ metaslabs self.now.shape }
+        ensures is_there { IfSome result (λ metaslab. metaslab < metaslabs self.now.shape) }
+        ensures room { IfSome result (λ metaslab. HasRoomIn self.now metaslab wanted.sectors) }
+        ensures region { IfSome result (λ metaslab.
+            IsInRegion self.now.shape wanted.copies metaslab) }
+        ensures may { IfSome result (λ metaslab.
+            MayTake self.now.shape taken.now vdev metaslab wanted.spread) }
+        ensures none { IfNone result ((metaslab : ℕ) → first ≤ metaslab → metaslab < end
+            → HasRoomIn self.now metaslab wanted.sectors
+            → IsInRegion self.now.shape wanted.copies metaslab
+            → ¬ MayTake self.now.shape taken.now vdev metaslab wanted.spread) }
     {
         let shape = self.shape();
-        for metaslab in 0..self.count() {
-            if shape.is_in_region(copies, metaslab as u64)
-                && self.has_room(metaslab, sectors)
-                && may_take(shape, taken, vdev, metaslab, spread)
+        for metaslab in first..end {
+            if shape.is_in_region(wanted.copies, metaslab as u64)
+                && self.has_room(metaslab, wanted.sectors)
+                && may_take(shape, taken, vdev, metaslab, wanted.spread)
             {
                 return Some(metaslab);
             }
@@ -81,24 +122,43 @@ impl VdevMetaslabs {
 
 impl<D: Disk + Drop> BlockStore<D> {
     ghost use Rattle.std.specs.Prelude.{[], ◌⊎◌, OnErr};
-    ghost use Rattle.block_store.specs.Places.{IsFound, NoneIsFound, GoesTo, HasRoomAt, IsTakenIn, AreChosen, TookSome, RanOut};
+    ghost use Rattle.block_store.specs.Places.{IsFound, NoneIsFound, HasRoomFor, GoesTo, HasRoomAt, IsTakenIn, AreChosen, TookSome, RanOut};
 
-    /// The first vdev and metaslab of its region that has room and may be taken.
-    fn find_place(
-        &self,
-        sectors: u32,
-        copies: usize,
-        taken: &[Dva],
-        spread: Spread,
-    ) -> Option<(usize, usize)>
-        requires { 0 < sectors }
-        ensures some { IfSome result (λ at.
-            IsFound self.now.spaces taken.now sectors copies spread at.0 at.1) }
+    /// A vdev, and a metaslab of its region for the block, that has room and may be taken.
+    fn find_place(&self, wanted: Wanted, taken: &[Dva]) -> Option<(usize, usize)>
+        requires { 0 < wanted.sectors }
+        ensures some { IfSome result (λ at. IsFound self.now.spaces taken.now wanted.sectors
+            wanted.copies wanted.spread at.0 at.1) }
         ensures none { IfNone result
-            (NoneIsFound self.now.spaces taken.now sectors copies spread) }
+            (NoneIsFound self.now.spaces taken.now wanted.sectors wanted.copies wanted.spread) }
     {
-        for (vdev, space) in self.spaces.iter().enumerate() {
-            if let Some(metaslab) = space.find_metaslab(vdev, sectors, copies, taken, spread) {
+        let count = self.spaces.len();
+        let start = self.cursors.vdev.min(count);
+        if let Some(place) = self.find_on(start, count, wanted, taken) {
+            return Some(place);
+        }
+        self.find_on(0, start, wanted, taken)
+    }
+
+    /// On the vdevs from `first` on and before `end`.
+    fn find_on(
+        &self,
+        first: usize,
+        end: usize,
+        wanted: Wanted,
+        taken: &[Dva],
+    ) -> Option<(usize, usize)>
+        requires some { 0 < wanted.sectors }
+        requires end { end ≤ length self.now.spaces }
+        ensures some { IfSome result (λ at. IsFound self.now.spaces taken.now wanted.sectors
+            wanted.copies wanted.spread at.0 at.1) }
+        ensures none { IfNone result ((v metaslab : ℕ) → first ≤ v → v < end
+            → (there : HasRoomFor self.now.spaces wanted.sectors wanted.copies v metaslab)
+            → ¬ MayTake there.room.space.shape taken.now v metaslab wanted.spread) }
+    {
+        for vdev in first..end {
+            let start = self.cursors.metaslab(vdev, wanted.copies);
+            if let Some(metaslab) = self.spaces[vdev].find_metaslab(start, vdev, wanted, taken) {
                 return Some((vdev, metaslab));
             }
         }
@@ -113,13 +173,28 @@ impl<D: Disk + Drop> BlockStore<D> {
             GoesTo self.now.spaces taken.now sectors copies at.0 at.1) }
         ensures none { IfNone result (NoPlaceIsLeft self.now.spaces sectors copies) }
     {
-        if let Some(place) = self.find_place(sectors, copies, taken, Spread::Vdevs) {
+        let elsewhere = Wanted {
+            sectors,
+            copies,
+            spread: Spread::Vdevs,
+        };
+        if let Some(place) = self.find_place(elsewhere, taken) {
             return Some(place);
         }
-        if let Some(place) = self.find_place(sectors, copies, taken, Spread::Metaslabs) {
+        let apart = Wanted {
+            sectors,
+            copies,
+            spread: Spread::Metaslabs,
+        };
+        if let Some(place) = self.find_place(apart, taken) {
             return Some(place);
         }
-        self.find_place(sectors, copies, taken, Spread::Anywhere)
+        let anywhere = Wanted {
+            sectors,
+            copies,
+            spread: Spread::Anywhere,
+        };
+        self.find_place(anywhere, taken)
     }
 
     /// The plan takes a place in a metaslab that has room. An error, that memory is short, changes nothing.
@@ -136,6 +211,13 @@ impl<D: Disk + Drop> BlockStore<D> {
         ensures err { OnErr result (self.new.spaces ≡ self.old.spaces) }
     {
         self.spaces[vdev].take(vdev, metaslab, sectors)
+    }
+
+    /// A copy went there, of a block of so many copies: searches after this one begin elsewhere.
+    fn move_on(&mut self, vdev: usize, metaslab: usize, copies: usize, is_first: bool)
+        ensures { self.new ≡ self.old }
+    {
+        self.cursors.move_on(vdev, metaslab, copies, is_first);
     }
 
     /// Places for the copies of a block, which the plan then takes. After a refusal it has taken some of them.
@@ -164,7 +246,9 @@ impl<D: Disk + Drop> BlockStore<D> {
             let Some((vdev, metaslab)) = self.choose(sectors, copies, places.as_slice()) else {
                 return Err(Refusal::NoSpace);
             };
+            let is_first = places.is_empty();
             let place = self.take(vdev, metaslab, sectors)?;
+            self.move_on(vdev, metaslab, copies, is_first);
             places.push(place);
         }
         Ok(places)

@@ -6,6 +6,7 @@ ghost use Rattle.block_store.specs.declared.shape.VdevShape.{VdevShape};
 ghost use Rattle.block_store.specs.Config.{IsAllowedSize, sectors_of, AreAllowedSizes, IsLeastOf, IsShapeOf, AreShapes, HaveNoShapes, IsFewVdevs, MakeNoStore};
 ghost use Rattle.block_store.specs.Places.{shapes_of, AreEmpty};
 
+use crate::cursor::Cursors;
 use crate::refusal::Refusal;
 use crate::shape::VdevShape;
 use crate::space::VdevMetaslabs;
@@ -183,6 +184,7 @@ impl<D: Disk + Drop> BlockStore<D> {
             group: 0,
             due: VecDeque::new(alloc),
             stray: false,
+            cursors: Cursors::new(),
         })
     }
 

@@ -2,7 +2,7 @@
 ghost use Rattle.block_store.specs.Elsewhere.{BlocksLieInSectors, ReadsSpare, WritesElsewhereKeep};
 ghost use Rattle.block_store.specs.Forgetting.{FewerAreHeld, FewerArePlanned};
 ghost use Rattle.block_store.specs.Losses.{LossesAreNotTolerable};
-ghost use Rattle.block_store.specs.Opened.{FoundAreHeld};
+ghost use Rattle.block_store.specs.Opened.{FoundAreHeld, FoundInUseAreStored};
 ghost use Rattle.block_store.specs.Releases.{PlacesSpare};
 
 use raidz_io::{few_are_not_more, reads_keep_contents, stands_while_kept, stands_with_more_absent};
@@ -20,6 +20,11 @@ pub fn fewer_are_planned()
 /// Blocks that are on the disks may be read before they are taken in.
 pub fn found_are_held()
     ensures { FoundAreHeld }
+{}
+
+/// Blocks that are on the disks, in sectors that are in use, are stored.
+pub fn found_in_use_are_stored()
+    ensures { FoundInUseAreStored }
 {}
 
 /// The bytes of a block lie in those sectors of its vdev's disks that are for blocks.

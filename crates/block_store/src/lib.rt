@@ -5,6 +5,7 @@ mod aside;
 mod block;
 mod choice;
 mod create;
+mod cursor;
 mod device;
 mod gone;
 mod honest;
@@ -24,7 +25,8 @@ pub use create::{MAX_METASLAB_SHIFT, MIN_METASLAB_SHIFT, VdevConfig, sectors_for
 pub use device::FailedDisk;
 pub use laws::{
     blocks_lie_in_sectors, fewer_are_held, fewer_are_planned, found_are_held,
-    losses_are_not_tolerable, places_spare, reads_spare, writes_elsewhere_keep,
+    found_in_use_are_stored, losses_are_not_tolerable, places_spare, reads_spare,
+    writes_elsewhere_keep,
 };
 pub use refusal::Refusal;
 pub use shape::VdevShape;

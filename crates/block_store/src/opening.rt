@@ -16,6 +16,7 @@ ghost use Rattle.block_store.specs.Store.{Keeps, KeepsStored, Stores};
 ghost use Rattle.block_store.specs.Uses.{CopiesLieOn, Passes, IsInUse};
 
 use crate::create::{MAX_METASLABS, MAX_VDEVS, sectors_for_blocks};
+use crate::cursor::Cursors;
 use crate::read::places_of;
 use crate::refusal::Refusal;
 use crate::shape::VdevShape;
@@ -150,6 +151,7 @@ impl<D: Disk + Drop> BlockStore<D> {
             group: 0,
             due: VecDeque::new(alloc),
             stray: false,
+            cursors: Cursors::new(),
         })
     }
 

@@ -4,6 +4,7 @@ ghost use Rattle.model_disk.specs.Joint.{bytes_of};
 ghost use Rattle.block_store.specs.Spaces.{IsSpace};
 ghost use Rattle.block_store.specs.Store.{is_out};
 
+use crate::cursor::Cursors;
 use crate::shape::VdevShape;
 use crate::space::VdevMetaslabs;
 use model_disk::{Disk, DiskArray};
@@ -32,6 +33,7 @@ pub struct BlockStore<D: Disk + Drop> {
     pub(crate) due: VecDeque<ColumnWrite>,
     /// Whether a block may have taken places and then not have been planned: these are in use until the plan is dropped.
     pub(crate) stray: bool,
+    pub(crate) cursors: Cursors,
 }
 
 impl<D: Disk + Drop> Model for BlockStore<D> {
