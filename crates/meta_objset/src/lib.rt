@@ -4,6 +4,7 @@
 mod config;
 mod datasets;
 mod directory;
+mod empty;
 mod names;
 mod reading;
 mod record;
@@ -14,6 +15,7 @@ mod word_rows;
 pub use config::{config_creation, config_replacement, decode_config, encode_config};
 pub use datasets::{read_record, record_change, record_creation};
 pub use directory::{Directory, DirectoryRow};
+pub use empty::EMPTY;
 pub use names::{is_name, padded, unpadded};
 pub use object_table::Refusal;
 pub use reading::{read_config, read_directory, read_space_maps, read_stale_spans};
