@@ -55,7 +55,7 @@ use Rattle.pool_maps.specs.declared.steps.MapPlan.{MapPlan}
 use Rattle.pool_maps.specs.Maps.{AreMapsOf, AreShortMaps, HasMapPlace, HasShortMapOf}
 use Rattle.pool_maps.specs.Plans.{Advances, AreAhead, AreAll, AreBelow, AreOfOthers, AreSparing, AreUnmade, GoesOn, IsMapNumber, IsPutIn, IsSound, MayBeMade, after_plan}
 use Rattle.pool_maps.specs.Reached.{AreThere, UseNothing}
-use Rattle.pool_maps.specs.Refused.{IsMapRefused, IsSomeRefused}
+use Rattle.pool_maps.specs.Refused.{IsMapRefused, IsSomeRefused, no_set}
 use Rattle.pool_maps.proofs.Among.{all_put, becomes, only, others_stay}
 use Rattle.pool_maps.proofs.Planned.{all_from}
 use Rattle.pool_maps.proofs.Whole.{anew_by}
@@ -201,36 +201,28 @@ no_objects birth set hole = record {
   each = λ number. (refl, refl);
 }
 
--- a meta object set with no object
-abbrev pub empty_set : ObjectSet
-empty_set = record {
-  dnodes = record { object_type = 10; data_sectors = 32; highest = 0; pointer = Hole };
-  kind = Meta;
-  objects = 1;
-}
-
 stays_at_hole : (spaces : List VdevSpace) (property : ℕ → Property) (level birth place : ℕ) (there : Reached) → ComesTo spaces property level birth Hole place there → there.pointer ≡ Hole
 stays_at_hole spaces property zero birth place there is = ap (λ (r : Reached). r.pointer) is
 stays_at_hole spaces property (suc level) birth place there (inl is) = ap (λ (r : Reached). r.pointer) is
 stays_at_hole spaces property (suc level) birth place there (inr (block, pointers, is, read, comes)) = absurd (cc)
 
-block_nowhere : (spaces : List VdevSpace) (birth id : ℕ) (found : Option DataBlock) → IsBlockFound spaces empty_set.dnodes birth id found → found ≡ None
+block_nowhere : (spaces : List VdevSpace) (birth id : ℕ) (found : Option DataBlock) → IsBlockFound spaces no_set.dnodes birth id found → found ≡ None
 block_nowhere spaces birth id None is = refl
 block_nowhere spaces birth id (Some block) (inl (past, none)) = none
 block_nowhere spaces birth id (Some block) (inr (within, is)) =
     let at = is.below.has in
-    let hole = stays_at_hole spaces (property_of empty_set.dnodes) (root_of empty_set.dnodes birth).level birth id is.below.there is.below.leads in
+    let hole = stays_at_hole spaces (property_of no_set.dnodes) (root_of no_set.dnodes birth).level birth id is.below.there is.below.leads in
     (let clash : Hole ≡ At at.0 = sym hole ∙ at.2 in absurd cc)
 
 free_nowhere : (block : Option DataBlock) (place : ℕ) (node : Dnode) → block ≡ None → IsNodeIn (bytes_in block) place node → node ≡ Free
 free_nowhere block place node none is = subst (λ b. IsNodeIn (bytes_in b) place node) none is
 
-node_free : (spaces : List VdevSpace) (birth number block_birth : ℕ) (dnode : Dnode) → IsNodeFound spaces empty_set birth number (found_dnode dnode block_birth) → dnode ≡ Free
+node_free : (spaces : List VdevSpace) (birth number block_birth : ℕ) (dnode : Dnode) → IsNodeFound spaces no_set birth number (found_dnode dnode block_birth) → dnode ≡ Free
 node_free spaces birth number block_birth dnode (inl (past, is)) = ap (λ (f : FoundDnode). f.dnode) is
 node_free spaces birth number block_birth dnode (inr (within, read)) =
     free_nowhere read.block (number % 32) dnode (block_nowhere spaces birth (number / 32) read.block read.block_found) read.is_in
 
-shape_nowhere : (spaces : List VdevSpace) (birth number : ℕ) (shape : ObjectShape) → ¬ IsShapeFound spaces empty_set birth number (Some shape)
+shape_nowhere : (spaces : List VdevSpace) (birth number : ℕ) (shape : ObjectShape) → ¬ IsShapeFound spaces no_set birth number (Some shape)
 shape_nowhere spaces birth number shape (dnode, block_birth, found, is) =
     (let clash : None ≡ Some shape = sym (is ∙ ap shape_of_dnode (node_free spaces birth number block_birth dnode found)) in cc)
 
@@ -239,14 +231,14 @@ not_for_room (inl is) = cc
 not_for_room (inr is) = cc
 
 -- no disk is wanting where nothing is to be read
-end_nowhere : (old new : Store) (birth : ℕ) (kind : TableKind) (number : ℕ) → ¬ IsEndRefused old new [] empty_set birth kind number DiskFault
+end_nowhere : (old new : Store) (birth : ℕ) (kind : TableKind) (number : ℕ) → ¬ IsEndRefused old new [] no_set birth kind number DiskFault
 end_nowhere old new birth kind number (inl (inl why)) =
-    not_for_room (refused_at_hole old new [] (property_of empty_set.dnodes) (root_of empty_set.dnodes birth).level birth Hole (number / 32) DiskFault refl why)
+    not_for_room (refused_at_hole old new [] (property_of no_set.dnodes) (root_of no_set.dnodes birth).level birth Hole (number / 32) DiskFault refl why)
 end_nowhere old new birth kind number (inl (inr (bad, block))) = cc
 end_nowhere old new birth kind number (inr (inl (bad, other))) = cc
 end_nowhere old new birth kind number (inr (inr ends)) = shape_nowhere old.spaces birth number ends.object.shape ends.object.found
 
-map_nowhere : (old new : Store) (birth : ℕ) (gone : List Block) (plan : MapPlan) (place : MetaslabPlace) → ¬ IsMapRefused old new empty_set birth gone plan place DiskFault
+map_nowhere : (old new : Store) (birth : ℕ) (gone : List Block) (plan : MapPlan) (place : MetaslabPlace) → ¬ IsMapRefused old new no_set birth gone plan place DiskFault
 map_nowhere old new birth gone plan place (inl (bad, none)) = cc
 map_nowhere old new birth gone plan place (inr (inl row)) = elim row.why [
   | inl end ↦ end_nowhere old new birth map_kind row.row.object end
@@ -256,9 +248,9 @@ map_nowhere old new birth gone plan place (inr (inr (lacks, inl (full, past)))) 
 map_nowhere old new birth gone plan place (inr (inr (lacks, inr (bad, taken)))) = cc
 
 pub only_room : (old new : Store) (birth : ℕ) (gone : List Block) (plan : MapPlan) (refusal : Refusal) → IsForLoss refusal ⊎ (refusal ≡ NoSpace)
-    → (refusal ≡ NoMemory) ⊎ IsSomeRefused old new empty_set birth gone plan refusal → (refusal ≡ NoMemory) ⊎ (refusal ≡ NoSpace)
+    → (refusal ≡ NoMemory) ⊎ IsSomeRefused old new no_set birth gone plan refusal → (refusal ≡ NoMemory) ⊎ (refusal ≡ NoSpace)
 only_room old new birth gone plan refusal (inl (inl memory)) cause = inl memory
 only_room old new birth gone plan refusal (inl (inr fault)) (inl memory) = inl memory
 only_room old new birth gone plan refusal (inl (inr fault)) (inr some) =
-    absurd (map_nowhere some.mid new birth gone some.later some.place (subst (λ r. IsMapRefused some.mid new empty_set birth gone some.later some.place r) fault some.why))
+    absurd (map_nowhere some.mid new birth gone some.later some.place (subst (λ r. IsMapRefused some.mid new no_set birth gone some.later some.place r) fault some.why))
 only_room old new birth gone plan refusal (inr full) cause = inr full

@@ -7,9 +7,14 @@ pub mod First
 pub mod Underway
 pub mod Short
 pub mod Judged
+pub mod ReadRows
+pub mod ReadSets
 pub mod LoadedRows
+pub mod Releasing
 pub mod LoadedStores
 pub mod Staying
 pub mod Besides
 pub mod Reaching
+pub mod Once
+pub mod Opened
 pub mod Givable

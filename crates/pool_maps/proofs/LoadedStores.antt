@@ -1,46 +1,29 @@
 -- A store in which maps are loaded.
-use Rattle.block_store.proofs.Taking.{found_too}
-use Rattle.block_store.specs.declared.refusal.Refusal.{Refusal as StoreRefusal}
-use Rattle.block_store.specs.declared.refusal.Refusal.TheVariants.{NoMemory as NoStoreMemory, DiskFault, NoSpace, BadPointer, BadDigest, BadConfig}
-use Rattle.space_map_objects.specs.declared.refusal.Refusal.TheVariants.{NoMemory}
-use Rattle.space_map_objects.specs.Refused.{of_read}
-use Rattle.meta_objset.specs.SpaceMaps.{maps_kind}
-use Rattle.meta_objset.specs.Found.{AreMapRows, IsRowsRefused}
-use Rattle.std.proofs.lemmas.Option.{same_Some}
-use Rattle.std.specs.Option.{option_map}
-use Rattle.block_store.specs.declared.shape.VdevShape.{VdevShape}
-use Rattle.metaslab_group.specs.Maps.{AreWhollyFreeOf}
-use Rattle.space_map_objects.specs.Maps.{HasMap}
-use Rattle.space_map.specs.FreeRuns.{FreeRuns}
-use Rattle.raidz_io.specs.Reads.{OnlyReads, AreUntouched}
-use Rattle.block_store.specs.Shapes.{first_meta, metaslab_sectors}
+use Rattle.std.proofs.Common.{◌≡◌, ◌≢◌, ◌<◌, List, [], ◌∷◌, ◌++◌, Some, length, All, inl, inr, refl, sym, ap, subst, ◌∙◌, arith, get_or}
 use Rattle.std.specs.List.{slice_get}
-use Rattle.std.proofs.Common.{◌≡◌, ◌≢◌, ◌⊎◌, ℕ, ◌<◌, List, [], ◌∷◌, ◌++◌, Some, Option, All, Contains, inl, inr, refl, sym, ap, subst, ◌∙◌}
-use Rattle.block_store.specs.Accounts.{IsUsed}
-use Rattle.block_store.specs.Blocks.{Contents}
-use Rattle.block_store.specs.Maps.{StayElsewhere, LoadsIn, HoldsIn, HasSectors}
+use Rattle.std.proofs.Math.ListN.{get_or-append}
+use Rattle.std.proofs.lemmas.List.{length-append}
+use Rattle.std.proofs.lemmas.List.Elements.{All-contains, Contains-push_cases}
+use Rattle.block_store.specs.Maps.{HasSectors, LoadsIn, StayElsewhere}
 use Rattle.block_store.specs.Places.{Marks, filled, planned, shapes_of}
 use Rattle.block_store.specs.Plans.{KeepsPlans}
+use Rattle.block_store.specs.Shapes.{first_meta}
 use Rattle.block_store.specs.Spaces.{VdevSpace}
-use Rattle.block_store.specs.Steps.{OnlyReadsBlocks, AnswersAreTrue}
-use Rattle.block_store.specs.Store.{Store, Holds, Keeps, KeepsStored, outs, outs_from}
-use Rattle.block_store.proofs.ReadingSteps.{reads_on as disk_reads_on}
-use Rattle.block_store.proofs.Steps.{true_before, true_after}
-use Rattle.block_pointer.specs.declared.block.Block.{Block}
-use Rattle.dnode.specs.declared.object_set.ObjectSet.{ObjectSet}
-use Rattle.meta_objset.specs.declared.space_maps.MetaslabMap.{MetaslabMap}
+use Rattle.block_store.specs.Store.{Store, Keeps, KeepsStored}
+use Rattle.block_store.proofs.Loading.{loads_filled, loads_planned}
+use Rattle.meta_objset.proofs.Edits.{the_middle}
+use Rattle.meta_objset.proofs.Ordered.{in_front}
 use Rattle.meta_objset.specs.declared.space_maps.MetaslabPlace.{MetaslabPlace}
-use Rattle.objset.specs.Objects.{Object, AreObjects}
-use Rattle.raidz_io.proofs.Calls.{OnlyReads-none}
-use Rattle.pool_maps.specs.Loads.{AreFreeBefore, AreLoaded, IsLoaded, MetaStays, OnlyLoads, IsFreeAt, IsLoadRefused, HasMapFor}
+use Rattle.objset.proofs.Numbers.{all_front, all_last}
+use Rattle.pool_maps.specs.declared.reading.FreeMetaslab.{FreeMetaslab}
+use Rattle.pool_maps.specs.Loads.{AreApart, AreFreeBefore, AreLoadedAs, AreSetsOf, IsFreeAt, IsSameAt, IsUnusedIn, MayBeLoaded, MetaStays, NothingIsReleased, OnlyLoads}
 use Rattle.pool_maps.specs.Maps.{HasMapPlace}
-use Rattle.pool_maps.proofs.LoadedRows.{none_loaded, one_loaded}
-use Rattle.pool_maps.proofs.Whole.{place_by}
+use Rattle.pool_maps.proofs.LoadedRows.{free_still, same_elsewhere, same_then, unused_here, unused_still}
+use Rattle.pool_maps.proofs.Planned.{all_from}
+use Rattle.pool_maps.proofs.Releasing.{load_releases}
+use Rattle.pool_maps.proofs.Whole.{place_by, sectors_back}
 
-same_outs : (old new : Store) → new.out ≡ old.out → outs new ≡ outs old
-same_outs old new out = ap (λ flags. outs_from 0 flags) out
-
-pub meta_stays : (marks : Marks) (spaces after : List VdevSpace) (place : MetaslabPlace) → HasMapPlace spaces place → StayElsewhere marks spaces place.vdev place.index after
+meta_stays : (marks : Marks) (spaces after : List VdevSpace) (place : MetaslabPlace) → HasMapPlace spaces place → StayElsewhere marks spaces place.vdev place.index after
     → MetaStays marks spaces after
 meta_stays marks spaces after place there stay = λ state at other. stay state at (λ same.
     other (record {
@@ -49,28 +32,10 @@ meta_stays marks spaces after place there stay = λ state at other. stay state a
       before = subst (λ m. m < first_meta there.space.shape) (sym same.1) there.before;
     }))
 
--- nothing but reads
-pub reads_load : (old new : Store) (missing : List ℕ) → OnlyReadsBlocks old new missing → OnlyLoads old new missing
-reads_load old new missing is =
-    let spaces_are : new.spaces ≡ old.spaces = ap (λ (s : Store). s.spaces) is.rest in
-    record {
-      rest = is.rest ∙ ap (λ spaces. record old { disks = new.disks; spaces = spaces }) (sym spaces_are);
-      shapes = ap shapes_of spaces_are;
-      reads = is.reads;
-      untouched = is.untouched;
-      keeps = is.keeps;
-      stores = is.stores;
-      plans = is.plans;
-      filled_stays = λ state at other used. subst (λ spaces. IsUsed (λ s. s ≡ state) spaces filled at) (sym spaces_are) used;
-      planned_stays = λ state at other used. subst (λ spaces. IsUsed (λ s. s ≡ state) spaces planned at) (sym spaces_are) used;
-    }
-
-pub loads_none : (store : Store) (missing : List ℕ) → OnlyLoads store store missing
-loads_none store missing = record {
+pub loads_none : (store : Store) → OnlyLoads store store
+loads_none store = record {
   rest = refl;
   shapes = refl;
-  reads = OnlyReads-none store.disks;
-  untouched = λ disk held. refl;
   keeps = λ stored held. held;
   stores = λ stored held. held;
   plans = λ stored planned held. held;
@@ -82,14 +47,10 @@ stays_on : (marks : Marks) (spaces mid after : List VdevSpace) → shapes_of mid
 stays_on marks spaces mid after shapes first rest = λ state at other used.
     rest state at (λ there. other (place_by mid spaces (record { vdev = at.vdev; index = at.metaslab }) (sym shapes) there)) (first state at other used)
 
-pub loads_on : (old mid new : Store) (missing : List ℕ) → OnlyLoads old mid missing → OnlyLoads mid new missing → OnlyLoads old new missing
-loads_on old mid new missing first rest = record {
-  rest = rest.rest ∙ ap (λ (s : Store). record s { disks = new.disks; spaces = new.spaces }) first.rest;
+pub loads_on : (old mid new : Store) → OnlyLoads old mid → OnlyLoads mid new → OnlyLoads old new
+loads_on old mid new first rest = record {
+  rest = rest.rest ∙ ap (λ (s : Store). record s { spaces = new.spaces }) first.rest;
   shapes = rest.shapes ∙ first.shapes;
-  reads = disk_reads_on old.disks mid.disks new.disks first.reads rest.reads;
-  untouched = λ disk held.
-      rest.untouched disk (subst (λ disks. Contains (disks ++ missing) disk) (sym (same_outs old mid (ap (λ (s : Store). s.out) first.rest))) held)
-      ∙ first.untouched disk held;
   keeps = λ stored held. rest.keeps stored (first.keeps stored held);
   stores = λ stored held. rest.stores stored (first.stores stored held);
   plans = λ stored planned held. rest.plans stored planned (first.plans stored planned held);
@@ -98,85 +59,94 @@ loads_on old mid new missing first rest = record {
 }
 
 -- the spaces changed, of one metaslab before a meta region
-pub one_loads : (old new : Store) (missing : List ℕ) (place : MetaslabPlace) → HasMapPlace old.spaces place → new ≡ record old { spaces = new.spaces } → shapes_of new.spaces ≡ shapes_of old.spaces
+pub one_loads : (old new : Store) (place : MetaslabPlace) → HasMapPlace old.spaces place → new ≡ record old { spaces = new.spaces } → shapes_of new.spaces ≡ shapes_of old.spaces
     → Keeps old new → KeepsStored old new → KeepsPlans old new → StayElsewhere filled old.spaces place.vdev place.index new.spaces
-    → StayElsewhere planned old.spaces place.vdev place.index new.spaces → OnlyLoads old new missing
-one_loads old new missing place there rest shapes keeps stores plans filled_stay planned_stay =
-    let disks_are : new.disks ≡ old.disks = ap (λ (s : Store). s.disks) rest in
+    → StayElsewhere planned old.spaces place.vdev place.index new.spaces → OnlyLoads old new
+one_loads old new place there rest shapes keeps stores plans filled_stay planned_stay = record {
+  rest = rest;
+  shapes = shapes;
+  keeps = keeps;
+  stores = stores;
+  plans = plans;
+  filled_stays = meta_stays filled old.spaces new.spaces place there filled_stay;
+  planned_stays = meta_stays planned old.spaces new.spaces place there planned_stay;
+}
+
+-- ---- one set after the other
+
+-- the first of them are apart too
+pub front_apart : (done left : List FreeMetaslab) → AreApart (done ++ left) → AreApart done
+front_apart done left apart i j d less low =
+    let whole : j < length (done ++ left) = omega (arith, low, length-append done left) in
+    let low_i : i < length done = omega (arith, less, low) in
+    let is = apart i j d less whole in
+    subst (λ (read : FreeMetaslab). read.metaslab ≢ (get_or done j d).metaslab) (get_or-append done left d i low_i)
+    (subst (λ (later : FreeMetaslab). (get_or (done ++ left) i d).metaslab ≢ later.metaslab) (get_or-append done left d j low) is)
+
+pub record LoadedUpTo (old now : Store) (done : List FreeMetaslab) : Type 0 where
+  pub loads : OnlyLoads old now
+  pub released : NothingIsReleased filled old.spaces now.spaces
+  pub each : AreApart done → All (IsUnusedIn now.spaces) done
+  pub filled_too : (place : MetaslabPlace) → All (λ read. read.metaslab ≢ place) done → IsSameAt filled old.spaces place now.spaces
+  pub planned_too : (place : MetaslabPlace) → All (λ read. read.metaslab ≢ place) done → IsSameAt planned old.spaces place now.spaces
+
+same_still : (marks : Marks) (spaces : List VdevSpace) (place : MetaslabPlace) → IsSameAt marks spaces place spaces
+same_still marks spaces place space new found found_after =
+    ap (λ (x : VdevSpace). slice_get (marks x) place.index) (let both : Some new ≡ Some space = sym found_after ∙ found in cc)
+
+pub none_yet : (store : Store) → LoadedUpTo store store []
+none_yet store = record {
+  loads = loads_none store;
+  released = λ by at used. used;
+  each = λ apart. all_from (IsUnusedIn store.spaces) [] (λ read held. absurd (let low = held.1 in omega (arith, low)));
+  filled_too = λ place none. same_still filled store.spaces place;
+  planned_too = λ place none. same_still planned store.spaces place;
+}
+
+pub one_more : (old now new : Store) (done : List FreeMetaslab) (read : FreeMetaslab) → LoadedUpTo old now done → OnlyLoads now new
+    → LoadsIn now.spaces read.metaslab.vdev read.metaslab.index read.free new.spaces → LoadedUpTo old new (done ++ read ∷ [])
+one_more old now new done read before loads is =
+    let there = read.metaslab in
+    let by_filled = loads_filled now.spaces there.vdev there.index read.free new.spaces is in
+    let by_planned = loads_planned now.spaces there.vdev there.index read.free new.spaces is in
     record {
-      rest = rest ∙ ap (λ disks. record old { disks = disks; spaces = new.spaces }) (sym disks_are);
-      shapes = shapes;
-      reads = subst (λ disks. OnlyReads old.disks disks) (sym disks_are) (OnlyReads-none old.disks);
-      untouched = subst (λ disks. AreUntouched (outs old ++ missing) old.disks disks) (sym disks_are) (λ disk held. refl);
-      keeps = keeps;
-      stores = stores;
-      plans = plans;
-      filled_stays = meta_stays filled old.spaces new.spaces place there filled_stay;
-      planned_stays = meta_stays planned old.spaces new.spaces place there planned_stay;
+      loads = loads_on old now new before.loads loads;
+      released = λ by at used. before.released by at (load_releases now.spaces there.vdev there.index read.free new.spaces is by at used);
+      each = λ apart. all_from (IsUnusedIn new.spaces) (done ++ read ∷ []) (λ other held. elim (Contains-push_cases done read other held) [
+        | inl sooner ↦
+            let was : IsUnusedIn now.spaces other = All-contains (IsUnusedIn now.spaces) done other (before.each (front_apart done (read ∷ []) apart)) sooner in
+            let differ : other.metaslab ≢ there =
+            All-contains (λ (r : FreeMetaslab). r.metaslab ≢ there) done other (in_front (λ (r later : FreeMetaslab). r.metaslab ≢ later.metaslab) done [] read apart) sooner in
+            record {
+              kept = unused_still filled now.spaces new.spaces other.metaslab other.free loads.shapes
+                  (same_elsewhere filled now.spaces new.spaces there by_filled other.metaslab differ) was.kept;
+              with_plan = unused_still planned now.spaces new.spaces other.metaslab other.free loads.shapes
+                  (same_elsewhere planned now.spaces new.spaces there by_planned other.metaslab differ) was.with_plan;
+            }
+        | inr here ↦ subst (IsUnusedIn new.spaces) here (unused_here now.spaces new.spaces read is)
+      ]);
+      filled_too = λ place none.
+          same_then filled old.spaces now.spaces new.spaces place before.loads.shapes (before.filled_too place (all_front (λ (r : FreeMetaslab). r.metaslab ≢ place) done read none))
+          (same_elsewhere filled now.spaces new.spaces there by_filled place (λ same. all_last (λ (r : FreeMetaslab). r.metaslab ≢ place) done read none (sym same)));
+      planned_too = λ place none.
+          same_then planned old.spaces now.spaces new.spaces place before.loads.shapes (before.planned_too place (all_front (λ (r : FreeMetaslab). r.metaslab ≢ place) done read none))
+          (same_elsewhere planned now.spaces new.spaces there by_planned place (λ same. all_last (λ (r : FreeMetaslab). r.metaslab ≢ place) done read none (sym same)));
     }
 
--- ---- row by row
+pub loaded_as : (old now : Store) (maps : List FreeMetaslab) → LoadedUpTo old now maps → AreApart maps → AreLoadedAs old.spaces maps now.spaces
+loaded_as old now maps is apart = record { shapes = is.loads.shapes; each = is.each apart; filled_too = is.filled_too; planned_too = is.planned_too }
 
-pub record LoadedUpTo (old new : Store) (missing : List ℕ) (set : ObjectSet) (birth : ℕ) (rows : List MetaslabMap) : Type 0 where
-  pub loads : OnlyLoads old new missing
-  pub value : (stored : Contents) (objects : ℕ → Option Object) (own : List Block) (blocks : ℕ → List Block) → Holds old stored
-      → AreObjects stored birth set objects own blocks → AnswersAreTrue old new → AreFreeBefore old.spaces → AreLoaded objects old.spaces rows new.spaces
-
-pub none_yet : (store : Store) (missing : List ℕ) (set : ObjectSet) (birth : ℕ) → LoadedUpTo store store missing set birth []
-none_yet store missing set birth = record { loads = loads_none store missing; value = λ stored objects own blocks held are honest free. none_loaded objects store.spaces free }
-
-pub one_more : (old now new : Store) (missing : List ℕ) (set : ObjectSet) (birth : ℕ) (done : List MetaslabMap) (row : MetaslabMap) → All (λ (m : MetaslabMap). m.metaslab ≢ row.metaslab) done
-    → LoadedUpTo old now missing set birth done → OnlyLoads now new missing
-    → ((stored : Contents) (objects : ℕ → Option Object) (own : List Block) (blocks : ℕ → List Block) → Holds now stored → AreObjects stored birth set objects own blocks
-    → AnswersAreTrue now new → IsLoaded (objects row.object) now.spaces row.metaslab new.spaces) → LoadedUpTo old new missing set birth (done ++ row ∷ [])
-one_more old now new missing set birth done row apart before loads value = record {
-  loads = loads_on old now new missing before.loads loads;
-  value = λ stored objects own blocks held are honest free.
-      one_loaded objects old.spaces now.spaces new.spaces done row apart
-      (before.value stored objects own blocks held are (true_before old now new loads.reads honest) free)
-      (value stored objects own blocks (before.loads.keeps stored held) are (true_after old now new before.loads.reads honest));
-}
-
--- ---- one row
-
-pub own_sectors : (object : Option Object) (sectors : ℕ) (free : FreeRuns) → HasMap object sectors free → HasMap object free.sectors free
-own_sectors object sectors free has = subst (λ n. HasMap object n free) (sym has.2.leaves.0) has
-
-pub loaded_map : (old mid new : Store) (missing : List ℕ) (object : Option Object) (place : MetaslabPlace) (sectors : ℕ) (free : FreeRuns) → OnlyReadsBlocks old mid missing
-    → HasMap object sectors free → LoadsIn mid.spaces place.vdev place.index free new.spaces → IsLoaded object old.spaces place new.spaces
-loaded_map old mid new missing object place sectors free reads has loads = record {
-  free = free;
-  map = own_sectors object sectors free has;
-  loads = subst (λ spaces. LoadsIn spaces place.vdev place.index free new.spaces) (ap (λ (s : Store). s.spaces) reads.rest) loads;
-}
-
--- a set of a metaslab of the vdev that isn't wholly free
-pub not_free : (spaces : List VdevSpace) (place : MetaslabPlace) (free : FreeRuns) (space : VdevSpace) → slice_get spaces place.vdev ≡ Some space → free.sectors ≡ metaslab_sectors space.shape
-    → ¬ HoldsIn (AreWhollyFreeOf free.sectors) spaces place.vdev place.index → ¬ IsFreeAt spaces place
-not_free spaces place free space found size none is = none (is free.sectors (rw found size))
-
-pub shape_sectors : (spaces : List VdevSpace) (vdev sectors : ℕ) (shape : VdevShape) (space : VdevSpace) → option_map (λ (s : VdevSpace). s.shape) (slice_get spaces vdev) ≡ Some shape
-    → slice_get spaces vdev ≡ Some space → sectors ≡ metaslab_sectors shape → sectors ≡ metaslab_sectors space.shape
-shape_sectors spaces vdev sectors shape space is found size =
-    size ∙ ap metaslab_sectors (sym (same_Some space.shape shape (sym (ap (option_map (λ (s : VdevSpace). s.shape)) found) ∙ is)))
-
-pub load_unread : (old new : Store) (missing : List ℕ) (set : ObjectSet) (birth : ℕ) (why : StoreRefusal) → (why ≡ NoStoreMemory) ⊎ IsRowsRefused old new missing set birth maps_kind 4 AreMapRows why
-    → (of_read why ≡ NoMemory) ⊎ IsLoadRefused old new missing set birth (of_read why)
-load_unread old new missing set birth why (inl memory) = inl (ap of_read memory)
-load_unread old new missing set birth NoStoreMemory (inr refused) = inl refl
-load_unread old new missing set birth DiskFault (inr refused) = inr (inl (DiskFault, refl, refused))
-load_unread old new missing set birth NoSpace (inr refused) = inr (inl (NoSpace, refl, refused))
-load_unread old new missing set birth BadPointer (inr refused) = inr (inl (BadPointer, refl, refused))
-load_unread old new missing set birth BadDigest (inr refused) = inr (inl (BadDigest, refl, refused))
-load_unread old new missing set birth BadConfig (inr refused) = inr (inl (BadConfig, refl, refused))
-
-pub has_sectors : (spaces : List VdevSpace) (vdev sectors : ℕ) (space : VdevSpace) → slice_get spaces vdev ≡ Some space → sectors ≡ metaslab_sectors space.shape → HasSectors spaces vdev sectors
-has_sectors spaces vdev sectors space found size = rw found size
-
--- the metaslab has a map still
-pub map_still : (object : Option Object) (spaces now : List VdevSpace) (place : MetaslabPlace) → shapes_of now ≡ shapes_of spaces → HasMapPlace spaces place → HasMapFor object spaces place
-    → HasMapFor object now place
-map_still object spaces now place shapes there has sectors of =
-    let new = found_too spaces now place.vdev there.space shapes there.found in
-    let size : sectors ≡ metaslab_sectors new.0.shape = rw new.1 at of in
-    has sectors (has_sectors spaces place.vdev sectors there.space there.found (size ∙ ap metaslab_sectors new.2))
+-- the next one of a pool's sets may be loaded
+pub next_may : (old now : Store) (done left : List FreeMetaslab) (read : FreeMetaslab) → LoadedUpTo old now done → AreSetsOf old.spaces (done ++ read ∷ left)
+    → AreFreeBefore old.spaces → MayBeLoaded now.spaces read
+next_may old now done left read before sets free =
+    let held = the_middle done left read in
+    let there : HasMapPlace old.spaces read.metaslab = All-contains (λ (r : FreeMetaslab). HasMapPlace old.spaces r.metaslab) (done ++ read ∷ left) read sets.places held in
+    let apart = in_front (λ (r later : FreeMetaslab). r.metaslab ≢ later.metaslab) done left read sets.apart in
+    let now_free : IsFreeAt now.spaces read.metaslab = free_still old.spaces now.spaces read.metaslab there before.loads.shapes
+    (before.filled_too read.metaslab apart) (before.planned_too read.metaslab apart) (free read.metaslab there) in
+    let size = All-contains (λ (r : FreeMetaslab). HasSectors old.spaces r.metaslab.vdev r.free.sectors) (done ++ read ∷ left) read sets.sizes held in
+    let there_now = place_by old.spaces now.spaces read.metaslab before.loads.shapes there in (
+      there_now,
+      now_free read.free.sectors (sectors_back now.spaces old.spaces read.metaslab read.free.sectors (sym before.loads.shapes) there_now size),
+    )

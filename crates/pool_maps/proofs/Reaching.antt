@@ -25,11 +25,12 @@ use Rattle.pool_maps.specs.Beside.{IsBeforeMeta, IsInMeta, LieBeforeMeta, LieInM
 use Rattle.pool_maps.specs.Maps.{AreMapsOf, HasMapPlace, HasShortMapOf}
 use Rattle.pool_maps.specs.Reached.{AreMapsFor, AreThere, HasUnusedSet, IsTakenBy, LeavesRest, UseJust, sector_at}
 use Rattle.pool_maps.proofs.Planned.{all_from}
+use Rattle.pool_maps.proofs.Sets.{mapped_same, same_unused}
 use Rattle.pool_maps.proofs.Whole.{place_by, sectors_back}
 
 -- ---- what is in use
 
-in_use_of : (was : State) → not (is_in_use was) ≡ false → was ≡ InUse
+pub in_use_of : (was : State) → not (is_in_use was) ≡ false → was ≡ InUse
 in_use_of Free is = absurd (cc)
 in_use_of InUse is = refl
 in_use_of (Released group) is = absurd (cc)
@@ -69,18 +70,6 @@ set_of_rest spaces marks blocks place free just is = record {
       });
 }
 
-pub of_their_marks : (objects : ℕ → Option Object) (spaces : List VdevSpace) (marks : Marks) (blocks : List Block) → AreMapsFor objects spaces blocks
-    → UseJust spaces marks blocks → AreMapsOf objects spaces marks
-of_their_marks objects spaces marks blocks are just = record {
-  maps = are.maps;
-  are = record {
-    table = are.table;
-    rows = are.rows;
-    each = λ place free there frees unused. are.each place free there frees (set_of_rest spaces marks blocks place free just unused);
-  };
-  short = are.short;
-}
-
 -- what blocks leave is unused, where there is a set of that
 pub unused_of_rest : (spaces : List VdevSpace) (marks : Marks) (blocks : List Block) (place : MetaslabPlace) (free : FreeRuns) → UseJust spaces marks blocks
     → HasUnusedSet spaces marks place → LeavesRest spaces blocks place free → LeavesUnused spaces marks place.vdev place.index free
@@ -118,13 +107,31 @@ unused_of_rest spaces marks blocks place free just has rest =
       };
     }
 
+pub of_their_marks : (objects : ℕ → Option Object) (spaces : List VdevSpace) (marks : Marks) (blocks : List Block) → AreMapsFor objects spaces blocks
+    → UseJust spaces marks blocks → AreMapsOf objects spaces marks
+of_their_marks objects spaces marks blocks are just = record {
+  maps = are.maps;
+  are = record {
+    table = are.table;
+    rows = are.rows;
+    each = λ place free there frees unused.
+        let has = are.each place there in
+        let known : HasUnusedSet spaces marks place = record { free = free; are = frees; unused = unused } in
+        let rest = unused_of_rest spaces marks blocks place has.0 just known has.2 in
+        mapped_same objects are.maps place has.0 free (same_unused spaces marks place.vdev place.index has.0 free has.1 frees rest unused) has.3;
+  };
+  short = are.short;
+}
+
 pub for_their_blocks : (objects : ℕ → Option Object) (spaces : List VdevSpace) (marks : Marks) (blocks : List Block) → AreMapsOf objects spaces marks → AreThere spaces marks
     → UseJust spaces marks blocks → AreMapsFor objects spaces blocks
 for_their_blocks objects spaces marks blocks are there just = record {
   maps = are.maps;
   table = are.are.table;
   rows = are.are.rows;
-  each = λ place free is_place frees rest. are.are.each place free is_place frees (unused_of_rest spaces marks blocks place free just (there place is_place) rest);
+  each = λ place is_place.
+      let has = there place is_place in
+      (has.free, has.are, set_of_rest spaces marks blocks place has.free just has.unused, are.are.each place has.free is_place has.are has.unused);
   short = are.short;
 }
 
@@ -151,9 +158,9 @@ maps_for_stay objects spaces after blocks shapes are =
         behind = are.rows.behind;
         apart = are.rows.apart;
       };
-      each = λ place free there frees rest.
-          let before : HasMapPlace spaces place = place_by after spaces place (sym shapes) there in
-          are.each place free before frees (rest_back spaces after blocks place free shapes before rest);
+      each = λ place there.
+          let has = are.each place (place_by after spaces place (sym shapes) there) in
+          (has.0, has.1, rest_back after spaces blocks place has.0 (sym shapes) there has.2, has.3);
       short = all_from (λ (m : MetaslabMap). HasShortMapOf after m.metaslab (objects m.object)) are.maps
           (λ row held sectors has. All-contains (λ (m : MetaslabMap). HasShortMapOf spaces m.metaslab (objects m.object)) are.maps row are.short held sectors
           (sectors_back spaces after row.metaslab sectors shapes (is_place row held) has));
@@ -189,7 +196,7 @@ copy_among (block ∷ blocks) copy held = elim (Contains-append_cases (copies_of
       record { block = of.block; among = Contains-append_right (block ∷ []) blocks of.block of.among; i = of.i; at = of.at; sectors = of.sectors }
 ]
 
-found_among : (places : List Dva) (i : ℕ) (place : Dva) → slice_get places i ≡ Some place → Contains places place
+pub found_among : (places : List Dva) (i : ℕ) (place : Dva) → slice_get places i ≡ Some place → Contains places place
 found_among places i place at = (i, slice_get_within places i place at, get_or_from_slice_get places i place place at)
 
 -- each copy lies in the region for so many copies

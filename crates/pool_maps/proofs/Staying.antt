@@ -109,7 +109,7 @@ by_settling objects spaces after group maps shapes settled are =
 
 -- ---- no blocks
 
-at_place : {X : Type 0} (P : X → Type 0) (xs : List X) (i : ℕ) (x : X) → All P xs → slice_get xs i ≡ Some x → P x
+pub at_place : {X : Type 0} (P : X → Type 0) (xs : List X) (i : ℕ) (x : X) → All P xs → slice_get xs i ≡ Some x → P x
 at_place P xs i x all found = subst P (get_or_from_slice_get xs i x x found) (all i x (slice_get_within xs i x found))
 
 wholly_unused : (space : Space) (free : FreeRuns) → IsWhollyFree space (sectors_of space) → AreFree free → AreUnused space free → (s : ℕ) → contains free.runs s ≡ all_free free.sectors s

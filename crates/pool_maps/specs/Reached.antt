@@ -34,8 +34,8 @@ pub record AreMapsFor (objects : ℕ → Option Object) (spaces : List VdevSpace
   pub maps : List MetaslabMap
   pub table : HasSpaceMaps (objects 4) maps
   pub rows : AreRowsOf spaces maps
-  pub each : (place : MetaslabPlace) (free : FreeRuns) → HasMapPlace spaces place → AreFree free → LeavesRest spaces blocks place free
-      → IsMapped objects maps place free
+  pub each : (place : MetaslabPlace) → HasMapPlace spaces place
+      → (free : FreeRuns) × AreFree free × LeavesRest spaces blocks place free × IsMapped objects maps place free
   pub short : AreShortMaps objects spaces maps
 
 -- by these marks just the sectors of these blocks are in use

@@ -5,7 +5,9 @@ use Rattle.block_store.specs.Steps.{OnlyReadsBlocks}
 use Rattle.block_store.specs.Store.{Store}
 use Rattle.block_store.specs.declared.refusal.Refusal.{Refusal}
 use Rattle.block_store.specs.declared.refusal.Refusal.TheVariants.{NoMemory, NoSpace, BadPointer}
+use Rattle.block_pointer.specs.declared.pointer.BlockPtr.TheVariants.{Hole}
 use Rattle.dnode.specs.declared.object_set.ObjectSet.{ObjectSet}
+use Rattle.dnode.specs.declared.object_set.ObjectSetKind.TheVariants.{Meta}
 use Rattle.meta_objset.specs.Found.{AreMapRows, AreMapsFound, IsRowsRefused}
 use Rattle.meta_objset.specs.SpaceMaps.{LacksMetaslab, maps_kind}
 use Rattle.meta_objset.specs.declared.space_maps.MetaslabMap.{MetaslabMap}
@@ -81,11 +83,18 @@ IsPlanRefused old new set birth gone changes next refusal =
     IsRowsRefused old new [] set birth maps_kind 4 AreMapRows refusal
     ⊎ AreMapsRefused old new set birth gone changes next refusal
 
+-- the meta object set of a pool that is still to be made: no object
+abbrev pub no_set : ObjectSet
+no_set = record {
+  dnodes = record { object_type = 10; data_sectors = 32; highest = 0; pointer = Hole };
+  kind = Meta;
+  objects = 1;
+}
+
 -- why no first space maps are planned: a metaslab is refused, or behind all of them another change is of the maps' table
 pub record AreFirstRefused (old new : Store) (changes : List ObjectChange) (next : ℕ) (refusal : Refusal) : Type 0 where
-  pub set : ObjectSet
   pub plan : MapPlan
   pub changes_are : plan.changes.items ≡ changes
   pub next_is : plan.next ≡ next
   pub none : plan.maps ≡ []
-  pub why : IsSomeRefused old new set 0 [] plan refusal ⊎ ((refusal ≡ BadPointer) × IsTableTaken plan)
+  pub why : IsSomeRefused old new no_set 0 [] plan refusal ⊎ ((refusal ≡ BadPointer) × IsTableTaken plan)

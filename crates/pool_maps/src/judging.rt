@@ -35,7 +35,7 @@ fn is_row<D: Disk + Drop>(store: &BlockStore<D>, row: &MetaslabMap) -> bool
 }
 
 /// Whether a metaslab is there, before its vdev's meta region.
-fn is_place<D: Disk + Drop>(store: &BlockStore<D>, place: MetaslabPlace) -> bool
+pub(crate) fn is_place<D: Disk + Drop>(store: &BlockStore<D>, place: MetaslabPlace) -> bool
     ensures { IsTrue result ↔ HasMapPlace store.now.spaces place }
 {
     let vdev = place.vdev as usize;

@@ -1,8 +1,9 @@
 //! Laws of space maps: what leaves them those of a pool.
-ghost use Rattle.std.specs.Prelude.{◌≡◌, ◌≢◌, ◌++◌, ℕ, List, [], Option, Some, All, Contains, length};
+ghost use Rattle.std.specs.Prelude.{◌≡◌, ◌≢◌, ◌<◌, ◌++◌, ℕ, List, [], Option, Some, All, Contains, length};
 ghost use Rattle.block_pointer.specs.declared.block.Block.{Block};
 ghost use Rattle.block_pointer.specs.Copies.{dvas};
 ghost use Rattle.block_store.specs.Blocks.{Contents, AreDistinct, AreStored};
+ghost use Rattle.block_store.specs.Opened.{Fills};
 ghost use Rattle.block_store.specs.Places.{AreEmpty, ArePlacesIn, HaveMarks, Marks, filled, planned, shapes_of};
 ghost use Rattle.block_store.specs.Plans.{Plans};
 ghost use Rattle.block_store.specs.Releases.{AreAllInUse, AreReleased, AreSettledInSome, copies_of_all};
@@ -15,10 +16,11 @@ ghost use Rattle.objset.specs.Changes.{changed};
 ghost use Rattle.objset.specs.Objects.{Object};
 ghost use Rattle.objset.specs.declared.changes.ObjectChange.{ObjectChange};
 ghost use Rattle.pool_maps.specs.Beside.{AreSameBefore, LieBeforeMeta, LieInMeta};
-ghost use Rattle.pool_maps.specs.Loads.{HaveMaps};
+ghost use Rattle.pool_maps.specs.Loads.{AreFreeBefore, AreLoadedAs, AreReadMaps, AreSetsOf, HaveMaps};
 ghost use Rattle.pool_maps.specs.Plans.{MapAnew};
 ghost use Rattle.pool_maps.specs.Reached.{AreMapsFor, AreThere, UseJust};
 ghost use Rattle.pool_maps.specs.Maps.{AreMaps, AreMapsOf, AreRowsOf, AreShortMaps};
+ghost use Rattle.pool_maps.specs.declared.reading.FreeMetaslab.{FreeMetaslab};
 
 /// Maps leave free what is unused by other marks too, where each vdev has the same of them: so it is as blocks are read and planned,
 /// and as what is planned is kept.
@@ -115,4 +117,32 @@ pub fn maps_for_blocks_stay()
     ensures { (objects : ℕ → Option Object) (spaces after : List VdevSpace)
         (blocks : List Block) → shapes_of after ≡ shapes_of spaces
         → AreMapsFor objects spaces blocks → AreMapsFor objects after blocks }
+{}
+
+/// A store without blocks is free before its meta regions.
+pub fn empty_stores_are_free_before()
+    ensures { (spaces : List VdevSpace) → AreEmpty spaces → AreFreeBefore spaces }
+{}
+
+/// Maps that were read are those of other vdevs of the same shapes too.
+pub fn read_maps_stay()
+    ensures read { (objects : ℕ → Option Object) (spaces after : List VdevSpace)
+        (maps : List FreeMetaslab) → shapes_of after ≡ shapes_of spaces
+        → AreReadMaps objects spaces maps → AreReadMaps objects after maps }
+    ensures sets { (spaces after : List VdevSpace) (maps : List FreeMetaslab)
+        → shapes_of after ≡ shapes_of spaces → AreSetsOf spaces maps → AreSetsOf after maps }
+{}
+
+/// Where the maps of what blocks take are loaded in a store without blocks, and those of the blocks that lie in the meta regions are
+/// taken in behind that, just the sectors of the blocks are in use.
+pub fn loaded_maps_are_of_their_blocks()
+    ensures { (objects : ℕ → Option Object) (spaces loaded now : List VdevSpace)
+        (meta others : List Block) (maps : List FreeMetaslab) → AreEmpty spaces
+        → AreMapsFor objects spaces (meta ++ others) → AreReadMaps objects spaces maps
+        → AreLoadedAs spaces maps loaded → LieBeforeMeta spaces others
+        → ((block : Block) → Contains (meta ++ others) block → (0 < block.property.sectors)
+        × ArePlacesIn spaces block.property.sectors (dvas block.copies))
+        → shapes_of now ≡ shapes_of loaded → Fills loaded filled meta now
+        → Fills loaded planned meta now
+        → UseJust now filled (meta ++ others) × UseJust now planned (meta ++ others) }
 {}

@@ -21,10 +21,10 @@ ghost use Rattle.pool_maps.specs.Reached.{AreThere, UseNothing};
 ghost use Rattle.pool_maps.specs.Refused.{AreFirstRefused, IsPlanRefused};
 
 use crate::steps::MapPlan;
-use block_pointer::{Block, BlockPtr};
+use block_pointer::Block;
 use block_store::{BlockStore, Refusal};
-use dnode::{ObjectNode, ObjectSet, ObjectSetKind};
-use meta_objset::{SpaceMaps, read_space_maps};
+use dnode::ObjectSet;
+use meta_objset::{EMPTY, SpaceMaps, read_space_maps};
 use model_disk::Disk;
 use objset::ObjectChange;
 use std::alloc::Global;
@@ -88,18 +88,6 @@ pub fn plan_maps<D: Disk + Drop>(
     plan.with_table(alloc)
 }
 
-/// A meta object set with no object.
-const EMPTY: ObjectSet = ObjectSet {
-    dnodes: ObjectNode {
-        object_type: 10,
-        data_sectors: 32,
-        highest: 0,
-        pointer: BlockPtr::Hole,
-    },
-    kind: ObjectSetKind::Meta,
-    objects: 1,
-};
-
 /// Plans the space maps of a pool that had none, which come among the changes that make its meta object set, in the order of the
 /// objects' numbers: for each metaslab before the meta regions they leave free what is unused with the plan. Their table is made
 /// too, as object 4. Nothing is read.
@@ -115,7 +103,8 @@ pub fn first_maps<D: Disk + Drop>(
     ensures reads { OnlyReadsBlocks store.old store.new [] }
     ensures ordered { IfOk result (λ all. AreOrdered all.items) }
 
-    // Whatever the changes are: which other objects stay, that no map is made of which nothing is in use, and on a refusal its cause.
+    // Whatever the changes are: which other objects stay, that no map is made but of metaslabs of which other
+    // sectors are unused with the plan than without it, and on a refusal its cause.
     ensures others { IfOk result (λ all. OthersStay [] next changes.items all.items
         × AreSparing store.old.spaces [] [] next changes.items all.items) }
     ensures refused { IfErr result (λ refusal. (refusal ≡ Refusal.NoMemory)

@@ -1,98 +1,54 @@
-use Rattle.std.proofs.Common.{List, All, inl, inr, sym, ap, subst, ◌∙◌}
-use Rattle.std.proofs.lemmas.Result.{IfErr-weaker}
-use Rattle.block_store.specs.Places.{shapes_of}
-use Rattle.block_store.specs.Spaces.{VdevSpace}
-use Rattle.block_store.proofs.Steps.{true_before, true_after}
-use Rattle.dnode_tree.proofs.Refusing.{passed_on}
-use Rattle.meta_objset.specs.declared.space_maps.MetaslabMap.{MetaslabMap}
-use Rattle.pool_maps.specs.Loads.{AreFreeBefore, AreLoaded, HaveMaps, IsLoadStopped}
-use Rattle.pool_maps.specs.Maps.{AreRowsOf, HasMapPlace}
-use Rattle.pool_maps.proofs.LoadedRows.{all_loaded}
-use Rattle.pool_maps.proofs.LoadedStores.{load_unread, loads_on, reads_load}
-use Rattle.pool_maps.proofs.Planned.{ok_by}
-use Rattle.pool_maps.proofs.Underway.{spaces_stay}
-use Rattle.space_map_objects.proofs.Unread.{lossy}
+use Rattle.std.proofs.Common.{rules, ◌≡◌, List, [], ◌∷◌, ◌++◌, sym, ap, subst, ◌∙◌, true≢false}
+use Rattle.std.proofs.lemmas.List.{append-nil, append_assoc, nil_from_length}
+use Rattle.block_store.specs.Store.{Store}
+use Rattle.pool_maps.specs.Loads.{AreApart, AreLoadedAs, AreSetsOf, IsLoadStopped}
+use Rattle.pool_maps.specs.declared.reading.FreeMetaslab.{FreeMetaslab}
+use Rattle.pool_maps.proofs.LoadedStores.{loaded_as, next_may, none_yet, one_more}
 use Rattle.pool_maps.proofs.loading.load_maps.Goals as goal
 
-pub returns-in_err-maps-clause-refused : goal.returns-in_err-maps-clause-refused
-returns-in_err-maps-clause-refused g c =
-    passed_on _ _ _ c.from_residual.ensures.1
-    (load_unread c.args.store.now c.read_space_maps.new.store c.args.missing.now c.args.set.now c.args.birth c.in_err-maps.field-0.0 c.in_err-maps.ensures.refused)
+pub loop-read-init : goal.loop-read-init
+loop-read-init g c = (none_yet c.args.store.now, search rules)
 
-pub load_each-requires-clause-places : goal.load_each-requires-clause-places
-load_each-requires-clause-places g c =
-    subst (λ (rows : List MetaslabMap). All (λ (m : MetaslabMap). HasMapPlace c.read_space_maps.new.store.spaces m.metaslab) rows)
-    (c.rows.ensures.value ∙ sym c.rows-2.ensures.value) c.if-not-are_rows.ensures.are.places
+pub loop-read-preserved : goal.loop-read-preserved
+loop-read-preserved g c =
+    let before = c.loop-read.invariant in
+    let done = c.loop-read.yielded in
+    let left = c.next.new.self.rest.items in (
+      one_more c.args.store.now c.loop-read.store c.load_one.new.store done c.in-Some.read before.0 c.load_one.ensures.loads c.if-not-load_one.ensures.loaded,
+      before.1 ∙ ap (λ (rest : List FreeMetaslab). done ++ rest) c.in-Some.ensures.steps.0 ∙ sym (append_assoc done (c.in-Some.read ∷ []) left),
+    )
 
-pub returns-clause-loads : goal.returns-clause-loads
-returns-clause-loads g c =
-    loads_on c.args.store.now c.read_space_maps.new.store c.load_each.new.store c.args.missing.now (reads_load c.args.store.now c.read_space_maps.new.store c.args.missing.now c.read_space_maps.ensures.reads)
-    c.load_each.ensures.loads
+pub returns-then-not-load_one-clause-refused : goal.returns-then-not-load_one-clause-refused
+returns-then-not-load_one-clause-refused g c =
+    let before = c.loop-read.invariant in
+    let done = c.loop-read.yielded in
+    let stopped : IsLoadStopped c.args.store.now.spaces c.args.maps.items c.loop-read.store.spaces = record {
+      done = done;
+      next = c.in-Some.read;
+      left = c.next.new.self.rest.items;
+      are = before.1 ∙ ap (λ (rest : List FreeMetaslab). done ++ rest) c.in-Some.ensures.steps.0;
+      loaded = λ apart. loaded_as c.args.store.now c.loop-read.store done before.0 apart;
+      none = λ may. true≢false (sym (c.if-not-load_one.ensures.may.1 may));
+    } in
+    subst (λ (s : Store). IsLoadStopped c.args.store.now.spaces c.args.maps.items s.spaces) (sym c.if-not-load_one.ensures.left) stopped
 
-pub returns-clause-refused : goal.returns-clause-refused
-returns-clause-refused g c =
-    IfErr-weaker c.load_each.result _ _
-    (λ refusal cause. elim cause [
-      | inl memory ↦ inl memory
-      | inr stopped ↦ inr (inr (record {
-        maps = c.in_ok-maps.maps;
-        found = c.in_ok-maps.ensures.found;
-        why = inr (
-          c.read_space_maps.new.store,
-          reads_load c.args.store.now c.read_space_maps.new.store c.args.missing.now c.read_space_maps.ensures.reads,
-          subst (λ (rows : List MetaslabMap). IsLoadStopped c.read_space_maps.new.store c.load_each.new.store c.args.missing.now c.args.set.now c.args.birth rows refusal)
-              c.rows-2.ensures.value stopped,
-        );
-      }))
-    ])
-    c.load_each.ensures.refused
+pub returns-then-not-load_one-clause-always : goal.returns-then-not-load_one-clause-always
+returns-then-not-load_one-clause-always g c = λ sets free.
+    let before = c.loop-read.invariant in
+    let done = c.loop-read.yielded in
+    let read = c.in-Some.read in
+    let left = c.next.new.self.rest.items in
+    let are : c.args.maps.items ≡ done ++ read ∷ left = before.1 ∙ ap (λ (rest : List FreeMetaslab). done ++ rest) c.in-Some.ensures.steps.0 in
+    c.if-not-load_one.ensures.may.1 (next_may c.args.store.now c.loop-read.store done left read before.0 (subst (AreSetsOf c.args.store.now.spaces) are sets) free)
 
 pub returns-clause-value : goal.returns-clause-value
-returns-clause-value g c =
-    let old = c.args.store.now in
-    let mid = c.read_space_maps.new.store in
-    let new = c.load_each.new.store in
-    let same = spaces_stay old mid c.args.missing.now c.read_space_maps.ensures.reads in
-    ok_by c.load_each.result
-    (λ value stored objects own blocks held are honest free. (
-      c.in_ok-maps.maps,
-      all_loaded objects old.spaces new.spaces c.in_ok-maps.maps (c.load_each.ensures.loads.shapes ∙ ap shapes_of same)
-          (c.in_ok-maps.ensures.value stored objects own blocks held are (true_before old mid new c.load_each.ensures.loads.reads honest))
-          (subst (λ (spaces : List VdevSpace). AreRowsOf spaces c.in_ok-maps.maps) same
-          (subst (λ (rows : List MetaslabMap). AreRowsOf mid.spaces rows) c.rows.ensures.value c.if-not-are_rows.ensures.are))
-          (subst (λ (spaces : List VdevSpace). AreLoaded objects spaces c.in_ok-maps.maps new.spaces) same
-          (subst (λ (rows : List MetaslabMap). AreLoaded objects mid.spaces rows new.spaces) c.rows-2.ensures.value
-          (value stored objects own blocks (c.read_space_maps.ensures.reads.keeps stored held) are (true_after old mid new c.read_space_maps.ensures.reads.reads honest)
-          (subst (λ (spaces : List VdevSpace). AreFreeBefore spaces) (sym same) free)))),
-    ))
-    c.load_each.ensures.value
+returns-clause-value g c = λ apart.
+    let done = c.loop-read.yielded in
+    let left = c.loop-read.read-iterator.rest in
+    let none : left.items ≡ [] = nil_from_length left.items (sym left.ok.0 ∙ c.in-None.ensures.steps.0) in
+    let all : c.args.maps.items ≡ done = c.loop-read.invariant.1 ∙ ap (λ (rest : List FreeMetaslab). done ++ rest) none ∙ append-nil done in
+    subst (λ (maps : List FreeMetaslab). AreLoadedAs c.args.store.now.spaces maps c.loop-read.store.spaces) (sym all)
+    (loaded_as c.args.store.now c.loop-read.store done c.loop-read.invariant.0 (subst AreApart all apart))
 
-pub returns-in_err-maps-clause-known : goal.returns-in_err-maps-clause-known
-returns-in_err-maps-clause-known g c =
-    passed_on _ _ _ c.from_residual.ensures.1
-    (λ stored objects own blocks held are honest free maps table rows have. elim (c.in_err-maps.ensures.known stored objects own blocks held are honest) [
-      | inl loss ↦ lossy c.in_err-maps.field-0.0 loss
-      | inr (bad, none) ↦ absurd (none maps table)
-    ])
-
-pub returns-then-not-are_rows-clause-known : goal.returns-then-not-are_rows-clause-known
-returns-then-not-are_rows-clause-known g c = λ stored objects own blocks held are honest free maps table rows have.
-    let same = spaces_stay c.args.store.now c.read_space_maps.new.store c.args.missing.now c.read_space_maps.ensures.reads in
-    let maps_are = c.in_ok-maps.ensures.one stored objects own blocks held are honest maps table in
-    absurd (c.if-not-are_rows.ensures.none
-    (subst (λ (spaces : List VdevSpace). AreRowsOf spaces c.rows.result.now) (sym same) (subst (λ (them : List MetaslabMap). AreRowsOf c.args.store.now.spaces them) (sym (c.rows.ensures.value ∙ maps_are)) rows)))
-
-pub returns-clause-known : goal.returns-clause-known
-returns-clause-known g c =
-    let old = c.args.store.now in
-    let mid = c.read_space_maps.new.store in
-    let new = c.load_each.new.store in
-    let same = spaces_stay old mid c.args.missing.now c.read_space_maps.ensures.reads in
-    IfErr-weaker c.load_each.result _ _
-    (λ refusal known stored objects own blocks held are honest free maps table rows have.
-    let maps_are = c.in_ok-maps.ensures.one stored objects own blocks held are (true_before old mid new c.load_each.ensures.loads.reads honest) maps table in
-    known stored objects own blocks (c.read_space_maps.ensures.reads.keeps stored held) are (true_after old mid new c.read_space_maps.ensures.reads.reads honest)
-    (subst (λ (spaces : List VdevSpace). AreFreeBefore spaces) (sym same) free)
-    (subst (λ (spaces : List VdevSpace). HaveMaps objects spaces c.rows-2.result.now) (sym same)
-    (subst (λ (them : List MetaslabMap). HaveMaps objects old.spaces them) (sym (c.rows-2.ensures.value ∙ maps_are)) have)))
-    c.load_each.ensures.known
+pub returns-clause-released : goal.returns-clause-released
+returns-clause-released g c = c.loop-read.invariant.0.released

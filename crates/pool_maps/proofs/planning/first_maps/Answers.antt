@@ -6,15 +6,15 @@ use Rattle.meta_objset.specs.declared.space_maps.MetaslabMap.{MetaslabMap}
 use Rattle.objset.specs.declared.changes.ObjectChange.{ObjectChange}
 use Rattle.pool_maps.specs.declared.steps.MapPlan.{MapPlan}
 use Rattle.pool_maps.specs.Plans.{IsForMetaslab, IsMapNumber}
+use Rattle.pool_maps.specs.Refused.{no_set}
 use Rattle.pool_maps.proofs.Among.{others_stay}
-use Rattle.pool_maps.proofs.First.{ahead, below, empty_set, holds_nothing, made, no_objects, nothing, only_room, sound, sparing, table_apart, unmade}
+use Rattle.pool_maps.proofs.First.{ahead, below, holds_nothing, made, no_objects, nothing, only_room, sound, sparing, table_apart, unmade}
 use Rattle.pool_maps.proofs.planning.first_maps.Goals as goal
 
 pub returns-in_err-plan_all-clause-refused : goal.returns-in_err-plan_all-clause-refused
 returns-in_err-plan_all-clause-refused g c = passed_on _ _ _ c.from_residual.ensures.1 (elim c.in_err-plan_all.ensures.refused [
   | inl memory ↦ inl memory
   | inr why ↦ inr (record {
-    set = empty_set;
     plan = record { maps = c.new.result; grown = false; changes = c.args.changes; next = c.args.next };
     changes_are = refl;
     next_is = refl;
@@ -30,7 +30,7 @@ returns-in_err-plan_all-clause-known g c =
     passed_on _ _ _ c.from_residual.ensures.1
     (λ others none honest.
     only_room store c.plan_all.new.store 0 [] first c.in_err-plan_all.field-0.0
-    (c.in_err-plan_all.ensures.known nothing_stored nothing [] (λ number. []) (holds_nothing store) (no_objects 0 empty_set refl) honest
+    (c.in_err-plan_all.ensures.known nothing_stored nothing [] (λ number. []) (holds_nothing store) (no_objects 0 no_set refl) honest
     (sound store.spaces c.args.changes.items c.args.next others first c.new.ensures refl refl)
     (unmade store.spaces c.args.changes.items c.args.next others first c.new.ensures refl refl)
     (below store.spaces c.args.changes.items c.args.next others first c.new.ensures refl refl)
@@ -62,7 +62,6 @@ returns-clause-refused g c =
     (λ refusal cause. elim cause [
       | inl memory ↦ inl memory
       | inr (bad, taken) ↦ inr (record {
-        set = empty_set;
         plan = record { maps = c.new.result; grown = false; changes = c.args.changes; next = c.args.next };
         changes_are = refl;
         next_is = refl;
@@ -80,7 +79,7 @@ returns-clause-value g c =
     (λ all table others none honest.
     let is_sound = sound store.spaces c.args.changes.items c.args.next others first c.new.ensures refl refl in
     made store.spaces c.args.changes.items c.args.next others first c.new.ensures refl refl c.plan_all.new.self none (c.in_ok-plan_all.ensures.step.sound is_sound)
-    (c.in_ok-plan_all.ensures.advances nothing_stored nothing [] (λ number. []) (holds_nothing store) (no_objects 0 empty_set refl) honest is_sound
+    (c.in_ok-plan_all.ensures.advances nothing_stored nothing [] (λ number. []) (holds_nothing store) (no_objects 0 no_set refl) honest is_sound
     (unmade store.spaces c.args.changes.items c.args.next others first c.new.ensures refl refl))
     all.items table.0 table.1 table.2 table.3)
     c.with_first_table.ensures.table
