@@ -42,6 +42,10 @@ pub on_ok_so : {T E : Type 0} (result : Result T E) (P Q : Type 0) → (P → Q)
 on_ok_so (Ok x) P Q so is = so is
 on_ok_so (Err e) P Q so is = tt
 
+pub on_ok : {T E : Type 0} (result : Result T E) (Q : Type 0) → Q → OnOk result Q
+on_ok (Ok x) Q is = is
+on_ok (Err e) Q is = tt
+
 pub err_both : {T E : Type 0} (result : Result T E) (P Q : E → Type 0) → IfErr result P → IfErr result Q → IfErr result (λ e. P e × Q e)
 err_both (Ok x) P Q one two = tt
 err_both (Err e) P Q one two = (one, two)
@@ -190,25 +194,26 @@ module _ (old first second new : Store) (root : Block) (rows : List DirectoryRow
   pub group_volumes_refused : (refusal : Refusal) → AreMappedRefused first new root.birth group opened items.actions refusal → IsGroupRefused old new root rows group items refusal
   group_volumes_refused refusal why = inr (inr (record { opened = opened; found = found; mid = first; before = reads; why = inl why }))
 
-  pub group_changes_refused : (changes : List ObjectChange) (refusal : Refusal) → OnlyReadsAndPlans first second [] → HasMappedPlaces first second root.birth group opened items.actions changes
+  pub group_changes_refused : (gone : List Block) (changes : List ObjectChange) (refusal : Refusal) → OnlyReadsAndPlans first second [] → HasMappedPlaces first second root.birth group opened items.actions gone changes
       → IsRootRefused second new opened.set root.birth group changes refusal → IsGroupRefused old new root rows group items refusal
-  group_changes_refused changes refusal steps volumes why =
+  group_changes_refused gone changes refusal steps volumes why =
       inr (inr (record {
         opened = opened;
         found = found;
         mid = first;
         before = reads;
-        why = inr (record { mid = second; before = steps; all = changes; volumes = volumes; why = why });
+        why = inr (record { mid = second; before = steps; gone = gone; all = changes; volumes = volumes; why = why });
       }))
 
-  pub group_has : (all : List ObjectChange) → OnlyReadsAndPlans first second [] → HasMappedPlaces first second root.birth group opened items.actions all
-      → HasRootPlaces second new opened.set group all → HasGroupPlaces old new root rows group items
-  group_has all steps mapped (of_root, root_asks, root_has) =
+  pub group_has : (gone of_meta replaced : List Block) (all : List ObjectChange) → OnlyReadsAndPlans first second []
+      → HasMappedPlaces first second root.birth group opened items.actions gone all → HasRootPlaces second new opened.set group all
+      → replaced ≡ root ∷ gone ++ of_meta → HasGroupPlaces old new root rows group items replaced
+  group_has gone of_meta replaced all steps mapped (of_root, root_asks, root_has) given_back =
       let volumes = mapped.volumes in
       let same : first.spaces ≡ old.spaces = ap (λ (s : Store). s.spaces) reads.rest in
       let now : second.spaces ≡ mapped.mid.spaces = ap (λ (s : Store). s.spaces) mapped.reads.rest in
       let demands : List Demand = (volumes.of_written ++ volumes.of_made) ++ of_root in
-      let ask : HasGroupDemands first.spaces root.birth group opened items.actions demands = record {
+      let ask : HasGroupDemands first.spaces root.birth group opened items.actions gone demands = record {
         made = volumes.made;
         made_are = volumes.made_are;
         of_written = volumes.of_written;
@@ -219,9 +224,8 @@ module _ (old first second new : Store) (root : Block) (rows : List DirectoryRow
         changes_are = volumes.changes_are;
         mid = mapped.mid.spaces;
         places = volumes.places;
-        gone = mapped.gone;
         all = all;
-        with_maps = subst (λ n. AreWithMaps mapped.mid.spaces opened.set root.birth mapped.gone n mapped.changes all) volumes.next_is mapped.with_maps;
+        with_maps = subst (λ n. AreWithMaps mapped.mid.spaces opened.set root.birth gone n mapped.changes all) volumes.next_is mapped.with_maps;
         of_root = of_root;
         root_asks = record {
           of_objects = root_asks.of_objects;
@@ -235,8 +239,11 @@ module _ (old first second new : Store) (root : Block) (rows : List DirectoryRow
       (subst (λ (spaces : List VdevSpace). HavePlaces first.spaces (volumes.of_written ++ volumes.of_made) spaces) (sym now) volumes.places) root_has in record {
         opened = opened;
         found = found;
+        gone = gone;
+        of_meta = of_meta;
+        given_back = given_back;
         demands = demands;
-        ask = subst (λ (spaces : List VdevSpace). HasGroupDemands spaces root.birth group opened items.actions demands) same ask;
+        ask = subst (λ (spaces : List VdevSpace). HasGroupDemands spaces root.birth group opened items.actions gone demands) same ask;
         places = subst (λ (spaces : List VdevSpace). HavePlaces spaces demands new.spaces) same have;
       }
 

@@ -24,6 +24,7 @@ pub mod NamedRows
 pub mod NamingOrder
 pub mod NextMaps
 pub mod Numbered
+pub mod OpenedRoots
 pub mod Opening
 pub mod PlacedRecord
 pub mod PlacedVolumes

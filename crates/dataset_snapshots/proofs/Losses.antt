@@ -15,7 +15,7 @@ use Rattle.meta_objset.specs.Reading.{directory_kind}
 use Rattle.meta_objset.specs.SpaceMaps.{maps_kind}
 use Rattle.objset.proofs.Losses.{change_lost}
 use Rattle.objset.specs.declared.changes.ObjectChange.{ObjectChange}
-use Rattle.pool_maps.specs.Refused.{AreFirstRefused, IsPlanRefused as AreMapsUnplanned}
+use Rattle.pool_maps.specs.Refused.{AreFirstRefused, IsPlanRefused as AreMapsUnplanned, no_set}
 use Rattle.pool_model.specs.declared.item.Action.{Action}
 use Rattle.pool_model.specs.declared.item.Change.{Change}
 use Rattle.pool_model.specs.declared.item.Write.{Write}
@@ -116,7 +116,7 @@ losses_of_groups old new root rows group items refusal (inr (inr unplanned)) is 
 
 first_maps_lost : (old new : Store) (changes : List ObjectChange) (next : ℕ) (refusal : Refusal) → AreFirstRefused old new changes next refusal → refusal ≡ DiskFault → IsBlockLost old new []
 first_maps_lost old new changes next refusal maps is = elim maps.why [
-  | inl some ↦ some_map_lost old new maps.set 0 [] maps.plan refusal some is
+  | inl some ↦ some_map_lost old new no_set 0 [] maps.plan refusal some is
   | inr (bad, taken) ↦ absurd (cc)
 ]
 

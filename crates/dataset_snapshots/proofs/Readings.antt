@@ -4,9 +4,11 @@ use Rattle.block_pointer.specs.Copies.{dvas}
 use Rattle.std.proofs.Common.{◌≡◌, ℕ, ◌%◌, List, [], ◌∷◌, ◌++◌, Option, refl, sym, ap, subst, ◌∙◌, All, length, ◌≢◌}
 use Rattle.std.specs.List.{AllZip}
 use Rattle.block_pointer.specs.declared.block.Block.{Block}
+use Rattle.block_store.specs.Opened.{AreBlocksApart}
 use Rattle.block_store.specs.Blocks.{Contents}
 use Rattle.dnode.specs.declared.object_set.ObjectSet.{ObjectSet}
 use Rattle.dnode_slots.proofs.Readings.{set_block_once}
+use Rattle.dnode_tree.specs.Rewriting.{AreDistinct}
 use Rattle.dnode_tree.specs.Subtree.{joined}
 use Rattle.meta_objset.proofs.Readings.{directory_once, name_once, record_once}
 use Rattle.meta_objset.specs.declared.directory.DirectoryRow.{DirectoryRow}
@@ -102,6 +104,8 @@ roots_spell_one_pool stored birth later root pool other one two =
           meta = subst (λ (them : List Block). All (λ block. length (dvas block.copies) ≡ 3) them) (λ i. root ∷ blocks_of_set (set i) (own i) (blocks i)) has.copied.meta;
           others = subst (λ (them : List (List Block)). All (λ block. length (dvas block.copies) ≢ 3) (joined them)) parts has.copied.others;
         };
+        once = subst AreDistinct reach has.once;
+        apart = subst AreBlocksApart reach has.apart;
         maps = subst (λ objects. AreMapsFor objects spaces (reach_of two)) same.0 (subst (λ (them : List Block). AreMapsFor one.objects spaces them) reach has.maps);
       },
     )

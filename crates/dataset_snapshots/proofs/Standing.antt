@@ -6,9 +6,11 @@ use Rattle.std.specs.List.{AllZip, flat_map, range_with_len}
 use Rattle.std.proofs.lemmas.Bool.{cases_eq}
 use Rattle.std.proofs.lemmas.List.Elements.{Contains-append_left, Contains-append_right}
 use Rattle.block_pointer.specs.declared.block.Block.{Block}
+use Rattle.block_store.specs.Opened.{AreBlocksApart}
 use Rattle.block_store.specs.Blocks.{Contents}
 use Rattle.dnode.specs.declared.object_set.ObjectSet.{ObjectSet}
 use Rattle.dnode_tree.proofs.Standing.{first_in}
+use Rattle.dnode_tree.specs.Rewriting.{AreDistinct}
 use Rattle.dnode_tree.specs.Subtree.{joined}
 use Rattle.meta_objset.specs.declared.directory.DirectoryRow.{DirectoryRow}
 use Rattle.objset.proofs.Kept.{objects_stand}
@@ -130,6 +132,8 @@ roots_stand old new bound birth root pool le is keeps =
           meta = has.copied.meta;
           others = subst (λ (them : List (List Block)). All (λ block. length (dvas block.copies) ≢ 3) (joined them)) (sym stand.1) has.copied.others;
         };
+        once = subst AreDistinct (sym (ap (λ parts. root ∷ own ++ joined parts) stand.1)) has.once;
+        apart = subst AreBlocksApart (sym (ap (λ parts. root ∷ own ++ joined parts) stand.1)) has.apart;
         maps = subst (λ (them : List Block). AreMapsFor is.objects spaces them) (sym (ap (λ parts. root ∷ own ++ joined parts) stand.1)) has.maps;
       },
     )

@@ -17,22 +17,26 @@ use Rattle.meta_objset.specs.Names.{IsNamed}
 use Rattle.pool_model.specs.declared.volume.PlainVolume.{PlainVolume}
 use Rattle.pool_model.specs.declared.volume.VolumeKind.TheVariants as volumes
 use Rattle.pool_model.specs.Pools.{PlainPool}
+use Rattle.pool_maps.specs.Loads.{AreFreeFound, AreMapsUnread, AreReadMaps}
+use Rattle.space_map_objects.specs.declared.refusal.Refusal.{Refusal as MapRefusal}
+use Rattle.space_map_objects.specs.declared.refusal.Refusal.TheVariants.{NoMemory as NoMapMemory, Unread}
 use Rattle.volume_rules.specs.declared.index.NameIndex.{NameIndex}
 use Rattle.volume_rules.specs.declared.shape.VolumeShape.{VolumeShape}
 use Rattle.volume_rules.specs.Index.{Knows}
 use Rattle.dataset_snapshots.specs.declared.contents.RootContents.{RootContents}
 use Rattle.dataset_snapshots.specs.Finding.{AreRowsFound, IsDirectoryRefused, IsMetaFound, IsMetaRefused}
 use Rattle.dataset_snapshots.specs.Pools.{IsRecordOf, SpellsPool}
-use Rattle.dataset_snapshots.specs.Reach.{reach_of, IsReached, IsReachRefused}
+use Rattle.dataset_snapshots.specs.Reach.{meta_blocks_of, IsMetaWalked, IsMetaWalkRefused}
 
--- these are the root's own: the rows that it spells its pool by, the names of the pool, and the
--- blocks that it leads to
-pub record AreContentsOf (stored : Contents) (birth : ℕ) (root : Block) (pool : PlainPool)
-    (contents : RootContents) : Type 0 where
+-- these are the root's own: the rows that it spells its pool by, the names of the pool, the blocks
+-- of the root and its meta object set, and what its space maps leave free of these vdevs
+pub record AreContentsOf (stored : Contents) (spaces : List VdevSpace) (birth : ℕ) (root : Block)
+    (pool : PlainPool) (contents : RootContents) : Type 0 where
   pub is : SpellsPool stored birth root pool
   pub rows : contents.directory ≡ is.rows
   pub names : Knows contents.names pool
-  pub blocks : contents.blocks.items ≡ reach_of is
+  pub blocks : contents.blocks.items ≡ meta_blocks_of is
+  pub maps : AreReadMaps is.objects spaces contents.maps.items
 
 -- ---- what was read, whether or not the root is whole
 
@@ -69,13 +73,16 @@ pub record AreNamesFound (spaces : List VdevSpace) (birth : ℕ) (root : Block)
   pub meta : IsMetaFound spaces birth root set
   pub volumes : AreVolumesNamed spaces set root.birth rows names
 
--- the directory was read, the names of its rows, and then all blocks, by so many reads of these
+-- the directory was read, the names of its rows, then the blocks of the root and its set, by so many
+-- reads of these, and then the set's space maps
 pub record AreContentsFound (spaces : List VdevSpace) (birth : ℕ) (root : Block) (before after : ℕ)
     (contents : RootContents) : Type 0 where
   pub set : ObjectSet
   pub directory : AreRowsFound spaces birth root set contents.directory
   pub names : AreNamesFound spaces birth root contents.directory contents.names
-  pub blocks : IsReached spaces birth root before after contents.blocks.items
+  pub walked_set : ObjectSet
+  pub blocks : IsMetaWalked spaces birth root before after walked_set contents.blocks.items
+  pub maps : AreFreeFound spaces walked_set root.birth contents.maps.items
 
 -- ---- why it was not
 
@@ -128,23 +135,45 @@ pub record AreNamesUnread (old new : Store) (missing : List ℕ) (birth : ℕ) (
   pub first : OnlyReadsBlocks old mid missing
   pub why : AreNamesRefused mid new missing birth root rows refusal
 
--- the directory and the names of its rows were read, and then the walk of all blocks was refused
-pub record IsReachUnread (old new : Store) (missing : List ℕ) (birth : ℕ) (root : Block)
+-- the directory and the names of its rows were read, and then the walk of the meta object set was
+-- refused
+pub record IsMetaUnread (old new : Store) (missing : List ℕ) (birth : ℕ) (root : Block)
     (before after : ℕ) (refusal : Refusal) : Type 0 where
   pub set : ObjectSet
   pub rows : List DirectoryRow
   pub read : AreRowsFound old.spaces birth root set rows
   pub mid : Store
   pub first : OnlyReadsBlocks old mid missing
-  pub why : IsReachRefused mid new missing birth root before after refusal
+  pub why : IsMetaWalkRefused mid new missing birth root before after refusal
 
--- why the contents of a root were not read: its directory was not, or the names of its rows, or its
--- blocks were not walked
-abbrev pub AreContentsRefused :
+-- why what comes before the space maps was not read: the directory was not, or the names of its
+-- rows, or the meta object set was not walked
+abbrev pub IsRootUnread :
     Store → Store → List ℕ → ℕ → Block → ℕ → ℕ → Refusal → Type 0
-AreContentsRefused old new missing birth root before after refusal =
-    (refusal ≡ NoMemory)
-    ⊎ ((IsMetaRefused old new missing birth root refusal
+IsRootUnread old new missing birth root before after refusal =
+    (IsMetaRefused old new missing birth root refusal
     ⊎ IsDirectoryRefused old new missing birth root refusal)
     ⊎ (AreNamesUnread old new missing birth root refusal
-    ⊎ IsReachUnread old new missing birth root before after refusal))
+    ⊎ IsMetaUnread old new missing birth root before after refusal)
+
+-- all that was read, the meta object set was walked, and then its space maps were refused
+pub record AreRootMapsUnread (old new : Store) (missing : List ℕ) (birth : ℕ) (root : Block)
+    (before after : ℕ) (refusal : MapRefusal) : Type 0 where
+  pub set : ObjectSet
+  pub rows : List DirectoryRow
+  pub read : AreRowsFound old.spaces birth root set rows
+  pub walked_set : ObjectSet
+  pub found : List Block
+  pub walked : IsMetaWalked old.spaces birth root before after walked_set found
+  pub mid : Store
+  pub first : OnlyReadsBlocks old mid missing
+  pub why : AreMapsUnread mid new missing walked_set root.birth refusal
+
+-- why the contents of a root were not read: something before the space maps was not, or they were not
+abbrev pub AreContentsRefused :
+    Store → Store → List ℕ → ℕ → Block → ℕ → ℕ → MapRefusal → Type 0
+AreContentsRefused old new missing birth root before after refusal =
+    (refusal ≡ NoMapMemory)
+    ⊎ (((why : Refusal) × (refusal ≡ Unread why)
+    × IsRootUnread old new missing birth root before after why)
+    ⊎ AreRootMapsUnread old new missing birth root before after refusal)

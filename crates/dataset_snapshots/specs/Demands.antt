@@ -339,16 +339,16 @@ pub record AreWithMaps (spaces : List VdevSpace) (set : ObjectSet) (birth : ℕ)
   pub others : OthersStay maps next changes all
   pub sparing : AreSparing spaces gone maps next changes all
 
--- the volumes of a group were placed, and then its space maps were planned
+-- the volumes of a group were placed, of which these blocks are given back, and then its space maps
+-- were planned
 pub record HasMappedPlaces (old new : Store) (born group : ℕ) (opened : Opened)
-    (actions : List Action) (all : List ObjectChange) : Type 0 where
+    (actions : List Action) (gone : List Block) (all : List ObjectChange) : Type 0 where
   pub mid : Store
   pub steps : OnlyReadsAndPlans old mid []
   pub changes : List ObjectChange
   pub next : ℕ
   pub volumes : HasVolumePlaces old mid group opened actions changes next
   pub reads : OnlyReadsBlocks mid new []
-  pub gone : List Block
   pub with_maps : AreWithMaps mid.spaces opened.set born gone next changes all
 
 -- all volumes were placed, and then the space maps were refused
@@ -369,10 +369,11 @@ AreMappedRefused old new born group opened actions refusal =
     AreVolumesRefused old new group opened actions refusal
     ⊎ AreGroupMapsRefused old new born group opened actions refusal
 
--- what a group asks, whose root before was born then: its volumes, and then its changes of the meta
--- object set, with those of the space maps as its volumes leave the vdevs
+-- what a group asks, whose root before was born then, and whose volumes give these blocks back: its
+-- volumes, and then its changes of the meta object set, with those of the space maps as its volumes
+-- leave the vdevs
 pub record HasGroupDemands (spaces : List VdevSpace) (born group : ℕ) (opened : Opened)
-    (actions : List Action) (demands : List Demand) : Type 0 where
+    (actions : List Action) (gone : List Block) (demands : List Demand) : Type 0 where
   pub made : List Action
   pub made_are : AreMade opened.directory [] actions made
   pub of_written : List Demand
@@ -383,7 +384,6 @@ pub record HasGroupDemands (spaces : List VdevSpace) (born group : ℕ) (opened 
   pub changes_are : AreGroupChanges opened made changes
   pub mid : List VdevSpace
   pub places : HavePlaces spaces (of_written ++ of_made) mid
-  pub gone : List Block
   pub all : List ObjectChange
   pub with_maps : AreWithMaps mid opened.set born gone
       (first_number opened.set + 2 * length made) changes all
@@ -391,13 +391,17 @@ pub record HasGroupDemands (spaces : List VdevSpace) (born group : ℕ) (opened 
   pub root_asks : HasRootDemands spaces opened.set group all of_root
   pub is : demands ≡ of_written ++ of_made ++ of_root
 
--- the root was read, and then places were taken for what the group asks, and for nothing else
+-- The root was read, and then places were taken for what the group asks, and for nothing else. Given
+-- back are the root, then what its volumes give back, and then what the meta object set does.
 pub record HasGroupPlaces (old new : Store) (root : Block) (rows : List DirectoryRow) (group : ℕ)
-    (items : Entry) : Type 0 where
+    (items : Entry) (replaced : List Block) : Type 0 where
   pub opened : Opened
   pub found : IsGroupFound old.spaces (group - 1) root rows items.writes opened
+  pub gone : List Block
+  pub of_meta : List Block
+  pub given_back : replaced ≡ root ∷ gone ++ of_meta
   pub demands : List Demand
-  pub ask : HasGroupDemands old.spaces root.birth group opened items.actions demands
+  pub ask : HasGroupDemands old.spaces root.birth group opened items.actions gone demands
   pub places : HavePlaces old.spaces demands new.spaces
 
 -- all volumes were placed and the space maps planned, and then the changes of the meta object set,
@@ -406,8 +410,9 @@ pub record AreChangesRefused (old new : Store) (born group : ℕ) (opened : Open
     (actions : List Action) (refusal : Refusal) : Type 0 where
   pub mid : Store
   pub before : OnlyReadsAndPlans old mid []
+  pub gone : List Block
   pub all : List ObjectChange
-  pub volumes : HasMappedPlaces old mid born group opened actions all
+  pub volumes : HasMappedPlaces old mid born group opened actions gone all
   pub why : IsRootRefused mid new opened.set born group all refusal
 
 -- the root was read, and then the group's volumes or space maps were refused, or its changes

@@ -73,7 +73,8 @@ IsWithTables vdevs making changes =
     (tables : List ObjectChange) × AreTableChanges vdevs making.directory tables
     × (changes ≡ tables ++ making.changes.items)
 
--- the changes that make the space maps came among these, of no metaslab but those of which something is in use with the plan
+-- the changes that make the space maps came among these, of no metaslab but those of which other sectors are unused with the plan
+-- than without it
 pub record AreWithFirstMaps (spaces : List VdevSpace) (next : ℕ) (changes all : List ObjectChange) : Type 0 where
   pub others : OthersStay [] next changes all
   pub sparing : AreSparing spaces [] [] next changes all

@@ -3,6 +3,7 @@ use Rattle.std.specs.Prelude.{ℕ, ◌≡◌, ◌≢◌, List, ◌∷◌, length
 use Rattle.block_pointer.specs.declared.block.Block.{Block}
 use Rattle.block_pointer.specs.Copies.{dvas}
 use Rattle.block_store.specs.Blocks.{Contents, AreDistinct}
+use Rattle.block_store.specs.Opened.{AreBlocksApart}
 use Rattle.block_store.specs.Places.{Marks, planned, shapes_of}
 use Rattle.block_store.specs.declared.shape.VdevShape.{VdevShape}
 use Rattle.block_store.specs.Releases.{AreAllInUse, AreReleased, copies_of_all}
@@ -21,10 +22,13 @@ pub record AreCopied {stored : Contents} {birth : ℕ} {root : Block} {pool : Pl
   pub meta : All (λ block. length (dvas block.copies) ≡ 3) (root ∷ blocks_of_set is.set is.own is.blocks)
   pub others : All (λ block. length (dvas block.copies) ≢ 3) (joined (parts_of stored root.birth is.objects is.rows pool.volumes is.volumes))
 
--- Of each metaslab before a meta region the space maps under the root call allocated just what the root leads to.
+-- The root leads to each of its blocks once, and no two of them share a sector. Of each metaslab before a meta region the space maps under
+-- it call allocated just what it leads to.
 pub record HasItsMaps (spaces : List VdevSpace) {stored : Contents} {birth : ℕ} {root : Block} {pool : PlainPool}
     (is : SpellsPool stored birth root pool) : Type 0 where
   pub copied : AreCopied is
+  pub once : AreDistinct (reach_of is)
+  pub apart : AreBlocksApart (reach_of is)
   pub maps : AreMapsFor is.objects spaces (reach_of is)
 
 -- so it is on all vdevs of these shapes

@@ -49,15 +49,34 @@ parts_of stored birth objects (row ∷ rows) [] all = []
 parts_of stored birth objects (row ∷ rows) (volume ∷ volumes) all =
     blocks_of_dataset all.0 ∷ parts_of stored birth objects rows volumes all.1
 
--- all blocks that the root leads to: its own, those of the meta object set, and those of each
--- volume
+-- the root's block, and those of the meta object set
+abbrev pub meta_blocks_of : {stored : Contents} {birth : ℕ} {root : Block} {pool : PlainPool}
+    → SpellsPool stored birth root pool → List Block
+meta_blocks_of {root = root} is = root ∷ blocks_of_set is.set is.own is.blocks
+
+-- those of each volume
+abbrev pub volume_blocks_of : {stored : Contents} {birth : ℕ} {root : Block} {pool : PlainPool}
+    → SpellsPool stored birth root pool → List Block
+volume_blocks_of {stored = stored} {root = root} {pool = pool} is =
+    joined (parts_of stored root.birth is.objects is.rows pool.volumes is.volumes)
+
+-- all blocks that the root leads to
 abbrev pub reach_of : {stored : Contents} {birth : ℕ} {root : Block} {pool : PlainPool}
     → SpellsPool stored birth root pool → List Block
-reach_of {stored = stored} {root = root} {pool = pool} is =
-    root ∷ blocks_of_set is.set is.own is.blocks
-    ++ joined (parts_of stored root.birth is.objects is.rows pool.volumes is.volumes)
+reach_of is = meta_blocks_of is ++ volume_blocks_of is
 
 -- ---- what was walked, whether or not the root is whole
+
+-- the root was read, and then the blocks of its set were walked, by so many reads: that of the root,
+-- and those of the walk
+pub record IsMetaWalked (spaces : List VdevSpace) (birth : ℕ) (root : Block) (before after : ℕ)
+    (set : ObjectSet) (found : List Block) : Type 0 where
+  pub meta : IsMetaFound spaces birth root set
+  pub left : ℕ
+  pub count : before ≡ suc left
+  pub own : List Block
+  pub walked : IsSetWalked spaces set root.birth left after own
+  pub are : found ≡ root ∷ own
 
 -- the dataset's record was read, and behind it the volume was walked
 pub record IsDatasetWalked (spaces : List VdevSpace) (set : ObjectSet)
@@ -165,6 +184,24 @@ pub record IsMetaUnwalked (old new : Store) (missing : List ℕ) (birth : ℕ) (
   pub mid : Store
   pub first : OnlyReadsBlocks old mid missing
   pub why : IsSetWalkRefused mid new missing set root.birth left after refusal
+
+-- the blocks of the root and its set were walked, and one is there twice
+pub record IsMetaTwice (spaces : List VdevSpace) (birth : ℕ) (root : Block) (before after : ℕ)
+    : Type 0 where
+  pub set : ObjectSet
+  pub found : List Block
+  pub walked : IsMetaWalked spaces birth root before after set found
+  pub twice : ¬ AreDistinct found
+
+-- why the blocks of a root and its set were not walked, by what was left before and after: the
+-- root's was refused, or those of the set, or one is there twice
+abbrev pub IsMetaWalkRefused :
+    Store → Store → List ℕ → ℕ → Block → ℕ → ℕ → Refusal → Type 0
+IsMetaWalkRefused old new missing birth root before after refusal =
+    (refusal ≡ NoMemory)
+    ⊎ (IsMetaMissed old new missing birth root before refusal
+    ⊎ (IsMetaUnwalked old new missing birth root before after refusal
+    ⊎ ((refusal ≡ BadPointer) × IsMetaTwice old.spaces birth root before after)))
 
 -- the root was read and the blocks of its set were walked, and then the volumes were refused
 pub record IsBelowUnwalked (old new : Store) (missing : List ℕ) (birth : ℕ) (root : Block)

@@ -26,10 +26,9 @@ ghost use Rattle.dataset_snapshots.specs.Reach.{blocks_listed, reach_of};
 
 use crate::groups::{FIRST_OBJECT, MOST_NAMES, plan_root};
 use crate::making::{Made, Making};
-use block_pointer::{Block, BlockPtr};
+use block_pointer::Block;
 use block_store::{BlockStore, Refusal};
-use dnode::{ObjectNode, ObjectSet, ObjectSetKind};
-use meta_objset::{Directory, STALE_SPANS_KIND, config_creation};
+use meta_objset::{Directory, EMPTY, STALE_SPANS_KIND, config_creation};
 use model_disk::Disk;
 use objset::{Change, ObjectChange};
 use pool_maps::first_maps;
@@ -37,18 +36,6 @@ use pool_model::Action;
 use std::alloc::{AllocError, Global};
 use txg_pipeline::Pending;
 use vdev_label::Config;
-
-/// A meta object set with no object.
-const EMPTY: ObjectSet = ObjectSet {
-    dnodes: ObjectNode {
-        object_type: 10,
-        data_sectors: 32,
-        highest: 0,
-        pointer: BlockPtr::Hole,
-    },
-    kind: ObjectSetKind::Meta,
-    objects: 1,
-};
 
 /// The first root of a pool.
 #[derive(Debug, Drop)]
@@ -200,7 +187,8 @@ fn put_behind(
     Ok(all)
 }
 
-/// The changes that make the tables of a pool with this directory, but for that of the space maps. `NoMemory` is the only error, also where it has 2^40 names.
+/// The changes that make the tables of a pool with this directory, but for that of the space maps. `NoMemory` is the only error,
+/// also where it has 2^40 names.
 fn table_changes(
     directory: &Directory,
     alloc: Global,

@@ -127,9 +127,10 @@ pub fn after_group<D: Disk + Drop>(
         → AreGoodCreations items.now.actions
         → IsForRoom refusal ⊎ (refusal ≡ Refusal.DiskFault)) }
 
-    // Whatever the root and the directory are: what places are taken for, and on a refusal its cause.
-    ensures places { OnOk result
-        (HasGroupPlaces store.old store.new root.now directory.now group items.now) }
+    // Whatever the root and the directory are: what places are taken for and what is given back, and
+    // on a refusal its cause.
+    ensures places { IfOk result (λ after. HasGroupPlaces store.old store.new root.now directory.now
+        group items.now after.replaced.items) }
     ensures refused { IfErr result
         (IsGroupRefused store.old store.new root.now directory.now group items.now) }
 {
@@ -242,8 +243,8 @@ fn mapped_changes<D: Disk + Drop>(
         → AreMapsOf is.objects store.old.spaces filled → StandsOnce store.old.spaces is
         → AnswersAreTrue store.old store.new → AreGoodCreations actions.now
         → IsForRoom refusal ⊎ (refusal ≡ Refusal.DiskFault)) }
-    ensures places { IfOk result (λ made.
-        HasMappedPlaces store.old store.new born group opened actions.now made.changes.items) }
+    ensures places { IfOk result (λ made. HasMappedPlaces store.old store.new born group opened
+        actions.now gone.new.items made.changes.items) }
     ensures refused { IfErr result
         (AreMappedRefused store.old store.new born group opened actions.now) }
 {
@@ -448,6 +449,8 @@ pub(crate) fn plan_root<D: Disk + Drop>(
         → bound ≤ before → bound ≤ group → AnswersAreTrue store.old store.new
         → All (λ change. MayChange change.change (objects change.number)) changes.now
         → IsForRoom refusal ⊎ (refusal ≡ Refusal.DiskFault)) }
+    ensures behind { OnOk result ((gone : List Block)
+        × (replaced.new.items ≡ replaced.old.items ++ gone)) }
     ensures places { OnOk result
         (HasRootPlaces store.old store.new set.now group changes.now) }
     ensures refused { IfErr result

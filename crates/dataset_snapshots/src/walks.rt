@@ -19,9 +19,9 @@ ghost use Rattle.pool_model.specs.declared.volume.PlainVolume.{PlainVolume};
 ghost use Rattle.pool_model.specs.Pools.{PlainPool};
 ghost use Rattle.dataset_snapshots.specs.Finding.{IsMetaFound};
 ghost use Rattle.dataset_snapshots.specs.Pools.{SpellsDataset, SpellsPool};
-ghost use Rattle.dataset_snapshots.specs.Reach.{blocks_of_dataset, parts_of, reach_of};
+ghost use Rattle.dataset_snapshots.specs.Reach.{blocks_of_dataset, meta_blocks_of, parts_of, reach_of};
 ghost use Rattle.dataset_snapshots.specs.Reach.{AreRowsWalked, AreVolumesUnwalked, AreVolumesWalked, IsDatasetUnwalked};
-ghost use Rattle.dataset_snapshots.specs.Reach.{IsDatasetWalked, IsMetaMissed, IsReachRefused, IsReached, IsRowUnwalked};
+ghost use Rattle.dataset_snapshots.specs.Reach.{IsDatasetWalked, IsMetaMissed, IsMetaWalkRefused, IsMetaWalked, IsReachRefused, IsReached, IsRowUnwalked};
 
 use crate::finding::{read_dataset, read_meta};
 use block_pointer::Block;
@@ -73,6 +73,57 @@ pub fn reach<D: Disk + Drop>(
     let below = walk_volumes(&set, store, alloc, root.birth, left, missing)?;
     let found = with_root(*root, own, &below)?;
     whole(alloc, found)
+}
+
+/// The meta object set of a root, and its blocks.
+#[derive(Debug, Drop)]
+pub(crate) struct MetaWalk {
+    pub set: ObjectSet,
+    /// The root's block, and then those of the set.
+    pub blocks: Vec<Block>,
+}
+
+/// The meta object set of a root with its blocks, each once, as `objset::walk_within` finds them behind that of the root.
+///
+/// The pool may be forged. At most as many blocks are read as are left to be read, and each is counted off. `BadPointer` also where
+/// none is left, and where a block is there twice. The root was born in the transaction group `birth` or before. The disks that are
+/// named are taken as missing.
+pub(crate) fn walk_meta<D: Disk + Drop>(
+    root: &Block,
+    store: &mut BlockStore<D>,
+    alloc: Global,
+    birth: u64,
+    left: &mut u64,
+    missing: &[usize],
+) -> Result<MetaWalk, Refusal>
+    ensures reads { OnlyReadsBlocks store.old store.new missing.now }
+    ensures fewer { left.new ≤ left.old }
+    ensures fits { IfOk result (λ meta. FitsObjectSet meta.set) }
+    ensures value { IfOk result (λ meta. (stored : Contents) (pool : PlainPool)
+        → Holds store.old stored → (is : SpellsPool stored birth root.now pool)
+        → AnswersAreTrue store.old store.new
+        → (meta.set ≡ is.set) × (meta.blocks.items ≡ meta_blocks_of is)) }
+
+    // Whatever the root is: each block was found once, by so many reads, and on a refusal its cause.
+    ensures once { IfOk result (λ meta. AreDistinct meta.blocks.items) }
+    ensures walked { IfOk result (λ meta. IsMetaWalked store.old.spaces birth root.now left.old
+        left.new meta.set meta.blocks.items) }
+    ensures refused { IfErr result (IsMetaWalkRefused store.old store.new missing.now birth
+        root.now left.old left.new) }
+    ensures cause { IfErr result (λ refusal. refusal ≢ Refusal.NoSpace) }
+
+    // And the set of a whole pool that has each of these blocks once is walked, over disks that
+    // answer truly, where as many may be read as they are, unless too many disks miss of a block.
+    ensures known { IfErr result (λ refusal. (stored : Contents) (pool : PlainPool)
+        → Holds store.old stored → (is : SpellsPool stored birth root.now pool)
+        → AreDistinct (meta_blocks_of is) → length (meta_blocks_of is) ≤ left.old
+        → AnswersAreTrue store.old store.new → IsForLoss refusal) }
+{
+    let set = count_meta(root, store, alloc, birth, left, missing)?;
+    let own = objset::walk_within(&set, store, alloc, root.birth, left, missing)?;
+    let found = with_root(*root, own, &[])?;
+    let blocks = whole(alloc, found)?;
+    Ok(MetaWalk { set, blocks })
 }
 
 /// The meta object set of a root, whose block is counted off.

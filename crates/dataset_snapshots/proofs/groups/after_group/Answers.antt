@@ -160,22 +160,27 @@ returns-clause-places g c =
     let opened = c.in_ok-opened.opened in
     let list : List ObjectChange = c.in_ok-made.made.changes.items in
     let found = c.in_ok-opened.ensures.found in
-    let volumes = subst (λ (actions : List Action). HasMappedPlaces c.open_group.new.store c.mapped_changes.new.store c.args.root.now.birth c.args.group opened actions list) c.actions.ensures
+    let gone : List Block = c.mapped_changes.new.gone.items in
+    let behind = c.in_ok-next.ensures.behind in
+    let volumes = subst (λ (actions : List Action). HasMappedPlaces c.open_group.new.store c.mapped_changes.new.store c.args.root.now.birth c.args.group opened actions gone list) c.actions.ensures
     c.in_ok-made.ensures.places in
-    group_has c.args.store.now c.open_group.new.store c.mapped_changes.new.store c.plan_root.new.store c.args.root.now c.args.directory.now c.args.group c.args.items.now opened c.in_ok-opened.ensures.reads found list
+    group_has c.args.store.now c.open_group.new.store c.mapped_changes.new.store c.plan_root.new.store c.args.root.now c.args.directory.now c.args.group c.args.items.now opened c.in_ok-opened.ensures.reads found gone behind.0 c.plan_root.new.replaced.items list
     c.in_ok-made.ensures.steps volumes
     (subst (λ (cs : List ObjectChange). HasRootPlaces c.mapped_changes.new.store c.plan_root.new.store opened.set c.args.group cs) c.deref-2.ensures.value c.in_ok-next.ensures.places)
+    (behind.1 ∙ ap (λ (bs : List Block). bs ++ behind.0) (c.in_ok-extend_from_slice.ensures.items ∙ ap (λ (bs : List Block). bs ++ c.deref.result.now) c.in_ok-replaced.ensures
+    ∙ ap (λ (bs : List Block). (c.args.root.now ∷ []) ++ bs) c.deref.ensures.value))
 
 pub returns-in_err-next-clause-refused : goal.returns-in_err-next-clause-refused
 returns-in_err-next-clause-refused g c =
     let opened = c.in_ok-opened.opened in
     let list : List ObjectChange = c.in_ok-made.made.changes.items in
     let found = c.in_ok-opened.ensures.found in
-    let volumes = subst (λ (actions : List Action). HasMappedPlaces c.open_group.new.store c.mapped_changes.new.store c.args.root.now.birth c.args.group opened actions list) c.actions.ensures
+    let gone : List Block = c.mapped_changes.new.gone.items in
+    let volumes = subst (λ (actions : List Action). HasMappedPlaces c.open_group.new.store c.mapped_changes.new.store c.args.root.now.birth c.args.group opened actions gone list) c.actions.ensures
     c.in_ok-made.ensures.places in
     IfErr-weaker c.from_residual-in_err-next.result _ _
     (λ refusal why.
-    group_changes_refused c.args.store.now c.open_group.new.store c.mapped_changes.new.store c.plan_root.new.store c.args.root.now c.args.directory.now c.args.group c.args.items.now opened c.in_ok-opened.ensures.reads found list refusal
+    group_changes_refused c.args.store.now c.open_group.new.store c.mapped_changes.new.store c.plan_root.new.store c.args.root.now c.args.directory.now c.args.group c.args.items.now opened c.in_ok-opened.ensures.reads found gone list refusal
     c.in_ok-made.ensures.steps volumes
     (subst (λ (cs : List ObjectChange). IsRootRefused c.mapped_changes.new.store c.plan_root.new.store opened.set c.args.root.now.birth c.args.group cs refusal) c.deref-2.ensures.value why))
     (passed_on _ _ _ c.from_residual-in_err-next.ensures.1 c.in_err-next.ensures.refused)

@@ -7,7 +7,7 @@ use Rattle.dnode_tree.proofs.Refusing.{passed_on}
 use Rattle.dnode_tree.specs.Subtree.{joined}
 use Rattle.meta_objset.specs.declared.directory.DirectoryRow.{DirectoryRow}
 use Rattle.objset.specs.Objects.{AreObjects}
-use Rattle.pool_maps.specs.Plans.{MapAnew}
+use Rattle.pool_maps.specs.Plans.{AreSparing, MapAnew}
 use Rattle.pool_maps.proofs.Givable.{sized_given_back}
 use Rattle.pool_maps.proofs.Underway.{spaces_stay}
 use Rattle.dataset_snapshots.specs.Demands.{first_number}
@@ -56,8 +56,12 @@ returns-clause-places g c =
       next = c.in_ok-made.made.next;
       volumes = c.in_ok-made.ensures.places;
       reads = c.plan_maps.ensures.reads;
-      gone = c.deref.result.now;
-      with_maps = record { maps = others.0; found = others.1; others = others.2; sparing = others.3 };
+      with_maps = record {
+        maps = others.0;
+        found = others.1;
+        others = others.2;
+        sparing = subst (λ (them : List Block). AreSparing c.changes_of.new.store.spaces them others.0 c.in_ok-made.made.next c.in_ok-made.made.changes.items c.in_ok-changes.changes.items) c.deref.ensures.value others.3;
+      };
     }
 
 pub returns-in_err-changes-clause-known : goal.returns-in_err-changes-clause-known

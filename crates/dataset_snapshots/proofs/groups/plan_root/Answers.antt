@@ -1,7 +1,7 @@
 use Rattle.std.proofs.Common.{◌≡◌, ◌∙◌, ◌++◌, ℕ, [], List, All, ap, inl, inr, ⊎_elim, subst, arith}
 use Rattle.std.specs.Prelude.{Any}
 use Rattle.std.proofs.lemmas.Result.{IfOk-weaker, IfErr-weaker}
-use Rattle.dataset_snapshots.proofs.GroupDemands.{err_both, objects_refused, ok_so, root_places, root_refused}
+use Rattle.dataset_snapshots.proofs.GroupDemands.{err_both, objects_refused, ok_so, on_ok, root_places, root_refused}
 use Rattle.block_store.proofs.Steps.{no_room_now, no_room_on, steps_on, true_before}
 use Rattle.dnode_tree.proofs.Refusing.{ok_both, passed_on}
 use Rattle.objset.proofs.Kept.{objects_stand}
@@ -93,6 +93,13 @@ returns-clause-places g c =
     c.in_ok-rewrite.ensures.places (both.0 ∙ three (c.in_ok-rewrite.ensures.kind ∙ c.requires.kind))
     (subst (λ (count : ℕ). AreChosen c.change.new.store.spaces [] 2 count (dvas block.copies) c.plan_set.new.store.spaces)
     (three (c.in_ok-rewrite.ensures.kind ∙ c.requires.kind)) both.1)) (ok_both c.plan_set.result _ _ c.plan_set.ensures.copies c.plan_set.ensures.places)
+
+pub returns-clause-behind : goal.returns-clause-behind
+returns-clause-behind g c =
+    on_ok c.plan_set.result _ (
+      c.in_ok-rewrite.rewrite.replaced.items,
+      c.in_ok-extend_from_slice.ensures.items ∙ ap (λ (bs : List Block). c.args.replaced.now.items ++ bs) c.deref.ensures.value,
+    )
 
 pub returns-clause-refused : goal.returns-clause-refused
 returns-clause-refused g c =
