@@ -21,6 +21,8 @@ pub its_maps_over : (spaces after : List VdevSpace) (stored : Contents) (group :
     → shapes_of after ≡ shapes_of spaces → HasItsMaps spaces is → HasItsMaps after is
 its_maps_over spaces after stored group root pool is shapes has = record {
   copied = has.copied;
+  once = has.once;
+  apart = has.apart;
   maps = maps_for_stay is.objects spaces after (reach_of is) shapes has.maps;
 }
 

@@ -2,12 +2,15 @@
 use Rattle.std.proofs.Common.{◌≡◌, ℕ, Bool, true, false, if◌then◌else◌, List, Option, Some, None, Contains, sym, ap, ◌∙◌, subst, refl}
 use Rattle.block_pointer.specs.declared.block.Block.{Block}
 use Rattle.block_store.specs.Blocks.{Contents}
-use Rattle.block_store.specs.Places.{HaveMarks}
+use Rattle.block_store.specs.Opened.{AreBlocksApart}
+use Rattle.block_store.specs.Places.{HaveMarks, Marks}
 use Rattle.block_store.specs.Places.{filled as filled_marks, planned as planned_marks}
 use Rattle.block_store.specs.Releases.{AreReleased, copies_of_all}
 use Rattle.block_store.specs.Spaces.{VdevSpace}
+use Rattle.block_store.specs.Store.{ArePlaced}
 use Rattle.block_store.specs.Uses.{CopiesLieOn, IsInUse, Passes}
 use Rattle.dataset_snapshots.proofs.ChangedRows.{nothing_in}
+use Rattle.dataset_snapshots.proofs.Reaching.{reach_known}
 use Rattle.dataset_snapshots.proofs.Readings.{roots_spell_one_pool}
 use Rattle.dataset_snapshots.specs.Pools.{SpellsPool}
 use Rattle.dataset_snapshots.specs.Reach.{reach_of}
@@ -88,19 +91,36 @@ begins_with_maps s v backs free =
 
 -- ---- the group that is planned
 
+-- of blocks that are placed no two share a sector
+placed_apart : (spaces : List VdevSpace) (marks : Marks) (stored : Contents) (group : ℕ) (root : Block) (pool : PlainPool) (is : SpellsPool stored group root pool)
+    → ArePlaced spaces marks stored → AreBlocksApart (reach_of is)
+placed_apart spaces marks stored group root pool is placed block other i k place behind one two at there =
+    let first = reach_known stored group root pool is block one in
+    let second = reach_known stored group root pool is other two in
+    placed.apart block other first.0 second.0 i k place behind first.1 second.1 at there
+
 -- where just what the root leads to is in use with the plan, and what was to be given back is, its maps are its own
 pub maps_made : (made after : List VdevSpace) (gone : List Block) (later : Contents) (group : ℕ) (found : Option Block) (root : Block) (pool : PlainPool) (reach : List Block)
     → found ≡ Some root → LeavesMaps made gone later group root pool → LeadsTo later group found pool reach → AreReleased made (copies_of_all gone) group after
-    → AreInUse after planned_marks reach → AreInBlocks after planned_marks reach → HasMaps after later group found pool
-maps_made made after gone later group found root pool reach is leaves leads released in_use accounted =
+    → AreInUse after planned_marks reach → AreInBlocks after planned_marks reach → AreDistinct reach → ArePlaced made planned_marks later
+    → HasMaps after later group found pool
+maps_made made after gone later group found root pool reach is leaves leads released in_use accounted once placed =
     let led : LeadsTo later group (Some root) pool reach = subst (λ (o : Option Block). LeadsTo later group o pool reach) is leads in
     let next : SpellsPool later group root pool = leaves.0 in
     let one = roots_spell_one_pool later group group root pool pool led.0 next in
+    let same : reach ≡ reach_of next = sym led.1 ∙ one.1 in
     let just : UseJust after planned_marks (reach_of next) =
-    subst (UseJust after planned_marks) (sym led.1 ∙ one.1) (record {
+    subst (UseJust after planned_marks) same (record {
       in_use = λ block among. weaker (Passes is_in_use) IsInUse after planned_marks block is_used (in_use block among);
       accounted = accounted;
     }) in
     let maps = leaves.1.maps after group released in
-    subst (λ (o : Option Block). HasMaps after later group o pool) (sym is)
-    (next, record { copied = leaves.1.copied; maps = for_their_blocks next.objects after planned_marks (reach_of next) maps.0 maps.1 just })
+    subst (λ (o : Option Block). HasMaps after later group o pool) (sym is) (
+      next,
+      record {
+        copied = leaves.1.copied;
+        once = subst AreDistinct same once;
+        apart = placed_apart made planned_marks later group root pool next placed;
+        maps = for_their_blocks next.objects after planned_marks (reach_of next) maps.0 maps.1 just;
+      },
+    )

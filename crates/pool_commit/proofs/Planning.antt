@@ -35,7 +35,7 @@ use Rattle.block_pointer.specs.declared.block.Block.{Block}
 use Rattle.metaslab.specs.State.{is_in_use}
 use Rattle.metaslab.specs.State.{State as State'}
 use Rattle.dataset_snapshots.specs.Leaving.{IsReachExchanged}
-use Rattle.dataset_snapshots.proofs.Exchanges.{gone_are}
+use Rattle.dataset_snapshots.proofs.Exchanges.{after_once, gone_are}
 use Rattle.dnode_tree.specs.Freeing.{AreOnlyIn}
 use Rattle.dnode_tree.specs.Rewriting.{AreDistinct}
 use Rattle.dnode_tree.proofs.SameBlocks.{same_as, found}
@@ -450,9 +450,10 @@ plan_is_backed s made new group last plan gone items v backs none next is_last a
     let released_new : WereReleasedBy new.spaces planned_marks (suc v.committed) =
     planned_released_by s.store.spaces made.spaces new.spaces kept.placed (copies_of_all gone) v.committed (suc v.committed) (omega arith) released_before
     kept.were_placed released in
+    let once_new : AreDistinct on.0 = after_once (suc v.committed) stored later (earlier v.committed) on.0 gone known distinct on.2 in
     let mapped : HasMaps new.spaces later (suc v.committed) plan.after.root (applied (suc v.committed) pool (v.ledger (suc v.committed))) =
     maps_made made.spaces new.spaces gone later (suc v.committed) plan.after.root root (applied (suc v.committed) pool (v.ledger (suc v.committed))) on.0 uberblock.is_root on.3 on.1
-    released in_use_new accounted_new in (
+    released in_use_new accounted_new once_new there.1.placed in (
       left_calls none_before (slot_counts_of new) new.due plan.behind,
       plan_is,
       record {

@@ -1,26 +1,39 @@
 -- A pool that is opened.
-use Rattle.std.proofs.Common.{◌≡◌, ◌≢◌, ℕ, ◌==◌, Bool, List, [], Option, Some, None, Contains, refl, sym, ap, ◌∙◌, subst, arith, inl, inr}
+use Rattle.std.proofs.Common.{◌≡◌, ◌≢◌, ◌<◌, ℕ, ◌==◌, Bool, List, [], ◌++◌, Option, Some, None, Contains, refl, sym, ap, ◌∙◌, subst, arith, inl, inr}
 use Rattle.std.specs.Prelude.{if◌then◌else◌, map}
 use Rattle.std.proofs.lemmas.Bool.{cases_eq}
+use Rattle.std.proofs.lemmas.List.Elements.{Contains-append_right}
 use Rattle.std.proofs.lemmas.Bool.Decides.{nat_tests}
 use Rattle.block_pointer.specs.declared.block.Block.{Block}
 use Rattle.block_store.specs.Blocks.{Contents, nothing_stored}
+use Rattle.block_pointer.specs.Copies.{dvas}
 use Rattle.block_store.specs.declared.shape.VdevShape.{VdevShape}
-use Rattle.block_store.specs.Opened.{AreFound, Fills}
-use Rattle.block_store.specs.Places.{AreEmpty, shapes_of, filled}
-use Rattle.block_store.specs.Plans.{Plans}
+use Rattle.block_store.specs.Opened.{AreFound, Fills, FoundInUseAreStored}
+use Rattle.block_store.specs.Places.{AreEmpty, ArePlacesIn, shapes_of, filled}
+use Rattle.block_store.specs.Places.{planned as planned_marks}
+use Rattle.block_store.specs.Plans.{Plans, KeepsPlans}
 use Rattle.block_store.specs.Spaces.{VdevSpace}
-use Rattle.block_store.specs.Store.{Store, Holds, is_out}
+use Rattle.block_store.specs.Store.{Store, Holds, Keeps, is_out}
 use Rattle.block_store.specs.Uses.{CopiesLieOn, IsInUse, Passes}
-use Rattle.block_store.proofs.Accounting.{has_too}
 use Rattle.dataset_snapshots.specs.declared.contents.RootContents.{RootContents}
 use Rattle.dataset_snapshots.specs.Contents.{AreContentsOf}
 use Rattle.dataset_snapshots.specs.Laws.{KeepsEach}
-use Rattle.dataset_snapshots.specs.Reach.{reach_of}
+use Rattle.dataset_snapshots.specs.Mapped.{HasItsMaps}
+use Rattle.dataset_snapshots.specs.Pools.{SpellsPool}
+use Rattle.dataset_snapshots.specs.Reach.{meta_blocks_of, reach_of, volume_blocks_of}
 use Rattle.dataset_snapshots.proofs.ChangedRows.{nothing_in}
+use Rattle.dataset_snapshots.proofs.Reaching.{reach_known}
+use Rattle.dataset_snapshots.proofs.Readings.{roots_spell_one_pool}
 use Rattle.dataset_snapshots.proofs.Standing.{roots_stand}
 use Rattle.dnode_tree.specs.Rewriting.{AreDistinct}
 use Rattle.metaslab.specs.State.{State as Mark, InUse, Released}
+use Rattle.pool_maps.specs.Beside.{LieBeforeMeta}
+use Rattle.pool_maps.specs.Loads.{AreApart, AreLoadedAs, NothingIsReleased, OnlyLoads}
+use Rattle.pool_maps.specs.Reached.{UseJust}
+use Rattle.pool_maps.specs.declared.reading.FreeMetaslab.{FreeMetaslab}
+use Rattle.pool_maps.proofs.Opened.{loaded_for_blocks}
+use Rattle.pool_maps.proofs.ReadSets.{read_are_sets}
+use Rattle.pool_maps.proofs.Reaching.{lie_before_meta}
 use Rattle.pool_model.specs.Pools.{PlainPool, no_volumes}
 use Rattle.pool_model.specs.View.{Vdev, opened_as}
 use Rattle.volume_rules.specs.Index.{Knows}
@@ -134,31 +147,34 @@ pub record IsFound (stored : Contents) (group : ℕ) (kept : KeptGroup) (pool : 
   pub spells : SpellsGroup stored group kept pool
   pub leads : LeadsTo stored group kept.root pool blocks
 
-found_by : (stored : Contents) (group : ℕ) (root : Block) (pool : PlainPool) (contents : RootContents) (kept : KeptGroup) → IsGroupOf root contents kept
-    → AreContentsOf stored group root pool contents → IsFound (among contents.blocks.items stored) group kept pool contents.blocks.items
-found_by stored group root pool contents kept is are =
-    let blocks = contents.blocks.items in
-    let keeps : KeepsEach stored (among blocks stored) (reach_of are.is) =
-    λ block bytes held known. among_keeps blocks stored block bytes (subst (λ (list : List Block). Contains list block) (sym are.blocks) held) known in
+found_by : (spaces : List VdevSpace) (stored : Contents) (group : ℕ) (root : Block) (pool : PlainPool) (contents : RootContents) (kept : KeptGroup)
+    → IsGroupOf root contents.directory contents.names kept → (are : AreContentsOf stored spaces group root pool contents)
+    → IsFound (among (reach_of are.is) stored) group kept pool (reach_of are.is)
+found_by spaces stored group root pool contents kept is are =
+    let blocks = reach_of are.is in
+    let keeps : KeepsEach stored (among blocks stored) blocks = λ block bytes held known. among_keeps blocks stored block bytes held known in
     let still = roots_stand stored (among blocks stored) group group root pool (omega arith) are.is keeps in
     record {
       spells = record {
         root = subst (λ (o : Option Block). SpellsRoot (among blocks stored) group o pool) (sym is.root_is) still.0;
         directory = subst (λ (o : Option Block). SpellsBy (among blocks stored) group o pool kept.directory.value) (sym is.root_is)
-            (still.0, is.directory ∙ are.rows ∙ sym still.2);
-        names = subst (λ index. Knows index pool) (sym is.names) are.names;
+            (still.0, is.directory_is ∙ are.rows ∙ sym still.2);
+        names = subst (λ index. Knows index pool) (sym is.names_are) are.names;
       };
-      leads = subst (λ (o : Option Block). LeadsTo (among blocks stored) group o pool blocks) (sym is.root_is) (still.0, still.1 ∙ sym are.blocks);
+      leads = subst (λ (o : Option Block). LeadsTo (among blocks stored) group o pool blocks) (sym is.root_is) (still.0, still.1);
     }
 
--- what taking the blocks in does
-pub record AreTaken (old new : Store) (blocks : List Block) : Type 0 where
-  pub out : new.out ≡ old.out
-  pub shapes : shapes_of new.spaces ≡ shapes_of old.spaces
-  pub fills : Fills old.spaces filled blocks new.spaces
-  pub in_use : (block : Block) → Contains blocks block → CopiesLieOn IsInUse new.spaces filled block
-  pub once : AreDistinct blocks
-  pub opens : (before stored : Contents) → Plans old before before → AreFound old blocks before stored → Plans new stored stored
+-- what loading the maps and taking the blocks in does
+pub record AreTaken (old mid new : Store) (maps : List FreeMetaslab) (blocks : List Block) : Type 0 where
+  pub loads : OnlyLoads old mid
+  pub released : NothingIsReleased filled old.spaces mid.spaces
+  pub loaded : AreApart maps → AreLoadedAs old.spaces maps mid.spaces
+  pub out : new.out ≡ mid.out
+  pub shapes : shapes_of new.spaces ≡ shapes_of mid.spaces
+  pub fills : Fills mid.spaces filled blocks new.spaces
+  pub fills_planned : Fills mid.spaces planned_marks blocks new.spaces
+  pub keeps : Keeps mid new
+  pub plans : KeepsPlans mid new
 
 -- a state of which one group is kept, and what it leads to, backs the pool that the group spells
 backs_only : (s : State) (spaces : List VdevSpace) (flags : List Bool) (group : ℕ) (last : KeptGroup) (pool : PlainPool) (mine : Contents) (blocks : List Block)
@@ -221,32 +237,60 @@ over store stamp group last s is = record {
   earliest = is.earliest;
 }
 
-pub backs_opened : (old new : Store) (stamp : Stamp) (group : ℕ) (root : Block) (contents : RootContents) (last : KeptGroup) (s : State)
-    → AreTaken old new contents.blocks.items → IsGroupOf root contents last → IsOfGroup new stamp group last s
+-- Just the sectors of what the root leads to are in use then, without what is planned and with it.
+record IsAllInUse (new : Store) {stored : Contents} {group : ℕ} {root : Block} {pool : PlainPool} (is : SpellsPool stored group root pool) : Type 0 where
+  pub filled_just : UseJust new.spaces filled (reach_of is)
+  pub planned_just : UseJust new.spaces planned_marks (reach_of is)
+  pub holds : Holds new stored
+
+all_in_use : (old mid new : Store) (stored : Contents) (group : ℕ) (root : Block) (pool : PlainPool) (contents : RootContents)
+    → AreTaken old mid new contents.maps.items contents.blocks.items → AreEmpty old.spaces → Holds old stored
+    → (are : AreContentsOf stored old.spaces group root pool contents) → HasItsMaps old.spaces are.is → IsAllInUse new are.is
+all_in_use old mid new stored group root pool contents taken empty holds are its =
+    let meta = meta_blocks_of are.is in
+    let others = volume_blocks_of are.is in
+    let placed : (block : Block) → Contains (meta ++ others) block → (0 < block.property.sectors) × ArePlacesIn old.spaces block.property.sectors (dvas block.copies) =
+    λ block held. let it = reach_known stored group root pool are.is block held in ((holds.blocks block it.0 it.1).fits.property.not_empty, holds.places block it.0 it.1) in
+    let before : LieBeforeMeta old.spaces others =
+    lie_before_meta old.spaces others (λ block held. (placed block (Contains-append_right meta others block held)).1) its.copied.others in
+    let loaded = taken.loaded (read_are_sets are.is.objects old.spaces contents.maps.items are.maps).apart in
+    let just = loaded_for_blocks are.is.objects old.spaces mid.spaces new.spaces meta others contents.maps.items empty its.maps are.maps loaded before placed taken.shapes
+    (subst (λ (them : List Block). Fills mid.spaces filled them new.spaces) are.blocks taken.fills)
+    (subst (λ (them : List Block). Fills mid.spaces planned_marks them new.spaces) are.blocks taken.fills_planned) in
+    record { filled_just = just.0; planned_just = just.1; holds = taken.keeps stored (taken.loads.keeps stored holds) }
+
+pub backs_opened : FoundInUseAreStored → (old mid new : Store) (stamp : Stamp) (group : ℕ) (root : Block) (contents : RootContents) (last : KeptGroup)
+    (s : State) → AreTaken old mid new contents.maps.items contents.blocks.items → IsGroupOf root contents.directory contents.names last → IsOfGroup new stamp group last s
     → Plans old nothing_stored nothing_stored → AreEmpty old.spaces → (stored : Contents) (pool : PlainPool)
-    → Holds old stored → AreContentsOf stored group root pool contents → HasMaps old.spaces stored group (Some root) pool
+    → Holds old stored → AreContentsOf stored old.spaces group root pool contents → HasMaps old.spaces stored group (Some root) pool
     → Backs s (opened_as (vdevs_of old.spaces) (is_out old.out) group pool)
-backs_opened old new stamp group root contents last s taken is_group is plans empty stored pool holds are has =
-    let blocks = contents.blocks.items in
+backs_opened in_use_stored old mid new stamp group root contents last s taken is_group is plans empty stored pool holds are has =
+    let reach = reach_of are.is in
+    let mine = among reach stored in
     let at : s.store ≡ new = is.store_is in
-    backs_only s old.spaces old.out group last pool (among blocks stored) blocks (over new stamp group last s is)
-    (ap (λ (store : Store). shapes_of store.spaces) at ∙ taken.shapes) (ap (λ (store : Store). store.out) at ∙ taken.out)
-    (subst (λ store. Plans store (among blocks stored) (among blocks stored)) (sym at) (taken.opens nothing_stored (among blocks stored) plans (found_among old blocks stored holds)))
-    (found_by stored group root pool contents last is_group are) taken.once
-    (λ block bytes known. (among_are blocks stored block bytes known).0)
-    (λ block held. subst (λ (store : Store). CopiesLieOn IsInUse store.spaces filled block) (sym at) (taken.in_use block held))
-    (subst (λ (store : Store). AreInBlocks store.spaces filled blocks) (sym at) (λ mark used. elim (taken.fills.only mark used) [
-      | inl was ↦ let none = none_in_use old.spaces [] empty mark was in absurd (nothing_in none.0 none.1)
-      | inr of ↦ (of.0, of.1, has_too old.spaces new.spaces of.0 mark taken.shapes of.2)
-    ]))
+    let its : HasItsMaps old.spaces are.is = (roots_spell_one_pool stored group group root pool pool has.0 are.is).3 old.spaces has.1 in
+    let all = all_in_use old mid new stored group root pool contents taken empty holds are its in
+    let place : (block : Block) → Contains reach block → ArePlacesIn new.spaces block.property.sectors (dvas block.copies) =
+    λ block held. let it = reach_known stored group root pool are.is block held in all.holds.places block it.0 it.1 in
+    let plans_new : Plans new mine mine =
+    in_use_stored new reach mine (taken.plans nothing_stored nothing_stored (taken.loads.plans nothing_stored nothing_stored plans))
+    (found_among new reach stored all.holds) place (λ block held. (all.filled_just.in_use block held, all.planned_just.in_use block held)) its.apart in
+    backs_only s old.spaces old.out group last pool mine reach (over new stamp group last s is)
+    (ap (λ (store : Store). shapes_of store.spaces) at ∙ taken.shapes ∙ taken.loads.shapes)
+    (ap (λ (store : Store). store.out) at ∙ taken.out ∙ ap (λ (store : Store). store.out) taken.loads.rest)
+    (subst (λ store. Plans store mine mine) (sym at) plans_new)
+    (found_by old.spaces stored group root pool contents last is_group are) its.once
+    (λ block bytes known. (among_are reach stored block bytes known).0)
+    (λ block held. subst (λ (store : Store). CopiesLieOn IsInUse store.spaces filled block) (sym at) (all.filled_just.in_use block held))
+    (subst (λ (store : Store). AreInBlocks store.spaces filled reach) (sym at) all.filled_just.accounted)
     (subst (λ (store : Store). WereReleasedBy store.spaces filled s.kept.committed) (sym at) (λ by mark used. elim (taken.fills.rest (Released by) mark used) [
-      | inl was ↦ none_released old.spaces s.kept.committed empty by mark was
+      | inl was ↦ none_released old.spaces s.kept.committed empty by mark (taken.released by mark was)
       | inr clash ↦ absurd (let no : InUse ≡ Released by = clash in cc)
     ]))
-    (maps_over old.spaces s.store.spaces (among blocks stored) group last.root pool (ap (λ (store : Store). shapes_of store.spaces) at ∙ taken.shapes)
-    (subst (λ (o : Option Block). HasMaps old.spaces (among blocks stored) group o pool) (sym is_group.root_is)
-    (maps_stand old.spaces stored (among blocks stored) group (Some root) pool blocks
-    (λ block bytes held known. among_keeps blocks stored block bytes held known) (are.is, sym are.blocks) has)))
+    (maps_over old.spaces s.store.spaces mine group last.root pool (ap (λ (store : Store). shapes_of store.spaces) at ∙ taken.shapes ∙ taken.loads.shapes)
+    (subst (λ (o : Option Block). HasMaps old.spaces mine group o pool) (sym is_group.root_is)
+    (maps_stand old.spaces stored mine group (Some root) pool reach
+    (λ block bytes held known. among_keeps reach stored block bytes held known) (are.is, refl) has)))
 
 -- ---- an empty pool
 

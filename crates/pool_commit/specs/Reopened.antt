@@ -1,22 +1,38 @@
 -- A pool of which one group is kept: as it is opened, or made on disks.
-use Rattle.std.specs.Prelude.{ℕ, ◌≡◌, [], Some, None}
+use Rattle.std.specs.Prelude.{ℕ, ◌≡◌, ◌⊎◌, [], Some, None, List}
 use Rattle.block_pointer.specs.declared.block.Block.{Block}
-use Rattle.block_store.specs.Opened.{MayBeOpened}
+use Rattle.block_store.specs.Opened.{CannotTakeIn, MayBeOpened}
 use Rattle.block_store.specs.Places.{shapes_of}
+use Rattle.block_store.specs.Releases.{copies_of_all}
+use Rattle.block_store.specs.Spaces.{VdevSpace}
 use Rattle.block_store.specs.Store.{Store}
 use Rattle.dataset_snapshots.specs.declared.contents.RootContents.{RootContents}
+use Rattle.pool_maps.specs.Loads.{AreApart, AreLoadedAs, AreSetsOf}
 use Rattle.pool_model.specs.Pools.{no_volumes}
+use Rattle.meta_objset.specs.declared.directory.DirectoryRow.{DirectoryRow}
 use Rattle.volume_rules.specs.Index.{Knows}
+use Rattle.volume_rules.specs.declared.index.NameIndex.{NameIndex}
 use Rattle.pool_commit.specs.declared.kept.KeptGroup.{KeptGroup}
 use Rattle.pool_commit.specs.declared.stamp.Stamp.{Stamp}
 use Rattle.pool_commit.specs.Slots.{LabelsLieAside}
 use Rattle.pool_commit.specs.State.{State}
 
--- a group with this root, and what was read of it
-pub record IsGroupOf (root : Block) (contents : RootContents) (kept : KeptGroup) : Type 0 where
+-- a group with this root, its directory and the names of its pool
+pub record IsGroupOf (root : Block) (directory : List DirectoryRow) (names : NameIndex) (kept : KeptGroup) : Type 0 where
   pub root_is : kept.root ≡ Some root
-  pub names : kept.names.value ≡ contents.names
-  pub directory : kept.directory.value ≡ contents.directory
+  pub names_are : kept.names.value ≡ names
+  pub directory_is : kept.directory.value ≡ directory
+
+-- the maps were loaded, each of another metaslab, and then a block of the root could not be taken in
+pub record IsBlockMisplaced (spaces : List VdevSpace) (contents : RootContents) : Type 0 where
+  pub mid : List VdevSpace
+  pub loaded : AreApart contents.maps.items → AreLoadedAs spaces contents.maps.items mid
+  pub after : List VdevSpace
+  pub cannot : CannotTakeIn mid (copies_of_all contents.blocks.items) after
+
+-- what was read of a root has no place on these vdevs: its maps, or then one of its blocks
+abbrev pub AreMisplaced : List VdevSpace → RootContents → Type 0
+AreMisplaced spaces contents = (¬ AreSetsOf spaces contents.maps.items) ⊎ IsBlockMisplaced spaces contents
 
 -- a group with no root, no rows and no volumes
 pub record IsEmptyGroup (kept : KeptGroup) : Type 0 where

@@ -1,18 +1,15 @@
 //! The committed half of a core as a pool is opened, or is made on disks.
-ghost use Rattle.std.specs.Prelude.{◌≡◌, ◌⊎◌, ℕ, List, Some, IfOk, IfErr};
+ghost use Rattle.std.specs.Prelude.{◌≡◌, ◌⊎◌, Some, IfOk, IfErr};
 ghost use Rattle.block_store.specs.Blocks.{Contents, nothing_stored};
-ghost use Rattle.block_store.specs.Opened.{CannotTakeIn};
 ghost use Rattle.block_store.specs.Places.{AreEmpty, shapes_of};
 ghost use Rattle.block_store.specs.Plans.{Plans};
-ghost use Rattle.block_store.specs.Releases.{copies_of_all};
-ghost use Rattle.block_store.specs.Spaces.{VdevSpace};
 ghost use Rattle.block_store.specs.Store.{Holds, is_out};
 ghost use Rattle.dataset_snapshots.specs.Contents.{AreContentsOf};
 ghost use Rattle.pool_model.specs.Pools.{PlainPool, no_volumes};
 ghost use Rattle.pool_model.specs.View.{opened_as};
 ghost use Rattle.uberblock_ring.specs.Uberblock.{IsNumber};
 ghost use Rattle.pool_commit.specs.Config.{vdevs_of};
-ghost use Rattle.pool_commit.specs.Reopened.{IsEmptyGroup, IsGroupOf, IsOfGroup};
+ghost use Rattle.pool_commit.specs.Reopened.{AreMisplaced, IsEmptyGroup, IsGroupOf, IsOfGroup};
 ghost use Rattle.pool_commit.specs.Slots.{LabelsLieAside};
 
 use crate::commit::{Commit, no_directory, no_names};
@@ -21,21 +18,24 @@ use crate::refusal::Refusal;
 use crate::stamp::Stamp;
 use crate::suspension::lacks_disks;
 use block_pointer::Block;
-use block_store::BlockStore;
+use block_store::{BlockStore, found_in_use_are_stored};
 use dataset_snapshots::RootContents;
+use meta_objset::Directory;
 use model_disk::Disk;
+use pool_maps::load_maps;
 use std::alloc::{AllocError, Global};
 use std::sync::Arc;
+use volume_rules::NameIndex;
 
-/// A group with this root, and what an open keeps of it.
-fn group_of(alloc: Global, root: Block, contents: RootContents) -> Result<KeptGroup, AllocError>
-    ensures { IfOk result (λ kept. IsGroupOf root contents kept) }
+/// A group with this root, of whose pool these are the directory and the names.
+fn group_of(
+    alloc: Global,
+    root: Block,
+    directory: Directory,
+    names: NameIndex,
+) -> Result<KeptGroup, AllocError>
+    ensures { IfOk result (IsGroupOf root directory names) }
 {
-    let RootContents {
-        directory,
-        names,
-        ..
-    } = contents;
     Ok(KeptGroup {
         root: Some(root),
         names: Arc::new(alloc, names)?,
@@ -97,7 +97,9 @@ impl<D: Disk + Drop> Commit<D> {
 
     /// A pool that was committed before as that group, over a store that was opened and stores no block yet. The root is that of the
     /// group, and the contents are what was read of it. No disk is called. The uberblocks of later groups get this stamp. No group
-    /// before it is kept. `BadPointer` where a block of the root lies in no place of the pool, or two copies share a sector.
+    /// before it is kept. What the space maps leave free is loaded, and the blocks of the meta object set are taken in; of those of
+    /// the volumes nothing is asked. `BadPointer` where a map is of no metaslab of the pool, a block lies in no place of it, or two
+    /// copies share a sector.
     pub fn opened(
         alloc: Global,
         store: BlockStore<D>,
@@ -120,17 +122,26 @@ impl<D: Disk + Drop> Commit<D> {
         // Where the store's disks have the blocks, and the root spells a pool and has its space maps, that pool is committed as the
         // group.
         ensures backs { IfOk result (λ commit. (stored : Contents) (pool : PlainPool)
-            → Holds store stored → AreContentsOf stored group root pool contents
+            → Holds store stored → AreContentsOf stored store.spaces group root pool contents
             → HasMaps store.spaces stored group (Some root) pool
             → Backs (state_of commit)
             (opened_as (vdevs_of store.spaces) (is_out store.out) group pool)) }
         ensures refused { IfErr result (λ refusal. (refusal ≡ Refusal.NoMemory)
-            ⊎ ((refusal ≡ Refusal.BadPointer) × (after : List VdevSpace)
-            × CannotTakeIn store.spaces (copies_of_all contents.blocks.items) after)) }
+            ⊎ ((refusal ≡ Refusal.BadPointer) × AreMisplaced store.spaces contents)) }
     {
+        found_in_use_are_stored();
+        let RootContents {
+            directory,
+            names,
+            blocks,
+            maps,
+        } = contents;
         let mut store = store;
-        store.take_in(&contents.blocks)?;
-        let last = group_of(alloc, root, contents)?;
+        if !load_maps(&mut store, maps) {
+            return Err(Refusal::BadPointer);
+        }
+        store.take_in(&blocks)?;
+        let last = group_of(alloc, root, directory, names)?;
         Ok(Commit::of_group(store, stamp, group, last))
     }
 }

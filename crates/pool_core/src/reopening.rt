@@ -1,15 +1,13 @@
 //! Cores of pools that are opened, or made on disks.
-ghost use Rattle.std.specs.Prelude.{◌≡◌, ◌⊎◌, ◌<◌, List, Some, IfOk, IfErr};
+ghost use Rattle.std.specs.Prelude.{◌≡◌, ◌⊎◌, ◌<◌, Some, IfOk, IfErr};
 ghost use Rattle.block_store.specs.Blocks.{Contents, nothing_stored};
-ghost use Rattle.block_store.specs.Opened.{CannotTakeIn};
 ghost use Rattle.block_store.specs.Places.{AreEmpty, shapes_of};
 ghost use Rattle.block_store.specs.Plans.{Plans};
-ghost use Rattle.block_store.specs.Releases.{copies_of_all};
-ghost use Rattle.block_store.specs.Spaces.{VdevSpace};
 ghost use Rattle.block_store.specs.Store.{Holds, is_out};
 ghost use Rattle.dataset_snapshots.specs.Contents.{AreContentsOf};
 ghost use Rattle.pool_commit.specs.Backs.{HasMaps};
 ghost use Rattle.pool_commit.specs.Config.{vdevs_of};
+ghost use Rattle.pool_commit.specs.Reopened.{AreMisplaced};
 ghost use Rattle.pool_commit.specs.Slots.{LabelsLieAside};
 ghost use Rattle.pool_model.specs.Pools.{PlainPool, no_volumes};
 ghost use Rattle.pool_model.specs.Refusals.{greatest};
@@ -60,8 +58,8 @@ impl<D: Disk + Drop> Core<D> {
 
     /// A pool that was committed before as that group, over a store that was opened and stores no block yet. The root is that of the
     /// group, and the contents are what was read of it. No disk is called. Nobody has a hold, each writer begins with number 1, and
-    /// no group before it is kept. The uberblocks of later groups get this stamp. `BadPointer` where a block of the root lies in no
-    /// place of the pool, or two copies share a sector.
+    /// no group before it is kept. The uberblocks of later groups get this stamp. `BadPointer` where a space map is of no metaslab of the
+    /// pool, a block of the meta object set lies in no place of it, or two copies share a sector.
     pub fn opened(
         alloc: Global,
         store: BlockStore<D>,
@@ -85,13 +83,12 @@ impl<D: Disk + Drop> Core<D> {
         // Where the store's disks have the blocks, and the root spells a pool whose volumes were made by then and has its space maps,
         // the core is sound, and represents that pool, committed as the group.
         ensures represents { IfOk result (λ core. (stored : Contents) (pool : PlainPool)
-            → Holds store stored → AreContentsOf stored group root pool contents
+            → Holds store stored → AreContentsOf stored store.spaces group root pool contents
             → HasMaps store.spaces stored group (Some root) pool → IsMadeBy group pool
             → Represents (state_of core)
             (opened_as (vdevs_of store.spaces) (is_out store.out) group pool)) }
         ensures refused { IfErr result (λ refusal. (refusal ≡ Refusal.NoMemory)
-            ⊎ ((refusal ≡ Refusal.BadPointer) × (after : List VdevSpace)
-            × CannotTakeIn store.spaces (copies_of_all contents.blocks.items) after)) }
+            ⊎ ((refusal ≡ Refusal.BadPointer) × AreMisplaced store.spaces contents)) }
     {
         let Ok(names) = contents.names.copied() else {
             return Err(Refusal::NoMemory);

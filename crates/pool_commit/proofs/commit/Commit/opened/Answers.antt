@@ -1,26 +1,58 @@
-use Rattle.std.proofs.Common.{List, ap, subst}
+use Rattle.std.proofs.Common.{◌∙◌, List, ap, inl, inr, refl, subst, sym, true≢false}
 use Rattle.block_pointer.specs.declared.block.Block.{Block}
+use Rattle.block_store.specs.Opened.{CannotTakeIn}
+use Rattle.block_store.specs.Releases.{copies_of_all}
+use Rattle.block_store.specs.Store.{Store}
+use Rattle.dnode_tree.proofs.Refusing.{passed_on}
 use Rattle.model_disk.specs.Joint.{Disks}
+use Rattle.pool_maps.proofs.Opened.{empty_is_free}
+use Rattle.pool_commit.specs.Causes.{of_store}
 use Rattle.pool_commit.proofs.Labels.{labels_still}
 use Rattle.pool_commit.proofs.Reopened.{AreTaken, backs_opened}
 use Rattle.pool_commit.proofs.commit.Commit.opened.Goals as goal
 
 pub of_group-requires-clause-labels : goal.of_group-requires-clause-labels
 of_group-requires-clause-labels g c =
-    labels_still c.args.store c.take_in.new.self (ap (λ (d : Disks). d.starts) c.in_ok-take_in.ensures.disks) c.in_ok-take_in.ensures.shapes c.requires.labels
+    let loads = c.if-not-load_maps.ensures.loads in
+    let taken = c.in_ok-take_in.ensures in
+    labels_still c.args.store c.take_in.new.self (ap (λ (d : Disks). d.starts) (taken.disks ∙ ap (λ (s : Store). s.disks) loads.rest)) (taken.shapes ∙ loads.shapes)
+    c.requires.labels
 
 pub returns-clause-backs : goal.returns-clause-backs
 returns-clause-backs g c stored pool =
+    let loads = c.if-not-load_maps.ensures in
     let taken = c.in_ok-take_in.ensures in
-    let of_slice : AreTaken c.args.store c.take_in.new.self c.deref.result.now = record {
+    let of_slice : AreTaken c.args.store c.load_maps.new.store c.take_in.new.self c.args.contents.maps.items c.deref.result.now = record {
+      loads = loads.loads;
+      released = loads.released;
+      loaded = loads.value;
       out = taken.out;
       shapes = taken.shapes;
       fills = taken.filled;
-      in_use = λ block held. (taken.in_use block held).0;
-      once = taken.distinct;
-      opens = taken.opens;
+      fills_planned = taken.planned;
+      keeps = taken.keeps;
+      plans = taken.plans;
     } in
-    let of_blocks : AreTaken c.args.store c.take_in.new.self c.args.contents.blocks.items =
-    subst (λ (blocks : List Block). AreTaken c.args.store c.take_in.new.self blocks) c.deref.ensures.value of_slice in
-    backs_opened c.args.store c.take_in.new.self c.args.stamp c.args.group c.args.root c.args.contents c.in_ok-last.last _ of_blocks
-    c.in_ok-last.ensures c.of_group.ensures c.requires.plans c.requires.empty stored pool
+    let of_blocks : AreTaken c.args.store c.load_maps.new.store c.take_in.new.self c.args.contents.maps.items c.args.contents.blocks.items =
+    subst (λ (blocks : List Block). AreTaken c.args.store c.load_maps.new.store c.take_in.new.self c.args.contents.maps.items blocks) c.deref.ensures.value of_slice in
+    backs_opened c.found_in_use_are_stored.ensures c.args.store c.load_maps.new.store c.take_in.new.self c.args.stamp c.args.group c.args.root c.args.contents
+    c.in_ok-last.last _ of_blocks c.in_ok-last.ensures c.of_group.ensures c.requires.plans c.requires.empty stored pool
+
+pub returns-then-not-load_maps-clause-refused : goal.returns-then-not-load_maps-clause-refused
+returns-then-not-load_maps-clause-refused g c =
+    inr (refl, inl (λ sets. true≢false (sym (c.if-not-load_maps.ensures.always sets (empty_is_free c.args.store.spaces c.requires.empty)))))
+
+pub returns-in_err-take_in-clause-refused : goal.returns-in_err-take_in-clause-refused
+returns-in_err-take_in-clause-refused g c =
+    passed_on c.from_residual.result _ _ c.from_residual.ensures.1 (elim c.in_err-take_in.ensures.refused [
+      | inl memory ↦ inl (ap of_store memory)
+      | inr (bad, which) ↦ inr (
+        ap of_store bad,
+        inr (record {
+          mid = c.load_maps.new.store.spaces;
+          loaded = c.if-not-load_maps.ensures.value;
+          after = c.take_in.new.self.spaces;
+          cannot = subst (λ (blocks : List Block). CannotTakeIn c.load_maps.new.store.spaces (copies_of_all blocks) c.take_in.new.self.spaces) c.deref.ensures.value which;
+        }),
+      )
+    ])

@@ -13,5 +13,5 @@ returns-in-Ok-opened-clause-represents g c stored pool holds are mapped made = r
 pub returns-in-Err-clause-refused : goal.returns-in-Err-clause-refused
 returns-in-Err-clause-refused g c = elim c.in-Err.ensures.refused [
   | inl memory ↦ inl (c.from.ensures ∙ ap cause_of memory)
-  | inr (bad, after, cannot) ↦ inr (c.from.ensures ∙ ap cause_of bad, after, cannot)
+  | inr (bad, misplaced) ↦ inr (c.from.ensures ∙ ap cause_of bad, misplaced)
 ]
