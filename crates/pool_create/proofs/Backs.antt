@@ -5,17 +5,15 @@ use Rattle.std.proofs.lemmas.Option.{slice_get_within}
 use Rattle.block_pointer.specs.declared.block.Block.{Block}
 use Rattle.block_store.specs.Places.{shapes_of}
 use Rattle.block_store.specs.Elsewhere.{WritesElsewhereKeep}
-use Rattle.block_store.specs.declared.refusal.Refusal.{Refusal as StoreRefusal}
-use Rattle.block_store.specs.declared.refusal.Refusal.TheVariants as store
 use Rattle.dataset_snapshots.specs.declared.contents.RootContents.{RootContents}
 use Rattle.model_disk.specs.Joint.{Disks}
 use Rattle.model_disk.specs.Runs.{Makes, no_write}
 use Rattle.model_disk.proofs.RunLemmas.{Makes-none}
 use Rattle.pool_core.specs.State.{CoreState, disks_of}
 use Rattle.pool_model.specs.Pools.{no_volumes}
-use Rattle.pool_open.specs.Causes.{of_slots, of_store}
+use Rattle.pool_open.specs.Causes.{of_root, of_slots}
 use Rattle.pool_open.specs.Held.{IsLaidOver}
-use Rattle.pool_open.specs.Opening.{IsBlockMisplaced}
+use Rattle.pool_open.specs.Opening.{AreMisplacedOver}
 use Rattle.pool_open.specs.Roots.{AreReadBeside, IsReadOfRoot, IsRootNotRead}
 use Rattle.pool_open.specs.Words.{stamp_of}
 use Rattle.pool_open.specs.declared.refusal.Refusal.{Refusal}
@@ -29,6 +27,7 @@ use Rattle.pool_slots.specs.Surveys.{SurveyRefuses}
 use Rattle.pool_slots.specs.declared.refusal.Refusal.{Refusal as SlotsRefusal}
 use Rattle.pool_slots.proofs.Phases.{both_made}
 use Rattle.raidz_io.specs.Reads.{IsHonestSince}
+use Rattle.space_map_objects.specs.declared.refusal.Refusal.{Refusal as RootRefusal}
 use Rattle.uberblock_ring.specs.declared.uberblock.Uberblock.{Uberblock}
 use Rattle.volume_rules.specs.NowMoves.{IsMadeBy}
 use Rattle.pool_create.specs.Alone.{AreReadAlone, IsCrowded, IsRefusedAlone}
@@ -139,19 +138,19 @@ back_of keep old surveyed read it root u contents core are made =
 
 -- ---- there is none
 
-pub unread_root : (old surveyed : Disks) (it : NewPool) (root : Block) (cause : StoreRefusal) → Makes no_write old surveyed → IsFirstTaken old surveyed it root
-    → IsRootNotRead surveyed it.shapes.items it.out.items 3 root (2 ^ 64 - 1) cause → IsUnread old it root (of_store cause)
+pub unread_root : (old surveyed : Disks) (it : NewPool) (root : Block) (cause : RootRefusal) → Makes no_write old surveyed → IsFirstTaken old surveyed it root
+    → IsRootNotRead surveyed it.shapes.items it.out.items 3 root (2 ^ 64 - 1) cause → IsUnread old it root (of_root cause)
 unread_root old surveyed it root cause only taken unread = (
   unread.new,
   both_made no_write old surveyed unread.new only (block_reads_made surveyed unread.new unread.only.only),
   elim unread.why [
-    | inl memory ↦ inl (ap of_store memory)
+    | inl memory ↦ inl (ap of_root memory)
     | inr refused ↦ inr (inr (inr (inr (inl (surveyed, taken, record { cause = cause; same = refl; why = refused })))))
   ],
 )
 
 pub unread_core : (old surveyed read : Disks) (it : NewPool) (root : Block) (u : Uberblock) (contents : RootContents) (refusal : Refusal) → AreRead old surveyed read it root u contents
-    → (refusal ≡ NoMemory) ⊎ ((refusal ≡ BadPointer) × IsBlockMisplaced read it.shapes.items it.out.items contents) → IsUnread old it root refusal
+    → (refusal ≡ NoMemory) ⊎ ((refusal ≡ BadPointer) × AreMisplacedOver read it.shapes.items it.out.items contents) → IsUnread old it root refusal
 unread_core old surveyed read it root u contents refusal are why = (
   read,
   both_read old surveyed read it root u contents are,

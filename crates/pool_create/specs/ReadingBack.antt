@@ -4,7 +4,6 @@ use Rattle.block_pointer.specs.declared.block.Block.{Block}
 use Rattle.block_store.specs.Places.{shapes_of}
 use Rattle.block_store.specs.Blocks.{Contents}
 use Rattle.block_store.specs.Store.{is_out}
-use Rattle.block_store.specs.declared.refusal.Refusal.{Refusal as StoreRefusal}
 use Rattle.dataset_snapshots.specs.Mapped.{SpellsWithMaps}
 use Rattle.dataset_snapshots.specs.declared.contents.RootContents.{RootContents}
 use Rattle.model_disk.specs.Joint.{Disks}
@@ -14,9 +13,9 @@ use Rattle.pool_core.specs.Represents.{Represents}
 use Rattle.pool_core.specs.State.{CoreState, disks_of}
 use Rattle.pool_model.specs.Pools.{no_volumes}
 use Rattle.pool_model.specs.View.{opened_as}
-use Rattle.pool_open.specs.Causes.{of_slots, of_store}
+use Rattle.pool_open.specs.Causes.{of_root, of_slots}
 use Rattle.pool_open.specs.Held.{HoldOver}
-use Rattle.pool_open.specs.Opening.{IsBlockMisplaced}
+use Rattle.pool_open.specs.Opening.{AreMisplacedOver}
 use Rattle.pool_open.specs.Roots.{IsReadOfRoot, RootRefuses}
 use Rattle.pool_open.specs.Words.{stamp_of, vdevs_in}
 use Rattle.pool_open.specs.declared.refusal.Refusal.{Refusal}
@@ -26,6 +25,7 @@ use Rattle.pool_slots.specs.Present.{IsNoFault}
 use Rattle.pool_slots.specs.Surveys.{Surveyed, IsSurveyed, IsWholeOf, SurveyRefuses}
 use Rattle.pool_slots.specs.declared.refusal.Refusal.{Refusal as SlotsRefusal}
 use Rattle.raidz_io.specs.Reads.{IsHonestSince}
+use Rattle.space_map_objects.specs.declared.refusal.Refusal.{Refusal as RootRefusal}
 use Rattle.uberblock_ring.specs.declared.uberblock.Uberblock.{Uberblock}
 use Rattle.pool_create.specs.Alone.{AreReadAlone, IsCrowded}
 use Rattle.pool_create.specs.declared.planning.NewPool.{NewPool}
@@ -78,15 +78,15 @@ IsAmongOthers old new it root = IsFirstTaken old new it root × IsCrowded (first
 
 -- its root can't be read
 pub record IsRootUnread (now new : Disks) (it : NewPool) (root : Block) (refusal : Refusal) : Type 0 where
-  pub cause : StoreRefusal
-  pub same : refusal ≡ of_store cause
+  pub cause : RootRefusal
+  pub same : refusal ≡ of_root cause
   pub why : RootRefuses now new it.shapes.items it.out.items 3 root (2 ^ 64 - 1) cause
 
--- two of its blocks share a sector, or one has no place
+-- what was read of it has no place on the vdevs
 pub record IsMisplaced (old new : Disks) (it : NewPool) (root : Block) : Type 0 where
   pub contents : RootContents
   pub reads : IsReadOfRoot old new it.shapes.items it.out.items 3 root contents
-  pub why : IsBlockMisplaced new it.shapes.items it.out.items contents
+  pub why : AreMisplacedOver new it.shapes.items it.out.items contents
 
 -- why there is no core: memory, a read that failed, or what was read
 abbrev pub IsCauseOfReading : Disks → Disks → NewPool → Block → Refusal → Type 0

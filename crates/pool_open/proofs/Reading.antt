@@ -1,24 +1,32 @@
 -- A root that was read through a store, by the disks alone.
-use Rattle.std.proofs.Common.{◌≡◌, ◌⊎◌, inl, inr, ℕ, ◌≤◌, Bool, List, [], length, refl, sym, subst}
+use Rattle.std.proofs.Common.{◌≡◌, ◌≢◌, ◌⊎◌, inl, inr, ℕ, ◌≤◌, Bool, List, [], length, refl, sym, ap, subst, ◌∙◌}
 use Rattle.std.proofs.lemmas.List.{append-nil}
 use Rattle.model_disk.specs.Joint.{Disks}
 use Rattle.raidz_io.specs.Reads.{OnlyReads, AreUntouched, IsHonestSince}
 use Rattle.block_pointer.specs.declared.block.Block.{Block}
 use Rattle.block_store.specs.Blocks.{Contents}
-use Rattle.block_store.specs.Losses.{IsForLoss}
 use Rattle.block_store.specs.Opened.{MayBeOpened}
+use Rattle.block_store.specs.Places.{shapes_of}
+use Rattle.block_store.specs.Spaces.{VdevSpace}
 use Rattle.block_store.specs.Steps.{OnlyReadsBlocks, AnswersAreTrue}
 use Rattle.block_store.specs.Store.{Store, Holds, outs, outs_from}
-use Rattle.block_store.specs.declared.refusal.Refusal.{Refusal}
-use Rattle.block_store.specs.declared.refusal.Refusal.TheVariants.{NoMemory, BadConfig}
+use Rattle.block_store.specs.declared.refusal.Refusal.{Refusal as StoreRefusal}
+use Rattle.block_store.specs.declared.refusal.Refusal.TheVariants as store
 use Rattle.block_store.specs.declared.shape.VdevShape.{VdevShape}
-use Rattle.dataset_snapshots.specs.Contents.{AreContentsRefused}
+use Rattle.dataset_snapshots.specs.Contents.{AreContentsOf, AreContentsRefused}
+use Rattle.dataset_snapshots.specs.Mapped.{HasItsMaps}
 use Rattle.dataset_snapshots.specs.Pools.{SpellsPool}
-use Rattle.dataset_snapshots.specs.Reach.{reach_of}
+use Rattle.dataset_snapshots.specs.Reach.{meta_blocks_of, volume_blocks_of}
+use Rattle.dataset_snapshots.specs.declared.contents.RootContents.{RootContents}
 use Rattle.dnode_tree.specs.Rewriting.{AreDistinct}
+use Rattle.pool_maps.proofs.ReadSets.{read_stay}
 use Rattle.pool_model.specs.Pools.{PlainPool}
+use Rattle.space_map_objects.specs.Maps.{IsForLossOf}
+use Rattle.space_map_objects.specs.Refused.{of_read}
+use Rattle.space_map_objects.specs.declared.refusal.Refusal.{Refusal}
 use Rattle.pool_open.specs.Held.{IsStoreOver}
-use Rattle.pool_open.specs.Roots.{AreReadBeside, IsRootNotRead}
+use Rattle.pool_open.specs.Roots.{AreContentsOver, AreReadBeside, IsRootNotRead}
+use Rattle.pool_open.proofs.Once.{pairs_front}
 
 pub read_beside : (one other : Store) (old new : Disks) (out : List Bool) → one.disks ≡ old → one.out ≡ out → new ≡ other.disks → OnlyReadsBlocks one other [] → AreReadBeside out old new
 read_beside one other old new out disks marked back reads =
@@ -37,19 +45,19 @@ honest_between one other old new disks back honest =
 none_read : (out : List Bool) (disks : Disks) → AreReadBeside out disks disks
 none_read out disks = record { only = record { starts = refl; newer = []; calls = refl; are_reads = tt }; untouched = λ disk among. refl }
 
-pub refused_at_once : (old : Disks) (shapes : List VdevShape) (out : List Bool) (group : ℕ) (root : Block) (most : ℕ) (refusal : Refusal)
-    → (refusal ≡ NoMemory) ⊎ ((refusal ≡ BadConfig) × ¬ MayBeOpened old.starts shapes out) → IsRootNotRead old shapes out group root most refusal
-refused_at_once old shapes out group root most refusal why = record {
+pub refused_at_once : (old : Disks) (shapes : List VdevShape) (out : List Bool) (group : ℕ) (root : Block) (most : ℕ) (cause : StoreRefusal)
+    → (cause ≡ store.NoMemory) ⊎ ((cause ≡ store.BadConfig) × ¬ MayBeOpened old.starts shapes out) → IsRootNotRead old shapes out group root most (of_read cause)
+refused_at_once old shapes out group root most cause why = record {
   new = old;
   only = none_read out old;
-  why = elim why [ inl memory ↦ inl memory | inr bad ↦ inr (inl bad) ];
+  why = elim why [ inl memory ↦ inl (ap of_read memory) | inr bad ↦ inr (inl (ap of_read bad.0, bad.1)) ];
 }
 
 -- why a store was refused a whole root
 abbrev pub IsForLossAt : Store → Store → ℕ → Block → ℕ → Refusal → Type 0
 IsForLossAt store later group root most refusal =
-    (stored : Contents) (pool : PlainPool) → Holds store stored → (is : SpellsPool stored group root pool) → AreDistinct (reach_of is)
-    → length (reach_of is) ≤ most → AnswersAreTrue store later → IsForLoss refusal
+    (stored : Contents) (pool : PlainPool) → Holds store stored → (is : SpellsPool stored group root pool) → HasItsMaps store.spaces is
+    → AreDistinct (meta_blocks_of is) → length (meta_blocks_of is) ≤ most → AnswersAreTrue store later → IsForLossOf refusal
 
 pub refused_through : (store later : Store) (old : Disks) (shapes : List VdevShape) (out : List Bool) (group : ℕ) (root : Block) (most : ℕ) (refusal : Refusal)
     → IsStoreOver old shapes out store → OnlyReadsBlocks store later [] → (after : ℕ) → AreContentsRefused store later [] group root most after refusal
@@ -64,7 +72,22 @@ refused_through store later old shapes out group root most refusal over reads af
     now = refl;
     after = after;
     cause = cause;
-    whole = λ stored pool hold small honest. known stored pool (hold store over) small.is small.once small.few
+    whole = λ stored pool hold small honest.
+        let has : HasItsMaps store.spaces small.is = small.mapped store.spaces over.shapes_are in
+        known stored pool (hold store over) small.is has (pairs_front (λ block behind. block ≢ behind) (meta_blocks_of small.is) (volume_blocks_of small.is) has.once) small.few
         (honest_between store later old later.disks over.disks_are refl honest);
   }));
+}
+
+-- ---- what was read
+
+-- it is so on all vdevs of the store's shapes
+pub contents_over : (shapes : List VdevShape) (store : List VdevSpace) (stored : Contents) (group : ℕ) (root : Block) (pool : PlainPool) (contents : RootContents)
+    → shapes_of store ≡ shapes → AreContentsOf stored store group root pool contents → AreContentsOver shapes stored group root pool contents
+contents_over shapes store stored group root pool contents same are spaces alike = record {
+  is = are.is;
+  rows = are.rows;
+  names = are.names;
+  blocks = are.blocks;
+  maps = read_stay are.is.objects store spaces contents.maps.items (alike ∙ sym same) are.maps;
 }

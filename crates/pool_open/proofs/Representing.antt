@@ -7,7 +7,6 @@ use Rattle.block_store.specs.Blocks.{Contents}
 use Rattle.block_store.specs.Elsewhere.{IsForBlocks, WritesElsewhereKeep}
 use Rattle.block_store.specs.Store.{Store, Holds, is_out}
 use Rattle.block_store.specs.declared.shape.VdevShape.{VdevShape}
-use Rattle.dataset_snapshots.specs.Contents.{AreContentsOf}
 use Rattle.dataset_snapshots.specs.Mapped.{SpellsWithMaps}
 use Rattle.dataset_snapshots.specs.declared.contents.RootContents.{RootContents}
 use Rattle.pool_commit.specs.Slots.{LabelsLieAside}
@@ -24,7 +23,7 @@ use Rattle.volume_rules.specs.NowMoves.{IsMadeBy}
 use Rattle.pool_open.specs.Held.{HoldOver, IsLaidOver, IsStoreOver}
 use Rattle.pool_open.specs.Opening.{RepresentsRoot}
 use Rattle.pool_open.specs.Words.{vdevs_in}
-use Rattle.pool_open.specs.Roots.{IsReadOfRoot}
+use Rattle.pool_open.specs.Roots.{AreContentsOver, IsReadOfRoot}
 use Rattle.pool_open.proofs.Claiming.{claims_spare_blocks}
 use Rattle.pool_open.proofs.Holding.{held_where_same}
 use Rattle.pool_open.proofs.Through.{honest_within}
@@ -56,7 +55,7 @@ held_behind_claim keep old read new shapes out later u stored laid makes claims 
 -- what is said of a core over claimed disks, for what was read of the root
 abbrev pub CoreRepresents : Disks → List VdevShape → List Bool → Uberblock → RootContents → CoreState → Type 0
 CoreRepresents new shapes later claimed contents core =
-    (stored : Contents) (pool : PlainPool) → HoldOver new shapes later stored → AreContentsOf stored claimed.group claimed.root pool contents
+    (stored : Contents) (pool : PlainPool) → HoldOver new shapes later stored → AreContentsOver shapes stored claimed.group claimed.root pool contents
     → SpellsWithMaps stored shapes claimed.group claimed.root pool → IsMadeBy claimed.group pool → Represents core (opened_as (vdevs_in shapes) (is_out later) claimed.group pool)
 
 pub represents_root : WritesElsewhereKeep → (old surveyed read new : Disks) (shapes : List VdevShape) (out later : List Bool) (claimed : Uberblock) (contents : RootContents)

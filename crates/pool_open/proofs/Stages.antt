@@ -5,8 +5,6 @@ use Rattle.block_store.specs.Elsewhere.{WritesElsewhereKeep}
 use Rattle.block_store.specs.Opened.{MayBeOpened}
 use Rattle.block_store.specs.Places.{shapes_of}
 use Rattle.block_store.specs.Store.{Store, is_out}
-use Rattle.block_store.specs.declared.refusal.Refusal.{Refusal as StoreRefusal}
-use Rattle.block_store.specs.declared.refusal.Refusal.TheVariants as store
 use Rattle.block_store.specs.declared.shape.VdevShape.{VdevShape}
 use Rattle.dataset_snapshots.specs.declared.contents.RootContents.{RootContents}
 use Rattle.pool_commit.specs.Reopened.{LabelsOfOpenedLie}
@@ -23,10 +21,12 @@ use Rattle.pool_slots.specs.Slots.{InUse, MakesOn}
 use Rattle.pool_slots.specs.Surveys.{Surveyed, IsSurveyed, IsWholeOf, OfSurveyed}
 use Rattle.pool_slots.proofs.Opened.{opened_from}
 use Rattle.pool_slots.proofs.ReadRuns.{reads_none}
+use Rattle.space_map_objects.specs.declared.refusal.Refusal.{Refusal as RootRefusal}
+use Rattle.space_map_objects.specs.declared.refusal.Refusal.TheVariants as root
 use Rattle.uberblock_ring.specs.declared.uberblock.Uberblock.{Uberblock}
-use Rattle.pool_open.specs.Causes.{of_store}
+use Rattle.pool_open.specs.Causes.{of_root}
 use Rattle.pool_open.specs.Held.{IsLaidOver, IsStoreOver}
-use Rattle.pool_open.specs.Opening.{AreClaimedThrough, AreReadThrough, IsBlockMisplaced, IsCauseOfReading, IsKeptThrough, IsNotOpenedOver, IsOpenedOver, IsSurveyRefused}
+use Rattle.pool_open.specs.Opening.{AreClaimedThrough, AreMisplacedOver, AreReadThrough, IsCauseOfReading, IsKeptThrough, IsNotOpenedOver, IsOpenedOver, IsSurveyRefused}
 use Rattle.pool_open.specs.Roots.{AreReadBeside, IsReadOfRoot, RootRefuses}
 use Rattle.pool_open.specs.Words.{most_blocks, stamp_of, vdevs_in}
 use Rattle.pool_open.specs.declared.refusal.Refusal.{Refusal}
@@ -90,14 +90,14 @@ pub record AreSurveyed (out later : List Bool) (rewind : ℕ) (old surveyed : Di
   pub whole : IsWholeOf later old.starts s
   pub is : IsSurveyed later rewind old surveyed s
 
-root_cause : (out later : List Bool) (rewind : ℕ) (old surveyed new : Disks) (shapes : List VdevShape) (s : Surveyed) (cause : StoreRefusal) → IsSurveyed later rewind old surveyed s
-    → (cause ≡ store.NoMemory) ⊎ RootRefuses surveyed new shapes later s.claimed.group s.claimed.root (most_blocks shapes) cause → IsCauseOfReading old surveyed new shapes out later rewind (of_store cause)
-root_cause out later rewind old surveyed new shapes s cause is (inl memory) = inl (ap of_store memory)
+root_cause : (out later : List Bool) (rewind : ℕ) (old surveyed new : Disks) (shapes : List VdevShape) (s : Surveyed) (cause : RootRefusal) → IsSurveyed later rewind old surveyed s
+    → (cause ≡ root.NoMemory) ⊎ RootRefuses surveyed new shapes later s.claimed.group s.claimed.root (most_blocks shapes) cause → IsCauseOfReading old surveyed new shapes out later rewind (of_root cause)
+root_cause out later rewind old surveyed new shapes s cause is (inl memory) = inl (ap of_root memory)
 root_cause out later rewind old surveyed new shapes s cause is (inr why) = inr (inr (inr (record { s = s; is = is; cause = cause; same = refl; why = why })))
 
-pub refused_by_root : (out later : List Bool) (rewind : ℕ) (old surveyed new : Disks) (shapes : List VdevShape) (s : Surveyed) (cause : StoreRefusal) → AreSurveyed out later rewind old surveyed s
-    → AreReadBeside later surveyed new → (cause ≡ store.NoMemory) ⊎ RootRefuses surveyed new shapes later s.claimed.group s.claimed.root (most_blocks shapes) cause
-    → IsNotOpenedOver old shapes out rewind (of_store cause)
+pub refused_by_root : (out later : List Bool) (rewind : ℕ) (old surveyed new : Disks) (shapes : List VdevShape) (s : Surveyed) (cause : RootRefusal) → AreSurveyed out later rewind old surveyed s
+    → AreReadBeside later surveyed new → (cause ≡ root.NoMemory) ⊎ RootRefuses surveyed new shapes later s.claimed.group s.claimed.root (most_blocks shapes) cause
+    → IsNotOpenedOver old shapes out rewind (of_root cause)
 refused_by_root out later rewind old surveyed new shapes s cause are blocks why =
     let through : AreReadThrough out later old new = record { surveyed = surveyed; absent = are.absent; blocks = blocks } in
     record {
@@ -151,7 +151,7 @@ refused_by_claim out later rewind old surveyed read new shapes s which few are b
 pub refused_by_core : (out later : List Bool) (rewind : ℕ) (old surveyed read new : Disks) (shapes : List VdevShape) (s : Surveyed) (contents : RootContents) (refusal : Refusal) → rewind < 3
     → AreSurveyed out later rewind old surveyed s → AreReadBeside later surveyed read → AreBegun later s read new
     → IsReadOfRoot surveyed read shapes later s.claimed.group s.claimed.root contents
-    → (refusal ≡ NoMemory) ⊎ ((refusal ≡ BadPointer) × IsBlockMisplaced new shapes later contents) → IsNotOpenedOver old shapes out rewind refusal
+    → (refusal ≡ NoMemory) ⊎ ((refusal ≡ BadPointer) × AreMisplacedOver new shapes later contents) → IsNotOpenedOver old shapes out rewind refusal
 refused_by_core out later rewind old surveyed read new shapes s contents refusal few are blocks begun root why = record {
   later = later;
   count = are.count;

@@ -8,8 +8,10 @@ use Rattle.pool_labels.specs.declared.refusal.Refusal.{Refusal as LabelsRefusal}
 use Rattle.pool_labels.specs.declared.refusal.Refusal.TheVariants as labels
 use Rattle.pool_slots.specs.declared.refusal.Refusal.{Refusal as SlotsRefusal}
 use Rattle.pool_slots.specs.declared.refusal.Refusal.TheVariants as slots
+use Rattle.space_map_objects.specs.declared.refusal.Refusal.{Refusal as RootRefusal}
+use Rattle.space_map_objects.specs.declared.refusal.Refusal.TheVariants as root
 use Rattle.pool_open.specs.declared.refusal.Refusal.{Refusal}
-use Rattle.pool_open.specs.declared.refusal.Refusal.TheVariants.{NoMemory, DiskFault, NoSpace, BadLabel, NoUberblock, BadPointer, BadDigest, TooManyMissing, PoolMismatch, BadConfig}
+use Rattle.pool_open.specs.declared.refusal.Refusal.TheVariants.{NoMemory, DiskFault, NoSpace, BadLabel, NoUberblock, BadPointer, BadDigest, TooManyMissing, PoolMismatch, BadConfig, BadMap}
 
 abbrev pub number_of : Refusal → ℕ
 number_of NoMemory = 1
@@ -22,6 +24,7 @@ number_of BadDigest = 21
 number_of TooManyMissing = 22
 number_of PoolMismatch = 23
 number_of BadConfig = 24
+number_of BadMap = 27
 
 abbrev pub name_of : Refusal → List ℕ
 name_of NoMemory = codes "NoMemory"
@@ -34,6 +37,7 @@ name_of BadDigest = codes "BadDigest"
 name_of TooManyMissing = codes "TooManyMissing"
 name_of PoolMismatch = codes "PoolMismatch"
 name_of BadConfig = codes "BadConfig"
+name_of BadMap = codes "BadMap"
 
 -- the same as one of ours
 abbrev pub of_labels : LabelsRefusal → Refusal
@@ -60,6 +64,12 @@ of_store store.NoSpace = NoSpace
 of_store store.BadPointer = BadPointer
 of_store store.BadDigest = BadDigest
 of_store store.BadConfig = BadConfig
+
+-- why a root was not read
+abbrev pub of_root : RootRefusal → Refusal
+of_root root.NoMemory = NoMemory
+of_root root.BadMap = BadMap
+of_root (root.Unread cause) = of_store cause
 
 -- the disk that failed isn't told
 abbrev pub of_format : FormatRefusal → Refusal

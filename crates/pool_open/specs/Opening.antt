@@ -3,15 +3,13 @@ use Rattle.std.specs.Prelude.{ℕ, ◌≡◌, ◌⊎◌, ◌≤◌, Bool, true, 
 use Rattle.model_disk.specs.Joint.{Disks}
 use Rattle.raidz_io.specs.Reads.{IsHonestSince}
 use Rattle.block_store.specs.Blocks.{Contents}
-use Rattle.block_store.specs.Opened.{CannotTakeIn, MayBeOpened}
+use Rattle.block_store.specs.Opened.{MayBeOpened}
 use Rattle.block_store.specs.Places.{AreEmpty, shapes_of}
-use Rattle.block_store.specs.Releases.{copies_of_all}
-use Rattle.block_store.specs.Spaces.{VdevSpace}
 use Rattle.block_store.specs.Store.{Store, is_out}
-use Rattle.block_store.specs.declared.refusal.Refusal.{Refusal as StoreRefusal}
 use Rattle.block_store.specs.declared.shape.VdevShape.{VdevShape}
 use Rattle.dataset_snapshots.specs.Mapped.{SpellsWithMaps}
 use Rattle.dataset_snapshots.specs.declared.contents.RootContents.{RootContents}
+use Rattle.pool_commit.specs.Reopened.{AreMisplaced}
 use Rattle.pool_core.specs.Represents.{Represents}
 use Rattle.pool_core.specs.State.{CoreState, disks_of}
 use Rattle.pool_model.specs.Pools.{PlainPool}
@@ -26,9 +24,10 @@ use Rattle.pool_slots.specs.Relabels.{OpenRelabels, OpenRewrites}
 use Rattle.pool_slots.specs.Slots.{InUse, MakesOn}
 use Rattle.pool_slots.specs.Surveys.{Surveyed, IsSurveyed, SurveyRefuses}
 use Rattle.pool_slots.specs.declared.refusal.Refusal.{Refusal as SlotsRefusal}
+use Rattle.space_map_objects.specs.declared.refusal.Refusal.{Refusal as RootRefusal}
 use Rattle.uberblock_ring.specs.declared.uberblock.Uberblock.{Uberblock}
 use Rattle.volume_rules.specs.NowMoves.{IsMadeBy}
-use Rattle.pool_open.specs.Causes.{of_slots, of_store}
+use Rattle.pool_open.specs.Causes.{of_root, of_slots}
 use Rattle.pool_open.specs.Held.{HoldOver, IsStoreOver}
 use Rattle.pool_open.specs.Roots.{AreReadBeside, IsReadOfRoot, RootRefuses}
 use Rattle.pool_open.specs.Trees.{OpensPossible}
@@ -100,17 +99,16 @@ IsSurveyRefused shapes later rewind old new refusal =
 pub record IsRootUnread (old surveyed new : Disks) (shapes : List VdevShape) (later : List Bool) (rewind : ℕ) (refusal : Refusal) : Type 0 where
   pub s : Surveyed
   pub is : IsSurveyed later rewind old surveyed s
-  pub cause : StoreRefusal
-  pub same : refusal ≡ of_store cause
+  pub cause : RootRefusal
+  pub same : refusal ≡ of_root cause
   pub why : RootRefuses surveyed new shapes later s.claimed.group s.claimed.root (most_blocks shapes) cause
 
--- a copy of a block has no place of the pool, or shares a sector with another
-pub record IsBlockMisplaced (disks : Disks) (shapes : List VdevShape) (later : List Bool) (contents : RootContents) : Type 0 where
+-- what was read of a root has no place on the vdevs
+pub record AreMisplacedOver (disks : Disks) (shapes : List VdevShape) (later : List Bool) (contents : RootContents) : Type 0 where
   pub store : Store
   pub over : IsStoreOver disks shapes later store
   pub empty : AreEmpty store.spaces
-  pub after : List VdevSpace
-  pub cannot : CannotTakeIn store.spaces (copies_of_all contents.blocks.items) after
+  pub misplaced : AreMisplaced store.spaces contents
 
 -- of what was read of the root that was surveyed
 pub record IsReadMisplaced (old surveyed read new : Disks) (shapes : List VdevShape) (later : List Bool) (rewind : ℕ) : Type 0 where
@@ -118,7 +116,7 @@ pub record IsReadMisplaced (old surveyed read new : Disks) (shapes : List VdevSh
   pub is : IsSurveyed later rewind old surveyed s
   pub contents : RootContents
   pub reads : IsReadOfRoot surveyed read shapes later s.claimed.group s.claimed.root contents
-  pub why : IsBlockMisplaced new shapes later contents
+  pub why : AreMisplacedOver new shapes later contents
 
 -- Before anything was written: want of memory; the vdevs don't lie on the disks; slots, labels or absent disks; the root.
 abbrev pub IsCauseOfReading : Disks → Disks → Disks → List VdevShape → List Bool → List Bool → ℕ → Refusal → Type 0
@@ -128,7 +126,7 @@ IsCauseOfReading old surveyed new shapes out later rewind refusal =
     ⊎ (IsSurveyRefused shapes later rewind old new refusal
     ⊎ IsRootUnread old surveyed new shapes later rewind refusal))
 
--- Once a claim was begun: want of memory; a write or flush of it failed; two blocks share a sector.
+-- Once a claim was begun: want of memory; a write or flush of it failed; a space map or a block has no place of its own.
 abbrev pub IsCauseOfClaim : Disks → Disks → Disks → Disks → List VdevShape → List Bool → ℕ → Refusal → Type 0
 IsCauseOfClaim old surveyed read new shapes later rewind refusal =
     (refusal ≡ NoMemory)

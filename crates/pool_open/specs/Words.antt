@@ -18,7 +18,7 @@ abbrev pub sectors_in : List VdevShape → ℕ
 sectors_in [] = 0
 sectors_in (shape ∷ shapes) = shape.child_sectors * shape.vdev.geometry.children + sectors_in shapes
 
--- how many blocks an open reads at most: each has a sector
+-- how many blocks of a meta object set an open walks at most: each has a sector
 abbrev pub most_blocks : List VdevShape → ℕ
 most_blocks shapes = min (sectors_in shapes) (2 ^ 64 - 1)
 

@@ -4,7 +4,6 @@ ghost use Rattle.block_store.specs.Blocks.{Contents};
 ghost use Rattle.block_store.specs.Opened.{MayBeOpened};
 ghost use Rattle.block_store.specs.Places.{shapes_of};
 ghost use Rattle.block_store.specs.Store.{is_out};
-ghost use Rattle.dataset_snapshots.specs.Contents.{AreContentsOf};
 ghost use Rattle.dataset_snapshots.specs.Mapped.{SpellsWithMaps};
 ghost use Rattle.pool_core.specs.Represents.{Represents};
 ghost use Rattle.pool_core.specs.StateOf.{disks_in, state_of};
@@ -13,7 +12,8 @@ ghost use Rattle.pool_model.specs.declared.refusal.Refusal.TheVariants as Causes
 ghost use Rattle.pool_model.specs.Refusals.{greatest};
 ghost use Rattle.pool_model.specs.View.{is_tolerable, opened_as};
 ghost use Rattle.pool_open.specs.Held.{HoldOver, IsLaidOver};
-ghost use Rattle.pool_open.specs.Opening.{IsBlockMisplaced, IsNotOpenedOver, IsOpenedOver, IsSurveyRefused};
+ghost use Rattle.pool_open.specs.Opening.{AreMisplacedOver, IsNotOpenedOver, IsOpenedOver, IsSurveyRefused};
+ghost use Rattle.pool_open.specs.Roots.{AreContentsOver};
 ghost use Rattle.pool_open.specs.Words.{stamp_of, vdevs_in};
 ghost use Rattle.pool_slots.specs.Present.{GoOut};
 ghost use Rattle.pool_slots.specs.Slots.{HaveLabels};
@@ -93,7 +93,7 @@ fn survey_disks<D: Disk + Drop>(
     Ok(survey)
 }
 
-/// Why there is no core: memory ran out, or a block has no place of its own.
+/// Why there is no core: memory ran out, or a space map or a block has no place of its own.
 fn of_core(cause: pool_model::Refusal) -> Refusal
     ensures memory { cause ≡ Causes.NoMemory → result ≡ Refusal.NoMemory }
     ensures pointer { cause ≡ Causes.BadPointer → result ≡ Refusal.BadPointer }
@@ -126,13 +126,13 @@ pub fn core_over<D: Disk + Drop>(
         shapes_of (state_of core).commit.store.spaces ≡ shapes.now) }
     ensures represents { IfOk result (λ core. (stored : Contents) (pool : PlainPool)
         → HoldOver disks shapes.now out.now stored
-        → AreContentsOf stored claimed.now.group claimed.now.root pool contents
+        → AreContentsOver shapes.now stored claimed.now.group claimed.now.root pool contents
         → SpellsWithMaps stored shapes.now claimed.now.group claimed.now.root pool
         → IsMadeBy claimed.now.group pool → Represents (state_of core)
         (opened_as (vdevs_in shapes.now) (is_out out.now) claimed.now.group pool)) }
     ensures refused { IfErr result (λ refusal. (refusal ≡ Refusal.NoMemory)
         ⊎ ((refusal ≡ Refusal.BadPointer)
-        × IsBlockMisplaced disks shapes.now out.now contents)) }
+        × AreMisplacedOver disks shapes.now out.now contents)) }
 {
     labels_of_opened_lie();
     let store = BlockStore::opened(alloc, disks, shapes, out)?;
@@ -187,9 +187,10 @@ fn open_fitting<D: Disk + Drop>(
 /// be read is out from then on, and nothing is written to it.
 ///
 /// `BadConfig` where the vdevs don't lie on the disks; what `survey_present` answers, and no group left is `NoUberblock` too;
-/// `TooManyMissing` where of a vdev more disks are out than it has parities; `BadPointer`, `BadDigest` and `DiskFault` come from reading
-/// what the root holds. Until then nothing was written. `DiskFault` where a write or flush of the claim failed, and `BadPointer` where
-/// two blocks share a sector.
+/// `TooManyMissing` where of a vdev more disks are out than it has parities; `BadPointer`, `BadDigest`, `DiskFault` and `BadMap` come
+/// from reading what the root holds. Until then nothing was written. `DiskFault` where a write or flush of the claim failed, and
+/// `BadPointer` where a space map is of no metaslab before a meta region, or a block of the meta object set lies in no place of the
+/// pool or shares a sector with another.
 pub fn open_over<D: Disk + Drop>(
     alloc: Global,
     disks: DiskArray<D>,

@@ -23,7 +23,7 @@ pub enum Refusal {
     /// No slot is to be taken, or no number is left after it.
     #[error("no uberblock")]
     NoUberblock,
-    /// A block of the root is not what its parent asks, or is there twice.
+    /// A block of the root is not what its parent asks, or is there twice; or a space map or a block has no place of its own.
     #[error("a block pointer is bad")]
     BadPointer,
     /// No choice of a block's columns has its digest.
@@ -38,6 +38,9 @@ pub enum Refusal {
     /// No label has the configuration that the slot names, or it breaks a limit.
     #[error("bad configuration")]
     BadConfig,
+    /// The entries of a metaslab's space map are none.
+    #[error("a space map is bad")]
+    BadMap,
 }
 
 impl Refusal {
@@ -56,6 +59,7 @@ impl Refusal {
             Refusal::TooManyMissing => 22,
             Refusal::PoolMismatch => 23,
             Refusal::BadConfig => 24,
+            Refusal::BadMap => 27,
         }
     }
 
@@ -74,6 +78,7 @@ impl Refusal {
             Refusal::TooManyMissing => "TooManyMissing",
             Refusal::PoolMismatch => "PoolMismatch",
             Refusal::BadConfig => "BadConfig",
+            Refusal::BadMap => "BadMap",
         }
     }
 }
@@ -149,6 +154,20 @@ impl From<block_store::Refusal> for Refusal {
             block_store::Refusal::BadPointer => Refusal::BadPointer,
             block_store::Refusal::BadDigest => Refusal::BadDigest,
             block_store::Refusal::BadConfig => Refusal::BadConfig,
+        }
+    }
+}
+
+impl From<space_map_objects::Refusal> for Refusal {
+    ghost use Rattle.pool_open.specs.Causes.{of_root};
+
+    ghost from_gives = { λ cause refusal. refusal ≡ of_root cause };
+
+    fn from(cause: space_map_objects::Refusal) -> Refusal {
+        match cause {
+            space_map_objects::Refusal::NoMemory => Refusal::NoMemory,
+            space_map_objects::Refusal::BadMap => Refusal::BadMap,
+            space_map_objects::Refusal::Unread(cause) => Refusal::from(cause),
         }
     }
 }

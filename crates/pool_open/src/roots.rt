@@ -3,9 +3,10 @@ ghost use Rattle.std.specs.Prelude.{IfErr, IfOk};
 ghost use Rattle.pool_open.specs.Roots.{AreReadBeside, IsReadOfRoot, IsRootNotRead};
 
 use block_pointer::Block;
-use block_store::{BlockStore, Refusal, VdevShape};
+use block_store::{BlockStore, VdevShape};
 use dataset_snapshots::{RootContents, contents_under};
 use model_disk::{Disk, DiskArray};
+use space_map_objects::Refusal;
 use std::alloc::Global;
 
 /// What was read of a root, and the disks that it was read from.
@@ -15,11 +16,12 @@ pub struct ReadRoot<D: Disk + Drop> {
     pub contents: RootContents,
 }
 
-/// Reads what an open keeps of the root of a group: its directory, its names and all its blocks. Nothing is written, and a disk
-/// that is marked isn't called. The walk of all blocks reads at most `left` of them, whatever the root is.
+/// Reads what an open keeps of the root of a group: its directory, its names, the blocks of its meta object set and what its space
+/// maps leave free. Nothing is written, and a disk that is marked isn't called. The walk of the blocks reads at most `left` of them,
+/// whatever the root is.
 ///
-/// `BadConfig` where the vdevs don't take all disks in order, or a disk is too small for its vdev. `BadPointer`, `BadDigest` and
-/// `DiskFault` come from reading, as `contents_under` says; then the disks are dropped.
+/// `BadConfig` where the vdevs don't take all disks in order, or a disk is too small for its vdev. `BadPointer`, `BadDigest`,
+/// `DiskFault` and `BadMap` come from reading, as `contents_under` says; then the disks are dropped.
 pub fn read_root<D: Disk + Drop>(
     alloc: Global,
     disks: DiskArray<D>,

@@ -1,23 +1,31 @@
--- Blocks that lie apart can be taken in to metaslabs of which nothing is in use.
-use Rattle.std.proofs.Common.{ℕ, zero, suc, ◌≡◌, ◌<◌, ◌++◌, List, [], ◌∷◌, length, AllPairs, Contains, refl, sym, ap, subst, ◌∙◌, arith, slice_index_or}
+-- Blocks of three copies that lie apart can be taken in where no sector of the meta regions is in use.
+use Rattle.std.proofs.Common.{ℕ, zero, suc, ◌≡◌, ◌≢◌, ◌<◌, ◌≤◌, ◌++◌, List, [], ◌∷◌, length, Some, All, AllPairs, Contains, refl, sym, ap, subst, ◌∙◌, arith, slice_get, slice_index_or}
+use Rattle.std.proofs.lemmas.List.Elements.{All-contains}
+use Rattle.std.proofs.lemmas.Option.{same_Some}
+use Rattle.block_pointer.specs.Copies.{dvas}
 use Rattle.block_pointer.specs.declared.dva.Dva.{Dva}
 use Rattle.block_pointer.specs.declared.block.Block.{Block}
 use Rattle.block_store.specs.Opened.{CannotTakeIn, TakeIn}
-use Rattle.block_store.specs.Places.{AreEmpty, ArePlacesApart, IsEmpty, IsFree, IsPlaceIn, Marks, filled, planned, run_at, shapes_of}
+use Rattle.block_store.specs.Places.{AreEmpty, ArePlacesApart, EachSector, IsEmpty, IsFree, IsPlaceIn, Marks, filled, planned, run_at, shapes_of}
 use Rattle.block_store.specs.Releases.{CopyAt, copies_of_all}
-use Rattle.block_store.specs.Shapes.{metaslab_of, metaslab_sectors, metaslabs}
+use Rattle.block_store.specs.Shapes.{IsPlace, first_meta, metaslab_of, metaslab_sectors, metaslabs}
 use Rattle.block_store.specs.Spaces.{VdevSpace}
 use Rattle.block_store.specs.Uses.{LiesOn}
 use Rattle.block_store.specs.declared.shape.VdevShape.{VdevShape}
 use Rattle.block_store.proofs.TakenBlocks.{taken_shapes}
-use Rattle.block_store.proofs.Taking.{place_for_too}
+use Rattle.block_store.proofs.Taking.{found_too, place_for_too}
 use Rattle.block_store.proofs.TakenIn.{Picks, all_spare, into_view, lies_by, out_of_view, picks_filled, picks_planned, viewed, viewed_all, viewed_shapes}
+use Rattle.meta_objset.specs.declared.space_maps.MetaslabPlace.{MetaslabPlace}
 use Rattle.metaslab.specs.Space.{Space}
 use Rattle.metaslab_group.specs.Spaces.{AreWhollyFree, IsWhollyFree}
 use Rattle.raidz_io.proofs.Written.{All-at, slice_get_some}
+use Rattle.pool_maps.specs.Loads.{AreLoadedAs, AreSetsOf, IsSameAt}
+use Rattle.pool_maps.specs.Maps.{HasMapPlace}
+use Rattle.pool_maps.specs.declared.reading.FreeMetaslab.{FreeMetaslab}
 use Rattle.space_map.proofs.RunLemmas.{named}
+use Rattle.pool_open.proofs.Once.{all_from}
 use Rattle.pool_stops.specs.Whole.{AreCopiesApart, LieApart}
-use Rattle.pool_stops.proofs.Counting.{copy_lies}
+use Rattle.pool_stops.proofs.Counting.{copy_lies, copy_of}
 
 -- of these marks no sector is in use
 record AreUnused (marks : Marks) (space : VdevSpace) : Type 0 where
@@ -34,24 +42,35 @@ unused_planned space empty = record {
 }
 
 -- so the sectors of a place are free
-free_at : (marks : Marks) (spaces : List VdevSpace) (sectors : ℕ) (place : Dva) → 0 < sectors → (is : IsPlaceIn spaces sectors place) → AreUnused marks is.space
-    → LiesOn IsFree spaces marks sectors place
-free_at marks spaces sectors place some is unused =
-    let shape : VdevShape = is.space.shape in
+free_at : (marks : Marks) (space : VdevSpace) (sectors : ℕ) (place : Dva) → IsPlace space.shape sectors place → AreUnused marks space
+    → EachSector IsFree (marks space) space.shape place
+free_at marks space sectors place is_place unused =
+    let shape : VdevShape = space.shape in
     let at : ℕ = metaslab_of shape place in
-    let there = slice_get_some (marks is.space) at (omega (arith, is.is_place.metaslab, unused.count)) in
+    let there = slice_get_some (marks space) at (omega (arith, is_place.metaslab, unused.count)) in
     let free : IsWhollyFree there.0 (metaslab_sectors shape) =
-    All-at (λ (space : Space). IsWhollyFree space (metaslab_sectors shape)) (marks is.space) at there.0 unused.free there.1 in
+    All-at (λ (it : Space). IsWhollyFree it (metaslab_sectors shape)) (marks space) at there.0 unused.free there.1 in
+    record {
+      metaslab = there.0;
+      found = there.1;
+      each = λ s names_it. let inside = named (run_at shape place) s names_it in free.free s (omega (arith, inside.1, is_place.one));
+    }
+
+-- and are free on vdevs whose metaslab is the same
+free_still : (marks : Marks) (spaces mid : List VdevSpace) (sectors : ℕ) (place : Dva) → shapes_of mid ≡ shapes_of spaces → 0 < sectors → (is : IsPlaceIn spaces sectors place)
+    → EachSector IsFree (marks is.space) is.space.shape place → IsSameAt marks spaces (record { vdev = place.vdev; index = metaslab_of is.space.shape place }) mid
+    → LiesOn IsFree mid marks sectors place
+free_still marks spaces mid sectors place same some is free stays =
+    let new = found_too spaces mid place.vdev is.space same is.found in
+    let shape : VdevShape = is.space.shape in
+    let there : slice_get (marks new.0) (metaslab_of shape place) ≡ Some free.metaslab = stays is.space new.0 is.found new.1 ∙ free.found in
+    let each : EachSector IsFree (marks new.0) shape place = record { metaslab = free.metaslab; found = there; each = free.each } in
     record {
       some = some;
-      space = is.space;
-      found = is.found;
-      is_place = is.is_place;
-      each = record {
-        metaslab = there.0;
-        found = there.1;
-        each = λ s names_it. let inside = named (run_at shape place) s names_it in free.free s (omega (arith, inside.1, is.is_place.one));
-      };
+      space = new.0;
+      found = new.1;
+      is_place = subst (λ (it : VdevShape). IsPlace it sectors place) (sym new.2) is.is_place;
+      each = subst (λ (it : VdevShape). EachSector IsFree (marks new.0) it place) (sym new.2) each;
     }
 
 -- and stay so as copies are taken in that are apart from it
@@ -90,19 +109,40 @@ apart_from done next left pairs copy (k, within, is) =
     subst (λ (b : CopyAt). AreCopiesApart copy b) (index-front done next left copy)
     (subst (λ (a : CopyAt). AreCopiesApart a (slice_index_or (done ++ next ∷ left) (length done) copy)) (index-done done next left k copy within ∙ is) apart)
 
-pub can_take_in : (spaces after : List VdevSpace) (shapes : List VdevShape) (blocks : List Block) → shapes_of spaces ≡ shapes → AreEmpty spaces → LieApart shapes blocks
-    → ¬ CannotTakeIn spaces (copies_of_all blocks) after
-can_take_in spaces after shapes blocks same empty apart cannot =
+-- ---- behind the metaslabs that were loaded
+
+-- a metaslab of the meta region is none that a map is of
+not_loaded : (spaces : List VdevSpace) (maps : List FreeMetaslab) (place : MetaslabPlace) (space : VdevSpace) → AreSetsOf spaces maps → slice_get spaces place.vdev ≡ Some space
+    → first_meta space.shape ≤ place.index → All (λ read. read.metaslab ≢ place) maps
+not_loaded spaces maps place space sets found behind =
+    all_from (λ (read : FreeMetaslab). read.metaslab ≢ place) maps (λ read held same.
+    let of : HasMapPlace spaces place = subst (HasMapPlace spaces) same (All-contains (λ (it : FreeMetaslab). HasMapPlace spaces it.metaslab) maps read sets.places held) in
+    let one : of.space ≡ space = same_Some of.space space (sym of.found ∙ found) in
+    let before : place.index < first_meta space.shape = subst (λ (it : VdevSpace). place.index < first_meta it.shape) one of.before in
+    omega (arith, before, behind))
+
+pub can_take_in : (spaces mid after : List VdevSpace) (shapes : List VdevShape) (maps : List FreeMetaslab) (blocks : List Block) → shapes_of spaces ≡ shapes → AreEmpty spaces
+    → AreSetsOf spaces maps → AreLoadedAs spaces maps mid → LieApart shapes blocks → All (λ block. length (dvas block.copies) ≡ 3) blocks
+    → ¬ CannotTakeIn mid (copies_of_all blocks) after
+can_take_in spaces mid after shapes maps blocks same empty sets loaded apart three cannot =
     let next : CopyAt = cannot.next in
     let pairs : AllPairs AreCopiesApart (cannot.done ++ next ∷ cannot.left) = subst (λ (them : List CopyAt). AllPairs AreCopiesApart them) cannot.are apart.apart in
     let held : Contains (copies_of_all blocks) next =
     subst (λ (them : List CopyAt). Contains them next) (sym cannot.are) (contains-next cannot.done next cannot.left) in
     let lies = copy_lies spaces shapes blocks same apart next held in
-    let is : IsEmpty lies.1.is_in.space = All-at IsEmpty spaces next.place.vdev lies.1.is_in.space empty lies.1.is_in.found in
+    let at = lies.1.is_in in
+    let of = copy_of blocks next held in
+    let copies : next.copies ≡ 3 = of.4 ∙ All-contains (λ (block : Block). length (dvas block.copies) ≡ 3) blocks of.0 three of.1 in
+    let place : MetaslabPlace = record { vdev = next.place.vdev; index = metaslab_of at.space.shape next.place } in
+    let others = not_loaded spaces maps place at.space sets at.found (lies.1.region.meta copies) in
+    let is : IsEmpty at.space = All-at IsEmpty spaces next.place.vdev at.space empty at.found in
+    let besides = apart_from cannot.done next cannot.left pairs in
     cannot.not_free (record {
-      place_for = place_for_too spaces after next.sectors next.copies next.place (taken_shapes spaces cannot.done after cannot.taken) lies.1;
-      filled_free = free_after filled picks_filled spaces cannot.done after cannot.taken next.sectors next.place (apart_from cannot.done next cannot.left pairs)
-          (free_at filled spaces next.sectors next.place lies.0 lies.1.is_in (unused_filled lies.1.is_in.space is));
-      planned_free = free_after planned picks_planned spaces cannot.done after cannot.taken next.sectors next.place (apart_from cannot.done next cannot.left pairs)
-          (free_at planned spaces next.sectors next.place lies.0 lies.1.is_in (unused_planned lies.1.is_in.space is));
+      place_for = place_for_too spaces after next.sectors next.copies next.place (taken_shapes mid cannot.done after cannot.taken ∙ loaded.shapes) lies.1;
+      filled_free = free_after filled picks_filled mid cannot.done after cannot.taken next.sectors next.place besides
+          (free_still filled spaces mid next.sectors next.place loaded.shapes lies.0 at (free_at filled at.space next.sectors next.place at.is_place (unused_filled at.space is))
+          (loaded.filled_too place others));
+      planned_free = free_after planned picks_planned mid cannot.done after cannot.taken next.sectors next.place besides
+          (free_still planned spaces mid next.sectors next.place loaded.shapes lies.0 at (free_at planned at.space next.sectors next.place at.is_place (unused_planned at.space is))
+          (loaded.planned_too place others));
     })

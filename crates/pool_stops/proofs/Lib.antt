@@ -14,6 +14,7 @@ pub mod Created
 pub mod Counting
 pub mod FreePlaces
 pub mod Lost
+pub mod OwnMaps
 pub mod Unhindered
 pub mod Labels
 pub mod LabelStops

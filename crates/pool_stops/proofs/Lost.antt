@@ -4,26 +4,30 @@ use Rattle.std.proofs.lemmas.List.{append-nil}
 use Rattle.model_disk.specs.Joint.{failed_since}
 use Rattle.raidz_io.specs.Reads.{absent_since}
 use Rattle.block_pointer.specs.declared.block.Block.{Block}
-use Rattle.block_store.specs.Losses.{IsBlockLost, IsForLoss, LossesAreNotTolerable}
+use Rattle.block_store.specs.Losses.{IsBlockLost, LossesAreNotTolerable}
 use Rattle.block_store.specs.Reading.{AreTolerable}
 use Rattle.block_store.specs.Store.{Store, is_out, outs, outs_from}
 use Rattle.block_store.specs.declared.refusal.Refusal.{Refusal}
-use Rattle.block_store.specs.declared.refusal.Refusal.TheVariants.{NoMemory, DiskFault}
+use Rattle.block_store.specs.declared.refusal.Refusal.TheVariants.{DiskFault, BadPointer}
 use Rattle.block_store.proofs.Losses.{lost_behind_reads}
 use Rattle.dnode.specs.declared.object_set.ObjectSet.{ObjectSet}
-use Rattle.dnode_slots.proofs.Losses.{set_lost}
 use Rattle.meta_objset.proofs.Losses.{record_lost, rows_lost}
-use Rattle.meta_objset.specs.Found.{AreDirectoryRows}
+use Rattle.meta_objset.specs.Found.{AreDirectoryRows, AreMapRows}
 use Rattle.meta_objset.specs.Reading.{directory_kind}
+use Rattle.meta_objset.specs.SpaceMaps.{maps_kind}
+use Rattle.object_table.proofs.Losses.{table_lost}
 use Rattle.objset.proofs.Losses.{set_walk_lost}
-use Rattle.volume.specs.Walking.{IsVolumeWalkRefused}
-use Rattle.volume.specs.declared.volume.VolumeSet.{VolumeSet}
-use Rattle.volume.specs.Volume.{block_of}
-use Rattle.dataset_snapshots.specs.Contents.{AreContentsRefused, AreNamesRefused, IsShapeRefused}
+use Rattle.dataset_snapshots.specs.Contents.{AreContentsRefused, AreNamesRefused, IsRootUnread, IsShapeRefused}
 use Rattle.dataset_snapshots.specs.Finding.{IsDirectoryRefused}
-use Rattle.dataset_snapshots.specs.Reach.{AreVolumesUnwalked, IsDatasetUnwalked, IsReachRefused}
+use Rattle.dataset_snapshots.specs.Reach.{IsMetaWalkRefused}
 use Rattle.dataset_snapshots.proofs.Losses.{meta_lost}
 use Rattle.meta_objset.specs.declared.directory.DirectoryRow.{DirectoryRow}
+use Rattle.pool_maps.specs.Loads.{AreMapsUnread}
+use Rattle.pool_open.specs.Causes.{of_root}
+use Rattle.pool_open.specs.declared.refusal.Refusal.TheVariants.{NoMemory}
+use Rattle.space_map_objects.specs.Maps.{IsForLossOf, IsMapRefused, map_kind}
+use Rattle.space_map_objects.specs.declared.refusal.Refusal.{Refusal as RootRefusal}
+use Rattle.space_map_objects.specs.declared.refusal.Refusal.TheVariants.{Unread}
 
 -- ---- where a block is lost
 
@@ -44,53 +48,54 @@ names_lost old new birth root rows refusal (inr (inr unnamed)) is =
     lost_behind_reads old unnamed.mid new [] unnamed.first
     (lost_behind_reads unnamed.mid row.mid new [] row.reads (shape_lost row.mid new unnamed.set root.birth row.row.object refusal row.why is))
 
-volume_walk_lost : (old new : Store) (volume : VolumeSet) (birth before after : ℕ) (refusal : Refusal) → IsVolumeWalkRefused old new [] volume birth before after refusal
-    → refusal ≡ DiskFault → IsBlockLost old new []
-volume_walk_lost old new volume birth before after refusal (inl memory) is = absurd (cc)
-volume_walk_lost old new volume birth before after refusal (inr (inl (inl (bad, none)))) is = absurd (cc)
-volume_walk_lost old new volume birth before after refusal (inr (inl (inr (inl refused)))) is = set_lost old new [] birth (block_of volume) refusal refused is
-volume_walk_lost old new volume birth before after refusal (inr (inl (inr (inr (bad, other))))) is = absurd (cc)
-volume_walk_lost old new volume birth before after refusal (inr (inr unwalked)) is =
-    lost_behind_reads old unwalked.mid new [] unwalked.first
-    (set_walk_lost unwalked.mid new [] unwalked.set (block_of volume).birth unwalked.left after refusal unwalked.why is)
-
-dataset_lost : (old new : Store) (set : ObjectSet) (birth object before after : ℕ) (refusal : Refusal) → IsDatasetUnwalked old new [] set birth object before after refusal
-    → refusal ≡ DiskFault → IsBlockLost old new []
-dataset_lost old new set birth object before after refusal (inl memory) is = absurd (cc)
-dataset_lost old new set birth object before after refusal (inr (inl of_record)) is = record_lost old new [] set birth object refusal of_record is
-dataset_lost old new set birth object before after refusal (inr (inr unwalked)) is =
-    lost_behind_reads old unwalked.mid new [] unwalked.first
-    (volume_walk_lost unwalked.mid new unwalked.dataset.volume birth before after refusal unwalked.why is)
-
-volumes_lost : (old new : Store) (set : ObjectSet) (birth before after : ℕ) (refusal : Refusal) → AreVolumesUnwalked old new [] set birth before after refusal
-    → refusal ≡ DiskFault → IsBlockLost old new []
-volumes_lost old new set birth before after refusal (inl memory) is = absurd (cc)
-volumes_lost old new set birth before after refusal (inr (inl rows)) is = rows_lost old new [] set birth directory_kind 1 AreDirectoryRows refusal rows is
-volumes_lost old new set birth before after refusal (inr (inr unwalked)) is =
-    let row = unwalked.why in
-    lost_behind_reads old unwalked.mid new [] unwalked.first
-    (lost_behind_reads unwalked.mid row.mid new [] row.reads (dataset_lost row.mid new set birth row.row.object row.left after refusal row.why is))
-
-reach_lost : (old new : Store) (birth : ℕ) (root : Block) (before after : ℕ) (refusal : Refusal) → IsReachRefused old new [] birth root before after refusal
-    → refusal ≡ DiskFault → IsBlockLost old new []
-reach_lost old new birth root before after refusal (inl memory) is = absurd (cc)
-reach_lost old new birth root before after refusal (inr (inl (inl (bad, none)))) is = absurd (cc)
-reach_lost old new birth root before after refusal (inr (inl (inr refused))) is = meta_lost old new [] birth root refusal refused is
-reach_lost old new birth root before after refusal (inr (inr (inl own))) is =
+-- the meta object set was not walked
+meta_walk_lost : (old new : Store) (birth : ℕ) (root : Block) (before after : ℕ) (refusal : Refusal) → IsMetaWalkRefused old new [] birth root before after refusal → refusal ≡ DiskFault
+    → IsBlockLost old new []
+meta_walk_lost old new birth root before after refusal (inl memory) is = absurd (cc)
+meta_walk_lost old new birth root before after refusal (inr (inl (inl (bad, none)))) is = absurd (cc)
+meta_walk_lost old new birth root before after refusal (inr (inl (inr refused))) is = meta_lost old new [] birth root refusal refused is
+meta_walk_lost old new birth root before after refusal (inr (inr (inl own))) is =
     lost_behind_reads old own.mid new [] own.first (set_walk_lost own.mid new [] own.set root.birth own.left after refusal own.why is)
-reach_lost old new birth root before after refusal (inr (inr (inr (inl below)))) is =
-    lost_behind_reads old below.mid new [] below.first (volumes_lost below.mid new below.set root.birth below.rest after refusal below.why is)
-reach_lost old new birth root before after refusal (inr (inr (inr (inr (bad, twice))))) is = absurd (cc)
+meta_walk_lost old new birth root before after refusal (inr (inr (inr (bad, twice)))) is = absurd (cc)
 
-contents_lost : (old new : Store) (birth : ℕ) (root : Block) (before after : ℕ) (refusal : Refusal) → AreContentsRefused old new [] birth root before after refusal
-    → refusal ≡ DiskFault → IsBlockLost old new []
-contents_lost old new birth root before after refusal (inl memory) is = absurd (cc)
-contents_lost old new birth root before after refusal (inr (inl (inl refused))) is = meta_lost old new [] birth root refusal refused is
-contents_lost old new birth root before after refusal (inr (inl (inr directory))) is = directory_lost old new birth root refusal directory is
-contents_lost old new birth root before after refusal (inr (inr (inl names))) is =
+-- something before the space maps was not read
+root_lost : (old new : Store) (birth : ℕ) (root : Block) (before after : ℕ) (refusal : Refusal) → IsRootUnread old new [] birth root before after refusal → refusal ≡ DiskFault
+    → IsBlockLost old new []
+root_lost old new birth root before after refusal (inl (inl refused)) is = meta_lost old new [] birth root refusal refused is
+root_lost old new birth root before after refusal (inl (inr directory)) is = directory_lost old new birth root refusal directory is
+root_lost old new birth root before after refusal (inr (inl names)) is =
     lost_behind_reads old names.mid new [] names.first (names_lost names.mid new birth root names.rows refusal names.why is)
-contents_lost old new birth root before after refusal (inr (inr (inr reach))) is =
-    lost_behind_reads old reach.mid new [] reach.first (reach_lost reach.mid new birth root before after refusal reach.why is)
+root_lost old new birth root before after refusal (inr (inr walk)) is =
+    lost_behind_reads old walk.mid new [] walk.first (meta_walk_lost walk.mid new birth root before after refusal walk.why is)
+
+-- ---- space maps
+
+-- what was not read was for lack of disks
+fault_is : (refusal : RootRefusal) (why : Refusal) → refusal ≡ Unread why → refusal ≡ Unread DiskFault → why ≡ DiskFault
+fault_is refusal why is fault = let both : Unread why ≡ Unread DiskFault = sym is ∙ fault in cc
+
+map_lost : (old new : Store) (set : ObjectSet) (birth number sectors : ℕ) (refusal : RootRefusal) → IsMapRefused old new [] set birth number sectors refusal → refusal ≡ Unread DiskFault
+    → IsBlockLost old new []
+map_lost old new set birth number sectors refusal (inl (inl memory)) is = absurd (cc)
+map_lost old new set birth number sectors refusal (inl (inr (why, same, table))) is =
+    table_lost old new [] set birth map_kind number why table (fault_is refusal why same is)
+map_lost old new set birth number sectors refusal (inr (bad, none)) is = absurd (cc)
+
+maps_lost : (old new : Store) (set : ObjectSet) (birth : ℕ) (refusal : RootRefusal) → AreMapsUnread old new [] set birth refusal → refusal ≡ Unread DiskFault → IsBlockLost old new []
+maps_lost old new set birth refusal (inl (why, same, rows)) is =
+    rows_lost old new [] set birth maps_kind 4 AreMapRows why rows (fault_is refusal why same is)
+maps_lost old new set birth refusal (inr rows) is = elim rows.why [
+  | inl bad ↦ absurd (let clash : Unread BadPointer ≡ Unread DiskFault = sym bad.0 ∙ is in cc)
+  | inr row ↦ lost_behind_reads old row.mid new [] row.before (map_lost row.mid new set birth row.row.object row.sectors refusal row.why is)
+]
+
+contents_lost : (old new : Store) (birth : ℕ) (root : Block) (before after : ℕ) (refusal : RootRefusal) → AreContentsRefused old new [] birth root before after refusal
+    → refusal ≡ Unread DiskFault → IsBlockLost old new []
+contents_lost old new birth root before after refusal (inl memory) is = absurd (cc)
+contents_lost old new birth root before after refusal (inr (inl (why, same, unread))) is =
+    root_lost old new birth root before after why unread (fault_is refusal why same is)
+contents_lost old new birth root before after refusal (inr (inr maps)) is =
+    lost_behind_reads old maps.mid new [] maps.first (maps_lost maps.mid new maps.walked_set root.birth refusal maps.why is)
 
 -- ---- none is lost where all disks are there
 
@@ -104,14 +109,15 @@ none_in [] none = refl
 none_in (x ∷ xs) none = absurd (none x (0, omega arith, refl))
 
 -- a whole root over disks that are all there, and of which no call failed, is refused for want of memory alone
-pub not_for_loss : LossesAreNotTolerable → (old new : Store) (birth : ℕ) (root : Block) (before after : ℕ) (refusal : Refusal) → AreContentsRefused old new [] birth root before after refusal
-    → ((disk : ℕ) → is_out old.out disk ≡ false) → ((disk : ℕ) → ¬ Contains (failed_since (length old.disks.calls) new.disks.calls) disk) → IsForLoss refusal → refusal ≡ NoMemory
-not_for_loss law old new birth root before after refusal cause none well (inl memory) = memory
-not_for_loss law old new birth root before after refusal cause none well (inr fault) =
+pub not_for_loss : LossesAreNotTolerable → (old new : Store) (birth : ℕ) (root : Block) (before after : ℕ) (refusal : RootRefusal) → AreContentsRefused old new [] birth root before after refusal
+    → ((disk : ℕ) → is_out old.out disk ≡ false) → ((disk : ℕ) → ¬ Contains (failed_since (length old.disks.calls) new.disks.calls) disk) → IsForLossOf refusal → of_root refusal ≡ NoMemory
+not_for_loss law old new birth root before after refusal cause none well (inl memory) = ap of_root memory
+not_for_loss law old new birth root before after refusal cause none well (inr (why, same, inl memory)) = ap of_root (same ∙ ap Unread memory)
+not_for_loss law old new birth root before after refusal cause none well (inr (why, same, inr fault)) =
     let failed : failed_since (length old.disks.calls) new.disks.calls ≡ [] = none_in (failed_since (length old.disks.calls) new.disks.calls) well in
     let away : absent_since old.disks new.disks (outs old ++ []) ≡ [] =
     ap (λ them. them ++ failed_since (length old.disks.calls) new.disks.calls) (append-nil (outs old) ∙ none_out old.out 0 none) ∙ failed in
-    absurd (law old new [] (contents_lost old new birth root before after refusal cause fault)
+    absurd (law old new [] (contents_lost old new birth root before after refusal cause (same ∙ ap Unread fault))
     (subst (λ (them : List ℕ). AreTolerable old.spaces them) (sym away) (λ v space found. record {
       disks = [];
       few = omega arith;

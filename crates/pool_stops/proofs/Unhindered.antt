@@ -9,18 +9,22 @@ use Rattle.raidz_io.specs.Reads.{IsHonestSince}
 use Rattle.block_store.specs.Blocks.{Contents}
 use Rattle.block_store.specs.Losses.{LossesAreNotTolerable}
 use Rattle.block_store.specs.Opened.{CannotTakeIn, MayBeOpened}
+use Rattle.block_store.specs.Places.{AreEmpty, shapes_of}
 use Rattle.block_store.specs.Releases.{copies_of_all}
+use Rattle.block_store.specs.Spaces.{VdevSpace}
 use Rattle.block_store.specs.Store.{is_out}
-use Rattle.block_store.specs.declared.refusal.Refusal.TheVariants as store
 use Rattle.block_store.specs.declared.shape.VdevShape.{VdevShape}
 use Rattle.block_pointer.specs.declared.block.Block.{Block}
 use Rattle.dataset_snapshots.proofs.Readings.{roots_spell_one_pool}
 use Rattle.dataset_snapshots.specs.Pools.{SpellsPool}
-use Rattle.dataset_snapshots.specs.Reach.{reach_of}
-use Rattle.dnode_tree.specs.Rewriting.{AreDistinct}
+use Rattle.dataset_snapshots.specs.declared.contents.RootContents.{RootContents}
+use Rattle.dataset_snapshots.specs.Contents.{AreContentsOf}
+use Rattle.dataset_snapshots.specs.Mapped.{HasItsMaps, HasItsMapsOver}
+use Rattle.dataset_snapshots.specs.Reach.{meta_blocks_of, reach_of, volume_blocks_of}
 use Rattle.pool_model.specs.Pools.{PlainPool}
 use Rattle.pool_model.specs.View.{Vdev, is_tolerable, lost_in}
-use Rattle.pool_open.specs.Causes.{of_store}
+use Rattle.pool_commit.specs.Reopened.{AreMisplaced}
+use Rattle.pool_open.specs.Causes.{of_root}
 use Rattle.pool_open.specs.Held.{HoldOver}
 use Rattle.pool_open.specs.Opening.{AreClaimedThrough, AreReadThrough, IsCauseOfClaim, IsCauseOfReading, IsReadMisplaced, IsRootUnread, IsSurveyRefused}
 use Rattle.pool_open.specs.Roots.{IsRootRefused, IsSmallRoot}
@@ -51,6 +55,7 @@ use Rattle.pool_stops.proofs.Counting.{blocks_fit}
 use Rattle.pool_stops.proofs.FreePlaces.{can_take_in}
 use Rattle.pool_stops.proofs.Holding.{get_in_use}
 use Rattle.pool_stops.proofs.Lost.{not_for_loss}
+use Rattle.pool_stops.proofs.OwnMaps.{first_apart, read_maps_are_sets}
 
 -- all disks are there, and nothing hinders the open
 record IsFree (old new : Disks) (shapes : List VdevShape) (out : List Bool) : Type 0 where
@@ -179,7 +184,7 @@ survey_case old new shapes out p pools refusal led free (inl (slots.UsedUp, same
 record AtRoot (disks : Disks) (shapes : List VdevShape) (out : List Bool) (pool : PlainPool) (u : Uberblock) : Type 0 where
   pub stored : Contents
   pub spells : SpellsPool stored u.group u.root pool
-  pub once : AreDistinct (reach_of spells)
+  pub mapped : HasItsMapsOver shapes spells
   pub apart : LieApart shapes (reach_of spells)
   pub hold : HoldOver disks shapes out stored
 
@@ -196,7 +201,7 @@ at_root old surveyed new shapes out p pools s led free makes honest is =
     let here : AtRoot surveyed shapes out (pools s.taken) (record s.taken { claim = s.claimed.claim }) = record {
       stored = tree.stored;
       spells = tree.spells;
-      once = whole.once;
+      mapped = tree.mapped;
       apart = whole.apart;
       hold = tree.held surveyed sizes stands;
     } in
@@ -210,13 +215,14 @@ root_case law old surveyed new shapes out p pools refusal led free makes reads u
     let later : IsHonestSince surveyed new = honest_within no_write old surveyed new new makes (Makes-none no_write new) free.honest in
     let at = at_root old surveyed new shapes out p pools unread.s led free makes honest unread.is in
     let u : Uberblock = unread.s.claimed in
-    let memory : unread.cause ≡ store.NoMemory = ⊎_elim
+    let memory : of_root unread.cause ≡ NoMemory = ⊎_elim
     (λ (bad, not). absurd (not (subst (λ (starts : List (List ℕ)). MayBeOpened starts shapes out) (sym makes.starts) free.may)))
     (λ (it : IsRootRefused surveyed new shapes out u.group u.root (most_blocks shapes) unread.cause).
-    let small : IsSmallRoot at.stored u.group u.root (pools unread.s.taken) (most_blocks shapes) = record {
+    let small : IsSmallRoot at.stored shapes u.group u.root (pools unread.s.taken) (most_blocks shapes) = record {
       is = at.spells;
-      once = at.once;
-      few = blocks_fit it.store.spaces shapes (reach_of at.spells) it.over.shapes_are free.may.few at.apart;
+      mapped = at.mapped;
+      few = blocks_fit it.store.spaces shapes (meta_blocks_of at.spells) it.over.shapes_are free.may.few
+          (first_apart shapes (meta_blocks_of at.spells) (volume_blocks_of at.spells) at.apart);
     } in
     not_for_loss law it.store it.later u.group u.root (most_blocks shapes) it.after unread.cause it.cause
     (λ disk. ap (λ flags. is_out flags disk) it.over.out_is ∙ free.none disk)
@@ -226,7 +232,7 @@ root_case law old surveyed new shapes out p pools refusal led free makes reads u
     free.none_failed disk (fails_later no_write old surveyed new makes disk here))
     (it.whole at.stored (pools unread.s.taken) at.hold small later))
     unread.why in
-    unread.same ∙ ap of_store memory
+    unread.same ∙ memory
 
 reading_case : LossesAreNotTolerable → (old new : Disks) (shapes : List VdevShape) (out : List Bool) (p : Possible) (pools : Uberblock → PlainPool) (refusal : Refusal)
     → LeadToWholePools old shapes out p pools → IsFree old new shapes out → (through : AreReadThrough out out old new)
@@ -239,6 +245,18 @@ reading_case law old new shapes out p pools refusal led free through (inr (inr (
 
 -- ---- the claim
 
+-- on vdevs with no block, what a root with its space maps leads to has its places
+never_misplaced : (spaces : List VdevSpace) (shapes : List VdevShape) (stored : Contents) (group : ℕ) (root : Block) (pool : PlainPool) (contents : RootContents) → shapes_of spaces ≡ shapes
+    → AreEmpty spaces → (are : AreContentsOf stored spaces group root pool contents) → HasItsMaps spaces are.is → LieApart shapes (reach_of are.is) → ¬ AreMisplaced spaces contents
+never_misplaced spaces shapes stored group root pool contents same empty are mapped apart (inl none) =
+    none (read_maps_are_sets are.is.objects spaces contents.maps.items are.maps)
+never_misplaced spaces shapes stored group root pool contents same empty are mapped apart (inr it) =
+    let sets = read_maps_are_sets are.is.objects spaces contents.maps.items are.maps in
+    let cannot : CannotTakeIn it.mid (copies_of_all (meta_blocks_of are.is)) it.after =
+    subst (λ (them : List Block). CannotTakeIn it.mid (copies_of_all them) it.after) are.blocks it.cannot in
+    can_take_in spaces it.mid it.after shapes contents.maps.items (meta_blocks_of are.is) same empty sets (it.loaded sets.apart)
+    (first_apart shapes (meta_blocks_of are.is) (volume_blocks_of are.is) apart) mapped.copied.meta cannot
+
 misplaced_case : (old surveyed read new : Disks) (shapes : List VdevShape) (out : List Bool) (p : Possible) (pools : Uberblock → PlainPool) (may : ℕ → ℕ → List ℕ → Type 0)
     → LeadToWholePools old shapes out p pools → IsFree old new shapes out → Makes no_write old surveyed → Makes no_write surveyed read → Makes may read new
     → IsReadMisplaced old surveyed read new shapes out 0 → ⊥
@@ -248,11 +266,13 @@ misplaced_case old surveyed read new shapes out p pools may led free makes reads
     let later : IsHonestSince surveyed read = honest_within may old surveyed read new makes claims free.honest in
     let at = at_root old surveyed new shapes out p pools it.s led free makes honest it.is in
     let u : Uberblock = it.s.claimed in
-    let are = it.reads at.stored (pools it.s.taken) at.hold at.spells later in
-    let same = (roots_spell_one_pool at.stored u.group u.group u.root (pools it.s.taken) (pools it.s.taken) are.is at.spells).1 in
-    let cannot : CannotTakeIn it.why.store.spaces (copies_of_all (reach_of at.spells)) it.why.after =
-    subst (λ (them : List Block). CannotTakeIn it.why.store.spaces (copies_of_all them) it.why.after) (are.blocks ∙ same) it.why.cannot in
-    can_take_in it.why.store.spaces it.why.after shapes (reach_of at.spells) it.why.over.shapes_are it.why.empty at.apart cannot
+    let pool : PlainPool = pools it.s.taken in
+    let spaces : List VdevSpace = it.why.store.spaces in
+    let same : shapes_of spaces ≡ shapes = it.why.over.shapes_are in
+    let are = it.reads at.stored pool at.hold at.spells later spaces same in
+    let one = roots_spell_one_pool at.stored u.group u.group u.root pool pool at.spells are.is in
+    never_misplaced spaces shapes at.stored u.group u.root pool it.contents same it.why.empty are (one.3 spaces (at.mapped spaces same))
+    (subst (λ (them : List Block). LieApart shapes them) one.1 at.apart) it.why.misplaced
 
 claim_case : (old new : Disks) (shapes : List VdevShape) (out : List Bool) (p : Possible) (pools : Uberblock → PlainPool) (claimed : Uberblock) (refusal : Refusal)
     → LeadToWholePools old shapes out p pools → IsFree old new shapes out → (through : AreClaimedThrough out out claimed old new)

@@ -18,7 +18,7 @@ use Rattle.pool_model.specs.declared.refusal.Refusal.{Refusal as Cause}
 use Rattle.pool_model.specs.declared.refusal.Refusal.TheVariants as cause
 use Rattle.pool_open.specs.Words.{vdevs_in}
 use Rattle.pool_open.specs.declared.refusal.Refusal.{Refusal}
-use Rattle.pool_open.specs.declared.refusal.Refusal.TheVariants.{NoMemory, DiskFault, NoSpace, BadLabel, NoUberblock, BadPointer, BadDigest, TooManyMissing, PoolMismatch, BadConfig}
+use Rattle.pool_open.specs.declared.refusal.Refusal.TheVariants.{NoMemory, DiskFault, NoSpace, BadLabel, NoUberblock, BadPointer, BadDigest, TooManyMissing, PoolMismatch, BadConfig, BadMap}
 use Rattle.schedule_lines.specs.declared.command.PoolLine.{PoolLine}
 use Rattle.uberblock_ring.specs.declared.uberblock.Uberblock.{Uberblock}
 use Rattle.vdev_label.specs.Plain.{PlainVdev, config_view}
@@ -91,6 +91,7 @@ cause_of BadDigest = cause.BadDigest
 cause_of TooManyMissing = cause.BadConfig
 cause_of PoolMismatch = cause.BadConfig
 cause_of BadConfig = cause.BadConfig
+cause_of BadMap = cause.BadMap
 
 -- the pool that is asked for was refused on blank disks
 pub record IsUnmade (line : PoolLine) (why : Cause) : Type 0 where

@@ -69,6 +69,7 @@ fn cause_of(refusal: pool_open::Refusal) -> Refusal
         pool_open::Refusal::NoSpace => Refusal::NoSpace,
         pool_open::Refusal::BadPointer => Refusal::BadPointer,
         pool_open::Refusal::BadDigest => Refusal::BadDigest,
+        pool_open::Refusal::BadMap => Refusal::BadMap,
         pool_open::Refusal::BadLabel(_)
         | pool_open::Refusal::NoUberblock
         | pool_open::Refusal::TooManyMissing

@@ -1,8 +1,8 @@
 use Rattle.std.proofs.Common.{◌∙◌, ◌≡◌, ◌⊎◌, ◌-◌, ◌^◌, Bool, List, subst}
 use Rattle.block_store.specs.declared.shape.VdevShape.{VdevShape}
 use Rattle.pool_core.specs.StateOf.{state_of}
-use Rattle.pool_open.specs.Causes.{of_store}
-use Rattle.pool_open.specs.Opening.{IsBlockMisplaced}
+use Rattle.pool_open.specs.Causes.{of_root}
+use Rattle.pool_open.specs.Opening.{AreMisplacedOver}
 use Rattle.pool_open.specs.Roots.{AreReadBeside, IsReadOfRoot, IsRootNotRead}
 use Rattle.pool_open.specs.declared.refusal.Refusal.TheVariants.{NoMemory, BadPointer}
 use Rattle.pool_slots.proofs.Results.{if_err_is}
@@ -25,7 +25,7 @@ returns-in_err-read-clause-refused g c =
     let W : List VdevShape → List Bool → Type 0 = λ ss xs. IsRootNotRead surveyed ss xs 3 c.args.root (2 ^ 64 - 1) cause in
     let why = subst (λ (ss : List VdevShape). W ss it.out.items) c.deref.ensures.value
     (subst (λ (xs : List Bool). W c.deref.result.now xs) c.deref-2.ensures.value c.in_err-read.ensures.refused) in
-    if_err_is c.from_residual-in_err-read.result (of_store cause) (IsUnread c.args.disks it c.args.root) c.from_residual-in_err-read.ensures.1
+    if_err_is c.from_residual-in_err-read.result (of_root cause) (IsUnread c.args.disks it c.args.root) c.from_residual-in_err-read.ensures.1
     (unread_root c.args.disks surveyed it c.args.root cause c.survey_alone.ensures.only
     (record { u = c.in_ok-taken.taken; taken = c.in_ok-taken.ensures.taken; is = c.in_ok-taken.ensures.is }) why)
 
@@ -46,7 +46,7 @@ returns-in_err-core-clause-refused g c =
       beside = subst (λ (xs : List Bool). AreReadBeside xs surveyed read) c.deref-2.ensures.value c.in_ok-read.ensures.only;
       contents_are = subst (λ (ss : List VdevShape). R ss it.out.items) c.deref.ensures.value (subst (λ (xs : List Bool). R c.deref.result.now xs) c.deref-2.ensures.value c.in_ok-read.ensures.contents);
     } in
-    let W : List VdevShape → List Bool → Type 0 = λ ss xs. (cause ≡ NoMemory) ⊎ ((cause ≡ BadPointer) × IsBlockMisplaced read ss xs contents) in
+    let W : List VdevShape → List Bool → Type 0 = λ ss xs. (cause ≡ NoMemory) ⊎ ((cause ≡ BadPointer) × AreMisplacedOver read ss xs contents) in
     let why = subst (λ (ss : List VdevShape). W ss it.out.items) c.deref-3.ensures.value
     (subst (λ (xs : List Bool). W c.deref-3.result.now xs) c.deref-4.ensures.value c.in_err-core.ensures.refused) in
     if_err_is c.from_residual-in_err-core.result cause (IsUnread c.args.disks it c.args.root) c.from_residual-in_err-core.ensures.1

@@ -31,7 +31,7 @@ returns-in-Ok-clause-represents g c stored pool hold are spells made =
     let S : List VdevShape → List Bool → Type 0 = λ s o. Represents (state_of c.in-Ok.core) (opened_as (vdevs_in s) (is_out o) c.args.claimed.now.group pool) in
     subst (λ (s : List VdevShape). S s c.args.out.now) c.in_ok-store.ensures.shapes
     (subst (λ (o : List Bool). S (shapes_of c.in_ok-store.store.spaces) o) c.in_ok-store.ensures.out
-    (c.in-Ok.ensures.represents stored pool (hold c.in_ok-store.store over) are
+    (c.in-Ok.ensures.represents stored pool (hold c.in_ok-store.store over) (are c.in_ok-store.store.spaces c.in_ok-store.ensures.shapes)
     (spells.0, spells.1 c.in_ok-store.store.spaces c.in_ok-store.ensures.shapes) made))
 
 pub returns-in-Err-clause-refused : goal.returns-in-Err-clause-refused
@@ -44,5 +44,5 @@ returns-in-Err-clause-refused g c =
     } in
     elim c.in-Err.ensures.refused [
       | inl memory ↦ inl (c.of_core.ensures.memory memory)
-      | inr it ↦ inr (c.of_core.ensures.pointer it.0, record { store = c.in_ok-store.store; over = over; empty = c.in_ok-store.ensures.empty; after = it.1; cannot = it.2 })
+      | inr it ↦ inr (c.of_core.ensures.pointer it.0, record { store = c.in_ok-store.store; over = over; empty = c.in_ok-store.ensures.empty; misplaced = it.1 })
     ]

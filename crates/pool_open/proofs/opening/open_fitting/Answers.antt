@@ -2,8 +2,8 @@ use Rattle.std.proofs.Common.{◌≡◌, ◌⊎◌, ℕ, Bool, List, sym, subst}
 use Rattle.pool_core.specs.StateOf.{state_of}
 use Rattle.pool_slots.proofs.Results.{if_err_is}
 use Rattle.uberblock_ring.specs.declared.uberblock.Uberblock.{Uberblock}
-use Rattle.pool_open.specs.Causes.{of_store}
-use Rattle.pool_open.specs.Opening.{IsBlockMisplaced, IsNotOpenedOver, IsOpenedOver}
+use Rattle.pool_open.specs.Causes.{of_root}
+use Rattle.pool_open.specs.Opening.{AreMisplacedOver, IsNotOpenedOver, IsOpenedOver}
 use Rattle.pool_open.specs.Roots.{AreReadBeside, IsReadOfRoot, IsRootNotRead}
 use Rattle.pool_open.specs.Words.{most_blocks}
 use Rattle.pool_open.specs.declared.refusal.Refusal.TheVariants.{NoMemory, DiskFault, BadPointer}
@@ -33,7 +33,7 @@ returns-in_err-read-clause-refused g c =
     let unread = subst (λ (xs : List Bool). W xs s.claimed (most_blocks c.args.shapes.now)) c.deref.ensures.value
     (subst (λ (u : Uberblock). W c.deref.result.now u (most_blocks c.args.shapes.now)) c.claimed-taken.ensures
     (subst (λ (n : ℕ). W c.deref.result.now c.claimed-taken.result n) c.count_sectors-left.ensures c.in_err-read.ensures.refused)) in
-    if_err_is c.from_residual-in_err-read.result (of_store cause) (IsNotOpenedOver c.args.disks c.args.shapes.now c.args.out.items c.args.rewind) c.from_residual-in_err-read.ensures.1
+    if_err_is c.from_residual-in_err-read.result (of_root cause) (IsNotOpenedOver c.args.disks c.args.shapes.now c.args.out.items c.args.rewind) c.from_residual-in_err-read.ensures.1
     (refused_by_root c.args.out.items later c.args.rewind c.args.disks surveyed unread.new c.args.shapes.now s cause are unread.only unread.why)
 
 pub returns-in_err-claimed-clause-refused : goal.returns-in_err-claimed-clause-refused
@@ -88,7 +88,7 @@ returns-in_err-core-clause-refused g c =
       rewrites = c.claim.ensures.rewrites;
     } in
     let begun = subst (λ (xs : List Bool). AreBegun xs s read new) c.deref-2.ensures.value here in
-    let W : List Bool → Type 0 = λ xs. (cause ≡ NoMemory) ⊎ ((cause ≡ BadPointer) × IsBlockMisplaced new c.args.shapes.now xs contents) in
+    let W : List Bool → Type 0 = λ xs. (cause ≡ NoMemory) ⊎ ((cause ≡ BadPointer) × AreMisplacedOver new c.args.shapes.now xs contents) in
     let why = subst W c.deref-3.ensures.value c.in_err-core.ensures.refused in
     if_err_is c.from_residual-in_err-core.result cause (IsNotOpenedOver c.args.disks c.args.shapes.now c.args.out.items c.args.rewind) c.from_residual-in_err-core.ensures.1
     (refused_by_core c.args.out.items later c.args.rewind c.args.disks surveyed read new c.args.shapes.now s contents cause c.requires.rewind are blocks begun root why)

@@ -1,14 +1,15 @@
 use Rattle.std.proofs.Common.{refl}
 use Rattle.pool_slots.proofs.Results.{if_err_is}
+use Rattle.space_map_objects.specs.Refused.{of_read}
 use Rattle.pool_open.specs.Held.{IsStoreOver}
 use Rattle.pool_open.specs.Roots.{IsRootNotRead}
-use Rattle.pool_open.proofs.Reading.{read_beside, refused_at_once, refused_through, honest_between}
+use Rattle.pool_open.proofs.Reading.{contents_over, read_beside, refused_at_once, refused_through, honest_between}
 use Rattle.pool_open.proofs.roots.read_root.Goals as goal
 
 pub returns-in_err-store-clause-refused : goal.returns-in_err-store-clause-refused
 returns-in_err-store-clause-refused g c =
     let cause = c.in_err-store.field-0.0 in
-    if_err_is c.from_residual.result cause (IsRootNotRead c.args.disks c.args.shapes.now c.args.out.now c.args.group c.args.root.now c.args.left) c.from_residual.ensures.1
+    if_err_is c.from_residual.result (of_read cause) (IsRootNotRead c.args.disks c.args.shapes.now c.args.out.now c.args.group c.args.root.now c.args.left) c.from_residual.ensures.1
     (refused_at_once c.args.disks c.args.shapes.now c.args.out.now c.args.group c.args.root.now c.args.left cause c.in_err-store.ensures.refused)
 
 pub returns-in_err-contents-clause-refused : goal.returns-in_err-contents-clause-refused
@@ -40,5 +41,6 @@ returns-clause-contents g c stored pool hold spells honest =
       out_is = c.in_ok-store.ensures.out;
       since = c.in_ok-store.ensures.since;
     } in
-    c.in_ok-contents.ensures.value stored pool (hold c.in_ok-store.store over) spells
-    (honest_between c.in_ok-store.store c.contents_under.new.store c.args.disks c.into_array.result c.in_ok-store.ensures.disks c.into_array.ensures honest)
+    contents_over c.args.shapes.now c.in_ok-store.store.spaces stored c.args.group c.args.root.now pool c.in_ok-contents.contents c.in_ok-store.ensures.shapes
+    (c.in_ok-contents.ensures.value stored pool (hold c.in_ok-store.store over) spells
+    (honest_between c.in_ok-store.store c.contents_under.new.store c.args.disks c.into_array.result c.in_ok-store.ensures.disks c.into_array.ensures honest))
