@@ -9,7 +9,7 @@ use std::test::Fail;
 const PATH: &str = "tests_disks.img";
 
 /// What a round of calls on a disk gave.
-#[derive(Clone, Copy, Debug, PartialEq, Eq)]
+#[derive(Clone, Copy, PartialEq, Eq)]
 enum Outcome {
     /// The bytes that were written.
     Kept,

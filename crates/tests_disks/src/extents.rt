@@ -18,7 +18,7 @@ type Disks = DiskArray<FaultDisk<MemDisk>>;
 const SIZE: usize = 0x401000;
 
 /// What comes of a block that was written and is read.
-#[derive(Clone, Copy, Debug, PartialEq, Eq)]
+#[derive(Clone, Copy, PartialEq, Eq)]
 enum Outcome {
     Same,
     Other,

@@ -83,9 +83,7 @@ fn put_away_later(alloc: Global) -> Result<(Refusal, Option<u64>, Found), Fail> 
 /// While something is accepted and not committed the pool isn't exported, and goes on.
 #[test]
 fn what_is_accepted_is_committed_first(rt: HostRuntime) -> Result<(), Fail> {
-    let (refusal, group, found) = put_away_later(rt.alloc())?;
-    assert!(rt; refusal == Refusal::NotNow);
-    assert!(rt; group == Some(6));
-    assert!(rt; found == ((Some(6), Some((0, 0xbb))), 2));
+    let found = ((Some(6), Some((0, 0xbb))), 2);
+    assert!(rt; put_away_later(rt.alloc())? == (Refusal::NotNow, Some(6), found));
     Ok(())
 }

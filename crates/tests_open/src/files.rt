@@ -35,10 +35,10 @@ enum Given {
 use Given::{Other, Short, Shrunk, Whole, Zeros};
 
 fn remove_all<R: Files<File = File>>(files: &R) {
-    for path in PATHS {
+    for path in &PATHS {
         let _ = fs::remove_file(files, path);
     }
-    for path in OTHER_PATHS {
+    for path in &OTHER_PATHS {
         let _ = fs::remove_file(files, path);
     }
 }
@@ -59,7 +59,7 @@ fn new_files<R: Files<File = File>>(
 /// Makes a pool of this guid on these disks and fills it.
 fn fill_new(alloc: Global, disks: Vec<FileDisk>, guid: u64) -> Result<Shown, Refusal> {
     let mut core = made(alloc, disks, guid)?;
-    Ok(fill(alloc, &mut core)?)
+    fill(alloc, &mut core).map_err(Refusal::from)
 }
 
 /// Makes a pool of this guid in new files and fills it. The files are closed then.

@@ -53,13 +53,19 @@ fn outlived(alloc: Global) -> Result<(Shown, [[Shown; 2]; 2], Opening), Fail> {
     Ok((first, [second, third], opening(alloc, disks, 0)))
 }
 
+/// What is to be shown.
+const OUTLIVED: (Shown, [[Shown; 2]; 2], Opening) = (
+    (Some(5), Some((0, 0xaa))),
+    [
+        [(Some(5), Some((0, 0xaa))), (Some(6), Some((0, 0xbb)))],
+        [(Some(6), Some((0, 0xbb))), (Some(7), Some((0, 0xbb)))],
+    ],
+    Ok((7, 4)),
+);
+
 #[test]
 fn a_pool_outlives_its_program(rt: HostRuntime) -> Result<(), Fail> {
-    let (first, [second, third], last) = outlived(rt.alloc())?;
-    assert!(rt; first == (Some(5), Some((0, 0xaa))));
-    assert!(rt; second == [(Some(5), Some((0, 0xaa))), (Some(6), Some((0, 0xbb)))]);
-    assert!(rt; third == [(Some(6), Some((0, 0xbb))), (Some(7), Some((0, 0xbb)))]);
-    assert!(rt; last == Ok((7, 4)));
+    assert!(rt; outlived(rt.alloc())? == OUTLIVED);
     Ok(())
 }
 
@@ -72,10 +78,9 @@ fn gone_back(alloc: Global, rewind: u64) -> Result<[Shown; 2], Fail> {
 /// Opened one group back, so that the volume is there without what group 5 wrote; and two back, before there was a volume.
 #[test]
 fn groups_are_gone_back(rt: HostRuntime) -> Result<(), Fail> {
-    let one = gone_back(rt.alloc(), 1)?;
-    assert!(rt; one == [(Some(4), Some((0, 0))), (Some(5), Some((0, 0xbb)))]);
-    let two = gone_back(rt.alloc(), 2)?;
-    assert!(rt; two == [(Some(3), None), (Some(4), None)]);
+    let one = [(Some(4), Some((0, 0))), (Some(5), Some((0, 0xbb)))];
+    assert!(rt; gone_back(rt.alloc(), 1)? == one);
+    assert!(rt; gone_back(rt.alloc(), 2)? == [(Some(3), None), (Some(4), None)]);
     Ok(())
 }
 
@@ -117,10 +122,12 @@ fn other_openings(alloc: Global) -> Result<[Opening; 3], Fail> {
 /// Blank disks, a new pool gone back, and a disk of another pool among the disks.
 #[test]
 fn other_disks_are_refused(rt: HostRuntime) -> Result<(), Fail> {
-    let [blank, new, mixed] = other_openings(rt.alloc())?;
-    assert!(rt; blank == Err(Refusal::BadLabel(Breach::Tail)));
-    assert!(rt; new == Err(Refusal::NoUberblock));
-    assert!(rt; mixed == Err(Refusal::PoolMismatch));
+    let wanted = [
+        Err(Refusal::BadLabel(Breach::Tail)),
+        Err(Refusal::NoUberblock),
+        Err(Refusal::PoolMismatch),
+    ];
+    assert!(rt; other_openings(rt.alloc())? == wanted);
     Ok(())
 }
 

@@ -51,7 +51,7 @@ impl StepMachine for FilePool {
 
 fn disks<R: Files<File = File>>(alloc: Global, files: &R) -> Result<Vec<FileDisk>, Fail> {
     let mut disks = Vec::new(alloc);
-    for path in PATHS {
+    for path in &PATHS {
         disks.push(FileDisk::create(files, path, DISK_BYTES)?)?;
     }
     Ok(disks)
@@ -145,7 +145,7 @@ fn is_answered<R: Files<File = File>>(
 }
 
 fn remove_all<R: Files<File = File>>(files: &R) {
-    for path in PATHS {
+    for path in &PATHS {
         let _ = fs::remove_file(files, path);
     }
 }

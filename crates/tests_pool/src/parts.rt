@@ -511,16 +511,16 @@ pub(crate) const WRITING: u32 = 25;
 /// Behind these one flushes, and three write slots.
 pub(crate) const BEHIND: u32 = 4;
 
-fn replies_by(alloc: Global, machine: &mut Machine, steps: Vec<Step>) -> Result<String, Fail> {
+fn replies_by(alloc: Global, machine: &mut Machine) -> Result<String, Fail> {
+    let steps = steps(alloc, 0)?;
     let mut replies = Vec::new(alloc);
     plain_machine::run(machine, steps, &mut replies)?;
     Ok(format!(in alloc; "{replies:?}")?)
 }
 
 fn run_in_memory(alloc: Global) -> Result<String, Fail> {
-    let steps = steps(alloc, 0)?;
     let mut machine = Machine::create(alloc);
-    replies_by(alloc, &mut machine, steps)
+    replies_by(alloc, &mut machine)
 }
 
 /// A vdev of three disks with one parity.
@@ -532,18 +532,18 @@ pub(crate) fn three_disks() -> Result<VdevConfig, Fail> {
     })
 }
 
-fn replies_of(alloc: Global, core: &mut Core<MemDisk>, steps: Vec<Step>) -> Result<String, Fail> {
+fn replies_of(alloc: Global, core: &mut Core<MemDisk>) -> Result<String, Fail> {
+    let steps = steps(alloc, WRITING + BEHIND)?;
     let mut replies = Vec::new(alloc);
     pool_core::run(core, steps, &mut replies)?;
     Ok(format!(in alloc; "{replies:?}")?)
 }
 
 fn run_over_disks(alloc: Global) -> Result<String, Fail> {
-    let steps = steps(alloc, WRITING + BEHIND)?;
     let vdev = three_disks()?;
     let disks = MemDisk::several(alloc, 3, 0x800000)?;
     let mut core = Core::create(alloc, disks, &[vdev])?;
-    replies_of(alloc, &mut core, steps)
+    replies_of(alloc, &mut core)
 }
 
 fn are_replied_in_memory(alloc: Global) -> Result<bool, Fail> {
@@ -670,10 +670,10 @@ fn plan_cause(
     commit: &mut Commit<MemDisk>,
     group: u64,
 ) -> Result<(Option<pool_commit::Refusal>, bool), Fail> {
-    let items = items_of(alloc, group)?;
     if commit.is_planned() {
         return Ok((None, false));
     }
+    let items = items_of(alloc, group)?;
     let cause = commit.plan(alloc, items.open_items(), 0).err();
     Ok((cause, is_done(commit)))
 }

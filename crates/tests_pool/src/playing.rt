@@ -53,12 +53,11 @@ fn pool_in(alloc: Global, text: &str) -> Result<Line, Fail> {
 }
 
 fn made(alloc: Global, text: &str) -> Result<FaultyPool, Fail> {
-    let faults = faults_in(alloc, text)?;
-    let line = pool_in(alloc, text)?;
-    let Line::Command(Command::Pool(pool)) = line else {
+    let Line::Command(Command::Pool(pool)) = pool_in(alloc, text)? else {
         return Err(Fail::from(Refusal::BadConfig));
     };
-    Ok(FaultyPool::with_faults(alloc, &pool, faults.as_slice())?)
+    let faults = faults_in(alloc, text)?;
+    FaultyPool::with_faults(alloc, &pool, faults.as_slice()).map_err(Fail::from)
 }
 
 // A line that is for the player.

@@ -9,14 +9,19 @@ use uberblock_ring::{Uberblock, read_slots};
 /// The bytes of a disk's four labels.
 const LABELS_LEN: u64 = 1_048_576;
 
-/// The disks of a pool of three that has committed group 4, which makes a volume.
-fn committed(alloc: Global) -> Result<DiskArray<MemDisk>, Fail> {
+/// Commits group 4, which makes a volume.
+fn commit(alloc: Global, core: &mut Core<MemDisk>) -> Result<(), Fail> {
     let steps = steps(alloc, WRITING + BEHIND)?;
+    let mut replies = Vec::new(alloc);
+    pool_core::run(core, steps, &mut replies).map_err(Fail::from)
+}
+
+/// The disks of a pool of three that has committed it.
+fn committed(alloc: Global) -> Result<DiskArray<MemDisk>, Fail> {
     let vdev = three_disks()?;
     let disks = MemDisk::several(alloc, 3, 0x800000)?;
     let mut core = Core::create(alloc, disks, &[vdev])?;
-    let mut replies = Vec::new(alloc);
-    let ran = pool_core::run(&mut core, steps, &mut replies);
+    let ran = commit(alloc, &mut core);
     let disks = core.into_disks();
     ran?;
     Ok(DiskArray::new(disks))

@@ -2,7 +2,7 @@
 ghost use Rattle.std.specs.Prelude.{◌≡◌};
 ghost use Rattle.pool_model.specs.declared.refusal.Refusal.TheVariants.{BadConfig};
 
-use crate::telling::{told, told_of};
+use crate::telling::{expect_none, told_of, told_otherwise};
 use plain_machine::Machine;
 use pool_model::{Phase, Refusal, Reply, Step};
 use programs::{ExitStatus, Refusal as Cause, StepMachine, schedule, written_len};
@@ -61,10 +61,7 @@ const TOLD: [(&str, &str); 16] = [
 
 #[test]
 fn faults_of_lines_are_told(rt: HostRuntime) -> Result<(), Fail> {
-    for (input, wanted) in TOLD {
-        assert_eq!(rt; told::<Machine>(rt.alloc(), input)?.as_str(), wanted);
-    }
-    Ok(())
+    expect_none(&rt, told_otherwise::<Machine>(rt.alloc(), &TOLD))
 }
 
 /// Commits group 4 over and over, each time by these replies to Device. It can't be made over no disks.
@@ -122,10 +119,7 @@ const SCRIPTED: [(&str, &str); 3] = [
 
 #[test]
 fn commits_go_on_to_their_end(rt: HostRuntime) -> Result<(), Fail> {
-    for (input, wanted) in SCRIPTED {
-        assert_eq!(rt; told::<Scripted>(rt.alloc(), input)?.as_str(), wanted);
-    }
-    Ok(())
+    expect_none(&rt, told_otherwise::<Scripted>(rt.alloc(), &SCRIPTED))
 }
 
 /// A reader that fails.
@@ -138,15 +132,17 @@ impl Read for Broken {
     }
 }
 
+fn told_of_broken(alloc: Global) -> Result<String, Fail> {
+    let text = "pool 1 3 8388608 12 2\nhold 1\nhold 1";
+    let input = BufReader::new(alloc, text.as_bytes().chain(Broken))?;
+    told_of::<Scripted, _>(alloc, input)
+}
+
+const BROKEN: &str = "pool 3 claim 1\nrefused 4 Suspended\npoolrun: input\n2";
+
 #[test]
 fn a_reader_may_fail(rt: HostRuntime) -> Result<(), Fail> {
-    let text = "pool 1 3 8388608 12 2\nhold 1\nhold 1";
-    let input = BufReader::new(rt.alloc(), text.as_bytes().chain(Broken))?;
-    let told = told_of::<Scripted, _>(rt.alloc(), input)?;
-    assert_eq!(rt;
-        told.as_str(),
-        "pool 3 claim 1\nrefused 4 Suspended\npoolrun: input\n2"
-    );
+    assert!(rt; told_of_broken(rt.alloc())?.as_str() == BROKEN);
     Ok(())
 }
 
@@ -198,8 +194,8 @@ fn status_with(alloc: Global, (room, flushes): (usize, bool), told: usize) -> Ex
 
 #[test]
 fn writers_may_fail(rt: HostRuntime) {
-    for (output, errors, wanted) in WRITERS {
-        assert_eq!(rt; status_with(rt.alloc(), output, errors), wanted);
+    for (output, errors, wanted) in &WRITERS {
+        assert!(rt; status_with(rt.alloc(), *output, *errors) == *wanted);
     }
 }
 
@@ -214,27 +210,30 @@ fn errors_with(alloc: Global, (room, flushes): (usize, bool)) -> Result<String, 
 
 #[test]
 fn an_output_that_fails_is_told(rt: HostRuntime) -> Result<(), Fail> {
-    for (output, _, status) in WRITERS {
-        let wanted = if status == ExitStatus::Done {
+    for (output, _, status) in &WRITERS {
+        let wanted = if *status == ExitStatus::Done {
             ""
         } else {
             "poolrun: output\n"
         };
-        assert_eq!(rt; errors_with(rt.alloc(), output)?.as_str(), wanted);
+        assert!(rt; errors_with(rt.alloc(), *output)?.as_str() == wanted);
     }
     Ok(())
 }
 
+/// Lengths of writes, and which stands for each.
+const LENGTHS: [(u64, usize); 6] = [
+    (0, 0),
+    (512, 512),
+    (1_048_576, 1_048_576),
+    (1_048_577, 1_049_089),
+    (1_049_088, 1_049_088),
+    (18_446_744_073_709_551_615, 1_049_599),
+];
+
 #[test]
 fn lengths_stand_for_lengths(rt: HostRuntime) {
-    for (len, wanted) in [
-        (0, 0),
-        (512, 512),
-        (1_048_576, 1_048_576),
-        (1_048_577, 1_049_089),
-        (1_049_088, 1_049_088),
-        (18_446_744_073_709_551_615, 1_049_599),
-    ] {
-        assert_eq!(rt; written_len(len), wanted, "at {len}");
+    for (len, wanted) in &LENGTHS {
+        assert!(rt; written_len(*len) == *wanted, "at {len}");
     }
 }

@@ -1,7 +1,7 @@
 //! Random schedules of several writers: a pool over disks replies as the machine in memory does.
 ghost use Rattle.std.specs.Prelude.{◌<◌};
 
-use crate::telling::{ran, reply_to};
+use crate::telling::{expect_none, ran_otherwise, reply_to};
 use model_disk::MemDisk;
 use plain_machine::Machine;
 use pool_core::Core;
@@ -160,7 +160,7 @@ fn row(
 // The lines that make the volumes, and those that are chosen, with what the machine in memory replies.
 fn rows_of(alloc: Global, machine: &mut Machine, writers: &mut Writers) -> Result<String, Fail> {
     let mut rows = String::new(alloc);
-    for line in FIRST_LINES {
+    for line in &FIRST_LINES {
         rows.push_str(row(alloc, machine, writers, line)?.as_str())?;
     }
     for _ in 0..LINES {
@@ -170,53 +170,37 @@ fn rows_of(alloc: Global, machine: &mut Machine, writers: &mut Writers) -> Resul
     Ok(rows)
 }
 
-// The rows of a seed, and whether enough of them went well.
-fn chosen(alloc: Global, seed: u64) -> Result<(String, bool), Fail> {
-    let mut writers = Writers::new(seed);
+// These rows of writers, over a machine of their own.
+fn rows_in_memory(alloc: Global, writers: &mut Writers) -> Result<String, Fail> {
     let mut machine = Machine::create(alloc);
-    let rows = rows_of(alloc, &mut machine, &mut writers)?;
-    Ok((rows, writers.is_lucky()))
+    rows_of(alloc, &mut machine, writers)
 }
 
-// Whether enough rows of a seed went well in memory, and the core over disks replies the same.
-fn agrees(alloc: Global, seed: u64) -> Result<bool, Fail> {
-    let (rows, is_lucky) = chosen(alloc, seed)?;
-    let (told, wanted) = ran::<Core<MemDisk>>(alloc, &[POOL, rows.as_str()])?;
-    Ok(is_lucky && told.as_str() == wanted.as_str())
+// What the core over disks tells of the rows of a seed, where it replies otherwise than the machine in memory, or too few of them
+// went well.
+fn other_replies(alloc: Global, seed: u64) -> Result<String, Fail> {
+    let mut writers = Writers::new(seed);
+    let rows = rows_in_memory(alloc, &mut writers)?;
+    if !writers.is_lucky() {
+        return Ok(rows);
+    }
+    ran_otherwise::<Core<MemDisk>>(alloc, &[POOL, rows.as_str()])
 }
 
-#[test]
-fn disks_reply_as_memory_does_from_1(rt: HostRuntime) -> Result<(), Fail> {
-    assert!(rt; agrees(rt.alloc(), 1)?);
-    Ok(())
-}
-
-#[test]
-fn disks_reply_as_memory_does_from_2(rt: HostRuntime) -> Result<(), Fail> {
-    assert!(rt; agrees(rt.alloc(), 2)?);
-    Ok(())
-}
-
-#[test]
-fn disks_reply_as_memory_does_from_3(rt: HostRuntime) -> Result<(), Fail> {
-    assert!(rt; agrees(rt.alloc(), 3)?);
-    Ok(())
+fn all_other_replies(alloc: Global, seeds: &[u64]) -> Result<String, Fail> {
+    let mut others = String::new(alloc);
+    for seed in seeds {
+        others.push_str(other_replies(alloc, *seed)?.as_str())?;
+    }
+    Ok(others)
 }
 
 #[test]
-fn disks_reply_as_memory_does_from_20(rt: HostRuntime) -> Result<(), Fail> {
-    assert!(rt; agrees(rt.alloc(), 20)?);
-    Ok(())
+fn disks_reply_as_memory_does(rt: HostRuntime) -> Result<(), Fail> {
+    expect_none(&rt, all_other_replies(rt.alloc(), &[1, 2, 3]))
 }
 
 #[test]
-fn disks_reply_as_memory_does_from_77(rt: HostRuntime) -> Result<(), Fail> {
-    assert!(rt; agrees(rt.alloc(), 77)?);
-    Ok(())
-}
-
-#[test]
-fn disks_reply_as_memory_does_from_4096(rt: HostRuntime) -> Result<(), Fail> {
-    assert!(rt; agrees(rt.alloc(), 4096)?);
-    Ok(())
+fn disks_reply_as_memory_does_again(rt: HostRuntime) -> Result<(), Fail> {
+    expect_none(&rt, all_other_replies(rt.alloc(), &[20, 77, 4096]))
 }

@@ -1,5 +1,5 @@
 //! Schedules with their whole output, against the machine in memory and the core over disks.
-use crate::telling::ran;
+use crate::telling::{all_ran_otherwise, expect_none};
 use model_disk::MemDisk;
 use plain_machine::Machine;
 use pool_core::Core;
@@ -165,12 +165,12 @@ device -> refused 13 NotNow
 ";
 
 /// What the machine in memory replies.
-const IN_MEMORY: [[&str; 4]; 5] = [
-    [FIRST, "", "", ""],
-    [FIRST, TWO_GROUPS, "", ""],
-    [FIRST, REFUSALS, PLANNED, COMMITTED],
-    [FIRST, KEPT, "", ""],
-    [CAUSES, NO_CAUSES, "", ""],
+const IN_MEMORY: [&[&str]; 5] = [
+    &[FIRST],
+    &[FIRST, TWO_GROUPS],
+    &[FIRST, REFUSALS, PLANNED, COMMITTED],
+    &[FIRST, KEPT],
+    &[CAUSES, NO_CAUSES],
 ];
 
 /// What the core replies. The block that is written in group 5 has two columns; the indirect
@@ -178,57 +178,44 @@ const IN_MEMORY: [[&str; 4]; 5] = [
 /// three copies of two; the dnodes of the meta object set and that set three of three, which are
 /// 18, and two space maps too, which are 18 more: 62 columns. Group 4 makes a volume and the first root,
 /// with its maps: 99 columns.
-const OVER_DISKS: [[&str; 7]; 5] = [
-    [FIRST, "", "", "", "", "", ""],
-    [FIRST, TWO_GROUPS, "", "", "", "", ""],
-    [
+const OVER_DISKS: [&[&str]; 5] = [
+    &[FIRST],
+    &[FIRST, TWO_GROUPS],
+    &[
         FIRST, REFUSALS, PLANNED, TEN_WRITES, SIX_WRITES, SLOTS, COMMITTED,
     ],
-    [FIRST, KEPT, "", "", "", "", ""],
-    [
+    &[FIRST, KEPT],
+    &[
         CAUSES,
         TEN_WRITES,
         TEN_WRITES,
         FIVE_WRITES,
         SLOTS,
         NO_CAUSES,
-        "",
     ],
 ];
 
 /// Pools that are made over disks, and those that are not.
-const POOLS: [&str; 6] = [
-    "pool 1 2 8388608 12 2 -> pool 3 claim 1\n",
-    "pool 1 1 8388608 12 2 -> refused 24 BadConfig\n",
-    "pool 3 5 8388608 12 2 -> refused 24 BadConfig\n",
-    "pool 1 3 8388607 12 2 -> refused 24 BadConfig\n",
-    "pool 1 3 8388608 12 0 -> refused 24 BadConfig\n",
-    "pool 1 3 8388608 12 5 -> refused 24 BadConfig\n",
+const POOLS: [&[&str]; 6] = [
+    &["pool 1 2 8388608 12 2 -> pool 3 claim 1\n"],
+    &["pool 1 1 8388608 12 2 -> refused 24 BadConfig\n"],
+    &["pool 3 5 8388608 12 2 -> refused 24 BadConfig\n"],
+    &["pool 1 3 8388607 12 2 -> refused 24 BadConfig\n"],
+    &["pool 1 3 8388608 12 0 -> refused 24 BadConfig\n"],
+    &["pool 1 3 8388608 12 5 -> refused 24 BadConfig\n"],
 ];
 
 #[test]
 fn the_machine_in_memory_replies(rt: HostRuntime) -> Result<(), Fail> {
-    for rows in IN_MEMORY {
-        let (told, wanted) = ran::<Machine>(rt.alloc(), &rows)?;
-        assert_eq!(rt; told.as_str(), wanted.as_str());
-    }
-    Ok(())
+    expect_none(&rt, all_ran_otherwise::<Machine>(rt.alloc(), &IN_MEMORY))
 }
 
 #[test]
 fn the_core_over_disks_replies(rt: HostRuntime) -> Result<(), Fail> {
-    for rows in OVER_DISKS {
-        let (told, wanted) = ran::<OverDisks>(rt.alloc(), &rows)?;
-        assert_eq!(rt; told.as_str(), wanted.as_str());
-    }
-    Ok(())
+    expect_none(&rt, all_ran_otherwise::<OverDisks>(rt.alloc(), &OVER_DISKS))
 }
 
 #[test]
 fn pools_are_made_or_refused(rt: HostRuntime) -> Result<(), Fail> {
-    for pool in POOLS {
-        let (told, wanted) = ran::<OverDisks>(rt.alloc(), &[pool])?;
-        assert_eq!(rt; told.as_str(), wanted.as_str());
-    }
-    Ok(())
+    expect_none(&rt, all_ran_otherwise::<OverDisks>(rt.alloc(), &POOLS))
 }

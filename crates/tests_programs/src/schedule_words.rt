@@ -1,4 +1,5 @@
 //! Lines with what they say, faults, and texts.
+use crate::telling::expect_none;
 use pool_model::{Bytes, Phase, Refusal as Cause, Reply};
 use schedule_lines::{
     Command, DiskNumbers, Line, Refusal, Run, made_text, opened_text, parse, reply_text, runs,
@@ -104,23 +105,41 @@ fn said(alloc: Global, line: &str) -> Result<String, Fail> {
     Ok(format!(in alloc; "{found:?}")?)
 }
 
+/// What the lines among these say that say something else than stands beside them.
+fn said_otherwise(alloc: Global, lines: &[(&str, &str)]) -> Result<String, Fail> {
+    let mut others = String::new(alloc);
+    for (line, wanted) in lines {
+        let said = said(alloc, line)?;
+        if said.as_str() != *wanted {
+            others.push_str(said.as_str())?;
+        }
+    }
+    Ok(others)
+}
+
 #[test]
 fn lines_are_read(rt: HostRuntime) -> Result<(), Fail> {
-    for (line, wanted) in LINES {
-        assert_eq!(rt; said(rt.alloc(), line)?.as_str(), wanted);
-    }
-    Ok(())
+    expect_none(&rt, said_otherwise(rt.alloc(), &LINES))
 }
 
 fn fault(alloc: Global, line: &str) -> Option<Refusal> {
     parse(alloc, line.as_bytes()).err()
 }
 
-#[test]
-fn faults_are_refused(rt: HostRuntime) {
-    for (line, why) in FAULTS {
-        assert_eq!(rt; fault(rt.alloc(), line), Some(Refusal::Fault), "{why}");
+/// Why the lines among these say nothing that are not refused.
+fn not_refused(alloc: Global, lines: &[(&str, &str)]) -> Result<String, Fail> {
+    let mut others = String::new(alloc);
+    for (line, why) in lines {
+        if fault(alloc, line) != Some(Refusal::Fault) {
+            others.push_str(why)?;
+        }
     }
+    Ok(others)
+}
+
+#[test]
+fn faults_are_refused(rt: HostRuntime) -> Result<(), Fail> {
+    expect_none(&rt, not_refused(rt.alloc(), &FAULTS))
 }
 
 /// Replies, and how each is written.
@@ -159,14 +178,14 @@ fn reply_texts(alloc: Global) -> Result<String, Fail> {
 
 #[test]
 fn replies_have_texts(rt: HostRuntime) -> Result<(), Fail> {
-    assert_eq!(rt; reply_texts(rt.alloc())?.as_str(), TEXTS);
+    assert!(rt; reply_texts(rt.alloc())?.as_str() == TEXTS);
     Ok(())
 }
 
 #[test]
 fn pools_have_texts(rt: HostRuntime) -> Result<(), Fail> {
-    assert_eq!(rt; opened_text(rt.alloc(), 7, 2)?.as_str(), "opened 7 claim 2");
-    assert_eq!(rt; made_text(rt.alloc(), 3, 1)?.as_str(), "pool 3 claim 1");
+    assert!(rt; opened_text(rt.alloc(), 7, 2)?.as_str() == "opened 7 claim 2");
+    assert!(rt; made_text(rt.alloc(), 3, 1)?.as_str() == "pool 3 claim 1");
     Ok(())
 }
 
@@ -180,7 +199,7 @@ fn absent(alloc: Global, line: &str) -> Result<Vec<u32>, Fail> {
 #[test]
 fn absent_disks_are_listed(rt: HostRuntime) -> Result<(), Fail> {
     let numbers = absent(rt.alloc(), "reopen 1 3 0 3")?;
-    assert_eq!(rt; DiskNumbers::new(numbers).as_slice(), [3, 0, 3].as_slice());
+    assert!(rt; DiskNumbers::new(numbers).as_slice() == [3, 0, 3].as_slice());
     Ok(())
 }
 
@@ -197,15 +216,18 @@ fn is_one_run(alloc: Global) -> Result<bool, Fail> {
     Ok(found.as_slice() == [Run { byte: 9, count: 2 }].as_slice())
 }
 
+/// Bytes, each so often, and their text.
+const PRINTED: [([(u8, usize); 3], &str); 4] = [
+    ([(0, 0), (0, 0), (0, 0)], "empty"),
+    ([(0, 1024), (0, 0), (0, 0)], "00x1024"),
+    ([(1, 512), (0, 512), (0, 0)], "01x512 00x512"),
+    ([(1, 1), (2, 2), (1, 1)], "01x1 02x2 01x1"),
+];
+
 #[test]
 fn runs_are_found_and_printed(rt: HostRuntime) -> Result<(), Fail> {
-    for (parts, wanted) in [
-        ([(0, 0), (0, 0), (0, 0)], "empty"),
-        ([(0, 1024), (0, 0), (0, 0)], "00x1024"),
-        ([(1, 512), (0, 512), (0, 0)], "01x512 00x512"),
-        ([(1, 1), (2, 2), (1, 1)], "01x1 02x2 01x1"),
-    ] {
-        assert_eq!(rt; text_of(rt.alloc(), &parts)?.as_str(), wanted);
+    for (parts, wanted) in &PRINTED {
+        assert!(rt; text_of(rt.alloc(), parts)?.as_str() == *wanted);
     }
     assert!(rt; is_one_run(rt.alloc())?);
     Ok(())

@@ -1,7 +1,6 @@
 //! Pools on disks that are stopped and opened again.
-use crate::telling::{ran, told};
+use crate::telling::{all_ran_otherwise, expect_none, told_otherwise};
 use programs::PoolOnDisks;
-use std::alloc::Global;
 use std::test::*;
 
 /// A pool at group 8.
@@ -91,71 +90,38 @@ reopen 0 1 -> stopped
 reopen 0 0 -> opened 8 claim 3
 sync -> committed 9";
 
-/// Whether a pool at group 8 gives these rows.
-fn at_eight(alloc: Global, rows: &str) -> Result<bool, Fail> {
-    let (told, wanted) = ran::<PoolOnDisks>(alloc, &[EIGHT, rows])?;
-    Ok(told == wanted)
+/// Behind a pool at group 8, rows that stop commits.
+const STOPPED_COMMITS: [&[&str]; 6] = [
+    &[EIGHT, STOPPED_TWICE],
+    &[EIGHT, SLOTS_OF_ONE],
+    &[EIGHT, SLOTS_OF_TWO],
+    &[EIGHT, SLOTS_OF_NONE],
+    &[EIGHT, SLOTS_OF_ALL],
+    &[EIGHT, REFUSED],
+];
+
+/// Rows that stop claims, and some that go back.
+const STOPPED_CLAIMS: [&[&str]; 4] = [
+    &[EIGHT, CLAIM_OF_ONE],
+    &[EIGHT, CLAIM_OF_NONE],
+    &[EIGHT, CLAIM_OF_ALL],
+    &[GONE_BACK],
+];
+
+#[test]
+fn commits_are_stopped(rt: HostRuntime) -> Result<(), Fail> {
+    expect_none(
+        &rt,
+        all_ran_otherwise::<PoolOnDisks>(rt.alloc(), &STOPPED_COMMITS),
+    )
 }
 
 #[test]
-fn slots_and_blocks_are_stopped_at(rt: HostRuntime) -> Result<(), Fail> {
-    assert!(rt; at_eight(rt.alloc(), STOPPED_TWICE)?);
-    Ok(())
-}
-
-#[test]
-fn one_disk_has_the_slot(rt: HostRuntime) -> Result<(), Fail> {
-    assert!(rt; at_eight(rt.alloc(), SLOTS_OF_ONE)?);
-    Ok(())
-}
-
-#[test]
-fn two_disks_have_the_slot(rt: HostRuntime) -> Result<(), Fail> {
-    assert!(rt; at_eight(rt.alloc(), SLOTS_OF_TWO)?);
-    Ok(())
-}
-
-#[test]
-fn no_disk_has_the_slot(rt: HostRuntime) -> Result<(), Fail> {
-    assert!(rt; at_eight(rt.alloc(), SLOTS_OF_NONE)?);
-    Ok(())
-}
-
-#[test]
-fn all_disks_have_the_slot(rt: HostRuntime) -> Result<(), Fail> {
-    assert!(rt; at_eight(rt.alloc(), SLOTS_OF_ALL)?);
-    Ok(())
-}
-
-#[test]
-fn one_disk_has_the_claim(rt: HostRuntime) -> Result<(), Fail> {
-    assert!(rt; at_eight(rt.alloc(), CLAIM_OF_ONE)?);
-    Ok(())
-}
-
-#[test]
-fn no_disk_has_the_claim(rt: HostRuntime) -> Result<(), Fail> {
-    assert!(rt; at_eight(rt.alloc(), CLAIM_OF_NONE)?);
-    Ok(())
-}
-
-#[test]
-fn all_disks_have_the_claim(rt: HostRuntime) -> Result<(), Fail> {
-    assert!(rt; at_eight(rt.alloc(), CLAIM_OF_ALL)?);
-    Ok(())
-}
-
-#[test]
-fn a_refused_commit_does_not_stop(rt: HostRuntime) -> Result<(), Fail> {
-    assert!(rt; at_eight(rt.alloc(), REFUSED)?);
-    Ok(())
-}
-
-#[test]
-fn a_group_is_gone_back(rt: HostRuntime) -> Result<(), Fail> {
-    let (told, wanted) = ran::<PoolOnDisks>(rt.alloc(), &[GONE_BACK])?;
-    assert_eq!(rt; told, wanted);
-    Ok(())
+fn claims_are_stopped_and_groups_gone_back(rt: HostRuntime) -> Result<(), Fail> {
+    expect_none(
+        &rt,
+        all_ran_otherwise::<PoolOnDisks>(rt.alloc(), &STOPPED_CLAIMS),
+    )
 }
 
 /// What can't stand behind a stop, or at all.
@@ -178,24 +144,7 @@ const MISPLACED: [(&str, &str); 4] = [
     ),
 ];
 
-/// Whether each of them is told so.
-fn are_faults(alloc: Global, rows: &[(&str, &str)]) -> Result<bool, Fail> {
-    for (input, wanted) in rows {
-        if told::<PoolOnDisks>(alloc, input)?.as_str() != *wanted {
-            return Ok(false);
-        }
-    }
-    Ok(true)
-}
-
 #[test]
 fn misplaced_lines_are_faults(rt: HostRuntime) -> Result<(), Fail> {
-    assert!(rt; are_faults(rt.alloc(), &MISPLACED[..2])?);
-    Ok(())
-}
-
-#[test]
-fn misplaced_steps_are_faults(rt: HostRuntime) -> Result<(), Fail> {
-    assert!(rt; are_faults(rt.alloc(), &MISPLACED[2..])?);
-    Ok(())
+    expect_none(&rt, told_otherwise::<PoolOnDisks>(rt.alloc(), &MISPLACED))
 }

@@ -4,6 +4,7 @@ use programs::{SchedulePool, StepMachine, answer, schedule};
 use schedule_lines::{Line, parse};
 use std::alloc::Global;
 use std::io::BufRead;
+use std::process::Abort;
 use std::test::Fail;
 
 /// The lines of rows `LINE -> REPLY`.
@@ -56,6 +57,50 @@ pub fn ran<P: SchedulePool>(alloc: Global, parts: &[&str]) -> Result<(String, St
     let input = fronts(alloc, parts)?;
     let told = told::<P>(alloc, input.as_str())?;
     Ok((told, backs(alloc, parts)?))
+}
+
+/// What is told of the schedules among these that something else is told of than stands beside them, one behind another.
+pub fn told_otherwise<P: SchedulePool>(
+    alloc: Global,
+    schedules: &[(&str, &str)],
+) -> Result<String, Fail> {
+    let mut others = String::new(alloc);
+    for (input, wanted) in schedules {
+        let told = told::<P>(alloc, input)?;
+        if told.as_str() != *wanted {
+            others.push_str(told.as_str())?;
+        }
+    }
+    Ok(others)
+}
+
+/// What running rows tells, where they don't say that.
+pub fn ran_otherwise<P: SchedulePool>(alloc: Global, parts: &[&str]) -> Result<String, Fail> {
+    let (told, wanted) = ran::<P>(alloc, parts)?;
+    Ok(if told == wanted {
+        String::new(alloc)
+    } else {
+        told
+    })
+}
+
+/// The same of several schedules, one behind another.
+pub fn all_ran_otherwise<P: SchedulePool>(
+    alloc: Global,
+    schedules: &[&[&str]],
+) -> Result<String, Fail> {
+    let mut others = String::new(alloc);
+    for parts in schedules {
+        others.push_str(ran_otherwise::<P>(alloc, parts)?.as_str())?;
+    }
+    Ok(others)
+}
+
+/// No text is left of what is told otherwise.
+pub fn expect_none<R: Abort>(rt: &R, others: Result<String, Fail>) -> Result<(), Fail> {
+    let others = others?;
+    assert!(rt; others.as_str() == "", "{others}");
+    Ok(())
 }
 
 /// What a pool replies to a line.

@@ -1,4 +1,4 @@
-//! Tests of free space and of what is to be freed: nothing but tests.
+//! Tests of free space, of what is to be freed, and of the space maps that groups write: nothing but tests.
 #![tactic(auto)]
 
 #[cfg(test)]
@@ -12,4 +12,10 @@ mod metaslab_groups;
 #[cfg(test)]
 mod metaslabs;
 #[cfg(test)]
+mod random_groups;
+#[cfg(test)]
 mod space_maps;
+#[cfg(test)]
+mod stores;
+#[cfg(test)]
+mod walked;

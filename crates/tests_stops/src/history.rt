@@ -4,7 +4,7 @@ use std::alloc::{AllocError, Global};
 
 /// What a pool may show that is opened after a stop, from one moment on until another: a stop at a moment comes before the call with
 /// that number.
-#[derive(Clone, Copy, Debug)]
+#[derive(Clone, Copy)]
 pub(crate) struct Possible {
     pub(crate) shown: Shown,
     pub(crate) from: u64,

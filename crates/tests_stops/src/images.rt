@@ -3,7 +3,7 @@ use crate::recording::{Asked, TimedCall};
 use std::alloc::{AllocError, Global};
 
 /// What is left of a range that was written since its disk's last flush.
-#[derive(Clone, Copy, Debug, PartialEq, Eq)]
+#[derive(Clone, Copy)]
 pub(crate) enum Left {
     Old,
     New,
@@ -14,7 +14,7 @@ pub(crate) enum Left {
 }
 
 /// What is left of each such range, by the moment of its write.
-#[derive(Clone, Copy, Debug, PartialEq, Eq)]
+#[derive(Clone, Copy)]
 pub(crate) enum Pattern {
     Every(Left),
     /// One after another old, new, filled and torn, from one of these on.

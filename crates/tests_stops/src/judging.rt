@@ -5,24 +5,14 @@ use crate::runs::Run;
 use crate::stopping::{Away, Stop, stop_at};
 use pool_open::Refusal;
 use std::alloc::{AllocError, Global};
+use std::process::Abort;
+use std::test::*;
 
-/// A pool that isn't as it is to be after these stops.
-#[derive(Clone, Copy, Debug, PartialEq, Eq)]
-pub(crate) struct Failure {
-    pub(crate) stops: [Option<Stop>; 3],
-    pub(crate) seen: Result<Seen, Refusal>,
-}
+/// The stops after which a pool isn't as it is to be: of each, how many calls were made.
+pub(crate) type Stops = [Option<u64>; 3];
 
-impl Failure {
-    /// The same with one more stop before the others.
-    pub(crate) fn after(self, stop: Stop) -> Failure {
-        let [first, second, _] = self.stops;
-        Failure {
-            stops: [Some(stop), first, second],
-            seen: self.seen,
-        }
-    }
-}
+/// The first of them, or why none was found.
+pub(crate) type Outcome = Result<Option<Stops>, Refusal>;
 
 fn is_right(run: &Run, cut: u64, seen: Result<Seen, Refusal>) -> bool {
     match seen {
@@ -31,19 +21,16 @@ fn is_right(run: &Run, cut: u64, seen: Result<Seen, Refusal>) -> bool {
     }
 }
 
-/// What is wrong with what was seen after a stop of a run.
-pub(crate) fn failure_of(run: &Run, stop: Stop, seen: Result<Seen, Refusal>) -> Option<Failure> {
+/// The stop, where what was seen after it is wrong.
+pub(crate) fn failure_of(run: &Run, stop: Stop, seen: Result<Seen, Refusal>) -> Option<Stops> {
     if is_right(run, stop.cut, seen) {
         return None;
     }
-    Some(Failure {
-        stops: [Some(stop), None, None],
-        seen,
-    })
+    Some([Some(stop.cut), None, None])
 }
 
 /// Opens the pool after a stop of a run.
-fn tried(alloc: Global, run: &Run, stop: Stop) -> Result<Option<Failure>, AllocError> {
+fn tried(alloc: Global, run: &Run, stop: Stop) -> Result<Option<Stops>, AllocError> {
     let images = run.images(alloc, stop.cut, stop.pattern)?;
     let seen = reopened(alloc, images, stop.absent, stop.goes_on);
     Ok(failure_of(run, stop, seen))
@@ -62,7 +49,7 @@ pub(crate) fn first_failure(
     run: &Run,
     part: Part,
     away: Away,
-) -> Result<Option<Failure>, AllocError> {
+) -> Result<Option<Stops>, AllocError> {
     for cut in 0..run.end.saturating_add(1) {
         if cut.checked_rem(part.of) == Some(part.first) {
             let failure = tried(alloc, run, stop_at(cut, cut, away))?;
@@ -72,4 +59,30 @@ pub(crate) fn first_failure(
         }
     }
     Ok(None)
+}
+
+/// These stops behind another one.
+pub(crate) fn behind(stop: Stop, stops: Stops) -> Stops {
+    let [first, second, _] = stops;
+    [Some(stop.cut), first, second]
+}
+
+/// The first failure among the stops of a run that came after a stop of another one, or what that stop left wrong.
+pub(crate) fn failure_after(
+    alloc: Global,
+    before: &Run,
+    stop: Stop,
+    run: &Run,
+    part: Part,
+    away: Away,
+) -> Outcome {
+    Ok(match first_failure(alloc, run, part, away)? {
+        Some(stops) => Some(behind(stop, stops)),
+        None => failure_of(before, stop, Ok(run.seen())),
+    })
+}
+
+/// There is to be no failure.
+pub(crate) fn judge<R: Abort>(rt: &R, outcome: Outcome) {
+    assert!(rt; outcome == Ok(None), "{outcome:?}");
 }

@@ -1,14 +1,11 @@
 //! Stops of opens that come after a stop, and of the opens after these.
 use crate::images::{Left, Pattern};
-use crate::judging::{Failure, Part, failure_of, first_failure};
+use crate::judging::{Outcome, Part, behind, failure_after, failure_of, judge};
 use crate::runs::Run;
 use crate::stages::{first_run, next_run};
 use crate::stopping::{Away, Stop, stop_at};
-use pool_open::Refusal;
 use std::alloc::Global;
 use std::test::*;
-
-type Outcome = Result<Option<Failure>, Refusal>;
 
 /// Stops of group 8 by what was made of its slots: disk 0 has all four of its own, or disk 1 two more.
 const IN_SLOTS: [Stop; 3] = [
@@ -35,33 +32,32 @@ const IN_SLOTS: [Stop; 3] = [
 
 /// The first failure of an open after a stop, and among stops of its own.
 fn stopped(alloc: Global, run: &Run, stop: Stop, part: Part) -> Outcome {
-    let opening = match next_run(alloc, run, stop, &[]) {
-        Ok(opening) => opening,
-        Err(refusal) => return Ok(failure_of(run, stop, Err(refusal))),
-    };
-    let failure = first_failure(alloc, &opening, part, Away::Any)?;
-    Ok(match failure {
-        Some(failure) => Some(failure.after(stop)),
-        None => failure_of(run, stop, Ok(opening.seen())),
-    })
+    match next_run(alloc, run, stop, &[]) {
+        Ok(opening) => failure_after(alloc, run, stop, &opening, part, Away::Any),
+        Err(refusal) => Ok(failure_of(run, stop, Err(refusal))),
+    }
 }
 
-/// The first failure among the opens after an open that comes after a stop and is stopped itself.
-fn stopped_twice(alloc: Global, run: &Run, stop: Stop, part: Part) -> Outcome {
-    let opening = next_run(alloc, run, stop, &[])?;
+/// The first failure among the opens after an open that came after a stop, and is stopped itself.
+fn stopped_again(alloc: Global, opening: &Run, stop: Stop, part: Part) -> Outcome {
     for cut in 0..opening.end.saturating_add(1) {
         if cut.checked_rem(part.of) == Some(part.first) {
             let again = Part {
                 first: cut % 5,
                 of: 5,
             };
-            let failure = stopped(alloc, &opening, stop_at(cut, cut, Away::Any), again)?;
-            if let Some(failure) = failure {
-                return Ok(Some(failure.after(stop)));
+            let failure = stopped(alloc, opening, stop_at(cut, cut, Away::Any), again)?;
+            if let Some(stops) = failure {
+                return Ok(Some(behind(stop, stops)));
             }
         }
     }
     Ok(None)
+}
+
+fn stopped_twice(alloc: Global, run: &Run, stop: Stop, part: Part) -> Outcome {
+    let opening = next_run(alloc, run, stop, &[])?;
+    stopped_again(alloc, &opening, stop, part)
 }
 
 /// The stop of the run that one of its group's slots is told by.
@@ -72,10 +68,15 @@ fn told(run: &Run, stop: Stop) -> Stop {
     }
 }
 
-fn all_stopped(alloc: Global, part: Part) -> Outcome {
-    let run = first_run(alloc)?;
-    for stop in IN_SLOTS {
-        let failure = stopped(alloc, &run, told(&run, stop), part)?;
+/// The first failure of an open after one of the stops: the open is stopped too, or it and the one after it.
+fn first_stopped(alloc: Global, run: &Run, part: Part, is_twice: bool) -> Outcome {
+    for stop in &IN_SLOTS {
+        let stop = told(run, *stop);
+        let failure = if is_twice {
+            stopped_twice(alloc, run, stop, part)?
+        } else {
+            stopped(alloc, run, stop, part)?
+        };
         if failure.is_some() {
             return Ok(failure);
         }
@@ -83,25 +84,20 @@ fn all_stopped(alloc: Global, part: Part) -> Outcome {
     Ok(None)
 }
 
-fn all_stopped_twice(alloc: Global, part: Part) -> Outcome {
+fn all_stopped(alloc: Global, part: Part, is_twice: bool) -> Outcome {
     let run = first_run(alloc)?;
-    for stop in IN_SLOTS {
-        let failure = stopped_twice(alloc, &run, told(&run, stop), part)?;
-        if failure.is_some() {
-            return Ok(failure);
-        }
-    }
-    Ok(None)
+    first_stopped(alloc, &run, part, is_twice)
 }
 
 #[test]
 fn opens_are_stopped(rt: HostRuntime) {
-    let part = Part { first: 0, of: 1 };
-    assert_eq!(rt; all_stopped(rt.alloc(), part), Ok(None));
+    judge(
+        &rt,
+        all_stopped(rt.alloc(), Part { first: 0, of: 1 }, false),
+    );
 }
 
 #[test]
 fn opens_are_stopped_twice(rt: HostRuntime) {
-    let part = Part { first: 2, of: 7 };
-    assert_eq!(rt; all_stopped_twice(rt.alloc(), part), Ok(None));
+    judge(&rt, all_stopped(rt.alloc(), Part { first: 2, of: 7 }, true));
 }

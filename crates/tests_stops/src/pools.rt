@@ -16,14 +16,14 @@ const BLOCKS: usize = 4;
 
 const BLOCK_BYTES: usize = 512;
 
-#[derive(Clone, Copy, Debug)]
+#[derive(Clone, Copy)]
 pub(crate) enum Which {
     V,
     W,
 }
 
 /// What a group does.
-#[derive(Clone, Copy, Debug)]
+#[derive(Clone, Copy)]
 pub(crate) enum Doing {
     /// Makes the volume, whose blocks are zeros.
     Makes(Which),
@@ -32,7 +32,7 @@ pub(crate) enum Doing {
 }
 
 /// A volume as it is read.
-#[derive(Clone, Copy, Debug, PartialEq, Eq)]
+#[derive(Clone, Copy, PartialEq, Eq)]
 pub(crate) enum Volume {
     /// There is none of this name.
     Absent,
@@ -43,7 +43,7 @@ pub(crate) enum Volume {
 }
 
 /// What a pool shows: its group and its volumes.
-#[derive(Clone, Copy, Debug, PartialEq, Eq)]
+#[derive(Clone, Copy, PartialEq, Eq)]
 pub(crate) struct Shown {
     pub(crate) group: u64,
     pub(crate) v: Volume,
@@ -129,9 +129,9 @@ pub(crate) fn bytes_of(
 
 /// The disks of a new pool.
 pub(crate) fn made(alloc: Global) -> Result<Vec<Vec<u8>>, Refusal> {
-    let disks = MemDisk::several(alloc, 3, DISK_BYTES)?;
     let name = String::from_str(alloc, "pool")?;
     let config = config(alloc)?;
+    let disks = MemDisk::several(alloc, 3, DISK_BYTES)?;
     let OpenedPool { core, .. } = create(alloc, disks, PoolIdentity { name, guid: 1 }, config)?;
     Ok(bytes_of(alloc, core.into_disks())?)
 }

@@ -7,7 +7,7 @@ use pool_open::{OpenedPool, Refusal};
 use std::alloc::{AllocError, Global};
 
 /// What is shown when a pool is opened, and what by its last opening.
-#[derive(Clone, Copy, Debug, PartialEq, Eq)]
+#[derive(Clone, Copy)]
 pub(crate) struct Seen {
     pub(crate) first: Shown,
     /// What the last opening is to show.
@@ -36,7 +36,21 @@ fn go_on(
     Ok(shown.next(&[doing]))
 }
 
-/// What the pool shows, and what it is to show in the end; and its disks.
+/// What the pool shows that stands at that group, and what it is to show in the end.
+fn shown_and_wanted(
+    alloc: Global,
+    core: &mut Core<Member<MemDisk>>,
+    group: u64,
+    goes_on: bool,
+) -> Result<[Shown; 2], AllocError> {
+    let first = shown_in(alloc, core, group)?;
+    if goes_on {
+        return Ok([first, go_on(alloc, core, first)?]);
+    }
+    Ok([first, first])
+}
+
+/// The same of the pool on these disks; and its disks.
 fn first_opened(
     alloc: Global,
     disks: Vec<MemDisk>,
@@ -46,13 +60,9 @@ fn first_opened(
         mut core,
         uberblock,
     } = opened(alloc, disks)?;
-    let first = shown_in(alloc, &mut core, uberblock.group)?;
-    let wanted = if goes_on {
-        go_on(alloc, &mut core, first)?
-    } else {
-        first
-    };
-    Ok(([first, wanted], core.into_disks()))
+    let shown = shown_and_wanted(alloc, &mut core, uberblock.group, goes_on);
+    let disks = core.into_disks();
+    Ok((shown?, disks))
 }
 
 fn last_opened(alloc: Global, disks: Vec<MemDisk>) -> Result<Shown, Refusal> {
@@ -60,7 +70,36 @@ fn last_opened(alloc: Global, disks: Vec<MemDisk>) -> Result<Shown, Refusal> {
         mut core,
         uberblock,
     } = opened(alloc, disks)?;
-    Ok(shown_in(alloc, &mut core, uberblock.group)?)
+    shown_in(alloc, &mut core, uberblock.group).map_err(Refusal::from)
+}
+
+/// Disks with these bytes, and in a list of its own the absent one.
+fn disks_of(
+    alloc: Global,
+    images: Vec<Vec<u8>>,
+    absent: Option<usize>,
+) -> Result<(Vec<MemDisk>, Vec<MemDisk>), AllocError> {
+    let mut disks = Vec::new(alloc);
+    let mut aside = Vec::new(alloc);
+    for (which, bytes) in images.into_iter().enumerate() {
+        let list = if absent == Some(which) {
+            &mut aside
+        } else {
+            &mut disks
+        };
+        list.push(MemDisk::holding(bytes))?;
+    }
+    Ok((disks, aside))
+}
+
+/// Puts the disks of a pool behind others.
+fn put_behind(members: Vec<Member<MemDisk>>, disks: &mut Vec<MemDisk>) -> Result<(), AllocError> {
+    for member in members {
+        if let Some(disk) = member.into_disk() {
+            disks.push(disk)?;
+        }
+    }
+    Ok(())
 }
 
 /// Opens a pool on disks with these bytes, without the absent one; with `goes_on` commits one more group; and opens it again on all.
@@ -70,22 +109,10 @@ pub(crate) fn reopened(
     absent: Option<usize>,
     goes_on: bool,
 ) -> Result<Seen, Refusal> {
-    let mut disks = Vec::new(alloc);
-    let mut aside = Vec::new(alloc);
-    for (which, bytes) in images.into_iter().enumerate() {
-        if absent == Some(which) {
-            aside.push(MemDisk::holding(bytes))?;
-        } else {
-            disks.push(MemDisk::holding(bytes))?;
-        }
-    }
+    let (disks, mut all) = disks_of(alloc, images, absent)?;
     let ([first, wanted], members) = first_opened(alloc, disks, goes_on)?;
-    for member in members {
-        if let Some(disk) = member.into_disk() {
-            aside.push(disk)?;
-        }
-    }
-    let last = last_opened(alloc, aside)?;
+    put_behind(members, &mut all)?;
+    let last = last_opened(alloc, all)?;
     Ok(Seen {
         first,
         wanted,

@@ -60,6 +60,17 @@ impl Run {
     }
 }
 
+/// A disk that holds these bytes.
+fn recording_disk(
+    alloc: Global,
+    start: &[u8],
+    moments: &Rc<Cell<u64>>,
+) -> Result<RecordingDisk<MemDisk>, AllocError> {
+    let moments = moments.clone()?;
+    let inner = MemDisk::holding(Vec::from_slice(alloc, start)?);
+    Ok(RecordingDisk::new(alloc, inner, moments))
+}
+
 /// Disks that hold these bytes, but for the absent one.
 fn recording(
     alloc: Global,
@@ -70,8 +81,7 @@ fn recording(
     let mut disks = Vec::new(alloc);
     for which in 0..starts.len() {
         if absent != Some(which) {
-            let inner = MemDisk::holding(Vec::from_slice(alloc, &starts[which])?);
-            disks.push(RecordingDisk::new(alloc, inner, moments.clone()?))?;
+            disks.push(recording_disk(alloc, &starts[which], moments)?)?;
         }
     }
     Ok(disks)
@@ -121,6 +131,21 @@ fn commit_all<D: Disk + Drop>(
     Ok(())
 }
 
+/// What the pool shows that stands at that group, from which it commits these groups.
+fn run_on<D: Disk + Drop>(
+    alloc: Global,
+    core: &mut Core<D>,
+    group: u64,
+    groups: &[&[Doing]],
+    moments: &Cell<u64>,
+    history: &mut Vec<Possible>,
+) -> Result<Shown, AllocError> {
+    let opened = shown_in(alloc, core, group)?;
+    settle(history, opened, moments.get());
+    commit_all(alloc, core, opened, groups, moments, history)?;
+    Ok(opened)
+}
+
 /// Opens a pool on disks that hold these bytes, one of which may be absent, and commits these groups. `possible` is what may be shown
 /// as it is opened.
 pub(crate) fn recorded(
@@ -136,13 +161,20 @@ pub(crate) fn recorded(
         mut core,
         uberblock,
     } = opened(alloc, disks)?;
-    let opened = shown_in(alloc, &mut core, uberblock.group)?;
     let mut history = possible;
-    settle(&mut history, opened, moments.get());
-    commit_all(alloc, &mut core, opened, groups, &moments, &mut history)?;
+    let opened = run_on(
+        alloc,
+        &mut core,
+        uberblock.group,
+        groups,
+        &moments,
+        &mut history,
+    );
+    let calls = calls_of(alloc, core.into_disks());
+    let opened = opened?;
     Ok(Run {
+        calls: calls?,
         starts,
-        calls: calls_of(alloc, core.into_disks())?,
         end: moments.get(),
         opened,
         history,

@@ -43,7 +43,7 @@ pub(crate) fn next_run(
     stop: Stop,
     groups: &[&[Doing]],
 ) -> Result<Run, Refusal> {
-    let images = run.images(alloc, stop.cut, stop.pattern)?;
     let possible = possible_at(alloc, &run.history, stop.cut)?;
+    let images = run.images(alloc, stop.cut, stop.pattern)?;
     recorded(alloc, images, stop.absent, possible, groups)
 }

@@ -2,7 +2,7 @@
 use crate::images::{Left, Pattern};
 
 /// A stop of a run, and how the pool is opened after it.
-#[derive(Clone, Copy, Debug, PartialEq, Eq)]
+#[derive(Clone, Copy)]
 pub(crate) struct Stop {
     /// How many calls were made. The last of them may not have ended.
     pub(crate) cut: u64,

@@ -68,7 +68,7 @@ pub(crate) fn next_root(
     Ok(next_group(root, store, alloc, item)?.root)
 }
 
-/// The root after what a group has accepted, by the directory under the root before.
+/// The root after what a group has accepted, by the directory under the root before, once it is stored.
 fn planned(
     root: &Block,
     store: &mut Store,
@@ -78,7 +78,9 @@ fn planned(
     let group = root.birth.saturating_add(1);
     let directory = directory_under(root, store, alloc, root.birth, &[])?;
     store.drop_plan(group);
-    after_group(root, store, alloc, group, &directory, pipeline.open_items())
+    let next = after_group(root, store, alloc, group, &directory, pipeline.open_items());
+    store_plan(store);
+    next
 }
 
 /// And the blocks that it replaced, and its directory. It is planned by the directory under the root before.
@@ -89,9 +91,7 @@ pub(crate) fn next_group(
     item: Item,
 ) -> Result<NextRoot, Fail> {
     let pipeline = group_of(alloc, item)?;
-    let next = planned(root, store, alloc, &pipeline)?;
-    store_plan(store);
-    Ok(next)
+    planned(root, store, alloc, &pipeline).map_err(Fail::from)
 }
 
 /// The bytes of `v` from one on.
@@ -122,6 +122,12 @@ pub(crate) fn is_after(bytes: &[u8], written: bool) -> bool {
 
 pub(crate) fn is_bad(read: Result<Vec<u8>, Refusal>) -> bool {
     matches!(read, Err(Refusal::BadPointer))
+}
+
+/// A root with `w`, and with `v`, whose first three blocks are written.
+pub(crate) fn written_root(store: &mut Store, alloc: Global) -> Result<Block, Fail> {
+    let made = root_of_three(store, alloc)?;
+    next_root(&made, store, alloc, write(alloc, 1, b'v')?)
 }
 
 /// Whether `v` reads as it is to under a root: after the write, or as zeros.
@@ -187,7 +193,7 @@ fn size_of(root: &Block, store: &mut Store, alloc: Global, letter: u8) -> Result
 }
 
 /// The first root after a group of three.
-fn root_of_three(store: &mut Store, alloc: Global) -> Result<Block, Fail> {
+pub(crate) fn root_of_three(store: &mut Store, alloc: Global) -> Result<Block, Fail> {
     let group = group_of_three(alloc)?;
     first_root(store, alloc, &group)
 }

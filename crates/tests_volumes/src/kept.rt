@@ -41,11 +41,16 @@ fn root_of_three(store: &mut Store, alloc: Global) -> Result<FirstRoot, Fail> {
     first_with(store, alloc, &group)
 }
 
+/// The root after a group that makes `u`.
+fn next_group_of_u(root: &Block, store: &mut Store, alloc: Global) -> Result<NextRoot, Fail> {
+    let item = creation(alloc, 1, b'u', SIZE)?;
+    next_group(root, store, alloc, item)
+}
+
 /// A root with `v` and `w`, and one behind it with `u`.
 fn two_roots(store: &mut Store, alloc: Global) -> Result<(FirstRoot, NextRoot), Fail> {
-    let item = creation(alloc, 1, b'u', SIZE)?;
     let first = root_of_three(store, alloc)?;
-    let next = next_group(&first.root, store, alloc, item)?;
+    let next = next_group_of_u(&first.root, store, alloc)?;
     Ok((first, next))
 }
 
@@ -123,9 +128,8 @@ fn is_written(next: &NextRoot, store: &mut Store, alloc: Global) -> bool {
 
 /// A root with `v` and `w`, and in place of the one behind it one that writes to `v`.
 fn written_root(store: &mut Store, alloc: Global) -> Result<NextRoot, Fail> {
-    let item = write(alloc, 1, b'v')?;
     let root = two_roots(store, alloc)?.0.root;
-    next_group(&root, store, alloc, item)
+    next_group(&root, store, alloc, write(alloc, 1, b'v')?)
 }
 
 /// What `v` reads as after a write, also past its end; that `x` isn't there; and the objects of `w` and `x`.
@@ -237,7 +241,15 @@ fn root_with_directory(
     Ok(FirstRoot { root, directory })
 }
 
-/// Whether a range of the last of so many volumes reads as zeros.
+/// Whether a range of a volume reads as zeros, by the directory that a root came with.
+fn is_zeros_in(first: &FirstRoot, store: &mut CountedStore, alloc: Global, name: u8) -> bool {
+    match bytes_in(&first.root, store, alloc, &first.directory, name, FROM) {
+        Ok(bytes) => is_after(&bytes, false),
+        Err(_) => false,
+    }
+}
+
+/// The same of the last of so many volumes.
 fn is_last_read(
     store: &mut CountedStore,
     alloc: Global,
@@ -245,8 +257,7 @@ fn is_last_read(
     is_kept: bool,
 ) -> Result<bool, Fail> {
     let first = root_with_directory(store, alloc, count, is_kept)?;
-    let bytes = bytes_in(&first.root, store, alloc, &first.directory, count, FROM)?;
-    Ok(is_after(&bytes, false))
+    Ok(is_zeros_in(&first, store, alloc, count))
 }
 
 /// How many reads of disks a range of the last of so many volumes takes, by the directory that was kept, or by one that is read first.
@@ -278,18 +289,12 @@ fn reads_do_not_grow_with_the_names(rt: HostRuntime) -> Result<(), Fail> {
 
 /// The root after a group that writes to the last of so many volumes.
 fn written_of_many(store: &mut CountedStore, alloc: Global, count: u8) -> Result<NextRoot, Fail> {
-    let first = root_of_many(store, alloc, count)?;
     let pipeline = group_of(alloc, write(alloc, 1, count)?)?;
-    let directory = &first.directory;
+    let first = root_of_many(store, alloc, count)?;
     store.drop_plan(2);
-    Ok(after_group(
-        &first.root,
-        store,
-        alloc,
-        2,
-        directory,
-        pipeline.open_items(),
-    )?)
+    let root = &first.root;
+    let items = pipeline.open_items();
+    after_group(root, store, alloc, 2, &first.directory, items).map_err(Fail::from)
 }
 
 /// The group that it is born in.

@@ -76,8 +76,25 @@ fn front(alloc: Global, byte: u8, len: usize) -> Result<Vec<Write>, AllocError> 
     Ok(writes)
 }
 
-/// The volume after a write of so many bytes of one value at its front, once it is stored. The volume before was stored in
-/// the second group, or earlier.
+/// The volume after what a group writes, once it is stored. The volume before was stored in the second group, or earlier.
+fn with_writes(
+    volume: &VolumeSet,
+    store: &mut LossyStore,
+    alloc: Global,
+    group: u64,
+    changes: &GroupWrites,
+) -> Result<VolumeSet, Refusal>
+    requires { 0 < group }
+    ensures { IfOk result (λ done. HasShape done (size_of volume.now)
+        (block_size_of volume.now)) }
+{
+    store.drop_plan(group);
+    let done = volume.written(store, alloc, changes, 2, group)?;
+    store_plan(store);
+    Ok(done.volume)
+}
+
+/// The volume after a write of so many bytes of one value at its front.
 fn with_front(
     volume: &VolumeSet,
     store: &mut LossyStore,
@@ -96,10 +113,7 @@ fn with_front(
         name: &name,
         items: items.open_items(),
     };
-    store.drop_plan(group);
-    let done = volume.written(store, alloc, &changes, 2, group)?;
-    store_plan(store);
-    Ok(done.volume)
+    with_writes(volume, store, alloc, group, &changes)
 }
 
 /// Whether its first block has bytes of one value, or why it was not read.

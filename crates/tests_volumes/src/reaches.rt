@@ -2,8 +2,7 @@
 ghost use Rattle.std.specs.Prelude.{◌<◌, ◌^◌, length, IfOk};
 ghost use Rattle.dnode.specs.ObjectSet.{FitsObjectSet};
 
-use crate::groups::{group_of_three, next_group, write};
-use crate::roots::first_root;
+use crate::groups::{next_group, write, written_root};
 use crate::sets::{EMPTY, name_of, record_of, root_block, volume_block, with};
 use crate::stores::{Store, new_store};
 use block_pointer::{Block, Copies};
@@ -53,14 +52,6 @@ fn has_left(
         gone = gone.saturating_add(usize::from(left));
     }
     Ok(right && gone == next.replaced.len())
-}
-
-/// A root with `w`, and with `v`, whose first three blocks are written.
-fn written_root(store: &mut Store, alloc: Global) -> Result<Block, Fail> {
-    let item = write(alloc, 1, b'v')?;
-    let group = group_of_three(alloc)?;
-    let made = first_root(store, alloc, &group)?;
-    Ok(next_group(&made, store, alloc, item)?.root)
 }
 
 /// Whether a group that writes the first three blocks of `v` again replaces what its root doesn't lead to any more.

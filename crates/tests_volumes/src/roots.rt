@@ -109,9 +109,9 @@ pub(crate) fn first_with<D: Disk + Drop>(
         vdevs: Vec::new(alloc),
     };
     store.drop_plan(1);
-    let first = first_group(store, alloc, &config, 1, pipeline.open_items())?;
+    let first = first_group(store, alloc, &config, 1, pipeline.open_items());
     store_plan(store);
-    Ok(first)
+    first.map_err(Fail::from)
 }
 
 /// That of a pool with no volumes.

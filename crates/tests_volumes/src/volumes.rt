@@ -71,8 +71,46 @@ fn made(store: &mut Store, alloc: Global) -> Result<VolumeSet, Refusal>
     Ok(volume)
 }
 
-/// The volume after the writes, once it is stored.
-fn rewritten(volume: &VolumeSet, store: &mut Store, alloc: Global) -> Result<Rewritten, Refusal>
+/// The volume after what a group writes, once it is stored.
+fn placed(
+    volume: &VolumeSet,
+    store: &mut Store,
+    alloc: Global,
+    changes: &GroupWrites,
+) -> Result<Rewritten, Refusal>
+    ensures { IfOk result (λ done. HasShape done.volume (size_of volume.now)
+        (block_size_of volume.now)) }
+{
+    store.drop_plan(2);
+    let blocks = volume.changed_blocks(store, alloc, 1, changes)?;
+    let done = volume.placed(store, alloc, blocks, 2)?;
+    store_plan(store);
+    Ok(done)
+}
+
+/// The same by one call.
+fn written(
+    volume: &VolumeSet,
+    store: &mut Store,
+    alloc: Global,
+    changes: &GroupWrites,
+) -> Result<Rewritten, Refusal>
+    ensures { IfOk result (λ done. HasShape done.volume (size_of volume.now)
+        (block_size_of volume.now)) }
+{
+    store.drop_plan(2);
+    let done = volume.written(store, alloc, changes, 1, 2)?;
+    store_plan(store);
+    Ok(done)
+}
+
+/// The volume after the writes.
+fn rewritten(
+    volume: &VolumeSet,
+    store: &mut Store,
+    alloc: Global,
+    is_one_call: bool,
+) -> Result<Rewritten, Refusal>
     ensures { IfOk result (λ done. HasShape done.volume (size_of volume.now)
         (block_size_of volume.now)) }
 {
@@ -82,11 +120,11 @@ fn rewritten(volume: &VolumeSet, store: &mut Store, alloc: Global) -> Result<Rew
         name: &name,
         items: group.open_items(),
     };
-    store.drop_plan(2);
-    let blocks = volume.changed_blocks(store, alloc, 1, &changes)?;
-    let done = volume.placed(store, alloc, blocks, 2)?;
-    store_plan(store);
-    Ok(done)
+    if is_one_call {
+        written(volume, store, alloc, &changes)
+    } else {
+        placed(volume, store, alloc, &changes)
+    }
 }
 
 /// Bytes of a volume whose first byte is in a block, and the last in the next one.
@@ -125,7 +163,7 @@ fn reads_as(
 /// How many blocks gave way, and whether the volume after the writes and the one before read as they are to.
 fn outcomes(store: &mut Store, alloc: Global) -> Result<(usize, bool, bool), Refusal> {
     let before = made(store, alloc)?;
-    let Rewritten { volume, replaced } = rewritten(&before, store, alloc)?;
+    let Rewritten { volume, replaced } = rewritten(&before, store, alloc, false)?;
     let replaced = replaced.len();
     let near = reads_as(&volume, store, alloc, (256, 2), (256, 5, 0))?;
     let far = reads_as(&volume, store, alloc, (FAR - 512, 2), (512, 0, 6))?;
@@ -150,17 +188,10 @@ fn a_volume_reads_as_it_was_written(rt: HostRuntime) -> Result<(), Fail> {
 /// Whether writes that are put in one call make the volume that they are to make.
 fn is_written_at_once(store: &mut Store, alloc: Global) -> Result<bool, Refusal> {
     let before = made(store, alloc)?;
-    let name = name(alloc)?;
-    let group = accepted(alloc, two_writes(alloc)?)?;
-    let changes = GroupWrites {
-        name: &name,
-        items: group.open_items(),
-    };
-    store.drop_plan(2);
-    let done = before.written(store, alloc, &changes, 1, 2)?;
-    store_plan(store);
-    let near = bytes_at(&done.volume, store, alloc, 256, 2)?;
-    Ok(done.replaced.len() == 2 && is_of(&near, 256, 5, 0))
+    let Rewritten { volume, replaced } = rewritten(&before, store, alloc, true)?;
+    let are_two = replaced.len() == 2;
+    let is_near = reads_as(&volume, store, alloc, (256, 2), (256, 5, 0))?;
+    Ok(are_two && is_near)
 }
 
 fn is_written_in_memory(alloc: Global) -> Result<Result<bool, Refusal>, Fail> {
@@ -177,7 +208,7 @@ fn a_volume_is_written_in_one_call(rt: HostRuntime) -> Result<(), Fail> {
 /// Whether a volume is refused whose blocks have another size than the set's.
 fn is_other_size_refused(store: &mut Store, alloc: Global) -> Result<bool, Refusal> {
     let before = made(store, alloc)?;
-    let done = rewritten(&before, store, alloc)?;
+    let done = rewritten(&before, store, alloc, false)?;
     let other = VolumeSet::new(SIZE, 1024, done.volume.block());
     let found = bytes_at(&other, store, alloc, 0, 2);
     Ok(matches!(found, Err(Refusal::BadPointer)))

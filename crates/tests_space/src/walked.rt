@@ -86,13 +86,40 @@ fn count_right(
     Ok(count)
 }
 
-/// Whether the maps under a root leave free, of each metaslab before the meta region, all that no block lies on that the root
-/// leads to. Something is in use in each, so that each has a map.
-pub(crate) fn are_right(root: &Block, store: &mut Store, alloc: Global) -> Result<bool, Fail> {
+/// How many sectors a block's copies take before the meta region.
+fn sectors_of_copies(block: &Block) -> u64 {
+    let mut sectors = 0u64;
+    for copy in 0..3 {
+        if let Some(place) = block.copies.get(copy) {
+            if place.offset < METASLABS * SECTORS {
+                sectors = sectors.saturating_add(u64::from(place.allocated));
+            }
+        }
+    }
+    sectors
+}
+
+/// The same of all these blocks.
+pub(crate) fn sectors_of(blocks: &[Block]) -> u64 {
+    let mut sectors = 0u64;
+    for block in blocks {
+        sectors = sectors.saturating_add(sectors_of_copies(block));
+    }
+    sectors
+}
+
+/// How many sectors before the meta region blocks take that a root leads to. `None` where the maps under it don't leave free, of each
+/// metaslab there, all other sectors. Something is in use in each, so that each has a map.
+pub(crate) fn sectors_if_right(
+    root: &Block,
+    store: &mut Store,
+    alloc: Global,
+) -> Result<Option<u64>, Fail> {
     let mut most = 100000u64;
     let blocks = reach(root, store, alloc, root.birth, &mut most, &[])?;
     let set = read_set(store, alloc, root, root.birth, &[])?;
     let maps = read_space_maps(&set, store, alloc, root.birth, &[])?;
     let count = count_right(&set, store, alloc, root.birth, &maps, &blocks)?;
-    Ok(count == METASLABS && maps.rows().len() as u64 == METASLABS)
+    let are_right = count == METASLABS && maps.rows().len() as u64 == METASLABS;
+    Ok(are_right.then_some(sectors_of(&blocks)))
 }

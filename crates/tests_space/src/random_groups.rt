@@ -1,10 +1,11 @@
 //! Groups that overwrite random blocks of volumes in a store that has room for little more.
 use crate::stores::{Store, new_store, store_plan};
-use crate::walked::are_right;
+use crate::walked::{sectors_if_right, sectors_of};
 use block_store::Refusal;
 use dataset_snapshots::{FirstRoot, after_group, first_group};
 use pool_model::{Action, Bytes, Change, Item, Name, Write};
 use std::alloc::{AllocError, Global};
+use std::process::Abort;
 use std::test::Fail;
 use txg_pipeline::Pipeline;
 use vdev_label::Config;
@@ -19,27 +20,22 @@ struct Volume {
     most: u64,
 }
 
-/// Their blocks take 2, 12 and 48 sectors with parity, 4,480 in all, and what leads to the blocks of each volume takes 200. A group
-/// writes to at most two volumes, and takes 688 at most. As it is planned, what two groups before it gave back can't be used
-/// yet: so up to 7,144 of the 8,192 sectors before the meta region are in use then.
-const VOLUMES: [Volume; 3] = [
-    Volume {
-        letter: b'u',
-        block_bytes: 512,
-        blocks: 128,
-        most: 16,
-    },
+/// Their blocks take 12 and 48 sectors with parity, 5,760 in all, and what leads to the blocks of each volume takes 200: so 6,160 of the
+/// 8,192 sectors before the meta region hold what a root leads to. A group writes to at most two volumes, and takes 544 at most.
+/// As it is planned, what two groups before it gave back can't be used yet, and what it replaces itself is in use still: so there
+/// are up to 7,792 in use then, 95 of 100.
+const VOLUMES: [Volume; 2] = [
     Volume {
         letter: b'v',
         block_bytes: 4096,
-        blocks: 96,
-        most: 8,
+        blocks: 128,
+        most: 4,
     },
     Volume {
         letter: b'w',
         block_bytes: 16384,
-        blocks: 64,
-        most: 4,
+        blocks: 88,
+        most: 2,
     },
 ];
 
@@ -118,7 +114,7 @@ fn random_write(
     number: u64,
     value: u8,
 ) -> Result<Item, AllocError> {
-    let volume = VOLUMES[numbers.below(3) as usize % 3];
+    let volume = VOLUMES[numbers.below(2) as usize % 2];
     let first = numbers.below(volume.blocks);
     let count = numbers.below(volume.most).saturating_add(1);
     let left = volume.blocks.saturating_sub(first);
@@ -150,18 +146,42 @@ fn made(store: &mut Store, alloc: Global) -> Result<FirstRoot, Fail> {
     Ok(first)
 }
 
+/// What is in use before the meta region as groups are planned: how many sectors each of the last three groups gave back, and how many
+/// were in use at most.
+#[derive(Clone, Copy)]
+struct InUse {
+    given_back: [u64; 3],
+    most: u64,
+}
+
+impl InUse {
+    /// The next group gives so many back.
+    fn give_back(&mut self, sectors: u64) {
+        self.given_back = [self.given_back[1], self.given_back[2], sectors];
+    }
+
+    /// The root of the last group leads to blocks of so many.
+    fn note(&mut self, reached: u64) {
+        let [first, second, last] = self.given_back;
+        let given_back = first.saturating_add(second).saturating_add(last);
+        self.most = self.most.max(reached.saturating_add(given_back));
+    }
+}
+
 /// The root behind another one, after what a group has accepted, once what it replaces is given back, and all is stored.
 fn next(
     before: &FirstRoot,
     store: &mut Store,
     alloc: Global,
     pipeline: &Pipeline,
+    in_use: &mut InUse,
 ) -> Result<FirstRoot, Refusal> {
     let group = before.root.birth.saturating_add(1);
     let items = pipeline.open_items();
     store.begin_plan(group)?;
     let after = after_group(&before.root, store, alloc, group, &before.directory, items)?;
     store.release(&after.replaced, group)?;
+    in_use.give_back(sectors_of(&after.replaced));
     store_plan(store);
     Ok(FirstRoot {
         root: after.root,
@@ -170,11 +190,11 @@ fn next(
 }
 
 /// The root behind the first one, with all blocks of the volumes.
-fn written(store: &mut Store, alloc: Global) -> Result<FirstRoot, Fail> {
+fn written(store: &mut Store, alloc: Global, in_use: &mut InUse) -> Result<FirstRoot, Fail> {
     let first = made(store, alloc)?;
     let mut pipeline = Pipeline::new(alloc, 3);
     accept_each(&mut pipeline, alloc, true)?;
-    Ok(next(&first, store, alloc, &pipeline)?)
+    Ok(next(&first, store, alloc, &pipeline, in_use)?)
 }
 
 /// The root after a random group.
@@ -183,37 +203,78 @@ fn random_next(
     store: &mut Store,
     alloc: Global,
     numbers: &mut Numbers,
+    in_use: &mut InUse,
 ) -> Result<FirstRoot, Fail> {
     let value = (before.root.birth % 256) as u8;
     let mut pipeline = Pipeline::new(alloc, 3);
     accept_random(&mut pipeline, alloc, numbers, value)?;
-    Ok(next(before, store, alloc, &pipeline)?)
+    Ok(next(before, store, alloc, &pipeline, in_use)?)
 }
 
-/// After how many of so many random groups the space maps are right.
-fn count_right(store: &mut Store, alloc: Global, groups: u64) -> Result<u64, Fail> {
-    let mut last = written(store, alloc)?;
-    let mut numbers = Numbers { state: 1 };
+/// After how many of the random groups the space maps are right.
+fn count_right(
+    store: &mut Store,
+    alloc: Global,
+    numbers: &mut Numbers,
+    in_use: &mut InUse,
+) -> Result<u64, Fail> {
+    let mut last = written(store, alloc, in_use)?;
     let mut count = 0u64;
-    for _ in 0..groups {
-        last = random_next(&last, store, alloc, &mut numbers)?;
-        if are_right(&last.root, store, alloc)? {
+    for _ in 0..GROUPS {
+        last = random_next(&last, store, alloc, numbers, in_use)?;
+        if let Some(reached) = sectors_if_right(&last.root, store, alloc)? {
+            in_use.note(reached);
             count = count.saturating_add(1);
         }
     }
     Ok(count)
 }
 
-fn count_in_memory(alloc: Global, groups: u64) -> Result<u64, Fail> {
+/// The same in a new store, and how many sectors were in use at most.
+fn counted(alloc: Global, seed: u64) -> Result<(u64, u64), Fail> {
+    let mut numbers = Numbers { state: seed };
+    let mut in_use = InUse {
+        given_back: [0; 3],
+        most: 0,
+    };
     let mut store = new_store(alloc)?;
-    count_right(&mut store, alloc, groups)
+    let count = count_right(&mut store, alloc, &mut numbers, &mut in_use)?;
+    Ok((count, in_use.most))
 }
 
-/// How many groups there are.
-const GROUPS: u64 = 300;
+/// How many groups there are in a row: five rows have 10,000.
+const GROUPS: u64 = 2000;
+
+/// In each row so many sectors are in use at least once: 94 of 100.
+const NEARLY_ALL: u64 = 7700;
+
+fn follow<R: Abort>(rt: &R, alloc: Global, seed: u64) -> Result<(), Fail> {
+    let (count, most) = counted(alloc, seed)?;
+    assert!(rt; count == GROUPS && NEARLY_ALL <= most, "{count}, {most}");
+    Ok(())
+}
 
 #[test]
-fn space_maps_are_those_of_the_walk(rt: HostRuntime) -> Result<(), Fail> {
-    assert!(rt; count_in_memory(rt.alloc(), GROUPS)? == GROUPS);
-    Ok(())
+fn a_row_of_groups_has_the_space_maps_of_the_walk(rt: HostRuntime) -> Result<(), Fail> {
+    follow(&rt, rt.alloc(), 1)
+}
+
+#[test]
+fn a_second_row_of_groups_has_them(rt: HostRuntime) -> Result<(), Fail> {
+    follow(&rt, rt.alloc(), 2)
+}
+
+#[test]
+fn a_third_row_of_groups_has_them(rt: HostRuntime) -> Result<(), Fail> {
+    follow(&rt, rt.alloc(), 3)
+}
+
+#[test]
+fn a_fourth_row_of_groups_has_them(rt: HostRuntime) -> Result<(), Fail> {
+    follow(&rt, rt.alloc(), 4)
+}
+
+#[test]
+fn a_fifth_row_of_groups_has_them(rt: HostRuntime) -> Result<(), Fail> {
+    follow(&rt, rt.alloc(), 5)
 }
