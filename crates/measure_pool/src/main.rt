@@ -32,7 +32,7 @@ struct Load {
     block_size: u64,
 }
 
-const LOADS: [Load; 7] = [
+const LOADS: [Load; 9] = [
     Load {
         volumes: 1,
         groups: 100,
@@ -52,6 +52,22 @@ const LOADS: [Load; 7] = [
     Load {
         volumes: 1,
         groups: 100,
+        writes: 20,
+        len: 8192,
+        size: 1 << 26,
+        block_size: 8192,
+    },
+    Load {
+        volumes: 1,
+        groups: 100,
+        writes: 20,
+        len: 8192,
+        size: 10 << 26,
+        block_size: 8192,
+    },
+    Load {
+        volumes: 1,
+        groups: 1000,
         writes: 20,
         len: 8192,
         size: 1 << 26,
