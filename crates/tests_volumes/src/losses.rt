@@ -39,7 +39,7 @@ fn six_disks(alloc: Global) -> Result<Vec<FaultDisk<MemDisk>>, Fail> {
     Ok(disks)
 }
 
-/// Two vdevs of three disks. Data lies in the first, and all else in both.
+/// Two vdevs of three disks. The first block of data goes to the first of them and the next one to the second, and all else lies in both.
 fn new_store(alloc: Global) -> Result<LossyStore, Fail> {
     let vdev = VdevConfig {
         geometry: Geometry::new(3, 1, 9)?,
@@ -132,7 +132,7 @@ fn is_front(
 /// Whether the first block can't be read, a write of a part of it is refused, and one of all its bytes makes it readable.
 fn outcomes(store: &mut LossyStore, alloc: Global) -> Result<[bool; 3], Refusal> {
     let zeros = made(store, alloc)?;
-    let before = with_front(&zeros, store, alloc, 2, 5, 1024)?;
+    let before = with_front(&zeros, store, alloc, 2, 5, 512)?;
     lose_disks(store);
     let lost = is_front(&before, store, alloc, 5);
     let part = with_front(&before, store, alloc, 3, 6, 256);
