@@ -9,6 +9,11 @@ pub mod Representing
 pub mod Trees
 pub mod Stops
 pub mod Counting
+pub mod Outs
+pub mod Flushing
+pub mod FailedCalls
+pub mod Unwritten
 pub mod Stages
+pub mod Retried
 pub mod ExportStops
 pub mod PutAway

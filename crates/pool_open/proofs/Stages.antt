@@ -1,6 +1,7 @@
 -- Where an open ends, stage by stage.
 use Rattle.std.proofs.Common.{◌≡◌, ◌⊎◌, inl, inr, ℕ, ◌<◌, Bool, true, Some, List, [], length, refl, sym, ap, ◌∙◌, subst}
 use Rattle.model_disk.specs.Joint.{Disks}
+use Rattle.model_disk.specs.Runs.{Makes, no_write}
 use Rattle.block_store.specs.Elsewhere.{WritesElsewhereKeep}
 use Rattle.block_store.specs.Opened.{MayBeOpened}
 use Rattle.block_store.specs.Places.{shapes_of}
@@ -27,13 +28,17 @@ use Rattle.uberblock_ring.specs.declared.uberblock.Uberblock.{Uberblock}
 use Rattle.pool_open.specs.Causes.{of_root}
 use Rattle.pool_open.specs.Held.{IsLaidOver, IsStoreOver}
 use Rattle.pool_open.specs.Opening.{AreClaimedThrough, AreMisplacedOver, AreReadThrough, IsCauseOfReading, IsKeptThrough, IsNotOpenedOver, IsOpenedOver, IsSurveyRefused}
+use Rattle.pool_open.specs.Retried.{IsFailedClaim, IsPoolRead}
 use Rattle.pool_open.specs.Roots.{AreReadBeside, IsReadOfRoot, RootRefuses}
+use Rattle.pool_open.specs.Settling.{AreSettledWithout}
 use Rattle.pool_open.specs.Words.{most_blocks, stamp_of, vdevs_in}
 use Rattle.pool_open.specs.declared.refusal.Refusal.{Refusal}
-use Rattle.pool_open.specs.declared.refusal.Refusal.TheVariants.{NoMemory, DiskFault, BadPointer, BadConfig}
+use Rattle.pool_open.specs.declared.refusal.Refusal.TheVariants.{NoMemory, BadPointer, BadConfig}
+use Rattle.pool_open.proofs.FailedCalls.{failed_in_use}
 use Rattle.pool_open.proofs.Representing.{CoreRepresents, represents_root}
 use Rattle.pool_open.proofs.Through.{block_reads_made, kept_by_reads, surveyed_still, through_made}
 use Rattle.pool_open.proofs.Trees.{opens_possible}
+use Rattle.pool_open.proofs.Unwritten.{configures_on, keeps_on, marks_on, rewrites_on}
 
 -- ---- stores
 
@@ -90,6 +95,11 @@ pub record AreSurveyed (out later : List Bool) (rewind : ℕ) (old surveyed : Di
   pub whole : IsWholeOf later old.starts s
   pub is : IsSurveyed later rewind old surveyed s
 
+-- with its root
+pub surveyed_of : (old : Disks) (shapes : List VdevShape) (out later : List Bool) (rewind : ℕ) (s : Surveyed) (contents : RootContents) (new : Disks)
+    → (it : IsPoolRead old shapes out later rewind s contents new) → AreSurveyed out later rewind old it.surveyed s
+surveyed_of old shapes out later rewind s contents new it = record { absent = it.absent; count = it.count; whole = it.whole; is = it.is }
+
 root_cause : (out later : List Bool) (rewind : ℕ) (old surveyed new : Disks) (shapes : List VdevShape) (s : Surveyed) (cause : RootRefusal) → IsSurveyed later rewind old surveyed s
     → (cause ≡ root.NoMemory) ⊎ RootRefuses surveyed new shapes later s.claimed.group s.claimed.root (most_blocks shapes) cause → IsCauseOfReading old surveyed new shapes out later rewind (of_root cause)
 root_cause out later rewind old surveyed new shapes s cause is (inl memory) = inl (ap of_root memory)
@@ -138,14 +148,31 @@ abbrev claimed_through : (out later : List Bool) (rewind : ℕ) (old surveyed re
 claimed_through out later rewind old surveyed read new s are blocks begun =
     record { read = read; before = record { surveyed = surveyed; absent = are.absent; blocks = blocks }; claims = begun.makes }
 
-pub refused_by_claim : (out later : List Bool) (rewind : ℕ) (old surveyed read new : Disks) (shapes : List VdevShape) (s : Surveyed) (which : ℕ) → rewind < 3
-    → AreSurveyed out later rewind old surveyed s → AreReadBeside later surveyed read → AreBegun later s read new → HasFailedOn read new which → IsNotOpenedOver old shapes out rewind DiskFault
-refused_by_claim out later rewind old surveyed read new shapes s which few are blocks begun failed = record {
+-- and calls that write nothing keep what is kept
+kept_on : (later : List Bool) (rewind : ℕ) (old mid new : Disks) → Makes no_write mid new → IsKeptThrough later rewind old mid → IsKeptThrough later rewind old new
+kept_on later rewind old mid new makes kept = record {
+  leads = keeps_on later rewind old mid new makes kept.leads;
+  marks = marks_on later rewind old mid new makes kept.marks;
+  configures = configures_on later rewind old mid new makes kept.configures;
+  rewrites = rewrites_on later rewind old mid new makes kept.rewrites;
+}
+
+-- a call of it failed
+pub claim_fails : (out later left : List Bool) (rewind : ℕ) (old surveyed read ended new : Disks) (shapes : List VdevShape) (s : Surveyed) (which : ℕ) → rewind < 3
+    → AreSurveyed out later rewind old surveyed s → AreReadBeside later surveyed read → is_tolerable (vdevs_in shapes) (is_out later) ≡ true → AreBegun later s read ended
+    → HasFailedOn read ended which → AreSettledWithout which later left ended new → IsFailedClaim old shapes out rewind new left
+claim_fails out later left rewind old surveyed read ended new shapes s which few are blocks tolerable begun failed settles = record {
   later = later;
   count = are.count;
-  new = new;
-  kept = kept_by_claim later rewind old read new s few (still out later rewind old surveyed read s are blocks) begun;
-  cause = inr (s.claimed, claimed_through out later rewind old surveyed read new s are blocks begun, inr (inl (refl, (which, failed))));
+  claimed = s.claimed;
+  ended = ended;
+  through = claimed_through out later rewind old surveyed read ended s are blocks begun;
+  kept = kept_on later rewind old ended new settles.flushes.makes (kept_by_claim later rewind old read ended s few (still out later rewind old surveyed read s are blocks) begun);
+  tolerable = tolerable;
+  which = which;
+  used = failed_in_use later (IsClaimWrite read.starts later s.claimed) read ended which begun.makes failed;
+  failed = failed;
+  settles = settles;
 }
 
 pub refused_by_core : (out later : List Bool) (rewind : ℕ) (old surveyed read new : Disks) (shapes : List VdevShape) (s : Surveyed) (contents : RootContents) (refusal : Refusal) → rewind < 3
@@ -162,7 +189,7 @@ refused_by_core out later rewind old surveyed read new shapes s contents refusal
     claimed_through out later rewind old surveyed read new s are blocks begun,
     elim why [
       | inl memory ↦ inl memory
-      | inr it ↦ inr (inr (it.0, record { s = s; is = are.is; contents = contents; reads = root; why = it.1 }))
+      | inr it ↦ inr (it.0, record { s = s; is = are.is; contents = contents; reads = root; why = it.1 })
     ],
   );
 }

@@ -8,6 +8,8 @@ pub mod Causes
 pub mod Words
 pub mod Trees
 pub mod Opening
+pub mod Settling
+pub mod Retried
 pub mod Opens
 pub mod Stops
 pub mod Exporting

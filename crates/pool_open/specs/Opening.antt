@@ -16,7 +16,6 @@ use Rattle.pool_model.specs.Pools.{PlainPool}
 use Rattle.pool_model.specs.Refusals.{greatest}
 use Rattle.pool_model.specs.View.{is_tolerable, opened_as}
 use Rattle.pool_slots.specs.Configs.{OpenConfigures}
-use Rattle.pool_slots.specs.Failures.{HasFailedOn}
 use Rattle.pool_slots.specs.Labels.{AreClaimed, IsClaimWrite}
 use Rattle.pool_slots.specs.Opens.{OpenGives, OpenKeeps, OpenMarks, OpenTakes}
 use Rattle.pool_slots.specs.Present.{GoOut, IsNoFault}
@@ -33,7 +32,7 @@ use Rattle.pool_open.specs.Roots.{AreReadBeside, IsReadOfRoot, RootRefuses}
 use Rattle.pool_open.specs.Trees.{OpensPossible}
 use Rattle.pool_open.specs.Words.{most_blocks, stamp_of, vdevs_in}
 use Rattle.pool_open.specs.declared.refusal.Refusal.{Refusal}
-use Rattle.pool_open.specs.declared.refusal.Refusal.TheVariants.{NoMemory, DiskFault, NoUberblock, BadPointer, TooManyMissing, BadConfig}
+use Rattle.pool_open.specs.declared.refusal.Refusal.TheVariants.{NoMemory, NoUberblock, BadPointer, TooManyMissing, BadConfig}
 
 -- ---- which calls are made
 
@@ -57,7 +56,7 @@ pub record IsKeptThrough (later : List Bool) (rewind : ℕ) (old new : Disks) : 
   pub configures : OpenConfigures later rewind old new
   pub rewrites : OpenRewrites later old new
 
--- ---- an open that is done
+-- ---- an open that is done, by one attempt
 
 -- Where the disks still in use have the blocks of a root that spells a pool and has its space maps, and all answers were true, the core
 -- represents that pool.
@@ -86,7 +85,7 @@ pub record IsOpenedOver (old : Disks) (shapes : List VdevShape) (out : List Bool
   pub represents : RepresentsRoot old shapes later claimed core
   pub possible : OpensPossible old shapes later rewind claimed core
 
--- ---- an open that is refused
+-- ---- an open that is refused, by one attempt
 
 -- the slots or labels were refused; or no group is left after that which is taken; or of a vdev too many disks are out
 abbrev pub IsSurveyRefused : List VdevShape → List Bool → ℕ → Disks → Disks → Refusal → Type 0
@@ -126,12 +125,10 @@ IsCauseOfReading old surveyed new shapes out later rewind refusal =
     ⊎ (IsSurveyRefused shapes later rewind old new refusal
     ⊎ IsRootUnread old surveyed new shapes later rewind refusal))
 
--- Once a claim was begun: want of memory; a write or flush of it failed; a space map or a block has no place of its own.
+-- Once a claim was done: want of memory; a space map or a block has no place of its own.
 abbrev pub IsCauseOfClaim : Disks → Disks → Disks → Disks → List VdevShape → List Bool → ℕ → Refusal → Type 0
 IsCauseOfClaim old surveyed read new shapes later rewind refusal =
-    (refusal ≡ NoMemory)
-    ⊎ (((refusal ≡ DiskFault) × ((which : ℕ) × HasFailedOn read new which))
-    ⊎ ((refusal ≡ BadPointer) × IsReadMisplaced old surveyed read new shapes later rewind))
+    (refusal ≡ NoMemory) ⊎ ((refusal ≡ BadPointer) × IsReadMisplaced old surveyed read new shapes later rewind)
 
 abbrev pub IsOpenCause : Disks → Disks → List VdevShape → List Bool → List Bool → ℕ → Refusal → Type 0
 IsOpenCause old new shapes out later rewind refusal =

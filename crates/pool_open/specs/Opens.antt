@@ -10,7 +10,7 @@ use Rattle.pool_labels.specs.declared.refusal.Refusal.{Refusal as LabelsRefusal}
 use Rattle.uberblock_ring.specs.declared.uberblock.Uberblock.{Uberblock}
 use Rattle.pool_open.specs.Causes.{of_labels}
 use Rattle.pool_open.specs.Finding.{FindRefuses, IsFoundPool}
-use Rattle.pool_open.specs.Opening.{IsNotOpenedOver, IsOpenedOver}
+use Rattle.pool_open.specs.Retried.{IsNotOpenedAtLast, IsOpenedAtLast}
 use Rattle.pool_open.specs.declared.refusal.Refusal.{Refusal}
 
 module _ {D : Type 0} where
@@ -29,7 +29,7 @@ module _ {D : Type 0} where
     pub shapes : List VdevShape
     pub out : List Bool
     pub ordered : AreInOrder g disks rewind array shapes out
-    pub opened : IsOpenedOver array shapes out rewind claimed core
+    pub opened : IsOpenedAtLast array shapes out rewind claimed core
 
   -- or it was not
   pub record IsUnopened (g : disk.Ghosts D) (disks : List D) (rewind : ℕ) (refusal : Refusal) : Type 0 where
@@ -37,7 +37,7 @@ module _ {D : Type 0} where
     pub shapes : List VdevShape
     pub out : List Bool
     pub ordered : AreInOrder g disks rewind array shapes out
-    pub refused : IsNotOpenedOver array shapes out rewind refusal
+    pub refused : IsNotOpenedAtLast array shapes out rewind refusal
 
   -- why no pool is opened: none was found, or that which was found is refused
   abbrev pub OpenRefuses : disk.Ghosts D → List D → ℕ → Refusal → Type 0

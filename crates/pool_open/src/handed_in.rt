@@ -3,8 +3,9 @@ ghost use Rattle.std.specs.Prelude.{◌<◌, IfErr, IfOk};
 ghost use Rattle.pool_core.specs.StateOf.{state_of};
 ghost use Rattle.pool_open.specs.Opens.{IsOpened, OpenRefuses};
 
+use crate::attempts::open_over;
 use crate::finding::{FoundPool, find};
-use crate::opening::{OpenedPool, open_over};
+use crate::opening::OpenedPool;
 use crate::refusal::Refusal;
 use model_disk::{Disk, DiskArray, Member};
 use std::alloc::Global;
@@ -13,7 +14,9 @@ use std::alloc::Global;
 /// one that is so many groups less, and claims it before anything else is written. Disks that are none of its children are dropped, and
 /// so are all where it is refused.
 ///
-/// The refusals of `find` come first, in their order; then those of `open_over`. Until the claim is begun nothing was written.
+/// A disk on which a write or flush of the claim fails is out from then on, and the pool is opened over the others, as `open_over` says.
+///
+/// The refusals of `find` come first, in their order; then those of `open_over`. Until a claim is begun nothing was written.
 pub fn open<D: Disk + Drop>(
     alloc: Global,
     disks: Vec<D>,

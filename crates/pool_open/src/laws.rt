@@ -2,6 +2,7 @@
 ghost use Rattle.pool_open.specs.Claims.{ClaimsSpareBlocks};
 ghost use Rattle.pool_open.specs.ExportStops.{ExportsMayBeReopened};
 ghost use Rattle.pool_open.specs.Held.{AlikeStoresHoldAlike, ClaimsKeepWhatIsHeld};
+ghost use Rattle.pool_open.specs.Retried.{UndiminishedOpensClaimOnce, UnfailingOpensClaimOnce};
 ghost use Rattle.pool_open.specs.Stops.{StoppedCanBeOpened};
 
 use block_store::writes_elsewhere_keep;
@@ -31,4 +32,10 @@ pub fn stopped_can_be_opened()
 /// Wherever an export is stopped, and once it is done: what that leaves may be opened, and comes to what the disks led to before.
 pub fn exports_may_be_reopened()
     ensures { ExportsMayBeReopened }
+{}
+
+/// Where no call failed, or at the end all disks are in use that were, no claim failed: the open is its first attempt.
+pub fn unfailing_opens_claim_once()
+    ensures opened { UndiminishedOpensClaimOnce }
+    ensures refused { UnfailingOpensClaimOnce }
 {}

@@ -1,6 +1,7 @@
 //! Opening a pool: finding it on disks, claiming it, and the core that goes on from its last group.
 #![tactic(auto)]
 
+mod attempts;
 mod children;
 mod exporting;
 mod finding;
@@ -9,18 +10,20 @@ mod laws;
 mod opening;
 mod refusal;
 mod roots;
+mod settling;
 mod shapes;
 mod tolerance;
 
+pub use attempts::open_over;
 pub use children::children_of;
 pub use exporting::{NotExported, export};
 pub use finding::{FoundPool, find};
 pub use handed_in::open;
 pub use laws::{
     alike_stores_hold_alike, claims_keep_what_is_held, claims_spare_blocks,
-    exports_may_be_reopened, stopped_can_be_opened,
+    exports_may_be_reopened, stopped_can_be_opened, unfailing_opens_claim_once,
 };
-pub use opening::{OpenedPool, core_over, open_over};
+pub use opening::{OpenedPool, core_over};
 pub use refusal::Refusal;
 pub use roots::{ReadRoot, read_root};
 pub use shapes::shapes_of;

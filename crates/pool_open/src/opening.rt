@@ -1,5 +1,5 @@
-//! Opening a pool whose disks are in order.
-ghost use Rattle.std.specs.Prelude.{◌≡◌, ◌⊎◌, ◌<◌, List, length, Some, true, IfErr, IfOk};
+//! The parts of an open of disks that are in order: a survey of them, and the core of what they hold.
+ghost use Rattle.std.specs.Prelude.{◌≡◌, ◌⊎◌, ◌<◌, length, Some, true, IfErr, IfOk};
 ghost use Rattle.block_store.specs.Blocks.{Contents};
 ghost use Rattle.block_store.specs.Opened.{MayBeOpened};
 ghost use Rattle.block_store.specs.Places.{shapes_of};
@@ -12,7 +12,7 @@ ghost use Rattle.pool_model.specs.declared.refusal.Refusal.TheVariants as Causes
 ghost use Rattle.pool_model.specs.Refusals.{greatest};
 ghost use Rattle.pool_model.specs.View.{is_tolerable, opened_as};
 ghost use Rattle.pool_open.specs.Held.{HoldOver, IsLaidOver};
-ghost use Rattle.pool_open.specs.Opening.{AreMisplacedOver, IsNotOpenedOver, IsOpenedOver, IsSurveyRefused};
+ghost use Rattle.pool_open.specs.Opening.{AreMisplacedOver, IsSurveyRefused};
 ghost use Rattle.pool_open.specs.Roots.{AreContentsOver};
 ghost use Rattle.pool_open.specs.Words.{stamp_of, vdevs_in};
 ghost use Rattle.pool_slots.specs.Present.{GoOut};
@@ -22,14 +22,13 @@ ghost use Rattle.uberblock_ring.specs.Uberblock.{IsNumber};
 ghost use Rattle.volume_rules.specs.NowMoves.{IsMadeBy};
 
 use crate::refusal::Refusal;
-use crate::roots::{ReadRoot, read_root};
-use crate::tolerance::{are_tolerable, count_sectors};
-use block_store::{BlockStore, VdevShape, writes_elsewhere_keep};
+use crate::tolerance::are_tolerable;
+use block_store::{BlockStore, VdevShape};
 use dataset_snapshots::RootContents;
 use model_disk::{Disk, DiskArray};
 use pool_commit::{Stamp, labels_of_opened_lie};
 use pool_core::Core;
-use pool_slots::{Survey, claim, survey_present};
+use pool_slots::{Survey, survey_present};
 use std::alloc::Global;
 use uberblock_ring::Uberblock;
 use words::LAST_COUNT;
@@ -63,7 +62,7 @@ pub(crate) fn fitting<D: Disk + Drop>(
 
 /// Surveys the disks in use. `NoUberblock` also where no group is left after the one that is taken, and `TooManyMissing` where of a vdev
 /// more disks are out then than it has parities.
-fn survey_disks<D: Disk + Drop>(
+pub(crate) fn survey_disks<D: Disk + Drop>(
     alloc: Global,
     disks: &mut DiskArray<D>,
     out: &mut Vec<bool>,
@@ -145,65 +144,4 @@ pub fn core_over<D: Disk + Drop>(
         Ok(core) => Ok(core),
         Err(cause) => Err(of_core(cause)),
     }
-}
-
-/// The same over disks that a store may be opened over.
-fn open_fitting<D: Disk + Drop>(
-    alloc: Global,
-    disks: DiskArray<D>,
-    shapes: &[VdevShape],
-    out: Vec<bool>,
-    rewind: u64,
-) -> Result<OpenedPool<D>, Refusal>
-    requires rewind { rewind < 3 }
-    requires may { MayBeOpened disks.starts shapes.now out.items }
-    requires labels { HaveLabels disks.starts }
-    requires laid { IsLaidOver disks shapes.now out.items }
-    ensures opened { IfOk result (λ pool.
-        IsOpenedOver disks shapes.now out.items rewind pool.uberblock (state_of pool.core)) }
-    ensures refused { IfErr result (IsNotOpenedOver disks shapes.now out.items rewind) }
-{
-    writes_elsewhere_keep();
-    let mut out = out;
-    let mut disks = disks;
-    let survey = survey_disks(alloc, &mut disks, &mut out, shapes, rewind)?;
-    let taken = survey.claimed();
-    let left = count_sectors(shapes);
-    let read = read_root(alloc, disks, shapes, &out, &taken.root, taken.group, left)?;
-    let ReadRoot {
-        mut disks,
-        contents,
-    } = read;
-    let claimed = claim(&survey, &mut disks, &out)?;
-    let core = core_over(alloc, disks, shapes, &out, &claimed, contents)?;
-    Ok(OpenedPool {
-        core,
-        uberblock: claimed,
-    })
-}
-
-/// Opens a pool whose disks are in the order of its configuration: reads what they show and what its root holds, claims it, and goes
-/// on from its group. Where it goes back (`rewind`, 1 or 2) it is the group that is so many less. A disk of which a label or slot can't
-/// be read is out from then on, and nothing is written to it.
-///
-/// `BadConfig` where the vdevs don't lie on the disks; what `survey_present` answers, and no group left is `NoUberblock` too;
-/// `TooManyMissing` where of a vdev more disks are out than it has parities; `BadPointer`, `BadDigest`, `DiskFault` and `BadMap` come
-/// from reading what the root holds. Until then nothing was written. `DiskFault` where a write or flush of the claim failed, and
-/// `BadPointer` where a space map is of no metaslab before a meta region, or a block of the meta object set lies in no place of the
-/// pool or shares a sector with another.
-pub fn open_over<D: Disk + Drop>(
-    alloc: Global,
-    disks: DiskArray<D>,
-    shapes: &[VdevShape],
-    out: Vec<bool>,
-    rewind: u64,
-) -> Result<OpenedPool<D>, Refusal>
-    requires rewind { rewind < 3 }
-    requires out { length out.items ≡ length disks.starts }
-    ensures opened { IfOk result (λ pool.
-        IsOpenedOver disks shapes.now out.items rewind pool.uberblock (state_of pool.core)) }
-    ensures refused { IfErr result (IsNotOpenedOver disks shapes.now out.items rewind) }
-{
-    let disks = fitting(alloc, disks, shapes, &out)?;
-    open_fitting(alloc, disks, shapes, out, rewind)
 }

@@ -11,7 +11,7 @@ use vdev_label::Breach;
 pub enum Refusal {
     #[error("out of memory")]
     NoMemory,
-    /// Of a block more columns are lost than its vdev has parities; or a write or flush of the claim failed.
+    /// Of a block more columns are lost than its vdev has parities; or a call on a disk of a new pool failed.
     #[error("a disk failed")]
     DiskFault,
     /// A new pool has no room for its first group.
@@ -29,7 +29,7 @@ pub enum Refusal {
     /// No choice of a block's columns has its digest.
     #[error("a block has another digest")]
     BadDigest,
-    /// More disks of a vdev are absent than it has parities.
+    /// More disks of a vdev are absent, or failed, than it has parities.
     #[error("too many disks are missing")]
     TooManyMissing,
     /// The labels are of several pools, or disagree on which disk is which.
@@ -128,16 +128,6 @@ impl From<pool_slots::Refusal> for Refusal {
             pool_slots::Refusal::NoUberblock | pool_slots::Refusal::UsedUp => Refusal::NoUberblock,
             pool_slots::Refusal::NoLabel => Refusal::BadConfig,
         }
-    }
-}
-
-impl From<pool_slots::DiskFailure> for Refusal {
-    ghost use Rattle.pool_open.specs.declared.refusal.Refusal.TheVariants.{DiskFault};
-
-    ghost from_gives = { λ _ refusal. refusal ≡ DiskFault };
-
-    fn from(_failure: pool_slots::DiskFailure) -> Refusal {
-        Refusal::DiskFault
     }
 }
 

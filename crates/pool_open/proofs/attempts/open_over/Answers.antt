@@ -1,14 +1,16 @@
 use Rattle.std.proofs.Common.{◌≡◌, ◌⊎◌, Bool, List, subst}
 use Rattle.block_store.specs.Opened.{MayBeOpened}
 use Rattle.pool_slots.proofs.Results.{if_err_is}
-use Rattle.pool_open.specs.Opening.{IsNotOpenedOver}
+use Rattle.pool_open.specs.Retried.{IsNotOpenedAtLast}
 use Rattle.pool_open.specs.declared.refusal.Refusal.TheVariants.{NoMemory, BadConfig}
+use Rattle.pool_open.proofs.Retried.{refused_first}
 use Rattle.pool_open.proofs.Stages.{refused_at_once}
-use Rattle.pool_open.proofs.opening.open_over.Goals as goal
+use Rattle.pool_open.proofs.attempts.open_over.Goals as goal
 
 pub returns-in_err-disks-clause-refused : goal.returns-in_err-disks-clause-refused
 returns-in_err-disks-clause-refused g c =
     let cause = c.in_err-disks.field-0.0 in
     let W : List Bool → Type 0 = λ xs. (cause ≡ NoMemory) ⊎ ((cause ≡ BadConfig) × ¬ MayBeOpened c.args.disks.starts c.args.shapes.now xs) in
-    if_err_is c.from_residual.result cause (IsNotOpenedOver c.args.disks c.args.shapes.now c.args.out.items c.args.rewind) c.from_residual.ensures.1
-    (refused_at_once c.args.out.items c.args.rewind c.args.disks c.args.shapes.now cause c.requires.out (subst W c.deref.ensures.value c.in_err-disks.ensures.refused))
+    if_err_is c.from_residual.result cause (IsNotOpenedAtLast c.args.disks c.args.shapes.now c.args.out.items c.args.rewind) c.from_residual.ensures.1
+    (refused_first c.args.disks c.args.shapes.now c.args.out.items c.args.rewind cause
+    (refused_at_once c.args.out.items c.args.rewind c.args.disks c.args.shapes.now cause c.requires.out (subst W c.deref.ensures.value c.in_err-disks.ensures.refused)))
