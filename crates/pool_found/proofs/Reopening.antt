@@ -15,6 +15,7 @@ use Rattle.pool_open.specs.Opens.{OpenRefuses}
 use Rattle.pool_open.specs.Stops.{fresh}
 use Rattle.pool_open.specs.declared.refusal.Refusal.{Refusal}
 use Rattle.pool_open.specs.declared.refusal.Refusal.TheVariants.{NoMemory}
+use Rattle.pool_open.proofs.Retried.{undiminished_opens_claim_once, unfailing_opens_claim_once}
 use Rattle.pool_slots.specs.Commits.{AreOffLabels}
 use Rattle.pool_slots.specs.Configs.{IsConfigured}
 use Rattle.pool_slots.specs.Marks.{IsUsedUp}
@@ -211,9 +212,10 @@ module _ {D : Type 0} where
       (show_highest pool vdevs digest images shapes out p pools it left) returned.handed_in
       (uncalled_yet g images disks order found.old returned found.read.before) truly found.cause)
   refused_so law g pool vdevs digest images shapes out p pools disks order refusal it returned left (inr found) truly =
+      let once = unfailing_opens_claim_once found.array found.shapes found.out 0 refusal found.refused truly.1.none_failed in
       unopened_so law images shapes out p pools found.array found.shapes found.out refusal
       (is_arranged g pool vdevs images shapes out disks order 0 found.array found.shapes found.out it.are returned found.ordered truly.0)
-      it.led it.are.there left found.refused truly.1
+      it.led it.are.there left once.0 (subst (λ (d : Disks). AnswerTruly found.array d) (sym once.1) truly.1)
 
   pub own_pools_open_again : UnhinderedOpensAreDone → OpenedPoolsRunAs → OpenedPoolsAreOnTheirDisks → StoppedOpensLeadToOwnPools → (g : disk.Ghosts D)
       → OwnPoolsOpenAgain g
@@ -221,9 +223,10 @@ module _ {D : Type 0} where
     refused = λ disks order refusal returned left why truly.
         refused_so law g pool vdevs digest images shapes out p pools disks order refusal it returned left why truly;
     done = λ disks order rewind claimed core returned is truly few.
+        let once = undiminished_opens_claim_once is.array is.shapes is.out rewind claimed core is.opened truly.all in
         opened_so runs own pool vdevs digest images shapes out p pools is.array is.shapes is.out rewind claimed core it
         (is_arranged g pool vdevs images shapes out disks order rewind is.array is.shapes is.out it.are returned is.ordered truly.found) few truly.honest
-        is.opened truly.all;
+        once.0 once.1;
     stopped = λ disks order rewind array new its_shapes its_out left few by_group returned ordered truly kept honest leaves untorn.
         stopped_so stop pool vdevs digest images shapes out p pools array new its_shapes its_out rewind left it
         (is_arranged g pool vdevs images shapes out disks order rewind array its_shapes its_out it.are returned ordered truly) few by_group honest kept leaves untorn;

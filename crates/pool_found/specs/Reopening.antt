@@ -55,7 +55,7 @@ module _ {D : Type 0} where
   pub record IsOpenedTruly {g : disk.Ghosts D} {disks : List D} {rewind : ℕ} {claimed : Uberblock} {core : CoreState}
       (is : IsOpened g disks rewind claimed core) : Type 0 where
     pub found : AnswerTruly is.ordered.found.old is.ordered.found.new
-    pub all : is.opened.later ≡ is.out
+    pub all : is.opened.last.later ≡ is.out
     pub honest : IsHonestSince is.array (disks_of core)
 
   -- Whatever the order in which such disks are handed in: an open that doesn't go back is refused for want of memory alone; one that is done gives a core

@@ -32,7 +32,7 @@ use Rattle.pool_open.specs.Trees.{IsTreeOf}
 use Rattle.pool_open.specs.Words.{most_blocks, vdevs_in}
 use Rattle.pool_open.specs.declared.refusal.Refusal.{Refusal}
 use Rattle.pool_open.specs.declared.refusal.Refusal.TheVariants.{NoMemory}
-use Rattle.pool_open.proofs.Through.{block_reads_made, honest_within, through_made}
+use Rattle.pool_open.proofs.Through.{block_reads_made, honest_within}
 use Rattle.pool_slots.specs.Failures.{HasFailedOn}
 use Rattle.pool_slots.specs.Marks.{IsUsedUp}
 use Rattle.pool_slots.specs.Opens.{CanOpen, IsHighestShown, IsRead, IsShown}
@@ -278,9 +278,7 @@ claim_case : (old new : Disks) (shapes : List VdevShape) (out : List Bool) (p : 
     → LeadToWholePools old shapes out p pools → IsFree old new shapes out → (through : AreClaimedThrough out out claimed old new)
     → IsCauseOfClaim old through.before.surveyed through.read new shapes out 0 refusal → refusal ≡ NoMemory
 claim_case old new shapes out p pools claimed refusal led free through (inl memory) = memory
-claim_case old new shapes out p pools claimed refusal led free through (inr (inl (fault, (which, failed)))) =
-    absurd (free.none_failed which (fails_later no_write old through.read new (through_made out out old through.read through.before) which failed))
-claim_case old new shapes out p pools claimed refusal led free through (inr (inr (bad, misplaced))) =
+claim_case old new shapes out p pools claimed refusal led free through (inr (bad, misplaced)) =
     absurd (misplaced_case old through.before.surveyed through.read new shapes out p pools _ led free (reads_made through.before.absent.only)
     (block_reads_made through.before.surveyed through.read through.before.blocks.only) through.claims.makes misplaced)
 
