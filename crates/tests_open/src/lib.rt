@@ -6,6 +6,8 @@ mod configured;
 #[cfg(test)]
 mod exports;
 #[cfg(test)]
+mod failing;
+#[cfg(test)]
 mod files;
 #[cfg(test)]
 mod finds;

@@ -11,7 +11,7 @@ use std::test::*;
 use vdev_label::Breach;
 
 /// A pool that was filled: its disks, and what it shows.
-fn written(alloc: Global) -> Result<(Vec<MemDisk>, Shown), Fail> {
+pub(crate) fn written(alloc: Global) -> Result<(Vec<MemDisk>, Shown), Fail> {
     let mut core = made(alloc, blank(alloc)?, 1)?;
     let shown = fill(alloc, &mut core);
     let members = core.into_disks();

@@ -12,8 +12,8 @@ use Rattle.pool_core.specs.State.{CoreState, disks_of}
 use Rattle.pool_create.specs.Planning.{nobody}
 use Rattle.pool_model.specs.Pools.{PlainPool}
 use Rattle.pool_model.specs.View.{View}
-use Rattle.pool_open.specs.Opening.{IsNotOpenedOver}
 use Rattle.pool_open.specs.Opens.{OpenRefuses}
+use Rattle.pool_open.specs.Retried.{IsNotOpenedAtLast}
 use Rattle.pool_open.specs.Stops.{fresh}
 use Rattle.pool_open.specs.declared.refusal.Refusal.{Refusal}
 use Rattle.pool_open.specs.declared.refusal.Refusal.TheVariants.{NoMemory}
@@ -44,7 +44,7 @@ OpensWell old shapes out claimed core =
 -- one that was not, and that nothing hindered, lacked memory, if its disks led to whole pools
 abbrev pub IsRefusedWell : Disks → List VdevShape → List Bool → Refusal → Type 0
 IsRefusedWell old shapes out refusal =
-    (is : IsNotOpenedOver old shapes out 0 refusal) × ((p : Possible) (pools : Uberblock → PlainPool) → LeadToWholePools old shapes out p pools
+    (is : IsNotOpenedAtLast old shapes out 0 refusal) × ((p : Possible) (pools : Uberblock → PlainPool) → LeadToWholePools old shapes out p pools
     → AreAllThere old.starts shapes out → IsUnhindered old is.new out → refusal ≡ NoMemory)
 
 -- where a pool was found on the disks, a store may be opened over them

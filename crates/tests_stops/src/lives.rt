@@ -9,7 +9,7 @@ use model_disk::{Disk, DiskArray, MemDisk, Member};
 use pool_create::create_over;
 use pool_format::PoolIdentity;
 use pool_found::{found_disks_may_be_opened, own_pools_open_again};
-use pool_open::{OpenedPool, Refusal, open, open_over};
+use pool_open::{OpenedPool, Refusal, open, open_over, unfailing_opens_claim_once};
 use pool_stops::{created_pools_run_as, led_disks_open, unhindered_opens_are_done};
 use raidz_io::Vdev;
 use raidz_map::Geometry;
@@ -42,6 +42,7 @@ fn reopened(
         OpensWell disks shapes.now out.items opened.uberblock (state_of opened.core)) }
     ensures refused { IfErr result (IsRefusedWell disks shapes.now out.items) }
 {
+    unfailing_opens_claim_once();
     led_disks_open();
     unhindered_opens_are_done();
     open_over(alloc, disks, shapes, out, 0)

@@ -1,6 +1,8 @@
-use Rattle.std.proofs.Common.{◌∙◌, sym}
+use Rattle.std.proofs.Common.{◌∙◌, sym, subst}
+use Rattle.model_disk.specs.Joint.{Disks}
 use Rattle.pool_core.specs.StateOf.{state_of}
-use Rattle.pool_open.specs.Opening.{IsNotOpenedOver, IsOpenedOver}
+use Rattle.pool_open.specs.Retried.{IsNotOpenedAtLast, IsOpenedAtLast}
+use Rattle.pool_stops.specs.Unhindered.{AnswerTruly}
 use Rattle.tests_stops.specs.Lives.{IsRefusedWell, OpensWell}
 use Rattle.tests_stops.proofs.Opened.{if_err, if_ok}
 use Rattle.tests_stops.proofs.lives.reopened.Goals as goal
@@ -9,16 +11,23 @@ pub returns-clause-opened : goal.returns-clause-opened
 returns-clause-opened c =
     let shapes = c.args.shapes.now in
     let out = c.args.out.items in
-    if_ok c.open_over.result (λ pool. IsOpenedOver c.args.disks shapes out 0 pool.uberblock (state_of pool.core))
+    if_ok c.open_over.result (λ pool. IsOpenedAtLast c.args.disks shapes out 0 pool.uberblock (state_of pool.core))
     (λ pool. OpensWell c.args.disks shapes out pool.uberblock (state_of pool.core))
     (λ pool is p pools led same none sound.
-    c.led_disks_open.ensures c.args.disks shapes out 0 p pools pool.uberblock (state_of pool.core) led is (sym is.outs ∙ same) none sound.few sound.honest)
+    let once = c.unfailing_opens_claim_once.ensures.opened c.args.disks shapes out 0 pool.uberblock (state_of pool.core) is (sym is.last.outs ∙ same) in
+    c.led_disks_open.ensures c.args.disks shapes out 0 p pools pool.uberblock (state_of pool.core) led once.0 once.1 none sound.few sound.honest)
     c.open_over.ensures.opened
 
 pub returns-clause-refused : goal.returns-clause-refused
 returns-clause-refused c =
     let shapes = c.args.shapes.now in
     let out = c.args.out.items in
-    if_err c.open_over.result (IsNotOpenedOver c.args.disks shapes out 0) (IsRefusedWell c.args.disks shapes out)
-    (λ refusal is. (is, λ p pools led there free. c.unhindered_opens_are_done.ensures c.args.disks shapes out p pools refusal led there is free))
+    if_err c.open_over.result (IsNotOpenedAtLast c.args.disks shapes out 0) (IsRefusedWell c.args.disks shapes out)
+    (λ refusal is. (
+      is,
+      λ p pools led there free.
+          let once = c.unfailing_opens_claim_once.ensures.refused c.args.disks shapes out 0 refusal is free.truly.none_failed in
+          c.unhindered_opens_are_done.ensures c.args.disks shapes out p pools refusal led there once.0
+          (record { left = free.left; truly = subst (λ (d : Disks). AnswerTruly c.args.disks d) (sym once.1) free.truly }),
+    ))
     c.open_over.ensures.refused
