@@ -1,13 +1,14 @@
 mod Distinct
 mod Parts
-mod Updates
-mod Climbing
+pub mod Updates
+pub mod Climbing
 mod Fitting
 mod Heads
 mod Making
 mod Writing
 mod Taking
 mod Removing
-mod Steps
+pub mod Steps
 mod WholeRuns
+mod Reaching
 pub mod RowLists

@@ -4,3 +4,4 @@ pub mod Sound
 pub mod Operations
 pub mod Runs
 pub mod Rows
+pub mod Reach

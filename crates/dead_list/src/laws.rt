@@ -4,6 +4,7 @@ ghost use Rattle.block_pointer.specs.declared.block.Block.{Block};
 ghost use Rattle.dead_list.specs.Datasets.{Pool, AreFreed};
 ghost use Rattle.dead_list.specs.Sound.{IsSound, IsEmpty};
 ghost use Rattle.dead_list.specs.Operations.{Operation, MayDo, Makes};
+ghost use Rattle.dead_list.specs.Reach.{ReachHasEachOnce};
 ghost use Rattle.dead_list.specs.Runs.{Step, Run, NoneComesBack, IsFreedForGood};
 
 /// Whoever takes operations one by one keeps that the pool is sound, and frees with each exactly what some
@@ -30,4 +31,10 @@ pub fn runs_free_what_nothing_reaches()
 pub fn freed_blocks_stay_freed()
     ensures { (start last : Pool) (steps : List Step) → IsSound start → Run start steps last
         → NoneComesBack steps → IsFreedForGood steps last }
+{}
+
+/// The blocks of all datasets that were born after the snapshot before each are those that some dataset reaches, each once: so a walk looks at
+/// a block once, though many datasets share it.
+pub fn reach_has_each_block_once()
+    ensures { ReachHasEachOnce }
 {}

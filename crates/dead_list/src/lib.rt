@@ -10,7 +10,8 @@ mod rows;
 mod splitting;
 
 pub use laws::{
-    freed_blocks_stay_freed, operations_free_what_nothing_reaches, runs_free_what_nothing_reaches,
+    freed_blocks_stay_freed, operations_free_what_nothing_reaches, reach_has_each_block_once,
+    runs_free_what_nothing_reaches,
 };
 pub use list::DeadList;
 pub use refusal::Refusal;

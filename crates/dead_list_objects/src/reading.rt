@@ -1,5 +1,5 @@
 //! Dead lists are read.
-ghost use Rattle.std.specs.Prelude.{◌≡◌, ◌⊎◌, ℕ, List, Option, IfOk, IfErr};
+ghost use Rattle.std.specs.Prelude.{◌≡◌, ◌⊎◌, ℕ, List, Option, IfOk, IfErr, IsPermutation};
 ghost use Rattle.block_pointer.specs.declared.block.Block.{Block};
 ghost use Rattle.block_store.specs.Blocks.{Contents};
 ghost use Rattle.block_store.specs.Steps.{OnlyReadsBlocks, AnswersAreTrue};
@@ -37,6 +37,11 @@ pub fn read_dead_list<D: Disk + Drop>(
         (own : List Block) (blocks : ℕ → List Block) → Holds store.old stored
         → AreObjects stored birth set.now objects own blocks → AnswersAreTrue store.old store.new
         → HasDeadList (objects number) list) }
+    // It is the only list, but for the order of its blocks.
+    ensures one { IfOk result (λ list. (stored : Contents) (objects : ℕ → Option Object)
+        (own : List Block) (blocks : ℕ → List Block) → Holds store.old stored
+        → AreObjects stored birth set.now objects own blocks → AnswersAreTrue store.old store.new
+        → (other : List Block) → HasDeadList (objects number) other → IsPermutation other list) }
 
     // Whatever the set is: what was read, and on a refusal its cause.
     ensures found { IfOk result (IsListFound store.old.spaces set.now birth number) }
@@ -56,6 +61,8 @@ pub fn read_dead_list<D: Disk + Drop>(
 /// The list that the rows spell.
 fn list_of(alloc: Global, rows: &[u8]) -> Result<DeadList, Refusal>
     ensures found { IfOk result (SpellsList rows.now) }
+    ensures only { (list : List Block) → SpellsList rows.now list
+        → IfOk result (IsPermutation list) }
     ensures refused { IfErr result (λ refusal. (refusal ≡ Refusal.NoMemory)
         ⊎ ((refusal ≡ Refusal.BadList) × SpellsNoList rows.now)) }
 {

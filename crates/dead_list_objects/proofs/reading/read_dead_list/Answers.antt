@@ -1,9 +1,15 @@
-use Rattle.std.proofs.Common.{ℕ, List, inl, inr, ⊎_elim, subst, ◌∙◌}
+use Rattle.std.proofs.Common.{ℕ, List, Result, Ok, Err, IfOk, IsPermutation, inl, inr, ⊎_elim, subst, sym, ◌∙◌}
 use Rattle.std.proofs.lemmas.Result.{IfOk-weaker, IfErr-weaker}
 use Rattle.dnode_tree.proofs.Refusing.{passed_on}
 use Rattle.dead_list_objects.proofs.Unread.{unread, lossy}
+use Rattle.block_pointer.specs.declared.block.Block.{Block}
 use Rattle.dead_list.specs.Rows.{SpellsList, SpellsNoList}
 use Rattle.dead_list_objects.proofs.reading.read_dead_list.Goals as goal
+
+-- what is known of the value with each thing that is given
+ok_given : {T E G : Type 0} (result : Result T E) (P : G → T → Type 0) → ((given : G) → IfOk result (P given)) → IfOk result (λ x. (given : G) → P given x)
+ok_given (Ok x) P known = λ given. known given
+ok_given (Err e) P known = tt
 
 pub returns-in_err-rows-clause-known : goal.returns-in_err-rows-clause-known
 returns-in_err-rows-clause-known g c =
@@ -60,3 +66,11 @@ returns-clause-known g c =
     subst (λ (bytes : List ℕ). SpellsNoList bytes) same bad.1 some.1.2.0 some.1.2.2))
     why)
     c.list_of.ensures.refused
+
+pub returns-clause-one : goal.returns-clause-one
+returns-clause-one g c =
+    IfOk-weaker c.list_of.result _ _
+    (λ list one stored objects own blocks held are honest other there.
+    let same = c.deref.ensures.value ∙ c.in_ok-rows.ensures.one stored objects own blocks held are honest there.0 there.1 in
+    one (other, subst (λ (bytes : List ℕ). SpellsList bytes other) (sym same) there.2))
+    (ok_given {G = (other : List Block) × SpellsList c.deref.result.now other} c.list_of.result (λ given list. IsPermutation given.0 list) (λ given. c.list_of.ensures.only given.0 given.1))
