@@ -1,0 +1,8 @@
+pub mod Maps
+pub mod Overs
+pub mod Joining
+pub mod Steps
+pub mod Serving
+pub mod Emptying
+pub mod Ordered
+pub mod Giving
