@@ -1,0 +1,6 @@
+pub mod Chains
+pub mod Making
+pub mod Refused
+pub mod Standing
+pub mod Passing
+pub mod Laws
