@@ -1,0 +1,14 @@
+pub mod BlocksOnce
+pub mod Refusing
+pub mod YoungerBlocks
+pub mod Numbers
+pub mod Chains
+pub mod SnapshotGone
+pub mod HeadGone
+pub mod ReadSteps
+pub mod Finding
+pub mod RecordSteps
+pub mod GivenOver
+pub mod Destroyed
+pub mod HeadFinding
+pub mod HeadDestroyed

@@ -1,0 +1,5 @@
+pub mod Younger
+pub mod Refused
+pub mod Steps
+pub mod Places
+pub mod HeadPlaces

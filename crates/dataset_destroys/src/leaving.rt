@@ -1,0 +1,59 @@
+//! Heads whose records go.
+ghost use Rattle.std.specs.Prelude.{◌≡◌, ℕ, Option, OnOk};
+ghost use Rattle.dataset_changes.specs.Over.{AreOver};
+ghost use Rattle.dataset_changes.specs.States.{AreOfOneSet, HaveSameLists};
+ghost use Rattle.dataset_destroys.specs.HeadPlaces.{AreHeadPlaced, FitsHead, IsLoneHead};
+ghost use Rattle.dataset_destroys.specs.Steps.{AreOneLess, IsBefore, IsLeft};
+ghost use Rattle.objset.specs.Objects.{Object};
+
+use crate::head_places::HeadPlace;
+use crate::records::{put_record, take_out};
+use dataset_changes::DatasetChanges;
+use meta_objset::DatasetRecord;
+use std::alloc::{AllocError, Global};
+
+/// A head's record goes, and its origin has a clone less.
+pub(crate) fn leave(
+    changes: &mut DatasetChanges,
+    alloc: Global,
+    place: &HeadPlace,
+) -> Result<(), AllocError>
+    requires fits { FitsHead place.now }
+    requires lone { IsLoneHead place.now }
+    ensures one_set { AreOfOneSet changes.old changes.new }
+    ensures lists { HaveSameLists changes.old changes.new }
+    ensures value { OnOk result ((objects : ℕ → Option Object) → AreOver objects changes.old
+        → AreHeadPlaced objects changes.old place.now
+        → IsLeft objects changes.old changes.new (place.now).number (place.now).gone.previous
+        (place.now).before) }
+{
+    leave_origin(changes, alloc, place)?;
+    take_out(changes, alloc, place.number)?;
+    Ok(())
+}
+
+/// The origin of a clone has a clone less.
+fn leave_origin(
+    changes: &mut DatasetChanges,
+    alloc: Global,
+    place: &HeadPlace,
+) -> Result<(), AllocError>
+    requires fits { FitsHead place.now }
+    requires lone { IsLoneHead place.now }
+    ensures one_set { AreOfOneSet changes.old changes.new }
+    ensures lists { HaveSameLists changes.old changes.new }
+    ensures value { OnOk result ((objects : ℕ → Option Object) → AreOver objects changes.old
+        → IsBefore objects changes.old (place.now).gone.previous (place.now).before
+        → AreOneLess objects changes.old changes.new (place.now).gone.previous
+        (place.now).before) }
+{
+    let Some(before) = place.before else {
+        return Ok(());
+    };
+    let less = DatasetRecord {
+        clones: before.clones - 1,
+        ..before
+    };
+    put_record(changes, alloc, place.gone.previous, &less)?;
+    Ok(())
+}

@@ -1,0 +1,16 @@
+//! Datasets that a transaction group destroys: what becomes of the records and dead lists in their chains, and which blocks are freed.
+#![tactic(auto)]
+
+mod head_places;
+mod heads;
+mod leaving;
+mod links;
+mod lists;
+mod places;
+mod records;
+mod snapshots;
+mod younger;
+
+pub use block_store::Refusal;
+pub use heads::destroy_head;
+pub use snapshots::destroy_snapshot;
