@@ -18,7 +18,7 @@ use std::alloc::{AllocError, Global};
 use std::test::Fail;
 
 /// A block of 8 KiB with one copy.
-fn born_in(birth: u64) -> Block
+pub(crate) fn born_in(birth: u64) -> Block
     requires { 0 < birth }
     ensures { FitsBlock result }
 {
@@ -39,7 +39,7 @@ fn born_in(birth: u64) -> Block
     }
 }
 
-fn add(list: &mut DeadList, block: Block) -> Result<(), AllocError>
+pub(crate) fn add(list: &mut DeadList, block: Block) -> Result<(), AllocError>
     requires list { All FitsBlock list.old }
     requires block { FitsBlock block }
     ensures { OnOk result (All FitsBlock list.new) }
@@ -47,7 +47,7 @@ fn add(list: &mut DeadList, block: Block) -> Result<(), AllocError>
     list.push(block)
 }
 
-fn dead_list_in(
+pub(crate) fn dead_list_in(
     set: &ObjectSet,
     store: &mut Store,
     alloc: Global,
@@ -60,7 +60,7 @@ fn dead_list_in(
 }
 
 /// The groups that the blocks of a list were born in, in ascending order.
-fn births_of(alloc: Global, list: DeadList) -> Result<Vec<u64>, AllocError> {
+pub(crate) fn births_of(alloc: Global, list: DeadList) -> Result<Vec<u64>, AllocError> {
     let blocks = list.into_blocks()?;
     let mut births: Vec<u64> = blocks.iter().map(|block| block.birth).collect(alloc)?;
     births.sort()?;

@@ -2,7 +2,13 @@
 #![tactic(auto)]
 
 #[cfg(test)]
+mod chains;
+#[cfg(test)]
+mod changed_datasets;
+#[cfg(test)]
 mod dead_lists;
+#[cfg(test)]
+mod destroys;
 #[cfg(test)]
 mod followed_maps;
 #[cfg(test)]

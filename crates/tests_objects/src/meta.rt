@@ -220,7 +220,7 @@ fn a_configuration_is_read_as_it_was_stored(rt: HostRuntime) -> Result<(), Fail>
     Ok(())
 }
 
-fn record_of(object_set: Block, created: u64) -> DatasetRecord
+pub(crate) fn record_of(object_set: Block, created: u64) -> DatasetRecord
     requires { FitsBlock object_set }
     ensures { FitsRecord result }
 {
@@ -238,7 +238,7 @@ fn record_of(object_set: Block, created: u64) -> DatasetRecord
 }
 
 /// Some block of an object set.
-fn block_of_set(store: &mut Store, alloc: Global) -> Result<Block, Refusal>
+pub(crate) fn block_of_set(store: &mut Store, alloc: Global) -> Result<Block, Refusal>
     ensures { IfOk result FitsBlock }
 {
     store.drop_plan(1);
