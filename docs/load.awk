@@ -1,0 +1,25 @@
+# Prints a schedule that makes volumes of a pool of 4 + 1 disks and writes to the first, group by group; with reads=1 then a read of each
+# place that was written. For example:
+#   awk -v volumes=1 -v groups=100 -v writes=20 -v len=8192 -v size=67108864 -v block=8192 -v reads=0 -f docs/load.awk
+BEGIN {
+    print "pool 1 5 268435456 16 2"
+    print "hold 1"
+    for (v = 0; v < volumes; v++)
+        printf "create 1 %d v%04d %d %d\n", v + 1, v, size, block
+    print "release 1"
+    print "sync"
+    places = int(size / len)
+    first = volumes + 1
+    for (g = 0; g < groups; g++) {
+        print "hold 1"
+        for (k = 0; k < writes; k++) {
+            n = first + g * writes + k
+            printf "write 1 %d v0000 %d %d %02x\n", n, (n * 7 % places) * len, len, n % 251
+        }
+        print "release 1"
+        print "sync"
+    }
+    if (reads)
+        for (k = 0; k < groups * writes; k++)
+            printf "read v0000 %d %d\n", ((first + k) * 7 % places) * len, len
+}
