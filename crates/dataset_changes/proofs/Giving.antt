@@ -14,7 +14,7 @@ use Rattle.dataset_changes.specs.Fitting.{FitLists, FitRecords}
 use Rattle.dataset_changes.specs.Numbers.{IsNumber}
 use Rattle.dataset_changes.specs.Over.{IsListNow, IsListOver, IsRecordNow, IsRecordOver}
 use Rattle.dataset_changes.specs.Planned.{AreListsPlanned, AreRecordPlans, IsListPlanned, IsPlanned, ServesList, ServesRecord, changes_of}
-use Rattle.dataset_changes.specs.Results.{AreChangesOf}
+use Rattle.dataset_changes.specs.Results.{AreChangesOf, IsRecordChanged}
 use Rattle.dataset_changes.specs.States.{list_at, record_at}
 use Rattle.dataset_changes.specs.declared.changes.DatasetChanges.{DatasetChanges}
 use Rattle.dataset_changes.specs.declared.states.ListState.{ListState}
@@ -41,15 +41,20 @@ both_planned (Some r) (Some l) first plan one two = let clash : None ≡ Some on
 same_plan : (plan : Option (Option Change)) (found : Option Change) (change : Change) → plan ≡ Some found → plan ≡ Some (Some change) → found ≡ Some change
 same_plan plan found change one two = let e : Some found ≡ Some (Some change) = sym one ∙ two in cc
 
-touched_by : (r : Option RecordState) (l : Option ListState) (plan : Option (Option Change)) (change : Change) → IsPlannedFor r l plan → plan ≡ Some (Some change) → (r ≢ None) ⊎ (l ≢ None)
+touched_by : (r : Option RecordState) (l : Option ListState) (plan : Option (Option Change)) (change : Change) → IsPlannedFor r l plan → plan ≡ Some (Some change) → IsRecordChanged r ⊎ (l ≢ None)
 touched_by None None plan change planned is = let clash : None ≡ Some (Some change) = sym planned ∙ is in absurd cc
-touched_by (Some r) None plan change planned is = inl (λ none. cc)
+touched_by (Some r) None plan change planned is = inl (
+  λ none. cc,
+  λ one read.
+      let same : r ≡ records.Read one = cc in
+      subst (λ (p : Option Change). IfSome p (λ c. (other : DatasetRecord) → r ≢ records.Read other)) (same_plan plan planned.0 change planned.1 is) planned.2.changed one same,
+)
 touched_by None (Some l) plan change planned is = inr (λ none. cc)
 touched_by (Some r) (Some l) plan change planned is = absurd planned
 
 number_by : (all : BTreeMap ℕ RecordState) (others : BTreeMap ℕ ListState) (number : ℕ) (r : Option RecordState) (l : Option ListState) → FitRecords all → FitLists others → get nat_cmp all number ≡ r → get nat_cmp others number ≡ l
-    → (r ≢ None) ⊎ (l ≢ None) → IsNumber number
-number_by all others number None l fit_records fit_lists r_is l_is (inl some) = absurd (some refl)
+    → IsRecordChanged r ⊎ (l ≢ None) → IsNumber number
+number_by all others number None l fit_records fit_lists r_is l_is (inl some) = absurd (some.0 refl)
 number_by all others number (Some r) l fit_records fit_lists r_is l_is (inl some) = fit_records.numbers number r r_is
 number_by all others number r None fit_records fit_lists r_is l_is (inr some) = absurd (some refl)
 number_by all others number r (Some l) fit_records fit_lists r_is l_is (inr some) = fit_lists.numbers number l l_is
@@ -132,7 +137,7 @@ module _ (changes : DatasetChanges) (first plans : BTreeMap ℕ (Option Change))
   planned : (q : ℕ) → IsPlannedFor (record_at changes q) (list_at changes q) (get nat_cmp plans q)
   planned q = both_planned (record_at changes q) (list_at changes q) (get nat_cmp first q) (get nat_cmp plans q) (of_records q) (of_lists q)
 
-  touched : (q : ℕ) (change : Change) → get nat_cmp plans q ≡ Some (Some change) → (record_at changes q ≢ None) ⊎ (list_at changes q ≢ None)
+  touched : (q : ℕ) (change : Change) → get nat_cmp plans q ≡ Some (Some change) → IsRecordChanged (record_at changes q) ⊎ (list_at changes q ≢ None)
   touched q change is = touched_by (record_at changes q) (list_at changes q) (get nat_cmp plans q) change (planned q) is
 
   pub planned_changes : AreChangesOf changes (changes_of plans.entries)
@@ -142,7 +147,7 @@ module _ (changes : DatasetChanges) (first plans : BTreeMap ℕ (Option Change))
         (λ q change is. number_by changes.records changes.lists q (record_at changes q) (list_at changes q) changes.records_fit changes.lists_fit refl refl (touched q change is));
     good = changes_hold (λ q change. IsGoodChange change) plans.entries ordered
         (λ q change is. good_by (record_at changes q) (list_at changes q) (get nat_cmp plans q) change (planned q) is);
-    touched = changes_hold (λ q change. (record_at changes q ≢ None) ⊎ (list_at changes q ≢ None)) plans.entries ordered touched;
+    touched = changes_hold (λ q change. IsRecordChanged (record_at changes q) ⊎ (list_at changes q ≢ None)) plans.entries ordered touched;
     over = λ objects over. record {
       may = changes_hold (λ q change. MayChange change (objects q)) plans.entries ordered
           (λ q change is. may_by (objects q) (record_at changes q) (list_at changes q) (get nat_cmp plans q) change (planned q) is (over.records q) (over.lists q));

@@ -1,5 +1,5 @@
 -- The changes of objects that are planned, by the objects' numbers.
-use Rattle.std.specs.Prelude.{ℕ, ◌≡◌, List, [], ◌∷◌, Option, Some, None, IfSome}
+use Rattle.std.specs.Prelude.{ℕ, ◌≡◌, ◌≢◌, List, [], ◌∷◌, Option, Some, None, IfSome}
 use Rattle.std.specs.BTreeMap.{BTreeMap, get}
 use Rattle.std.specs.Ordering.{nat_cmp}
 use Rattle.block_pointer.specs.declared.block.Block.{Block}
@@ -28,6 +28,7 @@ pub record ServesRecord (state : RecordState) (plan : Option Change) : Type 0 wh
   pub now : (object : Option Object) → IsRecordOver object (Some state) → (r : DatasetRecord) → IsRecordNow object (Some state) r
       → HasRecord (after_plan plan object) r
   pub gone : (object : Option Object) → state ≡ records.Gone → after_plan plan object ≡ None
+  pub changed : IfSome plan (λ change. (r : DatasetRecord) → state ≢ records.Read r)
 
 -- or of its dead list
 pub record ServesList (state : ListState) (plan : Option Change) : Type 0 where

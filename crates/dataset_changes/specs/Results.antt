@@ -11,6 +11,7 @@ use Rattle.dataset_changes.specs.Over.{AreOver, HasListNow, HasRecordNow}
 use Rattle.dataset_changes.specs.States.{IsNumber, list_at, record_at}
 use Rattle.dataset_changes.specs.declared.changes.DatasetChanges.{DatasetChanges}
 use Rattle.dataset_changes.specs.declared.states.ListState.TheVariants as lists
+use Rattle.dataset_changes.specs.declared.states.RecordState.{RecordState}
 use Rattle.dataset_changes.specs.declared.states.RecordState.TheVariants as records
 
 -- one number has both a record and a dead list that were read or changed
@@ -33,10 +34,14 @@ pub record Gives (changes : DatasetChanges) (made : List ObjectChange) (objects 
   pub others : (number : ℕ) → record_at changes number ≡ None → list_at changes number ≡ None
       → changed made objects number ≡ objects number
 
+-- more became of it than that it was read
+abbrev pub IsRecordChanged : Option RecordState → Type 0
+IsRecordChanged state = (state ≢ None) × ((r : DatasetRecord) → state ≢ Some (records.Read r))
+
 -- these are in the order of their objects' numbers, and come to that
 pub record AreChangesOf (changes : DatasetChanges) (made : List ObjectChange) : Type 0 where
   pub order : AllPairs (λ change later. change.number < later.number) made
   pub numbers : All (λ change. IsNumber change.number) made
   pub good : All (λ change. IsGoodChange change.change) made
-  pub touched : All (λ change. (record_at changes change.number ≢ None) ⊎ (list_at changes change.number ≢ None)) made
+  pub touched : All (λ change. IsRecordChanged (record_at changes change.number) ⊎ (list_at changes change.number ≢ None)) made
   pub over : (objects : ℕ → Option Object) → AreOver objects changes → Gives changes made objects

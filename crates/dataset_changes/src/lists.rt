@@ -70,7 +70,7 @@ impl DatasetChanges {
     }
 
     /// Another dead list in place of one that was taken out or made.
-    pub fn put_list(&mut self, alloc: Global, number: u64, list: DeadList) -> Result<(), AllocError>
+    pub fn put_list(&mut self, number: u64, list: DeadList) -> Result<(), AllocError>
         requires fits { All FitsBlock list }
         requires number { IsNumber number }
         ensures one_set { AreOfOneSet self.old self.new }
@@ -81,7 +81,6 @@ impl DatasetChanges {
             → AreOver objects self.old → HasListNow objects self.old number old
             → AreOver objects self.new) }
     {
-        let _ = alloc;
         let made = self.is_list_made(number);
         self.insert_list(number, whole_state(made, list))
     }
@@ -142,7 +141,7 @@ impl DatasetChanges {
 
     /// The object of a dead list goes; the list isn't read. One that was made isn't made. `BadPointer` where the number is none of an object behind
     /// the tables.
-    pub fn free_list(&mut self, alloc: Global, number: u64) -> Result<(), Refusal>
+    pub fn free_list(&mut self, number: u64) -> Result<(), Refusal>
         ensures one_set { AreOfOneSet self.old self.new }
         ensures records { HaveSameRecords self.old self.new }
         ensures put { OnOk result
@@ -154,7 +153,6 @@ impl DatasetChanges {
         ensures refused { IfErr result (λ refusal. (refusal ≡ Refusal.NoMemory)
             ⊎ ((refusal ≡ Refusal.BadPointer) × ¬ IsNumber number)) }
     {
-        let _ = alloc;
         if !is_number(number) {
             return Err(Refusal::BadPointer);
         }

@@ -5,7 +5,7 @@ ghost use Rattle.block_store.specs.Blocks.{Contents};
 ghost use Rattle.block_store.specs.Losses.{IsForLoss};
 ghost use Rattle.block_store.specs.Steps.{OnlyReadsBlocks, AnswersAreTrue};
 ghost use Rattle.block_store.specs.Store.{Holds};
-ghost use Rattle.meta_objset.specs.Found.{IsRecordRefused};
+ghost use Rattle.meta_objset.specs.Found.{IsRecordFound, IsRecordRefused};
 ghost use Rattle.meta_objset.specs.Datasets.{HasRecord};
 ghost use Rattle.meta_objset.specs.Record.{FitsRecord};
 ghost use Rattle.meta_objset.specs.declared.record.DatasetRecord.{DatasetRecord};
@@ -58,6 +58,10 @@ impl DatasetChanges {
             ⊎ ((record_at self.new number ≡ Some (records.Changed found))
             ⊎ (record_at self.new number ≡ Some (records.Made found)))) }
 
+        // What wasn't known yet was read of the set.
+        ensures found { IfOk result (λ found. record_at self.old number ≡ None
+            → IsRecordFound store.old.spaces (set_of self.old) (birth_of self.old) number found) }
+
         // Over disks that answer truly it is the one that there is now.
         ensures value { IfOk result (λ found. (stored : Contents) (objects : ℕ → Option Object)
             (own : List Block) (blocks : ℕ → List Block) → Holds store.old stored
@@ -87,12 +91,7 @@ impl DatasetChanges {
     }
 
     /// Another record in place of one that is there, and that was read or made. `NoMemory` is the only error.
-    pub fn change_record(
-        &mut self,
-        alloc: Global,
-        number: u64,
-        dataset: &DatasetRecord,
-    ) -> Result<(), AllocError>
+    pub fn change_record(&mut self, number: u64, dataset: &DatasetRecord) -> Result<(), AllocError>
         requires fits { FitsRecord dataset.now }
         requires number { IsNumber number }
         ensures one_set { AreOfOneSet self.old self.new }
@@ -103,7 +102,6 @@ impl DatasetChanges {
             → AreOver objects self.old → HasRecordNow objects self.old number r
             → AreOver objects self.new) }
     {
-        let _ = alloc;
         if self.is_record_made(number) {
             return self.insert_record(number, RecordState::Made(*dataset));
         }
@@ -111,12 +109,7 @@ impl DatasetChanges {
     }
 
     /// The record of an object that is made.
-    pub fn make_record(
-        &mut self,
-        alloc: Global,
-        number: u64,
-        dataset: &DatasetRecord,
-    ) -> Result<(), AllocError>
+    pub fn make_record(&mut self, number: u64, dataset: &DatasetRecord) -> Result<(), AllocError>
         requires fits { FitsRecord dataset.now }
         requires number { IsNumber number }
         ensures one_set { AreOfOneSet self.old self.new }
@@ -126,12 +119,11 @@ impl DatasetChanges {
         ensures over { OnOk result ((objects : ℕ → Option Object) → AreOver objects self.old
             → objects number ≡ None → AreOver objects self.new) }
     {
-        let _ = alloc;
         self.insert_record(number, RecordState::Made(*dataset))
     }
 
     /// The object of a record goes. One that was made isn't made.
-    pub fn free_record(&mut self, alloc: Global, number: u64) -> Result<(), AllocError>
+    pub fn free_record(&mut self, number: u64) -> Result<(), AllocError>
         requires number { IsNumber number }
         ensures one_set { AreOfOneSet self.old self.new }
         ensures lists { HaveSameLists self.old self.new }
@@ -141,7 +133,6 @@ impl DatasetChanges {
             → AreOver objects self.old → HasRecordNow objects self.old number r
             → AreOver objects self.new) }
     {
-        let _ = alloc;
         if self.is_record_made(number) {
             self.remove_record(number);
             return Ok(());
@@ -191,6 +182,8 @@ impl DatasetChanges {
             HasRecordPut self.old number (Some (records.Read found)) self.new) }
         ensures left { OnErr result (HaveSameRecords self.old self.new) }
         ensures fits { IfOk result FitsRecord }
+        ensures found { IfOk result (IsRecordFound store.old.spaces (set_of self.old)
+            (birth_of self.old) number) }
         ensures value { IfOk result (λ found. (stored : Contents) (objects : ℕ → Option Object)
             (own : List Block) (blocks : ℕ → List Block) → Holds store.old stored
             → AreObjects stored (birth_of self.old) (set_of self.old) objects own blocks

@@ -35,3 +35,6 @@ returns-clause-known g c =
     (λ refusal known stored objects own blocks held are honest number r now.
     known stored objects own blocks held are honest r (subst (λ (s : Option RecordState). IsRecordNow (objects c.args.number) s r) none now))
     c.read_record.ensures.known
+
+pub returns-clause-found : goal.returns-clause-found
+returns-clause-found g c = IfOk-weaker c.read_record.result _ _ (λ found there none. there) c.read_record.ensures.found
