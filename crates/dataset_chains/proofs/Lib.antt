@@ -7,12 +7,15 @@ pub mod Unused
 pub mod NewHeads
 pub mod Created
 pub mod Refusing
+pub mod Touching
+pub mod SameLists
 pub mod ReadRecords
 pub mod Passed
 pub mod Chained
+pub mod FittingBlocks
 pub mod Overwritten
 pub mod Cloned
 pub mod NextPassed
 pub mod Snapped
-mod Stands
+pub mod Stands
 pub mod Staying

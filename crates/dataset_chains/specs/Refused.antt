@@ -1,5 +1,7 @@
 -- Why a group's change of a chain is refused.
-use Rattle.std.specs.Prelude.{ℕ, ◌≡◌, ◌≢◌, ◌⊎◌, ◌-◌, ◌^◌, [], Some}
+use Rattle.std.specs.Prelude.{ℕ, ◌≡◌, ◌≢◌, ◌⊎◌, ◌-◌, ◌^◌, List, [], Some, Any}
+use Rattle.block_pointer.specs.Block.{FitsBlock}
+use Rattle.block_pointer.specs.declared.block.Block.{Block}
 use Rattle.block_store.specs.declared.refusal.Refusal.{Refusal}
 use Rattle.block_store.specs.declared.refusal.Refusal.TheVariants.{NoMemory, NoSpace, BadPointer}
 use Rattle.block_store.specs.Steps.{OnlyReadsBlocks}
@@ -44,6 +46,10 @@ IsOfOtherKind changes number kind refusal =
 abbrev pub HasMostClones : DatasetChanges → ℕ → Refusal → Type 0
 HasMostClones changes number refusal =
     (refusal ≡ NoSpace) × ((r : DatasetRecord) × HasKnown changes number r × (r.clones ≡ 2 ^ 64 - 1))
+
+-- one of these blocks has no spelling, and so no row of a dead list
+abbrev pub IsBlockMisfit : List Block → Refusal → Type 0
+IsBlockMisfit left refusal = (refusal ≡ BadPointer) × Any (λ block. ¬ FitsBlock block) left
 
 -- why a dataset of this kind is not changed: memory, a record or a dead list, or its kind
 abbrev pub IsChainRefused : Store → Store → DatasetChanges → DatasetChanges → ℕ → DatasetKind → Refusal → Type 0

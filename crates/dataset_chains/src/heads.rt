@@ -1,12 +1,14 @@
 //! Volumes that are made and overwritten.
-ghost use Rattle.std.specs.Prelude.{◌≡◌, ◌<◌, ◌++◌, ◌⊎◌, [], ℕ, List, Option, All, OnOk, IfOk, IfErr, filter, length, nat_le, nat_lt};
+ghost use Rattle.std.specs.Prelude.{◌≡◌, ◌<◌, ◌++◌, ◌⊎◌, [], ℕ, List, Option, Some, All, Contains, OnOk, IfOk, IfErr, filter, length, nat_le, nat_lt};
 ghost use Rattle.block_pointer.specs.declared.block.Block.{Block};
 ghost use Rattle.block_pointer.specs.Block.{FitsBlock};
 ghost use Rattle.block_store.specs.Blocks.{Contents, Extends};
 ghost use Rattle.block_store.specs.Losses.{IsForLoss};
 ghost use Rattle.block_store.specs.Steps.{OnlyReadsBlocks, AnswersAreTrue};
 ghost use Rattle.block_store.specs.Store.{Holds};
-ghost use Rattle.dataset_changes.specs.States.{AreOfOneSet, HaveSameLists, IsNumber, birth_of, set_of};
+ghost use Rattle.dataset_changes.specs.States.{AreOfOneSet, HaveSameLists, IsNumber, birth_of, list_at, record_at, set_of};
+ghost use Rattle.dataset_changes.specs.declared.states.ListState.TheVariants as lists;
+ghost use Rattle.dataset_changes.specs.declared.states.RecordState.TheVariants as records;
 ghost use Rattle.dead_list.specs.Blocks.{AreDistinct, IsSplit};
 ghost use Rattle.dead_list.specs.Datasets.{Free, Pool, updated};
 ghost use Rattle.dead_list.specs.Datasets.{group_before as group_before_in};
@@ -18,9 +20,11 @@ ghost use Rattle.volume.specs.Volume.{IsVolume};
 ghost use Rattle.dataset_chains.specs.Chains.{AreNewNumbers, LeadsTo, Reading, SpellsChains};
 ghost use Rattle.dataset_chains.specs.Making.{AreRewritten, IsNewRecord, volume_with};
 ghost use Rattle.dataset_chains.specs.Passing.{KeepsRecords};
-ghost use Rattle.dataset_chains.specs.Refused.{IsChainRefused, IsRecordLost};
+ghost use Rattle.dataset_chains.specs.Refused.{HasKnown, IsBlockMisfit, IsChainRefused, IsRecordLost};
+ghost use Rattle.dataset_chains.specs.Touched.{AreAtMostRead, HasSameList, KeepsDeadLists, TouchesOnly};
 ghost use Rattle.meta_objset.specs.declared.record.DatasetRecord.{DatasetRecord};
 
+use crate::fitting::expect_rows;
 use crate::records::record_of_kind;
 use block_pointer::Block;
 use block_store::{BlockStore, Refusal};
@@ -60,8 +64,13 @@ pub fn create(
         → AreDistinct blocks
         → SpellsChains known group objects changes.new
         (with_dataset pool number (volume_with pool blocks)) (updated readings number reading)) }
+    ensures touched { OnOk result (TouchesOnly changes.old changes.new (λ one. one ≡ number)
+        (λ one. one ≡ (dataset.now).dead_list)) }
+    ensures put { OnOk result
+        ((record_at changes.new number ≡ Some (records.Made dataset.now))
+        × (list_at changes.new (dataset.now).dead_list ≡ Some (lists.Made []))) }
 {
-    changes.make_record(alloc, number, dataset)?;
+    changes.make_record(number, dataset)?;
     changes.make_list(alloc, dataset.dead_list)?;
     Ok(())
 }
@@ -77,6 +86,7 @@ pub fn group_before<D: Disk + Drop>(
     ensures one_set { AreOfOneSet changes.old changes.new }
     ensures lists { HaveSameLists changes.old changes.new }
     ensures stays { OnOk result (KeepsRecords changes.old changes.new) }
+    ensures touched { OnOk result (AreAtMostRead changes.old changes.new) }
     ensures value { IfOk result (λ found. (stored known : Contents) (group : ℕ)
         (objects : ℕ → Option Object) (own : List Block) (blocks : ℕ → List Block) (pool : Pool)
         (readings : ℕ → Reading) → Holds store.old stored
@@ -105,7 +115,7 @@ pub fn group_before<D: Disk + Drop>(
 
 /// A head has its object set after a group's writes. Of the blocks that left it those are freed that were born after the snapshot before it:
 /// they come behind those in `freed`. The others join its dead list, of which, where it wasn't read whole, the first and the last block alone are
-/// read. `BadPointer` where the object is none of a head's record, or its dead list none.
+/// read. `BadPointer` where the object is none of a head's record, or its dead list none, and where one that joins it can't have a row there.
 pub fn overwrite<D: Disk + Drop>(
     changes: &mut DatasetChanges,
     store: &mut BlockStore<D>,
@@ -113,7 +123,7 @@ pub fn overwrite<D: Disk + Drop>(
     head: &RewrittenHead,
     freed: &mut Vec<Block>,
 ) -> Result<(), Refusal>
-    requires fits { FitsBlock (head.now).object_set × All FitsBlock (head.now).left.items }
+    requires fits { FitsBlock (head.now).object_set }
     ensures reads { OnlyReadsBlocks store.old store.new [] }
     ensures one_set { AreOfOneSet changes.old changes.new }
 
@@ -135,29 +145,39 @@ pub fn overwrite<D: Disk + Drop>(
         × (new : Pool)
         × Makes pool (Overwrite (head.now).number (head.now).left.items entered) gone new
         × SpellsChains later group objects changes.new new
-        (updated readings (head.now).number reading)) }
+        (updated readings (head.now).number reading)
+        × HasSameList objects changes.old changes.new (head.now).number) }
     ensures behind { OnOk result ((gone : List Block)
         × (freed.new.items ≡ freed.old.items ++ gone)) }
-    ensures refused { IfErr result (IsChainRefused store.old store.new changes.old changes.new
-        (head.now).number kinds.Volume) }
+    ensures touched { OnOk result (TouchesOnly changes.old changes.new
+        (λ one. one ≡ (head.now).number) (λ one. (r : DatasetRecord)
+        × HasKnown changes.new (head.now).number r × (r.dead_list ≡ one))) }
+    ensures kept { OnOk result (KeepsDeadLists changes.old changes.new) }
+    ensures refused { IfErr result (λ refusal. IsBlockMisfit (head.now).left.items refusal
+        ⊎ IsChainRefused store.old store.new changes.old changes.new (head.now).number kinds.Volume
+        refusal) }
 
-    // Over disks that answer truly only memory is wanting, or disks.
+    // Over disks that answer truly, and where what left was the head's, only memory is wanting, or
+    // disks.
     ensures known { IfErr result (λ refusal. (stored known : Contents) (group : ℕ)
         (objects : ℕ → Option Object) (own : List Block) (blocks : ℕ → List Block) (pool : Pool)
         (readings : ℕ → Reading) → Holds store.old stored
         → AreObjects stored (birth_of changes.old) (set_of changes.old) objects own blocks
         → AnswersAreTrue store.old store.new
         → SpellsChains known group objects changes.old pool readings
-        → IsHead pool.datasets (head.now).number → IsForLoss refusal) }
+        → IsHead pool.datasets (head.now).number
+        → ((block : Block) → Contains (head.now).left.items block
+        → Contains (pool.datasets (head.now).number).blocks block) → IsForLoss refusal) }
 {
     let dataset = record_of_kind(changes, store, alloc, head.number, DatasetKind::Volume)?;
     let since = group_before(changes, store, alloc, &dataset)?;
     let older = part_left(alloc, &head.left, since, freed)?;
+    expect_rows(&older)?;
     let written = DatasetRecord {
         object_set: head.object_set,
         ..dataset
     };
-    changes.change_record(alloc, head.number, &written)?;
+    changes.change_record(head.number, &written)?;
     changes.add_to_list(store, alloc, dataset.dead_list, &older)?;
     Ok(())
 }
@@ -169,13 +189,12 @@ fn part_left(
     since: u64,
     freed: &mut Vec<Block>,
 ) -> Result<Vec<Block>, AllocError>
-    requires { All FitsBlock left.now }
     ensures behind { OnOk result ((gone : List Block)
         × (freed.new.items ≡ freed.old.items ++ gone)) }
     ensures parts { IfOk result (λ older. (gone : List Block)
         × (freed.new.items ≡ freed.old.items ++ gone)
         × IsSplit since left.now gone older.items) }
-    ensures fits { IfOk result (λ older. All FitsBlock older.items) }
+    ensures within { IfOk result (λ older. All (Contains left.now) older.items) }
 {
     let younger = born_after(alloc, left, since)?;
     let older = born_until(alloc, left, since)?;

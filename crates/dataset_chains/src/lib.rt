@@ -2,6 +2,7 @@
 //! a snapshot or a clone is taken.
 #![tactic(auto)]
 
+mod fitting;
 mod heads;
 mod laws;
 mod records;

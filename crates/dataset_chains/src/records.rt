@@ -13,6 +13,7 @@ ghost use Rattle.objset.specs.Objects.{Object, AreObjects};
 ghost use Rattle.dataset_chains.specs.Chains.{Reading, SpellsChains, kind_of};
 ghost use Rattle.dataset_chains.specs.Passing.{IsNextPassed, IsRecordAlone};
 ghost use Rattle.dataset_chains.specs.Refused.{HasKnown, IsChainRefused, IsRecordLost};
+ghost use Rattle.dataset_chains.specs.Touched.{AreAtMostRead};
 
 use block_store::{BlockStore, Refusal};
 use dataset_changes::DatasetChanges;
@@ -34,6 +35,7 @@ pub(crate) fn record_of_kind<D: Disk + Drop>(
     ensures fits { IfOk result (λ found. FitsRecord found × IsNumber number) }
     ensures kind { IfOk result (λ found. found.kind ≡ kind) }
     ensures known_as { IfOk result (HasKnown changes.new number) }
+    ensures touched { OnOk result (AreAtMostRead changes.old changes.new) }
     ensures value { IfOk result (λ found. (stored known : Contents) (group : ℕ)
         (objects : ℕ → Option Object) (own : List Block) (blocks : ℕ → List Block) (pool : Pool)
         (readings : ℕ → Reading) → Holds store.old stored
@@ -98,7 +100,7 @@ pub(crate) fn pass_next<D: Disk + Drop>(
             next: to,
             ..dataset
         };
-        changes.change_record(alloc, before, &passed)?;
+        changes.change_record(before, &passed)?;
     }
     Ok(())
 }

@@ -78,13 +78,13 @@ pub fn snapshot<D: Disk + Drop>(
         clones: 0,
         ..dataset
     };
-    changes.make_record(alloc, numbers.dataset, &taken)?;
+    changes.make_record(numbers.dataset, &taken)?;
     let behind = DatasetRecord {
         previous: numbers.dataset,
         dead_list: numbers.dead_list,
         ..dataset
     };
-    changes.change_record(alloc, head, &behind)?;
+    changes.change_record(head, &behind)?;
     changes.make_list(alloc, numbers.dead_list)?;
     Ok(())
 }
@@ -131,7 +131,7 @@ pub fn clone<D: Disk + Drop>(
         return Err(Refusal::NoSpace);
     };
     let counted = DatasetRecord { clones, ..origin };
-    changes.change_record(alloc, snapshot, &counted)?;
+    changes.change_record(snapshot, &counted)?;
     let dataset = DatasetRecord {
         kind: DatasetKind::Volume,
         created: group,
@@ -141,7 +141,7 @@ pub fn clone<D: Disk + Drop>(
         dead_list: numbers.dead_list,
         ..origin
     };
-    changes.make_record(alloc, numbers.dataset, &dataset)?;
+    changes.make_record(numbers.dataset, &dataset)?;
     changes.make_list(alloc, numbers.dead_list)?;
     Ok(())
 }

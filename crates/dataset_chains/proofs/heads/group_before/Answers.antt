@@ -3,6 +3,7 @@ use Rattle.dnode_tree.proofs.Refusing.{passed_on}
 use Rattle.dataset_chains.proofs.ReadRecords.{before_there, group_of_read, read_on}
 use Rattle.dataset_chains.proofs.RecordsNow.{read_kept}
 use Rattle.dataset_chains.proofs.Refusing.{lost_first}
+use Rattle.dataset_chains.proofs.Touching.{read_at_most}
 use Rattle.dataset_chains.proofs.heads.group_before.Goals as goal
 
 pub returns-in_err-before-clause-refused : goal.returns-in_err-before-clause-refused
@@ -29,3 +30,6 @@ returns-clause-value g c = λ stored known group objects own blocks pool reading
 
 pub returns-clause-stays : goal.returns-clause-stays
 returns-clause-stays g c = read_kept (λ (number : ℕ). None) c.args.changes.now c.record.new.self c.args.dataset.now.previous c.in_ok-before.before c.in_ok-before.ensures.kept
+
+pub returns-clause-touched : goal.returns-clause-touched
+returns-clause-touched g c = read_at_most c.args.changes.now c.record.new.self c.args.dataset.now.previous c.in_ok-before.before c.in_ok-before.ensures.kept

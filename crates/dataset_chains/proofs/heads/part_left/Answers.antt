@@ -1,10 +1,9 @@
 use Rattle.std.proofs.Common.{◌≡◌, ◌<◌, ◌≤◌, ◌++◌, ◌∙◌, true, not, ℕ, List, ap, sym, subst, arith}
-use Rattle.std.specs.Prelude.{All, filter, nat_le, nat_lt}
+use Rattle.std.specs.Prelude.{All, Contains, filter, nat_le, nat_lt}
 use Rattle.std.proofs.lemmas.Bool.{ltb-true, leb-true}
 use Rattle.std.proofs.lemmas.Bool.Decides.{nat_tests}
-use Rattle.std.proofs.lemmas.List.Elements.{All-filter, All-weaker, filter_passes}
+use Rattle.std.proofs.lemmas.List.Elements.{All-contains_itself, All-filter, All-weaker, filter_passes}
 use Rattle.std.proofs.lemmas.List.Sorted.{IsPermutation-filter_both}
-use Rattle.block_pointer.specs.Block.{FitsBlock}
 use Rattle.block_pointer.specs.declared.block.Block.{Block}
 use Rattle.dead_list.specs.Blocks.{IsSplit}
 use Rattle.dataset_chains.proofs.heads.part_left.Goals as goal
@@ -29,6 +28,8 @@ returns-clause-parts c =
       subst (IsSplit c.args.since left (filter (λ block. nat_lt c.args.since block.birth) left)) (sym c.in_ok-older.ensures) (split c.args.since left),
     )
 
-pub returns-clause-fits : goal.returns-clause-fits
-returns-clause-fits c =
-    subst (All FitsBlock) (sym c.in_ok-older.ensures) (All-filter (λ (block : Block). nat_le block.birth c.args.since) FitsBlock c.args.left.now c.requires)
+pub returns-clause-within : goal.returns-clause-within
+returns-clause-within c =
+    let left = c.args.left.now in
+    subst (All (Contains left)) (sym c.in_ok-older.ensures)
+    (All-filter (λ (block : Block). nat_le block.birth c.args.since) (Contains left) left (All-contains_itself left))

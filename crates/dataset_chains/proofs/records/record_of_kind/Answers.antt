@@ -3,6 +3,7 @@ use Rattle.dnode_tree.proofs.Refusing.{passed_on}
 use Rattle.dataset_chains.specs.Chains.{kind_of}
 use Rattle.dataset_chains.proofs.ReadRecords.{one_kind, read_alone, read_on, some_kind}
 use Rattle.dataset_chains.proofs.Refusing.{lost_first}
+use Rattle.dataset_chains.proofs.Touching.{read_at_most}
 use Rattle.dataset_chains.proofs.records.record_of_kind.Goals as goal
 
 pub returns-in_err-dataset-clause-refused : goal.returns-in_err-dataset-clause-refused
@@ -30,3 +31,6 @@ returns-clause-value g c = λ stored known group objects own blocks pool reading
       read_on known group objects pool readings c.args.changes.now c.record.new.self c.args.number c.in_ok-dataset.dataset c.in_ok-dataset.ensures.kept c.record.ensures.lists value spells,
       read_alone known group objects pool readings c.args.changes.now c.record.new.self c.args.number c.in_ok-dataset.dataset c.in_ok-dataset.ensures.kept c.record.ensures.lists value,
     )
+
+pub returns-clause-touched : goal.returns-clause-touched
+returns-clause-touched g c = read_at_most c.args.changes.now c.record.new.self c.args.number c.in_ok-dataset.dataset c.in_ok-dataset.ensures.kept
