@@ -12,3 +12,4 @@ pub mod GivenOver
 pub mod Destroyed
 pub mod HeadFinding
 pub mod HeadDestroyed
+pub mod EachKind

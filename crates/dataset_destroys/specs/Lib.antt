@@ -3,3 +3,4 @@ pub mod Refused
 pub mod Steps
 pub mod Places
 pub mod HeadPlaces
+pub mod Destroying

@@ -68,8 +68,8 @@ pub fn destroy_head<D: Disk + Drop>(
     let place = HeadPlace::find(changes, store, alloc, head)?;
     let block = place.gone.object_set;
     let mut young = younger_blocks(store, alloc, &block, group, place.since(), left)?;
-    changes.free_list(alloc, place.gone.dead_list)?;
-    leave(changes, alloc, &place)?;
+    changes.free_list(place.gone.dead_list)?;
+    leave(changes, &place)?;
     freed.append(&mut young)?;
     operations_free_what_nothing_reaches();
     Ok(())

@@ -10,14 +10,10 @@ use crate::head_places::HeadPlace;
 use crate::records::{put_record, take_out};
 use dataset_changes::DatasetChanges;
 use meta_objset::DatasetRecord;
-use std::alloc::{AllocError, Global};
+use std::alloc::AllocError;
 
 /// A head's record goes, and its origin has a clone less.
-pub(crate) fn leave(
-    changes: &mut DatasetChanges,
-    alloc: Global,
-    place: &HeadPlace,
-) -> Result<(), AllocError>
+pub(crate) fn leave(changes: &mut DatasetChanges, place: &HeadPlace) -> Result<(), AllocError>
     requires fits { FitsHead place.now }
     requires lone { IsLoneHead place.now }
     ensures one_set { AreOfOneSet changes.old changes.new }
@@ -27,17 +23,13 @@ pub(crate) fn leave(
         → IsLeft objects changes.old changes.new (place.now).number (place.now).gone.previous
         (place.now).before) }
 {
-    leave_origin(changes, alloc, place)?;
-    take_out(changes, alloc, place.number)?;
+    leave_origin(changes, place)?;
+    take_out(changes, place.number)?;
     Ok(())
 }
 
 /// The origin of a clone has a clone less.
-fn leave_origin(
-    changes: &mut DatasetChanges,
-    alloc: Global,
-    place: &HeadPlace,
-) -> Result<(), AllocError>
+fn leave_origin(changes: &mut DatasetChanges, place: &HeadPlace) -> Result<(), AllocError>
     requires fits { FitsHead place.now }
     requires lone { IsLoneHead place.now }
     ensures one_set { AreOfOneSet changes.old changes.new }
@@ -54,6 +46,6 @@ fn leave_origin(
         clones: before.clones - 1,
         ..before
     };
-    put_record(changes, alloc, place.gone.previous, &less)?;
+    put_record(changes, place.gone.previous, &less)?;
     Ok(())
 }

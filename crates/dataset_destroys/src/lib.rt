@@ -1,6 +1,7 @@
 //! Datasets that a transaction group destroys: what becomes of the records and dead lists in their chains, and which blocks are freed.
 #![tactic(auto)]
 
+mod destroying;
 mod head_places;
 mod heads;
 mod leaving;
@@ -12,5 +13,6 @@ mod snapshots;
 mod younger;
 
 pub use block_store::Refusal;
+pub use destroying::destroy;
 pub use heads::destroy_head;
 pub use snapshots::destroy_snapshot;

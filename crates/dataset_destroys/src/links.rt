@@ -10,14 +10,10 @@ use crate::places::Place;
 use crate::records::{put_record, take_out};
 use dataset_changes::DatasetChanges;
 use meta_objset::DatasetRecord;
-use std::alloc::{AllocError, Global};
+use std::alloc::AllocError;
 
 /// A snapshot's record goes, and what comes after it stands behind the snapshot before it.
-pub(crate) fn link_past(
-    changes: &mut DatasetChanges,
-    alloc: Global,
-    place: &Place,
-) -> Result<(), AllocError>
+pub(crate) fn link_past(changes: &mut DatasetChanges, place: &Place) -> Result<(), AllocError>
     requires { FitsPlace place.now }
     ensures one_set { AreOfOneSet changes.old changes.new }
     ensures lists { HaveSameLists changes.old changes.new }
@@ -26,9 +22,9 @@ pub(crate) fn link_past(
         → IsPassed objects changes.old changes.new (place.now).number (place.now).gone.previous
         (place.now).gone.next (place.now).after (place.now).before) }
 {
-    put_record(changes, alloc, place.gone.next, &place.follower())?;
-    link_before(changes, alloc, place)?;
-    take_out(changes, alloc, place.number)?;
+    put_record(changes, place.gone.next, &place.follower())?;
+    link_before(changes, place)?;
+    take_out(changes, place.number)?;
     Ok(())
 }
 
@@ -45,7 +41,7 @@ impl Place {
 }
 
 /// What came after a snapshot comes after the one before it, unless that has another behind it: then the snapshot was a clone's first.
-fn link_before(changes: &mut DatasetChanges, alloc: Global, place: &Place) -> Result<(), AllocError>
+fn link_before(changes: &mut DatasetChanges, place: &Place) -> Result<(), AllocError>
     requires { FitsPlace place.now }
     ensures one_set { AreOfOneSet changes.old changes.new }
     ensures lists { HaveSameLists changes.old changes.new }
@@ -64,6 +60,6 @@ fn link_before(changes: &mut DatasetChanges, alloc: Global, place: &Place) -> Re
         next: place.gone.next,
         ..before
     };
-    put_record(changes, alloc, place.gone.previous, &linked)?;
+    put_record(changes, place.gone.previous, &linked)?;
     Ok(())
 }

@@ -55,7 +55,7 @@ pub(crate) fn give_over<D: Disk + Drop>(
     let dead = changes.take_list(store, alloc, place.after.dead_list)?;
     let own = changes.take_list(store, alloc, place.gone.dead_list)?;
     let merged = parted(alloc, dead, own, place.since(), freed)?;
-    changes.put_list(alloc, place.after.dead_list, merged)?;
+    changes.put_list(place.after.dead_list, merged)?;
     Ok(())
 }
 

@@ -97,7 +97,6 @@ pub(crate) fn is_head(dataset: &DatasetRecord) -> bool
 /// Another record in place of one that was read.
 pub(crate) fn put_record(
     changes: &mut DatasetChanges,
-    alloc: Global,
     number: u64,
     dataset: &DatasetRecord,
 ) -> Result<(), AllocError>
@@ -109,16 +108,12 @@ pub(crate) fn put_record(
         → AreOver objects changes.old → HasRecordNow objects changes.old number r
         → IsPutNow objects changes.old changes.new number dataset.now) }
 {
-    changes.change_record(alloc, number, dataset)?;
+    changes.change_record(number, dataset)?;
     Ok(())
 }
 
 /// The object of a record that was read goes.
-pub(crate) fn take_out(
-    changes: &mut DatasetChanges,
-    alloc: Global,
-    number: u64,
-) -> Result<(), AllocError>
+pub(crate) fn take_out(changes: &mut DatasetChanges, number: u64) -> Result<(), AllocError>
     requires { IsNumber number }
     ensures one_set { AreOfOneSet changes.old changes.new }
     ensures lists { HaveSameLists changes.old changes.new }
@@ -126,6 +121,6 @@ pub(crate) fn take_out(
         → AreOver objects changes.old → HasRecordNow objects changes.old number r
         → IsTakenOut objects changes.old changes.new number) }
 {
-    changes.free_record(alloc, number)?;
+    changes.free_record(number)?;
     Ok(())
 }

@@ -62,8 +62,8 @@ pub fn destroy_snapshot<D: Disk + Drop>(
 {
     let place = Place::find(changes, store, alloc, snapshot)?;
     give_over(changes, store, alloc, &place, freed)?;
-    link_past(changes, alloc, &place)?;
-    changes.free_list(alloc, place.gone.dead_list)?;
+    link_past(changes, &place)?;
+    changes.free_list(place.gone.dead_list)?;
     operations_free_what_nothing_reaches();
     Ok(())
 }
