@@ -53,7 +53,7 @@ use Rattle.space_map.specs.Sectors.{contains}
 use Rattle.space_map_objects.specs.Maps.{map_kind}
 use Rattle.pool_maps.specs.declared.steps.MapPlan.{MapPlan}
 use Rattle.pool_maps.specs.Maps.{AreMapsOf, AreShortMaps, HasMapPlace, HasShortMapOf}
-use Rattle.pool_maps.specs.Plans.{Advances, AreAhead, AreAll, AreBelow, AreOfOthers, AreSparing, AreUnmade, GoesOn, IsMapNumber, IsPutIn, IsSound, MayBeMade, after_plan}
+use Rattle.pool_maps.specs.Plans.{Advances, AreAhead, AreAll, AreBelow, AreOfOthers, AreSparing, AreUnmade, GoesOn, IsMapNumber, IsPutIn, IsSound, LeaveMaps, MayBeMade, after_plan}
 use Rattle.pool_maps.specs.Reached.{AreThere, UseNothing}
 use Rattle.pool_maps.specs.Refused.{IsMapRefused, IsSomeRefused, no_set}
 use Rattle.pool_maps.proofs.Among.{all_put, becomes, only, others_stay}
@@ -161,6 +161,7 @@ module _ (spaces : List VdevSpace) (changes : List ObjectChange) (next : ℕ) (o
 
     pub made : (all : List ObjectChange) (change : Change) → IsPutIn last.changes.items (record { number = 4; change = change }) all → MayChange change None
         → HasSpaceMaps (after_change change None) last.maps → MayBeMade nothing all × AreMapsOf (changed all nothing) spaces planned × AreThere spaces planned
+        × LeaveMaps nothing changes all
     made all change put may table =
         let is : ObjectChange = record { number = 4; change = change } in
         let anew = anew_by nothing spaces [] first last last_sound advances (ahead none) first_kinds all
@@ -170,6 +171,13 @@ module _ (spaces : List VdevSpace) (changes : List ObjectChange) (next : ℕ) (o
               (advances.may (λ place of_all there. (ahead none place of_all there).0) first_may) may,
           anew.0,
           anew.1,
+          λ one held. elim (only last.changes.items all is put one held) [
+            | inl sooner ↦ elim (advances.leave (λ place of_all there. (ahead none place of_all there).0) one sooner) [
+              | inl before ↦ inl (subst (λ (them : List ObjectChange). Contains them one) changes_are before)
+              | inr map ↦ inr (inr map)
+            ]
+            | inr of_table ↦ inr (inl (sym (ap (λ (c : ObjectChange). c.number) of_table)))
+          ],
         )
 
 -- a change is one of those before the table was made, or the table's

@@ -92,6 +92,7 @@ module _ (objects : ℕ → Option Object) (spaces : List VdevSpace) (gone : Lis
     anew = λ place is. absurd is;
     there = λ place is. absurd is;
     may = λ yet may. may;
+    leave = λ yet change held. inl held;
     short = λ yet are. are;
   }
 
@@ -111,6 +112,11 @@ module _ (objects : ℕ → Option Object) (spaces : List VdevSpace) (gone : Lis
     may = λ yet may.
         two.may (λ place of there free are was. one.stay place free (λ sooner. apart place sooner of) (yet place (inr of) there free are was))
         (one.may (λ place of there. yet place (inl of) there) may);
+    leave = λ yet change held.
+        elim (two.leave (λ place of there free are was. one.stay place free (λ sooner. apart place sooner of) (yet place (inr of) there free are was)) change held) [
+          | inl before ↦ one.leave (λ place of there. yet place (inl of) there) change before
+          | inr map ↦ inr map
+        ];
     short = λ yet are.
         two.short (λ place of there free frees was. one.stay place free (λ sooner. apart place sooner of) (yet place (inr of) there free frees was))
         (one.short (λ place of there. yet place (inl of) there) are);
@@ -125,6 +131,7 @@ module _ (objects : ℕ → Option Object) (spaces : List VdevSpace) (gone : Lis
     anew = λ place of there. is.anew place (out place there of) there;
     there = λ place of there. is.there place (out place there of) there;
     may = λ yet may. is.may (λ place of there. yet place (into place of) there) may;
+    leave = λ yet. is.leave (λ place of there. yet place (into place of) there);
     short = λ yet are. is.short (λ place of there. yet place (into place of) there) are;
   }
 

@@ -18,11 +18,12 @@ use Rattle.objset.specs.Changes.{MayChange, after_change}
 use Rattle.objset.specs.Objects.{Object}
 use Rattle.objset.proofs.Numbers.{changed_left}
 use Rattle.space_map.specs.FreeRuns.{FreeRuns}
-use Rattle.space_map_objects.specs.Maps.{HasMap}
+use Rattle.object_table.specs.Tables.{HasTable}
+use Rattle.space_map_objects.specs.Maps.{HasMap, map_kind}
 use Rattle.pool_maps.specs.declared.steps.MapPlan.{MapPlan}
 use Rattle.pool_maps.specs.declared.update.Update.{Update}
 use Rattle.pool_maps.specs.Maps.{AreShortMaps, AreRowsOf, HasMapPlace, HasShortMapOf, IsMapped}
-use Rattle.pool_maps.specs.Plans.{Advances, AreBelow, AreOrdered, AreUnmade, GoesOn, HasSetBehind, IsForMetaslab, IsMade, IsMappedYet, IsRewritten, IsSound, IsStep, IsThat, IsUntouched, after_plan, numbers_end}
+use Rattle.pool_maps.specs.Plans.{Advances, AreBelow, AreOrdered, AreUnmade, GoesOn, HasSetBehind, IsForMetaslab, IsMade, IsMappedYet, IsPutIn, IsRewritten, IsSound, IsStep, IsThat, IsUntouched, LeavesMap, after_plan, numbers_end}
 use Rattle.pool_maps.specs.Refused.{IsTaken}
 use Rattle.pool_maps.specs.Updates.{IsUpdateOf, LeadsFrom, Says}
 use Rattle.pool_maps.proofs.Among.{all_put, becomes, kept, only, others_stay, was}
@@ -114,6 +115,7 @@ module _ (objects : ℕ → Option Object) (spaces : List VdevSpace) (gone : Lis
         (same_twice is.before update.free free (nothing_leads is.before update is.leads none) last) mapped;
     there = λ that same there. set_there that same;
     may = λ yet may. may;
+    leave = λ yet change held. inl held;
     short = λ yet are. are;
   }
 
@@ -129,6 +131,14 @@ module _ (objects : ℕ → Option Object) (spaces : List VdevSpace) (gone : Lis
     differ = some_differ is.before update is.leads some;
     number = number;
   }
+
+  -- a change that leaves a map came among the others
+  leave_more : (old new : MapPlan) (one : ObjectChange) → IsPutIn old.changes.items one new.changes.items → LeavesMap objects one
+      → (change : ObjectChange) → Contains new.changes.items change → Contains old.changes.items change ⊎ LeavesMap objects change
+  leave_more old new one put leaves change held = elim (only old.changes.items new.changes.items one put change held) [
+    | inl before ↦ inl before
+    | inr same ↦ inr (subst (LeavesMap objects) same leaves)
+  ]
 
   -- ---- a map that gets entries, or is written anew
 
@@ -214,6 +224,10 @@ module _ (objects : ℕ → Option Object) (spaces : List VdevSpace) (gone : Lis
           let had = own_map sound is.before (yet place refl is_there is.before is.are_before is.was) in
           all_put old.changes.items new.changes.items (record { number = row.object; change = change }) by.put (λ (c : ObjectChange). MayChange c.change (objects c.number)) may
           (value is.before had is.leads).0;
+      leave = λ yet.
+          let had = own_map sound is.before (yet place refl is_there is.before is.are_before is.was) in
+          let says = (value is.before had is.leads).1 in
+          leave_more old new (record { number = row.object; change = change }) by.put (says.bytes, says.table);
       short = λ yet are.
           let had = own_map sound is.before (yet place refl is_there is.before is.are_before is.was) in
           subst (AreShortMaps (after_plan new objects) spaces) (sym by.maps)
@@ -329,6 +343,9 @@ module _ (objects : ℕ → Option Object) (spaces : List VdevSpace) (gone : Lis
                 ∙ ap (after_change change) (unmade old.next (omega arith)))) (says_map (after_change change None) update has));
           });
       there = λ that same there. set_there that same;
+      leave = λ yet.
+          leave_more old new (record { number = old.next; change = change }) by.put
+          (has.bytes, subst (λ (o : Option Object). HasTable map_kind (after_change change o) has.bytes) (sym (unmade old.next (omega arith))) has.table);
       may = λ yet mays. all_put old.changes.items new.changes.items (record { number = old.next; change = change }) by.put (λ (c : ObjectChange). MayChange c.change (objects c.number)) mays
           (subst (MayChange change) (sym (unmade old.next (omega arith))) may);
       short = λ yet are. all_from (λ (m : MetaslabMap). HasShortMapOf spaces m.metaslab (after_plan new objects m.object)) new.maps

@@ -23,9 +23,9 @@ use Rattle.objset.specs.Objects.{Object}
 use Rattle.objset.proofs.Numbers.{changed_left}
 use Rattle.pool_maps.specs.declared.steps.MapPlan.{MapPlan}
 use Rattle.pool_maps.specs.Maps.{AreMapsOf, AreShortMaps, AreRowsOf, HasMapPlace, HasShortMap, HasShortMapOf, IsMapped}
-use Rattle.pool_maps.specs.Plans.{Advances, AreAhead, AreAll, AreBelow, AreOfOthers, AreUnmade, GoesOn, IsMapNumber, IsPutIn, IsSound, MapAnew, MayBeMade, after_plan, numbers_end}
+use Rattle.pool_maps.specs.Plans.{Advances, AreAhead, AreAll, AreBelow, AreOfOthers, AreUnmade, GoesOn, IsMapNumber, IsPutIn, IsSound, LeaveMaps, MapAnew, MayBeMade, after_plan, numbers_end}
 use Rattle.pool_maps.proofs.Planned.{all_from, mapped_by}
-use Rattle.pool_maps.proofs.Among.{all_put, becomes, others_stay}
+use Rattle.pool_maps.proofs.Among.{all_put, becomes, only, others_stay}
 
 pub place_by : (spaces after : List VdevSpace) (place : MetaslabPlace) → shapes_of after ≡ shapes_of spaces → HasMapPlace spaces place → HasMapPlace after place
 place_by spaces after place same is =
@@ -155,20 +155,29 @@ module _ (objects : ℕ → Option Object) (spaces : List VdevSpace) (are : AreM
     last_may : MayBeMade objects last.changes.items
     last_may = advances.may (λ place all there. (ahead place all there).0) first_may
 
+    -- a change that came leaves a map
+    last_leave : LeaveMaps objects changes last.changes.items
+    last_leave one held = elim (advances.leave (λ place all there. (ahead place all there).0) one held) [
+      | inl before ↦ inl (subst (λ (them : List ObjectChange). Contains them one) changes_are before)
+      | inr map ↦ inr (inr map)
+    ]
+
     -- no metaslab got its first map: the table is as it was
-    pub anew_idle : last.grown ≡ false → MayBeMade objects last.changes.items × MapAnew objects spaces gone last.changes.items
+    pub anew_idle : last.grown ≡ false
+        → MayBeMade objects last.changes.items × MapAnew objects spaces gone last.changes.items × LeaveMaps objects changes last.changes.items
     anew_idle idle = (
       last_may,
       anew_by objects spaces gone first last last_sound advances ahead first_kinds last.changes.items
           (subst (λ maps. HasSpaceMaps (after_plan last objects 4) maps) (sym ((goes.idle idle).0 ∙ maps_are))
           (subst (λ object. HasSpaceMaps object are.maps) (sym (changed_left last.changes.items objects 4 table_apart)) are.are.table))
           (λ number other. refl),
+      last_leave,
     )
 
     -- one did, and the table has a row more
     pub anew_grown : (all : List ObjectChange) (change : Change) → IsPutIn last.changes.items (record { number = 4; change = change }) all
         → ((object : Object) → IsOfKind maps_kind object → MayChange change (Some object) × HasSpaceMaps (after_change change (Some object)) last.maps)
-        → MayBeMade objects all × MapAnew objects spaces gone all
+        → MayBeMade objects all × MapAnew objects spaces gone all × LeaveMaps objects changes all
     anew_grown all change put table =
         let there = are.are.table.1.there in
         let is : objects 4 ≡ Some there = are.are.table.1.is in
@@ -178,4 +187,8 @@ module _ (objects : ℕ → Option Object) (spaces : List VdevSpace) (are : AreM
           anew_by objects spaces gone first last last_sound advances ahead first_kinds all
               (subst (λ object. HasSpaceMaps object last.maps) (sym (becomes last.changes.items all (record { number = 4; change = change }) put objects ∙ ap (after_change change) is)) made.1)
               (λ number other. others_stay last.changes.items all (record { number = 4; change = change }) put objects number (λ same. other (sym same))),
+          λ one held. elim (only last.changes.items all (record { number = 4; change = change }) put one held) [
+            | inl sooner ↦ last_leave one sooner
+            | inr of_table ↦ inr (inl (sym (ap (λ (c : ObjectChange). c.number) of_table)))
+          ],
         )

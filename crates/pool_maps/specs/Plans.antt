@@ -10,9 +10,11 @@ use Rattle.meta_objset.specs.declared.space_maps.MetaslabMap.{MetaslabMap}
 use Rattle.meta_objset.specs.declared.space_maps.MetaslabPlace.{MetaslabPlace}
 use Rattle.objset.specs.declared.changes.Change.{Change}
 use Rattle.objset.specs.declared.changes.ObjectChange.{ObjectChange}
-use Rattle.objset.specs.Changes.{IsGoodChange, MayChange, changed}
+use Rattle.object_table.specs.Tables.{HasTable}
+use Rattle.objset.specs.Changes.{IsGoodChange, MayChange, after_change, changed}
 use Rattle.objset.specs.Objects.{Object}
 use Rattle.space_map.specs.FreeRuns.{FreeRuns, AreFree}
+use Rattle.space_map_objects.specs.Maps.{map_kind}
 use Rattle.pool_maps.specs.declared.steps.MapPlan.{MapPlan}
 use Rattle.pool_maps.specs.Reached.{AreThere}
 use Rattle.pool_maps.specs.Maps.{AreMapsOf, AreShortMaps, AreRowsOf, HasMapPlace, IsMapped}
@@ -74,6 +76,15 @@ MapAnew objects spaces gone changes = (after : List VdevSpace) (group : ℕ) →
 abbrev pub OthersStay : List MetaslabMap → ℕ → List ObjectChange → List ObjectChange → Type 0
 OthersStay maps next changes all = (objects : ℕ → Option Object) (number : ℕ) → number ≢ 4 → ¬ IsMapNumber maps next number
     → changed all objects number ≡ changed changes objects number
+
+-- the change leaves its object a space map's
+abbrev pub LeavesMap : (ℕ → Option Object) → ObjectChange → Type 0
+LeavesMap objects change = (bytes : List ℕ) × HasTable map_kind (after_change change.change (objects change.number)) bytes
+
+-- each change is one of the others, is of the maps' table, or leaves a space map
+abbrev pub LeaveMaps : (ℕ → Option Object) → List ObjectChange → List ObjectChange → Type 0
+LeaveMaps objects changes all = (change : ObjectChange) → Contains all change
+    → Contains changes change ⊎ ((change.number ≡ 4) ⊎ LeavesMap objects change)
 
 -- ---- Only the crate's own functions say these.
 
@@ -160,6 +171,8 @@ pub record Advances (objects : ℕ → Option Object) (spaces : List VdevSpace) 
   pub there : (place : MetaslabPlace) → are place → HasMapPlace spaces place → HasSetBehind spaces gone place
   pub may : ((place : MetaslabPlace) → are place → HasMapPlace spaces place → IsMappedYet objects spaces old place)
       → MayBeMade objects old.changes.items → MayBeMade objects new.changes.items
+  pub leave : ((place : MetaslabPlace) → are place → HasMapPlace spaces place → IsMappedYet objects spaces old place)
+      → (change : ObjectChange) → Contains new.changes.items change → Contains old.changes.items change ⊎ LeavesMap objects change
   pub short : ((place : MetaslabPlace) → are place → HasMapPlace spaces place → IsMappedYet objects spaces old place)
       → AreShortMaps (after_plan old objects) spaces old.maps → AreShortMaps (after_plan new objects) spaces new.maps
 

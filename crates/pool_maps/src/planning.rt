@@ -15,7 +15,7 @@ ghost use Rattle.meta_objset.specs.declared.space_maps.MetaslabPlace.{MetaslabPl
 ghost use Rattle.objset.specs.Changes.{changed};
 ghost use Rattle.objset.specs.Objects.{Object, AreObjects};
 ghost use Rattle.pool_maps.specs.Maps.{AreMapsOf};
-ghost use Rattle.pool_maps.specs.Plans.{AreOfOthers, AreOrdered, AreSparing, MapAnew, MayBeMade};
+ghost use Rattle.pool_maps.specs.Plans.{AreOfOthers, AreOrdered, AreSparing, LeaveMaps, MapAnew, MayBeMade};
 ghost use Rattle.pool_maps.specs.Plans.{OthersStay};
 ghost use Rattle.pool_maps.specs.Reached.{AreThere, UseNothing};
 ghost use Rattle.pool_maps.specs.Refused.{AreFirstRefused, IsPlanRefused};
@@ -60,14 +60,15 @@ pub fn plan_maps<D: Disk + Drop>(
         ⊎ IsPlanRefused store.old store.new set.now birth gone.now changes.items next refusal) }
 
     // Of a set whose maps are those of the stored blocks the changes make one whose maps are those of the plan, and change no other
-    // objects but as the changes so far do.
+    // objects but as the changes so far do; what they make or change are maps, and their table.
     ensures value { IfOk result (λ all. (stored : Contents) (objects : ℕ → Option Object)
         (own : List Block) (blocks : ℕ → List Block) → Holds store.old stored
         → AreObjects stored birth set.now objects own blocks → AnswersAreTrue store.old store.new
         → (are : AreMapsOf objects store.old.spaces filled)
         → AreOfOthers objects changes.items are.maps next
         → MayBeMade objects all.items × MapAnew objects store.old.spaces gone.now all.items
-        × OthersStay are.maps next changes.items all.items) }
+        × OthersStay are.maps next changes.items all.items
+        × LeaveMaps objects changes.items all.items) }
     ensures known { IfErr result (λ refusal. (stored : Contents) (objects : ℕ → Option Object)
         (own : List Block) (blocks : ℕ → List Block) → Holds store.old stored
         → AreObjects stored birth set.now objects own blocks → AnswersAreTrue store.old store.new
@@ -115,7 +116,8 @@ pub fn first_maps<D: Disk + Drop>(
         → UseNothing store.old.spaces filled → AnswersAreTrue store.old store.new
         → MayBeMade (λ number. None) all.items
         × AreMapsOf (changed all.items (λ number. None)) store.old.spaces planned
-        × AreThere store.old.spaces planned) }
+        × AreThere store.old.spaces planned
+        × LeaveMaps (λ number. None) changes.items all.items) }
     ensures known { IfErr result (λ refusal. AreOfOthers (λ number. None) changes.items [] next
         → UseNothing store.old.spaces filled → AnswersAreTrue store.old store.new
         → (refusal ≡ Refusal.NoMemory) ⊎ (refusal ≡ Refusal.NoSpace)) }

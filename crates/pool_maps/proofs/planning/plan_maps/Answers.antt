@@ -12,7 +12,7 @@ use Rattle.metaslab.proofs.Holding.{cases}
 use Rattle.objset.specs.Changes.{changed}
 use Rattle.objset.specs.declared.changes.ObjectChange.{ObjectChange}
 use Rattle.pool_maps.specs.declared.steps.MapPlan.{MapPlan}
-use Rattle.pool_maps.specs.Plans.{Advances, AreAhead, AreAll, IsForMetaslab, IsSound, MapAnew, MayBeMade, IsMapNumber, IsPutIn, OthersStay}
+use Rattle.pool_maps.specs.Plans.{Advances, AreAhead, AreAll, IsForMetaslab, IsSound, LeaveMaps, MapAnew, MayBeMade, IsMapNumber, IsPutIn, OthersStay}
 use Rattle.pool_maps.proofs.Among.{only, others_stay}
 use Rattle.pool_maps.proofs.Underway.{spaces_stay}
 use Rattle.pool_maps.proofs.Whole.{ahead, anew_grown, anew_idle, below, sound, table_apart, unmade}
@@ -171,9 +171,9 @@ returns-clause-value g c =
       | inl grown ↦ let made = both.1 grown in
           let anew = anew_grown objects old.spaces are c.args.changes.items c.args.next others first maps_are refl refl c.args.gone.now last c.in_ok-plan_all.ensures.step.goes_on later advances
           all.items made.0 made.1 made.2 in
-          (anew.0, anew.1, stay)
-      | inr idle ↦ let anew = subst (λ (them : List ObjectChange). MayBeMade objects them × MapAnew objects old.spaces c.args.gone.now them) (sym (both.0 idle))
+          (anew.0, anew.1, stay, anew.2)
+      | inr idle ↦ let anew = subst (λ (them : List ObjectChange). MayBeMade objects them × MapAnew objects old.spaces c.args.gone.now them × LeaveMaps objects c.args.changes.items them) (sym (both.0 idle))
           (anew_idle objects old.spaces are c.args.changes.items c.args.next others first maps_are refl refl c.args.gone.now last c.in_ok-plan_all.ensures.step.goes_on later advances idle) in
-          (anew.0, anew.1, stay)
+          (anew.0, anew.1, stay, anew.2)
     ])
     (both_ok c.with_table.result _ _ c.with_table.ensures.same c.with_table.ensures.table)
