@@ -1,0 +1,32 @@
+use Rattle.std.proofs.Common.{ℕ, ◌≡◌, ◌≤◌, ◌<◌, ◌+◌, ◌*◌, [], Option, take}
+use Rattle.std.specs.Prelude.{fold}
+use Rattle.block_store.specs.Blocks.{Contents, Extends}
+use Rattle.block_store.specs.Plans.{Plans}
+use Rattle.block_store.specs.Steps.{OnlyReadsAndPlans, AnswersAreTrue}
+use Rattle.dataset_chains.specs.Chains.{Reading}
+use Rattle.dataset_changes.specs.States.{AreOfOneSet}
+use Rattle.dead_list.specs.Datasets.{Pool}
+use Rattle.objset.specs.Objects.{Object}
+use Rattle.pool_model.specs.Pools.{PlainPool, changed}
+use Rattle.dataset_groups.specs.Demands.{MakesAll}
+use Rattle.dataset_groups.specs.Groups.{SpellsGroup}
+use Rattle.dataset_groups.specs.Leaving.{AddsData}
+use Rattle.dataset_groups.specs.NewVolumes.{numbers_end}
+use Rattle.dataset_groups.specs.Touched.{TouchesNew}
+use Rattle.dataset_groups.proofs.AddedDatasets.{IsMadeFrom}
+use Rattle.dataset_groups.proofs.datasets.GroupDatasets.create_all.Given as goal
+
+-- the volumes of the actions so far are made
+abbrev pub invariant-loop-action : goal.invariant-loop-action
+invariant-loop-action g l = record {
+  steps : OnlyReadsAndPlans l.fn.store l.store [];
+  behind : 4 < l.self.next;
+  within : l.fn.self.next ≤ numbers_end → l.self.next ≤ numbers_end;
+  one_set : AreOfOneSet l.fn.self.changes l.self.changes;
+  value : (stored planned : Contents) → Plans l.fn.store stored planned → AnswersAreTrue l.fn.store l.store
+      → (later : Contents) × Plans l.store stored later × Extends planned later
+      × ((objects : ℕ → Option Object) (pool : Pool) (readings : ℕ → Reading) (plain : PlainPool) → SpellsGroup planned l.group objects l.fn.self pool readings plain
+      → IsMadeFrom planned later l.group objects pool l.fn.self l.self (fold (λ p a. changed l.group p a.change) plain (take l.action-index l.actions))) × AddsData planned later;
+  made : MakesAll l.fn.store l.store l.group l.fn.self l.self (take l.action-index l.actions);
+  touched : (count : ℕ) × TouchesNew l.fn.self.changes l.self.changes l.fn.self.next count × (l.self.next ≡ l.fn.self.next + 2 * count);
+}

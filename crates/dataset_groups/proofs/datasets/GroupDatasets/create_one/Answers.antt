@@ -1,0 +1,100 @@
+use Rattle.std.proofs.Common.{◌≡◌, ℕ, ◌+◌, ◌≤◌, Bool, true, false, [], Option, Some, None, List, inl, inr, refl, sym, ap, subst, ◌∙◌, arith}
+use Rattle.std.specs.Prelude.{is_some, IfSome}
+use Rattle.std.proofs.lemmas.Result.{IfErr-weaker, IfOk-weaker}
+use Rattle.block_store.proofs.Steps.{steps_none}
+use Rattle.dnode_tree.proofs.Refusing.{passed_on}
+use Rattle.meta_objset.specs.declared.directory.DirectoryRow.{DirectoryRow}
+use Rattle.meta_objset.specs.declared.record.DatasetRecord.{DatasetRecord}
+use Rattle.meta_objset.specs.Directory.{LacksName}
+use Rattle.pool_model.specs.declared.item.Change.{Change}
+use Rattle.dataset_groups.specs.declared.new_volume.NewVolume.{NewVolume}
+use Rattle.dataset_groups.specs.Adding.{IsAdded}
+use Rattle.dataset_groups.specs.Demands.{HasNewPlaces, IsThereAlready}
+use Rattle.dataset_groups.specs.NewVolumes.{IsNewVolume, numbers_end}
+use Rattle.dataset_groups.proofs.AddedDatasets.{volume_made, volume_passed}
+use Rattle.dataset_groups.proofs.Copied.{adds_none}
+use Rattle.dataset_groups.proofs.MakingDemands.{lacks_change, one_made, sized_change, sized_refused}
+use Rattle.dataset_groups.proofs.NewTouches.{touches_one}
+use Rattle.dataset_groups.proofs.datasets.GroupDatasets.create_one.Goals as goal
+
+is_none : (found : Option ℕ) (test : Bool) → test ≡ is_some found → test ≡ false → found ≡ None
+is_none None test is off = refl
+is_none (Some object) test is off = let clash : true ≡ false = sym is ∙ off in absurd cc
+
+is_there : (found : Option ℕ) (test : Bool) (P : ℕ → Type 0) → test ≡ is_some found → test ≡ true → IfSome found P → (object : ℕ) × P object
+is_there None test P is on there = let clash : false ≡ true = sym is ∙ on in absurd cc
+is_there (Some object) test P is on there = (object, there)
+
+pub returns-in_err-new-clause-steps : goal.returns-in_err-new-clause-steps
+returns-in_err-new-clause-steps g c = steps_none c.args.store.now []
+
+pub returns-then-is_some-clause-steps : goal.returns-then-is_some-clause-steps
+returns-then-is_some-clause-steps g c = steps_none c.args.store.now []
+
+pub returns-then-is_some-clause-value : goal.returns-then-is_some-clause-value
+returns-then-is_some-clause-value g c = λ stored planned plans honest.
+    let there = is_there c.get.result _ _ c.is_some.ensures c.if-is_some.true c.get.ensures.found in (
+      planned,
+      plans,
+      λ block bytes known. known,
+      λ objects pool readings plain spells.
+          volume_passed c.args.self.now c.args.change.now c.in_ok-new.new c.args.group there.0 planned objects pool readings plain c.in_ok-new.ensures.is there.1 spells,
+      adds_none planned,
+    )
+
+pub returns-then-self-clause-steps : goal.returns-then-self-clause-steps
+returns-then-self-clause-steps g c = steps_none c.args.store.now []
+
+-- the name is new
+name_lacks : (rows : List DirectoryRow) (change : Change) (v : NewVolume) → IsNewVolume change v → LacksName rows v.name → ¬ IsThereAlready rows [] change
+name_lacks rows change v is lacks (inl there) = lacks_change rows change v is lacks there
+name_lacks rows change v is lacks (inr asked) = absurd (let low = asked.2 in omega (arith, low))
+
+pub returns-in_err-object_set-clause-refused : goal.returns-in_err-object_set-clause-refused
+returns-in_err-object_set-clause-refused g c =
+    let lacks = c.get.ensures.none (is_none _ _ c.is_some.ensures c.if-is_some.false) in
+    passed_on _ _ _ c.from_residual-in_err-object_set.ensures.1
+    (inr (inr (
+      name_lacks c.args.self.now.directory c.args.change.now c.in_ok-new.new c.in_ok-new.ensures.is lacks,
+      inr (sized_refused c.args.store.now c.planned.new.store c.args.group _ _ _ (sized_change c.args.change.now c.in_ok-new.new c.in_ok-new.ensures.is) c.in_err-object_set.ensures.refused),
+    )))
+
+pub add-requires-clause-lacks : goal.add-requires-clause-lacks
+add-requires-clause-lacks g c = c.get.ensures.none (is_none _ _ c.is_some.ensures c.if-is_some.false)
+
+pub returns-clause-value : goal.returns-clause-value
+returns-clause-value g c =
+    let lacks = c.get.ensures.none (is_none _ _ c.is_some.ensures c.if-is_some.false) in
+    let left : c.args.self.now.next + 2 ≤ numbers_end = omega arith in
+    IfOk-weaker c.add.result (λ done. IsAdded c.args.self.now c.in_ok-new.new.name c.record-dataset.result c.add.new.self) _
+    (λ done added stored planned plans honest.
+    let is = c.in_ok-object_set.ensures.value stored planned plans honest in (
+      is.0,
+      is.1,
+      is.2,
+      λ objects pool readings plain spells.
+          volume_made c.args.self.now c.add.new.self c.args.change.now c.in_ok-new.new c.args.group c.in_ok-object_set.object_set c.record-dataset.result planned is.0 objects pool readings plain
+          c.in_ok-new.ensures.is c.requires.born c.requires.behind left lacks added c.record-dataset.ensures.value is.2 is.3 is.4 spells,
+      is.5,
+    ))
+    c.add.ensures.added
+
+pub returns-clause-known : goal.returns-clause-known
+returns-clause-known g c = IfErr-weaker c.add.result _ _ (λ refusal memory good stored planned plans honest. inl (inl memory.0)) c.add.ensures.refused
+
+pub returns-clause-places : goal.returns-clause-places
+returns-clause-places g c =
+    let lacks = c.get.ensures.none (is_none _ _ c.is_some.ensures c.if-is_some.false) in
+    IfOk-weaker c.add.result (λ done. IsAdded c.args.self.now c.in_ok-new.new.name c.record-dataset.result c.add.new.self) _
+    (λ done added.
+    inr (
+      lacks_change c.args.self.now.directory c.args.change.now c.in_ok-new.new c.in_ok-new.ensures.is lacks,
+      one_made c.args.self.now c.add.new.self c.record-dataset.result c.args.change.now c.in_ok-new.new c.in_ok-new.ensures.is added,
+      subst (λ n. HasNewPlaces c.args.store.now c.planned.new.store c.args.group n) (sized_change c.args.change.now c.in_ok-new.new c.in_ok-new.ensures.is) c.in_ok-object_set.ensures.places,
+    ))
+    c.add.ensures.added
+
+pub returns-clause-touched : goal.returns-clause-touched
+returns-clause-touched g c =
+    IfOk-weaker c.add.result (λ done. IsAdded c.args.self.now c.in_ok-new.new.name c.record-dataset.result c.add.new.self) _
+    (λ done added. (1, touches_one c.args.self.now.changes c.add.new.self.changes c.args.self.now.next c.record-dataset.result.dead_list (ap (λ (r : DatasetRecord). r.dead_list) c.record-dataset.ensures.value) added.touched, added.next)) c.add.ensures.added

@@ -1,0 +1,30 @@
+-- A dataset that is added to those of a group.
+use Rattle.std.specs.Prelude.{ℕ, ◌≡◌, ◌<◌, ◌+◌, List, Option}
+use Rattle.block_pointer.specs.declared.block.Block.{Block}
+use Rattle.block_store.specs.Blocks.{Contents}
+use Rattle.dataset_chains.specs.Chains.{AreNewNumbers, LeadsTo, Reading, SpellsChains}
+use Rattle.dataset_chains.specs.Making.{IsNewRecord, volume_with}
+use Rattle.dataset_chains.specs.Touched.{TouchesOnly}
+use Rattle.dataset_changes.specs.declared.changes.DatasetChanges.{DatasetChanges}
+use Rattle.dead_list.specs.Blocks.{AreDistinct}
+use Rattle.dead_list.specs.Datasets.{Pool, updated}
+use Rattle.dead_list.specs.Operations.{AreNew, IsUnused, with_dataset}
+use Rattle.meta_objset.specs.declared.record.DatasetRecord.{DatasetRecord}
+use Rattle.meta_objset.specs.Directory.{IsPlacedAmong}
+use Rattle.objset.specs.Objects.{Object}
+use Rattle.dataset_groups.specs.declared.datasets.GroupDatasets.{GroupDatasets}
+
+-- where the number is unused and the record that of a new volume, the chains have the volume there
+abbrev pub AddsVolume : DatasetChanges → DatasetChanges → ℕ → DatasetRecord → Type 0
+AddsVolume old new number r =
+    (known : Contents) (group : ℕ) (objects : ℕ → Option Object) (pool : Pool) (readings : ℕ → Reading) (blocks : List Block) (reading : Reading)
+    → 0 < group → SpellsChains known group objects old pool readings → IsUnused pool.datasets number → IsNewRecord group r
+    → AreNewNumbers objects old number r.dead_list → LeadsTo known group r blocks reading → AreNew pool blocks → AreDistinct blocks
+    → SpellsChains known group objects new (with_dataset pool number (volume_with pool blocks)) (updated readings number reading)
+
+-- The dataset has the next number, and its dead list the one behind it. The name has a row that names it.
+pub record IsAdded (old : GroupDatasets) (name : List ℕ) (r : DatasetRecord) (new : GroupDatasets) : Type 0 where
+  pub row : IsPlacedAmong old.directory (record { name = name; object = old.next }) new.directory
+  pub next : new.next ≡ old.next + 2
+  pub adds : AddsVolume old.changes new.changes old.next r
+  pub touched : TouchesOnly old.changes new.changes (λ one. one ≡ old.next) (λ one. one ≡ r.dead_list)

@@ -1,0 +1,10 @@
+pub mod Leaving
+pub mod Names
+pub mod NewVolumes
+pub mod Groups
+pub mod Heads
+pub mod Adding
+pub mod Writing
+pub mod Touched
+pub mod Demands
+pub mod Laws

@@ -1,0 +1,40 @@
+-- The datasets of a pool under the names of its directory, as plain volumes.
+use Rattle.std.specs.Prelude.{ℕ, ◌≡◌, List, map}
+use Rattle.std.specs.List.{AllZip}
+use Rattle.block_pointer.specs.declared.block.Block.{Block}
+use Rattle.dataset_chains.specs.Chains.{Reading}
+use Rattle.dead_list.specs.Datasets.{Head, Kind, Pool}
+use Rattle.dead_list.specs.Reach.{AreNumbersOf, reach_of}
+use Rattle.meta_objset.specs.declared.directory.DirectoryRow.{DirectoryRow}
+use Rattle.meta_objset.specs.Names.{IsNamed}
+use Rattle.pool_model.specs.declared.volume.PlainVolume.{PlainVolume}
+use Rattle.pool_model.specs.declared.volume.VolumeKind.{VolumeKind}
+use Rattle.pool_model.specs.declared.volume.VolumeKind.TheVariants.{Volume}
+use Rattle.pool_model.specs.Pools.{PlainPool}
+
+-- a volume is a head
+abbrev pub IsOfKind : VolumeKind → Kind → Type 0
+IsOfKind Volume kind = kind ≡ Head
+
+-- The row names the volume: its object is that of a dataset that reads so, and that this group made.
+pub record NamesVolume (pool : Pool) (readings : ℕ → Reading) (row : DirectoryRow) (volume : PlainVolume)
+    : Type 0 where
+  pub name : IsNamed row.name volume.name
+  pub kind : IsOfKind volume.kind (pool.datasets row.object).kind
+  pub created : (pool.datasets row.object).group ≡ volume.group
+  pub array : (readings row.object).array ≡ volume.bytes
+  pub block_size : (readings row.object).block_size ≡ volume.block_size
+
+-- the objects of the rows
+abbrev pub objects_of_rows : List DirectoryRow → List ℕ
+objects_of_rows rows = map (λ row. row.object) rows
+
+-- The rows name all datasets, each once: the volumes of the plain pool, in the order of their names, no more and no fewer.
+pub record NamesPool (pool : Pool) (readings : ℕ → Reading) (rows : List DirectoryRow) (plain : PlainPool)
+    : Type 0 where
+  pub numbers : AreNumbersOf pool.datasets (objects_of_rows rows)
+  pub volumes : AllZip (NamesVolume pool readings) rows plain.volumes
+
+-- all blocks that the datasets of the rows reach, each in the dataset that it was born in
+abbrev pub reach_by : Pool → List DirectoryRow → List Block
+reach_by pool rows = reach_of pool.datasets (objects_of_rows rows)

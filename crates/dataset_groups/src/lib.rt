@@ -1,0 +1,15 @@
+//! What a transaction group makes of a pool's datasets: heads that are written to, and volumes that are made, with the names that they
+//! stand under.
+#![tactic(auto)]
+
+mod datasets;
+mod laws;
+mod making;
+mod new_volume;
+mod writing;
+
+pub use block_store::Refusal;
+pub use datasets::GroupDatasets;
+pub use laws::groups_before_are_older;
+pub use volume::BlockWrite;
+pub use writing::WrittenHead;
