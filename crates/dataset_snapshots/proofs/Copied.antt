@@ -21,7 +21,7 @@ use Rattle.objset.specs.declared.changes.SetCopies.{SetCopies}
 use Rattle.objset.specs.Changes.{AreChanged, AreExchanged, copies_of, dnode_copies, object_copies}
 use Rattle.objset.specs.Objects.{Object}
 use Rattle.volume.specs.Placing.{IsSetPlanned}
-use Rattle.dataset_snapshots.specs.Leaving.{AddsData, AddsMeta, IsReachExchanged}
+use Rattle.dataset_groups.specs.Leaving.{AddsData, AddsMeta, IsReachExchanged}
 use Rattle.dataset_snapshots.proofs.ChangedRows.{all_from}
 
 -- ---- what is known later and was not

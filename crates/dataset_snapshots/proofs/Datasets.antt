@@ -17,6 +17,7 @@ use Rattle.volume.specs.Volume.{IsVolume}
 use Rattle.dataset_snapshots.specs.declared.finding.Dataset.{Dataset}
 use Rattle.dataset_snapshots.specs.Finding.{AreRowsFound, HasDataset, IsFound, IsFoundIn, IsMetaFound, IsNumberIn, IsRowOf, IsVolumeOf}
 use Rattle.dataset_snapshots.specs.Pools.{IsRecordOf, SpellsPool}
+use Rattle.dataset_snapshots.proofs.Chained.{volumes_of}
 use Rattle.dataset_snapshots.proofs.Rows.{no_row, row_leads}
 
 -- the dataset of a record
@@ -42,14 +43,14 @@ are_of_root stored birth root pool set is same = subst (λ (s : ObjectSet). AreO
 pub nothing_there : (stored : Contents) (birth : ℕ) (root : Block) (pool : PlainPool) (name : List ℕ) (is : SpellsPool stored birth root pool) → IsNumberIn is.rows name None
     → HasDataset stored root.birth (volume_at name pool) None
 nothing_there stored birth root pool name is none =
-    subst (λ found. HasDataset stored root.birth found None) (sym (no_row stored root.birth is.objects name is.rows pool.volumes is.volumes none)) tt
+    subst (λ found. HasDataset stored root.birth found None) (sym (no_row stored root.birth is.objects name is.rows pool.volumes (volumes_of is) none)) tt
 
 -- and one that it has
 pub dataset_there : (stored : Contents) (birth : ℕ) (root : Block) (pool : PlainPool) (name : List ℕ) (dataset : Dataset) (object : ℕ) (is : SpellsPool stored birth root pool)
     → IsRowOf is.rows name object → IsVolumeOf dataset → ((r : DatasetRecord) → HasRecord (is.objects object) r → dataset.record ≡ r)
     → HasDataset stored root.birth (volume_at name pool) (Some dataset)
 dataset_there stored birth root pool name dataset object is row of one =
-    let leads = row_leads stored root.birth is.objects name is.rows pool.volumes row.0 is.directory.0.order is.volumes row.1 row.2 in
+    let leads = row_leads stored root.birth is.objects name is.rows pool.volumes row.0 is.directory.0.order (volumes_of is) row.1 row.2 in
     let spells = leads.2 in
     let same : dataset.record ≡ spells.r = one spells.r (subst (λ n. HasRecord (is.objects n) spells.r) row.3 spells.has) in
     subst (λ found. HasDataset stored root.birth found (Some dataset)) (sym leads.1) (has_dataset stored root.birth leads.0 dataset spells.r same of spells.is spells.bytes)
@@ -58,7 +59,7 @@ dataset_there stored birth root pool name dataset object is row of one =
 pub record_there : (stored : Contents) (birth : ℕ) (root : Block) (pool : PlainPool) (name : List ℕ) (object : ℕ) (is : SpellsPool stored birth root pool)
     → IsRowOf is.rows name object → (r : DatasetRecord) × HasRecord (is.objects object) r
 record_there stored birth root pool name object is row =
-    let leads = row_leads stored root.birth is.objects name is.rows pool.volumes row.0 is.directory.0.order is.volumes row.1 row.2 in
+    let leads = row_leads stored root.birth is.objects name is.rows pool.volumes row.0 is.directory.0.order (volumes_of is) row.1 row.2 in
     let spells = leads.2 in
     (spells.r, subst (λ n. HasRecord (is.objects n) spells.r) row.3 spells.has)
 

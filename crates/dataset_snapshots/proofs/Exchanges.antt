@@ -11,7 +11,7 @@ use Rattle.dnode_tree.specs.declared.writes.CopyCounts.{CopyCounts}
 use Rattle.dnode_tree.specs.Freeing.{AreOnlyIn}
 use Rattle.dnode_tree.specs.Rewriting.{AreDistinct, IsExchanged}
 use Rattle.dataset_snapshots.proofs.ChangedRows.{is_first, nothing_in}
-use Rattle.dataset_snapshots.specs.Leaving.{IsReachExchanged}
+use Rattle.dataset_groups.specs.Leaving.{IsReachExchanged}
 
 -- ---- parts
 

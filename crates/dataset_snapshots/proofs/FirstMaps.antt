@@ -1,8 +1,8 @@
 -- The space maps of a pool's first root.
-use Rattle.std.proofs.Common.{◌≡◌, ◌≢◌, inl, inr, ℕ, ◌<◌, ◌≤◌, List, [], ◌∷◌, ◌++◌, length, Option, Some, None, All, refl, sym, ap, ◌∙◌, subst, arith}
-use Rattle.std.specs.List.{AllZip, slice_get}
-use Rattle.std.proofs.lemmas.Bool.{cases_lt}
-use Rattle.std.proofs.lemmas.List.Elements.{All-nil, All-weaker}
+use Rattle.std.proofs.Common.{◌≡◌, ◌≢◌, inl, inr, ℕ, ◌<◌, ◌≤◌, List, [], ◌∷◌, length, Option, None, All, refl, sym, ap, ◌∙◌, subst, arith}
+use Rattle.std.specs.List.{slice_get}
+use Rattle.std.proofs.lemmas.Bool.{cases_eq, cases_lt}
+use Rattle.std.proofs.lemmas.List.Elements.{All-contains, All-nil, All-weaker}
 use Rattle.block_pointer.specs.declared.block.Block.{Block}
 use Rattle.block_pointer.specs.Copies.{dvas}
 use Rattle.block_store.proofs.Planning.{marks_by_map}
@@ -12,36 +12,41 @@ use Rattle.block_store.specs.Places.{filled, planned}
 use Rattle.block_store.specs.Spaces.{VdevSpace}
 use Rattle.block_store.specs.Steps.{OnlyReadsAndPlans}
 use Rattle.block_store.specs.Store.{Store}
+use Rattle.dataset_chains.proofs.Stands.{leaves}
+use Rattle.dataset_chains.specs.Chains.{Reading}
+use Rattle.dataset_chains.specs.Standing.{HasChains}
+use Rattle.dataset_groups.specs.declared.datasets.GroupDatasets.{GroupDatasets}
+use Rattle.dataset_groups.specs.Groups.{SpellsGroup}
+use Rattle.dataset_groups.specs.Leaving.{AddsData, AddsMeta, IsReachExchanged}
+use Rattle.dataset_groups.specs.Names.{reach_by}
+use Rattle.dead_list.specs.Datasets.{Pool}
 use Rattle.dnode.specs.declared.object_set.ObjectSetKind.TheVariants as sets
 use Rattle.meta_objset.specs.Reading.{HasConfig, HasDirectory}
 use Rattle.meta_objset.specs.StaleSpans.{spans_kind}
 use Rattle.object_table.specs.Tables.{HasTable}
+use Rattle.objset.proofs.Numbers.{changed_left}
 use Rattle.objset.specs.declared.changes.ObjectChange.{ObjectChange}
-use Rattle.objset.specs.Changes.{changed}
+use Rattle.objset.specs.Changes.{after_change, changed}
 use Rattle.objset.specs.Objects.{Object}
 use Rattle.objset.specs.Within.{blocks_of_set}
 use Rattle.pool_maps.proofs.Besides.{whole_plan}
 use Rattle.pool_maps.specs.Beside.{AreSameBefore, IsBeforeMeta, IsInMeta}
 use Rattle.pool_maps.specs.Maps.{AreMapsOf}
-use Rattle.pool_maps.specs.Plans.{AreOfOthers, IsMapNumber, MayBeMade, OthersStay}
+use Rattle.pool_maps.specs.Plans.{AreOfOthers, IsMapNumber, LeaveMaps, MayBeMade, OthersStay}
 use Rattle.pool_maps.specs.Reached.{AreThere, UseNothing}
 use Rattle.pool_model.specs.Pools.{PlainPool}
 use Rattle.vdev_label.specs.Plain.{PlainVdev}
-use Rattle.dataset_snapshots.specs.declared.making.Making.{Making}
 use Rattle.dataset_snapshots.specs.Creating.{HasFirstTables}
 use Rattle.dataset_snapshots.specs.FirstGroup.{IsWithTables, empty_meta}
 use Rattle.dataset_snapshots.specs.Groups.{IsNextOf, IsSetOf}
-use Rattle.dataset_snapshots.specs.Leaving.{AddsData, AddsMeta, IsReachExchanged}
-use Rattle.dataset_snapshots.specs.Making.{IsReady, SpellsMaking}
 use Rattle.dataset_snapshots.specs.Mapped.{AreCopied, HasMapsBehind}
 use Rattle.dataset_snapshots.specs.Pools.{SpellsPool}
-use Rattle.dataset_snapshots.specs.Reach.{HasBlocksOf, blocks_listed, reach_of}
-use Rattle.dataset_snapshots.proofs.ChangedRows.{nothing_in}
+use Rattle.dataset_snapshots.specs.Reach.{reach_of}
+use Rattle.dataset_snapshots.proofs.ChangedRows.{changed_or_not, nothing_in}
 use Rattle.dataset_snapshots.proofs.Copied.{reach_copied}
-use Rattle.dataset_snapshots.proofs.FirstRoots.{first_given, first_may, first_volumes, lacks_maps, nothing, table_has}
+use Rattle.dataset_snapshots.proofs.FirstRoots.{first_given, first_may, lacks_maps, neither_of_table, nothing, table_has, tables_stay}
 use Rattle.dataset_snapshots.proofs.GroupReach.{IsRootGiven}
-use Rattle.dataset_snapshots.proofs.KeptVolumes.{datasets_kept, datasets_listed_stay, listed_spell}
-use Rattle.dataset_snapshots.proofs.MakingChanges.{unchanged}
+use Rattle.dataset_snapshots.proofs.OtherObjects.{IsNeither, StaysForChains, chains_more, chains_over, neither_of_none}
 
 -- nothing is in use where nothing was, while blocks are planned
 pub unused_still : (old new : Store) → OnlyReadsAndPlans old new [] → UseNothing old.spaces filled → UseNothing new.spaces filled
@@ -74,79 +79,89 @@ module _ (changes : List ObjectChange) (next : ℕ) (is_next : IsNextOf changes 
     within = is_next.within;
   }
 
-  -- what is there behind the changes is so with the maps
-  stays : (whole : List ObjectChange) → OthersStay [] next changes whole → (number : ℕ) (there : Object) → changed changes nothing number ≡ Some there
-      → changed whole nothing number ≡ changed changes nothing number
-  stays whole others number there known = others nothing number not_table not_map
-    where
-      not_table : number ≢ 4
-      not_table is =
-          let clash : None ≡ Some there = sym (unchanged changes nothing number (subst (λ n. All (λ (change : ObjectChange). change.number ≢ n) changes) (sym is) lacks)) ∙ known in absurd cc
+  -- nothing is there yet that is to have a map
+  high_none : (number : ℕ) → next ≤ number → changed changes nothing number ≡ None
+  high_none number high =
+      changed_left changes nothing number (All-weaker (λ (change : ObjectChange). change.number < next) (λ change. change.number ≢ number) (λ change below same. omega (arith, below, same, high)) changes is_next.below)
 
-      not_map : ¬ IsMapNumber [] next number
-      not_map is = elim (cases_lt number next) [
-        | inl low ↦ no_map number low is
-        | inr high ↦
-            let clash : None ≡ Some there = sym (unchanged changes nothing number
-            (All-weaker (λ (change : ObjectChange). change.number < next) (λ change. change.number ≢ number) (λ change below same. omega (arith, below, same, high)) changes
-            is_next.below)) ∙ known in absurd cc
+  module _ (whole : List ObjectChange) (others : OthersStay [] next changes whole) (leave : LeaveMaps nothing changes whole) (spaces : List VdevSpace)
+      (maps : AreMapsOf (changed whole nothing) spaces planned) where
+    map_after : (number : ℕ) → number ≢ 4 → next ≤ number → IsNeither (changed whole nothing number)
+    map_after number not_table high = elim (changed_or_not whole nothing number) [
+      | inl none ↦ neither_of_none (changed whole nothing number) none.1
+      | inr (change, held, at, now) ↦ subst IsNeither (sym now) (elim (leave change held) [
+        | inl before ↦ let low = All-contains (λ (c : ObjectChange). c.number < next) changes change is_next.below before in absurd (omega (arith, low, at, high))
+        | inr (inl table) ↦ absurd (not_table (sym at ∙ table))
+        | inr (inr map) ↦ neither_of_table _ (after_change change.change None) map.0 (omega arith) (omega arith) map.1
+      ])
+    ]
+
+    -- no map, and not their table, is a record or a dead list
+    maps_stay : (number : ℕ) → StaysForChains (changed changes nothing number) (changed whole nothing number)
+    maps_stay number = elim (cases_eq number 4) [
+      | inl four ↦ inr (subst (λ n. IsNeither (changed changes nothing n) × IsNeither (changed whole nothing n)) (sym four) (
+        neither_of_none (changed changes nothing 4) (changed_left changes nothing 4 lacks),
+        neither_of_table _ (changed whole nothing 4) _ (omega arith) (omega arith) maps.are.table.1,
+      ))
+      | inr not_table ↦ elim (cases_lt number next) [
+        | inl low ↦ inl (others nothing number not_table (no_map number low))
+        | inr high ↦ inr (neither_of_none (changed changes nothing number) (high_none number high), map_after number not_table high)
       ]
+    ]
 
 -- ---- the pool
 
-module _ (vdevs : List PlainVdev) (making : Making) (changes : List ObjectChange) (ready : IsReady making) (all : IsWithTables vdevs making changes) (next : ℕ) (is_next : IsNextOf changes next) where
-  pub first_of_others : (stored : Contents) (group : ℕ) (lists : ℕ → List Block) (pool : PlainPool) → SpellsMaking stored group nothing lists making pool → AreOfOthers nothing changes [] next
-  first_of_others stored group lists pool spells =
-      of_others changes next is_next (lacks_maps vdevs making changes ready all) (first_may vdevs making changes ready all stored group lists pool spells)
+module _ (vdevs : List PlainVdev) (datasets : GroupDatasets) (changes : List ObjectChange) (all : IsWithTables vdevs datasets changes) (next : ℕ) (is_next : IsNextOf changes next) where
+  pub first_of_others : (stored : Contents) (group : ℕ) (pool : Pool) (readings : ℕ → Reading) (plain : PlainPool) → SpellsGroup stored group nothing datasets pool readings plain
+      → AreOfOthers nothing changes [] next
+  first_of_others stored group pool readings plain spells =
+      of_others changes next is_next (lacks_maps vdevs datasets changes all) (first_may vdevs datasets changes all stored group pool readings plain spells)
 
   module _ (whole : List ObjectChange) (others : OthersStay [] next changes whole) where
-    kept : (number : ℕ) (there : Object) → changed changes nothing number ≡ Some there → changed whole nothing number ≡ changed changes nothing number
-    kept = stays changes next is_next (lacks_maps vdevs making changes ready all) whole others
-
     low_same : (number : ℕ) → number ≤ 3 → changed whole nothing number ≡ changed changes nothing number
     low_same number low =
         others nothing number (λ is. omega (arith, is, low))
-        (no_map changes next is_next (lacks_maps vdevs making changes ready all) number (let behind = is_next.behind in omega (arith, behind, low)))
+        (no_map changes next is_next (lacks_maps vdevs datasets changes all) number (let behind = is_next.behind in omega (arith, behind, low)))
 
     low_has : (Has : Option Object → Type 0) (number : ℕ) → number ≤ 3 → Has (changed changes nothing number) → Has (changed whole nothing number)
     low_has Has number low has = subst Has (sym (low_same number low)) has
 
-    -- the set of these objects is that of the pool, with the first tables, and leads to its own blocks and those of the volumes
-    spells_first : (stored later : Contents) (group : ℕ) (root : Block) (lists : ℕ → List Block) (pool : PlainPool) → SpellsMaking stored group nothing lists making pool → Extends stored later
-        → (set : IsSetOf later group root sets.Meta (changed whole nothing)) → root.birth ≡ group
-        → (is : SpellsPool later group root pool) × HasFirstTables is.objects vdevs
-        × (reach_of is ≡ root ∷ blocks_of_set set.set set.own set.blocks ++ blocks_listed lists making.directory) × (is.rows ≡ making.directory) × (is.objects ≡ changed whole nothing)
-        × (All (λ block. length (dvas block.copies) ≡ 3) (root ∷ blocks_of_set set.set set.own set.blocks)
-        → All (λ block. length (dvas block.copies) ≢ 3) (blocks_listed lists making.directory) → AreCopied is)
-    spells_first stored later group root lists pool spells more set born =
-        let volumes = datasets_kept stored group (changed changes nothing) (changed whole nothing) lists making.directory pool.volumes kept
-        (first_volumes vdevs making changes ready all stored group lists pool spells) in
-        let listed = subst (λ n. AllZip (HasBlocksOf later n (changed whole nothing) lists) making.directory pool.volumes) (sym born)
-        (datasets_listed_stay stored later group (changed whole nothing) lists making.directory pool.volumes more volumes) in
-        let spelled = listed_spell later root.birth (changed whole nothing) lists making.directory pool.volumes listed in (
-          record {
-            set = set.set;
-            is_set = set.is_set;
-            kind = set.kind_is;
-            objects = changed whole nothing;
-            own = set.own;
-            blocks = set.blocks;
-            are = set.are;
-            rows = making.directory;
-            directory = low_has (λ o. HasDirectory o making.directory) 1 (omega arith)
-                (table_has vdevs making changes ready all (λ o. HasDirectory o making.directory) 1 (omega arith) all.1.has_directory);
-            apart = spells.apart;
-            volumes = spelled.0;
-          },
-          record {
-            config = low_has (λ o. HasConfig o vdevs) 2 (omega arith) (table_has vdevs making changes ready all (λ o. HasConfig o vdevs) 2 (omega arith) all.1.has_config);
-            spans = low_has (λ o. HasTable spans_kind o []) 3 (omega arith) (table_has vdevs making changes ready all (λ o. HasTable spans_kind o []) 3 (omega arith) all.1.has_spans);
-          },
-          ap (λ below. root ∷ blocks_of_set set.set set.own set.blocks ++ below) spelled.1,
-          refl,
-          refl,
-          λ meta others. record { meta = meta; others = subst (All (λ (block : Block). length (dvas block.copies) ≢ 3)) (sym spelled.1) others },
-        )
+    module _ (leave : LeaveMaps nothing changes whole) (spaces : List VdevSpace) (maps : AreMapsOf (changed whole nothing) spaces planned)
+        (stored later : Contents) (group : ℕ) (root : Block) (pool : Pool) (readings : ℕ → Reading) (plain : PlainPool) (spells : SpellsGroup stored group nothing datasets pool readings plain)
+        (more : Extends stored later) (set : IsSetOf later group root sets.Meta (changed whole nothing)) (born : root.birth ≡ group) where
+      -- the datasets are those of all objects
+      chains_whole : HasChains stored group (changed whole nothing) pool readings
+      chains_whole =
+          chains_over stored group (changed changes nothing) (changed whole nothing) pool readings
+          (maps_stay changes next is_next (lacks_maps vdevs datasets changes all) whole others leave spaces maps)
+          (chains_over stored group (changed all.1 nothing) (changed changes nothing) pool readings (tables_stay vdevs datasets changes all)
+          (leaves stored group nothing datasets.changes pool readings all.1 spells.chains all.3))
+
+      -- the set of these objects is that of the pool, with the first tables
+      abbrev spells_first : SpellsPool later group root plain
+      spells_first = record {
+        set = set.set;
+        is_set = set.is_set;
+        kind = set.kind_is;
+        objects = changed whole nothing;
+        own = set.own;
+        blocks = set.blocks;
+        are = set.are;
+        rows = datasets.directory;
+        directory = low_has (λ o. HasDirectory o datasets.directory) 1 (omega arith)
+            (table_has vdevs datasets changes all (λ o. HasDirectory o datasets.directory) 1 (omega arith) all.2.has_directory);
+        datasets = pool;
+        readings = readings;
+        chains = subst (λ n. HasChains later n (changed whole nothing) pool readings) (sym born)
+            (chains_more stored later group (changed whole nothing) pool readings more chains_whole);
+        names = spells.names;
+      }
+
+      first_tables : HasFirstTables spells_first.objects vdevs
+      first_tables = record {
+        config = low_has (λ o. HasConfig o vdevs) 2 (omega arith) (table_has vdevs datasets changes all (λ o. HasConfig o vdevs) 2 (omega arith) all.2.has_config);
+        spans = low_has (λ o. HasTable spans_kind o []) 3 (omega arith) (table_has vdevs datasets changes all (λ o. HasTable spans_kind o []) 3 (omega arith) all.2.has_spans);
+      }
 
 -- ---- the maps
 
@@ -163,23 +178,23 @@ first_behind later group root pool is whole spaces now copied objects_are maps s
 }
 
 -- the first root, by what was planned for the volumes, the maps and the set
-pub first_value : (stored mid later : Contents) (group : ℕ) (vdevs : List PlainVdev) (making : Making) (changes : List ObjectChange) (ready : IsReady making) (all : IsWithTables vdevs making changes)
-    (next : ℕ) → IsNextOf changes next → (whole : List ObjectChange) → OthersStay [] next changes whole → (root : Block) (lists : ℕ → List Block) (pool : PlainPool) (spaces now : List VdevSpace)
-    (gone : List Block) → SpellsMaking mid group nothing lists making pool → Extends stored mid → Extends mid later → IsReachExchanged group stored mid [] (blocks_listed lists making.directory) []
+pub first_value : (stored mid later : Contents) (group : ℕ) (vdevs : List PlainVdev) (datasets : GroupDatasets) (changes : List ObjectChange) (all : IsWithTables vdevs datasets changes)
+    (next : ℕ) → IsNextOf changes next → (whole : List ObjectChange) → OthersStay [] next changes whole → LeaveMaps nothing changes whole
+    → (root : Block) (pool : Pool) (readings : ℕ → Reading) (plain : PlainPool) (spaces now : List VdevSpace) (gone : List Block)
+    → SpellsGroup mid group nothing datasets pool readings plain → Extends stored mid → Extends mid later → IsReachExchanged group stored mid [] (reach_by pool datasets.directory) []
     → AddsData stored mid → IsRootGiven mid later group root sets.Meta (changed whole nothing) (blocks_of_set empty_meta [] (λ number. [])) gone → AddsMeta mid later → root.birth ≡ group
     → AreMapsOf (changed whole nothing) spaces planned × AreThere spaces planned → AreSameBefore spaces now
-    → (is : SpellsPool later group root pool) × HasFirstTables is.objects vdevs × IsReachExchanged group stored later [] (reach_of is) [] × (making.directory ≡ is.rows) × HasMapsBehind now [] is
-first_value stored mid later group vdevs making changes ready all next is_next whole others root lists pool spaces now gone spells first last volumes added given meta_added born maps same =
+    → (is : SpellsPool later group root plain) × HasFirstTables is.objects vdevs × IsReachExchanged group stored later [] (reach_of is) [] × (datasets.directory ≡ is.rows) × HasMapsBehind now [] is
+first_value stored mid later group vdevs datasets changes all next is_next whole others leave root pool readings plain spaces now gone spells first last volumes added given meta_added born maps same =
     let set = given.0 in
-    let is = spells_first vdevs making changes ready all next is_next whole others mid later group root lists pool spells last set born in
+    let is = spells_first vdevs datasets changes all next is_next whole others leave spaces maps.0 mid later group root pool readings plain spells last set born in
     let meta = reach_copied (λ (block : Block). length (dvas block.copies) ≡ 3) group mid later (blocks_of_set empty_meta [] (λ number. [])) (root ∷ blocks_of_set set.set set.own set.blocks) gone
     given.1 meta_added (All-nil (λ (block : Block). length (dvas block.copies) ≡ 3)) in
-    let rest = reach_copied (λ (block : Block). length (dvas block.copies) ≢ 3) group stored mid [] (blocks_listed lists making.directory) [] volumes added
+    let rest = reach_copied (λ (block : Block). length (dvas block.copies) ≢ 3) group stored mid [] (reach_by pool datasets.directory) [] volumes added
     (All-nil (λ (block : Block). length (dvas block.copies) ≢ 3)) in (
-      is.0,
-      is.1,
-      subst (λ (blocks : List Block). IsReachExchanged group stored later [] blocks []) (sym is.2)
-          (first_given stored mid later group root (blocks_listed lists making.directory) (blocks_of_set set.set set.own set.blocks) gone first last volumes given.1),
-      sym is.3,
-      first_behind later group root pool is.0 whole spaces now (is.5 meta rest) is.4 maps same,
+      is,
+      first_tables vdevs datasets changes all next is_next whole others leave spaces maps.0 mid later group root pool readings plain spells last set born,
+      first_given stored mid later group root (reach_by pool datasets.directory) (blocks_of_set set.set set.own set.blocks) gone first last volumes given.1,
+      refl,
+      first_behind later group root plain is whole spaces now (record { meta = meta; others = rest }) refl maps same,
     )

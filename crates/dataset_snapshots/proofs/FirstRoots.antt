@@ -1,48 +1,58 @@
 -- The first root of a pool, from the volumes that are made and the tables.
-use Rattle.std.proofs.Common.{◌≡◌, ◌≢◌, ◌⊎◌, inl, inr, ℕ, ◌+◌, ◌*◌, ◌<◌, ◌≤◌, List, [], ◌∷◌, ◌++◌, length, Option, Some, None, All, AllPairs, ⊎_elim, refl, sym, ap, ◌∙◌, subst, arith}
+use Rattle.std.proofs.Common.{◌≡◌, ◌≢◌, ◌⊎◌, inl, inr, ℕ, ◌+◌, ◌*◌, ◌^◌, ◌<◌, ◌≤◌, List, [], ◌∷◌, ◌++◌, length, Option, Some, None, All, AllPairs, refl, sym, ap, ◌∙◌, subst, arith}
 use Rattle.std.specs.Prelude.{fold}
-use Rattle.std.specs.List.{AllZip}
 use Rattle.std.proofs.lemmas.Bool.{cases_lt}
 use Rattle.std.proofs.lemmas.List.Kept.{AllPairs-cons}
-use Rattle.std.proofs.lemmas.List.Elements.{All-append, All-cons, All-weaker}
+use Rattle.std.proofs.lemmas.List.Elements.{All-append, All-cons, All-contains, All-weaker}
 use Rattle.block_pointer.specs.declared.block.Block.{Block}
 use Rattle.block_store.proofs.Demands.{have_both}
 use Rattle.block_store.specs.declared.refusal.Refusal.{Refusal}
-use Rattle.block_store.specs.declared.refusal.Refusal.TheVariants.{NoMemory}
+use Rattle.block_store.specs.declared.refusal.Refusal.TheVariants.{NoMemory, BadPointer, DiskFault}
 use Rattle.block_store.specs.Blocks.{Contents, Extends}
 use Rattle.block_store.specs.Demands.{HavePlaces}
 use Rattle.block_store.specs.Places.{shapes_of}
 use Rattle.block_store.specs.Steps.{OnlyReadsAndPlans, OnlyReadsBlocks}
 use Rattle.block_store.specs.Store.{Store}
+use Rattle.dataset_chains.specs.Chains.{Reading}
+use Rattle.dataset_chains.specs.Standing.{HasChains}
+use Rattle.dataset_changes.specs.States.{AreOfOneSet, AreUntouched, set_of}
+use Rattle.dataset_groups.specs.declared.datasets.GroupDatasets.{GroupDatasets}
+use Rattle.dataset_groups.specs.Demands.{AreMade, IsActionRefused, MakesAll}
+use Rattle.dataset_groups.specs.Groups.{SpellsGroup}
+use Rattle.dataset_groups.specs.Leaving.{IsReachExchanged}
+use Rattle.dataset_groups.specs.Names.{NamesPool}
+use Rattle.dataset_groups.specs.Touched.{TouchesNew}
+use Rattle.dead_list.specs.Datasets.{Free, Pool, Snapshot}
+use Rattle.dead_list.specs.Datasets.{nothing as no_dataset}
+use Rattle.dead_list.specs.Sound.{Fits, IsSound}
 use Rattle.dnode.specs.declared.object_set.ObjectSetKind.TheVariants as sets
+use Rattle.dnode_tree.proofs.Exchanging.{count_by-append}
+use Rattle.dnode_tree.specs.Writes.{IsForRoom}
 use Rattle.meta_objset.specs.declared.directory.DirectoryRow.{DirectoryRow}
-use Rattle.meta_objset.specs.Datasets.{HasRecord}
+use Rattle.object_table.specs.declared.kind.TableKind.{TableKind}
 use Rattle.object_table.specs.Tables.{HasTable}
+use Rattle.objset.proofs.Numbers.{changed_left}
 use Rattle.objset.specs.declared.changes.Change.{Change}
 use Rattle.objset.specs.declared.changes.ObjectChange.{ObjectChange}
-use Rattle.objset.specs.Changes.{MayChange, changed}
+use Rattle.objset.specs.Changes.{MayChange, after_change, changed, copies_of}
 use Rattle.objset.specs.Objects.{Object}
+use Rattle.objset.specs.Within.{blocks_of_set}
 use Rattle.pool_maps.specs.Plans.{AreSparing, OthersStay}
 use Rattle.pool_maps.specs.Refused.{AreFirstRefused}
 use Rattle.pool_model.specs.declared.item.Action.{Action}
 use Rattle.pool_model.specs.declared.item.Write.{Write}
 use Rattle.pool_model.specs.Pools.{Entry, PlainPool, applied, no_volumes, written}
 use Rattle.pool_model.specs.Pools.{changed as pool_changed}
+use Rattle.raidz_io.proofs.Written.{same_some}
 use Rattle.vdev_label.specs.Plain.{PlainVdev}
-use Rattle.dataset_snapshots.specs.declared.making.Making.{Making}
-use Rattle.dataset_snapshots.specs.Demands.{HasRootPlaces, IsActionRefused, IsRootRefused}
-use Rattle.dataset_snapshots.specs.FirstGroup.{AreFirstGroupChanges, AreFirstVolumes, AreTableChanges, HasFirstPlaces, IsFirstRefused, IsWithTables, empty_meta, AreFirstPlaced, AreWithFirstMaps}
-use Rattle.dataset_snapshots.specs.Leaving.{IsReachExchanged}
-use Rattle.dataset_snapshots.specs.Reach.{HasBlocksOf}
-use Rattle.dataset_snapshots.proofs.Exchanges.{both_given, given_as}
-use Rattle.dnode_tree.proofs.Exchanging.{count_by-append}
-use Rattle.objset.specs.Within.{blocks_of_set}
-use Rattle.dataset_snapshots.specs.Making.{IsReady, SpellsMaking, after_all}
-use Rattle.dataset_snapshots.specs.Pools.{AreApart, dead_list_kind}
+use Rattle.dataset_snapshots.specs.Demands.{AreMisnumbered, HasRootPlaces, IsRootRefused}
+use Rattle.dataset_snapshots.specs.FirstGroup.{AreFirstGroupChanges, AreFirstPlaced, AreFirstVolumes, AreTableChanges, AreWithFirstMaps, HasFirstPlaces, IsFirstRefused, IsWithTables, empty_meta}
 use Rattle.dataset_snapshots.proofs.Asking.{all_demands_in}
-use Rattle.dataset_snapshots.proofs.GroupRoot.{behind_tables, zip_each}
-use Rattle.dataset_snapshots.proofs.MakingChanges.{changed_behind, changed_front, may_make, unchanged}
-use Rattle.objset.specs.Changes.{copies_of}
+use Rattle.dataset_snapshots.proofs.BelowNext.{not_misnumbered}
+use Rattle.dataset_snapshots.proofs.ChangedRows.{changed_or_not, nothing_in}
+use Rattle.dataset_snapshots.proofs.Exchanges.{both_given, given_as}
+use Rattle.dataset_snapshots.proofs.MoreChanges.{changed_behind, changed_front, may_make}
+use Rattle.dataset_snapshots.proofs.OtherObjects.{IsNeither, StaysForChains, neither_of_none, neither_of_type}
 
 abbrev pub nothing : ℕ → Option Object
 nothing number = None
@@ -62,16 +72,76 @@ pub pool_first : (group : ℕ) (items : Entry) (actions : List Action) → actio
 pool_first group items actions same =
     ap (fold (λ p a. pool_changed group p a.change) no_volumes) same ∙ ap (λ p. fold (λ p a. pool_changed group p a.change) p items.actions) (sym (nothing_written items.writes))
 
-module _ (start : Making) (no_rows : start.directory ≡ []) (no_changes : start.changes.items ≡ []) where
-  pub begins_first : (stored : Contents) (group : ℕ) → SpellsMaking stored group nothing (λ number. []) start no_volumes
-  begins_first stored group = record {
-    apart = subst AreApart (sym no_rows) (λ i j d before within. absurd (omega (arith, within)));
-    free = λ number high. refl;
-    below = subst (All (λ (row : DirectoryRow). row.object < start.next)) (sym no_rows) (none_in _);
-    may = subst (All (λ (change : ObjectChange). MayChange change.change (nothing change.number))) (sym no_changes) (none_in _);
-    others = λ number there known other. let clash : None ≡ Some there = known in absurd cc;
-    volumes = subst (λ (rows : List DirectoryRow). AllZip (HasBlocksOf stored group (after_all start nothing) (λ number. [])) rows []) (sym no_rows) tt;
-  }
+-- a pool of datasets without any
+abbrev pub no_datasets : ℕ → Pool
+no_datasets group = record { group = group; datasets = λ number. no_dataset; next = λ number. 0 }
+
+abbrev pub no_readings : ℕ → Reading
+no_readings number = record { array = []; block_size = 0 }
+
+fits_none : (group : ℕ) → Fits group no_dataset no_dataset
+fits_none group = record {
+  made = omega arith;
+  past = omega arith;
+  born = λ block held. absurd (nothing_in block held);
+  once = λ i j d before within. absurd (omega (arith, within));
+  shared = λ block held early. absurd (nothing_in block held);
+  dead = record {
+    each = λ block held. absurd (nothing_in block held);
+    from = λ block held. absurd (nothing_in block held);
+    once = λ i j d before within. absurd (omega (arith, within));
+  };
+}
+
+sound_none : (group : ℕ) → IsSound (no_datasets group)
+sound_none group = record {
+  none = refl;
+  rank = λ m. 0;
+  linked = λ m. inl refl;
+  fits = λ m. fits_none group;
+  one = λ m n block first second. absurd (nothing_in block first.0);
+  followed = λ m kind. let wrong : Free ≡ Snapshot = kind in absurd cc;
+}
+
+-- they are those of no objects
+pub chains_none : (stored : Contents) (group : ℕ) → HasChains stored group nothing (no_datasets group) no_readings
+chains_none stored group = record {
+  sound = sound_none group;
+  now = refl;
+  each = λ m some. absurd (some refl);
+  none = λ m free. record { is = refl; none = λ r has. let clash : None ≡ Some has.there = has.is in absurd cc };
+  apart = λ m k r s one two same. let clash : None ≡ Some one.there = one.is in absurd cc;
+}
+
+-- and no rows name them
+pub names_none : (group : ℕ) (rows : List DirectoryRow) → rows ≡ [] → NamesPool (no_datasets group) no_readings rows no_volumes
+names_none group rows none =
+    subst (λ (these : List DirectoryRow). NamesPool (no_datasets group) no_readings these no_volumes) (sym none)
+    (record {
+      numbers = record { each = λ m some. absurd (some refl); once = λ i j d before within. absurd (omega (arith, within)) };
+      volumes = tt;
+    })
+
+-- what was made of none
+pub first_are : (old new : Store) (group : ℕ) (actions : List Action) (before datasets : GroupDatasets) → before.directory ≡ [] → before.next ≡ 5 → set_of before.changes ≡ empty_meta
+    → AreUntouched before.changes → AreOfOneSet before.changes datasets.changes → MakesAll old new group before datasets actions
+    → (count : ℕ) × TouchesNew before.changes datasets.changes before.next count × (datasets.next ≡ before.next + 2 * count) → AreFirstVolumes old new group actions datasets
+first_are old new group actions before datasets no_rows next_is of_set none one_set made (count, touched, then_next) =
+    let same : count ≡ length made.made = omega (arith, then_next, made.names.next) in
+    record {
+      made = made.made;
+      are = subst (λ (rows : List DirectoryRow). AreMade rows [] actions made.made) no_rows made.are;
+      count = (let none = ap (λ (rows : List DirectoryRow). length rows) no_rows in omega (arith, made.names.rows, none));
+      next = omega (arith, made.names.next, next_is);
+      datasets_are = record {
+        of_set = one_set.0 ∙ of_set;
+        before = before.changes;
+        none = none;
+        touched = subst (λ n. TouchesNew before.changes datasets.changes n (length made.made)) next_is
+            (subst (λ n. TouchesNew before.changes datasets.changes before.next n) same touched);
+      };
+      places = made.places;
+    }
 
 -- ---- the tables
 
@@ -115,67 +185,72 @@ module _ (vdevs : List PlainVdev) (rows : List DirectoryRow) (tables : List Obje
       (All-cons (λ (later : ObjectChange). 1 < later.number) third others (omega arith) (behind 1 (omega arith)))) two in
       subst (λ (front : List ObjectChange). AllPairs Comes (front ++ others)) (sym are.are) all
 
--- ---- the tables and the objects of the volumes
+-- ---- the tables and the objects of the datasets
 
-module _ (vdevs : List PlainVdev) (making : Making) (changes : List ObjectChange) (ready : IsReady making) (all : IsWithTables vdevs making changes) where
-  abbrev made : List ObjectChange
-  made = making.changes.items
+-- an object of another table has no record and no dead list
+pub neither_of_table : (kind : TableKind) (object : Option Object) (bytes : List ℕ) → kind.object_type ≢ 201 → kind.object_type ≢ 202 → HasTable kind object bytes → IsNeither object
+neither_of_table kind object bytes one two table =
+    neither_of_type object kind.object_type one two (λ there is. ap (λ (o : Object). o.object_type) (same_some there table.there (sym is ∙ table.is)) ∙ table.of_kind.0)
 
+module _ (vdevs : List PlainVdev) (datasets : GroupDatasets) (changes : List ObjectChange) (all : IsWithTables vdevs datasets changes) where
   -- the changes may be made of nothing
-  pub first_may : (stored : Contents) (group : ℕ) (lists : ℕ → List Block) (pool : PlainPool) → SpellsMaking stored group nothing lists making pool
+  pub first_may : (stored : Contents) (group : ℕ) (pool : Pool) (readings : ℕ → Reading) (plain : PlainPool) → SpellsGroup stored group nothing datasets pool readings plain
       → All (λ change. MayChange change.change (nothing change.number)) changes
-  first_may stored group lists pool spells =
-      subst (All (λ (change : ObjectChange). MayChange change.change (nothing change.number))) (sym all.2)
-      (All-append (λ (change : ObjectChange). MayChange change.change (nothing change.number)) all.0 made (tables_may vdevs making.directory all.0 all.1) spells.may)
+  first_may stored group pool readings plain spells =
+      subst (All (λ (change : ObjectChange). MayChange change.change (nothing change.number))) (sym all.4)
+      (All-append (λ (change : ObjectChange). MayChange change.change (nothing change.number)) all.0 all.1 (tables_may vdevs datasets.directory all.0 all.2)
+      (all.3.over nothing spells.chains.over).may)
+
+  of_datasets_apart : (number : ℕ) → number ≤ 4 → All (λ change. change.number ≢ number) all.1
+  of_datasets_apart number low =
+      All-weaker (λ (change : ObjectChange). (4 < change.number) × (change.number < 32 * 128 ^ 5)) (λ change. change.number ≢ number) (λ change high is. omega (arith, high.0, is, low)) all.1 all.3.numbers
+
+  of_tables_apart : (number : ℕ) → 3 < number → All (λ change. change.number ≢ number) all.0
+  of_tables_apart number high =
+      All-weaker (λ (change : ObjectChange). (0 < change.number) × (change.number ≤ 3)) (λ change. change.number ≢ number) (λ change low is. omega (arith, low.1, is, high)) all.0
+      (tables_low vdevs datasets.directory all.0 all.2)
 
   -- none is of the space maps' table
   pub lacks_maps : All (λ change. change.number ≢ 4) changes
   lacks_maps =
-      subst (All (λ (change : ObjectChange). change.number ≢ 4)) (sym all.2)
-      (All-append (λ (change : ObjectChange). change.number ≢ 4) all.0 made
-      (All-weaker (λ (change : ObjectChange). (0 < change.number) × (change.number ≤ 3)) (λ change. change.number ≢ 4) (λ change low is. omega (arith, low.1, is)) all.0
-      (tables_low vdevs making.directory all.0 all.1))
-      (behind_tables making 4 ready (omega arith)))
+      subst (All (λ (change : ObjectChange). change.number ≢ 4)) (sym all.4)
+      (All-append (λ (change : ObjectChange). change.number ≢ 4) all.0 all.1 (of_tables_apart 4 (omega arith)) (of_datasets_apart 4 (omega arith)))
 
-  -- each object is that of a table or of a volume
+  -- each object is that of a table or of a dataset
   table_is : (number : ℕ) → number ≤ 4 → changed changes nothing number ≡ changed all.0 nothing number
   table_is number low =
-      ap (λ (cs : List ObjectChange). changed cs nothing number) all.2 ∙ changed_front all.0 made nothing number (behind_tables making number ready low)
+      ap (λ (cs : List ObjectChange). changed cs nothing number) all.4 ∙ changed_front all.0 all.1 nothing number (of_datasets_apart number low)
 
-  volume_is : (number : ℕ) → 4 < number → changed changes nothing number ≡ changed made nothing number
-  volume_is number high =
-      ap (λ (cs : List ObjectChange). changed cs nothing number) all.2
-      ∙ changed_behind all.0 made nothing number
-      (All-weaker (λ (change : ObjectChange). (0 < change.number) × (change.number ≤ 3)) (λ change. change.number ≢ number) (λ change low is. omega (arith, low.1, is, high)) all.0
-      (tables_low vdevs making.directory all.0 all.1))
-
-  -- what was made is behind the tables
-  high_number : (number : ℕ) (there : Object) → changed made nothing number ≡ Some there → 4 < number
-  high_number number there is =
-      ⊎_elim (λ high. high)
-      (λ low. let clash : None ≡ Some there = sym (unchanged made nothing number (behind_tables making number ready (omega (arith, low)))) ∙ is in absurd cc)
-      (cases_lt 4 number)
+  dataset_is : (number : ℕ) → 3 < number → changed changes nothing number ≡ changed all.1 nothing number
+  dataset_is number high =
+      ap (λ (cs : List ObjectChange). changed cs nothing number) all.4 ∙ changed_behind all.0 all.1 nothing number (of_tables_apart number high)
 
   pub table_has : (Has : Option Object → Type 0) (number : ℕ) → number ≤ 4
-      → Has (changed (one 1 all.1.directory ∷ one 2 all.1.config ∷ one 3 all.1.spans ∷ []) nothing number) → Has (changed changes nothing number)
+      → Has (changed (one 1 all.2.directory ∷ one 2 all.2.config ∷ one 3 all.2.spans ∷ []) nothing number) → Has (changed changes nothing number)
   table_has Has number low has =
-      subst Has (sym (table_is number low ∙ ap (λ (cs : List ObjectChange). changed cs nothing number) all.1.are)) has
+      subst Has (sym (table_is number low ∙ ap (λ (cs : List ObjectChange). changed cs nothing number) all.2.are)) has
 
-  pub first_volumes : (stored : Contents) (group : ℕ) (lists : ℕ → List Block) (pool : PlainPool) → SpellsMaking stored group nothing lists making pool
-      → AllZip (HasBlocksOf stored group (changed changes nothing) lists) making.directory pool.volumes
-  first_volumes stored group lists pool spells =
-      zip_each (HasBlocksOf stored group (after_all making nothing) lists) (HasBlocksOf stored group (changed changes nothing) lists) making.directory pool.volumes (λ row volume one. (
-        record {
-          name = one.0.name;
-          behind = one.0.behind;
-          r = one.0.r;
-          has = subst (λ o. HasRecord o one.0.r) (sym (volume_is row.object one.0.behind)) one.0.has;
-          is = one.0.is;
-          bytes = one.0.bytes;
-          dead = subst (λ o. HasTable dead_list_kind o []) (sym (volume_is one.0.r.dead_list (high_number one.0.r.dead_list one.0.dead.there one.0.dead.is))) one.0.dead;
-        },
-        one.1,
-      )) spells.volumes
+  tables_neither : (number : ℕ) → IsNeither (changed all.0 nothing number)
+  tables_neither number = elim (changed_or_not all.0 nothing number) [
+    | inl none ↦ neither_of_none (changed all.0 nothing number) none.1
+    | inr (change, held, at, now) ↦ subst IsNeither (sym now)
+        (All-contains (λ (c : ObjectChange). IsNeither (after_change c.change None)) all.0 change
+        (each_table vdevs datasets.directory all.0 all.2 (λ (c : ObjectChange). IsNeither (after_change c.change None))
+        (neither_of_table _ _ _ (omega arith) (omega arith) all.2.has_directory.1)
+        (neither_of_table _ _ _ (omega arith) (omega arith) all.2.has_config.1)
+        (neither_of_table _ _ _ (omega arith) (omega arith) all.2.has_spans))
+        held)
+  ]
+
+  -- no table is a record or a dead list
+  pub tables_stay : (number : ℕ) → StaysForChains (changed all.1 nothing number) (changed changes nothing number)
+  tables_stay number = elim (cases_lt 3 number) [
+    | inl high ↦ inl (dataset_is number high)
+    | inr low ↦ inr (
+      neither_of_none (changed all.1 nothing number) (changed_left all.1 nothing number (of_datasets_apart number (omega (arith, low)))),
+      subst IsNeither (sym (table_is number (omega (arith, low)))) (tables_neither number),
+    )
+  ]
 
 -- ---- what is planned
 
@@ -193,27 +268,29 @@ first_given planned mid later group root new_volumes new_set gone first last one
 
 -- ---- places and refusals
 
-group_changes : (old mid : Store) (group : ℕ) (vdevs : List PlainVdev) (making : Making) (actions : List Action) (changes : List ObjectChange)
-    → (volumes : AreFirstVolumes old mid group actions making) → IsWithTables vdevs making changes → AreFirstGroupChanges vdevs volumes.made changes
-group_changes old mid group vdevs making actions changes volumes all = record {
-  rows = making.directory;
+group_changes : (old mid : Store) (group : ℕ) (vdevs : List PlainVdev) (datasets : GroupDatasets) (actions : List Action) (changes : List ObjectChange)
+    → (volumes : AreFirstVolumes old mid group actions datasets) → IsWithTables vdevs datasets changes → AreFirstGroupChanges vdevs volumes.made changes
+group_changes old mid group vdevs datasets actions changes volumes all = record {
+  rows = datasets.directory;
   count = volumes.count;
   tables = all.0;
-  tables_are = all.1;
-  of_made = making.changes.items;
-  made_are = volumes.of_made;
-  are = all.2;
+  tables_are = all.2;
+  datasets = datasets.changes;
+  datasets_are = volumes.datasets_are;
+  of_datasets = all.1;
+  of_datasets_are = all.3;
+  are = all.4;
 }
 
-module _ (old mid : Store) (group : ℕ) (vdevs : List PlainVdev) (items : Entry) (making : Making) (changes : List ObjectChange) (next : ℕ) (steps : OnlyReadsAndPlans old mid [])
-    (volumes : AreFirstVolumes old mid group items.actions making) (all : IsWithTables vdevs making changes) (next_is : next ≡ making.next) where
+module _ (old mid : Store) (group : ℕ) (vdevs : List PlainVdev) (items : Entry) (datasets : GroupDatasets) (changes : List ObjectChange) (next : ℕ) (steps : OnlyReadsAndPlans old mid [])
+    (volumes : AreFirstVolumes old mid group items.actions datasets) (all : IsWithTables vdevs datasets changes) (next_is : next ≡ datasets.next) where
   placed_first : AreFirstPlaced old mid group vdevs items.actions changes next
   placed_first = record {
     made = volumes.made;
     made_are = volumes.are;
     before = steps;
     places = volumes.places;
-    changes_are = group_changes old mid group vdevs making items.actions changes volumes all;
+    changes_are = group_changes old mid group vdevs datasets items.actions changes volumes all;
     next_is = next_is ∙ volumes.next;
   }
 
@@ -228,7 +305,7 @@ module _ (old mid : Store) (group : ℕ) (vdevs : List PlainVdev) (items : Entry
         of_made = volumes.places.0;
         made_ask = volumes.places.1;
         changes = changes;
-        changes_are = group_changes old mid group vdevs making items.actions changes volumes all;
+        changes_are = group_changes old mid group vdevs datasets items.actions changes volumes all;
         mid = mid.spaces;
         volumes = volumes.places.2;
         all = whole;
@@ -244,13 +321,13 @@ module _ (old mid : Store) (group : ℕ) (vdevs : List PlainVdev) (items : Entry
 
   pub first_maps_refused : (new : Store) (refusal : Refusal) → (refusal ≡ NoMemory) ⊎ AreFirstRefused mid new changes next refusal → IsFirstRefused old new group vdevs items refusal
   first_maps_refused new refusal (inl memory) = inl memory
-  first_maps_refused new refusal (inr why) = inr (inr (inl (record { mid = mid; changes = changes; next = next; volumes = placed_first; why = why })))
+  first_maps_refused new refusal (inr why) = inr (inr (inr (inl (record { mid = mid; changes = changes; next = next; volumes = placed_first; why = why }))))
 
   pub first_set_refused : (planned new : Store) (whole : List ObjectChange) (refusal : Refusal) → OnlyReadsBlocks mid planned []
       → OthersStay [] next changes whole × AreSparing mid.spaces [] [] next changes whole → IsRootRefused planned new empty_meta group group whole refusal
       → IsFirstRefused old new group vdevs items refusal
   first_set_refused planned new whole refusal reads (others, sparing) why =
-      inr (inr (inr (record {
+      inr (inr (inr (inr (record {
         mid = mid;
         changes = changes;
         next = next;
@@ -260,10 +337,33 @@ module _ (old mid : Store) (group : ℕ) (vdevs : List PlainVdev) (items : Entry
         all = whole;
         with_maps = record { others = others; sparing = sparing };
         why = why;
-      })))
+      }))))
 
 pub first_volumes_refused : (old new : Store) (group : ℕ) (vdevs : List PlainVdev) (items : Entry) (actions : List Action) (refusal : Refusal) → actions ≡ items.actions
     → (refusal ≡ NoMemory) ⊎ IsActionRefused old new group [] 5 actions refusal → IsFirstRefused old new group vdevs items refusal
 first_volumes_refused old new group vdevs items actions refusal same (inl memory) = inl memory
 first_volumes_refused old new group vdevs items actions refusal same (inr why) =
     inr (inl (subst (λ (list : List Action). IsActionRefused old new group [] 5 list refusal) same why))
+
+-- what was made of sound datasets is of numbers below the next, and nothing has both a record and a dead list
+pub first_datasets_known : (known : Contents) (group : ℕ) (datasets : GroupDatasets) (pool : Pool) (readings : ℕ → Reading) (plain : PlainPool) (refusal : Refusal)
+    → SpellsGroup known group nothing datasets pool readings plain → (refusal ≡ NoMemory) ⊎ ((refusal ≡ BadPointer) × AreMisnumbered datasets.changes datasets.next)
+    → IsForRoom refusal ⊎ (refusal ≡ DiskFault)
+first_datasets_known known group datasets pool readings plain refusal spells (inl memory) = inl (inl memory)
+first_datasets_known known group datasets pool readings plain refusal spells (inr why) = absurd (not_misnumbered known group nothing datasets pool readings plain spells why.1)
+
+-- or what becomes of the records and dead lists can't be
+pub first_datasets_refused : (old mid : Store) (group : ℕ) (vdevs : List PlainVdev) (items : Entry) (datasets : GroupDatasets) (refusal : Refusal) → OnlyReadsAndPlans old mid []
+    → AreFirstVolumes old mid group items.actions datasets → (refusal ≡ NoMemory) ⊎ ((refusal ≡ BadPointer) × AreMisnumbered datasets.changes datasets.next)
+    → IsFirstRefused old mid group vdevs items refusal
+first_datasets_refused old mid group vdevs items datasets refusal steps volumes (inl memory) = inl memory
+first_datasets_refused old mid group vdevs items datasets refusal steps volumes (inr why) =
+    inr (inr (inl (record {
+      bad = why.0;
+      planned = steps;
+      made = volumes.made;
+      made_are = volumes.are;
+      datasets = datasets.changes;
+      datasets_are = volumes.datasets_are;
+      mis = subst (AreMisnumbered datasets.changes) volumes.next why.1;
+    })))

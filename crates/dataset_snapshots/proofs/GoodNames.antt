@@ -11,7 +11,7 @@ use Rattle.pool_model.specs.declared.item.Change.TheVariants.{Create}
 use Rattle.pool_model.specs.Names.{is_letter, is_name_letter, is_name}
 use Rattle.volume_rules.specs.GoodChanges.{is_good_size, is_good_change}
 use Rattle.dataset_snapshots.specs.Laws.{GoodChangesMayBeMade}
-use Rattle.dataset_snapshots.specs.Making.{IsGoodCreation}
+use Rattle.dataset_groups.specs.NewVolumes.{IsGoodCreation}
 
 both : (a b : Bool) → (a && b) ≡ true → (a ≡ true) × (b ≡ true)
 both true b e = (refl, e)

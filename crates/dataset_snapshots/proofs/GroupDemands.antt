@@ -1,7 +1,6 @@
 -- What a group's root asks places for, from what its parts ask.
-use Rattle.std.proofs.Common.{◌≡◌, ◌⊎◌, ◌↔◌, inl, inr, Ok, Err, Result, ℕ, ◌+◌, ◌-◌, List, [], ◌∷◌, ◌++◌, length, map, Contains, refl, ap, subst, ◌∙◌, arith, ◌*◌, sym}
-use Rattle.std.specs.Prelude.{◌≢◌, IfErr, IfOk, OnOk, All}
-use Rattle.std.proofs.lemmas.List.{append-nil, length-append}
+use Rattle.std.proofs.Common.{◌≡◌, ◌⊎◌, ◌↔◌, inl, inr, Ok, Err, Result, ℕ, ◌-◌, List, [], ◌∷◌, ◌++◌, length, Contains, refl, ap, subst, sym}
+use Rattle.std.specs.Prelude.{IfErr, IfOk, OnOk}
 use Rattle.block_pointer.specs.declared.block.Block.{Block}
 use Rattle.block_pointer.specs.Copies.{dvas}
 use Rattle.block_store.proofs.Demands.{have_both, have_one, lack_later, lack_one}
@@ -9,7 +8,7 @@ use Rattle.block_store.specs.declared.refusal.Refusal.{Refusal}
 use Rattle.block_store.specs.declared.refusal.Refusal.TheVariants.{NoMemory, NoSpace}
 use Rattle.block_store.specs.Spaces.{VdevSpace}
 use Rattle.block_store.specs.Demands.{Demand, HavePlaces}
-use Rattle.block_store.specs.Places.{AreChosen, RanOut, shapes_of}
+use Rattle.block_store.specs.Places.{AreChosen, RanOut}
 use Rattle.block_store.specs.Steps.{OnlyReadsAndPlans, OnlyReadsBlocks}
 use Rattle.block_store.specs.Store.{Store}
 use Rattle.dnode.specs.declared.object_set.ObjectSet.{ObjectSet}
@@ -19,18 +18,14 @@ use Rattle.objset.specs.declared.changes.ObjectChange.{ObjectChange}
 use Rattle.objset.specs.declared.changes.SetCopies.{SetCopies}
 use Rattle.objset.specs.Demands.{HasDemands, LacksRoom}
 use Rattle.objset.specs.Refused.{IsChangeRefused}
-use Rattle.pool_model.specs.declared.item.Action.{Action}
 use Rattle.pool_model.specs.declared.item.Write.{Write}
 use Rattle.pool_model.specs.Pools.{Entry}
-use Rattle.volume.specs.Demands.{empty_set}
 use Rattle.dataset_snapshots.specs.declared.groups.Opened.{Opened}
-use Rattle.dataset_snapshots.specs.declared.making.Making.{Making}
-use Rattle.dataset_snapshots.specs.Demands.{AreAsked, AreGroupChanges, AreMade, AreNewObjects, AreVolumesRefused, HasActionDemands, HasGroupDemands, HasGroupPlaces, HasRootDemands, HasRootPlaces, HasVolumeDemands, HasVolumePlaces, HavePlacesFor, IsActionRefused, IsGroupRefused, IsRootRefused, IsVolumeUnplaced, IsWithDirectory, MakesAll, MakesObjectsOf, WritesDirectory, WritesRecord, demand_of_root, first_number, AreMappedRefused, AreWithMaps, HasMappedPlaces}
+use Rattle.dataset_snapshots.specs.Demands.{AreMappedRefused, AreWithMaps, HasGroupDemands, HasGroupPlaces, HasMappedPlaces, HasRootDemands, HasRootPlaces, IsGroupRefused, IsRootRefused, demand_of_root}
 use Rattle.dataset_snapshots.specs.Finding.{IsMetaFound}
-use Rattle.dataset_snapshots.specs.Groups.{objects_of}
 use Rattle.dataset_snapshots.specs.Opening.{IsGroupFound, IsGroupUnread, IsOneUnread}
 use Rattle.dataset_snapshots.specs.Writing.{IsWritten}
-use Rattle.dataset_snapshots.proofs.Asking.{all_demands_in, set_demands_in}
+use Rattle.dataset_snapshots.proofs.Asking.{all_demands_in}
 use Rattle.dnode.specs.declared.object_set.ObjectSetKind.TheVariants as kinds
 use Rattle.objset.specs.Changes.{copies_of}
 
@@ -108,84 +103,6 @@ volume_unread old mid new birth root rows kept writes set objects refusal reads 
       before = reads;
       why = subst (λ (list : List DirectoryRow). IsOneUnread mid new set root.birth writes list objects refusal) same why;
     }))
-
--- ---- the volumes
-
-asked_so : {X : Type 0} (Asks Others : X → List Demand → Type 0) → ((x : X) (demands : List Demand) → Asks x demands → Others x demands) → (xs : List X) (demands : List Demand)
-    → AreAsked Asks xs demands → AreAsked Others xs demands
-asked_so Asks Others so [] demands none = none
-asked_so Asks Others so (x ∷ xs) demands (first, rest, here, later, is) = (first, rest, so x first here, asked_so Asks Others so xs rest later, is)
-
-two_more : (all later : List ObjectChange) (one two : ObjectChange) → all ≡ one ∷ two ∷ later → length all ≡ length later + 2
-two_more all later one two is = let same : length all ≡ length (one ∷ two ∷ later) = ap length is in omega (arith, same)
-
-pub group_changes : (opened : Opened) (first last : Making) (actions made : List Action) (count : ℕ) (changes : List ObjectChange) → map (λ (c : ObjectChange). c.number) first.changes.items ≡ objects_of opened
-    → All (λ (c : ObjectChange). WritesRecord c.change) first.changes.items → first.directory ≡ opened.directory → first.next ≡ first_number opened.set → length first.changes.items ≡ count
-    → MakesObjectsOf first last actions made → (length last.changes.items ≡ count → changes ≡ last.changes.items) → (length last.changes.items ≢ count → IsWithDirectory last changes)
-    → AreGroupChanges opened made changes
-group_changes opened first last actions [] count changes numbers records is next len made same more =
-    let all : last.changes.items ≡ first.changes.items = made.changes ∙ (ap (λ (behind : List ObjectChange). first.changes.items ++ behind) made.made_are ∙ append-nil first.changes.items) in record {
-      of_directory = [];
-      directory_are = refl;
-      of_written = first.changes.items;
-      numbers = numbers;
-      records = records;
-      of_made = made.of_made;
-      made_are = made.made_are;
-      are = same (ap length all ∙ len) ∙ made.changes;
-    }
-group_changes opened first last actions (action ∷ before) count changes numbers records is next len made same more =
-    let new = made.made_are in
-    let parts : length (first.changes.items ++ made.of_made) ≡ length first.changes.items + length made.of_made = length-append first.changes.items made.of_made in
-    let all : length last.changes.items ≡ length (first.changes.items ++ made.of_made) = ap length made.changes in
-    let some : length made.of_made ≡ length new.2 + 2 = two_more made.of_made new.2 _ _ new.6 in
-    let longer : length last.changes.items ≢ count = λ e. omega (arith, e, all, parts, some, len) in
-    let with_first = more longer in
-    let names : length last.directory ≡ length opened.directory + length (action ∷ before) =
-    made.rows ∙ ap (λ (rows : List DirectoryRow). length rows + length (action ∷ before)) is in record {
-      of_directory = record { number = 1; change = with_first.0 } ∷ [];
-      directory_are = (with_first.0, subst (λ n. WritesDirectory n with_first.0) names with_first.1, refl);
-      of_written = first.changes.items;
-      numbers = numbers;
-      records = records;
-      of_made = made.of_made;
-      made_are = subst (λ n. AreNewObjects n (action ∷ before) made.of_made) next made.made_are;
-      are = with_first.2 ∙ ap (λ (rest : List ObjectChange). record { number = 1; change = with_first.0 } ∷ rest) made.changes;
-    }
-
-pub volume_refused : (old new : Store) (group : ℕ) (opened : Opened) (actions : List Action) (refusal : Refusal) → (refusal ≡ NoMemory) ⊎ IsVolumeUnplaced old new group opened.written.items refusal
-    → AreVolumesRefused old new group opened actions refusal
-volume_refused old new group opened actions refusal (inl memory) = inl memory
-volume_refused old new group opened actions refusal (inr why) = inr (inl why)
-
-module _ (old mid new : Store) (group : ℕ) (opened : Opened) (first : Making) (actions : List Action) where
-  pub actions_refused : (refusal : Refusal) → OnlyReadsAndPlans old mid [] → HavePlacesFor old mid (HasVolumeDemands old.spaces group) opened.written.items → first.next ≡ first_number opened.set
-      → (refusal ≡ NoMemory) ⊎ IsActionRefused mid new group opened.directory first.next actions refusal → AreVolumesRefused old new group opened actions refusal
-  actions_refused refusal steps places next (inl memory) = inl memory
-  actions_refused refusal steps places next (inr why) =
-      inr (inr (record {
-        mid = mid;
-        before = steps;
-        places = places;
-        why = subst (λ n. IsActionRefused mid new group opened.directory n actions refusal) next why;
-      }))
-
-  pub volumes_have : (last : Making) (changes : List ObjectChange) (next : ℕ) → next ≡ last.next → first.next ≡ first_number opened.set → shapes_of mid.spaces ≡ shapes_of old.spaces → HavePlacesFor old mid (HasVolumeDemands old.spaces group) opened.written.items
-      → first.directory ≡ opened.directory → (made : MakesAll mid new group first last actions) → AreGroupChanges opened made.made changes
-      → HasVolumePlaces old new group opened actions changes next
-  volumes_have last changes next next_is first_is same written is made are =
-      let asked = made.places in record {
-        made = made.made;
-        next_is = next_is ∙ made.objects.next ∙ ap (λ n. n + 2 * length made.made) first_is;
-        made_are = subst (λ (rows : List DirectoryRow). AreMade rows [] actions made.made) is made.are;
-        changes_are = are;
-        of_written = written.0;
-        written_ask = written.1;
-        of_made = asked.0;
-        made_ask = asked_so (HasActionDemands mid.spaces group) (HasActionDemands old.spaces group)
-            (λ action demands has. (has.0, has.1, set_demands_in old.spaces mid.spaces same empty_set group has.0 demands has.2)) made.made asked.0 asked.1;
-        places = have_both old.spaces mid.spaces new.spaces written.0 asked.0 written.2 asked.2;
-      }
 
 -- ---- the group
 

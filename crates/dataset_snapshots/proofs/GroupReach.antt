@@ -14,8 +14,9 @@ use Rattle.dataset_snapshots.proofs.Exchanges.{after_once, both_given, given_as,
 use Rattle.dataset_snapshots.proofs.Reaching.{reach_known}
 use Rattle.dataset_snapshots.specs.Groups.{IsSetOf, SpellsAfter}
 use Rattle.dataset_snapshots.specs.Laws.{ReplacedOfGroupsLeave}
-use Rattle.dataset_snapshots.specs.Leaving.{IsReachExchanged}
-use Rattle.dataset_snapshots.specs.Reach.{blocks_listed, reach_of}
+use Rattle.dataset_groups.specs.Leaving.{IsReachExchanged}
+use Rattle.dataset_groups.specs.Names.{reach_by}
+use Rattle.dataset_snapshots.specs.Reach.{reach_of}
 
 -- a set of these objects was planned, with its block, for the one that had these blocks
 abbrev pub IsRootGiven : Contents → Contents → ℕ → Block → ObjectSetKind → (ℕ → Option Object) → List Block → List Block → Type 0
@@ -23,9 +24,9 @@ IsRootGiven planned later group root kind objects before gone =
     (then : IsSetOf later group root kind objects) × IsReachExchanged group planned later before (root ∷ blocks_of_set then.set then.own then.blocks) gone
 
 -- volumes were planned for those that had these blocks, and the directory has these rows
-abbrev pub AreVolumesGiven : Contents → Contents → ℕ → (ℕ → Option Object) → List ObjectChange → (ℕ → List Block) → PlainPool → List Block → List Block → List DirectoryRow → Type 0
-AreVolumesGiven planned later group objects changes lists pool before gone rows =
-    (then : SpellsAfter later group objects lists changes pool) × IsReachExchanged group planned later before (blocks_listed lists then.rows) gone × (then.rows ≡ rows)
+abbrev pub AreVolumesGiven : Contents → Contents → ℕ → (ℕ → Option Object) → List ObjectChange → PlainPool → List Block → List Block → List DirectoryRow → Type 0
+AreVolumesGiven planned later group objects changes pool before gone rows =
+    (then : SpellsAfter later group objects changes pool) × IsReachExchanged group planned later before (reach_by then.datasets then.rows) gone × (then.rows ≡ rows)
 
 -- the volumes' blocks first, then those of the set, and the root's
 pub group_given : (planned mid later : Contents) (group : ℕ) (old root : Block) (volumes new_volumes set new_set gone gone_too replaced : List Block) → Extends planned mid → Extends mid later

@@ -6,6 +6,7 @@ use Rattle.block_store.specs.declared.refusal.Refusal.{Refusal}
 use Rattle.block_store.specs.declared.refusal.Refusal.TheVariants.{DiskFault}
 use Rattle.block_store.specs.Losses.{IsBlockLost}
 use Rattle.block_store.specs.Store.{Store}
+use Rattle.dataset_groups.specs.Demands.{IsActionRefused, IsMakingRefused}
 use Rattle.dnode.specs.declared.object_set.ObjectSet.{ObjectSet}
 use Rattle.dnode_slots.proofs.Losses.{set_lost}
 use Rattle.meta_objset.proofs.Losses.{record_lost, rows_lost}
@@ -19,15 +20,16 @@ use Rattle.pool_maps.specs.Refused.{AreFirstRefused, IsPlanRefused as AreMapsUnp
 use Rattle.pool_model.specs.declared.item.Action.{Action}
 use Rattle.pool_model.specs.declared.item.Change.{Change}
 use Rattle.pool_model.specs.declared.item.Write.{Write}
-use Rattle.volume.proofs.Losses.{placing_lost, plan_lost, read_lost}
+use Rattle.volume.proofs.Losses.{plan_lost, read_lost}
 use Rattle.volume.specs.Demands.{empty_set}
 use Rattle.dataset_snapshots.specs.declared.groups.Opened.{Opened}
-use Rattle.dataset_snapshots.specs.Demands.{AreMappedRefused, AreVolumesRefused, IsActionRefused, IsMakingRefused, IsRootRefused}
+use Rattle.dataset_snapshots.specs.Demands.{AreMappedRefused, AreVolumesRefused, IsRootRefused}
 use Rattle.dataset_snapshots.specs.Finding.{IsDirectoryRefused, IsMetaRefused, IsRefusedIn}
 use Rattle.dataset_snapshots.specs.FirstGroup.{empty_meta}
 use Rattle.dataset_snapshots.specs.Laws.{LossesByRows, LossesOfDatasets, LossesOfFirstGroups, LossesOfGroups, LossesOfRanges}
 use Rattle.dataset_snapshots.specs.Opening.{IsGroupUnread, IsWrittenRefused}
 use Rattle.dataset_snapshots.specs.Ranges.{IsRangeRefusedIn}
+use Rattle.dataset_snapshots.proofs.LostHeads.{head_lost}
 use Rattle.dataset_snapshots.proofs.LostMaps.{some_map_lost}
 
 pub meta_lost : (old new : Store) (missing : List ℕ) (birth : ℕ) (root : Block) (refusal : Refusal) → IsMetaRefused old new missing birth root refusal → refusal ≡ DiskFault → IsBlockLost old new missing
@@ -53,7 +55,7 @@ blocks_lost old new set birth writes row refusal (inl memory) is = absurd (cc)
 blocks_lost old new set birth writes row refusal (inr (inl (bad, number))) is = absurd (cc)
 blocks_lost old new set birth writes row refusal (inr (inr (inl of_record))) is = record_lost old new [] set birth row.object refusal of_record is
 blocks_lost old new set birth writes row refusal (inr (inr (inr unread))) is =
-    lost_behind_reads old unread.mid new [] unread.before (read_lost unread.mid new [] unread.dataset.volume birth _ refusal unread.why.2 is)
+    lost_behind_reads old unread.mid new [] unread.before (read_lost unread.mid new [] unread.volume birth _ refusal unread.why.2 is)
 
 unread_lost : (old new : Store) (birth : ℕ) (root : Block) (rows : List DirectoryRow) (writes : List Write) (refusal : Refusal) → IsGroupUnread old new birth root rows writes refusal
     → refusal ≡ DiskFault → IsBlockLost old new []
@@ -78,10 +80,11 @@ action_lost old new group rows next actions refusal one is =
 volumes_lost : (old new : Store) (group : ℕ) (opened : Opened) (actions : List Action) (refusal : Refusal) → AreVolumesRefused old new group opened actions refusal → refusal ≡ DiskFault
     → IsBlockLost old new []
 volumes_lost old new group opened actions refusal (inl memory) is = absurd (cc)
-volumes_lost old new group opened actions refusal (inr (inl unplaced)) is =
-    lost_later old unplaced.mid new [] unplaced.before (placing_lost unplaced.mid new unplaced.next.dataset.volume group unplaced.next.blocks refusal unplaced.why is)
-volumes_lost old new group opened actions refusal (inr (inr refused)) is =
-    lost_later old refused.mid new [] refused.before (action_lost refused.mid new group opened.directory _ actions refusal refused.why is)
+volumes_lost old new group opened actions refusal (inr (inl (inl memory))) is = absurd (cc)
+volumes_lost old new group opened actions refusal (inr (inl (inr unplaced))) is = head_lost old new opened.datasets.changes group opened.written.items refusal unplaced is
+volumes_lost old new group opened actions refusal (inr (inr (inl refused))) is =
+    lost_later old refused.mid new [] refused.before (action_lost refused.mid new group opened.datasets.directory _ actions refusal refused.why is)
+volumes_lost old new group opened actions refusal (inr (inr (inr mis))) is = absurd (let bad = mis.bad in cc)
 
 root_lost : (old new : Store) (set : ObjectSet) (before group : ℕ) (changes : List ObjectChange) (refusal : Refusal) → IsRootRefused old new set before group changes refusal → refusal ≡ DiskFault
     → IsBlockLost old new []
@@ -123,9 +126,10 @@ first_maps_lost old new changes next refusal maps is = elim maps.why [
 pub losses_of_first_groups : LossesOfFirstGroups
 losses_of_first_groups old new group vdevs items refusal (inl memory) is = absurd (cc)
 losses_of_first_groups old new group vdevs items refusal (inr (inl action)) is = action_lost old new group [] 5 items.actions refusal action is
-losses_of_first_groups old new group vdevs items refusal (inr (inr (inl maps))) is =
+losses_of_first_groups old new group vdevs items refusal (inr (inr (inl mis))) is = absurd (let bad = mis.bad in cc)
+losses_of_first_groups old new group vdevs items refusal (inr (inr (inr (inl maps)))) is =
     lost_later old maps.mid new [] maps.volumes.before (first_maps_lost maps.mid new maps.changes maps.next refusal maps.why is)
-losses_of_first_groups old new group vdevs items refusal (inr (inr (inr set))) is =
+losses_of_first_groups old new group vdevs items refusal (inr (inr (inr (inr set)))) is =
     lost_later old set.mid new [] set.volumes.before
     (lost_behind_reads set.mid set.planned new [] set.reads (root_lost set.planned new empty_meta group group set.all refusal set.why is))
 

@@ -14,7 +14,6 @@ use Rattle.block_store.proofs.Uses.{places_spare}
 use Rattle.dnode_tree.specs.Rewriting.{AreDistinct}
 use Rattle.dnode_tree.proofs.Exchanging.{count_by-append}
 use Rattle.dnode_tree.proofs.SameBlocks.{same_as, counted, found, once_counted, distinct_counted}
-use Rattle.dnode_tree.specs.Subtree.{joined}
 use Rattle.metaslab.specs.State.{State, Free, InUse, Released, is_in_use}
 use Rattle.objset.specs.Objects.{Object}
 use Rattle.objset.specs.Within.{blocks_of_set}
@@ -24,10 +23,10 @@ use Rattle.pool_maps.proofs.Staying.{by_marks}
 use Rattle.pool_maps.proofs.Whole.{sectors_back}
 use Rattle.pool_model.specs.Pools.{PlainPool}
 use Rattle.raidz_io.proofs.Written.{same_some}
-use Rattle.dataset_snapshots.specs.Leaving.{IsReachExchanged}
+use Rattle.dataset_groups.specs.Leaving.{IsReachExchanged}
 use Rattle.dataset_snapshots.specs.Mapped.{StandsOnce}
 use Rattle.dataset_snapshots.specs.Pools.{SpellsPool}
-use Rattle.dataset_snapshots.specs.Reach.{parts_of, reach_of}
+use Rattle.dataset_snapshots.specs.Reach.{reach_of, volume_blocks_of}
 use Rattle.dataset_snapshots.proofs.ChangedRows.{is_later}
 use Rattle.dataset_snapshots.proofs.Reaching.{reach_known}
 
@@ -83,11 +82,11 @@ stays_in_use old new block steps lies =
     (places_spare is_in_use old.spaces new.spaces steps.placed block refl steps.were_placed (weaker IsInUse (Passes is_in_use) old.spaces planned_marks block is_in_use_too lies))
 
 module _ (stored : Contents) (birth : ℕ) (root : Block) (pool : PlainPool) (is : SpellsPool stored birth root pool) (group : ℕ) (planned later : Contents) (after gone : List Block)
-    (given : IsReachExchanged group planned later (joined (parts_of stored root.birth is.objects is.rows pool.volumes is.volumes)) after gone) where
+    (given : IsReachExchanged group planned later (volume_blocks_of is) after gone) where
   -- they are of the reach
   in_reach : (block : Block) → Contains gone block → Contains (reach_of is) block
   in_reach block held =
-      let rest = joined (parts_of stored root.birth is.objects is.rows pool.volumes is.volumes) in
+      let rest : List Block = volume_blocks_of is in
       let some : 0 < count_by (same_as block) gone = counted block gone held in
       let before : Contains rest block = found block rest (omega (arith, some, given.before_are (same_as block))) in
       is_later root block (blocks_of_set is.set is.own is.blocks ++ rest) (Contains-append_right (blocks_of_set is.set is.own is.blocks) rest block before)
@@ -98,7 +97,7 @@ module _ (stored : Contents) (birth : ℕ) (root : Block) (pool : PlainPool) (is
   module _ (old new : Store) (stands : StandsOnce old.spaces is) where
     pub gone_once : AreDistinct gone
     gone_once =
-        let rest = joined (parts_of stored root.birth is.objects is.rows pool.volumes is.volumes) in
+        let rest : List Block = volume_blocks_of is in
         let set = blocks_of_set is.set is.own is.blocks in
         distinct_counted gone (λ block.
         let all : count_by (same_as block) (reach_of is) ≤ 1 = once_counted block (reach_of is) stands.once in

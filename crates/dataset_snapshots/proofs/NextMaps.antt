@@ -1,5 +1,5 @@
 -- The space maps of a pool's next root.
-use Rattle.std.proofs.Common.{◌≡◌, ◌≢◌, ℕ, ◌<◌, List, [], ◌∷◌, ◌++◌, length, Option, Contains, All, sym, subst, arith, ◌∙◌}
+use Rattle.std.proofs.Common.{◌≡◌, ◌≢◌, ℕ, ◌<◌, List, [], ◌∷◌, ◌++◌, length, Option, Contains, All, refl, sym, subst, arith}
 use Rattle.std.specs.List.{count_by}
 use Rattle.std.proofs.lemmas.List.Elements.{All-contains, Contains-append_left, Contains-append_right}
 use Rattle.block_pointer.specs.declared.block.Block.{Block}
@@ -10,7 +10,6 @@ use Rattle.block_store.specs.Spaces.{VdevSpace}
 use Rattle.block_store.specs.Store.{Holds, Store}
 use Rattle.dnode.specs.declared.object_set.ObjectSetKind.TheVariants as sets
 use Rattle.dnode_tree.proofs.SameBlocks.{same_as, counted, found}
-use Rattle.dnode_tree.specs.Subtree.{joined}
 use Rattle.objset.specs.declared.changes.ObjectChange.{ObjectChange}
 use Rattle.objset.specs.Changes.{changed}
 use Rattle.objset.specs.Objects.{Object}
@@ -22,10 +21,11 @@ use Rattle.pool_maps.specs.Maps.{AreMapsOf}
 use Rattle.pool_maps.specs.Plans.{MapAnew}
 use Rattle.pool_maps.specs.Reached.{AreThere}
 use Rattle.pool_model.specs.Pools.{PlainPool}
-use Rattle.dataset_snapshots.specs.Leaving.{AddsData, AddsMeta, IsReachExchanged}
+use Rattle.dataset_groups.specs.Names.{reach_by}
+use Rattle.dataset_groups.specs.Leaving.{AddsData, AddsMeta, IsReachExchanged}
 use Rattle.dataset_snapshots.specs.Mapped.{AreCopied, HasMapsBehind}
 use Rattle.dataset_snapshots.specs.Pools.{SpellsPool}
-use Rattle.dataset_snapshots.specs.Reach.{parts_of, reach_of, blocks_listed}
+use Rattle.dataset_snapshots.specs.Reach.{reach_of, volume_blocks_of}
 use Rattle.dataset_snapshots.proofs.ChangedRows.{all_from, is_later}
 use Rattle.dataset_snapshots.proofs.Copied.{reach_copied}
 use Rattle.dataset_snapshots.proofs.Reaching.{reach_known}
@@ -33,7 +33,7 @@ use Rattle.block_store.specs.Releases.{AreReleased, copies_of_all}
 use Rattle.block_store.specs.Plans.{Plans}
 use Rattle.meta_objset.specs.declared.directory.DirectoryRow.{DirectoryRow}
 use Rattle.dataset_snapshots.proofs.GroupReach.{AreVolumesGiven, IsRootGiven, group_given}
-use Rattle.dataset_snapshots.proofs.GroupRoot.{spells_root}
+use Rattle.dataset_snapshots.proofs.GroupRoot.{root_copied, root_tables, spells_root}
 use Rattle.vdev_label.specs.Plain.{PlainVdev}
 use Rattle.dataset_snapshots.specs.Creating.{HasFirstTables}
 
@@ -55,7 +55,7 @@ module _ (stored : Contents) (birth : ℕ) (old : Block) (pool : PlainPool) (is 
   set_before = blocks_of_set is.set is.own is.blocks
 
   abbrev pub volumes_before : List Block
-  volumes_before = joined (parts_of stored old.birth is.objects is.rows pool.volumes is.volumes)
+  volumes_before = volume_blocks_of is
 
   set_three : All IsThree set_before
   set_three = all_from IsThree set_before (λ block held. All-contains IsThree (old ∷ set_before) block copied.meta (is_later old block set_before held))
@@ -111,29 +111,28 @@ module _ (stored : Contents) (birth : ℕ) (old : Block) (pool : PlainPool) (is 
 
 -- the root of a group, by what was planned for the volumes, the maps and the set
 pub group_value : (stored planned mid later : Contents) (birth group : ℕ) (old root : Block) (pool after_pool : PlainPool) (is : SpellsPool stored birth old pool) → AreCopied is
-    → (lists : ℕ → List Block) (changes : List ObjectChange) (gone gone_too replaced : List Block) (rows : List DirectoryRow) (store new : Store) → Holds store stored → Plans new stored later
+    → (changes : List ObjectChange) (gone gone_too replaced : List Block) (rows : List DirectoryRow) (store new : Store) → Holds store stored → Plans new stored later
     → Extends planned mid → Extends mid later
-    → (volumes : AreVolumesGiven planned mid group is.objects changes lists after_pool (joined (parts_of stored old.birth is.objects is.rows pool.volumes is.volumes)) gone rows)
+    → (volumes : AreVolumesGiven planned mid group is.objects changes after_pool (volume_blocks_of is) gone rows)
     → AddsData planned mid → (set : IsRootGiven mid later group root sets.Meta (changed changes is.objects) (blocks_of_set is.set is.own is.blocks) gone_too) → AddsMeta mid later
     → root.birth ≡ group → replaced ≡ ((old ∷ []) ++ gone) ++ gone_too → MapAnew is.objects store.spaces gone changes → AreSameBefore store.spaces new.spaces
     → (last : Contents) × Plans new stored last × Extends planned last × (now_is : SpellsPool last group root after_pool)
     × ((vdevs : List PlainVdev) → HasFirstTables is.objects vdevs → HasFirstTables now_is.objects vdevs)
     × IsReachExchanged group planned last (reach_of is) (reach_of now_is) replaced × (rows ≡ now_is.rows) × HasMapsBehind new.spaces replaced now_is
-group_value stored planned mid later birth group old root pool after_pool is copied lists changes gone gone_too replaced rows store new holds plans first last volumes adds_data set adds_meta born replaced_is anew same =
-    let before = joined (parts_of stored old.birth is.objects is.rows pool.volumes is.volumes) in
-    let listed = blocks_listed lists volumes.0.rows in
+group_value stored planned mid later birth group old root pool after_pool is copied changes gone gone_too replaced rows store new holds plans first last volumes adds_data set adds_meta born replaced_is anew same =
+    let reached : List Block = reach_by volumes.0.datasets volumes.0.rows in
     let own = blocks_of_set set.0.set set.0.own set.0.blocks in
-    let spells = spells_root mid later group root is.objects lists changes after_pool volumes.0 last set.0 born in
-    let copied_now = spells.5 (meta_then stored birth old pool is copied group planned mid later root listed own gone gone_too volumes.1 set.1 adds_meta)
-    (volumes_then stored birth old pool is copied group planned mid later root listed own gone gone_too volumes.1 set.1 adds_data) in (
+    let now_is = spells_root mid later group root is.objects changes after_pool volumes.0 last set.0 born in
+    let copied_now = root_copied mid later group root is.objects changes after_pool volumes.0 last set.0 born
+    (meta_then stored birth old pool is copied group planned mid later root reached own gone gone_too volumes.1 set.1 adds_meta)
+    (volumes_then stored birth old pool is copied group planned mid later root reached own gone gone_too volumes.1 set.1 adds_data) in (
       later,
       plans,
       λ block bytes known. last block bytes (first block bytes known),
-      spells.0,
-      spells.1,
-      subst (λ (blocks : List Block). IsReachExchanged group planned later (reach_of is) blocks replaced) (sym spells.2)
-          (group_given planned mid later group old root before listed (blocks_of_set is.set is.own is.blocks) own gone gone_too replaced first last volumes.1 set.1 replaced_is),
-      sym (spells.3 ∙ volumes.2),
-      maps_behind stored birth old pool is copied group planned mid later root listed own gone gone_too volumes.1 set.1 store holds changes new.spaces replaced anew same replaced_is after_pool
-          spells.0 spells.4 copied_now,
+      now_is,
+      root_tables mid later group root is.objects changes after_pool volumes.0 last set.0 born,
+      group_given planned mid later group old root (volume_blocks_of is) reached (blocks_of_set is.set is.own is.blocks) own gone gone_too replaced first last volumes.1 set.1 replaced_is,
+      sym volumes.2,
+      maps_behind stored birth old pool is copied group planned mid later root reached own gone gone_too volumes.1 set.1 store holds changes new.spaces replaced anew same replaced_is after_pool
+          now_is refl copied_now,
     )

@@ -1,7 +1,6 @@
 -- Lists of blocks by number, of which some are given for others.
 use Rattle.std.proofs.Common.{◌≡◌, ◌≢◌, ℕ, zero, suc, ◌+◌, ◌<◌, ◌≤◌, List, [], ◌∷◌, ◌++◌, map, Option, Bool, AllPairs, Contains, refl, sym, ap, subst, ◌∙◌, inl, inr, arith}
-use Rattle.std.specs.List.{AllZip, count_by, flat_map, range_with_len}
-use Rattle.std.specs.Prelude.{insert}
+use Rattle.std.specs.List.{count_by, flat_map, range_with_len}
 use Rattle.std.proofs.lemmas.Bool.{cases_eq}
 use Rattle.std.proofs.lemmas.List.Elements.{All-contains}
 use Rattle.block_pointer.specs.declared.block.Block.{Block}
@@ -12,28 +11,25 @@ use Rattle.dnode_slots.specs.declared.writes.SetRewrite.{SetRewrite}
 use Rattle.dnode_slots.specs.Nodes.{birth_of}
 use Rattle.dnode_tree.proofs.Exchanging.{count_by-append}
 use Rattle.dnode_tree.specs.declared.writes.CopyCounts.{CopyCounts}
-use Rattle.dnode_tree.specs.Subtree.{joined}
-use Rattle.meta_objset.specs.declared.directory.DirectoryRow.{DirectoryRow}
 use Rattle.meta_objset.proofs.Edits.{pairs_head, pairs_tail}
 use Rattle.objset.specs.declared.changes.ObjectChange.{ObjectChange}
 use Rattle.objset.specs.declared.changes.SetCopies.{SetCopies}
 use Rattle.objset.specs.Changes.{AreChanged, AreExchanged, object_copies}
 use Rattle.objset.specs.Objects.{Object, IsObject, AreObjects}
 use Rattle.objset.specs.Within.{blocks_of_set}
-use Rattle.dataset_snapshots.proofs.ChangedRows.{all_from, blocks_at, first_or_later, is_first, is_later, nothing_in, with_parts}
+use Rattle.dataset_snapshots.proofs.ChangedRows.{all_from, first_or_later, is_first, is_later, nothing_in}
 use Rattle.dataset_snapshots.proofs.Exchanges.{block_given, both_given, given_as, nothing_given, of_tree}
-use Rattle.pool_model.specs.declared.volume.PlainVolume.{PlainVolume}
-use Rattle.objset.proofs.Numbers.{passed, taken}
-use Rattle.dataset_snapshots.specs.Pools.{AreApart, SpellsDataset}
-use Rattle.dataset_snapshots.specs.Reach.{blocks_listed, blocks_of_dataset, parts_of}
-use Rattle.dataset_snapshots.specs.Leaving.{IsReachExchanged}
-use Rattle.dataset_snapshots.specs.Writing.{numbers_of}
+use Rattle.dataset_groups.specs.Leaving.{IsReachExchanged}
 
 -- ---- numbers, each once
 
 abbrev pub AreApartNumbers : List ℕ → Type 0
 AreApartNumbers [] = Unit {0}
 AreApartNumbers (n ∷ ns) = ((m : ℕ) → Contains ns m → n ≢ m) × AreApartNumbers ns
+
+-- the numbers of the objects that are changed
+abbrev pub numbers_of : List ObjectChange → List ℕ
+numbers_of changes = map (λ change. change.number) changes
 
 -- how many blocks of the lists of these numbers pass the test
 abbrev pub count_in : (Block → Bool) → (ℕ → List Block) → List ℕ → ℕ
@@ -110,17 +106,6 @@ lists_same : (lists new : ℕ → List Block) (numbers : List ℕ) → ((n : ℕ
 lists_same lists new [] same = refl
 lists_same lists new (n ∷ numbers) same = λ i. same n (is_first n numbers) i ++ lists_same lists new numbers (λ m there. same m (is_later n m numbers there)) i
 
-rows_same : (lists new : ℕ → List Block) (rows : List DirectoryRow) → ((row : DirectoryRow) → Contains rows row → new row.object ≡ lists row.object) → blocks_listed new rows ≡ blocks_listed lists rows
-rows_same lists new [] same = refl
-rows_same lists new (row ∷ rows) same = λ i. same row (is_first row rows) i ++ rows_same lists new rows (λ other held. same other (is_later row other rows held)) i
-
-row_held : (rows : List DirectoryRow) (n : ℕ) → Contains (map (λ row. row.object) rows) n → (row : DirectoryRow) × Contains rows row × (row.object ≡ n)
-row_held [] n held = absurd (nothing_in n held)
-row_held (row ∷ rows) n held = elim (first_or_later row.object n (map (λ row. row.object) rows) held) [
-  | inl same ↦ (row, is_first row rows, same)
-  | inr later ↦ let there = row_held rows n later in (there.0, is_later row there.0 rows there.1, there.2)
-]
-
 -- where the lists of some numbers are given for others, so are those of all, of which the rest stay
 pub given_among : (birth : ℕ) (planned later : Contents) (lists new : ℕ → List Block) (all some : List ℕ) (gone : List Block) → AreApartNumbers all → AreApartNumbers some
     → ((n : ℕ) → Contains some n → Contains all n) → ((n : ℕ) → Contains all n → ¬ Contains some n → new n ≡ lists n)
@@ -132,79 +117,6 @@ given_among birth planned later lists new all some gone apart once within others
     (λ test. omega (arith, left.counts lists test))
     (λ test. omega (arith, left.counts new test, ap (count_by test) same))
     (λ test. omega arith)
-
--- ---- rows
-
--- a row more
-pub listed_with : (lists new : ℕ → List Block) (blocks : List Block) (rows : List DirectoryRow) (row : DirectoryRow) (place : ℕ) → new row.object ≡ blocks
-    → ((other : DirectoryRow) → Contains rows other → new other.object ≡ lists other.object) → (test : Block → Bool)
-    → count_by test (blocks_listed new (insert rows place row)) ≡ count_by test blocks + count_by test (blocks_listed lists rows)
-listed_with lists new blocks rows row zero is same test =
-    omega (arith, count_by-append test (new row.object) (blocks_listed new rows), ap (count_by test) is, ap (count_by test) (rows_same lists new rows same))
-listed_with lists new blocks [] row (suc place) is same test =
-    omega (arith, count_by-append test (new row.object) [], ap (count_by test) is)
-listed_with lists new blocks (first ∷ rows) row (suc place) is same test =
-    omega (
-      arith,
-      count_by-append test (new first.object) (blocks_listed new (insert rows place row)),
-      count_by-append test (lists first.object) (blocks_listed lists rows),
-      ap (count_by test) (same first (is_first first rows)),
-      listed_with lists new blocks rows row place is (λ other held. same other (is_later first other rows held)) test,
-    )
-
--- the objects of rows, each once
-pub rows_apart : (rows : List DirectoryRow) → AreApart rows → AreApartNumbers (map (λ row. row.object) rows)
-rows_apart [] apart = tt
-rows_apart (row ∷ rows) apart = (
-  λ m held same.
-      let there = row_held rows m held in
-      All-contains (λ (other : DirectoryRow). row.object ≢ other.object) rows there.0 (pairs_head (λ (a b : DirectoryRow). a.object ≢ b.object) row rows apart) there.1 (same ∙ sym there.2),
-  rows_apart rows (pairs_tail (λ (a b : DirectoryRow). a.object ≢ b.object) row rows apart),
-)
-
--- the blocks of all datasets are those listed
-pub parts_listed : (stored : Contents) (birth : ℕ) (objects : ℕ → Option Object) (rows : List DirectoryRow) (volumes : List PlainVolume) → AreApart rows
-    → (all : AllZip (SpellsDataset stored birth objects) rows volumes) → joined (parts_of stored birth objects rows volumes all) ≡ blocks_listed (blocks_at stored birth objects rows volumes all) rows
-parts_listed stored birth objects [] volumes apart all = refl
-parts_listed stored birth objects (row ∷ rows) [] apart all = absurd all
-parts_listed stored birth objects (row ∷ rows) (volume ∷ volumes) apart all =
-    let rest : ℕ → List Block = blocks_at stored birth objects rows volumes all.1 in
-    let lists : ℕ → List Block = blocks_at stored birth objects (row ∷ rows) (volume ∷ volumes) all in
-    let first : lists row.object ≡ blocks_of_dataset all.0 = taken row.object row.object (blocks_of_dataset all.0) (rest row.object) refl in
-    let behind : blocks_listed lists rows ≡ blocks_listed rest rows = rows_same rest lists rows (λ other held. passed row.object other.object (blocks_of_dataset all.0) (rest other.object)
-    (All-contains (λ (o : DirectoryRow). row.object ≢ o.object) rows other (pairs_head (λ (a b : DirectoryRow). a.object ≢ b.object) row rows apart) held)) in
-    let below = parts_listed stored birth objects rows volumes (pairs_tail (λ (a b : DirectoryRow). a.object ≢ b.object) row rows apart) all.1 in
-    λ i. sym first i ++ (below ∙ sym behind) i
-
--- the parts of changes are at their numbers
-pub parts_at : (changes : List ObjectChange) (parts : List (List Block)) (lists : ℕ → List Block) (R : ObjectChange → List Block → Type 0) → AllZip R changes parts → AreApartNumbers (numbers_of changes)
-    → flat_map (with_parts changes parts lists) (numbers_of changes) ≡ joined parts
-parts_at [] [] lists R all apart = refl
-parts_at [] (part ∷ parts) lists R all apart = absurd all
-parts_at (change ∷ changes) [] lists R all apart = absurd all
-parts_at (change ∷ changes) (part ∷ parts) lists R all apart =
-    let rest : ℕ → List Block = with_parts changes parts lists in
-    let first : with_parts (change ∷ changes) (part ∷ parts) lists change.number ≡ part = taken change.number change.number part (rest change.number) refl in
-    let behind = lists_same rest (with_parts (change ∷ changes) (part ∷ parts) lists) (numbers_of changes) (λ n held. passed change.number n part (rest n) (apart.0 n held)) in
-    λ i. first i ++ (behind ∙ parts_at changes parts lists R all.1 apart.1) i
-
-pub parts_apart : (changes : List ObjectChange) (parts : List (List Block)) (lists : ℕ → List Block) (n : ℕ) → ¬ Contains (numbers_of changes) n → with_parts changes parts lists n ≡ lists n
-parts_apart [] parts lists n not = refl
-parts_apart (change ∷ changes) [] lists n not = refl
-parts_apart (change ∷ changes) (part ∷ parts) lists n not =
-    passed change.number n part (with_parts changes parts lists n) (λ is. not (subst (λ m. Contains (numbers_of (change ∷ changes)) m) is (is_first change.number (numbers_of changes))))
-    ∙ parts_apart changes parts lists n (λ held. not (is_later change.number n (numbers_of changes) held))
-
--- what gave way of the datasets of rows where some were changed
-pub rows_given : (birth : ℕ) (planned later : Contents) (lists : ℕ → List Block) (rows : List DirectoryRow) (changes : List ObjectChange) (parts : List (List Block))
-    (R : ObjectChange → List Block → Type 0) (gone : List Block) → AreApart rows → AllZip R changes parts → AreApartNumbers (numbers_of changes)
-    → ((n : ℕ) → Contains (numbers_of changes) n → Contains (map (λ row. row.object) rows) n)
-    → IsReachExchanged birth planned later (flat_map lists (numbers_of changes)) (joined parts) gone
-    → IsReachExchanged birth planned later (blocks_listed lists rows) (blocks_listed (with_parts changes parts lists) rows) gone
-rows_given birth planned later lists rows changes parts R gone apart all once within one =
-    given_among birth planned later lists (with_parts changes parts lists) (map (λ row. row.object) rows) (numbers_of changes) gone (rows_apart rows apart) once within
-    (λ n held not. parts_apart changes parts lists n not)
-    (subst (λ (bs : List Block). IsReachExchanged birth planned later (flat_map lists (numbers_of changes)) bs gone) (sym (parts_at changes parts lists R all once)) one)
 
 -- ---- the objects of a set
 

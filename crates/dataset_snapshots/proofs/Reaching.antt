@@ -1,5 +1,5 @@
 -- The volumes of datasets, and whether enough blocks are left to walk them.
-use Rattle.std.proofs.Common.{◌≡◌, ℕ, zero, suc, ◌+◌, ◌≤◌, List, [], ◌∷◌, ◌++◌, length, Option, Some, None, Contains, inl, inr, ap, ◌∙◌, subst, arith}
+use Rattle.std.proofs.Common.{◌≡◌, ℕ, zero, suc, ◌+◌, ◌≤◌, List, [], ◌∷◌, ◌++◌, length, Option, Some, None, Contains, inl, inr, sym, ap, ◌∙◌, subst, arith}
 use Rattle.std.specs.List.{flat_map, range_with_len, AllZip}
 use Rattle.std.specs.Prelude.{not, ◌==◌}
 use Rattle.std.proofs.lemmas.List.{length-append}
@@ -30,9 +30,10 @@ use Rattle.dataset_snapshots.specs.declared.finding.Dataset.{Dataset}
 use Rattle.dataset_snapshots.specs.Finding.{IsMetaFound, IsVolumeOf}
 use Rattle.dataset_snapshots.specs.Laws.{ReachesLieApart}
 use Rattle.dataset_snapshots.specs.Pools.{SpellsDataset, SpellsPool}
-use Rattle.dataset_snapshots.specs.Reach.{blocks_of_dataset, parts_of, reach_of, AreVolumesWalked, IsReached}
+use Rattle.dataset_snapshots.specs.Reach.{blocks_of_dataset, parts_of, reach_of, volume_blocks_of, AreVolumesWalked, IsReached}
 use Rattle.dataset_snapshots.proofs.BlocksOnce.{back_once, set_once}
-use Rattle.dataset_snapshots.proofs.ChangedRows.{first_or_later}
+use Rattle.dataset_snapshots.proofs.Chained.{parts_are_reach, volumes_of}
+use Rattle.dataset_snapshots.proofs.Holding.{first_or_later}
 
 -- what is said of the volume that was found is said of the one that the record has
 pub of_record : (stored : Contents) (birth : ℕ) (array : List ℕ) (Q : (block : Block) (size block_size : ℕ) → IsVolume stored birth block size block_size array → Type 0)
@@ -127,11 +128,11 @@ rows_known stored birth objects (row ∷ rows) (volume ∷ volumes) all block he
 
 pub reach_known : (stored : Contents) (birth : ℕ) (root : Block) (pool : PlainPool) (is : SpellsPool stored birth root pool) (block : Block) → Contains (reach_of is) block → IsKnown stored block
 reach_known stored birth root pool is block held =
-    elim (first_or_later root block (blocks_of_set is.set is.own is.blocks ++ joined (parts_of stored root.birth is.objects is.rows pool.volumes is.volumes)) held) [
+    elim (first_or_later root block (blocks_of_set is.set is.own is.blocks ++ volume_blocks_of is) held) [
       | inl same ↦ subst (IsKnown stored) same (is.is_set.bytes, is.is_set.known)
-      | inr later ↦ elim (Contains-append_cases (blocks_of_set is.set is.own is.blocks) (joined (parts_of stored root.birth is.objects is.rows pool.volumes is.volumes)) block later) [
+      | inr later ↦ elim (Contains-append_cases (blocks_of_set is.set is.own is.blocks) (volume_blocks_of is) block later) [
         | inl here ↦ set_known stored root.birth is.set is.objects is.own is.blocks block is.are here
-        | inr below ↦ rows_known stored root.birth is.objects is.rows pool.volumes is.volumes block below
+        | inr below ↦ rows_known stored root.birth is.objects is.rows pool.volumes (volumes_of is) block (subst (λ (bs : List Block). Contains bs block) (sym (parts_are_reach is)) below)
       ]
     ]
 

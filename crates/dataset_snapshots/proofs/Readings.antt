@@ -23,7 +23,8 @@ use Rattle.volume.specs.Volume.{IsVolume}
 use Rattle.volume.specs.Walking.{blocks_of_volume}
 use Rattle.dataset_snapshots.specs.Laws.{RootsSpellOnePool}
 use Rattle.dataset_snapshots.specs.Pools.{SpellsDataset}
-use Rattle.dataset_snapshots.specs.Reach.{blocks_of_dataset, parts_of, reach_of}
+use Rattle.dataset_snapshots.specs.Reach.{blocks_of_dataset, parts_of, reach_of, volume_blocks_of}
+use Rattle.dataset_snapshots.proofs.Chained.{parts_are_reach, volumes_of}
 use Rattle.dataset_snapshots.proofs.KeptVolumes.{volume_blocks}
 
 -- ---- datasets
@@ -92,17 +93,17 @@ roots_spell_one_pool stored birth later root pool other one two =
     let own = same.1 in
     let blocks = same.2 in
     let rows = directory_once (two.objects 1) one.rows two.rows (subst (λ objects. HasDirectory (objects 1) one.rows) same.0 one.directory) two.directory in
-    let datasets = datasets_alike stored root.birth one.objects two.objects one.rows two.rows pool.volumes other.volumes same.0 rows one.volumes two.volumes in
+    let datasets = datasets_alike stored root.birth one.objects two.objects one.rows two.rows pool.volumes other.volumes same.0 rows (volumes_of one) (volumes_of two) in
     let volumes = datasets.0 in
-    let parts = datasets.1 in
-    let reach : reach_of one ≡ reach_of two = λ i. root ∷ blocks_of_set (set i) (own i) (blocks i) ++ joined (parts i) in (
+    let below : volume_blocks_of one ≡ volume_blocks_of two = sym (parts_are_reach one) ∙ ap joined datasets.1 ∙ parts_are_reach two in
+    let reach : reach_of one ≡ reach_of two = λ i. root ∷ blocks_of_set (set i) (own i) (blocks i) ++ below i in (
       λ i. record { volumes = volumes i },
       reach,
       rows,
       λ spaces has. record {
         copied = record {
           meta = subst (λ (them : List Block). All (λ block. length (dvas block.copies) ≡ 3) them) (λ i. root ∷ blocks_of_set (set i) (own i) (blocks i)) has.copied.meta;
-          others = subst (λ (them : List (List Block)). All (λ block. length (dvas block.copies) ≢ 3) (joined them)) parts has.copied.others;
+          others = subst (λ (them : List Block). All (λ block. length (dvas block.copies) ≢ 3) them) below has.copied.others;
         };
         once = subst AreDistinct reach has.once;
         apart = subst AreBlocksApart reach has.apart;

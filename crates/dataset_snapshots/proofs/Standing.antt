@@ -1,27 +1,30 @@
 -- A root stands on the blocks that it leads to.
-use Rattle.pool_maps.specs.Reached.{AreMapsFor}
-use Rattle.block_pointer.specs.Copies.{dvas}
-use Rattle.std.proofs.Common.{◌≡◌, ℕ, zero, suc, ◌+◌, ◌<◌, ◌≤◌, List, [], ◌∷◌, ◌++◌, Option, Contains, inl, inr, refl, ap, ◌∙◌, arith, All, length, ◌≢◌, subst, sym}
-use Rattle.std.specs.List.{AllZip, flat_map, range_with_len}
+use Rattle.std.proofs.Common.{◌≢◌, ℕ, zero, suc, ◌+◌, ◌<◌, ◌≤◌, List, [], ◌∷◌, ◌++◌, Option, Contains, inl, inr, refl, ap, ◌∙◌, arith, subst, sym}
+use Rattle.std.specs.List.{flat_map, range_with_len}
 use Rattle.std.proofs.lemmas.Bool.{cases_eq}
 use Rattle.std.proofs.lemmas.List.Elements.{Contains-append_left, Contains-append_right}
 use Rattle.block_pointer.specs.declared.block.Block.{Block}
-use Rattle.block_store.specs.Opened.{AreBlocksApart}
 use Rattle.block_store.specs.Blocks.{Contents}
+use Rattle.dataset_chains.specs.Chains.{LeadsTo, Reading}
+use Rattle.dataset_chains.specs.Standing.{HasChains}
+use Rattle.dataset_groups.specs.Names.{NamesPool, objects_of_rows, reach_by}
+use Rattle.dead_list.specs.Datasets.{Dataset, Free, Pool}
+use Rattle.dead_list.specs.Reach.{own_of}
+use Rattle.dead_list.specs.Sound.{IsSound}
 use Rattle.dnode.specs.declared.object_set.ObjectSet.{ObjectSet}
 use Rattle.dnode_tree.proofs.Standing.{first_in}
-use Rattle.dnode_tree.specs.Rewriting.{AreDistinct}
-use Rattle.dnode_tree.specs.Subtree.{joined}
 use Rattle.meta_objset.specs.declared.directory.DirectoryRow.{DirectoryRow}
+use Rattle.meta_objset.specs.declared.record.DatasetRecord.{DatasetRecord}
 use Rattle.objset.proofs.Kept.{objects_stand}
 use Rattle.objset.specs.Objects.{Object, AreObjects}
 use Rattle.objset.specs.Within.{blocks_of_set}
-use Rattle.pool_model.specs.declared.volume.PlainVolume.{PlainVolume}
+use Rattle.pool_model.specs.Pools.{PlainPool}
 use Rattle.volume.specs.Volume.{IsVolume}
 use Rattle.dataset_snapshots.specs.Laws.{KeepsEach, ReachIsKnown, RootsStandOnTheirReach}
-use Rattle.dataset_snapshots.specs.Pools.{SpellsDataset}
-use Rattle.dataset_snapshots.specs.Reach.{blocks_of_dataset, parts_of}
+use Rattle.dataset_snapshots.specs.Reach.{volume_blocks_of}
 use Rattle.dataset_snapshots.proofs.BlocksOnce.{numbered}
+use Rattle.dataset_snapshots.proofs.Chained.{all_are_own}
+use Rattle.dataset_snapshots.proofs.Holding.{in_one}
 use Rattle.dataset_snapshots.proofs.KeptVolumes.{HasVolumeBlocks, volume_blocks}
 use Rattle.dataset_snapshots.proofs.Reaching.{reach_known}
 
@@ -76,37 +79,47 @@ volume_stands old new birth block size block_size array is keeps = (
   refl,
 )
 
--- ---- datasets and roots
+-- ---- chains and roots
 
--- datasets that lead to these blocks
-abbrev HaveParts : Contents → ℕ → (ℕ → Option Object) → List DirectoryRow → List PlainVolume → List (List Block) → Type 0
-HaveParts stored birth objects rows volumes parts =
-    (all : AllZip (SpellsDataset stored birth objects) rows volumes) × (parts_of stored birth objects rows volumes all ≡ parts)
+-- so does what a record leads to
+leads_stand : (old new : Contents) (birth : ℕ) (r : DatasetRecord) (blocks : List Block) (reading : Reading) → KeepsEach old new blocks → LeadsTo old birth r blocks reading → LeadsTo new birth r blocks reading
+leads_stand old new birth r blocks reading keeps leads =
+    let still = volume_stands old new birth r.object_set r.size r.block_size reading.array leads.bytes (subst (KeepsEach old new) (sym leads.blocks_are) keeps) in
+    record { size = leads.size; block_size = leads.block_size; bytes = still.0; blocks_are = still.1 ∙ leads.blocks_are }
 
-datasets_stand : (old new : Contents) (birth : ℕ) (objects : ℕ → Option Object) (rows : List DirectoryRow) (volumes : List PlainVolume)
-    (all : AllZip (SpellsDataset old birth objects) rows volumes) → KeepsEach old new (joined (parts_of old birth objects rows volumes all))
-    → HaveParts new birth objects rows volumes (parts_of old birth objects rows volumes all)
-datasets_stand old new birth objects [] [] all keeps = (all, refl)
-datasets_stand old new birth objects (row ∷ rows) (volume ∷ volumes) all keeps =
-    let first = all.0 in
-    let below = joined (parts_of old birth objects rows volumes all.1) in
-    let stands = volume_stands old new birth first.r.object_set first.r.size first.r.block_size volume.bytes first.bytes (front_kept old new (blocks_of_dataset first) below keeps) in
-    let rest = datasets_stand old new birth objects rows volumes all.1 (back_kept old new (blocks_of_dataset first) below keeps) in (
-      (
-        record { name = first.name; behind = first.behind; r = first.r; has = first.has; is = first.is; bytes = stands.0; dead = first.dead },
-        rest.0,
-      ),
-      ap (λ part. part ∷ parts_of new birth objects rows volumes rest.0) stands.1 ∙ ap (λ parts. blocks_of_dataset first ∷ parts) rest.1,
-    )
-datasets_stand old new birth objects [] (volume ∷ volumes) all keeps = absurd all
-datasets_stand old new birth objects (row ∷ rows) [] all keeps = absurd all
+-- and so do chains, where the blocks of each dataset stay known
+pub chains_stand : (old new : Contents) (group : ℕ) (objects : ℕ → Option Object) (pool : Pool) (readings : ℕ → Reading) → ((m : ℕ) → (pool.datasets m).kind ≢ Free → KeepsEach old new (pool.datasets m).blocks)
+    → HasChains old group objects pool readings → HasChains new group objects pool readings
+chains_stand old new group objects pool readings keeps chains = record {
+  sound = chains.sound;
+  now = chains.now;
+  each = λ number some. let it = chains.each number some in record {
+    behind = it.behind;
+    r = it.r;
+    has = it.has;
+    is = it.is;
+    clones = it.clones;
+    leads = leads_stand old new group it.r (pool.datasets number).blocks (readings number) (keeps number some) it.leads;
+    list_behind = it.list_behind;
+    dead = it.dead;
+  };
+  none = chains.none;
+  apart = chains.apart;
+}
+
+-- each block of a dataset is among those that the datasets of the rows reach
+in_reach : (pool : Pool) (readings : ℕ → Reading) (rows : List DirectoryRow) (plain : PlainPool) → NamesPool pool readings rows plain → IsSound pool → (m : ℕ) → (pool.datasets m).kind ≢ Free
+    → (block : Block) → Contains (pool.datasets m).blocks block → Contains (reach_by pool rows) block
+in_reach pool readings rows plain names sound m some block held =
+    in_one (own_of pool.datasets) (objects_of_rows rows) m block (names.numbers.each m (λ none. some (ap (λ (x : Dataset). x.kind) none)))
+    (subst (λ (blocks : List Block). Contains blocks block) (sym (all_are_own pool readings rows plain names sound m)) held)
 
 pub roots_stand : RootsStandOnTheirReach
 roots_stand old new bound birth root pool le is keeps =
     let own = blocks_of_set is.set is.own is.blocks in
-    let below = joined (parts_of old root.birth is.objects is.rows pool.volumes is.volumes) in
+    let below = volume_blocks_of is in
     let behind = back_kept old new (root ∷ []) (own ++ below) keeps in
-    let stand = datasets_stand old new root.birth is.objects is.rows pool.volumes is.volumes (back_kept old new own below behind) in (
+    let of_volumes = back_kept old new own below behind in (
       record {
         set = is.set;
         is_set = record {
@@ -122,19 +135,19 @@ roots_stand old new bound birth root pool le is keeps =
         are = set_stands old new root.birth is.set is.objects is.own is.blocks (front_kept old new own below behind) is.are;
         rows = is.rows;
         directory = is.directory;
-        apart = is.apart;
-        volumes = stand.0;
+        datasets = is.datasets;
+        readings = is.readings;
+        chains = chains_stand old new root.birth is.objects is.datasets is.readings
+            (λ m some block bytes held known. of_volumes block bytes (in_reach is.datasets is.readings is.rows pool is.names is.chains.sound m some block held) known) is.chains;
+        names = is.names;
       },
-      ap (λ parts. root ∷ own ++ joined parts) stand.1,
+      refl,
       refl,
       λ spaces has. record {
-        copied = record {
-          meta = has.copied.meta;
-          others = subst (λ (them : List (List Block)). All (λ block. length (dvas block.copies) ≢ 3) (joined them)) (sym stand.1) has.copied.others;
-        };
-        once = subst AreDistinct (sym (ap (λ parts. root ∷ own ++ joined parts) stand.1)) has.once;
-        apart = subst AreBlocksApart (sym (ap (λ parts. root ∷ own ++ joined parts) stand.1)) has.apart;
-        maps = subst (λ (them : List Block). AreMapsFor is.objects spaces them) (sym (ap (λ parts. root ∷ own ++ joined parts) stand.1)) has.maps;
+        copied = record { meta = has.copied.meta; others = has.copied.others };
+        once = has.once;
+        apart = has.apart;
+        maps = has.maps;
       },
     )
 

@@ -1,33 +1,33 @@
 -- Roots spell what they spelled where more is known.
-use Rattle.std.proofs.Common.{ℕ, List, [], ◌∷◌, Option, arith}
-use Rattle.std.specs.List.{AllZip}
+use Rattle.std.proofs.Common.{ℕ, Option, arith}
 use Rattle.block_store.specs.Blocks.{Contents, Extends}
-use Rattle.meta_objset.specs.declared.directory.DirectoryRow.{DirectoryRow}
+use Rattle.dataset_chains.proofs.Frames.{leads_stay}
+use Rattle.dataset_chains.specs.Chains.{Reading}
+use Rattle.dataset_chains.specs.Standing.{HasChains}
+use Rattle.dead_list.specs.Datasets.{Pool}
 use Rattle.objset.proofs.Kept.{objects_stand}
 use Rattle.objset.specs.Objects.{Object}
-use Rattle.pool_model.specs.declared.volume.PlainVolume.{PlainVolume}
-use Rattle.volume.proofs.Standing.{volumes_stay}
 use Rattle.dataset_snapshots.specs.Laws.{RootsStay}
-use Rattle.dataset_snapshots.specs.Pools.{SpellsDataset}
 
-pub datasets_stay : (old new : Contents) (birth : ℕ) (objects : ℕ → Option Object) (rows : List DirectoryRow) (volumes : List PlainVolume) → Extends old new
-    → AllZip (SpellsDataset old birth objects) rows volumes → AllZip (SpellsDataset new birth objects) rows volumes
-datasets_stay old new birth objects [] [] more spells = spells
-datasets_stay old new birth objects (row ∷ rows) (volume ∷ volumes) more spells =
-    let first = spells.0 in (
-      record {
-        name = first.name;
-        behind = first.behind;
-        r = first.r;
-        has = first.has;
-        is = first.is;
-        bytes = volumes_stay old new birth birth first.r.object_set first.r.size first.r.block_size volume.bytes (omega arith) more first.bytes;
-        dead = first.dead;
-      },
-      datasets_stay old new birth objects rows volumes more spells.1,
-    )
-datasets_stay old new birth objects [] (volume ∷ volumes) more spells = absurd spells
-datasets_stay old new birth objects (row ∷ rows) [] more spells = absurd spells
+-- so do chains
+pub chains_more : (old new : Contents) (group : ℕ) (objects : ℕ → Option Object) (pool : Pool) (readings : ℕ → Reading) → Extends old new
+    → HasChains old group objects pool readings → HasChains new group objects pool readings
+chains_more old new group objects pool readings more chains = record {
+  sound = chains.sound;
+  now = chains.now;
+  each = λ number some. let it = chains.each number some in record {
+    behind = it.behind;
+    r = it.r;
+    has = it.has;
+    is = it.is;
+    clones = it.clones;
+    leads = leads_stay old new group group it.r (pool.datasets number).blocks (readings number) (omega arith) more it.leads;
+    list_behind = it.list_behind;
+    dead = it.dead;
+  };
+  none = chains.none;
+  apart = chains.apart;
+}
 
 pub roots_stay : RootsStay
 roots_stay old new bound birth root pool le more is = record {
@@ -45,6 +45,8 @@ roots_stay old new bound birth root pool le more is = record {
   are = objects_stand old new root.birth root.birth is.set is.objects is.own is.blocks (omega arith) (λ block bytes held known. more block bytes known) is.are;
   rows = is.rows;
   directory = is.directory;
-  apart = is.apart;
-  volumes = datasets_stay old new root.birth is.objects is.rows pool.volumes more is.volumes;
+  datasets = is.datasets;
+  readings = is.readings;
+  chains = chains_more old new root.birth is.objects is.datasets is.readings more is.chains;
+  names = is.names;
 }

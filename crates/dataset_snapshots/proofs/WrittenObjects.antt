@@ -1,12 +1,13 @@
 -- The objects that a group's writes name.
-use Rattle.std.proofs.Common.{◌≡◌, ◌⊎◌, ◌↔◌, ℕ, ◌+◌, ◌<◌, List, [], ◌∷◌, ◌++◌, length, take, get_or, AllPairs, Contains, inl, inr, ⊎_elim, refl, sym, ap, subst, ◌∙◌}
-use Rattle.std.specs.Prelude.{Any, IsPermutation, nat_eq}
+use Rattle.std.proofs.Common.{◌≡◌, ◌↔◌, ℕ, ◌+◌, ◌<◌, List, [], ◌∷◌, ◌++◌, length, take, get_or, AllPairs, Contains, inl, inr, ⊎_elim, refl, sym, ap, subst, ◌∙◌}
+use Rattle.std.specs.Prelude.{IsPermutation, nat_eq}
 use Rattle.std.specs.List.{dedup}
 use Rattle.std.proofs.lemmas.List.{take_more}
 use Rattle.std.proofs.lemmas.List.Elements.{All-contains, Contains-append_left, Contains-push, Contains-push_cases}
 use Rattle.std.proofs.lemmas.List.Kept.{Contains-dedup_nat, Contains-from_dedup}
 use Rattle.std.proofs.lemmas.List.Quantifiers.{Any-push}
 use Rattle.std.proofs.lemmas.List.Sorted.{Contains-permutation, IsPermutation-sym}
+use Rattle.dataset_groups.proofs.ListParts.{any_append_left, any_push_cases}
 use Rattle.meta_objset.specs.declared.directory.DirectoryRow.{DirectoryRow}
 use Rattle.meta_objset.specs.Names.{IsBefore}
 use Rattle.meta_objset.proofs.Edits.{apart, pairs_head, pairs_tail}
@@ -39,13 +40,6 @@ one_object : (rows : List DirectoryRow) (name : List ℕ) (object other : ℕ) �
 one_object rows name object other order (row, held, named, is) (next, also, named_too, is_too) =
     let same : row ≡ next = one_name rows row next order held also (padded_same row.name next.name name name named named_too refl) in
     sym is ∙ (ap (λ (r : DirectoryRow). r.object) same ∙ is_too)
-
-pub any_push_cases : {X : Type 0} (P : X → Type 0) (xs : List X) (y : X) → Any P (xs ++ y ∷ []) → Any P xs ⊎ P y
-any_push_cases P xs y any =
-    ⊎_elim (λ old. inl (old.0, any.1, old.1, old.2, any.4)) (λ same. inr (subst P (sym same) any.4)) (Contains-push_cases xs y any.1 (any.0, any.2, any.3))
-
-pub any_append_left : {X : Type 0} (P : X → Type 0) (xs : List X) (y : X) → Any P xs → Any P (xs ++ y ∷ [])
-any_append_left P xs y any = let there = Contains-append_left xs (y ∷ []) any.1 (any.0, any.2, any.3) in (there.0, any.1, there.1, there.2, any.4)
 
 abbrev AreWritten : List DirectoryRow → List Write → List ℕ → Type 0
 AreWritten rows writes objects = (object : ℕ) → Contains objects object ↔ IsWritten rows writes object

@@ -3,23 +3,28 @@ use Rattle.meta_objset.specs.Found.{AreMapsFound}
 use Rattle.meta_objset.specs.declared.space_maps.MetaslabMap.{MetaslabMap}
 use Rattle.pool_maps.specs.Plans.{AreSparing, OthersStay}
 use Rattle.pool_maps.specs.Refused.{IsPlanRefused as AreMapsUnplanned}
-use Rattle.std.specs.Prelude.{ℕ, ◌≡◌, ◌≢◌, ◌⊎◌, ◌↔◌, ◌+◌, ◌*◌, ◌<◌, ◌-◌, List, [], ◌∷◌, ◌++◌, length, map, max, Any, All, Contains, Some, None}
+use Rattle.std.specs.Prelude.{ℕ, ◌≡◌, ◌≢◌, ◌⊎◌, ◌+◌, ◌*◌, ◌≤◌, ◌-◌, List, [], ◌∷◌, ◌++◌, length, Any, Contains, Some}
 use Rattle.block_pointer.specs.declared.block.Block.{Block}
 use Rattle.block_store.specs.declared.refusal.Refusal.{Refusal}
-use Rattle.block_store.specs.declared.refusal.Refusal.TheVariants.{NoMemory, NoSpace, BadConfig}
+use Rattle.block_store.specs.declared.refusal.Refusal.TheVariants.{NoMemory, NoSpace, BadPointer}
 use Rattle.block_store.specs.Spaces.{VdevSpace}
 use Rattle.block_store.specs.Demands.{Demand, HavePlaces, LackPlaces}
 use Rattle.block_store.specs.Steps.{OnlyReadsAndPlans, OnlyReadsBlocks}
 use Rattle.block_store.specs.Store.{Store}
+use Rattle.dataset_chains.specs.Touched.{TouchesOnly}
+use Rattle.dataset_changes.specs.Results.{AreChangesOf, AreMixed}
+use Rattle.dataset_changes.specs.States.{AreOfOneSet}
+use Rattle.dataset_changes.specs.declared.changes.DatasetChanges.{DatasetChanges}
+use Rattle.dataset_groups.specs.declared.datasets.GroupDatasets.{GroupDatasets}
+use Rattle.dataset_groups.specs.Demands.{AreAsked, AreHeadsRefused, AreMade, HasActionDemands, HasHeadDemands, HavePlacesFor, IsActionRefused}
+use Rattle.dataset_groups.specs.Groups.{first_number}
+use Rattle.dataset_groups.specs.Touched.{IsNewNumber}
+use Rattle.dataset_groups.specs.Writing.{IsListOf}
 use Rattle.dnode.specs.declared.object_set.ObjectSet.{ObjectSet}
 use Rattle.meta_objset.specs.declared.directory.DirectoryRow.{DirectoryRow}
-use Rattle.meta_objset.specs.declared.record.DatasetRecord.{DatasetRecord}
-use Rattle.meta_objset.specs.Datasets.{HasRecord, IsRecordObject}
-use Rattle.meta_objset.specs.Names.{IsNamed}
 use Rattle.meta_objset.specs.Reading.{HasDirectory, directory_kind}
-use Rattle.object_table.specs.Tables.{HasTable, IsOfKind}
+use Rattle.object_table.specs.Tables.{IsOfKind}
 use Rattle.objset.specs.declared.changes.Change.{Change as ObjectsChange}
-use Rattle.objset.specs.declared.changes.Change.TheVariants.{Put}
 use Rattle.objset.specs.declared.changes.ObjectChange.{ObjectChange}
 use Rattle.objset.specs.Changes.{MayChange, after_change}
 use Rattle.objset.specs.Demands.{HasDemands, LacksRoom}
@@ -27,93 +32,23 @@ use Rattle.objset.specs.Objects.{Object}
 use Rattle.objset.specs.Refused.{IsChangeRefused}
 use Rattle.pool_model.specs.Pools.{Entry}
 use Rattle.pool_model.specs.declared.item.Action.{Action}
-use Rattle.pool_model.specs.declared.item.Change.{Change}
-use Rattle.pool_model.specs.declared.item.Change.TheVariants.{Create}
-use Rattle.volume.specs.Demands.{empty_set, HasPlacesFor, HasSetDemands, IsCreation, IsPlacingRefused, IsPlanRefused}
-use Rattle.volume.specs.Reading.{IsVolumeFound}
 use Rattle.dataset_snapshots.specs.declared.groups.Opened.{Opened}
-use Rattle.dataset_snapshots.specs.declared.making.Making.{Making}
-use Rattle.dataset_snapshots.specs.declared.writing.WrittenVolume.{WrittenVolume}
 use Rattle.dataset_snapshots.specs.Groups.{objects_of}
-use Rattle.dataset_snapshots.specs.Making.{IsGoodCreation, numbers_end}
 use Rattle.dataset_snapshots.specs.Opening.{IsGroupFound, IsGroupUnread}
-use Rattle.dataset_snapshots.specs.Pools.{dead_list_kind}
 use Rattle.dnode.specs.declared.object_set.ObjectSetKind.TheVariants as kinds
 use Rattle.objset.specs.Changes.{copies_of}
 
--- each of these things asks some, and these are all of them, one after the other
-abbrev pub AreAsked : {X : Type 0} → (X → List Demand → Type 0) → List X → List Demand → Type 0
-AreAsked Asks [] demands = demands ≡ []
-AreAsked Asks (x ∷ xs) demands =
-    (first : List Demand) × (rest : List Demand) × Asks x first × AreAsked Asks xs rest
-    × (demands ≡ first ++ rest)
+-- ---- the directory
 
--- places were taken for what these things ask, and for nothing else
-abbrev pub HavePlacesFor :
-    {X : Type 0} → Store → Store → (X → List Demand → Type 0) → List X → Type 0
-HavePlacesFor old new Asks xs =
-    (demands : List Demand) × AreAsked Asks xs demands
-    × HavePlaces old.spaces demands new.spaces
+-- the change writes a directory of these rows anew
+abbrev pub WritesRows : List DirectoryRow → ObjectsChange → Type 0
+WritesRows rows change = (object : Object) → IsOfKind directory_kind object
+    → MayChange change (Some object) × HasDirectory (after_change change (Some object)) rows
 
--- ---- volumes that are written to
-
--- the volume's set was found, and its change by the blocks asks these
-pub record HasPutDemands (spaces : List VdevSpace) (group : ℕ) (written : WrittenVolume)
-    (demands : List Demand) : Type 0 where
-  pub set : ObjectSet
-  pub is_set : IsVolumeFound spaces written.dataset.volume group set
-  pub are : HasSetDemands spaces set group (Put written.blocks) demands
-
--- a volume none of whose blocks change asks nothing
-abbrev pub HasVolumeDemands : List VdevSpace → ℕ → WrittenVolume → List Demand → Type 0
-HasVolumeDemands spaces group written demands =
-    ((written.blocks.items ≡ []) × (demands ≡ []))
-    ⊎ ((written.blocks.items ≢ []) × HasPutDemands spaces group written demands)
-
--- the first of the volumes were placed, and then the next was refused
-pub record IsVolumeUnplaced (old new : Store) (group : ℕ) (written : List WrittenVolume)
-    (refusal : Refusal) : Type 0 where
-  pub first : List WrittenVolume
-  pub next : WrittenVolume
-  pub left : List WrittenVolume
-  pub are : written ≡ first ++ next ∷ left
-  pub mid : Store
-  pub before : OnlyReadsAndPlans old mid []
-  pub places : HavePlacesFor old mid (HasVolumeDemands old.spaces group) first
-  pub why : IsPlacingRefused mid new next.dataset.volume group next.blocks refusal
-
--- ---- changes of the meta object set
-
--- the change writes a record to each object that may have one
-abbrev pub WritesRecord : ObjectsChange → Type 0
-WritesRecord change =
-    (r : DatasetRecord) × ((object : Object) → IsRecordObject object
-    → MayChange change (Some object) × HasRecord (after_change change (Some object)) r)
-
--- the change makes an object with a record
-abbrev pub MakesRecord : ObjectsChange → Type 0
-MakesRecord change = (r : DatasetRecord) × HasRecord (after_change change None) r
-
--- the change makes an object with an empty dead list
-abbrev pub MakesDeadList : ObjectsChange → Type 0
-MakesDeadList change = HasTable dead_list_kind (after_change change None) []
-
--- the change writes a directory of so many names anew
+-- or one of so many names
 abbrev pub WritesDirectory : ℕ → ObjectsChange → Type 0
 WritesDirectory names change =
-    (rows : List DirectoryRow) × (length rows ≡ names)
-    × ((object : Object) → IsOfKind directory_kind object
-    → MayChange change (Some object) × HasDirectory (after_change change (Some object)) rows)
-
--- two objects are made for each of these volumes, with the numbers from that on: one with a record,
--- and the next with an empty dead list
-abbrev pub AreNewObjects : ℕ → List Action → List ObjectChange → Type 0
-AreNewObjects next [] changes = changes ≡ []
-AreNewObjects next (action ∷ made) changes =
-    (of_record : ObjectsChange) × (of_dead : ObjectsChange) × (later : List ObjectChange)
-    × MakesRecord of_record × MakesDeadList of_dead × AreNewObjects (next + 2) made later
-    × (changes ≡ record { number = next; change = of_record }
-    ∷ record { number = next + 1; change = of_dead } ∷ later)
+    (rows : List DirectoryRow) × (length rows ≡ names) × WritesRows rows change
 
 -- where volumes are made the directory is written anew, with so many names
 abbrev pub AreDirectoryChanges : ℕ → List Action → List ObjectChange → Type 0
@@ -122,128 +57,7 @@ AreDirectoryChanges names (action ∷ made) changes =
     (directory : ObjectsChange) × WritesDirectory names directory
     × (changes ≡ record { number = 1; change = directory } ∷ [])
 
--- ---- volumes that are made
-
-abbrev pub name_of : Change → List ℕ
-name_of (Create name size block_size) = name
-
-abbrev pub new_block_size : Change → ℕ
-new_block_size (Create name size block_size) = block_size
-
--- a row has the name
-abbrev pub IsNameThere : List DirectoryRow → List ℕ → Type 0
-IsNameThere rows name = (row : DirectoryRow) × Contains rows row × IsNamed row.name name
-
--- one of the actions is to make a volume of that name
-abbrev pub IsNameAsked : List Action → List ℕ → Type 0
-IsNameAsked actions name = Any (λ action. name_of action.change ≡ name) actions
-
--- the change's name is there already: a row has it, or an earlier action
-abbrev pub IsThereAlready : List DirectoryRow → List Action → Change → Type 0
-IsThereAlready rows earlier change =
-    IsNameThere rows (name_of change) ⊎ IsNameAsked earlier (name_of change)
-
--- those of the actions that make a volume, behind the earlier ones: whose name isn't there already
-abbrev pub AreMade : List DirectoryRow → List Action → List Action → List Action → Type 0
-AreMade rows earlier [] made = made ≡ []
-AreMade rows earlier (action ∷ actions) made =
-    (IsThereAlready rows earlier action.change
-    × AreMade rows (earlier ++ action ∷ []) actions made)
-    ⊎ ((¬ IsThereAlready rows earlier action.change) × (more : List Action)
-    × (made ≡ action ∷ more) × AreMade rows (earlier ++ action ∷ []) actions more)
-
--- the set of a volume that is made asks these: from no objects to the one of the data
-abbrev pub HasNewDemands : List VdevSpace → ℕ → Change → List Demand → Type 0
-HasNewDemands spaces group change demands =
-    (creation : ObjectsChange) × IsCreation (new_block_size change) creation
-    × HasSetDemands spaces empty_set group creation demands
-
-abbrev pub HasActionDemands : List VdevSpace → ℕ → Action → List Demand → Type 0
-HasActionDemands spaces group action demands = HasNewDemands spaces group action.change demands
-
--- for a new volume of these blocks places were taken, and for nothing else
-abbrev pub HasNewPlaces : Store → Store → ℕ → ℕ → Type 0
-HasNewPlaces old new group block_size =
-    (creation : ObjectsChange) × IsCreation block_size creation
-    × HasPlacesFor old new empty_set group creation
-
--- or it was not planned
-abbrev pub IsNewRefused : Store → Store → ℕ → ℕ → Refusal → Type 0
-IsNewRefused old new group block_size refusal =
-    (creation : ObjectsChange) × IsCreation block_size creation
-    × IsPlanRefused old new empty_set group group creation refusal
-
--- one volume of that name was made: its name is there too, its two objects have the next numbers
-pub record IsVolumeMade (old new : Making) (name : List ℕ) : Type 0 where
-  pub names : (other : List ℕ) → IsNameThere new.directory other
-      ↔ (IsNameThere old.directory other ⊎ (name ≡ other))
-  pub next : new.next ≡ old.next + 2
-  pub rows : length new.directory ≡ length old.directory + 1
-  pub of_record : ObjectsChange
-  pub of_dead : ObjectsChange
-  pub makes : MakesRecord of_record × MakesDeadList of_dead
-  pub changes : new.changes.items
-      ≡ old.changes.items ++ record { number = old.next; change = of_record }
-      ∷ record { number = old.next + 1; change = of_dead } ∷ []
-
--- the volume of the change was made, or nothing where its name was there
-abbrev pub MakesOne : Store → Store → ℕ → Making → Making → Change → Type 0
-MakesOne before after group old new change =
-    (IsNameThere old.directory (name_of change) × (new ≡ old) × (after.spaces ≡ before.spaces))
-    ⊎ ((¬ IsNameThere old.directory (name_of change)) × IsVolumeMade old new (name_of change)
-    × HasNewPlaces before after group (new_block_size change))
-
--- The names of these actions are there now too. Each of those that made a volume has two objects,
--- with the next numbers.
-pub record MakesObjectsOf (old new : Making) (actions made : List Action) : Type 0 where
-  pub names : (name : List ℕ) → IsNameThere new.directory name
-      ↔ (IsNameThere old.directory name ⊎ IsNameAsked actions name)
-  pub next : new.next ≡ old.next + 2 * length made
-  pub rows : length new.directory ≡ length old.directory + length made
-  pub of_made : List ObjectChange
-  pub made_are : AreNewObjects old.next made of_made
-  pub changes : new.changes.items ≡ old.changes.items ++ of_made
-
--- the volumes of these actions were made, where their names were not there already
-pub record MakesAll (before after : Store) (group : ℕ) (old new : Making) (actions : List Action)
-    : Type 0 where
-  pub made : List Action
-  pub are : AreMade old.directory [] actions made
-  pub objects : MakesObjectsOf old new actions made
-  pub places : HavePlacesFor before after (HasActionDemands before.spaces group) made
-
--- why a volume is not made, behind others: its name or sizes are not good, or where its name is not
--- there yet, no two numbers are left from the next on, or it was not planned
-abbrev pub IsMakingRefused :
-    Store → Store → ℕ → List DirectoryRow → List Action → ℕ → Change → Refusal → Type 0
-IsMakingRefused old new group rows earlier next change refusal =
-    (refusal ≡ NoMemory)
-    ⊎ (((refusal ≡ BadConfig) × ¬ IsGoodCreation change)
-    ⊎ ((¬ IsThereAlready rows earlier change)
-    × (((refusal ≡ NoSpace) × (numbers_end < next + 2))
-    ⊎ IsNewRefused old new group (new_block_size change) refusal)))
-
--- the volumes of the first actions were made, and then that of the next was refused
-pub record IsActionRefused (old new : Store) (group : ℕ) (rows : List DirectoryRow) (next : ℕ)
-    (actions : List Action) (refusal : Refusal) : Type 0 where
-  pub first : List Action
-  pub action : Action
-  pub left : List Action
-  pub are : actions ≡ first ++ action ∷ left
-  pub made : List Action
-  pub made_are : AreMade rows [] first made
-  pub mid : Store
-  pub before : OnlyReadsAndPlans old mid []
-  pub places : HavePlacesFor old mid (HasActionDemands old.spaces group) made
-  pub why : IsMakingRefused mid new group rows first (next + 2 * length made) action.change refusal
-
 -- ---- the meta object set
-
--- in front of what was made so far the directory is written anew
-abbrev pub IsWithDirectory : Making → List ObjectChange → Type 0
-IsWithDirectory making changes =
-    (directory : ObjectsChange) × WritesDirectory (length making.directory) directory
-    × (changes ≡ record { number = 1; change = directory } ∷ making.changes.items)
 
 -- the block of the set: 2 sectors, three copies
 abbrev pub demand_of_root : Demand
@@ -279,34 +93,50 @@ IsRootRefused old new set before group changes refusal =
 
 -- ---- the group
 
--- the first number behind the tables and behind the objects that are there
-abbrev pub first_number : ObjectSet → ℕ
-first_number set = max set.objects 5
+-- Of the records and dead lists of the set those are changed that these heads have, and those are made that have the next numbers: two for
+-- each of so many volumes.
+pub record AreGroupDatasets (opened : Opened) (count : ℕ) (datasets : DatasetChanges) : Type 0 where
+  pub one_set : AreOfOneSet opened.datasets.changes datasets
+  pub touched : TouchesOnly opened.datasets.changes datasets
+      (λ number. Contains (objects_of opened) number ⊎ IsNewNumber (first_number opened.set) count number)
+      (λ number. IsListOf datasets (objects_of opened) number ⊎ IsNewNumber (first_number opened.set) count number)
 
--- The changes that a group makes of the set: that of the directory, where volumes are made; a
--- record for each volume that is written to; and the objects of those that are made.
-pub record AreGroupChanges (opened : Opened) (made : List Action) (changes : List ObjectChange)
-    : Type 0 where
+-- The changes that a group makes of the set: that of the directory, where volumes are made; and those that its records and dead lists come to.
+pub record AreGroupChanges (opened : Opened) (made : List Action) (changes : List ObjectChange) : Type 0 where
   pub of_directory : List ObjectChange
   pub directory_are :
-      AreDirectoryChanges (length opened.directory + length made) made of_directory
-  pub of_written : List ObjectChange
-  pub numbers : map (λ change. change.number) of_written ≡ objects_of opened
-  pub records : All (λ change. WritesRecord change.change) of_written
-  pub of_made : List ObjectChange
-  pub made_are : AreNewObjects (first_number opened.set) made of_made
-  pub are : changes ≡ of_directory ++ of_written ++ of_made
+      AreDirectoryChanges (length opened.datasets.directory + length made) made of_directory
+  pub datasets : DatasetChanges
+  pub datasets_are : AreGroupDatasets opened (length made) datasets
+  pub of_datasets : List ObjectChange
+  pub of_datasets_are : AreChangesOf datasets of_datasets
+  pub are : changes ≡ of_directory ++ of_datasets
+
+-- these are the changes that the records and dead lists come to, with that of the directory in front where the next number isn't the first
+-- one any more
+abbrev pub HasDatasetChanges : GroupDatasets → ℕ → List ObjectChange → Type 0
+HasDatasetChanges datasets first changes =
+    (of_datasets : List ObjectChange) × AreChangesOf datasets.changes of_datasets
+    × (datasets.next ≡ first → changes ≡ of_datasets)
+    × (datasets.next ≢ first → (directory : ObjectsChange) × WritesRows datasets.directory directory
+    × (changes ≡ record { number = 1; change = directory } ∷ of_datasets))
+
+-- one number has both a record and a dead list, or one that is changed is behind all objects that there are
+abbrev pub AreMisnumbered : DatasetChanges → ℕ → Type 0
+AreMisnumbered datasets next =
+    AreMixed datasets ⊎ ((changes : List ObjectChange) × AreChangesOf datasets changes
+    × Any (λ change. next ≤ change.number) changes)
 
 -- the volumes of a group were placed, those that are written to and then those that are made, and
 -- the meta object set is to have these changes; the next object has that number
 pub record HasVolumePlaces (old new : Store) (group : ℕ) (opened : Opened) (actions : List Action)
     (changes : List ObjectChange) (next : ℕ) : Type 0 where
   pub made : List Action
-  pub made_are : AreMade opened.directory [] actions made
+  pub made_are : AreMade opened.datasets.directory [] actions made
   pub next_is : next ≡ first_number opened.set + 2 * length made
   pub changes_are : AreGroupChanges opened made changes
   pub of_written : List Demand
-  pub written_ask : AreAsked (HasVolumeDemands old.spaces group) opened.written.items of_written
+  pub written_ask : AreAsked (HasHeadDemands old.spaces group) opened.written.items of_written
   pub of_made : List Demand
   pub made_ask : AreAsked (HasActionDemands old.spaces group) made of_made
   pub places : HavePlaces old.spaces (of_written ++ of_made) new.spaces
@@ -316,16 +146,28 @@ pub record AreActionsRefused (old new : Store) (group : ℕ) (opened : Opened) (
     (refusal : Refusal) : Type 0 where
   pub mid : Store
   pub before : OnlyReadsAndPlans old mid []
-  pub places : HavePlacesFor old mid (HasVolumeDemands old.spaces group) opened.written.items
-  pub why : IsActionRefused mid new group opened.directory (first_number opened.set) actions refusal
+  pub places : HavePlacesFor old mid (HasHeadDemands old.spaces group) opened.written.items
+  pub why : IsActionRefused mid new group opened.datasets.directory (first_number opened.set) actions refusal
+
+-- all volumes were placed, and what becomes of their records and dead lists can't be
+pub record AreDatasetsRefused (old new : Store) (group : ℕ) (opened : Opened) (actions : List Action)
+    (refusal : Refusal) : Type 0 where
+  pub bad : refusal ≡ BadPointer
+  pub planned : OnlyReadsAndPlans old new []
+  pub made : List Action
+  pub made_are : AreMade opened.datasets.directory [] actions made
+  pub datasets : DatasetChanges
+  pub datasets_are : AreGroupDatasets opened (length made) datasets
+  pub mis : AreMisnumbered datasets (first_number opened.set + 2 * length made)
 
 -- why the volumes of a group were not placed
 abbrev pub AreVolumesRefused :
     Store → Store → ℕ → Opened → List Action → Refusal → Type 0
 AreVolumesRefused old new group opened actions refusal =
     (refusal ≡ NoMemory)
-    ⊎ (IsVolumeUnplaced old new group opened.written.items refusal
-    ⊎ AreActionsRefused old new group opened actions refusal)
+    ⊎ (AreHeadsRefused old new opened.datasets.changes group opened.written.items refusal
+    ⊎ (AreActionsRefused old new group opened actions refusal
+    ⊎ AreDatasetsRefused old new group opened actions refusal))
 
 -- ---- its space maps
 
@@ -375,9 +217,9 @@ AreMappedRefused old new born group opened actions refusal =
 pub record HasGroupDemands (spaces : List VdevSpace) (born group : ℕ) (opened : Opened)
     (actions : List Action) (gone : List Block) (demands : List Demand) : Type 0 where
   pub made : List Action
-  pub made_are : AreMade opened.directory [] actions made
+  pub made_are : AreMade opened.datasets.directory [] actions made
   pub of_written : List Demand
-  pub written_ask : AreAsked (HasVolumeDemands spaces group) opened.written.items of_written
+  pub written_ask : AreAsked (HasHeadDemands spaces group) opened.written.items of_written
   pub of_made : List Demand
   pub made_ask : AreAsked (HasActionDemands spaces group) made of_made
   pub changes : List ObjectChange

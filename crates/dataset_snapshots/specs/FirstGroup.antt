@@ -2,11 +2,17 @@
 use Rattle.std.specs.Prelude.{ℕ, ◌≡◌, ◌⊎◌, ◌+◌, ◌*◌, List, [], ◌∷◌, ◌++◌, length, None}
 use Rattle.block_pointer.specs.declared.pointer.BlockPtr.TheVariants.{Hole}
 use Rattle.block_store.specs.declared.refusal.Refusal.{Refusal}
-use Rattle.block_store.specs.declared.refusal.Refusal.TheVariants.{NoMemory}
+use Rattle.block_store.specs.declared.refusal.Refusal.TheVariants.{NoMemory, BadPointer}
 use Rattle.block_store.specs.Demands.{Demand, HavePlaces}
 use Rattle.block_store.specs.Spaces.{VdevSpace}
 use Rattle.block_store.specs.Steps.{OnlyReadsAndPlans, OnlyReadsBlocks}
 use Rattle.block_store.specs.Store.{Store}
+use Rattle.dataset_changes.specs.Results.{AreChangesOf}
+use Rattle.dataset_changes.specs.States.{AreUntouched, set_of}
+use Rattle.dataset_changes.specs.declared.changes.DatasetChanges.{DatasetChanges}
+use Rattle.dataset_groups.specs.declared.datasets.GroupDatasets.{GroupDatasets}
+use Rattle.dataset_groups.specs.Demands.{AreAsked, AreMade, HasActionDemands, HavePlacesFor, IsActionRefused}
+use Rattle.dataset_groups.specs.Touched.{TouchesNew}
 use Rattle.dnode.specs.declared.object_set.ObjectSet.{ObjectSet}
 use Rattle.dnode.specs.declared.object_set.ObjectSetKind.TheVariants as sets
 use Rattle.meta_objset.specs.declared.directory.DirectoryRow.{DirectoryRow}
@@ -21,8 +27,7 @@ use Rattle.pool_maps.specs.Refused.{AreFirstRefused}
 use Rattle.pool_model.specs.declared.item.Action.{Action}
 use Rattle.pool_model.specs.Pools.{Entry}
 use Rattle.vdev_label.specs.Plain.{PlainVdev}
-use Rattle.dataset_snapshots.specs.declared.making.Making.{Making}
-use Rattle.dataset_snapshots.specs.Demands.{AreAsked, AreMade, AreNewObjects, HasActionDemands, HasRootDemands, HavePlacesFor, IsActionRefused, IsRootRefused}
+use Rattle.dataset_snapshots.specs.Demands.{AreMisnumbered, HasRootDemands, IsRootRefused}
 
 -- a meta object set with no objects
 abbrev pub empty_meta : ObjectSet
@@ -46,32 +51,41 @@ pub record AreTableChanges (vdevs : List PlainVdev) (rows : List DirectoryRow) (
   pub has_config : HasConfig (after_change config None) vdevs
   pub has_spans : HasTable spans_kind (after_change spans None) []
 
--- the changes that make the objects of a pool of these volumes: the tables, of which the directory names each, and behind them
--- two for each volume
+-- Records and dead lists are made of so many volumes, with the numbers behind the tables, and none is changed that was there.
+pub record AreFirstDatasets (count : ℕ) (datasets : DatasetChanges) : Type 0 where
+  pub of_set : set_of datasets ≡ empty_meta
+  pub before : DatasetChanges
+  pub none : AreUntouched before
+  pub touched : TouchesNew before datasets 5 count
+
+-- the changes that make the objects of a pool of these volumes: the tables, of which the directory names each, and behind them those that the
+-- records and dead lists come to
 pub record AreFirstGroupChanges (vdevs : List PlainVdev) (made : List Action) (changes : List ObjectChange)
     : Type 0 where
   pub rows : List DirectoryRow
   pub count : length rows ≡ length made
   pub tables : List ObjectChange
   pub tables_are : AreTableChanges vdevs rows tables
-  pub of_made : List ObjectChange
-  pub made_are : AreNewObjects 5 made of_made
-  pub are : changes ≡ tables ++ of_made
+  pub datasets : DatasetChanges
+  pub datasets_are : AreFirstDatasets (length made) datasets
+  pub of_datasets : List ObjectChange
+  pub of_datasets_are : AreChangesOf datasets of_datasets
+  pub are : changes ≡ tables ++ of_datasets
 
 -- the volumes of the actions were made where there were none: each has a row, and its two objects, with the numbers behind the tables
-pub record AreFirstVolumes (old new : Store) (group : ℕ) (actions : List Action) (making : Making) : Type 0 where
+pub record AreFirstVolumes (old new : Store) (group : ℕ) (actions : List Action) (datasets : GroupDatasets) : Type 0 where
   pub made : List Action
   pub are : AreMade [] [] actions made
-  pub count : length making.directory ≡ length made
-  pub next : making.next ≡ 5 + 2 * length made
-  pub of_made : AreNewObjects 5 made making.changes.items
+  pub count : length datasets.directory ≡ length made
+  pub next : datasets.next ≡ 5 + 2 * length made
+  pub datasets_are : AreFirstDatasets (length made) datasets.changes
   pub places : HavePlacesFor old new (HasActionDemands old.spaces group) made
 
 -- in front of the objects of the volumes the tables are made, of which the directory has the rows so far
-abbrev pub IsWithTables : List PlainVdev → Making → List ObjectChange → Type 0
-IsWithTables vdevs making changes =
-    (tables : List ObjectChange) × AreTableChanges vdevs making.directory tables
-    × (changes ≡ tables ++ making.changes.items)
+abbrev pub IsWithTables : List PlainVdev → GroupDatasets → List ObjectChange → Type 0
+IsWithTables vdevs datasets changes =
+    (tables : List ObjectChange) × (of_datasets : List ObjectChange) × AreTableChanges vdevs datasets.directory tables
+    × AreChangesOf datasets.changes of_datasets × (changes ≡ tables ++ of_datasets)
 
 -- the changes that make the space maps came among these, of no metaslab but those of which other sectors are unused with the plan
 -- than without it
@@ -106,6 +120,16 @@ pub record AreFirstPlaced (old mid : Store) (group : ℕ) (vdevs : List PlainVde
   pub changes_are : AreFirstGroupChanges vdevs made changes
   pub next_is : next ≡ 5 + 2 * length made
 
+-- the volumes were placed, and what becomes of their records and dead lists can't be
+pub record AreFirstDatasetsRefused (old new : Store) (group : ℕ) (actions : List Action) (refusal : Refusal) : Type 0 where
+  pub bad : refusal ≡ BadPointer
+  pub planned : OnlyReadsAndPlans old new []
+  pub made : List Action
+  pub made_are : AreMade [] [] actions made
+  pub datasets : DatasetChanges
+  pub datasets_are : AreFirstDatasets (length made) datasets
+  pub mis : AreMisnumbered datasets (5 + 2 * length made)
+
 -- and then the space maps were refused
 pub record AreFirstMapsRefused (old new : Store) (group : ℕ) (vdevs : List PlainVdev) (actions : List Action)
     (refusal : Refusal) : Type 0 where
@@ -133,5 +157,6 @@ abbrev pub IsFirstRefused : Store → Store → ℕ → List PlainVdev → Entry
 IsFirstRefused old new group vdevs items refusal =
     (refusal ≡ NoMemory)
     ⊎ (IsActionRefused old new group [] 5 items.actions refusal
+    ⊎ (AreFirstDatasetsRefused old new group items.actions refusal
     ⊎ (AreFirstMapsRefused old new group vdevs items.actions refusal
-    ⊎ IsFirstSetRefused old new group vdevs items.actions refusal))
+    ⊎ IsFirstSetRefused old new group vdevs items.actions refusal)))

@@ -1,9 +1,17 @@
 -- The root of a group.
-use Rattle.std.specs.Prelude.{ℕ, ◌≡◌, ◌<◌, ◌≤◌, List, Contains, Option, map, All}
-use Rattle.std.specs.List.{AllZip}
+use Rattle.std.specs.Prelude.{ℕ, ◌≡◌, ◌⊎◌, ◌<◌, ◌≤◌, List, Contains, Option, None, All}
 use Rattle.std.specs.List.Sorted.{IsStrictlyIncreasing}
 use Rattle.block_pointer.specs.declared.block.Block.{Block}
 use Rattle.block_store.specs.Blocks.{Contents}
+use Rattle.dataset_chains.specs.Chains.{Reading}
+use Rattle.dataset_chains.specs.Standing.{HasChains}
+use Rattle.dataset_changes.specs.Over.{IsForList, IsForRecord}
+use Rattle.dataset_changes.specs.States.{birth_of, set_of}
+use Rattle.dataset_groups.specs.Groups.{SpellsGroup, first_number}
+use Rattle.dataset_groups.specs.Names.{NamesPool}
+use Rattle.dataset_groups.specs.NewVolumes.{numbers_end}
+use Rattle.dataset_groups.specs.Writing.{AreWritten, FitsHead, numbers_of}
+use Rattle.dead_list.specs.Datasets.{Pool}
 use Rattle.dnode.specs.declared.object_set.ObjectSet.{ObjectSet}
 use Rattle.dnode.specs.declared.object_set.ObjectSetKind.{ObjectSetKind}
 use Rattle.dnode.specs.ObjectSet.{FitsObjectSet}
@@ -16,34 +24,47 @@ use Rattle.objset.specs.Objects.{Object, AreObjects}
 use Rattle.pool_model.specs.declared.item.Write.{Write}
 use Rattle.pool_model.specs.Pools.{PlainPool}
 use Rattle.dataset_snapshots.specs.declared.groups.Opened.{Opened}
-use Rattle.dataset_snapshots.specs.Making.{numbers_end}
-use Rattle.dataset_snapshots.specs.Pools.{AreApart, SpellsPool}
-use Rattle.dataset_snapshots.specs.Reach.{HasBlocksOf}
-use Rattle.dataset_snapshots.specs.Writing.{FitsWritten, IsReadFrom, IsWritten}
+use Rattle.dataset_snapshots.specs.Pools.{SpellsPool}
+use Rattle.dataset_snapshots.specs.Writing.{IsWritten}
 
 -- the objects of the volumes that are written to
 abbrev pub objects_of : Opened → List ℕ
-objects_of opened = map (λ written. written.dataset.object) opened.written.items
+objects_of opened = numbers_of opened.written.items
 
--- The volumes that the writes name are there, each once, in the order of their objects' numbers.
+-- The volumes that the writes name are there, each once, in the order of their objects' numbers, which are below the set's last.
 pub record IsOpened (writes : List Write) (opened : Opened) : Type 0 where
   pub set : FitsObjectSet opened.set
+  pub of_set : set_of opened.datasets.changes ≡ opened.set
+  pub next : opened.datasets.next ≡ first_number opened.set
   pub once : IsStrictlyIncreasing (objects_of opened)
-  pub each : All (FitsWritten opened.set.objects) opened.written.items
-  pub all : (object : ℕ) → IsWritten opened.directory writes object → Contains (objects_of opened) object
+  pub within : All (λ number. number < opened.set.objects) (objects_of opened)
+  pub each : All FitsHead opened.written.items
+  pub all : (object : ℕ) → IsWritten opened.datasets.directory writes object → Contains (objects_of opened) object
 
--- they are those of the root's pool, with the blocks that the writes change
+-- they are those of the root's pool, with the blocks that the writes change, and a later group begins with its datasets
 pub record IsOpenedFrom (stored : Contents) (birth : ℕ) (root : Block) (pool : PlainPool) (is : SpellsPool stored birth root pool)
     (writes : List Write) (opened : Opened) : Type 0 where
   pub set : opened.set ≡ is.set
-  pub directory : opened.directory ≡ is.rows
-  pub read : All (IsReadFrom stored root.birth is.objects writes is.rows) opened.written.items
+  pub born : birth_of opened.datasets.changes ≡ root.birth
+  pub directory : opened.datasets.directory ≡ is.rows
+  pub begins : (group : ℕ) → root.birth ≤ group
+      → SpellsGroup stored group is.objects opened.datasets (record is.datasets { group = group }) is.readings pool
+  pub written : (group : ℕ) → root.birth < group
+      → AreWritten stored root.birth (record is.datasets { group = group }) is.readings is.rows writes opened.written.items
 
 -- the changes are of objects below the next number, which is behind the tables
 pub record IsNextOf (changes : List ObjectChange) (next : ℕ) : Type 0 where
   pub below : All (λ change. change.number < next) changes
   pub behind : 4 < next
   pub within : next ≤ numbers_end
+
+-- a change of the directory, or behind the tables of an object that may have a record or a dead list, or of none
+abbrev pub IsOfDatasets : ℕ → Option Object → Type 0
+IsOfDatasets number object = (number ≡ 1) ⊎ ((4 < number) × ((object ≡ None) ⊎ (IsForRecord object ⊎ IsForList object)))
+
+-- the changes are such
+abbrev pub AreOfDatasets : (ℕ → Option Object) → List ObjectChange → Type 0
+AreOfDatasets objects changes = All (λ change. IsOfDatasets change.number (objects change.number)) changes
 
 -- The block spells a set of this kind, with these objects.
 pub record IsSetOf (stored : Contents) (birth : ℕ) (root : Block) (kind : ObjectSetKind) (objects : ℕ → Option Object) : Type 0 where
@@ -54,13 +75,15 @@ pub record IsSetOf (stored : Contents) (birth : ℕ) (root : Block) (kind : Obje
   pub blocks : ℕ → List Block
   pub are : AreObjects stored root.birth set objects own blocks
 
--- Of these objects the changes make those of the pool: the directory, which names its volumes in the order of their names, no more
--- and no fewer, each with the blocks listed for its object. The configuration and the stale spans are as they were.
-pub record SpellsAfter (stored : Contents) (birth : ℕ) (objects : ℕ → Option Object) (lists : ℕ → List Block)
-    (changes : List ObjectChange) (pool : PlainPool) : Type 0 where
+-- Of these objects the changes make those of the pool: records and dead lists of datasets that fit one another, and the directory, which
+-- names them, as the pool's volumes, no more and no fewer. The configuration and the stale spans are as they were.
+pub record SpellsAfter (stored : Contents) (birth : ℕ) (objects : ℕ → Option Object) (changes : List ObjectChange) (pool : PlainPool)
+    : Type 0 where
   pub rows : List DirectoryRow
   pub directory : HasDirectory (changed changes objects 1) rows
-  pub apart : AreApart rows
   pub may : All (λ change. MayChange change.change (objects change.number)) changes
   pub tables : (number : ℕ) → 1 < number → number ≤ 3 → changed changes objects number ≡ objects number
-  pub volumes : AllZip (HasBlocksOf stored birth (λ number. changed changes objects number) lists) rows pool.volumes
+  pub datasets : Pool
+  pub readings : ℕ → Reading
+  pub chains : HasChains stored birth (changed changes objects) datasets readings
+  pub names : NamesPool datasets readings rows pool

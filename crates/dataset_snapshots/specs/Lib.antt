@@ -5,10 +5,7 @@ pub mod Finding
 pub mod FirstGroup
 pub mod Groups
 pub mod Laws
-pub mod Leaving
-pub mod Making
 pub mod Mapped
-pub mod NewVolumes
 pub mod Opening
 pub mod Pools
 pub mod Ranges

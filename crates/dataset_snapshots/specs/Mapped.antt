@@ -8,19 +8,18 @@ use Rattle.block_store.specs.Places.{Marks, planned, shapes_of}
 use Rattle.block_store.specs.declared.shape.VdevShape.{VdevShape}
 use Rattle.block_store.specs.Releases.{AreAllInUse, AreReleased, copies_of_all}
 use Rattle.block_store.specs.Spaces.{VdevSpace}
-use Rattle.dnode_tree.specs.Subtree.{joined}
 use Rattle.objset.specs.Within.{blocks_of_set}
 use Rattle.pool_maps.specs.Maps.{AreMapsOf}
 use Rattle.pool_maps.specs.Reached.{AreMapsFor, AreThere}
 use Rattle.pool_model.specs.Pools.{PlainPool}
 use Rattle.dataset_snapshots.specs.Pools.{SpellsPool}
-use Rattle.dataset_snapshots.specs.Reach.{parts_of, reach_of}
+use Rattle.dataset_snapshots.specs.Reach.{reach_of, volume_blocks_of}
 
 -- The root and the blocks of the meta object set have three copies, and no block of a volume has.
 pub record AreCopied {stored : Contents} {birth : ℕ} {root : Block} {pool : PlainPool} (is : SpellsPool stored birth root pool)
     : Type 0 where
   pub meta : All (λ block. length (dvas block.copies) ≡ 3) (root ∷ blocks_of_set is.set is.own is.blocks)
-  pub others : All (λ block. length (dvas block.copies) ≢ 3) (joined (parts_of stored root.birth is.objects is.rows pool.volumes is.volumes))
+  pub others : All (λ block. length (dvas block.copies) ≢ 3) (volume_blocks_of is)
 
 -- The root leads to each of its blocks once, and no two of them share a sector. Of each metaslab before a meta region the space maps under
 -- it call allocated just what it leads to.

@@ -1,26 +1,27 @@
 -- What was read of the volumes that a group writes to, whether or not the root is whole.
-use Rattle.std.specs.Prelude.{ℕ, ◌≡◌, ◌≢◌, ◌⊎◌, ◌↔◌, ◌≤◌, List, [], Contains, All}
+use Rattle.std.specs.Prelude.{ℕ, ◌≡◌, ◌≢◌, ◌⊎◌, ◌↔◌, List, [], Contains, All}
 use Rattle.block_pointer.specs.declared.block.Block.{Block}
 use Rattle.block_store.specs.declared.refusal.Refusal.{Refusal}
 use Rattle.block_store.specs.declared.refusal.Refusal.TheVariants.{NoMemory, BadPointer}
 use Rattle.block_store.specs.Spaces.{VdevSpace}
 use Rattle.block_store.specs.Steps.{OnlyReadsBlocks}
 use Rattle.block_store.specs.Store.{Store}
+use Rattle.dataset_changes.specs.States.{IsNumber}
+use Rattle.dataset_groups.specs.declared.writing.WrittenHead.{WrittenHead}
 use Rattle.dnode.specs.declared.object_set.ObjectSet.{ObjectSet}
 use Rattle.dnode_tree.specs.declared.writes.BlockWrite.{BlockWrite}
 use Rattle.meta_objset.specs.declared.directory.DirectoryRow.{DirectoryRow}
+use Rattle.meta_objset.specs.declared.record.DatasetRecord.{DatasetRecord}
 use Rattle.meta_objset.specs.Found.{IsRecordFound, IsRecordRefused}
 use Rattle.meta_objset.specs.Names.{IsNamed}
 use Rattle.pool_model.specs.declared.item.Write.{Write}
 use Rattle.volume.specs.declared.volume.VolumeSet.{VolumeSet}
 use Rattle.volume.specs.Reading.{IsReadRefused, IsVolumeFound, IsWayRead}
 use Rattle.volume.specs.Writing.{AreBlocksOf, HasId, IsChanged, IsCovered, NeedsOldBytes}
-use Rattle.dataset_snapshots.specs.declared.finding.Dataset.{Dataset}
 use Rattle.dataset_snapshots.specs.declared.groups.Opened.{Opened}
-use Rattle.dataset_snapshots.specs.declared.writing.WrittenVolume.{WrittenVolume}
-use Rattle.dataset_snapshots.specs.Finding.{IsMetaFound, IsMetaRefused, IsVolumeOf}
+use Rattle.dataset_snapshots.specs.Finding.{IsMetaFound, IsMetaRefused}
 use Rattle.dataset_snapshots.specs.Groups.{IsOpened, objects_of}
-use Rattle.dataset_snapshots.specs.Writing.{HasRow, IsWritten}
+use Rattle.dataset_snapshots.specs.Writing.{HasRow, IsVolumeIn, IsWritten}
 
 -- these are the blocks that the writes to the row's volume change; where there are any its set was
 -- found, and the way was read to each that no single write covers
@@ -41,47 +42,44 @@ AreBlocksRefused old new volume birth writes row refusal =
     (name : List ℕ) × IsNamed row.name name
     × IsReadRefused old new [] volume birth (NeedsOldBytes volume name writes) refusal
 
--- the row's volume is the dataset: its object has the record, which was read
-pub record IsDatasetFound (spaces : List VdevSpace) (set : ObjectSet) (birth : ℕ)
-    (row : DirectoryRow) (dataset : Dataset) : Type 0 where
-  pub object : dataset.object ≡ row.object
-  pub volume : IsVolumeOf dataset
-  pub of_record : IsRecordFound spaces set birth row.object dataset.record
+-- the row's object has this record, which was read, of this volume
+pub record IsHeadFound (spaces : List VdevSpace) (set : ObjectSet) (birth : ℕ)
+    (row : DirectoryRow) (volume : VolumeSet) : Type 0 where
+  pub r : DatasetRecord
+  pub of_record : IsRecordFound spaces set birth row.object r
+  pub is : IsVolumeIn volume r
 
 -- the row's volume was read for the writes: its record, and the blocks that they change
 pub record IsWrittenFound (spaces : List VdevSpace) (set : ObjectSet) (birth : ℕ)
-    (writes : List Write) (row : DirectoryRow) (written : WrittenVolume) : Type 0 where
-  pub dataset : IsDatasetFound spaces set birth row written.dataset
-  pub blocks : AreBlocksFound spaces written.dataset.volume birth writes row written.blocks.items
+    (writes : List Write) (row : DirectoryRow) (head : WrittenHead) : Type 0 where
+  pub number : head.number ≡ row.object
+  pub found : IsHeadFound spaces set birth row head.volume
+  pub blocks : AreBlocksFound spaces head.volume birth writes row head.blocks.items
 
 -- the record was read, and then a block that the writes change was not
 pub record AreBlocksUnread (old new : Store) (set : ObjectSet) (birth : ℕ) (writes : List Write)
     (row : DirectoryRow) (refusal : Refusal) : Type 0 where
-  pub dataset : Dataset
-  pub found : IsDatasetFound old.spaces set birth row dataset
+  pub volume : VolumeSet
+  pub found : IsHeadFound old.spaces set birth row volume
   pub mid : Store
   pub before : OnlyReadsBlocks old mid []
-  pub why : AreBlocksRefused mid new dataset.volume birth writes row refusal
-
--- the row's object is none that a record may have
-abbrev pub IsNoRecordNumber : ObjectSet → DirectoryRow → Type 0
-IsNoRecordNumber set row = (row.object ≤ 4) ⊎ (set.objects ≤ row.object)
+  pub why : AreBlocksRefused mid new volume birth writes row refusal
 
 -- why the row's volume was not read for the writes
 abbrev pub IsWrittenRefused :
     Store → Store → ObjectSet → ℕ → List Write → DirectoryRow → Refusal → Type 0
 IsWrittenRefused old new set birth writes row refusal =
     (refusal ≡ NoMemory)
-    ⊎ (((refusal ≡ BadPointer) × IsNoRecordNumber set row)
+    ⊎ (((refusal ≡ BadPointer) × ¬ IsNumber row.object)
     ⊎ (IsRecordRefused old new [] set birth row.object refusal
     ⊎ AreBlocksUnread old new set birth writes row refusal))
 
 -- the volume of one of the rows, by its object, was read for the writes
 abbrev pub IsWrittenOf : List VdevSpace → ObjectSet → ℕ → List Write → List DirectoryRow
-    → WrittenVolume → Type 0
-IsWrittenOf spaces set birth writes rows written =
-    (row : DirectoryRow) × HasRow rows written.dataset.object row
-    × IsWrittenFound spaces set birth writes row written
+    → WrittenHead → Type 0
+IsWrittenOf spaces set birth writes rows head =
+    (row : DirectoryRow) × HasRow rows head.number row
+    × IsWrittenFound spaces set birth writes row head
 
 -- behind other reads, a row of one of these objects was read last, and its volume was refused
 pub record IsOneUnread (old new : Store) (set : ObjectSet) (birth : ℕ) (writes : List Write)
@@ -98,7 +96,7 @@ pub record IsOneUnread (old new : Store) (set : ObjectSet) (birth : ℕ) (writes
 pub record IsGroupFound (spaces : List VdevSpace) (birth : ℕ) (root : Block)
     (rows : List DirectoryRow) (writes : List Write) (opened : Opened) : Type 0 where
   pub meta : IsMetaFound spaces birth root opened.set
-  pub by_rows : opened.directory ≡ rows
+  pub by_rows : opened.datasets.directory ≡ rows
   pub is : IsOpened writes opened
   pub which : (object : ℕ) → Contains (objects_of opened) object ↔ IsWritten rows writes object
   pub each : All (IsWrittenOf spaces opened.set root.birth writes rows) opened.written.items

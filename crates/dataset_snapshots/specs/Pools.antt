@@ -1,8 +1,11 @@
 -- What a root spells: the pool of a group.
-use Rattle.std.specs.Prelude.{ℕ, ◌≡◌, ◌≢◌, ◌<◌, List, [], Option, length, AllPairs}
-use Rattle.std.specs.List.{AllZip}
+use Rattle.std.specs.Prelude.{ℕ, ◌≡◌, ◌<◌, List, Option, length}
 use Rattle.block_pointer.specs.declared.block.Block.{Block}
 use Rattle.block_store.specs.Blocks.{Contents}
+use Rattle.dataset_chains.specs.Chains.{Reading}
+use Rattle.dataset_chains.specs.Standing.{HasChains}
+use Rattle.dataset_groups.specs.Names.{NamesPool}
+use Rattle.dead_list.specs.Datasets.{Pool}
 use Rattle.dnode.specs.declared.object_set.ObjectSet.{ObjectSet}
 use Rattle.dnode.specs.declared.object_set.ObjectSetKind.TheVariants as sets
 use Rattle.dnode_slots.specs.Sets.{IsSetBlock}
@@ -12,8 +15,6 @@ use Rattle.meta_objset.specs.declared.record.DatasetRecord.{DatasetRecord}
 use Rattle.meta_objset.specs.Datasets.{HasRecord}
 use Rattle.meta_objset.specs.Names.{IsNamed}
 use Rattle.meta_objset.specs.Reading.{HasDirectory}
-use Rattle.object_table.specs.declared.kind.TableKind.{TableKind}
-use Rattle.object_table.specs.Tables.{HasTable}
 use Rattle.objset.specs.Objects.{Object, AreObjects}
 use Rattle.pool_model.specs.declared.volume.PlainVolume.{PlainVolume}
 use Rattle.pool_model.specs.declared.volume.VolumeKind.TheVariants as volumes
@@ -28,12 +29,8 @@ pub record IsRecordOf (r : DatasetRecord) (volume : PlainVolume) : Type 0 where
   pub block_size : r.block_size ≡ volume.block_size
   pub created : r.created ≡ volume.group
 
--- a dead list has type 202, and rows of 128 bytes
-abbrev pub dead_list_kind : TableKind
-dead_list_kind = record { object_type = 202; rows = record { first_len = 128; row_len = 128 } }
-
 -- A row of the directory names the volume; its object, behind those of the tables, has the volume's
--- record, which leads to its bytes and to a dead list with no blocks.
+-- record, which leads to its bytes.
 pub record SpellsDataset (stored : Contents) (birth : ℕ) (objects : ℕ → Option Object)
     (row : DirectoryRow) (volume : PlainVolume) : Type 0 where
   pub name : IsNamed row.name volume.name
@@ -42,14 +39,10 @@ pub record SpellsDataset (stored : Contents) (birth : ℕ) (objects : ℕ → Op
   pub has : HasRecord (objects row.object) r
   pub is : IsRecordOf r volume
   pub bytes : IsVolume stored birth r.object_set r.size r.block_size volume.bytes
-  pub dead : HasTable dead_list_kind (objects r.dead_list) []
 
--- no two rows have one object
-abbrev pub AreApart : List DirectoryRow → Type 0
-AreApart rows = AllPairs (λ row later. row.object ≢ later.object) rows
-
--- The block, born by then, spells the meta object set of the pool: its directory names the pool's volumes, in the order of their
--- names, no more and no fewer. What is behind the block was born by its own birth.
+-- The block, born by then, spells the meta object set of the pool: the records and dead lists of its objects are those of datasets that
+-- fit one another, and its directory names them, as the pool's volumes, in the order of their names, no more and no fewer. What is
+-- behind the block was born by its own birth.
 pub record SpellsPool (stored : Contents) (birth : ℕ) (root : Block) (pool : PlainPool) : Type 0 where
   pub set : ObjectSet
   pub is_set : IsSetBlock stored birth root set
@@ -60,5 +53,7 @@ pub record SpellsPool (stored : Contents) (birth : ℕ) (root : Block) (pool : P
   pub are : AreObjects stored root.birth set objects own blocks
   pub rows : List DirectoryRow
   pub directory : HasDirectory (objects 1) rows
-  pub apart : AreApart rows
-  pub volumes : AllZip (SpellsDataset stored root.birth objects) rows pool.volumes
+  pub datasets : Pool
+  pub readings : ℕ → Reading
+  pub chains : HasChains stored root.birth objects datasets readings
+  pub names : NamesPool datasets readings rows pool

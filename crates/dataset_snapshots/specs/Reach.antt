@@ -1,6 +1,6 @@
 -- All blocks that the root of a pool leads to.
-use Rattle.std.specs.Prelude.{ℕ, suc, ◌≡◌, ◌⊎◌, List, [], ◌∷◌, ◌++◌, Option, map}
-use Rattle.std.specs.List.{AllZip, flat_map}
+use Rattle.std.specs.Prelude.{ℕ, suc, ◌≡◌, ◌⊎◌, List, [], ◌∷◌, ◌++◌, Option}
+use Rattle.std.specs.List.{AllZip}
 use Rattle.block_pointer.specs.declared.block.Block.{Block}
 use Rattle.block_store.specs.Blocks.{Contents}
 use Rattle.block_store.specs.declared.refusal.Refusal.{Refusal}
@@ -8,9 +8,9 @@ use Rattle.block_store.specs.declared.refusal.Refusal.TheVariants.{NoMemory, Bad
 use Rattle.block_store.specs.Spaces.{VdevSpace}
 use Rattle.block_store.specs.Steps.{OnlyReadsBlocks}
 use Rattle.block_store.specs.Store.{Store}
+use Rattle.dataset_groups.specs.Names.{reach_by}
 use Rattle.dnode.specs.declared.object_set.ObjectSet.{ObjectSet}
 use Rattle.dnode_tree.specs.Rewriting.{AreDistinct}
-use Rattle.dnode_tree.specs.Subtree.{joined}
 use Rattle.meta_objset.specs.declared.directory.DirectoryRow.{DirectoryRow}
 use Rattle.meta_objset.specs.Found.{AreDirectoryRows, IsDirectoryFound, IsRecordFound, IsRecordRefused, IsRowsRefused}
 use Rattle.meta_objset.specs.Reading.{directory_kind}
@@ -30,16 +30,6 @@ abbrev pub blocks_of_dataset : {stored : Contents} {birth : ℕ} {objects : ℕ 
 blocks_of_dataset is =
     blocks_of_volume is.r.object_set is.bytes.set is.bytes.has.own is.bytes.has.blocks
 
--- the row leads to the volume, whose blocks are those listed for the row's object
-abbrev pub HasBlocksOf : Contents → ℕ → (ℕ → Option Object) → (ℕ → List Block) → DirectoryRow
-    → PlainVolume → Type 0
-HasBlocksOf stored birth objects lists row volume =
-    (is : SpellsDataset stored birth objects row volume) × (blocks_of_dataset is ≡ lists row.object)
-
--- the blocks listed for the objects of the rows
-abbrev pub blocks_listed : (ℕ → List Block) → List DirectoryRow → List Block
-blocks_listed lists rows = flat_map lists (map (λ row. row.object) rows)
-
 -- those of each dataset, in the order of the rows
 abbrev pub parts_of : (stored : Contents) (birth : ℕ) (objects : ℕ → Option Object)
     (rows : List DirectoryRow) (volumes : List PlainVolume)
@@ -54,11 +44,10 @@ abbrev pub meta_blocks_of : {stored : Contents} {birth : ℕ} {root : Block} {po
     → SpellsPool stored birth root pool → List Block
 meta_blocks_of {root = root} is = root ∷ blocks_of_set is.set is.own is.blocks
 
--- those of each volume
+-- those of the volumes, each in the volume that it was born in
 abbrev pub volume_blocks_of : {stored : Contents} {birth : ℕ} {root : Block} {pool : PlainPool}
     → SpellsPool stored birth root pool → List Block
-volume_blocks_of {stored = stored} {root = root} {pool = pool} is =
-    joined (parts_of stored root.birth is.objects is.rows pool.volumes is.volumes)
+volume_blocks_of is = reach_by is.datasets is.rows
 
 -- all blocks that the root leads to
 abbrev pub reach_of : {stored : Contents} {birth : ℕ} {root : Block} {pool : PlainPool}

@@ -1,5 +1,5 @@
 //! The first root of a pool.
-ghost use Rattle.std.specs.Prelude.{◌≡◌, ◌⊎◌, ◌++◌, ◌*◌, ◌^◌, ◌<◌, ℕ, List, [], None, All, AllPairs, length, fold, IfOk, IfErr, OnOk};
+ghost use Rattle.std.specs.Prelude.{◌≡◌, ◌⊎◌, ◌++◌, ◌*◌, ◌^◌, ◌<◌, ◌≤◌, ℕ, List, [], None, All, AllPairs, length, fold, IfOk, IfErr, OnOk};
 ghost use Rattle.block_pointer.specs.declared.block.Block.{Block};
 ghost use Rattle.block_pointer.specs.Block.{FitsBlock};
 ghost use Rattle.block_pointer.specs.Copies.{dvas};
@@ -15,19 +15,24 @@ ghost use Rattle.pool_maps.specs.Reached.{UseNothing};
 ghost use Rattle.vdev_label.specs.Config.{FitsConfig, config_bytes};
 ghost use Rattle.vdev_label.specs.Plain.{config_view};
 ghost use Rattle.dataset_snapshots.specs.Creating.{HasFirstTables};
-ghost use Rattle.dataset_snapshots.specs.Demands.{IsActionRefused};
+ghost use Rattle.dataset_chains.specs.Chains.{Reading};
+ghost use Rattle.dataset_groups.specs.Demands.{IsActionRefused};
+ghost use Rattle.dataset_groups.specs.Groups.{SpellsGroup};
+ghost use Rattle.dataset_groups.specs.Names.{reach_by};
+ghost use Rattle.dataset_groups.specs.NewVolumes.{AreGoodCreations, numbers_end};
+ghost use Rattle.dead_list.specs.Datasets.{Pool};
+ghost use Rattle.dataset_snapshots.specs.Demands.{AreMisnumbered};
 ghost use Rattle.dataset_snapshots.specs.FirstGroup.{AreFirstVolumes, AreTableChanges, HasFirstPlaces, IsFirstRefused, IsWithTables};
 ghost use Rattle.dataset_snapshots.specs.Groups.{IsNextOf};
-ghost use Rattle.dataset_snapshots.specs.Leaving.{AddsData, IsReachExchanged};
-ghost use Rattle.dataset_snapshots.specs.Making.{AreGoodCreations, IsReady, SpellsMaking};
+ghost use Rattle.dataset_groups.specs.Leaving.{AddsData, IsReachExchanged};
 ghost use Rattle.dataset_snapshots.specs.Mapped.{HasMapsBehind};
 ghost use Rattle.dataset_snapshots.specs.Pools.{SpellsPool};
-ghost use Rattle.dataset_snapshots.specs.Reach.{blocks_listed, reach_of};
+ghost use Rattle.dataset_snapshots.specs.Reach.{reach_of};
 
-use crate::groups::{FIRST_OBJECT, MOST_NAMES, plan_root};
-use crate::making::{Made, Making};
+use crate::groups::{MOST_NAMES, Made, are_below, plan_root};
 use block_pointer::Block;
 use block_store::{BlockStore, Refusal};
+use dataset_groups::GroupDatasets;
 use meta_objset::{Directory, EMPTY, STALE_SPANS_KIND, config_creation};
 use model_disk::Disk;
 use objset::{Change, ObjectChange};
@@ -93,12 +98,12 @@ pub fn first_group<D: Disk + Drop>(
     ensures refused { IfErr result
         (IsFirstRefused store.old store.new group (config_view config.now) items.now) }
 {
-    let making = first_volumes(store, alloc, group, items.actions())?;
+    let datasets = first_volumes(store, alloc, group, items.actions())?;
     let Made {
         directory,
         changes,
         next,
-    } = with_tables(making, alloc, config)?;
+    } = with_tables(datasets, alloc, config)?;
     let changes = first_maps(store, alloc, changes, next)?;
     let mut replaced = Vec::new(alloc);
     let root = plan_root(&EMPTY, store, alloc, &changes, group, group, &mut replaced)?;
@@ -111,16 +116,18 @@ fn first_volumes<D: Disk + Drop>(
     alloc: Global,
     group: u64,
     actions: &[Action],
-) -> Result<Making, Refusal>
+) -> Result<GroupDatasets, Refusal>
     requires born { 0 < group }
     ensures steps { OnlyReadsAndPlans store.old store.new [] }
-    ensures ready { IfOk result IsReady }
-    ensures value { IfOk result (λ making. (stored planned : Contents)
+    ensures behind { IfOk result (λ datasets.
+        (4 < datasets.next) × (datasets.next ≤ numbers_end)) }
+    ensures value { IfOk result (λ datasets. (stored planned : Contents)
         → Plans store.old stored planned → AnswersAreTrue store.old store.new
         → (later : Contents) × Plans store.new stored later × Extends planned later
-        × (lists : ℕ → List Block) × SpellsMaking later group (λ number. None) lists making
+        × (pool : Pool) × (readings : ℕ → Reading)
+        × SpellsGroup later group (λ number. None) datasets pool readings
         (fold (λ p a. changed group p a.change) no_volumes actions.now)
-        × IsReachExchanged group planned later [] (blocks_listed lists making.directory) []
+        × IsReachExchanged group planned later [] (reach_by pool datasets.directory) []
         × AddsData planned later) }
     ensures known { IfErr result (λ refusal. (stored planned : Contents)
         → Plans store.old stored planned → AnswersAreTrue store.old store.new
@@ -130,21 +137,18 @@ fn first_volumes<D: Disk + Drop>(
     ensures refused { IfErr result (λ refusal. (refusal ≡ Refusal.NoMemory)
         ⊎ IsActionRefused store.old store.new group [] 5 actions.now refusal) }
 {
-    let mut making = Making {
-        directory: Directory::new(alloc),
-        changes: Vec::new(alloc),
-        next: FIRST_OBJECT,
-    };
-    making.make_all(store, alloc, group, actions)?;
-    Ok(making)
+    let mut datasets = GroupDatasets::new(alloc, EMPTY, group, Directory::new(alloc));
+    datasets.create_all(store, alloc, group, actions)?;
+    Ok(datasets)
 }
 
 /// What was made, with the changes that make the tables but for the space maps' in front of those of the volumes' objects; the directory
-/// has a row for each volume. `NoMemory` is the only error, also where the directory would have 2^40 names.
-fn with_tables(making: Making, alloc: Global, config: &Config) -> Result<Made, Refusal>
+/// has a row for each volume. `NoMemory`, also where the directory would have 2^40 names; `BadPointer` where one number has both a record and a
+/// dead list, and where one that is made is no number below the next.
+fn with_tables(datasets: GroupDatasets, alloc: Global, config: &Config) -> Result<Made, Refusal>
     requires fits { FitsConfig (config_view config.now) }
     requires few { length (config_bytes (config_view config.now)) < 2 ^ 46 }
-    requires ready { IsReady making }
+    requires behind { (4 < datasets.next) × (datasets.next ≤ numbers_end) }
     ensures numbers { IfOk result (λ made. All (λ change. (0 < change.number)
         × (change.number < 32 * 128 ^ 5)) made.changes.items) }
     ensures order { IfOk result (λ made.
@@ -152,17 +156,22 @@ fn with_tables(making: Making, alloc: Global, config: &Config) -> Result<Made, R
     ensures good { IfOk result (λ made. All (λ change. IsGoodChange change.change)
         made.changes.items) }
     ensures next { IfOk result (λ made. IsNextOf made.changes.items made.next) }
-    ensures next_is { IfOk result (λ made. made.next ≡ making.next) }
+    ensures next_is { IfOk result (λ made. made.next ≡ datasets.next) }
     ensures tables { IfOk result (λ made.
-        IsWithTables (config_view config.now) making made.changes.items) }
-    ensures directory { IfOk result (λ made. made.directory ≡ making.directory) }
-    ensures refused { IfErr result (λ refusal. refusal ≡ Refusal.NoMemory) }
+        IsWithTables (config_view config.now) datasets made.changes.items) }
+    ensures directory { IfOk result (λ made. made.directory ≡ datasets.directory) }
+    ensures refused { IfErr result (λ refusal. (refusal ≡ Refusal.NoMemory)
+        ⊎ ((refusal ≡ Refusal.BadPointer) × AreMisnumbered datasets.changes datasets.next)) }
 {
-    let Making {
+    let GroupDatasets {
         directory,
         changes,
         next,
-    } = making;
+    } = datasets;
+    let changes = changes.into_changes(alloc)?;
+    if !are_below(&changes, next) {
+        return Err(Refusal::BadPointer);
+    }
     let Ok(tables) = table_changes(&directory, alloc, config) else {
         return Err(Refusal::NoMemory);
     };

@@ -1,5 +1,5 @@
 //! The root of a pool after a group.
-ghost use Rattle.std.specs.Prelude.{◌≡◌, ◌≢◌, ◌⊎◌, ◌≤◌, ◌<◌, ◌-◌, ◌*◌, ◌^◌, ◌++◌, ℕ, List, [], Option, Some, All, AllPairs, IfOk, IfErr, OnOk, ◌∷◌, fold, length};
+ghost use Rattle.std.specs.Prelude.{IsTrue, ◌↔◌, ◌≡◌, ◌≢◌, ◌⊎◌, ◌≤◌, ◌<◌, ◌-◌, ◌*◌, ◌^◌, ◌++◌, ℕ, List, [], Option, Some, All, AllPairs, IfOk, IfErr, OnOk, ◌∷◌, fold, length};
 ghost use Rattle.block_pointer.specs.Block.{FitsBlock};
 ghost use Rattle.block_pointer.specs.Copies.{dvas};
 ghost use Rattle.block_pointer.specs.declared.block.Block.{Block};
@@ -12,7 +12,6 @@ ghost use Rattle.block_store.specs.Store.{Holds};
 ghost use Rattle.dnode.specs.ObjectSet.{FitsObjectSet};
 ghost use Rattle.dnode.specs.declared.object_set.ObjectSetKind.TheVariants as sets;
 ghost use Rattle.dnode_slots.specs.Sets.{asked_of_set};
-ghost use Rattle.dnode_tree.specs.Subtree.{joined};
 ghost use Rattle.dnode_tree.specs.Writes.{IsForRoom};
 ghost use Rattle.meta_objset.specs.declared.directory.DirectoryRow.{DirectoryRow};
 ghost use Rattle.meta_objset.specs.Reading.{HasDirectory, directory_kind};
@@ -27,21 +26,22 @@ ghost use Rattle.pool_model.specs.Pools.{PlainPool, applied, written};
 ghost use Rattle.pool_model.specs.Pools.{changed as pool_changed};
 ghost use Rattle.vdev_label.specs.Plain.{PlainVdev};
 ghost use Rattle.dataset_snapshots.specs.Creating.{HasFirstTables};
-ghost use Rattle.dataset_snapshots.specs.Demands.{AreMappedRefused, AreVolumesRefused, HasGroupPlaces, HasMappedPlaces, HasRootPlaces, HasVolumePlaces, IsGroupRefused, IsRootRefused, IsWithDirectory};
-ghost use Rattle.dataset_snapshots.specs.Groups.{IsNextOf, IsOpened, IsOpenedFrom, IsSetOf, SpellsAfter};
-ghost use Rattle.dataset_snapshots.specs.Leaving.{AddsData, AddsMeta, IsReachExchanged};
-ghost use Rattle.dataset_snapshots.specs.Making.{AreGoodCreations, IsReady, SpellsMaking};
+ghost use Rattle.dataset_snapshots.specs.Demands.{AreMappedRefused, HasDatasetChanges, AreMisnumbered, AreVolumesRefused, HasGroupPlaces, HasMappedPlaces, HasRootPlaces, HasVolumePlaces, IsGroupRefused, IsRootRefused};
+ghost use Rattle.dataset_groups.specs.Names.{reach_by};
+ghost use Rattle.dataset_groups.specs.NewVolumes.{AreGoodCreations, numbers_end};
+ghost use Rattle.dataset_snapshots.specs.Groups.{AreOfDatasets, IsNextOf, IsOpened, IsOpenedFrom, IsSetOf, SpellsAfter};
+ghost use Rattle.dataset_groups.specs.Leaving.{AddsData, AddsMeta, IsReachExchanged};
 ghost use Rattle.dataset_snapshots.specs.Mapped.{HasMapsBehind, HasMapsBy, StandsOnce};
 ghost use Rattle.dataset_snapshots.specs.Opening.{IsGroupFound, IsGroupUnread};
 ghost use Rattle.dataset_snapshots.specs.Pools.{SpellsPool};
-ghost use Rattle.dataset_snapshots.specs.Reach.{blocks_listed, parts_of, reach_of};
+ghost use Rattle.dataset_snapshots.specs.Reach.{reach_of, volume_blocks_of};
 ghost use Rattle.objset.specs.Changes.{copies_of};
 
 use crate::finding::read_meta;
-use crate::making::{Made, Making};
-use crate::writing::{WrittenVolume, place_written, read_written, written_objects};
+use crate::writing::{read_written, written_objects};
 use block_pointer::Block;
 use block_store::{BlockStore, Refusal};
+use dataset_groups::{GroupDatasets, WrittenHead};
 use dnode::ObjectSet;
 use meta_objset::Directory;
 use model_disk::Disk;
@@ -61,12 +61,24 @@ pub struct NextRoot {
     pub directory: Directory,
 }
 
-/// What a group is planned from: the meta object set, its directory, and the volumes that the group writes to.
+/// What a group is planned from: the meta object set, its datasets under the names of its directory, and the volumes that the group writes
+/// to.
 #[derive(Debug, Drop)]
 pub(crate) struct Opened {
     pub set: ObjectSet,
+    pub datasets: GroupDatasets,
+    pub written: Vec<WrittenHead>,
+}
+
+/// What a group made of the meta object set.
+#[derive(Debug, Drop)]
+pub(crate) struct Made {
+    /// The directory after the group.
     pub directory: Directory,
-    pub written: Vec<WrittenVolume>,
+    /// The changes of all objects, in the order of their numbers; that of the directory is among them where it changed.
+    pub changes: Vec<ObjectChange>,
+    /// The number of the next object that is made.
+    pub next: u64,
 }
 
 /// The number of the directory's object.
@@ -74,9 +86,6 @@ const DIRECTORY: u64 = 1;
 
 /// A directory of so many names has 2^46 bytes.
 pub(crate) const MOST_NAMES: usize = 1 << 40;
-
-/// The number of the first object behind the tables.
-pub(crate) const FIRST_OBJECT: u64 = 5;
 
 /// Plans the root of a pool after the items of the transaction group `group`: its writes, and then the volumes that it makes. `root`
 /// is the root of the group before, and `directory` the one under it, which is kept in memory: none of its blocks is read. Each
@@ -196,10 +205,11 @@ fn open_group<D: Disk + Drop>(
     let directory = kept.copied()?;
     let set = read_meta(root, store, alloc, birth, &[])?;
     let objects = written_objects(&directory, alloc, items.writes())?;
-    let written = read_written(&set, store, alloc, root.birth, &directory, &objects, items)?;
+    let mut datasets = GroupDatasets::new(alloc, set, root.birth, directory);
+    let written = read_written(&mut datasets, store, alloc, root.birth, &objects, items)?;
     Ok(Opened {
         set,
-        directory,
+        datasets,
         written,
     })
 }
@@ -223,22 +233,20 @@ fn mapped_changes<D: Disk + Drop>(
     ensures value { IfOk result (λ made. (stored planned : Contents) (birth : ℕ)
         (root : Block) (pool : PlainPool) (writes : List Write)
         → Plans store.old stored planned → (is : SpellsPool stored birth root pool)
-        → root.birth ≡ born → born ≤ group → IsOpened writes opened
+        → root.birth ≡ born → born < group → IsOpened writes opened
         → IsOpenedFrom stored birth root pool is writes opened
         → AreMapsOf is.objects store.old.spaces filled → AnswersAreTrue store.old store.new
         → (later : Contents) × Plans store.new stored later × Extends planned later
-        × (lists : ℕ → List Block)
-        × (then : SpellsAfter later group is.objects lists made.changes.items
+        × (then : SpellsAfter later group is.objects made.changes.items
         (fold (λ p a. pool_changed group p a.change) (fold written pool writes) actions.now))
         × IsReachExchanged group planned later
-        (joined (parts_of stored root.birth is.objects is.rows pool.volumes is.volumes))
-        (blocks_listed lists then.rows) gone.new.items
+        (volume_blocks_of is) (reach_by then.datasets then.rows) gone.new.items
         × (then.rows ≡ made.directory) × AddsData planned later
         × MapAnew is.objects store.new.spaces gone.new.items made.changes.items) }
     ensures known { IfErr result (λ refusal. (stored planned : Contents) (birth : ℕ)
         (root : Block) (pool : PlainPool) (writes : List Write)
         → Plans store.old stored planned → (is : SpellsPool stored birth root pool)
-        → root.birth ≡ born → born ≤ group → IsOpened writes opened
+        → root.birth ≡ born → born < group → IsOpened writes opened
         → IsOpenedFrom stored birth root pool is writes opened
         → AreMapsOf is.objects store.old.spaces filled → StandsOnce store.old.spaces is
         → AnswersAreTrue store.old store.new → AreGoodCreations actions.now
@@ -287,22 +295,21 @@ fn changes_of<D: Disk + Drop>(
     ensures value { IfOk result (λ made. (stored planned : Contents) (birth : ℕ)
         (root : Block) (pool : PlainPool) (writes : List Write)
         → Plans store.old stored planned → (is : SpellsPool stored birth root pool)
-        → root.birth ≤ group → IsOpened writes opened
+        → root.birth < group → IsOpened writes opened
         → IsOpenedFrom stored birth root pool is writes opened
         → AnswersAreTrue store.old store.new
         → (later : Contents) × Plans store.new stored later × Extends planned later
-        × (lists : ℕ → List Block)
-        × (then : SpellsAfter later group is.objects lists made.changes.items
+        × (then : SpellsAfter later group is.objects made.changes.items
         (fold (λ p a. pool_changed group p a.change) (fold written pool writes) actions.now))
         × (gone : List Block) × (replaced.new.items ≡ replaced.old.items ++ gone)
         × IsReachExchanged group planned later
-        (joined (parts_of stored root.birth is.objects is.rows pool.volumes is.volumes))
-        (blocks_listed lists then.rows) gone
-        × (then.rows ≡ made.directory) × AddsData planned later) }
+        (volume_blocks_of is) (reach_by then.datasets then.rows) gone
+        × (then.rows ≡ made.directory) × AddsData planned later
+        × AreOfDatasets is.objects made.changes.items) }
     ensures known { IfErr result (λ refusal. (stored planned : Contents) (birth : ℕ)
         (root : Block) (pool : PlainPool) (writes : List Write)
         → Plans store.old stored planned → (is : SpellsPool stored birth root pool)
-        → root.birth ≤ group → IsOpened writes opened
+        → root.birth < group → IsOpened writes opened
         → IsOpenedFrom stored birth root pool is writes opened
         → AnswersAreTrue store.old store.new → AreGoodCreations actions.now
         → IsForRoom refusal ⊎ (refusal ≡ Refusal.DiskFault)) }
@@ -312,29 +319,23 @@ fn changes_of<D: Disk + Drop>(
     ensures refused { IfErr result
         (AreVolumesRefused store.old store.new group opened actions.now) }
 {
-    let next = opened.set.objects.max(FIRST_OBJECT);
-    let changes = place_written(
-        store,
-        alloc,
-        group,
-        opened.set.objects,
-        opened.written,
-        replaced,
-    )?;
-    let count = changes.len();
-    let mut making = Making {
-        directory: opened.directory,
-        changes,
-        next,
-    };
-    making.make_all(store, alloc, group, actions)?;
-    with_directory(making, alloc, count)
+    let Opened {
+        mut datasets,
+        written,
+        ..
+    } = opened;
+    let first = datasets.next;
+    datasets.write_all(store, alloc, group, written, replaced)?;
+    datasets.create_all(store, alloc, group, actions)?;
+    with_directory(datasets, alloc, first)
 }
 
-/// What was made, with the change of the directory in front where there are more changes than so many: where a volume was made.
-/// `NoMemory` is the only error, also where the directory would have 2^40 names.
-fn with_directory(making: Making, alloc: Global, count: usize) -> Result<Made, Refusal>
-    requires ready { IsReady making }
+/// What became of the datasets: the changes of the objects of their records and dead lists, with the change of the directory in front where the next
+/// number isn't the first one any more: where a volume was made. `NoMemory`, also where the directory would have 2^40 names; `BadPointer` where one
+/// number has both a record and a dead list, and where one that is changed is no number below the next.
+fn with_directory(datasets: GroupDatasets, alloc: Global, first: u64) -> Result<Made, Refusal>
+    requires behind { 4 < datasets.next }
+    requires within { datasets.next ≤ numbers_end }
     ensures numbers { IfOk result (λ made. All (λ change. (0 < change.number)
         × (change.number < 32 * 128 ^ 5)) made.changes.items) }
     ensures order { IfOk result (λ made.
@@ -342,40 +343,37 @@ fn with_directory(making: Making, alloc: Global, count: usize) -> Result<Made, R
     ensures good { IfOk result (λ made. All (λ change. IsGoodChange change.change)
         made.changes.items) }
     ensures next { IfOk result (λ made. IsNextOf made.changes.items made.next) }
-    ensures next_is { IfOk result (λ made. made.next ≡ making.next) }
-    ensures value { IfOk result (λ made. (stored : Contents) (birth : ℕ)
-        (objects : ℕ → Option Object) (lists : ℕ → List Block) (pool : PlainPool)
-        (rows : List DirectoryRow)
-        → HasDirectory (objects 1) rows → SpellsMaking stored birth objects lists making pool
-        → (length making.changes.items ≡ count → making.directory ≡ rows)
-        → (then : SpellsAfter stored birth objects lists made.changes.items pool)
-        × (then.rows ≡ making.directory)) }
-    ensures directory { IfOk result (λ made. made.directory ≡ making.directory) }
-    ensures same { IfOk result (λ made. length making.changes.items ≡ count
-        → made.changes.items ≡ making.changes.items) }
-    ensures more { IfOk result (λ made. length making.changes.items ≢ count
-        → IsWithDirectory making made.changes.items) }
-    ensures refused { IfErr result (λ refusal. refusal ≡ Refusal.NoMemory) }
+    ensures next_is { IfOk result (λ made. made.next ≡ datasets.next) }
+    ensures directory { IfOk result (λ made. made.directory ≡ datasets.directory) }
+    ensures changes { IfOk result (λ made. HasDatasetChanges datasets first made.changes.items) }
+    ensures refused { IfErr result (λ refusal. (refusal ≡ Refusal.NoMemory)
+        ⊎ ((refusal ≡ Refusal.BadPointer) × AreMisnumbered datasets.changes datasets.next)) }
 {
-    let Making {
+    let GroupDatasets {
         directory,
-        mut changes,
+        changes,
         next,
-    } = making;
-    if changes.len() == count {
-        return Ok(Made {
-            directory,
-            changes,
-            next,
-        });
+    } = datasets;
+    let mut changes = changes.into_changes(alloc)?;
+    if !are_below(&changes, next) {
+        return Err(Refusal::BadPointer);
     }
-    let change = directory_change(&directory, alloc)?;
-    put_first(&mut changes, change)?;
+    if next != first {
+        let change = directory_change(&directory, alloc)?;
+        put_first(&mut changes, change)?;
+    }
     Ok(Made {
         directory,
         changes,
         next,
     })
+}
+
+/// Whether all changes are of objects below a number.
+pub(crate) fn are_below(changes: &[ObjectChange], next: u64) -> bool
+    ensures { IsTrue result ↔ All (λ change. change.number < next) changes.now }
+{
+    changes.iter().all(|change| change.number < next)
 }
 
 /// Puts a change in front of others.

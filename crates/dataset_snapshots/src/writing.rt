@@ -1,57 +1,36 @@
-//! The volumes that a group writes to: what is read of them, and their records after the writes.
-ghost use Rattle.std.specs.Prelude.{◌≡◌, ◌⊎◌, ◌↔◌, ◌<◌, ◌≤◌, ◌++◌, ◌∷◌, [], ℕ, List, Option, Contains, All, map, IfOk, IfErr, IfSome, IfNone, OnOk};
-ghost use Rattle.std.specs.List.{AllZip, flat_map};
+//! Volumes that a group writes to, as they are read.
+ghost use Rattle.std.specs.Prelude.{◌≡◌, ◌≢◌, ◌↔◌, ◌⊎◌, ◌++◌, ◌∷◌, [], ℕ, List, Option, None, All, Contains, IfSome, IfNone, IfOk, IfErr, OnOk};
+ghost use Rattle.std.specs.List.{AllZip};
 ghost use Rattle.std.specs.List.Sorted.{IsStrictlyIncreasing};
 ghost use Rattle.block_pointer.specs.declared.block.Block.{Block};
-ghost use Rattle.block_store.specs.Blocks.{Contents, Extends};
-ghost use Rattle.block_store.specs.Demands.{Demand, HavePlaces};
+ghost use Rattle.block_store.specs.Blocks.{Contents};
 ghost use Rattle.block_store.specs.Losses.{IsForLoss};
-ghost use Rattle.block_store.specs.Plans.{Plans};
-ghost use Rattle.block_store.specs.Steps.{OnlyReadsAndPlans, OnlyReadsBlocks, AnswersAreTrue};
+ghost use Rattle.block_store.specs.Steps.{OnlyReadsBlocks, AnswersAreTrue};
 ghost use Rattle.block_store.specs.Store.{Holds};
-ghost use Rattle.dnode.specs.ObjectSet.{FitsObjectSet};
-ghost use Rattle.dnode_tree.specs.Subtree.{joined};
-ghost use Rattle.dnode_tree.specs.Writes.{IsForRoom};
+ghost use Rattle.dataset_changes.specs.Over.{AreOver};
+ghost use Rattle.dataset_changes.specs.States.{AreUntouched, birth_of, record_at, set_of};
+ghost use Rattle.dataset_groups.specs.Writing.{FitsHead, numbers_of};
 ghost use Rattle.meta_objset.specs.declared.directory.DirectoryRow.{DirectoryRow};
 ghost use Rattle.meta_objset.specs.Names.{IsName, IsNamed};
-ghost use Rattle.objset.specs.Changes.{IsGoodChange};
 ghost use Rattle.objset.specs.Objects.{Object, AreObjects};
-ghost use Rattle.pool_model.specs.declared.item.Write.{Write};
 ghost use Rattle.pool_model.specs.declared.volume.PlainVolume.{PlainVolume};
 ghost use Rattle.volume_rules.specs.Overlay.{after_writes};
-ghost use Rattle.volume.specs.Demands.{IsPlacingRefused};
 ghost use Rattle.volume.specs.Volume.{Spells, block_size_of};
 ghost use Rattle.volume.specs.Writing.{AreBlocksOf, IsArrayWith};
-ghost use Rattle.dataset_snapshots.specs.Demands.{HavePlacesFor, HasVolumeDemands, IsVolumeUnplaced, WritesRecord};
-ghost use Rattle.dataset_snapshots.specs.Leaving.{AddsData, IsReachExchanged};
 ghost use Rattle.dataset_snapshots.specs.Opening.{AreBlocksFound, AreBlocksRefused, IsOneUnread, IsWrittenFound, IsWrittenOf, IsWrittenRefused};
 ghost use Rattle.dataset_snapshots.specs.Pools.{SpellsDataset};
-ghost use Rattle.dataset_snapshots.specs.Reach.{blocks_of_dataset};
-ghost use Rattle.dataset_snapshots.specs.Writing.{AreChangedFrom, ChangesRecord, FitsWritten, HasRow, IsReadFor, IsReadFrom, IsWritten, SpellsEach, blocks_of_change, numbers_of};
+ghost use Rattle.dataset_snapshots.specs.Writing.{HasRow, IsReadFor, IsReadFrom, IsWritten};
+ghost use Rattle.dataset_snapshots.specs.Writing.{KeepsDatasets, KeepsGroup};
 
-use crate::finding::{Dataset, number_in, read_dataset};
-use block_pointer::Block;
+use crate::finding::number_in;
 use block_store::{BlockStore, Refusal};
-use dnode::ObjectSet;
-use meta_objset::{DatasetRecord, Directory, DirectoryRow, record_change, unpadded};
+use dataset_groups::{GroupDatasets, WrittenHead};
+use meta_objset::{Directory, DirectoryRow, unpadded};
 use model_disk::Disk;
-use objset::ObjectChange;
 use pool_model::{Name, Write};
 use std::alloc::{AllocError, Global};
-use std::collections::VecDeque;
 use txg_pipeline::Pending;
 use volume::{BlockWrite, GroupWrites, VolumeSet};
-
-/// A volume that a group writes to.
-#[derive(Debug, Drop)]
-pub(crate) struct WrittenVolume {
-    pub dataset: Dataset,
-    /// The blocks that the writes change, whole, with their bytes after them.
-    pub blocks: Vec<BlockWrite>,
-}
-
-/// The last object of the tables.
-const LAST_TABLE: u64 = 4;
 
 /// The objects of the volumes that are written to, in the order of their numbers.
 pub(crate) fn written_objects(
@@ -79,45 +58,46 @@ pub(crate) fn written_objects(
 /// Reads the volumes that have these objects: the record of each, and the blocks that the writes change. The set's blocks were born
 /// in the transaction group `birth` or before. `BadPointer` where a number is none that a record's object may have.
 pub(crate) fn read_written<D: Disk + Drop>(
-    set: &ObjectSet,
+    datasets: &mut GroupDatasets,
     store: &mut BlockStore<D>,
     alloc: Global,
     birth: u64,
-    directory: &Directory,
     objects: &[u64],
     items: &Pending,
-) -> Result<Vec<WrittenVolume>, Refusal>
-    requires set { FitsObjectSet set.now }
-    requires rows { All (λ object. (row : DirectoryRow) × HasRow directory.now object row)
+) -> Result<Vec<WrittenHead>, Refusal>
+    requires rows { All (λ object. (row : DirectoryRow) × HasRow datasets.old.directory object row)
         objects.now }
+    requires once { IsStrictlyIncreasing objects.now }
+    requires born { birth_of datasets.old.changes ≡ birth }
+    requires none { AreUntouched datasets.old.changes }
     ensures reads { OnlyReadsBlocks store.old store.new [] }
-    ensures objects { IfOk result (λ read.
-        map (λ written. written.dataset.object) read.items ≡ objects.now) }
-    ensures fits { IfOk result (λ read. All (FitsWritten set.now.objects) read.items) }
+    ensures kept { OnOk result (KeepsDatasets datasets.old datasets.new) }
+    ensures numbers { IfOk result (λ read. numbers_of read.items ≡ objects.now) }
+    ensures fits { IfOk result (λ read. All FitsHead read.items) }
     ensures value { IfOk result (λ read. (stored : Contents) (there : ℕ → Option Object)
         (own : List Block) (blocks : ℕ → List Block) → Holds store.old stored
-        → AreObjects stored birth set.now there own blocks → AnswersAreTrue store.old store.new
-        → All (IsReadFrom stored birth there items.now.writes directory.now) read.items) }
+        → AreObjects stored birth (set_of datasets.old.changes) there own blocks
+        → AnswersAreTrue store.old store.new
+        → All (IsReadFrom stored birth there items.now.writes datasets.old.directory) read.items
+        × KeepsGroup there datasets.old datasets.new) }
     ensures known { IfErr result (λ refusal. (stored : Contents) (there : ℕ → Option Object)
         (own : List Block) (blocks : ℕ → List Block) (volumes : List PlainVolume)
-        → Holds store.old stored → AreObjects stored birth set.now there own blocks
-        → AllZip (SpellsDataset stored birth there) directory.now volumes
+        → Holds store.old stored
+        → AreObjects stored birth (set_of datasets.old.changes) there own blocks
+        → AllZip (SpellsDataset stored birth there) datasets.old.directory volumes
         → AnswersAreTrue store.old store.new → IsForLoss refusal) }
 
     // Whatever the set is: what was read, and on a refusal its cause.
-    ensures found { IfOk result (λ read.
-        All (IsWrittenOf store.old.spaces set.now birth items.now.writes directory.now) read.items) }
+    ensures found { IfOk result (λ read. All (IsWrittenOf store.old.spaces
+        (set_of datasets.old.changes) birth items.now.writes datasets.old.directory) read.items) }
     ensures refused { IfErr result (λ refusal. (refusal ≡ Refusal.NoMemory)
-        ⊎ IsOneUnread store.old store.new set.now birth items.now.writes directory.now objects.now
-        refusal) }
+        ⊎ IsOneUnread store.old store.new (set_of datasets.old.changes) birth items.now.writes
+        datasets.old.directory objects.now refusal) }
 {
     let mut read = Vec::new(alloc);
     for object in objects {
-        let Some(row) = row_of(directory, *object) else {
-            return Err(Refusal::BadPointer);
-        };
-        let written = read_one(set, store, alloc, birth, row, items)?;
-        push(&mut read, written)?;
+        let head = read_one(datasets, store, alloc, birth, *object, items)?;
+        push(&mut read, head)?;
     }
     Ok(read)
 }
@@ -131,40 +111,56 @@ fn row_of(directory: &Directory, object: u64) -> Option<&DirectoryRow>
     directory.rows().iter().find(|row| row.object == object)
 }
 
-/// The volume that a row names, with the blocks that the writes change.
+/// The volume that the first row with this object names, with the blocks that the writes change. Its record wasn't read yet.
 fn read_one<D: Disk + Drop>(
-    set: &ObjectSet,
+    datasets: &mut GroupDatasets,
     store: &mut BlockStore<D>,
     alloc: Global,
     birth: u64,
-    row: &DirectoryRow,
+    object: u64,
     items: &Pending,
-) -> Result<WrittenVolume, Refusal>
-    requires set { FitsObjectSet set.now }
-    requires named { IsName row.now.name }
+) -> Result<WrittenHead, Refusal>
+    requires row { (row : DirectoryRow) × HasRow datasets.old.directory object row }
+    requires born { birth_of datasets.old.changes ≡ birth }
+    requires unread { record_at datasets.old.changes object ≡ None }
     ensures reads { OnlyReadsBlocks store.old store.new [] }
-    ensures object { IfOk result (λ written. written.dataset.object ≡ row.now.object) }
-    ensures fits { IfOk result (FitsWritten set.now.objects) }
-    ensures value { IfOk result (λ written. (stored : Contents) (there : ℕ → Option Object)
+    ensures kept { OnOk result (KeepsDatasets datasets.old datasets.new) }
+    ensures others { OnOk result ((other : ℕ) → other ≢ object
+        → record_at datasets.new.changes other ≡ record_at datasets.old.changes other) }
+    ensures number { IfOk result (λ head. head.number ≡ object) }
+    ensures fits { IfOk result FitsHead }
+    ensures value { IfOk result (λ head. (stored : Contents) (there : ℕ → Option Object)
         (own : List Block) (blocks : ℕ → List Block) → Holds store.old stored
-        → AreObjects stored birth set.now there own blocks → AnswersAreTrue store.old store.new
-        → IsReadFor stored birth there items.now.writes row.now written) }
+        → AreObjects stored birth (set_of datasets.old.changes) there own blocks
+        → AnswersAreTrue store.old store.new → AreOver there datasets.old.changes
+        → IsReadFrom stored birth there items.now.writes datasets.old.directory head
+        × KeepsGroup there datasets.old datasets.new × AreOver there datasets.new.changes) }
     ensures known { IfErr result (λ refusal. (stored : Contents) (there : ℕ → Option Object)
-        (own : List Block) (blocks : ℕ → List Block) (volume : PlainVolume)
-        → Holds store.old stored → AreObjects stored birth set.now there own blocks
-        → SpellsDataset stored birth there row.now volume
-        → AnswersAreTrue store.old store.new → IsForLoss refusal) }
-    ensures found { IfOk result
-        (IsWrittenFound store.old.spaces set.now birth items.now.writes row.now) }
-    ensures refused { IfErr result
-        (IsWrittenRefused store.old store.new set.now birth items.now.writes row.now) }
+        (own : List Block) (blocks : ℕ → List Block) (volumes : List PlainVolume)
+        → Holds store.old stored
+        → AreObjects stored birth (set_of datasets.old.changes) there own blocks
+        → AllZip (SpellsDataset stored birth there) datasets.old.directory volumes
+        → AnswersAreTrue store.old store.new → AreOver there datasets.old.changes
+        → IsForLoss refusal) }
+    ensures found { IfOk result (IsWrittenOf store.old.spaces (set_of datasets.old.changes) birth
+        items.now.writes datasets.old.directory) }
+    ensures refused { IfErr result (λ refusal. (row : DirectoryRow)
+        × HasRow datasets.old.directory object row
+        × IsWrittenRefused store.old store.new (set_of datasets.old.changes) birth
+        items.now.writes row refusal) }
 {
-    if row.object <= LAST_TABLE || row.object >= set.objects {
+    let Some(row) = row_of(&datasets.directory, object) else {
         return Err(Refusal::BadPointer);
-    }
-    let dataset = read_dataset(set, store, alloc, birth, row.object, &[])?;
-    let blocks = changed_blocks(&dataset.volume, store, alloc, birth, row, items)?;
-    Ok(WrittenVolume { dataset, blocks })
+    };
+    let row = *row;
+    let record = datasets.changes.record(store, alloc, object)?;
+    let volume = VolumeSet::new(record.size, record.block_size, record.object_set);
+    let blocks = changed_blocks(&volume, store, alloc, birth, &row, items)?;
+    Ok(WrittenHead {
+        number: object,
+        volume,
+        blocks,
+    })
 }
 
 /// The blocks that the writes change of the volume that a row names.
@@ -198,134 +194,9 @@ fn changed_blocks<D: Disk + Drop>(
 }
 
 /// Adds a volume to a list.
-fn push(read: &mut Vec<WrittenVolume>, written: WrittenVolume) -> Result<(), AllocError>
-    ensures { OnOk result (read.new.items ≡ read.old.items ++ written ∷ []) }
+fn push(read: &mut Vec<WrittenHead>, head: WrittenHead) -> Result<(), AllocError>
+    ensures { OnOk result (read.new.items ≡ read.old.items ++ head ∷ []) }
 {
-    read.push(written)?;
-    Ok(())
-}
-
-/// Plans these volumes with their blocks in the transaction group `group`: the changes that give their objects the records after
-/// them, in the same order. The volumes before were born in that group or before. Their blocks that gave way to others come
-/// behind those in `replaced`.
-///
-/// After an error volumes may be planned that no root has: begin another plan.
-pub(crate) fn place_written<D: Disk + Drop>(
-    store: &mut BlockStore<D>,
-    alloc: Global,
-    group: u64,
-    objects: u64,
-    written: Vec<WrittenVolume>,
-    replaced: &mut Vec<Block>,
-) -> Result<Vec<ObjectChange>, Refusal>
-    requires born { 0 < group }
-    requires fits { All (FitsWritten objects) written.items }
-    ensures steps { OnlyReadsAndPlans store.old store.new [] }
-    ensures numbers { IfOk result (λ changes. map (λ change. change.number) changes.items
-        ≡ map (λ written. written.dataset.object) written.items) }
-    ensures good { IfOk result (λ changes. All (λ change. IsGoodChange change.change)
-        changes.items) }
-    ensures value { IfOk result (λ changes. (stored planned : Contents) (bound : ℕ)
-        (there : ℕ → Option Object) (writes : List Write) (rows : List DirectoryRow)
-        (volumes : ℕ → PlainVolume) (lists : ℕ → List Block)
-        → Plans store.old stored planned → bound ≤ group → AnswersAreTrue store.old store.new
-        → All (IsReadFrom stored bound there writes rows) written.items
-        → SpellsEach stored bound there rows volumes lists
-        → (later : Contents) × Plans store.new stored later × Extends planned later
-        × (parts : List (List Block))
-        × AreChangedFrom later group there volumes writes changes.items parts
-        × (gone : List Block) × (replaced.new.items ≡ replaced.old.items ++ gone)
-        × IsReachExchanged group planned later (flat_map lists (numbers_of changes.items))
-        (joined parts) gone × AddsData planned later) }
-    ensures known { IfErr result (λ refusal. (stored planned : Contents) (bound : ℕ)
-        (there : ℕ → Option Object) (writes : List Write) (rows : List DirectoryRow)
-        (volumes : ℕ → PlainVolume) (lists : ℕ → List Block)
-        → Plans store.old stored planned → bound ≤ group → AnswersAreTrue store.old store.new
-        → All (IsReadFrom stored bound there writes rows) written.items
-        → SpellsEach stored bound there rows volumes lists
-        → IsForRoom refusal ⊎ (refusal ≡ Refusal.DiskFault)) }
-
-    // Whatever the volumes are: what places are taken for, and on a refusal its cause.
-    ensures writes { IfOk result (λ changes.
-        All (λ change. WritesRecord change.change) changes.items) }
-    ensures places { OnOk result (HavePlacesFor store.old store.new
-        (HasVolumeDemands store.old.spaces group) written.items) }
-    ensures refused { IfErr result (λ refusal. (refusal ≡ Refusal.NoMemory)
-        ⊎ IsVolumeUnplaced store.old store.new group written.items refusal) }
-{
-    let mut changes = Vec::new(alloc);
-    let mut left = VecDeque::from_vec(written);
-    'placing: while let Some(next) = left.pop_front() {
-        let change = place_one(store, alloc, group, objects, next, replaced)?;
-        push_change(&mut changes, change)?;
-    }
-    Ok(changes)
-}
-
-/// Plans one of them.
-fn place_one<D: Disk + Drop>(
-    store: &mut BlockStore<D>,
-    alloc: Global,
-    group: u64,
-    objects: u64,
-    written: WrittenVolume,
-    replaced: &mut Vec<Block>,
-) -> Result<ObjectChange, Refusal>
-    requires born { 0 < group }
-    requires fits { FitsWritten objects written }
-    ensures steps { OnlyReadsAndPlans store.old store.new [] }
-    ensures number { IfOk result (λ change. change.number ≡ written.dataset.object) }
-    ensures good { IfOk result (λ change. IsGoodChange change.change) }
-    ensures value { IfOk result (λ change. (stored planned : Contents) (bound : ℕ)
-        (there : ℕ → Option Object) (writes : List Write) (row : DirectoryRow)
-        (volume : PlainVolume)
-        → Plans store.old stored planned → bound ≤ group → AnswersAreTrue store.old store.new
-        → IsReadFor stored bound there writes row written
-        → (is : SpellsDataset stored bound there row volume)
-        → (later : Contents) × Plans store.new stored later × Extends planned later
-        × (to : ChangesRecord later group there row.object (after_writes volume writes)
-        change.change)
-        × (gone : List Block) × (replaced.new.items ≡ replaced.old.items ++ gone)
-        × IsReachExchanged group planned later (blocks_of_dataset is) (blocks_of_change to)
-        gone × AddsData planned later) }
-    ensures known { IfErr result (λ refusal. (stored planned : Contents) (bound : ℕ)
-        (there : ℕ → Option Object) (writes : List Write) (row : DirectoryRow)
-        (volume : PlainVolume)
-        → Plans store.old stored planned → bound ≤ group → AnswersAreTrue store.old store.new
-        → IsReadFor stored bound there writes row written
-        → SpellsDataset stored bound there row volume
-        → IsForRoom refusal ⊎ (refusal ≡ Refusal.DiskFault)) }
-    ensures writes { IfOk result (λ change. WritesRecord change.change) }
-    ensures places { OnOk result ((demands : List Demand)
-        × HasVolumeDemands store.old.spaces group written demands
-        × HavePlaces store.old.spaces demands store.new.spaces) }
-    ensures refused { IfErr result (IsPlacingRefused store.old store.new
-        written.dataset.volume group written.blocks) }
-{
-    let WrittenVolume { dataset, blocks } = written;
-    let placed = dataset.volume.placed(store, alloc, blocks, group)?;
-    replaced.extend_from_slice(&placed.replaced)?;
-    let record = with_object_set(&dataset.record, placed.volume.block());
-    Ok(ObjectChange {
-        number: dataset.object,
-        change: record_change(alloc, &record)?,
-    })
-}
-
-/// The record with another object set.
-fn with_object_set(dataset: &DatasetRecord, object_set: Block) -> DatasetRecord
-    ensures { result ≡ record dataset.now { object_set = object_set } }
-{
-    DatasetRecord {
-        object_set,
-        ..*dataset
-    }
-}
-
-/// Adds a change to a list.
-fn push_change(changes: &mut Vec<ObjectChange>, change: ObjectChange) -> Result<(), AllocError>
-    ensures { OnOk result (changes.new.items ≡ changes.old.items ++ change ∷ []) }
-{
-    changes.push(change)?;
+    read.push(head)?;
     Ok(())
 }

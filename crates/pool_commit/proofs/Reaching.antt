@@ -20,7 +20,7 @@ use Rattle.dataset_snapshots.proofs.Exchanges.{after_once}
 use Rattle.dataset_snapshots.proofs.Reaching.{reach_known}
 use Rattle.dataset_snapshots.proofs.Standing.{roots_stand}
 use Rattle.dataset_snapshots.specs.Laws.{KeepsEach}
-use Rattle.dataset_snapshots.specs.Leaving.{IsReachExchanged}
+use Rattle.dataset_groups.specs.Leaving.{IsReachExchanged}
 use Rattle.dnode_tree.proofs.SameBlocks.{same_as, counted, found}
 use Rattle.dnode_tree.specs.Rewriting.{AreDistinct}
 use Rattle.pool_commit.specs.declared.kept.Kept.{Kept}

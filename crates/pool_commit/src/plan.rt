@@ -17,7 +17,7 @@ ghost use Rattle.uberblock_ring.specs.Uberblock.{IsRoot};
 ghost use Rattle.volume_rules.specs.GoodChanges.{MakesGoodVolumes};
 ghost use Rattle.volume_rules.specs.Index.{Knows};
 ghost use Rattle.block_store.specs.declared.refusal.Refusal.TheVariants as lost_blocks;
-ghost use Rattle.dataset_snapshots.specs.Leaving.{IsReachExchanged};
+ghost use Rattle.dataset_groups.specs.Leaving.{IsReachExchanged};
 ghost use Rattle.pool_commit.specs.Backs.{Backs, BeginsWithMaps, LeadsTo, LeavesMaps, SpellsGroup, SpellsRoot};
 ghost use Rattle.pool_commit.specs.Directories.{SpellsBy};
 ghost use Rattle.pool_commit.specs.Reading.{PoolAnswersTruly, IsReadFault};

@@ -3,63 +3,78 @@ use Rattle.std.specs.Prelude.{fold}
 use Rattle.std.proofs.lemmas.Result.{IfErr-weaker}
 use Rattle.block_store.proofs.Steps.{steps_on, steps_read, true_before, true_after}
 use Rattle.block_store.specs.Store.{Store}
+use Rattle.dataset_groups.specs.Groups.{SpellsGroup}
+use Rattle.dataset_groups.specs.NewVolumes.{AreGoodCreations}
 use Rattle.dnode.specs.declared.object_set.ObjectSetKind.TheVariants as sets
 use Rattle.dnode_tree.proofs.Refusing.{passed_on}
 use Rattle.objset.specs.declared.changes.ObjectChange.{ObjectChange}
 use Rattle.objset.specs.Changes.{MayChange, changed}
+use Rattle.objset.specs.Within.{blocks_of_set}
+use Rattle.pool_maps.specs.Beside.{AreSameBefore}
 use Rattle.pool_model.specs.declared.item.Action.{Action}
 use Rattle.pool_model.specs.Pools.{PlainPool, applied, no_volumes}
 use Rattle.pool_model.specs.Pools.{changed as pool_changed}
 use Rattle.vdev_label.specs.Plain.{config_view}
 use Rattle.volume.proofs.Made.{no_objects}
-use Rattle.pool_maps.specs.Beside.{AreSameBefore}
 use Rattle.dataset_snapshots.specs.Demands.{HasRootPlaces, IsRootRefused}
 use Rattle.dataset_snapshots.specs.FirstGroup.{AreFirstVolumes, empty_meta}
-use Rattle.objset.specs.Within.{blocks_of_set}
-use Rattle.dataset_snapshots.proofs.GroupReach.{IsRootGiven}
-use Rattle.dataset_snapshots.specs.Making.{AreGoodCreations, SpellsMaking}
 use Rattle.dataset_snapshots.proofs.FirstMaps.{first_of_others, first_value, unused_still}
-use Rattle.dataset_snapshots.proofs.FirstRoots.{first_has, first_maps_refused, first_set_refused, first_volumes_refused, nothing, pool_first}
+use Rattle.dataset_snapshots.proofs.FirstRoots.{first_datasets_known, first_datasets_refused, first_has, first_maps_refused, first_set_refused, first_volumes_refused, nothing, pool_first}
+use Rattle.dataset_snapshots.proofs.GroupReach.{IsRootGiven}
 use Rattle.dataset_snapshots.proofs.MetaPlaces.{root_places_same}
 use Rattle.dataset_snapshots.proofs.first_root.first_group.Goals as goal
 
-pub returns-in_err-making-clause-known : goal.returns-in_err-making-clause-known
-returns-in_err-making-clause-known g c =
+pub returns-in_err-datasets-clause-known : goal.returns-in_err-datasets-clause-known
+returns-in_err-datasets-clause-known g c =
     passed_on _ _ _ c.from_residual.ensures.1 (λ stored planned plans unused honest good.
-    c.in_err-making.ensures.known stored planned plans honest (subst AreGoodCreations (sym c.actions.ensures) good))
+    c.in_err-datasets.ensures.known stored planned plans honest (subst AreGoodCreations (sym c.actions.ensures) good))
 
-pub returns-in_err-making-clause-refused : goal.returns-in_err-making-clause-refused
-returns-in_err-making-clause-refused g c =
+pub returns-in_err-datasets-clause-refused : goal.returns-in_err-datasets-clause-refused
+returns-in_err-datasets-clause-refused g c =
     passed_on _ _ _ c.from_residual.ensures.1
     (first_volumes_refused c.args.store.now c.first_volumes.new.store c.args.group (config_view c.args.config.now) c.args.items.now c.actions.result.now _ c.actions.ensures
-    c.in_err-making.ensures.refused)
+    c.in_err-datasets.ensures.refused)
+
+pub returns-in_err-directory-clause-known : goal.returns-in_err-directory-clause-known
+returns-in_err-directory-clause-known g c =
+    passed_on _ _ _ c.from_residual-in_err-directory.ensures.1 (λ stored planned plans unused honest good.
+    let volumes = c.in_ok-datasets.ensures.value stored planned plans honest in
+    first_datasets_known volumes.0 c.args.group c.in_ok-datasets.datasets volumes.3 volumes.4 _ _ volumes.5 c.in_err-directory.ensures.refused)
+
+pub returns-in_err-directory-clause-refused : goal.returns-in_err-directory-clause-refused
+returns-in_err-directory-clause-refused g c =
+    let volumes = subst (λ (actions : List Action). AreFirstVolumes c.args.store.now c.first_volumes.new.store c.args.group actions c.in_ok-datasets.datasets) c.actions.ensures
+    c.in_ok-datasets.ensures.places in
+    passed_on _ _ _ c.from_residual-in_err-directory.ensures.1
+    (first_datasets_refused c.args.store.now c.first_volumes.new.store c.args.group (config_view c.args.config.now) c.args.items.now c.in_ok-datasets.datasets _ c.in_ok-datasets.ensures.steps volumes
+    c.in_err-directory.ensures.refused)
 
 pub returns-in_err-changes-clause-steps : goal.returns-in_err-changes-clause-steps
-returns-in_err-changes-clause-steps g c = steps_on _ _ _ _ c.in_ok-making.ensures.steps (steps_read _ _ _ c.in_err-changes.ensures.reads)
+returns-in_err-changes-clause-steps g c = steps_on _ _ _ _ c.in_ok-datasets.ensures.steps (steps_read _ _ _ c.in_err-changes.ensures.reads)
 
 pub returns-in_err-changes-clause-known : goal.returns-in_err-changes-clause-known
 returns-in_err-changes-clause-known g c =
     let made = c.in_ok-directory.field-0 in
     passed_on _ _ _ c.from_residual-in_err-changes.ensures.1 (λ stored planned plans unused honest good.
-    let steps = c.in_ok-making.ensures.steps in
-    let volumes = c.in_ok-making.ensures.value stored planned plans
+    let steps = c.in_ok-datasets.ensures.steps in
+    let volumes = c.in_ok-datasets.ensures.value stored planned plans
     (true_before c.args.store.now c.first_volumes.new.store c.first_maps.new.store c.in_err-changes.ensures.reads.reads honest) in
     let pool = fold (λ p a. pool_changed c.args.group p a.change) no_volumes c.actions.result.now in
     inl (c.in_err-changes.ensures.known
-    (first_of_others (config_view c.args.config.now) c.in_ok-making.making made.changes.items c.in_ok-making.ensures.ready c.in_ok-directory.ensures.tables made.next
-    c.in_ok-directory.ensures.next volumes.0 c.args.group volumes.3 pool volumes.4)
+    (first_of_others (config_view c.args.config.now) c.in_ok-datasets.datasets made.changes.items c.in_ok-directory.ensures.tables made.next
+    c.in_ok-directory.ensures.next volumes.0 c.args.group volumes.3 volumes.4 pool volumes.5)
     (unused_still c.args.store.now c.first_volumes.new.store steps unused)
     (true_after c.args.store.now c.first_volumes.new.store c.first_maps.new.store steps.reads honest)))
 
 pub returns-in_err-changes-clause-refused : goal.returns-in_err-changes-clause-refused
 returns-in_err-changes-clause-refused g c =
     let made = c.in_ok-directory.field-0 in
-    let volumes = subst (λ (actions : List Action). AreFirstVolumes c.args.store.now c.first_volumes.new.store c.args.group actions c.in_ok-making.making) c.actions.ensures
-    c.in_ok-making.ensures.places in
+    let volumes = subst (λ (actions : List Action). AreFirstVolumes c.args.store.now c.first_volumes.new.store c.args.group actions c.in_ok-datasets.datasets) c.actions.ensures
+    c.in_ok-datasets.ensures.places in
     IfErr-weaker c.from_residual-in_err-changes.result _ _
     (λ refusal why.
-    first_maps_refused c.args.store.now c.first_volumes.new.store c.args.group (config_view c.args.config.now) c.args.items.now c.in_ok-making.making made.changes.items made.next
-    c.in_ok-making.ensures.steps volumes c.in_ok-directory.ensures.tables c.in_ok-directory.ensures.next_is c.first_maps.new.store refusal why)
+    first_maps_refused c.args.store.now c.first_volumes.new.store c.args.group (config_view c.args.config.now) c.args.items.now c.in_ok-datasets.datasets made.changes.items made.next
+    c.in_ok-datasets.ensures.steps volumes c.in_ok-directory.ensures.tables c.in_ok-directory.ensures.next_is c.first_maps.new.store refusal why)
     (passed_on _ _ _ c.from_residual-in_err-changes.ensures.1 c.in_err-changes.ensures.refused)
 
 pub plan_root-requires-clause-order : goal.plan_root-requires-clause-order
@@ -68,10 +83,10 @@ plan_root-requires-clause-order g c =
 
 pub returns-in_err-root-clause-steps : goal.returns-in_err-root-clause-steps
 returns-in_err-root-clause-steps g c =
-    steps_on _ _ _ _ c.in_ok-making.ensures.steps (steps_on _ _ _ _ (steps_read _ _ _ c.in_ok-changes.ensures.reads) c.in_err-root.ensures.steps)
+    steps_on _ _ _ _ c.in_ok-datasets.ensures.steps (steps_on _ _ _ _ (steps_read _ _ _ c.in_ok-changes.ensures.reads) c.in_err-root.ensures.steps)
 
 pub returns-clause-steps : goal.returns-clause-steps
-returns-clause-steps g c = steps_on _ _ _ _ c.in_ok-making.ensures.steps (steps_on _ _ _ _ (steps_read _ _ _ c.in_ok-changes.ensures.reads) c.in_ok-root.ensures.steps)
+returns-clause-steps g c = steps_on _ _ _ _ c.in_ok-datasets.ensures.steps (steps_on _ _ _ _ (steps_read _ _ _ c.in_ok-changes.ensures.reads) c.in_ok-root.ensures.steps)
 
 pub returns-clause-value : goal.returns-clause-value
 returns-clause-value g c = λ stored planned plans unused honest.
@@ -79,20 +94,20 @@ returns-clause-value g c = λ stored planned plans unused honest.
     let second : Store = c.first_volumes.new.store in
     let third : Store = c.first_maps.new.store in
     let last : Store = c.plan_root.new.store in
-    let making = c.in_ok-making.making in
+    let datasets = c.in_ok-datasets.datasets in
     let made = c.in_ok-directory.field-0 in
     let whole : List ObjectChange = c.in_ok-changes.changes.items in
     let root = c.in_ok-root.root in
-    let steps = c.in_ok-making.ensures.steps in
+    let steps = c.in_ok-datasets.ensures.steps in
     let reads = c.in_ok-changes.ensures.reads in
     let behind = steps_on second third last [] (steps_read second third [] reads) c.in_ok-root.ensures.steps in
     let later_honest = true_after first second last steps.reads honest in
-    let volumes = c.in_ok-making.ensures.value stored planned plans (true_before first second last behind.reads honest) in
-    let spells = subst (λ (pool : PlainPool). SpellsMaking volumes.0 c.args.group nothing volumes.3 making pool)
-    (pool_first c.args.group c.args.items.now c.actions.result.now c.actions.ensures) volumes.4 in
+    let volumes = c.in_ok-datasets.ensures.value stored planned plans (true_before first second last behind.reads honest) in
+    let spells = subst (λ (pool : PlainPool). SpellsGroup volumes.0 c.args.group nothing datasets volumes.3 volumes.4 pool)
+    (pool_first c.args.group c.args.items.now c.actions.result.now c.actions.ensures) volumes.5 in
     let maps = c.in_ok-changes.ensures.value
-    (first_of_others (config_view c.args.config.now) making made.changes.items c.in_ok-making.ensures.ready c.in_ok-directory.ensures.tables made.next
-    c.in_ok-directory.ensures.next volumes.0 c.args.group volumes.3 (applied c.args.group no_volumes c.args.items.now) spells)
+    (first_of_others (config_view c.args.config.now) datasets made.changes.items c.in_ok-directory.ensures.tables made.next
+    c.in_ok-directory.ensures.next volumes.0 c.args.group volumes.3 volumes.4 (applied c.args.group no_volumes c.args.items.now) spells)
     (unused_still first second steps unused) (true_before second third last c.in_ok-root.ensures.steps.reads later_honest) in
     let planned_root = c.in_ok-root.ensures.value stored volumes.0 0 nothing [] (λ number. []) (reads.plans stored volumes.0 volumes.1) (no_objects stored 0 empty_meta refl) (omega arith)
     (true_after second third last reads.reads later_honest) in
@@ -101,9 +116,9 @@ returns-clause-value g c = λ stored planned plans unused honest.
     c.deref.ensures.value (planned_root.3, planned_root.6) in
     let places = subst (λ (cs : List ObjectChange). HasRootPlaces third last empty_meta c.args.group cs) c.deref.ensures.value c.in_ok-root.ensures.places in
     let same = subst (λ spaces. AreSameBefore spaces last.spaces) (ap (λ (s : Store). s.spaces) reads.rest) (root_places_same third last empty_meta c.args.group whole places) in
-    let is = first_value planned volumes.0 planned_root.0 c.args.group (config_view c.args.config.now) making made.changes.items c.in_ok-making.ensures.ready c.in_ok-directory.ensures.tables made.next
-    c.in_ok-directory.ensures.next whole c.in_ok-changes.ensures.others.0 root volumes.3 (applied c.args.group no_volumes c.args.items.now) second.spaces last.spaces planned_root.4 spells
-    volumes.2 planned_root.2 volumes.5 volumes.6 given planned_root.7 c.in_ok-root.ensures.born (maps.1, maps.2) same in (
+    let is = first_value planned volumes.0 planned_root.0 c.args.group (config_view c.args.config.now) datasets made.changes.items c.in_ok-directory.ensures.tables made.next
+    c.in_ok-directory.ensures.next whole c.in_ok-changes.ensures.others.0 maps.3 root volumes.3 volumes.4 (applied c.args.group no_volumes c.args.items.now) second.spaces last.spaces planned_root.4 spells
+    volumes.2 planned_root.2 volumes.6 volumes.7 given planned_root.7 c.in_ok-root.ensures.born (maps.1, maps.2) same in (
       planned_root.0,
       planned_root.1,
       λ block bytes known. planned_root.2 block bytes (volumes.2 block bytes known),
@@ -121,16 +136,16 @@ returns-in_err-root-clause-known g c =
     let third : Store = c.first_maps.new.store in
     let last : Store = c.plan_root.new.store in
     let made = c.in_ok-directory.field-0 in
-    let steps = c.in_ok-making.ensures.steps in
+    let steps = c.in_ok-datasets.ensures.steps in
     let reads = c.in_ok-changes.ensures.reads in
     passed_on _ _ _ c.from_residual-in_err-root.ensures.1 (λ stored planned plans unused honest good.
     let behind = steps_on second third last [] (steps_read second third [] reads) c.in_err-root.ensures.steps in
     let later_honest = true_after first second last steps.reads honest in
-    let volumes = c.in_ok-making.ensures.value stored planned plans (true_before first second last behind.reads honest) in
+    let volumes = c.in_ok-datasets.ensures.value stored planned plans (true_before first second last behind.reads honest) in
     let pool = fold (λ p a. pool_changed c.args.group p a.change) no_volumes c.actions.result.now in
     let maps = c.in_ok-changes.ensures.value
-    (first_of_others (config_view c.args.config.now) c.in_ok-making.making made.changes.items c.in_ok-making.ensures.ready c.in_ok-directory.ensures.tables made.next
-    c.in_ok-directory.ensures.next volumes.0 c.args.group volumes.3 pool volumes.4)
+    (first_of_others (config_view c.args.config.now) c.in_ok-datasets.datasets made.changes.items c.in_ok-directory.ensures.tables made.next
+    c.in_ok-directory.ensures.next volumes.0 c.args.group volumes.3 volumes.4 pool volumes.5)
     (unused_still first second steps unused) (true_before second third last c.in_err-root.ensures.steps.reads later_honest) in
     c.in_err-root.ensures.known stored volumes.0 0 nothing [] (λ number. []) (reads.plans stored volumes.0 volumes.1) (no_objects stored 0 empty_meta refl) (omega arith) (omega arith)
     (true_after second third last reads.reads later_honest)
@@ -139,22 +154,22 @@ returns-in_err-root-clause-known g c =
 pub returns-clause-places : goal.returns-clause-places
 returns-clause-places g c =
     let made = c.in_ok-directory.field-0 in
-    let volumes = subst (λ (actions : List Action). AreFirstVolumes c.args.store.now c.first_volumes.new.store c.args.group actions c.in_ok-making.making) c.actions.ensures
-    c.in_ok-making.ensures.places in
-    first_has c.args.store.now c.first_volumes.new.store c.args.group (config_view c.args.config.now) c.args.items.now c.in_ok-making.making made.changes.items made.next
-    c.in_ok-making.ensures.steps volumes c.in_ok-directory.ensures.tables c.in_ok-directory.ensures.next_is c.first_maps.new.store c.plan_root.new.store c.in_ok-changes.changes.items
+    let volumes = subst (λ (actions : List Action). AreFirstVolumes c.args.store.now c.first_volumes.new.store c.args.group actions c.in_ok-datasets.datasets) c.actions.ensures
+    c.in_ok-datasets.ensures.places in
+    first_has c.args.store.now c.first_volumes.new.store c.args.group (config_view c.args.config.now) c.args.items.now c.in_ok-datasets.datasets made.changes.items made.next
+    c.in_ok-datasets.ensures.steps volumes c.in_ok-directory.ensures.tables c.in_ok-directory.ensures.next_is c.first_maps.new.store c.plan_root.new.store c.in_ok-changes.changes.items
     c.in_ok-changes.ensures.reads c.in_ok-changes.ensures.others
     (subst (λ (cs : List ObjectChange). HasRootPlaces c.first_maps.new.store c.plan_root.new.store empty_meta c.args.group cs) c.deref.ensures.value c.in_ok-root.ensures.places)
 
 pub returns-in_err-root-clause-refused : goal.returns-in_err-root-clause-refused
 returns-in_err-root-clause-refused g c =
     let made = c.in_ok-directory.field-0 in
-    let volumes = subst (λ (actions : List Action). AreFirstVolumes c.args.store.now c.first_volumes.new.store c.args.group actions c.in_ok-making.making) c.actions.ensures
-    c.in_ok-making.ensures.places in
+    let volumes = subst (λ (actions : List Action). AreFirstVolumes c.args.store.now c.first_volumes.new.store c.args.group actions c.in_ok-datasets.datasets) c.actions.ensures
+    c.in_ok-datasets.ensures.places in
     IfErr-weaker c.from_residual-in_err-root.result _ _
     (λ refusal why.
-    first_set_refused c.args.store.now c.first_volumes.new.store c.args.group (config_view c.args.config.now) c.args.items.now c.in_ok-making.making made.changes.items made.next
-    c.in_ok-making.ensures.steps volumes c.in_ok-directory.ensures.tables c.in_ok-directory.ensures.next_is c.first_maps.new.store c.plan_root.new.store c.in_ok-changes.changes.items refusal
+    first_set_refused c.args.store.now c.first_volumes.new.store c.args.group (config_view c.args.config.now) c.args.items.now c.in_ok-datasets.datasets made.changes.items made.next
+    c.in_ok-datasets.ensures.steps volumes c.in_ok-directory.ensures.tables c.in_ok-directory.ensures.next_is c.first_maps.new.store c.plan_root.new.store c.in_ok-changes.changes.items refusal
     c.in_ok-changes.ensures.reads c.in_ok-changes.ensures.others
     (subst (λ (cs : List ObjectChange). IsRootRefused c.first_maps.new.store c.plan_root.new.store empty_meta c.args.group c.args.group cs refusal) c.deref.ensures.value why))
     (passed_on _ _ _ c.from_residual-in_err-root.ensures.1 c.in_err-root.ensures.refused)

@@ -13,13 +13,12 @@ use Rattle.pool_model.specs.Pools.{changed as pool_changed}
 use Rattle.dnode.specs.declared.object_set.ObjectSet.{ObjectSet}
 use Rattle.dnode.specs.declared.object_set.ObjectSetKind.TheVariants.{Meta}
 use Rattle.block_pointer.specs.declared.block.Block.{Block}
-use Rattle.dnode_tree.specs.Subtree.{joined}
 use Rattle.objset.specs.Within.{blocks_of_set}
 use Rattle.pool_model.specs.Pools.{PlainPool}
-use Rattle.dataset_snapshots.specs.Reach.{parts_of}
+use Rattle.dataset_snapshots.specs.Reach.{volume_blocks_of}
 use Rattle.dataset_snapshots.proofs.GroupReach.{AreVolumesGiven, IsRootGiven}
-use Rattle.dataset_snapshots.specs.Making.{AreGoodCreations}
-use Rattle.dataset_snapshots.proofs.Datasets.{are_of_root}
+use Rattle.dataset_groups.specs.NewVolumes.{AreGoodCreations}
+use Rattle.objset.specs.Objects.{AreObjects}
 use Rattle.std.specs.Prelude.{AllPairs}
 use Rattle.std.proofs.Common.{◌<◌}
 use Rattle.block_store.specs.Places.{filled}
@@ -81,11 +80,12 @@ returns-clause-value g c =
     λ stored planned pool plans is same maps honest.
     let so_far = true_before old mid new c.plan_root.ensures.steps.reads honest in
     let early = c.in_ok-opened.ensures.early in
-    let le : c.args.root.now.birth ≤ c.args.group = omega (arith, early) in
+    let below : c.args.root.now.birth < c.args.group = omega (arith, early) in
+    let le : c.args.root.now.birth ≤ c.args.group = omega (arith, below) in
     let from = c.in_ok-opened.ensures.value stored pool plans.held is same (true_before old read mid second.reads so_far) in
-    let changes = c.in_ok-made.ensures.value stored planned _ c.args.root.now pool _ (first.plans stored planned plans) is refl le c.in_ok-opened.ensures.opened from
+    let changes = c.in_ok-made.ensures.value stored planned _ c.args.root.now pool _ (first.plans stored planned plans) is refl below c.in_ok-opened.ensures.opened from
     (subst (λ (spaces : List VdevSpace). AreMapsOf is.objects spaces filled) unchanged maps.maps) (true_after old read mid first.reads so_far) in
-    let are = are_of_root stored _ c.args.root.now pool c.in_ok-opened.opened.set is from.set in
+    let are = subst (λ (s : ObjectSet). AreObjects stored c.args.root.now.birth s is.objects is.own is.blocks) (sym from.set) is.are in
     let made = c.in_ok-next.ensures.value stored changes.0 c.args.root.now.birth is.objects is.own is.blocks changes.1 are le
     (true_after old mid new both.reads honest) in
     let list : List ObjectChange = c.in_ok-made.made.changes.items in
@@ -96,17 +96,17 @@ returns-clause-value g c =
     c.in_ok-opened.ensures.kind of_list in
     let set = subst (λ (s : ObjectSet). IsRootGiven changes.0 made.0 c.args.group root Meta (changed list is.objects) (blocks_of_set s is.own is.blocks) made.4) from.set of_kind in
     let items : List Action → PlainPool = λ actions. fold (λ p a. pool_changed c.args.group p a.change) (fold written pool c.args.items.now.writes) actions in
-    let before : List Block = joined (parts_of stored c.args.root.now.birth is.objects is.rows pool.volumes is.volumes) in
-    let of_items : AreVolumesGiven planned changes.0 c.args.group is.objects list changes.3 (items c.args.items.now.actions) before gone c.in_ok-made.made.directory =
-    subst (λ (actions : List Action). AreVolumesGiven planned changes.0 c.args.group is.objects list changes.3 (items actions) before gone c.in_ok-made.made.directory)
-    c.actions.ensures (changes.4, changes.5, changes.6) in
+    let before : List Block = volume_blocks_of is in
+    let of_items : AreVolumesGiven planned changes.0 c.args.group is.objects list (items c.args.items.now.actions) before gone c.in_ok-made.made.directory =
+    subst (λ (actions : List Action). AreVolumesGiven planned changes.0 c.args.group is.objects list (items actions) before gone c.in_ok-made.made.directory)
+    c.actions.ensures (changes.3, changes.4, changes.5) in
     let replaced_is : c.plan_root.new.replaced.items ≡ ((c.args.root.now ∷ []) ++ gone) ++ made.4 =
     made.5 ∙ ap (λ (bs : List Block). bs ++ made.4) (c.in_ok-extend_from_slice.ensures.items ∙ ap (λ (bs : List Block). bs ++ c.deref.result.now) c.in_ok-replaced.ensures
     ∙ ap (λ (bs : List Block). (c.args.root.now ∷ []) ++ bs) c.deref.ensures.value) in
     let places = subst (λ (cs : List ObjectChange). HasRootPlaces mid new c.in_ok-opened.opened.set c.args.group cs) c.deref-2.ensures.value c.in_ok-next.ensures.places in
     let same_before = root_places_same mid new c.in_ok-opened.opened.set c.args.group list places in
-    group_value stored planned changes.0 made.0 _ c.args.group c.args.root.now root pool (applied c.args.group pool c.args.items.now) is maps.copied changes.3 list
-    gone made.4 c.plan_root.new.replaced.items c.in_ok-made.made.directory mid new changes.1.held made.1 changes.2 made.2 of_items changes.7 set made.7 c.in_ok-next.ensures.born replaced_is changes.8 same_before
+    group_value stored planned changes.0 made.0 _ c.args.group c.args.root.now root pool (applied c.args.group pool c.args.items.now) is maps.copied list
+    gone made.4 c.plan_root.new.replaced.items c.in_ok-made.made.directory mid new changes.1.held made.1 changes.2 made.2 of_items changes.6 set made.7 c.in_ok-next.ensures.born replaced_is changes.7 same_before
 
 pub returns-in_err-next-clause-steps : goal.returns-in_err-next-clause-steps
 returns-in_err-next-clause-steps g c = steps_on _ _ _ _ (steps_on _ _ _ _ (steps_read _ _ _ c.in_ok-opened.ensures.reads) c.in_ok-made.ensures.steps) c.plan_root.ensures.steps
@@ -127,14 +127,15 @@ returns-in_err-next-clause-known g c =
     passed_on _ _ _ c.from_residual-in_err-next.ensures.1 (λ stored planned pool plans is same maps stands honest good.
     let so_far = true_before old mid new c.plan_root.ensures.steps.reads honest in
     let early = c.in_ok-opened.ensures.early in
-    let le : c.args.root.now.birth ≤ c.args.group = omega (arith, early) in
+    let below : c.args.root.now.birth < c.args.group = omega (arith, early) in
+    let le : c.args.root.now.birth ≤ c.args.group = omega (arith, below) in
     let from = c.in_ok-opened.ensures.value stored pool plans.held is same (true_before old read mid second.reads so_far) in
-    let changes = c.in_ok-made.ensures.value stored planned _ c.args.root.now pool _ (first.plans stored planned plans) is refl le c.in_ok-opened.ensures.opened from
+    let changes = c.in_ok-made.ensures.value stored planned _ c.args.root.now pool _ (first.plans stored planned plans) is refl below c.in_ok-opened.ensures.opened from
     (subst (λ (spaces : List VdevSpace). AreMapsOf is.objects spaces filled) unchanged maps.maps) (true_after old read mid first.reads so_far) in
-    let are = are_of_root stored _ c.args.root.now pool c.in_ok-opened.opened.set is from.set in
+    let are = subst (λ (s : ObjectSet). AreObjects stored c.args.root.now.birth s is.objects is.own is.blocks) (sym from.set) is.are in
     c.in_err-next.ensures.known stored changes.0 c.args.root.now.birth is.objects is.own is.blocks changes.1 are (omega arith) le
     (true_after old mid new both.reads honest)
-    (subst (All (λ (change : ObjectChange). MayChange change.change (is.objects change.number))) (sym c.deref-2.ensures.value) changes.4.may))
+    (subst (All (λ (change : ObjectChange). MayChange change.change (is.objects change.number))) (sym c.deref-2.ensures.value) changes.3.may))
 
 pub returns-in_err-opened-clause-refused : goal.returns-in_err-opened-clause-refused
 returns-in_err-opened-clause-refused g c =

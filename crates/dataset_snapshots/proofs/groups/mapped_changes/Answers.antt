@@ -1,20 +1,18 @@
-use Rattle.std.proofs.Common.{◌++◌, ◌≤◌, List, [], inl, inr, sym, ap, subst, ◌∙◌, ⊎_elim, arith}
+use Rattle.std.proofs.Common.{◌++◌, length, List, [], inl, inr, sym, ap, subst, ◌∙◌, ⊎_elim, arith}
 use Rattle.block_pointer.specs.declared.block.Block.{Block}
 use Rattle.block_store.proofs.Steps.{steps_on, steps_read, true_before, true_after}
 use Rattle.block_store.specs.Spaces.{VdevSpace}
 use Rattle.dnode_tree.proofs.Losses.{loss_in_plan}
 use Rattle.dnode_tree.proofs.Refusing.{passed_on}
-use Rattle.dnode_tree.specs.Subtree.{joined}
-use Rattle.meta_objset.specs.declared.directory.DirectoryRow.{DirectoryRow}
+use Rattle.dnode.specs.declared.object_set.ObjectSet.{ObjectSet}
 use Rattle.objset.specs.Objects.{AreObjects}
 use Rattle.pool_maps.specs.Plans.{AreSparing, MapAnew}
 use Rattle.pool_maps.proofs.Givable.{sized_given_back}
 use Rattle.pool_maps.proofs.Underway.{spaces_stay}
-use Rattle.dataset_snapshots.specs.Demands.{first_number}
-use Rattle.dataset_snapshots.specs.Leaving.{IsReachExchanged}
-use Rattle.dataset_snapshots.specs.Reach.{blocks_listed, parts_of}
-use Rattle.dataset_snapshots.proofs.Datasets.{are_of_root}
-use Rattle.dataset_snapshots.proofs.MappedGroups.{others_are, spells_with_maps}
+use Rattle.dataset_groups.specs.Names.{reach_by}
+use Rattle.dataset_groups.specs.Leaving.{IsReachExchanged}
+use Rattle.dataset_snapshots.specs.Reach.{volume_blocks_of}
+use Rattle.dataset_snapshots.proofs.MappedGroups.{others_are, spells_with_maps, unmade_from}
 use Rattle.dataset_snapshots.proofs.MapsUnderway.{gone_in_use, gone_once, gone_stored, have_filled, maps_on}
 use Rattle.dataset_snapshots.proofs.groups.mapped_changes.Goals as goal
 
@@ -78,14 +76,14 @@ returns-in_err-changes-clause-known g c =
     let before = true_before old mid new c.plan_maps.ensures.reads.reads honest in
     let made = c.in_ok-made.ensures.value stored planned birth root pool writes plans is (omega (arith, born, le)) opens from before in
     let Given : List Block → Type 0 =
-    λ them. IsReachExchanged c.args.group planned made.0 (joined (parts_of stored root.birth is.objects is.rows pool.volumes is.volumes)) (blocks_listed made.3 made.4.rows) them in
-    let given : Given c.deref.result.now = subst Given (sym (gone_is ∙ (made.6 ∙ ap (λ (front : List Block). front ++ made.5) c.requires.none))) made.7 in
+    λ them. IsReachExchanged c.args.group planned made.0 (volume_blocks_of is) (reach_by made.3.datasets made.3.rows) them in
+    let given : Given c.deref.result.now = subst Given (sym (gone_is ∙ (made.5 ∙ ap (λ (front : List Block). front ++ made.4) c.requires.none))) made.6 in
     let now = maps_on is.objects old.spaces mid.spaces steps.shapes (have_filled old.spaces mid.spaces steps.filled) maps in
-    let next_high : first_number c.args.opened.set ≤ next = let next_is = volumes.next_is in omega (arith, next_is) in
-    let others = others_are stored birth root pool writes is c.args.opened opens from volumes.made changes volumes.changes_are mid.spaces now next c.in_ok-made.ensures.next next_high made.4.may in
+    let unmade = unmade_from stored birth root pool is c.args.opened.set next (length volumes.made) from.set volumes.next_is in
+    let others = others_are is.objects mid.spaces now changes next c.in_ok-made.ensures.next unmade made.9 made.3.may in
     let released = sized_given_back mid stored made.0 c.deref.result.now c.args.group made.1 (gone_stored stored birth root pool is c.args.group planned made.0 _ _ given)
     (gone_once stored birth root pool is c.args.group planned made.0 _ _ given old mid stands) (gone_in_use stored birth root pool is c.args.group planned made.0 _ _ given old mid stands steps) c.are_sized.ensures in
-    let are = subst (λ n. AreObjects stored n c.args.opened.set is.objects is.own is.blocks) born (are_of_root stored birth root pool c.args.opened.set is from.set) in
+    let are = subst (λ n. AreObjects stored n c.args.opened.set is.objects is.own is.blocks) born (subst (λ (s : ObjectSet). AreObjects stored root.birth s is.objects is.own is.blocks) (sym from.set) is.are) in
     ⊎_elim (λ loss. loss_in_plan _ loss) (λ space. inl (inr space))
     (c.in_err-changes.ensures.known stored is.objects is.own is.blocks made.1.held are (true_after old mid new steps.reads honest) now others released.0 c.args.group released.1))
 
@@ -102,26 +100,23 @@ returns-clause-value g c = λ stored planned birth root pool writes plans is bor
     let before = true_before old mid new c.plan_maps.ensures.reads.reads honest in
     let made = c.in_ok-made.ensures.value stored planned birth root pool writes plans is (omega (arith, born, le)) opens from before in
     let Given : List Block → Type 0 =
-    λ them. IsReachExchanged c.args.group planned made.0 (joined (parts_of stored root.birth is.objects is.rows pool.volumes is.volumes)) (blocks_listed made.3 made.4.rows) them in
+    λ them. IsReachExchanged c.args.group planned made.0 (volume_blocks_of is) (reach_by made.3.datasets made.3.rows) them in
     let now = maps_on is.objects old.spaces mid.spaces steps.shapes (have_filled old.spaces mid.spaces steps.filled) maps in
-    let next_high : first_number c.args.opened.set ≤ next = let next_is = volumes.next_is in omega (arith, next_is) in
-    let others = others_are stored birth root pool writes is c.args.opened opens from volumes.made changes volumes.changes_are mid.spaces now next c.in_ok-made.ensures.next next_high made.4.may in
-    let are = subst (λ n. AreObjects stored n c.args.opened.set is.objects is.own is.blocks) born (are_of_root stored birth root pool c.args.opened.set is from.set) in
+    let unmade = unmade_from stored birth root pool is c.args.opened.set next (length volumes.made) from.set volumes.next_is in
+    let others = others_are is.objects mid.spaces now changes next c.in_ok-made.ensures.next unmade made.9 made.3.may in
+    let are = subst (λ n. AreObjects stored n c.args.opened.set is.objects is.own is.blocks) born (subst (λ (s : ObjectSet). AreObjects stored root.birth s is.objects is.own is.blocks) (sym from.set) is.are) in
     let planned_maps = c.in_ok-changes.ensures.value stored is.objects is.own is.blocks made.1.held are (true_after old mid new steps.reads honest) now others in
     let replaced = c.changes_of.new.replaced.items in
-    let spells = spells_with_maps stored birth root pool writes is c.args.opened opens from volumes.made changes volumes.changes_are mid.spaces now next c.in_ok-made.ensures.next next_high
-    all planned_maps.2 made.0 c.args.group made.3 _ planned_maps.0 made.4 in
-    let given : Given replaced = subst Given (sym (made.6 ∙ ap (λ (front : List Block). front ++ made.5) c.requires.none)) made.7 in
+    let spells = spells_with_maps is.objects mid.spaces now changes next c.in_ok-made.ensures.next unmade made.9 all planned_maps.2 planned_maps.3 planned_maps.0 made.0 c.args.group _ made.3 in
+    let given : Given replaced = subst Given (sym (made.5 ∙ ap (λ (front : List Block). front ++ made.4) c.requires.none)) made.6 in
     let same = spaces_stay mid new [] c.plan_maps.ensures.reads in (
       made.0,
       c.plan_maps.ensures.reads.plans stored made.0 made.1,
       made.2,
-      made.3,
-      spells.0,
-      subst (λ (rows : List DirectoryRow). IsReachExchanged c.args.group planned made.0 (joined (parts_of stored root.birth is.objects is.rows pool.volumes is.volumes)) (blocks_listed made.3 rows) replaced)
-          (sym spells.1) given,
-      spells.1 ∙ made.8,
-      made.9,
+      spells,
+      given,
+      made.7,
+      made.8,
       subst (λ (spaces : List VdevSpace). MapAnew is.objects spaces replaced all) (sym same)
           (subst (λ (them : List Block). MapAnew is.objects mid.spaces them all) c.deref.ensures.value planned_maps.1),
     )

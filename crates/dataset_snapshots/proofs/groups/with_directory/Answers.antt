@@ -1,54 +1,46 @@
-use Rattle.dataset_snapshots.specs.declared.making.Making.{Making}
-use Rattle.dataset_snapshots.specs.Making.{IsReady}
-use Rattle.std.proofs.lemmas.List.Elements.{All-cons, All-weaker}
-use Rattle.std.proofs.Common.{◌≡◌, ◌∷◌, ℕ, List, length, refl, sym, ap, ◌∙◌, subst, arith, All, ◌<◌}
+use Rattle.std.proofs.Common.{◌≡◌, ◌<◌, List, ◌∷◌, Bool, IsTrue, All, inr, refl, ap, subst, sym, ◌∙◌, arith}
+use Rattle.meta_objset.specs.declared.directory.DirectoryRow.{DirectoryRow}
 use Rattle.objset.specs.declared.changes.Change.{Change}
 use Rattle.objset.specs.declared.changes.ObjectChange.{ObjectChange}
-use Rattle.dataset_snapshots.specs.Demands.{WritesDirectory}
-use Rattle.dataset_snapshots.specs.Groups.{SpellsAfter}
-use Rattle.dataset_snapshots.proofs.GroupRoot.{after_made, after_none}
+use Rattle.dataset_snapshots.specs.Demands.{WritesRows}
+use Rattle.dataset_snapshots.proofs.BelowNext.{some_behind}
 use Rattle.dataset_snapshots.proofs.groups.with_directory.Goals as goal
+use Rattle.dataset_snapshots.proofs.groups.with_directory.Goals.{then-next-first+in_ok-change+in_ok-put_first, else-next-first}
 
-pub returns-then-len-count-clause-value : goal.returns-then-len-count-clause-value
-returns-then-len-count-clause-value c = λ stored birth objects lists pool rows directory spells same.
-    after_none stored birth objects lists c.args.making pool rows c.requires.ready directory spells (same (omega (arith, c.len.ensures, c.if-len-count.true, c.args.making.changes.ok.0)))
+pub returns-then-not-are_below-clause-refused : goal.returns-then-not-are_below-clause-refused
+returns-then-not-are_below-clause-refused c =
+    let P : List ObjectChange → Type 0 = λ changes. All (λ change. change.number < c.args.datasets.next) changes in
+    inr (
+      refl,
+      inr (
+        c.in_ok-changes.changes.items,
+        c.in_ok-changes.ensures.are,
+        some_behind c.args.datasets.next c.in_ok-changes.changes.items c.are_below.result (λ all. c.are_below.ensures.1 (subst P (sym c.deref.ensures.value) all))
+            (λ is. let wrong = subst (λ (b : Bool). IsTrue b) c.if-not-are_below.true is in cc),
+      ),
+    )
 
-pub returns-clause-value : goal.returns-clause-value
-returns-clause-value c = λ stored birth objects lists pool rows directory spells same.
-    subst (λ (changes : List ObjectChange). (then : SpellsAfter stored birth objects lists changes pool) × (then.rows ≡ c.args.making.directory)) (sym c.in_ok-put_first.ensures)
-    (after_made stored birth objects lists c.args.making pool rows c.requires.ready directory spells c.in_ok-change.change c.in_ok-change.ensures.number c.in_ok-change.ensures.may
-    c.in_ok-change.ensures.made)
-
-pub returns-then-len-count-clause-more : goal.returns-then-len-count-clause-more
-returns-then-len-count-clause-more c = λ other. absurd (other (omega (arith, c.len.ensures, c.if-len-count.true, c.args.making.changes.ok.0)))
-
-pub returns-clause-same : goal.returns-clause-same
-returns-clause-same c = λ same. absurd (c.if-len-count.false (omega (arith, c.len.ensures, same, c.args.making.changes.ok.0)))
-
-first_is : (names : ℕ) (changes all : List ObjectChange) (first : ObjectChange) → all ≡ first ∷ changes → first.number ≡ 1 → WritesDirectory names first.change
-    → (directory : Change) × WritesDirectory names directory × (all ≡ record { number = 1; change = directory } ∷ changes)
-first_is names changes all first is number writes =
+first_is : (rows : List DirectoryRow) (changes all : List ObjectChange) (first : ObjectChange) → all ≡ first ∷ changes → first.number ≡ 1 → WritesRows rows first.change
+    → (directory : Change) × WritesRows rows directory × (all ≡ record { number = 1; change = directory } ∷ changes)
+first_is rows changes all first is number writes =
     (first.change, writes, is ∙ ap (λ n. record { number = n; change = first.change } ∷ changes) number)
 
-pub returns-clause-more : goal.returns-clause-more
-returns-clause-more c = λ other.
-    let directory = c.in_ok-change.ensures in
-    first_is (length c.args.making.directory) c.args.making.changes.items _ c.in_ok-change.change c.in_ok-put_first.ensures directory.number
-    (c.args.making.directory, refl, λ object is. (directory.may object is, directory.made object is))
-
-below_next : (making : Making) → IsReady making → All (λ change. change.number < making.next) making.changes.items
-below_next making ready =
-    All-weaker (λ (change : ObjectChange). (4 < change.number) × (change.number < making.next)) (λ change. change.number < making.next) (λ change both. both.1) making.changes.items ready.numbers
-
-pub returns-then-len-count-clause-next : goal.returns-then-len-count-clause-next
-returns-then-len-count-clause-next c = record { below = below_next c.args.making c.requires.ready; behind = c.requires.ready.behind; within = c.requires.ready.within }
-
-pub returns-clause-next : goal.returns-clause-next
-returns-clause-next c =
-    let ready = c.requires.ready in record {
-      below = subst (All (λ (change : ObjectChange). change.number < c.args.making.next)) (sym c.in_ok-put_first.ensures)
-          (All-cons (λ (change : ObjectChange). change.number < c.args.making.next) c.in_ok-change.change c.args.making.changes.items
-          (let behind = ready.behind in omega (arith, c.in_ok-change.ensures.number, behind)) (below_next c.args.making ready));
-      behind = ready.behind;
-      within = ready.within;
-    }
+pub returns-clause-changes : goal.returns-clause-changes
+returns-clause-changes c =
+    elim c.if-next-first.branch [
+      | then-next-first+in_ok-change+in_ok-put_first w ↦
+          let directory = w.in_ok-change.ensures in (
+            c.in_ok-changes.changes.items,
+            c.in_ok-changes.ensures.are,
+            λ same. absurd (omega (arith, same, w.if-next-first.true)),
+            λ other.
+                first_is c.args.datasets.directory c.in_ok-changes.changes.items c.if-next-first.changes.items w.in_ok-change.change (ap (λ made. made.items) w.changes-is ∙ w.in_ok-put_first.ensures)
+                directory.number (λ object is. (directory.may object is, directory.made object is)),
+          )
+      | else-next-first w ↦ (
+        c.in_ok-changes.changes.items,
+        c.in_ok-changes.ensures.are,
+        λ same. ap (λ made. made.items) w.changes-is,
+        λ other. absurd (other (omega (arith, w.if-next-first.false))),
+      )
+    ]

@@ -9,6 +9,7 @@ use Rattle.meta_objset.specs.declared.directory.DirectoryRow.{DirectoryRow}
 use Rattle.object_table.proofs.Tables.{spaces_stay}
 use Rattle.dataset_snapshots.specs.Contents.{AreVolumesNamed, IsRowUnnamed}
 use Rattle.dataset_snapshots.specs.Pools.{SpellsDataset}
+use Rattle.dataset_snapshots.proofs.Chained.{volumes_of}
 use Rattle.dataset_snapshots.proofs.Datasets.{are_of_root}
 use Rattle.dataset_snapshots.proofs.naming.names_by.Goals as goal
 
@@ -31,7 +32,7 @@ returns-clause-value g c =
     let are = are_of_root stored _ _ pool _ is (c.in_ok-set.ensures.value stored is.set held is.is_set (true_before _ _ _ _ first rest honest)) in
     let rows_are : c.rows.result.now ≡ is.rows = c.rows.ensures.value ∙ same in
     told stored is.objects is.own is.blocks pool.volumes (first.keeps stored held) are
-    (subst (λ (rows : List DirectoryRow). AllZip (SpellsDataset stored c.args.root.now.birth is.objects) rows pool.volumes) (sym rows_are) is.volumes) (true_after _ _ _ _ first rest honest))
+    (subst (λ (rows : List DirectoryRow). AllZip (SpellsDataset stored c.args.root.now.birth is.objects) rows pool.volumes) (sym rows_are) (volumes_of is)) (true_after _ _ _ _ first rest honest))
     c.names_of.ensures.value
 
 pub returns-clause-found : goal.returns-clause-found
@@ -66,5 +67,5 @@ returns-clause-known g c =
     let are = are_of_root stored _ _ pool _ is (c.in_ok-set.ensures.value stored is.set held is.is_set (true_before _ _ _ _ first rest honest)) in
     let rows_are : c.rows.result.now ≡ is.rows = c.rows.ensures.value ∙ same in
     known stored is.objects is.own is.blocks pool.volumes (first.keeps stored held) are
-    (subst (λ (rows : List DirectoryRow). AllZip (SpellsDataset stored c.args.root.now.birth is.objects) rows pool.volumes) (sym rows_are) is.volumes) (true_after _ _ _ _ first rest honest))
+    (subst (λ (rows : List DirectoryRow). AllZip (SpellsDataset stored c.args.root.now.birth is.objects) rows pool.volumes) (sym rows_are) (volumes_of is)) (true_after _ _ _ _ first rest honest))
     c.names_of.ensures.known

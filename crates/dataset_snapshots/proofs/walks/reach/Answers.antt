@@ -9,10 +9,10 @@ use Rattle.dnode.specs.declared.object_set.ObjectSet.{ObjectSet}
 use Rattle.dnode_tree.proofs.FurtherReads.{true_before, true_after}
 use Rattle.dnode_tree.proofs.Refusing.{passed_on}
 use Rattle.dnode_tree.specs.Rewriting.{AreDistinct}
-use Rattle.dnode_tree.specs.Subtree.{joined}
 use Rattle.objset.specs.Within.{blocks_of_objects, blocks_of_set, reads_of, IsSetWalked}
-use Rattle.dataset_snapshots.specs.Reach.{parts_of, reach_of}
+use Rattle.dataset_snapshots.specs.Reach.{reach_of, volume_blocks_of}
 use Rattle.dataset_snapshots.proofs.BlocksOnce.{back_once, front_once, set_once}
+use Rattle.dataset_snapshots.proofs.Chained.{parts_are_reach, volumes_of}
 use Rattle.dataset_snapshots.proofs.Datasets.{are_of_root}
 use Rattle.dataset_snapshots.proofs.Reaching.{parts_are, reached_by, reads_few}
 use Rattle.dataset_snapshots.proofs.WalkedRows.{set_few}
@@ -48,7 +48,7 @@ returns-in_err-own-clause-known g c =
     passed_on _ _ _ c.from_residual-in_err-own.ensures.1 (λ stored pool held is once long honest.
     let same : c.in_ok-set.set ≡ is.set = c.in_ok-set.ensures.value stored is.set held is.is_set (true_before _ _ _ _ first rest honest) in
     let own : List Block = blocks_of_set is.set is.own is.blocks in
-    let below : List Block = joined (parts_of stored c.args.root.now.birth is.objects is.rows pool.volumes is.volumes) in
+    let below : List Block = volume_blocks_of is in
     let each = set_once stored c.args.root.now.birth is.set is.objects is.own is.blocks is.are (front_once own below (back_once (c.args.root.now ∷ []) (own ++ below) once)) in
     let few = reads_few is.own (blocks_of_objects is.set is.blocks) in
     c.in_err-own.ensures.known stored is.objects is.own is.blocks (first.keeps stored held) (are_of_root stored _ _ pool _ is same) each
@@ -87,14 +87,15 @@ returns-in_err-below-clause-known g c =
     let same : c.in_ok-set.set ≡ is.set = c.in_ok-set.ensures.value stored is.set held is.is_set (true_before _ _ _ _ first second before) in
     let are = are_of_root stored _ _ pool _ is same in
     let own : List Block = blocks_of_set is.set is.own is.blocks in
-    let below : List Block = joined (parts_of stored c.args.root.now.birth is.objects is.rows pool.volumes is.volumes) in
+    let below : List Block = volume_blocks_of is in
     let own_is : c.in_ok-own.own.items ≡ own =
     c.in_ok-own.ensures.blocks stored is.objects is.own is.blocks (first.keeps stored held) are (true_after _ _ _ _ first second before)
     ∙ ap (λ (set : ObjectSet). blocks_of_set set is.own is.blocks) same in
     let few = set_few _ _ _ _ _ _ c.in_ok-own.ensures.count in
-    c.in_err-below.ensures.known stored is.objects is.own is.blocks is.rows pool.volumes (both.keeps stored held) are is.directory is.volumes
-    (back_once own below (back_once (c.args.root.now ∷ []) (own ++ below) once))
-    (omega (arith, few, ap length own_is, length-append own below, c.in_ok-set.ensures.count, long))
+    c.in_err-below.ensures.known stored is.objects is.own is.blocks is.rows pool.volumes (both.keeps stored held) are is.directory (volumes_of is)
+    (subst (λ (them : List Block). AreDistinct them) (sym (parts_are_reach is)) (back_once own below (back_once (c.args.root.now ∷ []) (own ++ below) once)))
+    (subst (λ (them : List Block). length them ≤ c.walk_within.new.left) (sym (parts_are_reach is))
+    (omega (arith, few, ap length own_is, length-append own below, c.in_ok-set.ensures.count, long)))
     (true_after _ _ _ _ both third honest))
 
 pub returns-in_err-found-clause-reads : goal.returns-in_err-found-clause-reads
@@ -123,11 +124,11 @@ returns-clause-reach g c =
     let same : c.in_ok-set.set ≡ is.set = c.in_ok-set.ensures.value stored is.set held is.is_set (true_before _ _ _ _ first second before) in
     let are = are_of_root stored _ _ pool _ is same in
     same_blocks ∙ (c.in_ok-found.ensures
-    ∙ parts_are c.args.root.now c.in_ok-own.own.items (blocks_of_set is.set is.own is.blocks) c.deref.result.now (joined (parts_of stored c.args.root.now.birth is.objects is.rows pool.volumes is.volumes))
+    ∙ parts_are c.args.root.now c.in_ok-own.own.items (blocks_of_set is.set is.own is.blocks) c.deref.result.now (volume_blocks_of is)
     (c.in_ok-own.ensures.blocks stored is.objects is.own is.blocks (first.keeps stored held) are (true_after _ _ _ _ first second before)
     ∙ ap (λ (set : ObjectSet). blocks_of_set set is.own is.blocks) same)
     (c.deref.ensures.value
-    ∙ c.in_ok-below.ensures.blocks stored is.objects is.own is.blocks is.rows pool.volumes (both.keeps stored held) are is.directory is.volumes (true_after _ _ _ _ both third honest))))
+    ∙ c.in_ok-below.ensures.blocks stored is.objects is.own is.blocks is.rows pool.volumes (both.keeps stored held) are is.directory (volumes_of is) (true_after _ _ _ _ both third honest) ∙ parts_are_reach is)))
     c.whole.ensures.same
 
 pub returns-clause-count : goal.returns-clause-count
@@ -169,10 +170,10 @@ returns-clause-known g c =
     let same : c.in_ok-set.set ≡ is.set = c.in_ok-set.ensures.value stored is.set held is.is_set (true_before _ _ _ _ first second before) in
     let are = are_of_root stored _ _ pool _ is same in
     let found_is : c.in_ok-found.found.items ≡ reach_of is =
-    c.in_ok-found.ensures ∙ parts_are c.args.root.now c.in_ok-own.own.items (blocks_of_set is.set is.own is.blocks) c.deref.result.now (joined (parts_of stored c.args.root.now.birth is.objects is.rows pool.volumes is.volumes))
+    c.in_ok-found.ensures ∙ parts_are c.args.root.now c.in_ok-own.own.items (blocks_of_set is.set is.own is.blocks) c.deref.result.now (volume_blocks_of is)
     (c.in_ok-own.ensures.blocks stored is.objects is.own is.blocks (first.keeps stored held) are (true_after _ _ _ _ first second before)
     ∙ ap (λ (set : ObjectSet). blocks_of_set set is.own is.blocks) same)
     (c.deref.ensures.value
-    ∙ c.in_ok-below.ensures.blocks stored is.objects is.own is.blocks is.rows pool.volumes (both.keeps stored held) are is.directory is.volumes (true_after _ _ _ _ both third honest)) in
+    ∙ c.in_ok-below.ensures.blocks stored is.objects is.own is.blocks is.rows pool.volumes (both.keeps stored held) are is.directory (volumes_of is) (true_after _ _ _ _ both third honest) ∙ parts_are_reach is) in
     ⊎_elim (λ memory. inl memory) (λ bad. absurd (bad.1 (subst (λ blocks. AreDistinct blocks) (sym found_is) once))) why)
     c.whole.ensures.refused

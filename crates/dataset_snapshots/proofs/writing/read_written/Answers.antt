@@ -1,86 +1,105 @@
-use Rattle.std.proofs.Common.{◌∙◌, inr, Contains, List, ap, sym, subst}
+use Rattle.std.proofs.Common.{◌∙◌, ℕ, inr, Contains, List, get_or, sym, subst, arith}
+use Rattle.std.specs.List.{AllZip}
 use Rattle.std.proofs.lemmas.List.{take_all}
 use Rattle.std.proofs.lemmas.List.Elements.{Contains-get_or}
+use Rattle.std.proofs.lemmas.List.Kept.{AllPairs-from_increasing}
 use Rattle.block_store.proofs.Steps.{reads_on}
+use Rattle.dataset_changes.specs.States.{set_of}
+use Rattle.dataset_groups.specs.declared.datasets.GroupDatasets.{GroupDatasets}
+use Rattle.dataset_groups.specs.declared.writing.WrittenHead.{WrittenHead}
+use Rattle.dataset_groups.specs.Writing.{FitsHead}
 use Rattle.dnode_tree.proofs.FurtherReads.{true_before, true_after}
 use Rattle.dnode_tree.proofs.Refusing.{passed_on}
-use Rattle.block_store.specs.Spaces.{VdevSpace}
-use Rattle.block_store.specs.Store.{Store}
-use Rattle.dataset_snapshots.specs.Opening.{IsWrittenFound, IsWrittenOf}
+use Rattle.meta_objset.specs.declared.directory.DirectoryRow.{DirectoryRow}
+use Rattle.dataset_snapshots.specs.Opening.{IsWrittenOf}
 use Rattle.dataset_snapshots.specs.Pools.{SpellsDataset}
-use Rattle.dataset_snapshots.specs.Writing.{FitsWritten, IsReadFrom}
-use Rattle.dataset_snapshots.specs.declared.writing.WrittenVolume.{WrittenVolume}
-use Rattle.dataset_snapshots.proofs.ChangedRows.{zip_has}
+use Rattle.dataset_snapshots.specs.Writing.{IsReadFrom}
+use Rattle.dataset_snapshots.proofs.HeadsRead.{found_first, from_kept, kept_on, objects_kept, rows_kept, unread_last}
 use Rattle.dataset_snapshots.proofs.Pushing.{all_more, mapped_more}
 use Rattle.dataset_snapshots.proofs.writing.read_written.Goals as goal
 
-pub returns-in_default-clause-reads : goal.returns-in_default-clause-reads
-returns-in_default-clause-reads g c = c.loop-object.invariant.reads
-
-pub returns-in_default-clause-known : goal.returns-in_default-clause-known
-returns-in_default-clause-known g c =
+pub read_one-requires-clause-row : goal.read_one-requires-clause-row
+read_one-requires-clause-row g c =
     let there = c.requires.rows c.loop-object.object-index 0 c.loop-object-test.true in
-    absurd (c.in_default.ensures.none there.0 there.1)
+    (there.0, (subst (λ (rows : List DirectoryRow). Contains rows there.0) (sym c.loop-object.invariant.kept.directory) there.1.0, there.1.1))
 
-pub returns-in_err-written-clause-reads : goal.returns-in_err-written-clause-reads
-returns-in_err-written-clause-reads g c = reads_on _ _ _ _ c.loop-object.invariant.reads c.read_one.ensures.reads
+pub read_one-requires-clause-born : goal.read_one-requires-clause-born
+read_one-requires-clause-born g c = c.loop-object.invariant.kept.one_set.1 ∙ c.requires.born
 
-pub returns-in_err-written-clause-known : goal.returns-in_err-written-clause-known
-returns-in_err-written-clause-known g c =
+pub read_one-requires-clause-unread : goal.read_one-requires-clause-unread
+read_one-requires-clause-unread g c = c.loop-object.invariant.unread c.loop-object.object-index (omega arith) c.loop-object-test.true
+
+pub returns-in_err-head-clause-reads : goal.returns-in_err-head-clause-reads
+returns-in_err-head-clause-reads g c = reads_on _ _ _ _ c.loop-object.invariant.reads c.read_one.ensures.reads
+
+pub returns-in_err-head-clause-known : goal.returns-in_err-head-clause-known
+returns-in_err-head-clause-known g c =
     let first = c.loop-object.invariant.reads in
+    let second = c.read_one.ensures.reads in
+    let old : GroupDatasets = c.args.datasets.now in
+    let mid : GroupDatasets = c.loop-object.datasets in
+    let kept = c.loop-object.invariant.kept in
     passed_on _ _ _ c.from_residual.ensures.1
     (λ stored there own blocks volumes held are spelled honest.
-    let to = zip_has (SpellsDataset stored c.args.birth there) c.args.directory.now volumes _ spelled c.in-Some.ensures.held.0 in
-    c.in_err-written.ensures.known stored there own blocks to.0 (first.keeps stored held) are to.1 (true_after _ _ _ _ first c.read_one.ensures.reads honest))
+    let so_far = c.loop-object.invariant.value stored there own blocks held are (true_before _ _ _ _ first second honest) in
+    c.in_err-head.ensures.known stored there own blocks volumes (first.keeps stored held) (objects_kept old mid kept stored c.args.birth there own blocks are)
+    (rows_kept old mid kept (λ (rows : List DirectoryRow). AllZip (SpellsDataset stored c.args.birth there) rows volumes) spelled) (true_after _ _ _ _ first second honest) so_far.2)
+
+pub returns-in_err-head-clause-refused : goal.returns-in_err-head-clause-refused
+returns-in_err-head-clause-refused g c =
+    passed_on _ _ _ c.from_residual.ensures.1
+    (inr (unread_last c.args.datasets.now c.loop-object.datasets c.loop-object.invariant.kept c.args.store.now c.loop-object.store c.args.birth c.args.items.now.writes c.loop-object.invariant.reads
+    c.read_one.new.store c.args.objects.now (get_or c.args.objects.now c.loop-object.object-index 0) _ (Contains-get_or c.args.objects.now c.loop-object.object-index 0 c.loop-object-test.true)
+    c.in_err-head.ensures.refused))
 
 pub returns-in_err-push-clause-reads : goal.returns-in_err-push-clause-reads
 returns-in_err-push-clause-reads g c = reads_on _ _ _ _ c.loop-object.invariant.reads c.read_one.ensures.reads
 
 pub loop-object-preserved : goal.loop-object-preserved
 loop-object-preserved g c =
-    let so_far : List WrittenVolume = c.loop-object.read.items in
-    let one : WrittenVolume = c.in_ok-written.written in
-    let now : List WrittenVolume = c.push.new.read.items in
+    let so_far : List WrittenHead = c.loop-object.read.items in
+    let one : WrittenHead = c.in_ok-head.head in
+    let now : List WrittenHead = c.push.new.read.items in
     let first = c.loop-object.invariant.reads in
-    let reads = c.read_one.ensures.reads in
+    let second = c.read_one.ensures.reads in
+    let old : GroupDatasets = c.args.datasets.now in
+    let mid : GroupDatasets = c.loop-object.datasets in
+    let new : GroupDatasets = c.read_one.new.datasets in
+    let kept = c.loop-object.invariant.kept in
+    let index = c.loop-object.object-index in
+    let objects : List ℕ = c.args.objects.now in
     record {
-      reads = reads_on _ _ _ _ first reads;
-      objects = mapped_more (λ (w : WrittenVolume). w.dataset.object) so_far now one c.args.objects.now c.loop-object.object-index 0 c.in_ok-push.ensures
-          (c.in_ok-written.ensures.object ∙ c.in-Some.ensures.held.1) c.loop-object-test.true c.loop-object.invariant.objects;
-      fits = all_more (FitsWritten c.args.set.now.objects) so_far now one c.in_ok-push.ensures c.loop-object.invariant.fits c.in_ok-written.ensures.fits;
+      reads = reads_on _ _ _ _ first second;
+      kept = kept_on old mid new kept c.in_ok-head.ensures.kept;
+      unread = λ j le lt.
+          let above = AllPairs-from_increasing objects c.requires.once index j 0 (omega (arith, le)) lt in
+          c.in_ok-head.ensures.others (get_or objects j 0) (λ same. omega (arith, same, above)) ∙ c.loop-object.invariant.unread j (omega (arith, le)) lt;
+      numbers = mapped_more (λ (head : WrittenHead). head.number) so_far now one objects index 0 c.in_ok-push.ensures c.in_ok-head.ensures.number c.loop-object-test.true
+          c.loop-object.invariant.numbers;
+      fits = all_more FitsHead so_far now one c.in_ok-push.ensures c.loop-object.invariant.fits c.in_ok-head.ensures.fits;
       value = λ stored there own blocks held are honest.
-          all_more (IsReadFrom stored c.args.birth there c.args.items.now.writes c.args.directory.now) so_far now one c.in_ok-push.ensures
-          (c.loop-object.invariant.value stored there own blocks held are (true_before _ _ _ _ first reads honest)) (
-            c.in-Some.row.now,
-            (c.in-Some.ensures.held.0, sym c.in_ok-written.ensures.object),
-            c.in_ok-written.ensures.value stored there own blocks (first.keeps stored held) are (true_after _ _ _ _ first reads honest),
+          let before = c.loop-object.invariant.value stored there own blocks held are (true_before _ _ _ _ first second honest) in
+          let more = c.in_ok-head.ensures.value stored there own blocks (first.keeps stored held) (objects_kept old mid kept stored c.args.birth there own blocks are)
+          (true_after _ _ _ _ first second honest) before.2 in (
+            all_more (IsReadFrom stored c.args.birth there c.args.items.now.writes old.directory) so_far now one c.in_ok-push.ensures before.0
+                (from_kept old mid kept (λ (rows : List DirectoryRow). IsReadFrom stored c.args.birth there c.args.items.now.writes rows one) more.0),
+            λ known group pool readings plain spells. more.1 known group pool readings plain (before.1 known group pool readings plain spells),
+            more.2,
           );
-      found = all_more (IsWrittenOf c.args.store.now.spaces c.args.set.now c.args.birth c.args.items.now.writes c.args.directory.now) so_far now one c.in_ok-push.ensures c.loop-object.invariant.found (
-        c.in-Some.row.now,
-        (c.in-Some.ensures.held.0, sym c.in_ok-written.ensures.object),
-        subst (λ (spaces : List VdevSpace). IsWrittenFound spaces c.args.set.now c.args.birth c.args.items.now.writes c.in-Some.row.now one) (ap (λ (s : Store). s.spaces) first.rest) c.in_ok-written.ensures.found,
-      );
+      found = all_more (IsWrittenOf c.args.store.now.spaces (set_of old.changes) c.args.birth c.args.items.now.writes old.directory) so_far now one c.in_ok-push.ensures c.loop-object.invariant.found
+          (found_first old mid kept c.args.store.now c.loop-object.store c.args.birth c.args.items.now.writes first one c.in_ok-head.ensures.found);
     }
 
-pub returns-clause-objects : goal.returns-clause-objects
-returns-clause-objects g c = c.loop-object.invariant.objects ∙ take_all c.loop-object.object-index c.args.objects.now c.loop-object-test.false
+pub returns-clause-kept : goal.returns-clause-kept
+returns-clause-kept g c = c.loop-object.invariant.kept
 
-pub returns-in_default-clause-refused : goal.returns-in_default-clause-refused
-returns-in_default-clause-refused g c =
-    let there = c.requires.rows c.loop-object.object-index 0 c.loop-object-test.true in
-    absurd (c.in_default.ensures.none there.0 there.1)
+pub returns-clause-numbers : goal.returns-clause-numbers
+returns-clause-numbers g c = c.loop-object.invariant.numbers ∙ take_all c.loop-object.object-index c.args.objects.now c.loop-object-test.false
 
-pub returns-in_err-written-clause-refused : goal.returns-in_err-written-clause-refused
-returns-in_err-written-clause-refused g c =
-    passed_on _ _ _ c.from_residual.ensures.1
-    (inr (record {
-      row = c.in-Some.row.now;
-      is_one = subst (Contains c.args.objects.now) (sym c.in-Some.ensures.held.1) (Contains-get_or c.args.objects.now c.loop-object.object-index 0 c.loop-object-test.true);
-      is_row = c.in-Some.ensures.held.0;
-      mid = c.loop-object.store;
-      before = c.loop-object.invariant.reads;
-      why = c.in_err-written.ensures.refused;
-    }))
+pub returns-clause-value : goal.returns-clause-value
+returns-clause-value g c = λ stored there own blocks held are honest.
+    let so_far = c.loop-object.invariant.value stored there own blocks held are honest in
+    (so_far.0, so_far.1)
 
 pub returns-clause-found : goal.returns-clause-found
 returns-clause-found g c = c.loop-object.invariant.found

@@ -6,7 +6,7 @@ use Rattle.pool_model.specs.Pools.{Entry, PlainPool, applied, no_volumes}
 use Rattle.block_store.specs.Blocks.{Contents}
 use Rattle.block_store.specs.Spaces.{VdevSpace}
 use Rattle.dataset_snapshots.proofs.Readings.{roots_spell_one_pool}
-use Rattle.dataset_snapshots.specs.Leaving.{IsReachExchanged}
+use Rattle.dataset_groups.specs.Leaving.{IsReachExchanged}
 use Rattle.dataset_snapshots.specs.Reach.{reach_of}
 use Rattle.meta_objset.specs.declared.directory.DirectoryRow.{DirectoryRow}
 use Rattle.pool_commit.specs.Backs.{BeginsWithMaps, LeadsTo, LeavesMaps, SpellsRoot}
