@@ -1,5 +1,5 @@
 //! Datasets in chains: a volume, a snapshot of it, an overwrite and a clone.
-ghost use Rattle.std.specs.Prelude.{◌≡◌, ◌<◌, All, IfOk};
+ghost use Rattle.std.specs.Prelude.{◌≡◌, ◌<◌, IfOk};
 ghost use Rattle.block_pointer.specs.Block.{FitsBlock};
 ghost use Rattle.dnode.specs.ObjectSet.{FitsObjectSet};
 ghost use Rattle.meta_objset.specs.Record.{FitsRecord};
@@ -77,7 +77,7 @@ fn with_snapshot(set: &ObjectSet, store: &mut Store, alloc: Global) -> Result<Ob
 
 /// Two blocks left the volume, one that the snapshot has and one that it hasn't.
 fn rewritten(alloc: Global) -> Result<RewrittenHead, Fail>
-    ensures { IfOk result (λ head. FitsBlock head.object_set × All FitsBlock head.left.items) }
+    ensures { IfOk result (λ head. FitsBlock head.object_set) }
 {
     Ok(RewrittenHead {
         number: 5,

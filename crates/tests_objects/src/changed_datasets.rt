@@ -39,7 +39,7 @@ fn first_group(store: &mut Store, alloc: Global, object_set: Block) -> Result<Ob
     ensures { IfOk result FitsObjectSet }
 {
     let mut changes = DatasetChanges::new(alloc, EMPTY, 0);
-    changes.make_record(alloc, 5, &record_of(object_set, 1))?;
+    changes.make_record(5, &record_of(object_set, 1))?;
     changes.make_list(alloc, 6)?;
     changes.add_to_list(store, alloc, 6, &[born_in(7)])?;
     stored(changes, &EMPTY, store, alloc, 1)
@@ -55,7 +55,7 @@ fn change_first(
 {
     let dataset = changes.record(store, alloc, 5)?;
     let object_set = dataset.object_set;
-    changes.change_record(alloc, 5, &record_of(object_set, 2))?;
+    changes.change_record(5, &record_of(object_set, 2))?;
     changes.add_to_list(store, alloc, 6, &[born_in(9)])?;
     Ok(object_set)
 }
@@ -67,7 +67,7 @@ fn second_group(set: &ObjectSet, store: &mut Store, alloc: Global) -> Result<Obj
 {
     let mut changes = DatasetChanges::new(alloc, *set, 1);
     let object_set = change_first(&mut changes, store, alloc)?;
-    changes.make_record(alloc, 7, &record_of(object_set, 3))?;
+    changes.make_record(7, &record_of(object_set, 3))?;
     changes.make_list(alloc, 8)?;
     changes.add_to_list(store, alloc, 8, &[born_in(8)])?;
     stored(changes, set, store, alloc, 2)
@@ -81,9 +81,9 @@ fn third_group(set: &ObjectSet, store: &mut Store, alloc: Global) -> Result<Obje
     let mut changes = DatasetChanges::new(alloc, *set, 2);
     changes.add_to_list(store, alloc, 6, &[born_in(11)])?;
     let list = changes.take_list(store, alloc, 6)?;
-    changes.free_list(alloc, 6)?;
-    changes.put_list(alloc, 8, list)?;
-    changes.free_record(alloc, 5)?;
+    changes.free_list(6)?;
+    changes.put_list(8, list)?;
+    changes.free_record(5)?;
     stored(changes, set, store, alloc, 3)
 }
 

@@ -10,7 +10,7 @@ use crate::meta::{EMPTY, block_of_set, with};
 use crate::stores::{Store, new_store};
 use block_pointer::Block;
 use dataset_changes::DatasetChanges;
-use dataset_destroys::{Refusal, destroy_head, destroy_snapshot};
+use dataset_destroys::{Refusal, destroy, destroy_head};
 use dead_list::DeadList;
 use dead_list_objects::creation;
 use dnode::ObjectSet;
@@ -176,11 +176,12 @@ fn frees(
     alloc: Global,
     snapshot: u64,
     block: Block,
-) -> Result<bool, Refusal>
-    requires { IsNumber snapshot }
-{
+) -> Result<bool, Refusal> {
     let mut freed = Vec::new(alloc);
-    destroy_snapshot(changes, store, alloc, snapshot, &mut freed)?;
+    let mut left = 0;
+    destroy(
+        changes, store, alloc, snapshot, GROUP, &mut left, &mut freed,
+    )?;
     match freed.as_slice() {
         [only] => Ok(*only == block),
         _ => Ok(false),
