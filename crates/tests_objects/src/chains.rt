@@ -4,14 +4,14 @@ ghost use Rattle.block_pointer.specs.Block.{FitsBlock};
 ghost use Rattle.dnode.specs.ObjectSet.{FitsObjectSet};
 ghost use Rattle.meta_objset.specs.Record.{FitsRecord};
 
-use crate::dead_lists::{births_of, born_in, dead_list_in};
+use crate::changed_datasets::{Step, group};
+use crate::dead_lists::{born_in, has_births};
 use crate::meta::EMPTY;
-use crate::stores::{Store, new_store, store_plan};
-use dataset_chains::{NewNumbers, RewrittenHead, clone, create, overwrite, snapshot};
+use crate::stores::{Store, new_store};
+use dataset_chains::{NewNumbers, Refusal, RewrittenHead, clone, create, overwrite, snapshot};
 use dataset_changes::DatasetChanges;
 use dnode::ObjectSet;
 use meta_objset::{DatasetKind, DatasetRecord, read_record};
-use objset::change;
 use std::alloc::Global;
 use std::test::Fail;
 
@@ -33,46 +33,22 @@ fn new_volume() -> DatasetRecord
     }
 }
 
-/// The set with what was changed, once it is stored.
-fn stored(
-    changes: DatasetChanges,
-    set: &ObjectSet,
-    store: &mut Store,
-    alloc: Global,
-    birth: u64,
-) -> Result<ObjectSet, Fail>
-    requires set { FitsObjectSet set.now }
-    requires born { 0 < birth }
-    ensures { IfOk result FitsObjectSet }
-{
-    let made = changes.into_changes(alloc)?;
-    store.drop_plan(birth);
-    let done = change(set, store, alloc, &made, birth, birth, &[])?;
-    store_plan(store);
-    Ok(done.set)
-}
-
 /// Group 1 makes a volume, object 5.
-fn with_volume(store: &mut Store, alloc: Global) -> Result<ObjectSet, Fail>
-    ensures { IfOk result FitsObjectSet }
-{
-    let mut changes = DatasetChanges::new(alloc, EMPTY, 0);
-    create(&mut changes, alloc, 5, &new_volume())?;
-    stored(changes, &EMPTY, store, alloc, 1)
+pub(crate) fn make_volume(changes: &mut DatasetChanges, alloc: Global) -> Result<(), Fail> {
+    Ok(create(changes, alloc, 5, &new_volume())?)
 }
 
 /// Group 2 takes a snapshot of it, object 7.
-fn with_snapshot(set: &ObjectSet, store: &mut Store, alloc: Global) -> Result<ObjectSet, Fail>
-    requires { FitsObjectSet set.now }
-    ensures { IfOk result FitsObjectSet }
-{
-    let mut changes = DatasetChanges::new(alloc, *set, 1);
+pub(crate) fn take_snapshot(
+    changes: &mut DatasetChanges,
+    store: &mut Store,
+    alloc: Global,
+) -> Result<(), Fail> {
     let numbers = NewNumbers {
         dataset: 7,
         dead_list: 8,
     };
-    snapshot(&mut changes, store, alloc, 5, numbers, 2)?;
-    stored(changes, set, store, alloc, 2)
+    Ok(snapshot(changes, store, alloc, 5, numbers, 2)?)
 }
 
 /// Two blocks left the volume, one that the snapshot has and one that it hasn't.
@@ -86,28 +62,35 @@ fn rewritten(alloc: Global) -> Result<RewrittenHead, Fail>
     })
 }
 
-/// Group 4 overwrites the volume, and makes a clone of the snapshot, object 9. Beside the set, the groups in which the freed blocks were
-/// born.
-fn with_clone(
-    set: &ObjectSet,
+/// Overwrites the volume: whether the one block is freed that was born in group 3.
+fn frees_younger(
+    changes: &mut DatasetChanges,
     store: &mut Store,
     alloc: Global,
-) -> Result<(ObjectSet, Vec<u64>), Fail>
-    requires { FitsObjectSet set.now }
-    ensures { IfOk result (λ it. FitsObjectSet it.0) }
-{
-    let mut changes = DatasetChanges::new(alloc, *set, 2);
-    let mut freed = Vec::new(alloc);
+) -> Result<bool, Fail> {
     let head = rewritten(alloc)?;
-    overwrite(&mut changes, store, alloc, &head, &mut freed)?;
+    let mut freed = Vec::new(alloc);
+    overwrite(changes, store, alloc, &head, &mut freed)?;
+    match freed.as_slice() {
+        [block] => Ok(block.birth == 3),
+        _ => Ok(false),
+    }
+}
+
+/// Group 4 overwrites the volume, and makes a clone of the snapshot, object 9, if the overwrite freed what it is to.
+pub(crate) fn make_clone(
+    changes: &mut DatasetChanges,
+    store: &mut Store,
+    alloc: Global,
+) -> Result<(), Fail> {
     let numbers = NewNumbers {
         dataset: 9,
         dead_list: 10,
     };
-    clone(&mut changes, store, alloc, 7, numbers, 4)?;
-    let after = stored(changes, set, store, alloc, 4)?;
-    let births = freed.iter().map(|block| block.birth).collect(alloc)?;
-    Ok((after, births))
+    if !frees_younger(changes, store, alloc)? {
+        return Ok(());
+    }
+    Ok(clone(changes, store, alloc, 7, numbers, 4)?)
 }
 
 /// Whether the object has this record.
@@ -117,14 +100,14 @@ fn has_record(
     alloc: Global,
     number: u64,
     dataset: DatasetRecord,
-) -> Result<bool, Fail>
+) -> Result<bool, Refusal>
     requires { FitsObjectSet set.now }
 {
     Ok(read_record(set, store, alloc, number, 4, &[])? == dataset)
 }
 
 /// Whether the volume stands behind its snapshot, which has a clone.
-fn has_records(set: &ObjectSet, store: &mut Store, alloc: Global) -> Result<[bool; 3], Fail>
+fn has_records(set: &ObjectSet, store: &mut Store, alloc: Global) -> [Result<bool, Refusal>; 3]
     requires { FitsObjectSet set.now }
 {
     let volume = DatasetRecord {
@@ -146,50 +129,49 @@ fn has_records(set: &ObjectSet, store: &mut Store, alloc: Global) -> Result<[boo
         dead_list: 10,
         ..new_volume()
     };
-    Ok([
-        has_record(set, store, alloc, 5, volume)?,
-        has_record(set, store, alloc, 7, taken)?,
-        has_record(set, store, alloc, 9, cloned)?,
-    ])
-}
-
-/// Whether the blocks of a dead list were born in these groups.
-fn has_births(
-    set: &ObjectSet,
-    store: &mut Store,
-    alloc: Global,
-    number: u64,
-    births: &[u64],
-) -> Result<bool, Fail>
-    requires { FitsObjectSet set.now }
-{
-    let list = dead_list_in(set, store, alloc, number, 4)?;
-    Ok(births_of(alloc, list)?.as_slice() == births)
+    [
+        has_record(set, store, alloc, 5, volume),
+        has_record(set, store, alloc, 7, taken),
+        has_record(set, store, alloc, 9, cloned),
+    ]
 }
 
 /// Whether the snapshot has the dead list that the volume had, and the volume what it lost of the snapshot.
-fn has_lists(set: &ObjectSet, store: &mut Store, alloc: Global) -> Result<[bool; 3], Fail>
+fn has_lists(
+    set: &ObjectSet,
+    store: &mut Store,
+    alloc: Global,
+) -> [Result<bool, dead_list_objects::Refusal>; 3]
     requires { FitsObjectSet set.now }
 {
-    Ok([
-        has_births(set, store, alloc, 6, &[])?,
-        has_births(set, store, alloc, 8, &[1])?,
-        has_births(set, store, alloc, 10, &[])?,
-    ])
+    [
+        has_births(set, store, alloc, 6, 4, &[]),
+        has_births(set, store, alloc, 8, 4, &[1]),
+        has_births(set, store, alloc, 10, 4, &[]),
+    ]
 }
 
-fn chains(alloc: Global) -> Result<([bool; 3], [bool; 3], bool), Fail> {
-    let mut store = new_store(alloc)?;
-    let first = with_volume(&mut store, alloc)?;
-    let second = with_snapshot(&first, &mut store, alloc)?;
-    let (last, freed) = with_clone(&second, &mut store, alloc)?;
-    let records = has_records(&last, &mut store, alloc)?;
-    let lists = has_lists(&last, &mut store, alloc)?;
-    Ok((records, lists, freed.as_slice() == [3].as_slice()))
+type Found = (
+    [Result<bool, Refusal>; 3],
+    [Result<bool, dead_list_objects::Refusal>; 3],
+);
+
+/// Whether the records and the dead lists are as the three groups are to leave them.
+fn chains(store: &mut Store, alloc: Global) -> Result<Found, Fail> {
+    let first = group(&EMPTY, store, alloc, &Step::Volume, 1)?;
+    let second = group(&first, store, alloc, &Step::Snapshot, 2)?;
+    let last = group(&second, store, alloc, &Step::Clone, 4)?;
+    let records = has_records(&last, store, alloc);
+    Ok((records, has_lists(&last, store, alloc)))
+}
+
+fn chains_in_memory(alloc: Global) -> Result<Found, Fail> {
+    let mut store = new_store(alloc, 1)?;
+    chains(&mut store, alloc)
 }
 
 #[test]
 fn a_snapshot_keeps_what_its_volume_loses(rt: HostRuntime) -> Result<(), Fail> {
-    assert!(rt; chains(rt.alloc())? == ([true; 3], [true; 3], true));
+    assert!(rt; chains_in_memory(rt.alloc())? == ([Ok(true); 3], [Ok(true); 3]));
     Ok(())
 }

@@ -4,6 +4,7 @@ ghost use Rattle.block_pointer.specs.Block.{FitsBlock};
 ghost use Rattle.dnode.specs.ObjectSet.{FitsObjectSet};
 ghost use Rattle.objset.specs.Changes.{IsGoodChange};
 
+use crate::histories::{ObjectKind, is_read_after};
 use crate::meta::{EMPTY, with};
 use crate::stores::{Store, new_store};
 use block_pointer::{Block, Copies, Dva, Property};
@@ -76,55 +77,48 @@ fn one_block(alloc: Global) -> Result<DeadList, AllocError>
     Ok(list)
 }
 
-/// The change that makes it an object.
-fn one_made(alloc: Global) -> Result<Change, Fail>
-    ensures { IfOk result IsGoodChange }
-{
-    let list = one_block(alloc)?;
-    Ok(creation(alloc, &list)?)
-}
-
-/// The change that writes it anew with a block that was born in group 9.
-fn two_made(alloc: Global) -> Result<Change, Fail>
+/// That list, which is written anew with a block that was born in group 9.
+pub(crate) fn list_made(alloc: Global, birth: u64) -> Result<Change, Fail>
     ensures { IfOk result IsGoodChange }
 {
     let mut list = one_block(alloc)?;
+    if birth == 1 {
+        return Ok(creation(alloc, &list)?);
+    }
     add(&mut list, born_in(9))?;
     Ok(replacement(alloc, &list)?)
 }
 
 /// Whether the blocks of the list that is read were born in these groups.
-fn has_births(
+pub(crate) fn has_births(
+    set: &ObjectSet,
+    store: &mut Store,
+    alloc: Global,
+    number: u64,
+    birth: u64,
+    births: &[u64],
+) -> Result<bool, Refusal>
+    requires { FitsObjectSet set.now }
+{
+    let list = dead_list_in(set, store, alloc, number, birth)?;
+    Ok(births_of(alloc, list)?.as_slice() == births)
+}
+
+pub(crate) fn is_list(
     set: &ObjectSet,
     store: &mut Store,
     alloc: Global,
     birth: u64,
-    births: &[u64],
 ) -> Result<bool, Fail>
     requires { FitsObjectSet set.now }
 {
-    let list = dead_list_in(set, store, alloc, 5, birth)?;
-    Ok(births_of(alloc, list)?.as_slice() == births)
-}
-
-/// A list of a block, which is written anew with another one: whether each is read as it was written.
-fn lists(store: &mut Store, alloc: Global) -> Result<[bool; 2], Fail> {
-    let made = one_made(alloc)?;
-    let first = with(&EMPTY, store, alloc, 5, made, 1)?;
-    let one = has_births(&first, store, alloc, 1, &[7])?;
-    let made = two_made(alloc)?;
-    let second = with(&first, store, alloc, 5, made, 2)?;
-    Ok([one, has_births(&second, store, alloc, 2, &[7, 9])?])
-}
-
-fn lists_in_memory(alloc: Global) -> Result<[bool; 2], Fail> {
-    let mut store = new_store(alloc)?;
-    lists(&mut store, alloc)
+    let births: &[u64] = if birth == 1 { &[7] } else { &[7, 9] };
+    Ok(has_births(set, store, alloc, 5, birth, births)?)
 }
 
 #[test]
 fn dead_lists_are_read_as_they_were_written(rt: HostRuntime) -> Result<(), Fail> {
-    assert!(rt; lists_in_memory(rt.alloc())? == [true; 2]);
+    assert!(rt; is_read_after(rt.alloc(), &ObjectKind::DeadList, 2)?);
     Ok(())
 }
 
@@ -137,42 +131,41 @@ fn added(alloc: Global, end: &TableEnd, first: Block, second: Block) -> Result<C
     extension(alloc, end, &[first, second])
 }
 
-/// How many blocks the list has, and the change that adds two to it.
-fn two_more(set: &ObjectSet, store: &mut Store, alloc: Global) -> Result<(u64, Change), Refusal>
+/// A list of a block, which gets two more.
+pub(crate) fn longer_list_made(
+    set: &ObjectSet,
+    store: &mut Store,
+    alloc: Global,
+    birth: u64,
+) -> Result<Change, Fail>
     requires { FitsObjectSet set.now }
-    ensures { IfOk result (λ it. IsGoodChange it.1) }
+    ensures { IfOk result IsGoodChange }
 {
+    if birth == 1 {
+        return list_made(alloc, 1);
+    }
     let end = read_dead_list_end(set, store, alloc, 5, 1, &[])?;
-    let made = added(alloc, &end, born_in(9), born_in(8))?;
-    Ok((end.rows, made))
+    Ok(added(alloc, &end, born_in(9), born_in(8))?)
 }
 
-/// How many blocks the list has.
-fn count_in(set: &ObjectSet, store: &mut Store, alloc: Global, birth: u64) -> Result<u64, Refusal>
+/// Whether the list has as many blocks as it is to have, and those.
+pub(crate) fn is_longer_list(
+    set: &ObjectSet,
+    store: &mut Store,
+    alloc: Global,
+    birth: u64,
+) -> Result<bool, Fail>
     requires { FitsObjectSet set.now }
 {
-    Ok(read_dead_list_end(set, store, alloc, 5, birth, &[])?.rows)
-}
-
-/// A list of a block, which gets two more: how many blocks it has before and after them, and whether it is read so.
-fn longer_list(store: &mut Store, alloc: Global) -> Result<([u64; 2], bool), Fail> {
-    let made = one_made(alloc)?;
-    let first = with(&EMPTY, store, alloc, 5, made, 1)?;
-    let (one, made) = two_more(&first, store, alloc)?;
-    let second = with(&first, store, alloc, 5, made, 2)?;
-    let three = count_in(&second, store, alloc, 2)?;
-    let found = has_births(&second, store, alloc, 2, &[7, 8, 9])?;
-    Ok(([one, three], found))
-}
-
-fn longer_list_in_memory(alloc: Global) -> Result<([u64; 2], bool), Fail> {
-    let mut store = new_store(alloc)?;
-    longer_list(&mut store, alloc)
+    let births: &[u64] = if birth == 1 { &[7] } else { &[7, 8, 9] };
+    let end = read_dead_list_end(set, store, alloc, 5, birth, &[])?;
+    let has_births = has_births(set, store, alloc, 5, birth, births)?;
+    Ok(has_births && end.rows == births.len() as u64)
 }
 
 #[test]
 fn dead_lists_get_more_blocks(rt: HostRuntime) -> Result<(), Fail> {
-    assert!(rt; longer_list_in_memory(rt.alloc())? == ([1, 3], true));
+    assert!(rt; is_read_after(rt.alloc(), &ObjectKind::LongerDeadList, 2)?);
     Ok(())
 }
 
@@ -189,14 +182,18 @@ fn refusal_in(
 }
 
 fn refusal(alloc: Global, row: &[u8; 128], number: u64) -> Result<Option<Refusal>, Fail> {
-    let mut store = new_store(alloc)?;
+    let mut store = new_store(alloc, 1)?;
     refusal_in(&mut store, alloc, row, number)
+}
+
+/// Of a hole, and where there is no object.
+fn refusals(alloc: Global) -> Result<[Option<Refusal>; 2], Fail> {
+    Ok([refusal(alloc, &[0; 128], 5)?, refusal(alloc, &[0; 128], 6)?])
 }
 
 #[test]
 fn a_hole_is_no_dead_block(rt: HostRuntime) -> Result<(), Fail> {
-    assert!(rt; refusal(rt.alloc(), &[0; 128], 5)? == Some(Refusal::BadList));
-    let unread = Some(Refusal::Unread(block_store::Refusal::BadPointer));
-    assert!(rt; refusal(rt.alloc(), &[0; 128], 6)? == unread);
+    let unread = Refusal::Unread(block_store::Refusal::BadPointer);
+    assert!(rt; refusals(rt.alloc())? == [Some(Refusal::BadList), Some(unread)]);
     Ok(())
 }

@@ -1,20 +1,19 @@
 //! Snapshots and clones that are destroyed, by their records and dead lists in a set.
-ghost use Rattle.std.specs.Prelude.{◌<◌, All, IfOk};
+ghost use Rattle.std.specs.Prelude.{◌<◌};
 ghost use Rattle.block_pointer.specs.Block.{FitsBlock};
 ghost use Rattle.dataset_changes.specs.States.{IsNumber};
 ghost use Rattle.dnode.specs.ObjectSet.{FitsObjectSet};
 ghost use Rattle.meta_objset.specs.Record.{FitsRecord};
 
-use crate::dead_lists::{add, born_in};
-use crate::meta::{EMPTY, block_of_set, with};
+use crate::changed_datasets::{Step, group};
+use crate::dead_lists::born_in;
+use crate::meta::{EMPTY, block_of_set};
 use crate::stores::{Store, new_store};
 use block_pointer::Block;
 use dataset_changes::DatasetChanges;
 use dataset_destroys::{Refusal, destroy, destroy_head};
-use dead_list::DeadList;
-use dead_list_objects::creation;
 use dnode::ObjectSet;
-use meta_objset::{DatasetKind, DatasetRecord, record_creation};
+use meta_objset::{DatasetKind, DatasetRecord};
 use std::alloc::{AllocError, Global};
 use std::test::Fail;
 
@@ -102,71 +101,33 @@ fn clone(object_set: Block) -> DatasetRecord
     }
 }
 
-/// The set with one more record.
-fn with_record(
-    set: &ObjectSet,
-    store: &mut Store,
-    alloc: Global,
-    number: u64,
-    dataset: &DatasetRecord,
-) -> Result<ObjectSet, Fail>
-    requires set { FitsObjectSet set.now }
-    requires number { IsNumber number }
-    requires dataset { FitsRecord dataset.now }
-    ensures { IfOk result FitsObjectSet }
+fn make_records(changes: &mut DatasetChanges, block: Block) -> Result<(), AllocError>
+    requires { FitsBlock block }
 {
-    let made = record_creation(alloc, dataset)?;
-    Ok(with(set, store, alloc, number, made, GROUP)?)
+    changes.make_record(FIRST, &first(block))?;
+    changes.make_record(SECOND, &second(block))?;
+    changes.make_record(HEAD, &head(block))?;
+    changes.make_record(CLONE, &clone(block))
 }
 
-/// The set with one more dead list.
-fn with_list(
-    set: &ObjectSet,
-    store: &mut Store,
-    alloc: Global,
-    number: u64,
-    dead: &DeadList,
-) -> Result<ObjectSet, Fail>
-    requires set { FitsObjectSet set.now }
-    requires number { IsNumber number }
-    requires dead { All FitsBlock dead.now }
-    ensures { IfOk result FitsObjectSet }
-{
-    let made = creation(alloc, dead)?;
-    Ok(with(set, store, alloc, number, made, GROUP)?)
+fn make_lists(changes: &mut DatasetChanges, alloc: Global) -> Result<(), AllocError> {
+    changes.make_list(alloc, 10)?;
+    changes.make_list(alloc, 11)?;
+    changes.make_list(alloc, 12)?;
+    changes.make_list(alloc, 13)
 }
 
-/// The records of the chain.
-fn records(store: &mut Store, alloc: Global) -> Result<ObjectSet, Fail>
-    ensures { IfOk result FitsObjectSet }
-{
+/// The chain, in which the head doesn't reach two blocks any more that the second snapshot does: they were born in the groups 5 and 7.
+pub(crate) fn make_chain(
+    changes: &mut DatasetChanges,
+    store: &mut Store,
+    alloc: Global,
+) -> Result<(), Fail> {
     let block = block_of_set(store, alloc)?;
-    let one = with_record(&EMPTY, store, alloc, FIRST, &first(block))?;
-    let two = with_record(&one, store, alloc, SECOND, &second(block))?;
-    let three = with_record(&two, store, alloc, HEAD, &head(block))?;
-    with_record(&three, store, alloc, CLONE, &clone(block))
-}
-
-/// Blocks that were born in the groups 5 and 7.
-fn two_dead(alloc: Global) -> Result<DeadList, AllocError>
-    ensures { IfOk result (λ list. All FitsBlock list) }
-{
-    let mut list = DeadList::new(alloc);
-    add(&mut list, born_in(5))?;
-    add(&mut list, born_in(7))?;
-    Ok(list)
-}
-
-/// The chain, in which the head doesn't reach two blocks any more that the second snapshot does.
-fn chain(store: &mut Store, alloc: Global) -> Result<ObjectSet, Fail>
-    ensures { IfOk result FitsObjectSet }
-{
-    let none = DeadList::new(alloc);
-    let set = records(store, alloc)?;
-    let one = with_list(&set, store, alloc, 10, &none)?;
-    let two = with_list(&one, store, alloc, 11, &none)?;
-    let three = with_list(&two, store, alloc, 12, &two_dead(alloc)?)?;
-    with_list(&three, store, alloc, 13, &none)
+    make_records(changes, block)?;
+    make_lists(changes, alloc)?;
+    changes.add_to_list(store, alloc, 12, &[born_in(5)])?;
+    Ok(changes.add_to_list(store, alloc, 12, &[born_in(7)])?)
 }
 
 /// Whether a snapshot is destroyed, and frees this block alone.
@@ -205,7 +166,7 @@ fn freed_by_head(
 
 /// The second snapshot goes, then the clone, and then the first: whether each frees what it has to.
 fn destroyed(store: &mut Store, alloc: Global) -> Result<[bool; 3], Fail> {
-    let set = chain(store, alloc)?;
+    let set = group(&EMPTY, store, alloc, &Step::Chain, GROUP)?;
     let mut changes = DatasetChanges::new(alloc, set, GROUP);
     let younger = frees(&mut changes, store, alloc, SECOND, born_in(7))?;
     let none = freed_by_head(&mut changes, store, alloc, CLONE)? == 0;
@@ -214,7 +175,7 @@ fn destroyed(store: &mut Store, alloc: Global) -> Result<[bool; 3], Fail> {
 }
 
 fn destroyed_in_memory(alloc: Global) -> Result<[bool; 3], Fail> {
-    let mut store = new_store(alloc)?;
+    let mut store = new_store(alloc, 1)?;
     destroyed(&mut store, alloc)
 }
 
@@ -224,18 +185,28 @@ fn destroys_free_what_nothing_reaches(rt: HostRuntime) -> Result<(), Fail> {
     Ok(())
 }
 
+/// Why the head or else the first snapshot is not destroyed.
+fn refusal(set: &ObjectSet, store: &mut Store, alloc: Global, number: u64) -> Option<Refusal>
+    requires { FitsObjectSet set.now }
+{
+    let mut changes = DatasetChanges::new(alloc, *set, GROUP);
+    if number == HEAD {
+        return freed_by_head(&mut changes, store, alloc, HEAD).err();
+    }
+    frees(&mut changes, store, alloc, FIRST, born_in(5)).err()
+}
+
 /// Why the snapshot with a clone is not destroyed, nor the head with snapshots.
 fn refused(store: &mut Store, alloc: Global) -> Result<[Option<Refusal>; 2], Fail> {
-    let set = chain(store, alloc)?;
-    let mut changes = DatasetChanges::new(alloc, set, GROUP);
-    let one = frees(&mut changes, store, alloc, FIRST, born_in(5)).err();
-    let mut changes = DatasetChanges::new(alloc, set, GROUP);
-    let two = freed_by_head(&mut changes, store, alloc, HEAD).err();
-    Ok([one, two])
+    let set = group(&EMPTY, store, alloc, &Step::Chain, GROUP)?;
+    Ok([
+        refusal(&set, store, alloc, FIRST),
+        refusal(&set, store, alloc, HEAD),
+    ])
 }
 
 fn refused_in_memory(alloc: Global) -> Result<[Option<Refusal>; 2], Fail> {
-    let mut store = new_store(alloc)?;
+    let mut store = new_store(alloc, 1)?;
     refused(&mut store, alloc)
 }
 

@@ -4,12 +4,12 @@ ghost use Rattle.dnode.specs.ObjectSet.{FitsObjectSet};
 ghost use Rattle.pool_maps.specs.Plans.{AreOrdered};
 
 use crate::meta::{EMPTY, with};
-use crate::stores::{Store, new_store, roomy_store, store_plan};
+use crate::stores::{Store, new_store, stored};
 use block_pointer::{Block, Property};
 use block_store::{BlockStore, CopyCount, NewBlock};
 use dnode::{ObjectSet, ObjectSetKind};
 use meta_objset::{MetaslabPlace, SpaceMaps, read_space_maps};
-use objset::{ObjectChange, Refusal, change};
+use objset::{ObjectChange, Refusal};
 use pool_maps::{load_maps, plan_maps, read_maps};
 use space_map::FreeSet;
 use space_map_objects::{read_free_set, read_map_end};
@@ -63,25 +63,6 @@ fn maps_of(
     ensures { IfOk result (λ all. AreOrdered all.items) }
 {
     plan_maps(set, store, alloc, birth, gone, Vec::new(alloc), next)
-}
-
-/// The set with the changes, once all that is planned is stored.
-fn stored_with(
-    set: &ObjectSet,
-    store: &mut Store,
-    alloc: Global,
-    changes: &[ObjectChange],
-    before: u64,
-    birth: u64,
-) -> Result<ObjectSet, Refusal>
-    requires set { FitsObjectSet set.now }
-    requires changes { AreOrdered changes.now }
-    requires born { 0 < birth }
-    ensures { IfOk result FitsObjectSet }
-{
-    let done = change(set, store, alloc, changes, before, birth, &[])?;
-    store_plan(store);
-    Ok(done.set)
 }
 
 /// What a metaslab's map leaves free, or all of it.
@@ -159,31 +140,39 @@ fn one_group(
     let block = plan_block(store, alloc, birth)?;
     let changes = maps_of(set, store, alloc, birth - 1, gone, next)?;
     store.release(gone, birth)?;
-    let after = stored_with(set, store, alloc, changes.as_slice(), birth - 1, birth)?;
+    let after = stored(set, store, alloc, changes.as_slice(), birth - 1, birth)?;
     Ok((after, block, changes.len()))
 }
 
-/// What two groups make of the maps: the second gives back the block that the first planned. Of each how many changes there were, and
-/// in how many metaslabs the maps before and behind it differ from the store; and how many changes a plan of nothing has.
-fn followed(store: &mut Store, alloc: Global) -> Result<(ObjectSet, [usize; 7]), Fail>
+/// Beside the set and the block, how many changes of maps there were, and in how many metaslabs the maps before and behind the group
+/// differ from the store.
+fn group_with_differences(
+    set: &ObjectSet,
+    store: &mut Store,
+    alloc: Global,
+    birth: u64,
+    gone: &[Block],
+    next: u64,
+) -> Result<(ObjectSet, Block, [usize; 3]), Fail>
+    requires set { FitsObjectSet set.now }
+    requires born { 1 < birth }
+    ensures { IfOk result (λ after. FitsObjectSet after.0) }
+{
+    let (after, block, changes) = one_group(set, store, alloc, birth, gone, next)?;
+    let before = differ(set, store, alloc, birth - 1)?;
+    let behind = differ(&after, store, alloc, birth)?;
+    Ok((after, block, [changes, before, behind]))
+}
+
+/// What two groups make of the maps: the second gives back the block that the first planned. And how many changes a plan of nothing has.
+fn followed(store: &mut Store, alloc: Global) -> Result<(ObjectSet, [[usize; 3]; 2], usize), Fail>
     ensures { IfOk result (λ after. FitsObjectSet after.0) }
 {
     let none = without_maps(store, alloc)?;
-    let (first, block, made) = one_group(&none, store, alloc, 2, &[], 5)?;
-    let behind = [
-        differ(&none, store, alloc, 1)?,
-        differ(&first, store, alloc, 2)?,
-    ];
-    let (second, _, more) = one_group(&first, store, alloc, 3, &[block], 7)?;
-    let later = [
-        differ(&first, store, alloc, 2)?,
-        differ(&second, store, alloc, 3)?,
-    ];
+    let (first, block, made) = group_with_differences(&none, store, alloc, 2, &[], 5)?;
+    let (second, _, more) = group_with_differences(&first, store, alloc, 3, &[block], 7)?;
     let idle = maps_of(&second, store, alloc, 3, &[], 9)?.len();
-    Ok((
-        second,
-        [made, behind[0], behind[1], more, later[0], later[1], idle],
-    ))
+    Ok((second, [made, more], idle))
 }
 
 /// A store without blocks over the disks of another of one vdev.
@@ -213,22 +202,30 @@ fn loaded(
     Ok(([before, behind], [once, again]))
 }
 
-type Found = ([usize; 7], [usize; 2], [bool; 2]);
+fn loaded_from(
+    store: Store,
+    set: &ObjectSet,
+    alloc: Global,
+) -> Result<([usize; 2], [bool; 2]), Fail>
+    requires { FitsObjectSet set.now }
+{
+    let mut later = over_disks_of(store, alloc)?;
+    loaded(&mut later, set, alloc)
+}
+
+type Found = ([[usize; 3]; 2], usize, [usize; 2], [bool; 2]);
 
 fn found_in_memory(alloc: Global) -> Result<Found, Fail> {
-    let mut store = new_store(alloc)?;
-    let (set, counts) = followed(&mut store, alloc)?;
-    let mut later = over_disks_of(store, alloc)?;
-    let (differences, loads) = loaded(&mut later, &set, alloc)?;
-    Ok((counts, differences, loads))
+    let mut store = new_store(alloc, 1)?;
+    let (set, counts, idle) = followed(&mut store, alloc)?;
+    let (differences, loads) = loaded_from(store, &set, alloc)?;
+    Ok((counts, idle, differences, loads))
 }
 
 #[test]
 fn maps_follow_what_groups_plan_and_are_loaded(rt: HostRuntime) -> Result<(), Fail> {
-    let (counts, differences, loads) = found_in_memory(rt.alloc())?;
-    assert!(rt; counts == [3, 2, 0, 2, 2, 0, 0]);
-    assert!(rt; differences == [2, 0]);
-    assert!(rt; loads == [true, false]);
+    let wanted = ([[3, 2, 0], [2, 2, 0]], 0, [2, 0], [true, false]);
+    assert!(rt; found_in_memory(rt.alloc())? == wanted);
     Ok(())
 }
 
@@ -270,7 +267,7 @@ fn short(store: &mut Store, alloc: Global) -> Result<(u64, usize), Fail> {
 }
 
 fn short_in_memory(alloc: Global) -> Result<(u64, usize), Fail> {
-    let mut store = roomy_store(alloc)?;
+    let mut store = new_store(alloc, 12)?;
     short(&mut store, alloc)
 }
 

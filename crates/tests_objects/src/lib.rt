@@ -12,6 +12,10 @@ mod destroys;
 #[cfg(test)]
 mod followed_maps;
 #[cfg(test)]
+mod group_datasets;
+#[cfg(test)]
+mod histories;
+#[cfg(test)]
 mod longer_tables;
 #[cfg(test)]
 mod maps;

@@ -3,6 +3,7 @@ ghost use Rattle.std.specs.Prelude.{◌<◌, IfOk};
 ghost use Rattle.dnode.specs.ObjectSet.{FitsObjectSet};
 ghost use Rattle.objset.specs.Changes.{IsGoodChange};
 
+use crate::histories::{ObjectKind, is_read_after};
 use crate::meta::{EMPTY, with};
 use crate::stores::{Store, new_store};
 use dnode::ObjectSet;
@@ -43,12 +44,15 @@ fn rows_in(
 }
 
 /// Whether a change writes the blocks of these ids.
-fn has_ids(alloc: Global, change: &Change, ids: &[u64]) -> Result<bool, AllocError> {
-    let found: Vec<u64> = match change {
-        Change::Put { writes } => writes.iter().map(|write| write.id).collect(alloc)?,
-        _ => Vec::new(alloc),
+fn has_ids(change: &Change, ids: &[u64]) -> bool {
+    let Change::Put { writes } = change else {
+        return false;
     };
-    Ok(found.as_slice() == ids)
+    match writes.as_slice() {
+        [one, two] => ids == [one.id, two.id].as_slice(),
+        [one, two, three] => ids == [one.id, two.id, three.id].as_slice(),
+        _ => false,
+    }
 }
 
 /// Three rows of sevens, two of eights and four of nines.
@@ -64,75 +68,66 @@ fn are_rows(bytes: &[u8], count: usize) -> bool {
     bytes.len() == count.min(9) * 1000 && nine_rows().starts_with(bytes)
 }
 
-/// Whether a table is read as so many of these rows.
-fn has_rows(
+/// The change that adds two rows to three, and four to more.
+fn more(alloc: Global, end: &TableEnd) -> Result<Change, object_table::Refusal>
+    ensures { IfOk result IsGoodChange }
+{
+    if end.rows == 3 {
+        return extension(alloc, LONG, end, &[8; 2000]);
+    }
+    extension(alloc, LONG, end, &[9; 4000])
+}
+
+/// A table of 3 rows, which gets 2 and then 4 more.
+pub(crate) fn long_table_made(
     set: &ObjectSet,
     store: &mut Store,
     alloc: Global,
     birth: u64,
-    count: usize,
-) -> Result<bool, Refusal>
+) -> Result<Change, Fail>
+    requires { FitsObjectSet set.now }
+    ensures { IfOk result IsGoodChange }
+{
+    if birth == 1 {
+        return Ok(creation(alloc, LONG, &[7; 3000])?);
+    }
+    let end = end_in(set, store, alloc, birth)?;
+    Ok(more(alloc, &end)?)
+}
+
+/// Whether the table has as many rows as it is to have by its end, and those, and the next change writes the blocks that it is to: the
+/// first one, and those from the old end on.
+pub(crate) fn is_long_table(
+    set: &ObjectSet,
+    store: &mut Store,
+    alloc: Global,
+    birth: u64,
+) -> Result<bool, Fail>
     requires { FitsObjectSet set.now }
 {
-    Ok(are_rows(&rows_in(set, store, alloc, birth)?, count))
+    let (count, ids): (usize, &[u64]) = match birth {
+        1 => (3, &[0, 1]),
+        2 => (5, &[0, 1, 2]),
+        _ => (9, &[0, 2, 3]),
+    };
+    let is_read = are_rows(&rows_in(set, store, alloc, birth)?, count);
+    let end = end_in(set, store, alloc, birth)?;
+    let next = more(alloc, &end)?;
+    Ok(is_read && end.rows == count as u64 && has_ids(&next, ids))
 }
 
-/// How many rows a table has, whether the change that adds two writes the first two blocks, and the change.
-fn two_more(set: &ObjectSet, store: &mut Store, alloc: Global) -> Result<(u64, bool, Change), Fail>
-    requires { FitsObjectSet set.now }
-    ensures { IfOk result (λ it. IsGoodChange it.2) }
-{
-    let end = end_in(set, store, alloc, 1)?;
-    let made = extension(alloc, LONG, &end, &[8; 2000])?;
-    Ok((end.rows, has_ids(alloc, &made, &[0, 1])?, made))
-}
-
-/// How many rows it has then, whether the change that adds four writes the first three blocks, and the change.
-fn four_more(set: &ObjectSet, store: &mut Store, alloc: Global) -> Result<(u64, bool, Change), Fail>
-    requires { FitsObjectSet set.now }
-    ensures { IfOk result (λ it. IsGoodChange it.2) }
-{
-    let end = end_in(set, store, alloc, 2)?;
-    let made = extension(alloc, LONG, &end, &[9; 4000])?;
-    Ok((end.rows, has_ids(alloc, &made, &[0, 1, 2])?, made))
-}
-
-/// What a table of 3 rows becomes with 2 and then 4 more: its numbers of rows, whether the blocks are written that are to be, and
-/// whether its rows are read as they were written.
-type Longer = ([u64; 3], [bool; 2], [bool; 2]);
-
-fn extended(store: &mut Store, alloc: Global) -> Result<Longer, Fail> {
-    let made = creation(alloc, LONG, &[7; 3000])?;
-    let set = with(&EMPTY, store, alloc, 5, made, 1)?;
-    let (three, first, made) = two_more(&set, store, alloc)?;
-    let set = with(&set, store, alloc, 5, made, 2)?;
-    let as_five = has_rows(&set, store, alloc, 2, 5)?;
-    let (five, second, made) = four_more(&set, store, alloc)?;
-    let set = with(&set, store, alloc, 5, made, 3)?;
-    let as_nine = has_rows(&set, store, alloc, 3, 9)?;
-    let nine = end_in(&set, store, alloc, 3)?.rows;
-    Ok(([three, five, nine], [first, second], [as_five, as_nine]))
-}
-
-fn extended_in_memory(alloc: Global) -> Result<Longer, Fail> {
-    let mut store = new_store(alloc)?;
-    extended(&mut store, alloc)
-}
-
-/// The old rows end in the first block, and in the second: the third is the last one.
+/// The old rows end in the first block, in the second and in the third.
 #[test]
 fn tables_get_more_rows(rt: HostRuntime) -> Result<(), Fail> {
-    let (counts, written, read) = extended_in_memory(rt.alloc())?;
-    assert!(rt; counts == [3, 5, 9]);
-    assert!(rt; written == [true; 2]);
-    assert!(rt; read == [true; 2]);
+    assert!(rt; is_read_after(rt.alloc(), &ObjectKind::LongTable, 3)?);
     Ok(())
 }
 
-/// The change that makes an object of one block, which begins with this byte and has another one at one place.
-fn one_block(alloc: Global, rows: u8, at: usize, byte: u8) -> Result<Change, AllocError>
+/// The change that makes an object of one block, which begins with a byte and has at one place another one.
+fn one_block(alloc: Global, block: (u8, usize, u8)) -> Result<Change, AllocError>
     ensures { IfOk result IsGoodChange }
 {
+    let (rows, at, byte) = block;
     let mut bytes = [0; 4096];
     bytes[0] = rows;
     if let Some(place) = bytes.get_mut(at) {
@@ -153,27 +148,31 @@ fn one_block(alloc: Global, rows: u8, at: usize, byte: u8) -> Result<Change, All
 fn rows_at_end(
     store: &mut Store,
     alloc: Global,
-    made: Change,
+    block: (u8, usize, u8),
     birth: u64,
 ) -> Result<Result<u64, Refusal>, Fail>
-    requires made { IsGoodChange made }
-    requires born { 0 < birth }
+    requires { 0 < birth }
 {
+    let made = one_block(alloc, block)?;
     let set = with(&EMPTY, store, alloc, 5, made, birth)?;
-    Ok(end_in(&set, store, alloc, birth).map(|end| end.rows))
+    match end_in(&set, store, alloc, birth) {
+        Ok(end) => Ok(Ok(end.rows)),
+        Err(refusal) => Ok(Err(refusal)),
+    }
 }
 
 /// A byte of a row, one of the first row, the last one of the block, behind the rows; and more rows than it has room for.
 fn ends(store: &mut Store, alloc: Global) -> Result<[Result<u64, Refusal>; 4], Fail> {
-    let row = rows_at_end(store, alloc, one_block(alloc, 2, 32, 7)?, 1)?;
-    let blank = rows_at_end(store, alloc, one_block(alloc, 2, 31, 7)?, 2)?;
-    let behind = rows_at_end(store, alloc, one_block(alloc, 2, 4095, 7)?, 3)?;
-    let many = rows_at_end(store, alloc, one_block(alloc, 5, 32, 7)?, 4)?;
-    Ok([row, blank, behind, many])
+    Ok([
+        rows_at_end(store, alloc, (2, 32, 7), 1)?,
+        rows_at_end(store, alloc, (2, 31, 7), 2)?,
+        rows_at_end(store, alloc, (2, 4095, 7), 3)?,
+        rows_at_end(store, alloc, (5, 32, 7), 4)?,
+    ])
 }
 
 fn ends_in_memory(alloc: Global) -> Result<[Result<u64, Refusal>; 4], Fail> {
-    let mut store = new_store(alloc)?;
+    let mut store = new_store(alloc, 1)?;
     ends(&mut store, alloc)
 }
 

@@ -3,6 +3,7 @@ ghost use Rattle.std.specs.Prelude.{◌≡◌, ◌+◌, ◌<◌, ◌≤◌, IfOk
 ghost use Rattle.dnode.specs.ObjectSet.{FitsObjectSet};
 ghost use Rattle.objset.specs.Changes.{IsGoodChange};
 
+use crate::histories::{ObjectKind, is_read_after};
 use crate::meta::{EMPTY, with};
 use crate::stores::{Store, new_store};
 use dnode::ObjectSet;
@@ -50,105 +51,77 @@ fn is_read(
     Ok(free_set_in(set, store, alloc, 5, birth)?.runs() == wanted.runs())
 }
 
-/// The change that makes a map of which 4 sectors are in use an object.
-fn some_made(alloc: Global) -> Result<Change, Fail>
+/// A map of a metaslab of which 4 sectors are in use, which is written anew with all of them.
+pub(crate) fn map_made(alloc: Global, birth: u64) -> Result<Change, Fail>
     ensures { IfOk result IsGoodChange }
 {
-    let some = used(alloc, 10, 4)?;
-    Ok(creation(alloc, &some)?)
-}
-
-/// The change that writes it anew with all of them.
-fn all_made(alloc: Global) -> Result<Change, Fail>
-    ensures { IfOk result IsGoodChange }
-{
+    if birth == 1 {
+        let some = used(alloc, 10, 4)?;
+        return Ok(creation(alloc, &some)?);
+    }
     let all = used(alloc, 0, 64)?;
     Ok(replacement(alloc, &all)?)
 }
 
-/// Whether it is read as one with so many sectors in use from a start on.
-fn has_used(
+pub(crate) fn is_map(
     set: &ObjectSet,
     store: &mut Store,
     alloc: Global,
     birth: u64,
-    run: (u64, u64),
 ) -> Result<bool, Fail>
-    requires set { FitsObjectSet set.now }
-    requires some { 0 < run.1 }
-    requires within { run.0 + run.1 ≤ 64 }
+    requires { FitsObjectSet set.now }
 {
-    let wanted = used(alloc, run.0, run.1)?;
+    let wanted = if birth == 1 {
+        used(alloc, 10, 4)?
+    } else {
+        used(alloc, 0, 64)?
+    };
     Ok(is_read(set, store, alloc, birth, &wanted)?)
-}
-
-/// A map of a metaslab of which 4 sectors are in use, which is written anew with all of them: whether each is read as it was
-/// written.
-fn maps(store: &mut Store, alloc: Global) -> Result<[bool; 2], Fail> {
-    let made = some_made(alloc)?;
-    let first = with(&EMPTY, store, alloc, 5, made, 1)?;
-    let some = has_used(&first, store, alloc, 1, (10, 4))?;
-    let made = all_made(alloc)?;
-    let second = with(&first, store, alloc, 5, made, 2)?;
-    Ok([some, has_used(&second, store, alloc, 2, (0, 64))?])
-}
-
-fn maps_in_memory(alloc: Global) -> Result<[bool; 2], Fail> {
-    let mut store = new_store(alloc)?;
-    maps(&mut store, alloc)
 }
 
 #[test]
 fn maps_are_read_as_they_were_written(rt: HostRuntime) -> Result<(), Fail> {
-    assert!(rt; maps_in_memory(rt.alloc())? == [true; 2]);
+    assert!(rt; is_read_after(rt.alloc(), &ObjectKind::SpaceMap, 2)?);
     Ok(())
 }
 
-/// How many entries the map has, and the change that adds one to it: 2 sectors from 20 on are allocated.
-fn one_more(set: &ObjectSet, store: &mut Store, alloc: Global) -> Result<(u64, Change), Refusal>
+/// A map of which 4 sectors are in use, which gets an entry: 2 sectors from 20 on are allocated.
+pub(crate) fn longer_map_made(
+    set: &ObjectSet,
+    store: &mut Store,
+    alloc: Global,
+    birth: u64,
+) -> Result<Change, Fail>
     requires { FitsObjectSet set.now }
-    ensures { IfOk result (λ it. IsGoodChange it.1) }
+    ensures { IfOk result IsGoodChange }
 {
+    if birth == 1 {
+        return map_made(alloc, 1);
+    }
     let end = read_map_end(set, store, alloc, 5, 1, &[])?;
-    let made = extension(alloc, &end, &[1, 0, 20, 0, 0, 0, 0, 0])?;
-    Ok((end.rows, made))
+    Ok(extension(alloc, &end, &[1, 0, 20, 0, 0, 0, 0, 0])?)
 }
 
-/// How many entries the map has.
-fn count_in(set: &ObjectSet, store: &mut Store, alloc: Global, birth: u64) -> Result<u64, Refusal>
+/// Whether the map has as many entries as groups wrote it, and is read as one with the runs of all in use.
+pub(crate) fn is_longer_map(
+    set: &ObjectSet,
+    store: &mut Store,
+    alloc: Global,
+    birth: u64,
+) -> Result<bool, Fail>
     requires { FitsObjectSet set.now }
 {
-    Ok(read_map_end(set, store, alloc, 5, birth, &[])?.rows)
-}
-
-/// Whether the map is read as one with both runs in use.
-fn has_both(set: &ObjectSet, store: &mut Store, alloc: Global) -> Result<bool, Fail>
-    requires { FitsObjectSet set.now }
-{
+    let end = read_map_end(set, store, alloc, 5, birth, &[])?;
     let mut wanted = used(alloc, 10, 4)?;
-    wanted.change(Kind::Allocated, Run { start: 20, len: 2 })?;
-    Ok(is_read(set, store, alloc, 2, &wanted)?)
-}
-
-/// A map of a metaslab of which 4 sectors are in use, which gets an entry: how many entries it has before and after it, and
-/// whether its free set is that of both.
-fn longer_map(store: &mut Store, alloc: Global) -> Result<([u64; 2], bool), Fail> {
-    let made = some_made(alloc)?;
-    let first = with(&EMPTY, store, alloc, 5, made, 1)?;
-    let (one, made) = one_more(&first, store, alloc)?;
-    let second = with(&first, store, alloc, 5, made, 2)?;
-    let two = count_in(&second, store, alloc, 2)?;
-    Ok(([one, two], has_both(&second, store, alloc)?))
-}
-
-fn longer_map_in_memory(alloc: Global) -> Result<([u64; 2], bool), Fail> {
-    let mut store = new_store(alloc)?;
-    longer_map(&mut store, alloc)
+    if birth == 2 {
+        wanted.change(Kind::Allocated, Run { start: 20, len: 2 })?;
+    }
+    Ok(is_read(set, store, alloc, birth, &wanted)? && end.rows == birth)
 }
 
 #[test]
 fn maps_get_more_entries(rt: HostRuntime) -> Result<(), Fail> {
-    assert!(rt; longer_map_in_memory(rt.alloc())? == ([1, 2], true));
+    assert!(rt; is_read_after(rt.alloc(), &ObjectKind::LongerSpaceMap, 2)?);
     Ok(())
 }
 
@@ -165,7 +138,7 @@ fn refusal_in(
 }
 
 fn refusal(alloc: Global, row: &[u8; 8], number: u64) -> Result<Option<Refusal>, Fail> {
-    let mut store = new_store(alloc)?;
+    let mut store = new_store(alloc, 1)?;
     refusal_in(&mut store, alloc, row, number)
 }
 

@@ -5,7 +5,9 @@ ghost use Rattle.dnode.specs.ObjectSet.{FitsObjectSet};
 ghost use Rattle.meta_objset.specs.Record.{FitsRecord};
 ghost use Rattle.objset.specs.Changes.{IsGoodChange};
 
-use crate::stores::{Store, new_store, store_plan};
+use crate::dead_lists::born_in;
+use crate::histories::{ObjectKind, is_read_after};
+use crate::stores::{Store, stored};
 use block_pointer::{Block, BlockPtr};
 use dnode::{ObjectNode, ObjectSet, ObjectSetKind};
 use meta_objset::{
@@ -13,7 +15,7 @@ use meta_objset::{
     read_config, read_directory, read_record, record_change, record_creation,
 };
 use object_table::{RowShape, TableKind, creation, read, replacement};
-use objset::{Change, ObjectChange, Refusal, change, plan_set};
+use objset::{Change, ObjectChange, Refusal, plan_set};
 use std::alloc::Global;
 use std::test::Fail;
 use vdev_label::Config;
@@ -58,9 +60,7 @@ pub(crate) fn with(
         change: made,
     }];
     store.drop_plan(birth);
-    let done = change(set, store, alloc, &changes, birth, birth, &[])?;
-    store_plan(store);
-    Ok(done.set)
+    stored(set, store, alloc, &changes, birth, birth)
 }
 
 /// What a table is read as.
@@ -75,37 +75,34 @@ fn rows_in(
     read(set, store, alloc, KIND, 5, birth, &[])
 }
 
-/// Whether a table is read as these rows.
-fn has_rows(
+/// A table of 300 rows, which are written anew by two.
+pub(crate) fn table_made(alloc: Global, birth: u64) -> Result<Change, Fail>
+    ensures { IfOk result IsGoodChange }
+{
+    if birth == 1 {
+        return Ok(creation(alloc, KIND, &[7; 9600])?);
+    }
+    Ok(replacement(alloc, KIND, &[8; 64])?)
+}
+
+pub(crate) fn is_table(
     set: &ObjectSet,
     store: &mut Store,
     alloc: Global,
     birth: u64,
-    rows: &[u8],
-) -> Result<bool, Refusal>
+) -> Result<bool, Fail>
     requires { FitsObjectSet set.now }
 {
-    Ok(rows_in(set, store, alloc, birth)?.as_slice() == rows)
-}
-
-/// A table of 300 rows, which are written anew by two: whether each is read as it was written.
-fn tables(store: &mut Store, alloc: Global) -> Result<[bool; 2], Fail> {
-    let made = creation(alloc, KIND, &[7; 9600])?;
-    let first = with(&EMPTY, store, alloc, 5, made, 1)?;
-    let long = has_rows(&first, store, alloc, 1, &[7; 9600])?;
-    let made = replacement(alloc, KIND, &[8; 64])?;
-    let second = with(&first, store, alloc, 5, made, 2)?;
-    Ok([long, has_rows(&second, store, alloc, 2, &[8; 64])?])
-}
-
-fn tables_in_memory(alloc: Global) -> Result<[bool; 2], Fail> {
-    let mut store = new_store(alloc)?;
-    tables(&mut store, alloc)
+    let rows = rows_in(set, store, alloc, birth)?;
+    if birth == 1 {
+        return Ok(rows.as_slice() == [7; 9600].as_slice());
+    }
+    Ok(rows.as_slice() == [8; 64].as_slice())
 }
 
 #[test]
 fn tables_are_read_as_they_were_written(rt: HostRuntime) -> Result<(), Fail> {
-    assert!(rt; tables_in_memory(rt.alloc())? == [true; 2]);
+    assert!(rt; is_read_after(rt.alloc(), &ObjectKind::Table, 2)?);
     Ok(())
 }
 
@@ -145,7 +142,11 @@ fn row_at(directory: &Directory, place: usize) -> (u8, u64) {
 }
 
 fn named(directory: &Directory) -> [(u8, u64); 3] {
-    [0, 1, 2].map(|place| row_at(directory, place))
+    [
+        row_at(directory, 0),
+        row_at(directory, 1),
+        row_at(directory, 2),
+    ]
 }
 
 /// Whether each of the names was added, which names there are, what stood under one that is removed twice, and which names there
@@ -164,59 +165,76 @@ fn names(alloc: Global) -> Result<Names, Fail> {
 
 #[test]
 fn names_come_in_order(rt: HostRuntime) -> Result<(), Fail> {
-    let (added, before, removed, after) = names(rt.alloc())?;
-    assert!(rt; added == [true, true, true, false]);
-    assert!(rt; before == [(b'a', 6), (b'm', 4), (b'z', 5)]);
-    assert!(rt; removed == [Some(4), None]);
-    assert!(rt; after == [(b'a', 6), (b'z', 5), (0, 0)]);
+    let wanted = (
+        [true, true, true, false],
+        [(b'a', 6), (b'm', 4), (b'z', 5)],
+        [Some(4), None],
+        [(b'a', 6), (b'z', 5), (0, 0)],
+    );
+    assert!(rt; names(rt.alloc())? == wanted);
     Ok(())
 }
 
-/// A directory that is stored as object 1: whether it is read as it was.
-fn stored(store: &mut Store, alloc: Global) -> Result<bool, Fail> {
+/// A directory of three names.
+pub(crate) fn directory_made(alloc: Global, birth: u64) -> Result<Change, Fail>
+    ensures { IfOk result IsGoodChange }
+{
     let (directory, _) = three_names(alloc)?;
     if directory.rows().len() != 3 {
-        return Ok(false);
+        return Ok(Change::Free);
     }
-    let made = directory.creation(alloc)?;
-    let set = with(&EMPTY, store, alloc, 1, made, 1)?;
-    let found = read_directory(&set, store, alloc, 1, &[])?;
-    Ok(found.rows() == directory.rows())
+    if birth == 1 {
+        return Ok(directory.creation(alloc)?);
+    }
+    Ok(directory.replacement(alloc)?)
 }
 
-fn stored_in_memory(alloc: Global) -> Result<bool, Fail> {
-    let mut store = new_store(alloc)?;
-    stored(&mut store, alloc)
+pub(crate) fn is_directory(
+    set: &ObjectSet,
+    store: &mut Store,
+    alloc: Global,
+    birth: u64,
+) -> Result<bool, Fail>
+    requires { FitsObjectSet set.now }
+{
+    let (directory, _) = three_names(alloc)?;
+    let found = read_directory(set, store, alloc, birth, &[])?;
+    Ok(found.rows() == directory.rows())
 }
 
 #[test]
 fn a_directory_is_read_as_it_was_stored(rt: HostRuntime) -> Result<(), Fail> {
-    assert!(rt; stored_in_memory(rt.alloc())?);
+    assert!(rt; is_read_after(rt.alloc(), &ObjectKind::Directory, 2)?);
     Ok(())
 }
 
-/// A configuration with no vdevs, made as object 2 and written anew: how many vdevs are read then.
-fn configs(store: &mut Store, alloc: Global) -> Result<[usize; 2], Fail> {
+/// A configuration with no vdevs.
+pub(crate) fn config_made(alloc: Global, birth: u64) -> Result<Change, Fail>
+    ensures { IfOk result IsGoodChange }
+{
     let config = Config {
         vdevs: Vec::new(alloc),
     };
-    let made = config_creation(alloc, &config)?;
-    let first = with(&EMPTY, store, alloc, 2, made, 1)?;
-    let before = read_config(&first, store, alloc, 1, &[])?.vdevs.len();
-    let made = config_replacement(alloc, &config)?;
-    let second = with(&first, store, alloc, 2, made, 2)?;
-    let after = read_config(&second, store, alloc, 2, &[])?.vdevs.len();
-    Ok([before, after])
+    if birth == 1 {
+        return Ok(config_creation(alloc, &config)?);
+    }
+    Ok(config_replacement(alloc, &config)?)
 }
 
-fn configs_in_memory(alloc: Global) -> Result<[usize; 2], Fail> {
-    let mut store = new_store(alloc)?;
-    configs(&mut store, alloc)
+pub(crate) fn is_config(
+    set: &ObjectSet,
+    store: &mut Store,
+    alloc: Global,
+    birth: u64,
+) -> Result<bool, Fail>
+    requires { FitsObjectSet set.now }
+{
+    Ok(read_config(set, store, alloc, birth, &[])?.vdevs.is_empty())
 }
 
 #[test]
 fn a_configuration_is_read_as_it_was_stored(rt: HostRuntime) -> Result<(), Fail> {
-    assert!(rt; configs_in_memory(rt.alloc())? == [0; 2]);
+    assert!(rt; is_read_after(rt.alloc(), &ObjectKind::Config, 2)?);
     Ok(())
 }
 
@@ -245,44 +263,33 @@ pub(crate) fn block_of_set(store: &mut Store, alloc: Global) -> Result<Block, Re
     plan_set(&EMPTY, store, alloc, 1)
 }
 
-/// Whether a record is read as it was written in the set, and none of another object.
-fn is_there(
+/// A record of a dataset that was made in the group.
+pub(crate) fn record_made(alloc: Global, birth: u64) -> Result<Change, Fail>
+    ensures { IfOk result IsGoodChange }
+{
+    let record = record_of(born_in(1), birth);
+    if birth == 1 {
+        return Ok(record_creation(alloc, &record)?);
+    }
+    Ok(record_change(alloc, &record)?)
+}
+
+/// Whether the record is read as it was written, and none of another object.
+pub(crate) fn is_record(
     set: &ObjectSet,
     store: &mut Store,
     alloc: Global,
-    record: &DatasetRecord,
     birth: u64,
-) -> [bool; 2]
+) -> Result<bool, Fail>
     requires { FitsObjectSet set.now }
 {
-    let found = read_record(set, store, alloc, 3, birth, &[]);
+    let found = read_record(set, store, alloc, 3, birth, &[])?;
     let none = read_record(set, store, alloc, 4, birth, &[]);
-    [
-        found.is_ok_and(|found| found == *record),
-        matches!(none, Err(Refusal::BadPointer)),
-    ]
-}
-
-/// A record that is made, and written once more.
-fn records(store: &mut Store, alloc: Global) -> Result<[[bool; 2]; 2], Fail> {
-    let block = block_of_set(store, alloc)?;
-    let one = record_of(block, 1);
-    let two = record_of(block, 2);
-    let made = record_creation(alloc, &one)?;
-    let first = with(&EMPTY, store, alloc, 3, made, 1)?;
-    let before = is_there(&first, store, alloc, &one, 1);
-    let made = record_change(alloc, &two)?;
-    let second = with(&first, store, alloc, 3, made, 2)?;
-    Ok([before, is_there(&second, store, alloc, &two, 2)])
-}
-
-fn records_in_memory(alloc: Global) -> Result<[[bool; 2]; 2], Fail> {
-    let mut store = new_store(alloc)?;
-    records(&mut store, alloc)
+    Ok(found == record_of(born_in(1), birth) && matches!(none, Err(Refusal::BadPointer)))
 }
 
 #[test]
 fn records_are_read_as_they_were_written(rt: HostRuntime) -> Result<(), Fail> {
-    assert!(rt; records_in_memory(rt.alloc())? == [[true; 2]; 2]);
+    assert!(rt; is_read_after(rt.alloc(), &ObjectKind::Record, 2)?);
     Ok(())
 }

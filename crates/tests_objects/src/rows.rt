@@ -1,15 +1,17 @@
 //! Stale spans and space maps, as the bytes of their tables and in objects of a set.
 ghost use Rattle.std.specs.Prelude.{◌<◌, IfOk};
 ghost use Rattle.dnode.specs.ObjectSet.{FitsObjectSet};
+ghost use Rattle.objset.specs.Changes.{IsGoodChange};
 
-use crate::meta::{EMPTY, with};
-use crate::stores::{Store, new_store};
+use crate::histories::{ObjectKind, is_read_after};
+use crate::stores::Store;
 use dnode::ObjectSet;
 use meta_objset::{
     MetaslabMap, MetaslabPlace, Refusal, SpaceMaps, StaleSpan, StaleSpans, read_space_maps,
     read_stale_spans,
 };
-use std::alloc::Global;
+use objset::Change;
+use std::alloc::{AllocError, Global};
 use std::test::Fail;
 
 /// Of a disk that is back.
@@ -27,52 +29,45 @@ const AWAY: StaleSpan = StaleSpan {
 };
 
 /// The later span first.
-fn two_spans(alloc: Global) -> Result<StaleSpans, Fail> {
+fn two_spans(alloc: Global) -> Result<StaleSpans, AllocError> {
     let mut spans = StaleSpans::new(alloc);
     spans.set(AWAY)?;
     spans.set(BACK)?;
     Ok(spans)
 }
 
-fn encoded_spans(alloc: Global) -> Result<Vec<u8>, Fail> {
+fn encoded_spans(alloc: Global) -> Result<Vec<u8>, Refusal> {
     let spans = two_spans(alloc)?;
     if spans.rows().len() != 2 {
         return Ok(Vec::new(alloc));
     }
-    Ok(spans.encode(alloc)?)
+    spans.encode(alloc)
 }
 
-/// Whether two spans are read as they were written.
-fn are_spans_read(alloc: Global) -> Result<bool, Fail> {
-    let bytes = encoded_spans(alloc)?;
-    let found = StaleSpans::decode(alloc, &bytes)?;
-    Ok(found.rows() == [BACK, AWAY].as_slice())
-}
-
-/// Whether the spans are refused with one byte changed.
-fn are_spans_refused(alloc: Global, at: usize, byte: u8) -> Result<bool, Fail> {
+/// Whether the spans are read as they were written when one byte of theirs is this one, or why not.
+fn are_spans_read(alloc: Global, at: usize, byte: u8) -> Result<bool, Refusal> {
     let mut bytes = encoded_spans(alloc)?;
     if let Some(place) = bytes.as_mut_slice().get_mut(at) {
         *place = byte;
     }
-    let found = StaleSpans::decode(alloc, &bytes);
-    Ok(matches!(found, Err(Refusal::BadPointer)))
+    let found = StaleSpans::decode(alloc, &bytes)?;
+    Ok(found.rows() == [BACK, AWAY].as_slice())
 }
 
-/// A disk there twice, an end before the beginning, and a last word other than zero.
-fn span_breaches(alloc: Global) -> Result<[bool; 3], Fail> {
-    Ok([
-        are_spans_refused(alloc, 64, 7)?,
-        are_spans_refused(alloc, 40, 10)?,
-        are_spans_refused(alloc, 56, 1)?,
-    ])
+/// Of the number of rows, which stays 2, a disk that is there twice, an end before the beginning, and a last word other than zero.
+fn spans_read(alloc: Global) -> [Result<bool, Refusal>; 4] {
+    [
+        are_spans_read(alloc, 0, 2),
+        are_spans_read(alloc, 64, 7),
+        are_spans_read(alloc, 40, 10),
+        are_spans_read(alloc, 56, 1),
+    ]
 }
 
 #[test]
-fn stale_spans_are_read_as_they_were_written(rt: HostRuntime) -> Result<(), Fail> {
-    assert!(rt; are_spans_read(rt.alloc())?);
-    assert!(rt; span_breaches(rt.alloc())? == [true; 3]);
-    Ok(())
+fn stale_spans_are_read_as_they_were_written(rt: HostRuntime) {
+    let bad = Err(Refusal::BadPointer);
+    assert!(rt; spans_read(rt.alloc()) == [Ok(true), bad, bad, bad]);
 }
 
 const FIRST: MetaslabMap = MetaslabMap {
@@ -86,164 +81,131 @@ const SECOND: MetaslabMap = MetaslabMap {
 };
 
 /// The later map first.
-fn two_maps(alloc: Global) -> Result<SpaceMaps, Fail> {
+fn two_maps(alloc: Global) -> Result<SpaceMaps, AllocError> {
     let mut maps = SpaceMaps::new(alloc);
     maps.set(SECOND)?;
     maps.set(FIRST)?;
     Ok(maps)
 }
 
-fn encoded_maps(alloc: Global) -> Result<Vec<u8>, Fail> {
+fn encoded_maps(alloc: Global) -> Result<Vec<u8>, Refusal> {
     let maps = two_maps(alloc)?;
     if maps.rows().len() != 2 {
         return Ok(Vec::new(alloc));
     }
-    Ok(maps.encode(alloc)?)
+    maps.encode(alloc)
 }
 
-/// Whether two space maps are read as they were written.
-fn are_maps_read(alloc: Global) -> Result<bool, Fail> {
-    let bytes = encoded_maps(alloc)?;
-    let found = SpaceMaps::decode(alloc, &bytes)?;
-    Ok(found.rows() == [FIRST, SECOND].as_slice())
-}
-
-/// Whether the space maps are refused with one byte changed.
-fn are_maps_refused(alloc: Global, at: usize, byte: u8) -> Result<bool, Fail> {
+/// Whether the space maps are read as they were written when one byte of theirs is this one, or why not.
+fn are_maps_read(alloc: Global, at: usize, byte: u8) -> Result<bool, Refusal> {
     let mut bytes = encoded_maps(alloc)?;
     if let Some(place) = bytes.as_mut_slice().get_mut(at) {
         *place = byte;
     }
-    let found = SpaceMaps::decode(alloc, &bytes);
-    Ok(matches!(found, Err(Refusal::BadPointer)))
+    let found = SpaceMaps::decode(alloc, &bytes)?;
+    Ok(found.rows() == [FIRST, SECOND].as_slice())
 }
 
-/// The second metaslab before the first, in the same vdev, and a last word other than zero.
-fn map_breaches(alloc: Global) -> Result<[bool; 2], Fail> {
-    Ok([
-        are_maps_refused(alloc, 64, 0)?,
-        are_maps_refused(alloc, 56, 1)?,
-    ])
+/// Of the number of rows, which stays 2, the second metaslab before the first in the same vdev, and a last word other than zero.
+fn maps_read(alloc: Global) -> [Result<bool, Refusal>; 3] {
+    [
+        are_maps_read(alloc, 0, 2),
+        are_maps_read(alloc, 64, 0),
+        are_maps_read(alloc, 56, 1),
+    ]
 }
 
 #[test]
-fn space_maps_are_read_as_they_were_written(rt: HostRuntime) -> Result<(), Fail> {
-    assert!(rt; are_maps_read(rt.alloc())?);
-    assert!(rt; map_breaches(rt.alloc())? == [true; 2]);
-    Ok(())
+fn space_maps_are_read_as_they_were_written(rt: HostRuntime) {
+    let bad = Err(Refusal::BadPointer);
+    assert!(rt; maps_read(rt.alloc()) == [Ok(true), bad, bad]);
 }
 
-/// The set with the spans as object 3, which birth 1 makes and a later one writes anew.
-fn with_spans(
-    set: &ObjectSet,
-    store: &mut Store,
-    alloc: Global,
-    spans: &StaleSpans,
-    birth: u64,
-) -> Result<ObjectSet, Fail>
-    requires set { FitsObjectSet set.now }
-    requires born { 0 < birth }
-    ensures { IfOk result FitsObjectSet }
+/// What the group makes of the spans: the first one makes their object.
+fn spans_change(alloc: Global, spans: &StaleSpans, birth: u64) -> Result<Change, Refusal>
+    ensures { IfOk result IsGoodChange }
 {
     if spans.rows().len() > 2 {
-        return Ok(*set);
+        return Ok(Change::Free);
     }
-    let made = if birth == 1 {
-        spans.creation(alloc)?
-    } else {
-        spans.replacement(alloc)?
-    };
-    Ok(with(set, store, alloc, 3, made, birth)?)
+    if birth == 1 {
+        return spans.creation(alloc);
+    }
+    spans.replacement(alloc)
 }
 
-/// Whether the spans that are read are these, and the first disk's.
-fn spans_in(
+/// Two spans, and then the second of them.
+pub(crate) fn spans_made(alloc: Global, birth: u64) -> Result<Change, Fail>
+    ensures { IfOk result IsGoodChange }
+{
+    let mut spans = two_spans(alloc)?;
+    if birth == 2 {
+        spans.remove(BACK.disk);
+    }
+    Ok(spans_change(alloc, &spans, birth)?)
+}
+
+/// Whether they are read as they were written, and the first disk's is found.
+pub(crate) fn are_spans(
     set: &ObjectSet,
     store: &mut Store,
     alloc: Global,
     birth: u64,
-    wanted: &[StaleSpan],
-) -> Result<(bool, Option<StaleSpan>), Fail>
+) -> Result<bool, Fail>
     requires { FitsObjectSet set.now }
 {
     let spans = read_stale_spans(set, store, alloc, birth, &[])?;
-    Ok((spans.rows() == wanted, spans.get(BACK.disk)))
+    let found = spans.get(BACK.disk);
+    if birth == 1 {
+        return Ok(spans.rows() == [BACK, AWAY].as_slice() && found == Some(BACK));
+    }
+    Ok(spans.rows() == [AWAY].as_slice() && found.is_none())
 }
 
-/// Two spans, and then the second of them, as an object: whether they are read as they were written, and whether the first
-/// disk's is found.
-fn stored_spans(store: &mut Store, alloc: Global) -> Result<[bool; 4], Fail> {
-    let mut spans = two_spans(alloc)?;
-    let set = with_spans(&EMPTY, store, alloc, &spans, 1)?;
-    let (both, found) = spans_in(&set, store, alloc, 1, &[BACK, AWAY])?;
-    spans.remove(BACK.disk);
-    let set = with_spans(&set, store, alloc, &spans, 2)?;
-    let (one, left) = spans_in(&set, store, alloc, 2, &[AWAY])?;
-    Ok([both, found == Some(BACK), one, left.is_none()])
-}
-
-fn stored_spans_in_memory(alloc: Global) -> Result<[bool; 4], Fail> {
-    let mut store = new_store(alloc)?;
-    stored_spans(&mut store, alloc)
-}
-
-/// The set with the space maps as object 4, which birth 1 makes and a later one writes anew.
-fn with_maps(
-    set: &ObjectSet,
-    store: &mut Store,
-    alloc: Global,
-    maps: &SpaceMaps,
-    birth: u64,
-) -> Result<ObjectSet, Fail>
-    requires set { FitsObjectSet set.now }
-    requires born { 0 < birth }
-    ensures { IfOk result FitsObjectSet }
+/// What the group makes of the space maps: the first one makes their object.
+fn maps_change(alloc: Global, maps: &SpaceMaps, birth: u64) -> Result<Change, Refusal>
+    ensures { IfOk result IsGoodChange }
 {
     if maps.rows().len() > 2 {
-        return Ok(*set);
+        return Ok(Change::Free);
     }
-    let made = if birth == 1 {
-        maps.creation(alloc)?
-    } else {
-        maps.replacement(alloc)?
-    };
-    Ok(with(set, store, alloc, 4, made, birth)?)
+    if birth == 1 {
+        return maps.creation(alloc);
+    }
+    maps.replacement(alloc)
 }
 
-/// Whether the space maps that are read are these, and the first metaslab's.
-fn maps_in(
+/// Two space maps, and then the second of them.
+pub(crate) fn maps_made(alloc: Global, birth: u64) -> Result<Change, Fail>
+    ensures { IfOk result IsGoodChange }
+{
+    let mut maps = two_maps(alloc)?;
+    if birth == 2 {
+        maps.remove(FIRST.metaslab);
+    }
+    Ok(maps_change(alloc, &maps, birth)?)
+}
+
+/// Whether they are read as they were written, and the first metaslab's is found.
+pub(crate) fn are_maps(
     set: &ObjectSet,
     store: &mut Store,
     alloc: Global,
     birth: u64,
-    wanted: &[MetaslabMap],
-) -> Result<(bool, Option<MetaslabMap>), Fail>
+) -> Result<bool, Fail>
     requires { FitsObjectSet set.now }
 {
     let maps = read_space_maps(set, store, alloc, birth, &[])?;
-    Ok((maps.rows() == wanted, maps.get(FIRST.metaslab)))
-}
-
-/// Two space maps, and then the second of them, as an object: whether they are read as they were written, and whether the first
-/// metaslab's is found.
-fn stored_maps(store: &mut Store, alloc: Global) -> Result<[bool; 4], Fail> {
-    let mut maps = two_maps(alloc)?;
-    let set = with_maps(&EMPTY, store, alloc, &maps, 1)?;
-    let (both, found) = maps_in(&set, store, alloc, 1, &[FIRST, SECOND])?;
-    maps.remove(FIRST.metaslab);
-    let set = with_maps(&set, store, alloc, &maps, 2)?;
-    let (one, left) = maps_in(&set, store, alloc, 2, &[SECOND])?;
-    Ok([both, found == Some(FIRST), one, left.is_none()])
-}
-
-fn stored_maps_in_memory(alloc: Global) -> Result<[bool; 4], Fail> {
-    let mut store = new_store(alloc)?;
-    stored_maps(&mut store, alloc)
+    let found = maps.get(FIRST.metaslab);
+    if birth == 1 {
+        return Ok(maps.rows() == [FIRST, SECOND].as_slice() && found == Some(FIRST));
+    }
+    Ok(maps.rows() == [SECOND].as_slice() && found.is_none())
 }
 
 #[test]
 fn tables_are_read_as_they_were_stored(rt: HostRuntime) -> Result<(), Fail> {
-    assert!(rt; stored_spans_in_memory(rt.alloc())? == [true; 4]);
-    assert!(rt; stored_maps_in_memory(rt.alloc())? == [true; 4]);
+    assert!(rt; is_read_after(rt.alloc(), &ObjectKind::Spans, 2)?);
+    assert!(rt; is_read_after(rt.alloc(), &ObjectKind::Maps, 2)?);
     Ok(())
 }
