@@ -1,14 +1,14 @@
 -- Which records and dead lists a change of a chain touches.
-use Rattle.std.proofs.Common.{◌≡◌, ◌∙◌, ℕ, Option, Some, None, inl, inr, refl, sym, subst}
+use Rattle.std.proofs.Common.{◌≡◌, ◌≢◌, ◌⊎◌, ◌∙◌, ℕ, Option, Some, None, inl, inr, refl, sym, subst}
 use Rattle.std.proofs.lemmas.Bool.{cases_eq}
-use Rattle.dataset_changes.specs.States.{HasListPut, HasRecordPut, HaveSameLists, HaveSameRecords, once_read, record_at, with_record}
+use Rattle.dataset_changes.specs.States.{AreOfOneSet, HasListPut, HasRecordPut, HaveSameLists, HaveSameRecords, once_read, record_at, with_record}
 use Rattle.dataset_changes.specs.declared.changes.DatasetChanges.{DatasetChanges}
 use Rattle.dataset_changes.specs.declared.states.ListState.{ListState}
 use Rattle.dataset_changes.specs.declared.states.RecordState.{RecordState}
 use Rattle.dataset_changes.specs.declared.states.RecordState.TheVariants as records
 use Rattle.meta_objset.specs.declared.record.DatasetRecord.{DatasetRecord}
 use Rattle.dataset_chains.specs.Refused.{HasKnown}
-use Rattle.dataset_chains.specs.Touched.{AreAtMostRead, IsAtMostRead, TouchesOnly}
+use Rattle.dataset_chains.specs.Touched.{AreAtMostRead, IsAtMostRead, IsSnapshotTouched, TouchesOnly}
 
 -- ---- reading
 
@@ -69,4 +69,52 @@ touches old read put new n list state after OfList reads unlisted puts lists sam
     | inl e ↦ inr (subst OfList (sym e) of_list)
     | inr ne ↦ inl (list_put.1 m ne ∙ lists m ∙ unlisted m)
   ];
+}
+
+-- ---- passing on
+
+-- the record is what it was, was read, or is that of the one before
+abbrev IsPassed : Option RecordState → Option RecordState → ℕ → ℕ → Type 0
+IsPassed old new before number = IsAtMostRead old new ⊎ ((number ≡ before) × (number ≢ 0))
+
+-- a record was read, and perhaps another is put in its place
+pub passes : (old mid new : DatasetChanges) (before : ℕ) (state : Option RecordState) → before ≢ 0 → AreAtMostRead old mid → HasRecordPut mid before state new
+    → (number : ℕ) → IsPassed (record_at old number) (record_at new number) before number
+passes old mid new before state some reads put number = elim (cases_eq number before) [
+  | inl e ↦ inr (e, λ zero. some (sym e ∙ zero))
+  | inr ne ↦ inl (subst (λ (s : Option RecordState). IsAtMostRead (record_at old number) s) (sym (put.1 number ne)) (reads number))
+]
+
+passed_after : (old mid new : Option RecordState) (before number : ℕ) → IsAtMostRead old mid → IsPassed mid new before number → IsPassed old new before number
+passed_after old mid new before number read (inl kept) = inl (at_most_on old mid new read kept)
+passed_after old mid new before number read (inr here) = inr here
+
+-- ---- a snapshot
+
+-- the head's record is read, that of the one before passed on, the snapshot's made, the head's changed, and a dead list made
+pub takes : (old read passed made put new : DatasetChanges) (head dataset list : ℕ) (r : DatasetRecord) (first second : Option RecordState) (third : Option ListState)
+    → AreOfOneSet old read → HasKnown read head r → AreAtMostRead old read → ((number : ℕ) → IsPassed (record_at read number) (record_at passed number) r.previous number)
+    → HasRecordPut passed dataset first made → HasRecordPut made head second put → HaveSameRecords put new
+    → HaveSameLists old put → HasListPut put list third new → IsSnapshotTouched old new head dataset list
+takes old read passed made put new head dataset list r first second third one_set known reads passing makes changes same lists list_put = record {
+  far = read;
+  one_set = one_set;
+  r = r;
+  known = known;
+  touched = record {
+    records = λ m. elim (cases_eq m dataset) [
+      | inl e ↦ inr (inl e)
+      | inr apart ↦ elim (cases_eq m head) [
+        | inl e ↦ inr (inr (inl e))
+        | inr other ↦ elim (passed_after (record_at old m) (record_at read m) (record_at passed m) r.previous m (reads m) (passing m)) [
+          | inl kept ↦ inl (subst (λ (s : Option RecordState). IsAtMostRead (record_at old m) s) (sym (same m ∙ changes.1 m other ∙ makes.1 m apart)) kept)
+          | inr here ↦ inr (inr (inr here))
+        ]
+      ]
+    ];
+    lists = λ m. elim (cases_eq m list) [
+      | inl e ↦ inr e
+      | inr ne ↦ inl (list_put.1 m ne ∙ lists m)
+    ];
+  };
 }

@@ -1,7 +1,7 @@
 -- Which records and dead lists a group's change of a chain touches.
-use Rattle.std.specs.Prelude.{ℕ, ◌≡◌, ◌⊎◌, Option, Some, None}
+use Rattle.std.specs.Prelude.{ℕ, ◌≡◌, ◌≢◌, ◌⊎◌, Option, Some, None}
 use Rattle.dataset_changes.specs.Over.{HasRecordNow}
-use Rattle.dataset_changes.specs.States.{list_at, record_at}
+use Rattle.dataset_changes.specs.States.{AreOfOneSet, list_at, record_at}
 use Rattle.dataset_changes.specs.declared.changes.DatasetChanges.{DatasetChanges}
 use Rattle.dataset_changes.specs.declared.states.RecordState.{RecordState}
 use Rattle.dataset_changes.specs.declared.states.RecordState.TheVariants as records
@@ -31,3 +31,13 @@ KeepsDeadLists old new = (number : ℕ) (r : DatasetRecord) → HasKnown old num
 abbrev pub HasSameList : (ℕ → Option Object) → DatasetChanges → DatasetChanges → ℕ → Type 0
 HasSameList objects old new number = (r s : DatasetRecord) → HasRecordNow objects old number r
     → HasRecordNow objects new number s → s.dead_list ≡ r.dead_list
+
+-- For a snapshot of a head the records of three datasets are touched: the snapshot's is made, the head's is changed, and so is that of the
+-- snapshot that the head's record, as it came so far, names as the one before, if there is one. One dead list is made.
+pub record IsSnapshotTouched (old new : DatasetChanges) (head dataset dead_list : ℕ) : Type 0 where
+  pub far : DatasetChanges
+  pub one_set : AreOfOneSet old far
+  pub r : DatasetRecord
+  pub known : HasKnown far head r
+  pub touched : TouchesOnly old new
+      (λ number. (number ≡ dataset) ⊎ ((number ≡ head) ⊎ ((number ≡ r.previous) × (number ≢ 0)))) (λ list. list ≡ dead_list)

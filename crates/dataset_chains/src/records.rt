@@ -1,19 +1,19 @@
 //! Records of chains that are read and linked.
-ghost use Rattle.std.specs.Prelude.{◌≡◌, ◌⊎◌, [], ℕ, List, Option, OnOk, IfOk, IfErr};
+ghost use Rattle.std.specs.Prelude.{◌≡◌, ◌≢◌, ◌⊎◌, [], ℕ, List, Option, OnOk, IfOk, IfErr};
 ghost use Rattle.block_pointer.specs.declared.block.Block.{Block};
 ghost use Rattle.block_store.specs.Blocks.{Contents};
 ghost use Rattle.block_store.specs.Losses.{IsForLoss};
 ghost use Rattle.block_store.specs.Steps.{OnlyReadsBlocks, AnswersAreTrue};
 ghost use Rattle.block_store.specs.Store.{Holds};
 ghost use Rattle.dataset_changes.specs.Over.{AreOver};
-ghost use Rattle.dataset_changes.specs.States.{AreOfOneSet, HaveSameLists, IsNumber, birth_of, set_of};
+ghost use Rattle.dataset_changes.specs.States.{AreOfOneSet, HaveSameLists, IsNumber, birth_of, record_at, set_of};
 ghost use Rattle.dead_list.specs.Datasets.{Pool};
 ghost use Rattle.meta_objset.specs.Record.{FitsRecord};
 ghost use Rattle.objset.specs.Objects.{Object, AreObjects};
 ghost use Rattle.dataset_chains.specs.Chains.{Reading, SpellsChains, kind_of};
 ghost use Rattle.dataset_chains.specs.Passing.{IsNextPassed, IsRecordAlone};
 ghost use Rattle.dataset_chains.specs.Refused.{HasKnown, IsChainRefused, IsRecordLost};
-ghost use Rattle.dataset_chains.specs.Touched.{AreAtMostRead};
+ghost use Rattle.dataset_chains.specs.Touched.{AreAtMostRead, IsAtMostRead};
 
 use block_store::{BlockStore, Refusal};
 use dataset_changes::DatasetChanges;
@@ -75,6 +75,9 @@ pub(crate) fn pass_next<D: Disk + Drop>(
     ensures reads { OnlyReadsBlocks store.old store.new [] }
     ensures one_set { AreOfOneSet changes.old changes.new }
     ensures lists { HaveSameLists changes.old changes.new }
+    ensures touched { OnOk result ((number : ℕ)
+        → IsAtMostRead (record_at changes.old number) (record_at changes.new number)
+        ⊎ ((number ≡ before) × (number ≢ 0))) }
     ensures value { OnOk result ((stored : Contents) (objects : ℕ → Option Object)
         (own : List Block) (blocks : ℕ → List Block) → Holds store.old stored
         → AreObjects stored (birth_of changes.old) (set_of changes.old) objects own blocks

@@ -12,6 +12,7 @@ ghost use Rattle.meta_objset.specs.declared.record.DatasetKind.TheVariants as ki
 ghost use Rattle.objset.specs.Objects.{Object, AreObjects};
 ghost use Rattle.dataset_chains.specs.Chains.{AreNewNumbers, Reading, SpellsChains};
 ghost use Rattle.dataset_chains.specs.Refused.{HasMostClones, IsChainRefused};
+ghost use Rattle.dataset_chains.specs.Touched.{IsSnapshotTouched};
 
 use crate::records::{pass_next, record_of_kind};
 use block_store::{BlockStore, Refusal};
@@ -52,6 +53,8 @@ pub fn snapshot<D: Disk + Drop>(
         → AreNewNumbers objects changes.old numbers.dataset numbers.dead_list
         → SpellsChains known group objects changes.new (with_snapshot pool head numbers.dataset)
         (updated readings numbers.dataset (readings head))) }
+    ensures touched { OnOk result (IsSnapshotTouched changes.old changes.new head numbers.dataset
+        numbers.dead_list) }
     ensures refused { IfErr result (IsChainRefused store.old store.new changes.old changes.new
         head kinds.Volume) }
     ensures known { IfErr result (λ refusal. (stored known : Contents)

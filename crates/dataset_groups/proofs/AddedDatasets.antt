@@ -1,5 +1,5 @@
--- The datasets of a group with a volume more.
-use Rattle.std.proofs.Common.{◌≡◌, ◌+◌, ◌<◌, ◌≤◌, ℕ, List, [], replicate, Option, Some, None, Contains, inl, inr, refl, sym, ap, subst, ◌∙◌, arith}
+-- The datasets of a group with a volume more, and behind actions one after the other.
+use Rattle.std.proofs.Common.{◌≡◌, ◌+◌, ◌<◌, ◌≤◌, ℕ, true, List, [], replicate, Option, Some, None, Contains, inl, inr, refl, sym, ap, subst, ◌∙◌, arith}
 use Rattle.std.proofs.lemmas.List.{length-replicate}
 use Rattle.block_pointer.specs.declared.block.Block.{Block}
 use Rattle.block_store.specs.Blocks.{Contents, Extends}
@@ -17,21 +17,23 @@ use Rattle.meta_objset.specs.declared.record.DatasetRecord.{DatasetRecord}
 use Rattle.meta_objset.specs.Datasets.{HasRecord}
 use Rattle.meta_objset.specs.Directory.{LacksName}
 use Rattle.objset.specs.Objects.{Object}
-use Rattle.pool_model.specs.declared.item.Change.{Change}
 use Rattle.pool_model.specs.declared.item.Change.TheVariants.{Create}
+use Rattle.pool_model.specs.Names.{is_name}
 use Rattle.pool_model.specs.Pools.{PlainPool, changed, created}
 use Rattle.volume.specs.Volume.{IsVolume}
 use Rattle.volume.specs.Walking.{blocks_of_volume}
+use Rattle.dataset_groups.specs.Actions.{AreActed}
 use Rattle.dataset_groups.specs.Adding.{IsAdded}
 use Rattle.dataset_groups.specs.Groups.{IsFresh, SpellsGroup}
-use Rattle.dataset_groups.specs.Leaving.{IsReachExchanged}
+use Rattle.dataset_groups.specs.Leaving.{AddsData, IsReachExchanged}
 use Rattle.dataset_groups.specs.Names.{reach_by}
 use Rattle.dataset_groups.specs.NewVolumes.{IsNewVolume, new_record, numbers_end}
 use Rattle.dataset_groups.specs.declared.datasets.GroupDatasets.{GroupDatasets}
 use Rattle.dataset_groups.specs.declared.new_volume.NewVolume.{NewVolume}
 use Rattle.dataset_groups.proofs.AddedNames.{names_with, not_new}
 use Rattle.dataset_groups.proofs.AddedReach.{reach_with}
-use Rattle.dataset_groups.proofs.Exchanges.{same_given}
+use Rattle.dataset_groups.proofs.Copied.{adds_none, adds_on}
+use Rattle.dataset_groups.proofs.Exchanges.{given_then, same_given}
 use Rattle.dataset_groups.proofs.KnownBlocks.{free_or_not, reached_known}
 use Rattle.dataset_groups.proofs.MakingVolumes.{volumes_same}
 use Rattle.dataset_groups.proofs.NewTouches.{stays_fresh, stays_unmixed}
@@ -82,20 +84,14 @@ new_numbers objects changes number list is behind within one two = record {
 
 -- ---- the datasets
 
--- what a volume more makes of them, and which blocks are new
-abbrev pub IsMadeFrom : Contents → Contents → ℕ → (ℕ → Option Object) → Pool → GroupDatasets → GroupDatasets → PlainPool → Type 0
-IsMadeFrom planned later group objects pool old new plain =
-    (after : Pool) × (now : ℕ → Reading) × SpellsGroup later group objects new after now plain
-    × IsReachExchanged group planned later (reach_by pool old.directory) (reach_by after new.directory) []
-
 -- the volume of a change is made
-pub volume_made : (old new : GroupDatasets) (change : Change) (v : NewVolume) (group : ℕ) (object_set : Block) (r : DatasetRecord) (planned later : Contents) (objects : ℕ → Option Object)
-    (pool : Pool) (readings : ℕ → Reading) (plain : PlainPool) → IsNewVolume change v → 0 < group → 4 < old.next → old.next + 2 ≤ numbers_end → LacksName old.directory v.name
-    → IsAdded old v.name r new → r ≡ new_record v group (old.next + 1) object_set → Extends planned later
+pub volume_made : (old new : GroupDatasets) (name : List ℕ) (size block_size : ℕ) (v : NewVolume) (group : ℕ) (object_set : Block) (r : DatasetRecord) (planned later : Contents)
+    (objects : ℕ → Option Object) (pool : Pool) (readings : ℕ → Reading) (plain : PlainPool) → IsNewVolume name size block_size v → is_name name ≡ true → 0 < group → 4 < old.next
+    → old.next + 2 ≤ numbers_end → LacksName old.directory v.name → IsAdded old v.name r new → r ≡ new_record v group (old.next + 1) object_set → Extends planned later
     → (bytes : IsVolume later group object_set v.size v.block_size (replicate v.size 0))
-    → IsReachExchanged group planned later [] (blocks_of_volume object_set bytes.set bytes.has.own bytes.has.blocks) []
-    → SpellsGroup planned group objects old pool readings plain → IsMadeFrom planned later group objects pool old new (changed group plain change)
-volume_made old new (Create name size block_size) v group object_set r planned later objects pool readings plain is some behind within lacks added r_is more bytes one spells =
+    → IsReachExchanged group planned later [] (blocks_of_volume object_set bytes.set bytes.has.own bytes.has.blocks) [] → AddsData planned later
+    → SpellsGroup planned group objects old pool readings plain → AreActed group objects planned later old new pool (changed group plain (Create name size block_size))
+volume_made old new name size block_size v group object_set r planned later objects pool readings plain is good some behind within lacks added r_is more bytes one adds spells =
     let made : DatasetRecord = new_record v group (old.next + 1) object_set in
     let it : IsAdded old v.name made new = subst (λ (r : DatasetRecord). IsAdded old v.name r new) r_is added in
     let blocks : List Block = blocks_of_volume object_set bytes.set bytes.has.own bytes.has.blocks in
@@ -118,32 +114,60 @@ volume_made old new (Create name size block_size) v group object_set r planned l
     let chains = it.adds later group objects pool readings blocks reading some (chains_stay.more planned later group objects old.changes pool readings more spells.chains) unused
     (record { kind = refl; created = refl; previous = refl; next = refl; clones = refl })
     (new_numbers objects old.changes n list refl behind within here beside) leads are_new (each_once group planned later blocks one) in
-    let next = it.next in (
-      _,
-      updated readings n reading,
-      record {
+    let next = it.next in record {
+      after = _;
+      readings = updated readings n reading;
+      spells = record {
         chains = chains;
-        names = names_with pool readings old.directory plain spells.names spells.chains.sound n unused blocks reading new.directory row (created group name size block_size) it.row lacks refl is.0 refl
-            in_group (ap (λ k. replicate k 0) is.1) is.2;
+        names = names_with pool readings old.directory plain spells.names spells.chains.sound n unused blocks reading new.directory row (created group name size block_size) it.row lacks refl is.0 good
+            refl in_group (ap (λ k. replicate k 0) is.1) is.2;
         fresh = λ number le.
             stays_fresh objects old.changes new.changes n list spells.chains.over chains.over it.touched number (λ e. absurd (omega (arith, le, next, e))) (λ e. absurd (omega (arith, le, next, e)))
             (spells.fresh number (omega (arith, le, next)));
         unmixed = stays_unmixed objects old.changes new.changes n list spells.chains.over chains.over it.touched (λ e. absurd (omega (arith, e))) here beside spells.unmixed;
-      },
-      reach_with group planned later pool spells.chains.sound n unused blocks old.directory new.directory row it.row.at
+      };
+      exchanged = reach_with group planned later pool spells.chains.sound n unused blocks old.directory new.directory row it.row.at
           (λ block held. let birth = born_now group planned later blocks one block held in omega (arith, birth, some)) refl
-          (not_new pool readings old.directory plain spells.names spells.chains.sound n unused) it.row.placed one,
-    )
+          (not_new pool readings old.directory plain spells.names spells.chains.sound n unused) it.row.placed one;
+      adds = adds;
+    }
 
 -- or its name is there
-pub volume_passed : (datasets : GroupDatasets) (change : Change) (v : NewVolume) (group object : ℕ) (stored : Contents) (objects : ℕ → Option Object) (pool : Pool) (readings : ℕ → Reading)
-    (plain : PlainPool) → IsNewVolume change v → Contains datasets.directory (record { name = v.name; object = object }) → SpellsGroup stored group objects datasets pool readings plain
-    → IsMadeFrom stored stored group objects pool datasets datasets (changed group plain change)
-volume_passed datasets (Create name size block_size) v group object stored objects pool readings plain is held spells = (
-  pool,
-  readings,
-  subst (SpellsGroup stored group objects datasets pool readings)
+pub volume_passed : (datasets : GroupDatasets) (name : List ℕ) (size block_size : ℕ) (v : NewVolume) (group object : ℕ) (stored : Contents) (objects : ℕ → Option Object) (pool : Pool)
+    (readings : ℕ → Reading) (plain : PlainPool) → IsNewVolume name size block_size v → Contains datasets.directory (record { name = v.name; object = object })
+    → SpellsGroup stored group objects datasets pool readings plain → AreActed group objects stored stored datasets datasets pool (changed group plain (Create name size block_size))
+volume_passed datasets name size block_size v group object stored objects pool readings plain is held spells = record {
+  after = pool;
+  readings = readings;
+  spells =
+      subst (SpellsGroup stored group objects datasets pool readings)
       (sym (volumes_same _ (λ r volume named. named.name) datasets.directory (record { name = v.name; object = object }) plain (created group name size block_size) held is.0 spells.names.volumes))
-      spells,
-  same_given group stored (reach_by pool datasets.directory),
-)
+      spells;
+  exchanged = same_given group stored (reach_by pool datasets.directory);
+  adds = adds_none stored;
+}
+
+-- ---- one after the other
+
+-- nothing was done yet
+pub acts_none : (datasets : GroupDatasets) (group : ℕ) (stored : Contents) (objects : ℕ → Option Object) (pool : Pool) (readings : ℕ → Reading) (plain : PlainPool)
+    → SpellsGroup stored group objects datasets pool readings plain → AreActed group objects stored stored datasets datasets pool plain
+acts_none datasets group stored objects pool readings plain spells = record {
+  after = pool;
+  readings = readings;
+  spells = spells;
+  exchanged = same_given group stored (reach_by pool datasets.directory);
+  adds = adds_none stored;
+}
+
+-- and then more
+pub acts_on : (first mid last : GroupDatasets) (group : ℕ) (planned now later : Contents) (objects : ℕ → Option Object) (pool : Pool) (plain then_plain : PlainPool) → Extends planned now
+    → Extends now later → (one : AreActed group objects planned now first mid pool plain) → AreActed group objects now later mid last one.after then_plain
+    → AreActed group objects planned later first last pool then_plain
+acts_on first mid last group planned now later objects pool plain then_plain more further one two = record {
+  after = two.after;
+  readings = two.readings;
+  spells = two.spells;
+  exchanged = given_then group planned now later (reach_by pool first.directory) (reach_by one.after mid.directory) (reach_by two.after last.directory) [] more further one.exchanged two.exchanged;
+  adds = adds_on planned now later one.adds two.adds;
+}

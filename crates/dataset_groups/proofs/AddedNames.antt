@@ -1,5 +1,5 @@
 -- The names of a pool with a dataset more.
-use Rattle.std.proofs.Common.{◌≡◌, ◌≢◌, ◌⊎◌, ℕ, zero, suc, List, [], ◌∷◌, AllPairs, Contains, inl, inr, sym, ap, subst, ◌∙◌, arith}
+use Rattle.std.proofs.Common.{◌≡◌, ◌≢◌, ◌⊎◌, ℕ, zero, suc, true, List, [], ◌∷◌, AllPairs, Contains, inl, inr, sym, ap, subst, ◌∙◌, arith}
 use Rattle.std.specs.Prelude.{insert}
 use Rattle.std.specs.List.{AllZip}
 use Rattle.std.proofs.lemmas.Bool.{cases_eq}
@@ -8,6 +8,7 @@ use Rattle.block_pointer.specs.declared.block.Block.{Block}
 use Rattle.dataset_chains.specs.Chains.{Reading}
 use Rattle.dataset_chains.specs.Making.{volume_with}
 use Rattle.dead_list.specs.Datasets.{Dataset, Free, Head, Kind, Pool, updated}
+use Rattle.dead_list.specs.Datasets.{Snapshot as ASnapshot}
 use Rattle.dead_list.specs.Operations.{IsUnused}
 use Rattle.dead_list.specs.Reach.{AreNumbersOf}
 use Rattle.dead_list.specs.Sound.{IsSound}
@@ -18,7 +19,8 @@ use Rattle.meta_objset.specs.Names.{IsNamed}
 use Rattle.meta_objset.proofs.Edits.{pairs_between, pairs_head, pairs_tail}
 use Rattle.pool_model.specs.declared.volume.PlainVolume.{PlainVolume}
 use Rattle.pool_model.specs.declared.volume.VolumeKind.{VolumeKind}
-use Rattle.pool_model.specs.declared.volume.VolumeKind.TheVariants.{Volume}
+use Rattle.pool_model.specs.declared.volume.VolumeKind.TheVariants.{Snapshot, Volume}
+use Rattle.pool_model.specs.Names.{is_name_for}
 use Rattle.pool_model.specs.Pools.{PlainPool, with_volume}
 use Rattle.dataset_groups.specs.Names.{IsOfKind, NamesPool, NamesVolume, objects_of_rows}
 use Rattle.dataset_groups.proofs.AddedReach.{elsewhere, there, with_new}
@@ -74,8 +76,9 @@ once_with (first ∷ rows) row (suc place) once apart =
 -- ---- the datasets
 
 -- a row that names a volume names a dataset
-named_is_head : (kind : VolumeKind) (of : Kind) → IsOfKind kind of → of ≡ Head
-named_is_head Volume of is = is
+named_is_some : (kind : VolumeKind) (of : Kind) → IsOfKind kind of → of ≢ Free
+named_is_some Volume of is none = let clash : Head ≡ Free = sym is ∙ none in cc
+named_is_some Snapshot of is none = let clash : ASnapshot ≡ Free = sym is ∙ none in cc
 
 zip_on : (R S : DirectoryRow → PlainVolume → Type 0) (rows : List DirectoryRow) (volumes : List PlainVolume)
     → ((row : DirectoryRow) (volume : PlainVolume) → R row volume → S row volume) → AllZip R rows volumes → AllZip S rows volumes
@@ -85,11 +88,11 @@ zip_on R S [] (volume ∷ volumes) on all = absurd all
 zip_on R S (row ∷ rows) [] on all = absurd all
 
 zip_object : (pool : Pool) (readings : ℕ → Reading) (rows : List DirectoryRow) (volumes : List PlainVolume) → AllZip (NamesVolume pool readings) rows volumes → (row : DirectoryRow) → Contains rows row
-    → (pool.datasets row.object).kind ≡ Head
+    → (pool.datasets row.object).kind ≢ Free
 zip_object pool readings [] volumes all row held = absurd (nothing_in row held)
 zip_object pool readings (first ∷ rows) [] all row held = absurd all
 zip_object pool readings (first ∷ rows) (volume ∷ volumes) all row held = elim (first_or_later first row rows held) [
-  | inl same ↦ subst (λ (r : DirectoryRow). (pool.datasets r.object).kind ≡ Head) same (named_is_head volume.kind (pool.datasets first.object).kind all.0.kind)
+  | inl same ↦ subst (λ (r : DirectoryRow). (pool.datasets r.object).kind ≢ Free) same (named_is_some volume.kind (pool.datasets first.object).kind all.0.kind)
   | inr later ↦ zip_object pool readings rows volumes all.1 row later
 ]
 
@@ -102,10 +105,8 @@ of_row (row ∷ rows) m held = elim (first_or_later row.object m (objects_of_row
 
 module _ (pool : Pool) (readings : ℕ → Reading) (rows : List DirectoryRow) (plain : PlainPool) (names : NamesPool pool readings rows plain)
     (sound : IsSound pool) (n : ℕ) (unused : IsUnused pool.datasets n) where
-  not_new_kind : (m : ℕ) → (pool.datasets m).kind ≡ Head → m ≢ n
-  not_new_kind m head e =
-      let clash : Head ≡ Free = sym head ∙ ap (λ k. (pool.datasets k).kind) e ∙ ap (λ (d : Dataset). d.kind) unused.1 in
-      absurd cc
+  not_new_kind : (m : ℕ) → (pool.datasets m).kind ≢ Free → m ≢ n
+  not_new_kind m some e = some (ap (λ k. (pool.datasets k).kind) e ∙ ap (λ (d : Dataset). d.kind) unused.1)
 
   -- none of the rows names what the number stands for now
   pub not_new : (row : DirectoryRow) → Contains rows row → row.object ≢ n
@@ -123,11 +124,12 @@ module _ (pool : Pool) (readings : ℕ → Reading) (rows : List DirectoryRow) (
 
     stays_named : (row : DirectoryRow) (volume : PlainVolume) → NamesVolume pool readings row volume → NamesVolume new now row volume
     stays_named row volume is =
-        let other = not_new_kind row.object (named_is_head volume.kind (pool.datasets row.object).kind is.kind) in
+        let other = not_new_kind row.object (named_is_some volume.kind (pool.datasets row.object).kind is.kind) in
         let dataset = elsewhere pool sound n unused blocks row.object other in
         let reads : now row.object ≡ readings row.object = other_at readings n reading row.object other in
         record {
           name = is.name;
+          good = is.good;
           kind = subst (λ (d : Dataset). IsOfKind volume.kind d.kind) (sym dataset) is.kind;
           created = ap (λ (d : Dataset). d.group) dataset ∙ is.created;
           array = ap (λ (r : Reading). r.array) reads ∙ is.array;
@@ -136,9 +138,9 @@ module _ (pool : Pool) (readings : ℕ → Reading) (rows : List DirectoryRow) (
 
     -- with a row for it
     pub names_with : (new_rows : List DirectoryRow) (row : DirectoryRow) (volume : PlainVolume) → IsPlacedAmong rows row new_rows → LacksName rows row.name → row.object ≡ n
-        → IsNamed row.name volume.name → volume.kind ≡ Volume → pool.group ≡ volume.group → reading.array ≡ volume.bytes → reading.block_size ≡ volume.block_size
+        → IsNamed row.name volume.name → is_name_for volume.kind volume.name ≡ true → volume.kind ≡ Volume → pool.group ≡ volume.group → reading.array ≡ volume.bytes → reading.block_size ≡ volume.block_size
         → NamesPool new now new_rows (with_volume volume plain)
-    names_with new_rows row volume among lacks at named kind group array block_size =
+    names_with new_rows row volume among lacks at named good kind group array block_size =
         let dataset : new.datasets row.object ≡ volume_with pool blocks = ap new.datasets at ∙ there pool sound n unused blocks in
         let reads : now row.object ≡ reading = ap now at ∙ same_at readings n reading in
         record {
@@ -153,6 +155,7 @@ module _ (pool : Pool) (readings : ℕ → Reading) (rows : List DirectoryRow) (
               (zip_on (NamesVolume pool readings) (NamesVolume new now) rows plain.volumes stays_named names.volumes)
               (record {
                 name = named;
+                good = good;
                 kind = subst (λ k. IsOfKind k (new.datasets row.object).kind) (sym kind) (ap (λ (d : Dataset). d.kind) dataset);
                 created = ap (λ (d : Dataset). d.group) dataset ∙ group;
                 array = ap (λ (r : Reading). r.array) reads ∙ array;

@@ -45,7 +45,7 @@ named_in : (pool : Pool) (group : ℕ) (readings : ℕ → Reading) (rows : List
     → AllZip (NamesVolume (in_group pool group) readings) rows volumes
 named_in pool group readings [] [] all = all
 named_in pool group readings (row ∷ rows) (volume ∷ volumes) all = (
-  record { name = all.0.name; kind = all.0.kind; created = all.0.created; array = all.0.array; block_size = all.0.block_size },
+  record { name = all.0.name; good = all.0.good; kind = all.0.kind; created = all.0.created; array = all.0.array; block_size = all.0.block_size },
   named_in pool group readings rows volumes all.1,
 )
 named_in pool group readings [] (volume ∷ volumes) all = absurd all

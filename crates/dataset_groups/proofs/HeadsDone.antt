@@ -38,7 +38,7 @@ module _ (stored planned later : Contents) (bound group : ℕ) (objects : ℕ �
   array_after row volume held names = elim (number_or_not (numbers_of heads) row.object) [
     | inl there ↦ all.reads row volume held there names
     | inr not ↦
-        ap (λ (x : Reading). x.array) (all.others row.object not).1 ∙ names.array ∙ unwritten_bytes volume row writes (λ to. not (are.all row volume held names to))
+        ap (λ (x : Reading). x.array) (all.others row.object not).1 ∙ names.array ∙ unwritten_bytes volume writes (λ to. not (are.all row volume held names to))
   ]
 
   names_after : NamesPool after now old.directory (fold written plain writes)

@@ -41,7 +41,7 @@ use Rattle.dataset_groups.proofs.ListParts.{first_or_later, is_first, nothing_in
 use Rattle.dataset_groups.proofs.OneHead.{head_not_free}
 use Rattle.dataset_groups.proofs.Overwriting.{HaveSameShapes, entered_reached, freed_was, kept_or_freed, others_same, same_group_before, shapes_none, shapes_on, shapes_same}
 use Rattle.dataset_groups.proofs.TouchedHeads.{number_before, number_cases, number_last, still_fresh, still_unmixed}
-use Rattle.dataset_groups.proofs.WrittenVolumes.{head_named, one_row, one_volume, zip_has}
+use Rattle.dataset_groups.proofs.WrittenVolumes.{one_row, one_volume, zip_has}
 
 -- ---- what is known anew
 
@@ -197,7 +197,7 @@ module _ (stored planned mid : Contents) (bound group : ℕ) (objects : ℕ → 
   array = (after_writes named.volume writes).bytes
 
   was_head : IsHead pool.datasets next.number
-  was_head = subst (λ k. IsHead pool.datasets k) named.is (head_named pool readings named.row named.volume named.names)
+  was_head = All-contains (λ (head : WrittenHead). IsHead pool.datasets head.number) heads next written.are held
 
   same_there : (at.datasets next.number ≡ pool.datasets next.number) × (reads next.number ≡ readings next.number)
   same_there = first.others next.number apart

@@ -5,6 +5,7 @@ pub mod Asking
 pub mod Beginning
 pub mod Copied
 pub mod Exchanges
+pub mod GoodNames
 pub mod KeptVolumes
 pub mod KnownBlocks
 pub mod ListParts
@@ -24,3 +25,11 @@ pub mod WrittenVolumes
 pub mod OneHead
 pub mod HeadsWritten
 pub mod HeadsDone
+pub mod TakenPools
+pub mod TakenTouches
+pub mod TakenRows
+pub mod TakenNumbers
+pub mod TakenNames
+pub mod TakenReach
+pub mod TakenDatasets
+pub mod TakenChanges

@@ -1,15 +1,16 @@
--- Volumes that are made one after the other.
-use Rattle.std.proofs.Common.{◌≡◌, ◌+◌, ◌<◌, ℕ, List, [], ◌∷◌, ◌++◌, length, take, get_or, sym, ap, subst, ◌∙◌}
+-- Actions one after the other.
+use Rattle.std.proofs.Common.{◌≡◌, ◌+◌, ◌<◌, ℕ, true, List, [], ◌∷◌, ◌++◌, length, take, get_or, sym, ap, subst, ◌∙◌}
 use Rattle.std.specs.Prelude.{fold}
 use Rattle.std.proofs.lemmas.List.{take_more}
 use Rattle.pool_model.specs.declared.item.Action.{Action}
 use Rattle.pool_model.specs.Pools.{PlainPool, changed}
 use Rattle.volume_rules.proofs.NowMoves.{fold_push}
-use Rattle.dataset_groups.specs.NewVolumes.{AreGoodCreations, IsGoodCreation}
+use Rattle.volume_rules.specs.GoodChanges.{is_good_change}
+use Rattle.dataset_groups.specs.NewVolumes.{AreGoodChanges}
 
 -- each of the actions is good where all are
-pub one_good : (actions : List Action) (i : ℕ) (action : Action) → i < length actions → action ≡ get_or actions i action → AreGoodCreations actions → IsGoodCreation action.change
-one_good actions i action low is good = subst (λ (a : Action). IsGoodCreation a.change) (sym is) (good i action low)
+pub one_good : (actions : List Action) (i : ℕ) (action : Action) → i < length actions → action ≡ get_or actions i action → AreGoodChanges actions → is_good_change action.change ≡ true
+one_good actions i action low is good = subst (λ (a : Action). is_good_change a.change ≡ true) (sym is) (good i action low)
 
 -- the pool after one action more
 pub pool_more : (group : ℕ) (pool : PlainPool) (actions : List Action) (i : ℕ) (action : Action) → i < length actions → action ≡ get_or actions i action

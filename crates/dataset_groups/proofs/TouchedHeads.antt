@@ -88,15 +88,15 @@ touches_more old mid new done head keeps first next = record {
 -- ---- one head's record and dead list
 
 -- a number that a record or a dead list stands at by itself
-some_or_none : {X : Type 0} (o : Option X) → (o ≡ None) ⊎ (o ≢ None)
+pub some_or_none : {X : Type 0} (o : Option X) → (o ≡ None) ⊎ (o ≢ None)
 some_or_none None = inl refl
 some_or_none (Some x) = inr (λ e. absurd (let wrong : Some x ≡ None = e in cc))
 
-no_object : {X : Type 0} (object : Option X) (there : X) → object ≡ None → object ≡ Some there → ⊥
+pub no_object : {X : Type 0} (object : Option X) (there : X) → object ≡ None → object ≡ Some there → ⊥
 no_object object there none some = let wrong : None ≡ Some there = sym none ∙ some in cc
 
 -- where there is no object the record or the dead list was made
-record_made : (object : Option Object) (state : Option RecordState) (r : DatasetRecord) → object ≡ None → IsRecordNow object state r → state ≢ None
+pub record_made : (object : Option Object) (state : Option RecordState) (r : DatasetRecord) → object ≡ None → IsRecordNow object state r → state ≢ None
 record_made object state r none now e =
     let there : HasRecord object r = subst (λ (s : Option RecordState). IsRecordNow object s r) e now in
     no_object object there.there none there.is
@@ -107,20 +107,20 @@ list_made object state list none now e =
     no_object object there.1.there none there.1.is
 
 -- an object that was touched is for records, or for dead lists, or isn't there
-abbrev IsForRecordOrNone : Option Object → Type 0
+abbrev pub IsForRecordOrNone : Option Object → Type 0
 IsForRecordOrNone object = (object ≡ None) ⊎ IsForRecord object
 
-abbrev IsForListOrNone : Option Object → Type 0
+abbrev pub IsForListOrNone : Option Object → Type 0
 IsForListOrNone object = (object ≡ None) ⊎ IsForList object
 
-for_record : (object : Option Object) (state : Option RecordState) → IsRecordOver object state → state ≢ None → IsForRecordOrNone object
+pub for_record : (object : Option Object) (state : Option RecordState) → IsRecordOver object state → state ≢ None → IsForRecordOrNone object
 for_record object None over some = absurd (some refl)
 for_record object (Some (records.Read r)) over some = inr (over.there, over.is, over.of_record)
 for_record object (Some (records.Changed r)) over some = inr over
 for_record object (Some (records.Made r)) over some = inl over
 for_record object (Some records.Gone) over some = inr over
 
-for_list : (object : Option Object) (state : Option ListState) → IsListOver object state → state ≢ None → IsForListOrNone object
+pub for_list : (object : Option Object) (state : Option ListState) → IsListOver object state → state ≢ None → IsForListOrNone object
 for_list object None over some = absurd (some refl)
 for_list object (Some (lists.Added end blocks)) over some = inr (over.2.table.there, over.2.table.is, over.2.table.of_kind)
 for_list object (Some (lists.Whole list)) over some = inr over
@@ -130,7 +130,7 @@ for_list object (Some lists.Gone) over some = inr over
 some_is : {X : Type 0} (x y : X) → Some x ≡ Some y → x ≡ y
 some_is x y e = let same : x ≡ y = cc in same
 
-not_both : (object : Option Object) → IsForRecordOrNone object → IsForListOrNone object → object ≡ None
+pub not_both : (object : Option Object) → IsForRecordOrNone object → IsForListOrNone object → object ≡ None
 not_both object (inl none) is = none
 not_both object (inr is) (inl none) = none
 not_both object (inr (x, x_is, of_record)) (inr (y, y_is, of_list)) =

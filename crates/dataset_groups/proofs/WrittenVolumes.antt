@@ -1,29 +1,29 @@
 -- The volumes that rows name once a group's writes are made.
 use Rattle.std.proofs.Common.{◌≡◌, ◌≢◌, ◌⊎◌, ℕ, Bool, true, false, cond, List, [], ◌∷◌, map, Contains, AllPairs, inl, inr, refl, sym, ap, subst, ◌∙◌}
-use Rattle.std.specs.Prelude.{fold}
+use Rattle.std.specs.Prelude.{◌&&◌, fold, not}
 use Rattle.std.specs.List.{AllZip}
 use Rattle.std.proofs.lemmas.Bool.{cases_eq}
 use Rattle.std.proofs.lemmas.Simd.{map-map}
 use Rattle.std.proofs.lemmas.List.Elements.{All-contains}
 use Rattle.dataset_chains.specs.Chains.{Reading}
 use Rattle.dead_list.specs.Datasets.{Head, Kind, Pool}
-use Rattle.dead_list.specs.Operations.{IsHead}
+use Rattle.dead_list.specs.Datasets.{Snapshot as ASnapshot}
 use Rattle.meta_objset.specs.declared.directory.DirectoryRow.{DirectoryRow}
 use Rattle.meta_objset.specs.Names.{IsNamed}
 use Rattle.meta_objset.proofs.Edits.{pairs_head, pairs_tail}
 use Rattle.pool_model.specs.declared.item.Write.{Write}
 use Rattle.pool_model.specs.declared.volume.PlainVolume.{PlainVolume}
 use Rattle.pool_model.specs.declared.volume.VolumeKind.{VolumeKind}
-use Rattle.pool_model.specs.declared.volume.VolumeKind.TheVariants.{Volume}
-use Rattle.pool_model.specs.Names.{same}
+use Rattle.pool_model.specs.declared.volume.VolumeKind.TheVariants.{Snapshot, Volume}
+use Rattle.pool_model.specs.Names.{is_name_for, same}
 use Rattle.pool_model.specs.Names.{stored as with_bytes}
-use Rattle.pool_model.specs.Pools.{PlainPool, volume_after, written}
+use Rattle.pool_model.specs.Pools.{PlainPool, is_snapshot, volume_after, written}
 use Rattle.pool_model.proofs.Places.{same_is}
 use Rattle.volume_rules.specs.declared.shape.VolumeShape.{VolumeShape}
 use Rattle.volume_rules.specs.Overlay.{after_writes}
 use Rattle.volume_rules.proofs.Overlays.{name_after_writes, shape_after_writes}
 use Rattle.dataset_groups.specs.Names.{IsOfKind, NamesVolume, objects_of_rows}
-use Rattle.dataset_groups.specs.Writing.{IsRowWritten}
+use Rattle.dataset_groups.specs.Writing.{IsVolumeWritten}
 use Rattle.dataset_groups.proofs.ListParts.{first_or_later, is_first, is_later, nothing_in}
 use Rattle.dataset_groups.proofs.Overwriting.{HaveSameShapes}
 use Rattle.dataset_groups.proofs.Rows.{names_same}
@@ -31,7 +31,7 @@ use Rattle.dataset_groups.proofs.Rows.{names_same}
 -- ---- writes
 
 -- a volume that no write names is as it was
-pub unwritten : (volume : PlainVolume) (writes : List Write) → ((write : Write) → Contains writes write → write.volume ≢ volume.name) → after_writes volume writes ≡ volume
+unwritten : (volume : PlainVolume) (writes : List Write) → ((write : Write) → Contains writes write → write.volume ≢ volume.name) → after_writes volume writes ≡ volume
 unwritten volume [] none = refl
 unwritten volume (write ∷ writes) none =
     ap (λ (v : PlainVolume). after_writes v writes) (passed_by volume write (same volume.name write.volume) refl (none write (is_first write writes)))
@@ -39,7 +39,19 @@ unwritten volume (write ∷ writes) none =
   where
     passed_by : (v : PlainVolume) (w : Write) (b : Bool) → same v.name w.volume ≡ b → w.volume ≢ v.name → volume_after w v ≡ v
     passed_by v w true e apart = absurd (apart (sym (same_is v.name w.volume e)))
-    passed_by v w false e apart = ap (λ t. cond t (record v { bytes = with_bytes w.offset w.bytes v.bytes }) v) e
+    passed_by v w false e apart = ap (λ t. cond (t && not (is_snapshot v.kind)) (record v { bytes = with_bytes w.offset w.bytes v.bytes }) v) e
+
+-- and so is a snapshot
+snapshot_stays : (volume : PlainVolume) (writes : List Write) → is_snapshot volume.kind ≡ true → after_writes volume writes ≡ volume
+snapshot_stays volume [] is = refl
+snapshot_stays volume (write ∷ writes) is =
+    ap (λ (v : PlainVolume). after_writes v writes) (passed_by volume write (same volume.name write.volume) refl is) ∙ snapshot_stays volume writes is
+  where
+    passed_by : (v : PlainVolume) (w : Write) (named : Bool) → same v.name w.volume ≡ named → is_snapshot v.kind ≡ true → volume_after w v ≡ v
+    passed_by v w false e is = ap (λ t. cond (t && not (is_snapshot v.kind)) (record v { bytes = with_bytes w.offset w.bytes v.bytes }) v) e
+    passed_by v w true e is =
+        ap (λ t. cond (t && not (is_snapshot v.kind)) (record v { bytes = with_bytes w.offset w.bytes v.bytes }) v) e
+        ∙ ap (λ t. cond (not t) (record v { bytes = with_bytes w.offset w.bytes v.bytes }) v) is
 
 -- the pool after writes has each volume after them
 pub written_each : (pool : PlainPool) (writes : List Write) → fold written pool writes ≡ record pool { volumes = map (λ volume. after_writes volume writes) pool.volumes }
@@ -94,8 +106,12 @@ one_row (first ∷ rows) row other once held also e =
       ]
     ]
 
-one_kind : (kind other : VolumeKind) → kind ≡ other
-one_kind Volume Volume = refl
+-- the kind of its dataset tells that of the volume
+one_kind : (kind other : VolumeKind) (is : Kind) → IsOfKind kind is → IsOfKind other is → kind ≡ other
+one_kind Volume Volume is one two = refl
+one_kind Snapshot Snapshot is one two = refl
+one_kind Volume Snapshot is one two = absurd (let clash : Head ≡ ASnapshot = sym one ∙ two in cc)
+one_kind Snapshot Volume is one two = absurd (let clash : Head ≡ ASnapshot = sym two ∙ one in cc)
 
 -- and a row names one volume
 pub one_volume : (pool : Pool) (readings : ℕ → Reading) (row : DirectoryRow) (volume other : PlainVolume) → NamesVolume pool readings row volume → NamesVolume pool readings row other → volume ≡ other
@@ -104,18 +120,8 @@ one_volume pool readings row volume other one two =
     let bytes : volume.bytes ≡ other.bytes = sym one.array ∙ two.array in
     let block_size : volume.block_size ≡ other.block_size = sym one.block_size ∙ two.block_size in
     let group : volume.group ≡ other.group = sym one.created ∙ two.created in
-    let kind = one_kind volume.kind other.kind in
+    let kind = one_kind volume.kind other.kind (pool.datasets row.object).kind one.kind two.kind in
     λ i. record { name = name i; bytes = bytes i; block_size = block_size i; group = group i; kind = kind i }
-
-head_kind : (kind : VolumeKind) (is : Kind) → IsOfKind kind is → is ≡ Head
-head_kind Volume is e = e
-
--- it names a head
-pub head_named : (pool : Pool) (readings : ℕ → Reading) (row : DirectoryRow) (volume : PlainVolume) → NamesVolume pool readings row volume → IsHead pool.datasets row.object
-head_named pool readings row volume is = head_kind volume.kind (pool.datasets row.object).kind is.kind
-
-kind_stays : (kind now : VolumeKind) (is after : Kind) → after ≡ is → IsOfKind kind is → IsOfKind now after
-kind_stays Volume Volume is after same e = same ∙ e
 
 -- a row names the volume after the writes where its dataset reads so
 pub named_after : (pool after : Pool) (readings now : ℕ → Reading) (row : DirectoryRow) (volume : PlainVolume) (writes : List Write) → HaveSameShapes pool after
@@ -123,17 +129,24 @@ pub named_after : (pool after : Pool) (readings now : ℕ → Reading) (row : Di
     → NamesVolume after now row (after_writes volume writes)
 named_after pool after readings now row volume writes same is array block_size =
     let shape = shape_after_writes volume writes in
+    let name = name_after_writes volume writes in
+    let kind : (after_writes volume writes).kind ≡ volume.kind = ap (λ (s : VolumeShape). s.kind) shape in
     record {
-      name = subst (IsNamed row.name) (sym (name_after_writes volume writes)) is.name;
-      kind = kind_stays volume.kind (after_writes volume writes).kind (pool.datasets row.object).kind (after.datasets row.object).kind (same row.object).kind is.kind;
+      name = subst (IsNamed row.name) (sym name) is.name;
+      good = ap (λ k. is_name_for k (after_writes volume writes).name) kind ∙ ap (is_name_for volume.kind) name ∙ is.good;
+      kind = subst (λ k. IsOfKind k (after.datasets row.object).kind) (sym kind) (subst (IsOfKind volume.kind) (sym (same row.object).kind) is.kind);
       created = (same row.object).group ∙ is.created ∙ sym (ap (λ (s : VolumeShape). s.group) shape);
       array = array;
       block_size = block_size ∙ is.block_size ∙ sym (ap (λ (s : VolumeShape). s.block_size) shape);
     }
 
--- one whose dataset reads as before names it where no write is to it
-pub unwritten_bytes : (volume : PlainVolume) (row : DirectoryRow) (writes : List Write) → ¬ IsRowWritten writes row volume → volume.bytes ≡ (after_writes volume writes).bytes
-unwritten_bytes volume row writes not = ap (λ (v : PlainVolume). v.bytes) (sym (unwritten volume writes (λ write held e. not (write, held, e))))
+-- a volume that is not written to has the bytes that it had
+pub unwritten_bytes : (volume : PlainVolume) (writes : List Write) → ¬ IsVolumeWritten writes volume → volume.bytes ≡ (after_writes volume writes).bytes
+unwritten_bytes volume writes idle = ap (λ (v : PlainVolume). v.bytes) (sym (by_kind (is_snapshot volume.kind) refl))
+  where
+    by_kind : (taken : Bool) → is_snapshot volume.kind ≡ taken → after_writes volume writes ≡ volume
+    by_kind true is = snapshot_stays volume writes is
+    by_kind false is = unwritten volume writes (λ write held e. idle (is, (write, held, e)))
 
 -- whether a number is one of these
 pub number_or_not : (numbers : List ℕ) (n : ℕ) → Contains numbers n ⊎ ¬ Contains numbers n

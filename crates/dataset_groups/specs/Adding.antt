@@ -2,16 +2,19 @@
 use Rattle.std.specs.Prelude.{ℕ, ◌≡◌, ◌<◌, ◌+◌, List, Option}
 use Rattle.block_pointer.specs.declared.block.Block.{Block}
 use Rattle.block_store.specs.Blocks.{Contents}
+use Rattle.block_store.specs.Steps.{AnswersAreTrue}
+use Rattle.block_store.specs.Store.{Holds, Store}
 use Rattle.dataset_chains.specs.Chains.{AreNewNumbers, LeadsTo, Reading, SpellsChains}
 use Rattle.dataset_chains.specs.Making.{IsNewRecord, volume_with}
-use Rattle.dataset_chains.specs.Touched.{TouchesOnly}
+use Rattle.dataset_chains.specs.Touched.{IsSnapshotTouched, TouchesOnly}
+use Rattle.dataset_changes.specs.States.{birth_of, set_of}
 use Rattle.dataset_changes.specs.declared.changes.DatasetChanges.{DatasetChanges}
 use Rattle.dead_list.specs.Blocks.{AreDistinct}
 use Rattle.dead_list.specs.Datasets.{Pool, updated}
-use Rattle.dead_list.specs.Operations.{AreNew, IsUnused, with_dataset}
+use Rattle.dead_list.specs.Operations.{AreNew, IsHead, IsUnused, with_dataset, with_snapshot}
 use Rattle.meta_objset.specs.declared.record.DatasetRecord.{DatasetRecord}
 use Rattle.meta_objset.specs.Directory.{IsPlacedAmong}
-use Rattle.objset.specs.Objects.{Object}
+use Rattle.objset.specs.Objects.{AreObjects, Object}
 use Rattle.dataset_groups.specs.declared.datasets.GroupDatasets.{GroupDatasets}
 
 -- where the number is unused and the record that of a new volume, the chains have the volume there
@@ -28,3 +31,19 @@ pub record IsAdded (old : GroupDatasets) (name : List ℕ) (r : DatasetRecord) (
   pub next : new.next ≡ old.next + 2
   pub adds : AddsVolume old.changes new.changes old.next r
   pub touched : TouchesOnly old.changes new.changes (λ one. one ≡ old.next) (λ one. one ≡ r.dead_list)
+
+-- where the head is one and the number unused, the chains have a snapshot of it there; blocks of the set alone are read
+abbrev pub AddsSnapshot : Store → Store → ℕ → ℕ → DatasetChanges → DatasetChanges → ℕ → Type 0
+AddsSnapshot before after group head old new number =
+    (stored known : Contents) (objects : ℕ → Option Object) (own : List Block) (blocks : ℕ → List Block) (pool : Pool)
+    (readings : ℕ → Reading) → Holds before stored → AreObjects stored (birth_of old) (set_of old) objects own blocks
+    → AnswersAreTrue before after → SpellsChains known group objects old pool readings → IsHead pool.datasets head
+    → IsUnused pool.datasets number → AreNewNumbers objects old number (number + 1)
+    → SpellsChains known group objects new (with_snapshot pool head number) (updated readings number (readings head))
+
+-- The snapshot has the next number, and the head's new dead list the one behind it. The name has a row that names the snapshot.
+pub record IsTaken (before after : Store) (group head : ℕ) (old : GroupDatasets) (name : List ℕ) (new : GroupDatasets) : Type 0 where
+  pub row : IsPlacedAmong old.directory (record { name = name; object = old.next }) new.directory
+  pub next : new.next ≡ old.next + 2
+  pub adds : AddsSnapshot before after group head old.changes new.changes old.next
+  pub touched : IsSnapshotTouched old.changes new.changes head old.next (old.next + 1)

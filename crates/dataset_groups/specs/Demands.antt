@@ -1,5 +1,5 @@
 -- What the datasets of a group ask places for, and why they are not planned.
-use Rattle.std.specs.Prelude.{ℕ, ◌≡◌, ◌≢◌, ◌⊎◌, ◌↔◌, ◌+◌, ◌*◌, ◌<◌, List, [], ◌∷◌, ◌++◌, length, Any, Contains}
+use Rattle.std.specs.Prelude.{ℕ, ◌≡◌, ◌≢◌, ◌⊎◌, ◌↔◌, ◌+◌, ◌*◌, ◌<◌, ◌≤◌, false, List, [], ◌∷◌, ◌++◌, length, Any, Contains}
 use Rattle.block_pointer.specs.declared.block.Block.{Block}
 use Rattle.block_store.specs.declared.refusal.Refusal.{Refusal}
 use Rattle.block_store.specs.declared.refusal.Refusal.TheVariants.{NoMemory, NoSpace, BadConfig}
@@ -18,12 +18,15 @@ use Rattle.objset.specs.declared.changes.Change.{Change as ObjectsChange}
 use Rattle.objset.specs.declared.changes.Change.TheVariants.{Put}
 use Rattle.pool_model.specs.declared.item.Action.{Action}
 use Rattle.pool_model.specs.declared.item.Change.{Change}
-use Rattle.pool_model.specs.declared.item.Change.TheVariants.{Create}
+use Rattle.pool_model.specs.declared.item.Change.TheVariants.{Create, Snapshot}
+use Rattle.pool_model.specs.Names.{name_of}
 use Rattle.volume.specs.Demands.{empty_set, HasPlacesFor, HasSetDemands, IsCreation, IsPlacingRefused, IsPlanRefused}
 use Rattle.volume.specs.Reading.{IsVolumeFound}
 use Rattle.dataset_groups.specs.declared.datasets.GroupDatasets.{GroupDatasets}
 use Rattle.dataset_groups.specs.declared.writing.WrittenHead.{WrittenHead}
-use Rattle.dataset_groups.specs.NewVolumes.{IsGoodCreation, numbers_end}
+use Rattle.dataset_groups.specs.NewVolumes.{numbers_end}
+use Rattle.dataset_groups.specs.Touched.{TouchesMade}
+use Rattle.volume_rules.specs.GoodChanges.{is_good_change}
 
 -- each of these things asks some, and these are all of them, one after the other
 abbrev pub AreAsked : {X : Type 0} → (X → List Demand → Type 0) → List X → List Demand → Type 0
@@ -82,44 +85,51 @@ abbrev pub AreHeadsRefused : Store → Store → DatasetChanges → ℕ → List
 AreHeadsRefused old new changes group heads refusal =
     (refusal ≡ NoMemory) ⊎ IsHeadUnplaced old new changes group heads refusal
 
--- ---- volumes that are made
-
-abbrev pub name_of : Change → List ℕ
-name_of (Create name size block_size) = name
-
-abbrev pub new_block_size : Change → ℕ
-new_block_size (Create name size block_size) = block_size
+-- ---- actions
 
 -- a row has the name
 abbrev pub IsNameThere : List DirectoryRow → List ℕ → Type 0
 IsNameThere rows name = (row : DirectoryRow) × Contains rows row × IsNamed row.name name
 
--- one of the actions is to make a volume of that name
-abbrev pub IsNameAsked : List Action → List ℕ → Type 0
-IsNameAsked actions name = Any (λ action. name_of action.change ≡ name) actions
+-- one of the actions makes that name
+abbrev pub IsNameMade : List Action → List ℕ → Type 0
+IsNameMade actions name = Any (λ action. name_of action.change ≡ name) actions
 
--- the change's name is there already: a row has it, or an earlier action
-abbrev pub IsThereAlready : List DirectoryRow → List Action → Change → Type 0
-IsThereAlready rows earlier change =
-    IsNameThere rows (name_of change) ⊎ IsNameAsked earlier (name_of change)
+-- the name is there: a row has it, or one of these actions made it
+abbrev pub IsThereAlready : List DirectoryRow → List Action → List ℕ → Type 0
+IsThereAlready rows made name = IsNameThere rows name ⊎ IsNameMade made name
 
--- those of the actions that make a volume, behind the earlier ones: whose name isn't there already
+-- what the change needs is there: the volume that a snapshot is of
+abbrev pub HasVolume : List DirectoryRow → List Action → Change → Type 0
+HasVolume rows made (Create name size block_size) = Unit {0}
+HasVolume rows made (Snapshot volume part) = IsThereAlready rows made volume
+
+-- behind actions that made a volume or a snapshot each, the change makes one: its name isn't there, and what it needs is
+abbrev pub IsMaking : List DirectoryRow → List Action → Change → Type 0
+IsMaking rows made change = (¬ IsThereAlready rows made (name_of change)) × HasVolume rows made change
+
+-- those of the actions that make a volume or a snapshot, behind those that did before
 abbrev pub AreMade : List DirectoryRow → List Action → List Action → List Action → Type 0
-AreMade rows earlier [] made = made ≡ []
-AreMade rows earlier (action ∷ actions) made =
-    (IsThereAlready rows earlier action.change
-    × AreMade rows (earlier ++ action ∷ []) actions made)
-    ⊎ ((¬ IsThereAlready rows earlier action.change) × (more : List Action)
-    × (made ≡ action ∷ more) × AreMade rows (earlier ++ action ∷ []) actions more)
+AreMade rows before [] made = made ≡ []
+AreMade rows before (action ∷ actions) made =
+    ((¬ IsMaking rows before action.change) × AreMade rows before actions made)
+    ⊎ (IsMaking rows before action.change × (more : List Action)
+    × (made ≡ action ∷ more) × AreMade rows (before ++ action ∷ []) actions more)
 
 -- the set of a volume that is made asks these: from no objects to the one of the data
-abbrev pub HasNewDemands : List VdevSpace → ℕ → Change → List Demand → Type 0
-HasNewDemands spaces group change demands =
-    (creation : ObjectsChange) × IsCreation (new_block_size change) creation
+abbrev pub HasNewDemands : List VdevSpace → ℕ → ℕ → List Demand → Type 0
+HasNewDemands spaces group block_size demands =
+    (creation : ObjectsChange) × IsCreation block_size creation
     × HasSetDemands spaces empty_set group creation demands
 
+-- a change asks these; a snapshot asks nothing
+abbrev pub HasChangeDemands : List VdevSpace → ℕ → Change → List Demand → Type 0
+HasChangeDemands spaces group (Create name size block_size) demands =
+    HasNewDemands spaces group block_size demands
+HasChangeDemands spaces group (Snapshot volume part) demands = demands ≡ []
+
 abbrev pub HasActionDemands : List VdevSpace → ℕ → Action → List Demand → Type 0
-HasActionDemands spaces group action demands = HasNewDemands spaces group action.change demands
+HasActionDemands spaces group action demands = HasChangeDemands spaces group action.change demands
 
 -- for a new volume of these blocks places were taken, and for nothing else
 abbrev pub HasNewPlaces : Store → Store → ℕ → ℕ → Type 0
@@ -127,55 +137,93 @@ HasNewPlaces old new group block_size =
     (creation : ObjectsChange) × IsCreation block_size creation
     × HasPlacesFor old new empty_set group creation
 
+-- for the change places were taken, and for nothing else
+abbrev pub HasChangePlaces : Store → Store → ℕ → Change → Type 0
+HasChangePlaces old new group (Create name size block_size) = HasNewPlaces old new group block_size
+HasChangePlaces old new group (Snapshot volume part) = new.spaces ≡ old.spaces
+
 -- or it was not planned
 abbrev pub IsNewRefused : Store → Store → ℕ → ℕ → Refusal → Type 0
 IsNewRefused old new group block_size refusal =
     (creation : ObjectsChange) × IsCreation block_size creation
     × IsPlanRefused old new empty_set group group creation refusal
 
--- one volume of that name was made: its name is there too, and it took the next two numbers
-pub record IsVolumeMade (old new : GroupDatasets) (name : List ℕ) : Type 0 where
+-- each row is there still, and each that came has an object from that number on
+abbrev pub HasMoreRows : List DirectoryRow → ℕ → List DirectoryRow → Type 0
+HasMoreRows old next new =
+    ((row : DirectoryRow) → Contains old row → Contains new row)
+    × ((row : DirectoryRow) → Contains new row → Contains old row ⊎ (next ≤ row.object))
+
+-- one volume or snapshot of that name was made: its name is there too, and it took the next two numbers
+pub record IsOneMade (old new : GroupDatasets) (name : List ℕ) : Type 0 where
   pub names : (other : List ℕ) → IsNameThere new.directory other
       ↔ (IsNameThere old.directory other ⊎ (name ≡ other))
   pub next : new.next ≡ old.next + 2
   pub rows : length new.directory ≡ length old.directory + 1
+  pub kept : HasMoreRows old.directory old.next new.directory
 
--- the volume of the change was made, or nothing where its name was there
+-- what the change makes was made, or nothing where it makes nothing
 abbrev pub MakesOne : Store → Store → ℕ → GroupDatasets → GroupDatasets → Change → Type 0
 MakesOne before after group old new change =
-    (IsNameThere old.directory (name_of change) × (new ≡ old) × (after.spaces ≡ before.spaces))
-    ⊎ ((¬ IsNameThere old.directory (name_of change)) × IsVolumeMade old new (name_of change)
-    × HasNewPlaces before after group (new_block_size change))
+    ((¬ IsMaking old.directory [] change) × (new ≡ old) × (after.spaces ≡ before.spaces))
+    ⊎ (IsMaking old.directory [] change × IsOneMade old new (name_of change)
+    × HasChangePlaces before after group change)
 
--- The names of these actions are there now too. Each of those that made a volume took the next two numbers.
-pub record MakesNamesOf (old new : GroupDatasets) (actions made : List Action) : Type 0 where
+-- The names that these actions made are there now too. Each of them took the next two numbers.
+pub record MakesNamesOf (old new : GroupDatasets) (made : List Action) : Type 0 where
   pub names : (name : List ℕ) → IsNameThere new.directory name
-      ↔ (IsNameThere old.directory name ⊎ IsNameAsked actions name)
+      ↔ (IsNameThere old.directory name ⊎ IsNameMade made name)
   pub next : new.next ≡ old.next + 2 * length made
   pub rows : length new.directory ≡ length old.directory + length made
+  pub kept : HasMoreRows old.directory old.next new.directory
 
--- the volumes of these actions were made, where their names were not there already
+-- what these actions make was made, and each took places for what it asks and for nothing else
 pub record MakesAll (before after : Store) (group : ℕ) (old new : GroupDatasets) (actions : List Action)
     : Type 0 where
   pub made : List Action
   pub are : AreMade old.directory [] actions made
-  pub names : MakesNamesOf old new actions made
+  pub names : MakesNamesOf old new made
+  pub touched : TouchesMade old.changes new.changes new.directory old.next made
   pub places : HavePlacesFor before after (HasActionDemands before.spaces group) made
   pub idle : made ≡ [] → new ≡ old
 
--- why a volume is not made, behind others: its name or sizes are not good, or where its name is not
--- there yet, no two numbers are left from the next on, or it was not planned
-abbrev pub IsMakingRefused :
-    Store → Store → ℕ → List DirectoryRow → List Action → ℕ → Change → Refusal → Type 0
-IsMakingRefused old new group rows earlier next change refusal =
-    (refusal ≡ NoMemory)
-    ⊎ (((refusal ≡ BadConfig) × ¬ IsGoodCreation change)
-    ⊎ ((¬ IsThereAlready rows earlier change)
-    × (((refusal ≡ NoSpace) × (numbers_end < next + 2))
-    ⊎ IsNewRefused old new group (new_block_size change) refusal)))
+-- ---- why they are not done
 
--- the volumes of the first actions were made, and then that of the next was refused
-pub record IsActionRefused (old new : Store) (group : ℕ) (rows : List DirectoryRow) (next : ℕ)
+-- the object that a row has for the name, or a new one
+abbrev pub IsObjectFor : List DirectoryRow → List ℕ → ℕ → ℕ → Type 0
+IsObjectFor rows name next number =
+    (next ≤ number) ⊎ ((row : DirectoryRow) × Contains rows row × IsNamed row.name name × (row.object ≡ number))
+
+-- the records of the volume's object, and of the snapshot before it, were not changed for a snapshot of the volume
+pub record IsUntaken (old new : Store) (changes : DatasetChanges) (rows : List DirectoryRow) (volume : List ℕ) (next : ℕ)
+    (refusal : Refusal) : Type 0 where
+  pub head : ℕ
+  pub is : IsObjectFor rows volume next head
+  pub far : DatasetChanges
+  pub one_set : AreOfOneSet changes far
+  pub last : DatasetChanges
+  pub why : IsChainRefused old new far last head kinds.Volume refusal
+
+-- a volume was not planned, or a snapshot not taken
+abbrev pub IsUnmade : Store → Store → DatasetChanges → ℕ → List DirectoryRow → ℕ → Change → Refusal → Type 0
+IsUnmade old new changes group rows next (Create name size block_size) refusal =
+    IsNewRefused old new group block_size refusal
+IsUnmade old new changes group rows next (Snapshot volume part) refusal =
+    IsUntaken old new changes rows volume next refusal
+
+-- why the change is not done, behind those that made a volume or a snapshot each: its names or sizes are not good, or where it makes
+-- something, no two numbers are left, or what it makes was not made
+abbrev pub IsMakingRefused :
+    Store → Store → DatasetChanges → ℕ → List DirectoryRow → List Action → ℕ → Change → Refusal → Type 0
+IsMakingRefused old new changes group rows made next change refusal =
+    (refusal ≡ NoMemory)
+    ⊎ (((refusal ≡ BadConfig) × (is_good_change change ≡ false))
+    ⊎ (IsMaking rows made change
+    × (((refusal ≡ NoSpace) × (numbers_end < next + 2 * length made + 2))
+    ⊎ IsUnmade old new changes group rows next change refusal)))
+
+-- the first actions were done, and then the next was refused
+pub record IsActionRefused (old new : Store) (changes : DatasetChanges) (group : ℕ) (rows : List DirectoryRow) (next : ℕ)
     (actions : List Action) (refusal : Refusal) : Type 0 where
   pub first : List Action
   pub action : Action
@@ -186,4 +234,4 @@ pub record IsActionRefused (old new : Store) (group : ℕ) (rows : List Director
   pub mid : Store
   pub before : OnlyReadsAndPlans old mid []
   pub places : HavePlacesFor old mid (HasActionDemands old.spaces group) made
-  pub why : IsMakingRefused mid new group rows first (next + 2 * length made) action.change refusal
+  pub why : IsMakingRefused mid new changes group rows made next action.change refusal

@@ -7,4 +7,5 @@ pub mod Adding
 pub mod Writing
 pub mod Touched
 pub mod Demands
+pub mod Actions
 pub mod Laws

@@ -1,25 +1,29 @@
 -- The datasets of a pool under the names of its directory, as plain volumes.
-use Rattle.std.specs.Prelude.{ℕ, ◌≡◌, List, map}
+use Rattle.std.specs.Prelude.{ℕ, ◌≡◌, true, List, map}
 use Rattle.std.specs.List.{AllZip}
 use Rattle.block_pointer.specs.declared.block.Block.{Block}
 use Rattle.dataset_chains.specs.Chains.{Reading}
 use Rattle.dead_list.specs.Datasets.{Head, Kind, Pool}
+use Rattle.dead_list.specs.Datasets.{Snapshot as ASnapshot}
 use Rattle.dead_list.specs.Reach.{AreNumbersOf, reach_of}
 use Rattle.meta_objset.specs.declared.directory.DirectoryRow.{DirectoryRow}
 use Rattle.meta_objset.specs.Names.{IsNamed}
 use Rattle.pool_model.specs.declared.volume.PlainVolume.{PlainVolume}
 use Rattle.pool_model.specs.declared.volume.VolumeKind.{VolumeKind}
-use Rattle.pool_model.specs.declared.volume.VolumeKind.TheVariants.{Volume}
+use Rattle.pool_model.specs.declared.volume.VolumeKind.TheVariants.{Snapshot, Volume}
+use Rattle.pool_model.specs.Names.{is_name_for}
 use Rattle.pool_model.specs.Pools.{PlainPool}
 
 -- a volume is a head
 abbrev pub IsOfKind : VolumeKind → Kind → Type 0
 IsOfKind Volume kind = kind ≡ Head
+IsOfKind Snapshot kind = kind ≡ ASnapshot
 
--- The row names the volume: its object is that of a dataset that reads so, and that this group made.
+-- The row names the volume, as one of its kind may be named: its object is that of a dataset that reads so, and that this group made.
 pub record NamesVolume (pool : Pool) (readings : ℕ → Reading) (row : DirectoryRow) (volume : PlainVolume)
     : Type 0 where
   pub name : IsNamed row.name volume.name
+  pub good : is_name_for volume.kind volume.name ≡ true
   pub kind : IsOfKind volume.kind (pool.datasets row.object).kind
   pub created : (pool.datasets row.object).group ≡ volume.group
   pub array : (readings row.object).array ≡ volume.bytes

@@ -5,18 +5,16 @@ use Rattle.meta_objset.specs.declared.record.DatasetKind.TheVariants as datasets
 use Rattle.meta_objset.specs.declared.record.DatasetRecord.{DatasetRecord}
 use Rattle.meta_objset.specs.Names.{IsNamed}
 use Rattle.pool_model.specs.declared.item.Action.{Action}
-use Rattle.pool_model.specs.declared.item.Change.{Change}
-use Rattle.pool_model.specs.declared.item.Change.TheVariants.{Create}
-use Rattle.volume_rules.specs.GoodChanges.{is_good_size}
+use Rattle.volume_rules.specs.GoodChanges.{is_good_change}
 use Rattle.dataset_groups.specs.declared.new_volume.NewVolume.{NewVolume}
 
 -- object numbers are below this one
 abbrev pub numbers_end : ℕ
 numbers_end = 32 * 128 ^ 5
 
--- the change makes a volume of this name, here padded, and these sizes
-abbrev pub IsNewVolume : Change → NewVolume → Type 0
-IsNewVolume (Create name size block_size) new =
+-- a volume of this name, here padded, and these sizes
+abbrev pub IsNewVolume : List ℕ → ℕ → ℕ → NewVolume → Type 0
+IsNewVolume name size block_size new =
     IsNamed new.name name × (new.size ≡ size) × (new.block_size ≡ block_size)
 
 -- the record of a new volume: nothing comes before it or behind it, and it has no clones
@@ -33,11 +31,6 @@ new_record new group dead_list object_set = record {
   object_set = object_set;
 }
 
--- a volume may be made so: with a name that can stand in a row, and a size of whole blocks
-abbrev pub IsGoodCreation : Change → Type 0
-IsGoodCreation (Create name size block_size) =
-    ((padded : List ℕ) × IsNamed padded name) × (is_good_size size block_size ≡ true)
-
--- so may each of them
-abbrev pub AreGoodCreations : List Action → Type 0
-AreGoodCreations actions = All (λ action. IsGoodCreation action.change) actions
+-- each of them makes a volume that may be made, or takes a snapshot that may be taken
+abbrev pub AreGoodChanges : List Action → Type 0
+AreGoodChanges actions = All (λ action. is_good_change action.change ≡ true) actions

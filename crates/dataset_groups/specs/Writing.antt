@@ -1,16 +1,17 @@
 -- Heads that a group writes to.
-use Rattle.std.specs.Prelude.{ℕ, ◌≡◌, List, Contains, All, map}
+use Rattle.std.specs.Prelude.{ℕ, ◌≡◌, false, List, Contains, All, map}
 use Rattle.std.specs.List.Sorted.{IsStrictlyIncreasing}
 use Rattle.block_store.specs.Blocks.{Contents}
 use Rattle.dataset_chains.specs.Chains.{Reading}
 use Rattle.dataset_chains.specs.Refused.{HasKnown}
 use Rattle.dataset_changes.specs.declared.changes.DatasetChanges.{DatasetChanges}
 use Rattle.dead_list.specs.Datasets.{Pool}
-use Rattle.dead_list.specs.Operations.{IsWritable}
+use Rattle.dead_list.specs.Operations.{IsHead, IsWritable}
 use Rattle.meta_objset.specs.declared.directory.DirectoryRow.{DirectoryRow}
 use Rattle.meta_objset.specs.declared.record.DatasetRecord.{DatasetRecord}
 use Rattle.pool_model.specs.declared.item.Write.{Write}
 use Rattle.pool_model.specs.declared.volume.PlainVolume.{PlainVolume}
+use Rattle.pool_model.specs.Pools.{is_snapshot}
 use Rattle.volume_rules.specs.Overlay.{after_writes}
 use Rattle.volume.specs.Volume.{Spells, block_of, block_size_of}
 use Rattle.volume.specs.Walking.{blocks_of_volume}
@@ -41,9 +42,10 @@ IsAfterWrites pool readings rows writes head =
     → NamesVolume pool readings row volume
     → IsArrayWith volume.bytes volume.block_size head.blocks.items (after_writes volume writes).bytes
 
--- a write is to a volume that the row names
-abbrev pub IsRowWritten : List Write → DirectoryRow → PlainVolume → Type 0
-IsRowWritten writes row volume = (write : Write) × Contains writes write × (write.volume ≡ volume.name)
+-- a write is to the volume that a row names, and that is no snapshot
+abbrev pub IsVolumeWritten : List Write → PlainVolume → Type 0
+IsVolumeWritten writes volume =
+    (is_snapshot volume.kind ≡ false) × ((write : Write) × Contains writes write × (write.volume ≡ volume.name))
 
 -- These are the heads that the writes are to, each once and in the order of their numbers, as they were before, with the blocks that make
 -- their bytes those after the writes.
@@ -52,10 +54,11 @@ pub record AreWritten (stored : Contents) (bound : ℕ) (pool : Pool) (readings 
   pub once : IsStrictlyIncreasing (numbers_of heads)
   pub named : All (λ head. (row : DirectoryRow) × Contains rows row × (row.object ≡ head.number)) heads
   pub read : All (IsHeadRead stored bound pool readings) heads
+  pub are : All (λ head. IsHead pool.datasets head.number) heads
   pub writable : All (λ head. IsWritable pool head.number) heads
   pub after : All (IsAfterWrites pool readings rows writes) heads
   pub all : (row : DirectoryRow) (volume : PlainVolume) → Contains rows row → NamesVolume pool readings row volume
-      → IsRowWritten writes row volume → Contains (numbers_of heads) row.object
+      → IsVolumeWritten writes volume → Contains (numbers_of heads) row.object
 
 -- a dead list of one of these records, as it was read or changed
 abbrev pub IsListOf : DatasetChanges → List ℕ → ℕ → Type 0

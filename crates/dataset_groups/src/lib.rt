@@ -1,11 +1,13 @@
-//! What a transaction group makes of a pool's datasets: heads that are written to, and volumes that are made, with the names that they
-//! stand under.
+//! What a transaction group makes of a pool's datasets: heads that are written to, volumes that are made, and snapshots that are taken, with
+//! the names that they stand under.
 #![tactic(auto)]
 
+mod actions;
 mod datasets;
 mod laws;
 mod making;
 mod new_volume;
+mod taking;
 mod writing;
 
 pub use block_store::Refusal;

@@ -1,5 +1,6 @@
 //! Volumes that a group makes.
-ghost use Rattle.std.specs.Prelude.{◌≡◌, ◌⊎◌, ◌+◌, ◌*◌, ◌<◌, ◌≤◌, ◌++◌, ℕ, List, [], Option, fold, OnOk, IfErr};
+ghost use Rattle.std.specs.Prelude.{◌≡◌, ◌⊎◌, ◌+◌, ◌<◌, ◌≤◌, false, true, ℕ, List, [], Option, OnOk, IfErr};
+ghost use Rattle.block_pointer.specs.declared.block.Block.{Block};
 ghost use Rattle.block_store.specs.Blocks.{Contents, Extends};
 ghost use Rattle.block_store.specs.Plans.{Plans};
 ghost use Rattle.block_store.specs.Steps.{OnlyReadsAndPlans, AnswersAreTrue};
@@ -11,88 +12,38 @@ ghost use Rattle.meta_objset.specs.Directory.{LacksName};
 ghost use Rattle.meta_objset.specs.Names.{IsName};
 ghost use Rattle.meta_objset.specs.Record.{FitsRecord};
 ghost use Rattle.objset.specs.Objects.{Object};
+ghost use Rattle.pool_model.specs.declared.item.Change.TheVariants.{Create};
 ghost use Rattle.pool_model.specs.Pools.{PlainPool, changed};
+ghost use Rattle.volume_rules.specs.GoodChanges.{is_good_change};
+ghost use Rattle.dataset_groups.specs.Actions.{AreActed};
 ghost use Rattle.dataset_groups.specs.Adding.{IsAdded};
-ghost use Rattle.dataset_groups.specs.Demands.{IsActionRefused, IsMakingRefused, MakesAll, MakesOne};
+ghost use Rattle.dataset_groups.specs.Demands.{IsMakingRefused, MakesOne};
 ghost use Rattle.dataset_groups.specs.Groups.{SpellsGroup};
-ghost use Rattle.dataset_groups.specs.Leaving.{AddsData, IsReachExchanged};
-ghost use Rattle.dataset_groups.specs.Names.{reach_by};
-ghost use Rattle.dataset_groups.specs.NewVolumes.{AreGoodCreations, IsGoodCreation, numbers_end};
+ghost use Rattle.dataset_groups.specs.NewVolumes.{numbers_end};
 ghost use Rattle.dataset_groups.specs.Touched.{TouchesNew};
 
+use crate::actions::NUMBERS_END;
 use crate::datasets::GroupDatasets;
 use crate::new_volume::NewVolume;
 use block_store::{BlockStore, Refusal};
 use dataset_chains::create;
 use meta_objset::DatasetRecord;
 use model_disk::Disk;
-use pool_model::{Action, Change};
+use pool_model::Name;
 use std::alloc::Global;
 
-/// The numbers of objects are below 32 * 128^5.
-const NUMBERS_END: u64 = 1 << 40;
-
 impl GroupDatasets {
-    /// Makes the volumes of these actions, in order. A name that is there already is passed over. Each volume takes two objects: its
-    /// record, and an empty dead list. `BadConfig` where a volume can't have its name or its sizes; `NoSpace` also where no
-    /// numbers are left for its objects.
-    pub fn create_all<D: Disk + Drop>(
+    /// Makes a volume of these sizes, in bytes, under a name. A name that is there already is passed over. The volume takes two objects: its
+    /// record, and an empty dead list. `BadConfig` where a volume can't have this name or these sizes; `NoSpace` also where no numbers are left
+    /// for its objects.
+    pub(crate) fn create_one<D: Disk + Drop>(
         &mut self,
         store: &mut BlockStore<D>,
         alloc: Global,
         group: u64,
-        actions: &[Action],
-    ) -> Result<(), Refusal>
-        requires born { 0 < group }
-        requires behind { 4 < self.old.next }
-        ensures steps { OnlyReadsAndPlans store.old store.new [] }
-        ensures behind { 4 < self.new.next }
-        ensures within { self.old.next ≤ numbers_end → self.new.next ≤ numbers_end }
-        ensures one_set { AreOfOneSet self.old.changes self.new.changes }
-
-        // The datasets are those after the actions. Nothing that was reached goes; what is planned is what is reached besides.
-        ensures value { OnOk result ((stored planned : Contents) (objects : ℕ → Option Object)
-            (pool : Pool) (readings : ℕ → Reading) (plain : PlainPool)
-            → Plans store.old stored planned → AnswersAreTrue store.old store.new
-            → SpellsGroup planned group objects self.old pool readings plain
-            → (later : Contents) × Plans store.new stored later × Extends planned later
-            × (new : Pool) × (now : ℕ → Reading)
-            × SpellsGroup later group objects self.new new now
-            (fold (λ p a. changed group p a.change) plain actions.now)
-            × IsReachExchanged group planned later (reach_by pool self.old.directory)
-            (reach_by new self.new.directory) [] × AddsData planned later) }
-        ensures bad { IfErr result (λ refusal. refusal ≡ Refusal.BadConfig
-            → ¬ AreGoodCreations actions.now) }
-
-        // Over disks that answer truly, and where all may be made, only room is wanting, or disks.
-        ensures known { IfErr result (λ refusal. AreGoodCreations actions.now
-            → (stored planned : Contents) → Plans store.old stored planned
-            → AnswersAreTrue store.old store.new
-            → IsForRoom refusal ⊎ (refusal ≡ Refusal.DiskFault)) }
-
-        // Which records and lists are made, what places are taken for, and on a refusal its cause.
-        ensures places { OnOk result
-            (MakesAll store.old store.new group self.old self.new actions.now) }
-        ensures touched { OnOk result ((count : ℕ)
-            × TouchesNew self.old.changes self.new.changes self.old.next count
-            × (self.new.next ≡ self.old.next + 2 * count)) }
-        ensures refused { IfErr result (λ refusal. (refusal ≡ Refusal.NoMemory)
-            ⊎ IsActionRefused store.old store.new group self.old.directory self.old.next
-            actions.now refusal) }
-    {
-        for action in actions {
-            self.create_one(store, alloc, group, &action.change)?;
-        }
-        Ok(())
-    }
-
-    /// Makes the volume of one action.
-    fn create_one<D: Disk + Drop>(
-        &mut self,
-        store: &mut BlockStore<D>,
-        alloc: Global,
-        group: u64,
-        change: &Change,
+        name: &Name,
+        size: u64,
+        block_size: u64,
     ) -> Result<(), Refusal>
         requires born { 0 < group }
         requires behind { 4 < self.old.next }
@@ -105,25 +56,23 @@ impl GroupDatasets {
             → (later : Contents) × Plans store.new stored later × Extends planned later
             × ((objects : ℕ → Option Object) (pool : Pool) (readings : ℕ → Reading)
             (plain : PlainPool) → SpellsGroup planned group objects self.old pool readings plain
-            → (new : Pool) × (now : ℕ → Reading)
-            × SpellsGroup later group objects self.new new now (changed group plain change.now)
-            × IsReachExchanged group planned later (reach_by pool self.old.directory)
-            (reach_by new self.new.directory) []) × AddsData planned later) }
+            → AreActed group objects planned later self.old self.new pool
+            (changed group plain (Create name.now size block_size)))) }
         ensures bad { IfErr result (λ refusal. refusal ≡ Refusal.BadConfig
-            → ¬ IsGoodCreation change.now) }
-        ensures known { IfErr result (λ refusal. IsGoodCreation change.now
+            → is_good_change (Create name.now size block_size) ≡ false) }
+        ensures known { IfErr result (λ refusal.
+            is_good_change (Create name.now size block_size) ≡ true
             → (stored planned : Contents) → Plans store.old stored planned
             → AnswersAreTrue store.old store.new
             → IsForRoom refusal ⊎ (refusal ≡ Refusal.DiskFault)) }
-        ensures places { OnOk result
-            (MakesOne store.old store.new group self.old self.new change.now) }
-        ensures touched { OnOk result ((count : ℕ)
-            × TouchesNew self.old.changes self.new.changes self.old.next count
-            × (self.new.next ≡ self.old.next + 2 * count)) }
-        ensures refused { IfErr result (IsMakingRefused store.old store.new group
-            self.old.directory [] self.old.next change.now) }
+        ensures places { OnOk result (MakesOne store.old store.new group self.old self.new
+            (Create name.now size block_size)) }
+        ensures touched { OnOk result ((self.new ≡ self.old)
+            ⊎ TouchesNew self.old.changes self.new.changes self.old.next) }
+        ensures refused { IfErr result (IsMakingRefused store.old store.new self.old.changes group
+            self.old.directory [] self.old.next (Create name.now size block_size)) }
     {
-        let new = NewVolume::of(change)?;
+        let new = NewVolume::of(name, size, block_size)?;
         if self.directory.get(&new.name).is_some() {
             return Ok(());
         }

@@ -1,5 +1,5 @@
 //! A volume that a group makes.
-ghost use Rattle.std.specs.Prelude.{◌≡◌, ◌≢◌, ◌⊎◌, ◌<◌, [], true, replicate, IfOk, IfErr, OnOk};
+ghost use Rattle.std.specs.Prelude.{◌≡◌, ◌≢◌, ◌⊎◌, ◌<◌, [], false, true, replicate, IfOk, IfErr, OnOk};
 ghost use Rattle.block_pointer.specs.Block.{FitsBlock};
 ghost use Rattle.block_store.specs.Blocks.{Contents, Extends};
 ghost use Rattle.block_store.specs.Plans.{Plans};
@@ -7,7 +7,7 @@ ghost use Rattle.block_store.specs.Steps.{OnlyReadsAndPlans, AnswersAreTrue};
 ghost use Rattle.dnode_tree.specs.Writes.{IsForRoom};
 ghost use Rattle.meta_objset.specs.Names.{IsName};
 ghost use Rattle.meta_objset.specs.Record.{FitsRecord};
-ghost use Rattle.volume_rules.specs.GoodChanges.{is_good_size};
+ghost use Rattle.volume_rules.specs.GoodChanges.{is_good_change, is_good_size};
 ghost use Rattle.volume.specs.Placing.{LacksRoom};
 ghost use Rattle.volume.specs.Volume.{IsVolume};
 ghost use Rattle.volume.specs.Walking.{blocks_of_volume};
@@ -17,10 +17,10 @@ use block_pointer::Block;
 use block_store::{BlockStore, Refusal};
 use meta_objset::{DatasetKind, DatasetRecord, padded};
 use model_disk::Disk;
-use pool_model::Change;
+use pool_model::Name;
 use std::alloc::Global;
 use volume::VolumeSet;
-use volume_rules::is_good_shape;
+use volume_rules::{is_good_name, is_good_shape};
 
 /// A volume that may be made: its name can stand in a row, and it can have its sizes.
 #[derive(Clone, Copy, Debug)]
@@ -36,31 +36,28 @@ pub(crate) struct NewVolume {
 
 impl NewVolume {
     ghost use Rattle.dataset_groups.specs.Demands.{HasNewPlaces, IsNewRefused};
-    ghost use Rattle.dataset_groups.specs.NewVolumes.{IsGoodCreation};
+    ghost use Rattle.pool_model.specs.declared.item.Change.TheVariants.{Create};
     ghost use Rattle.dataset_groups.specs.NewVolumes.{IsNewVolume, new_record};
 
-    /// The volume that a change makes. `BadConfig` where a volume can't have its name or its sizes.
-    pub fn of(change: &Change) -> Result<NewVolume, Refusal>
-        ensures is { IfOk result (IsNewVolume change.now) }
+    /// A volume of this name and these sizes, in bytes. `BadConfig` where a volume can't have them.
+    pub fn of(name: &Name, size: u64, block_size: u64) -> Result<NewVolume, Refusal>
+        ensures is { IfOk result (IsNewVolume name.now size block_size) }
         ensures named { IfOk result (λ new. IsName new.name) }
+        ensures good { IfOk result (λ new.
+            is_good_change (Create name.now size block_size) ≡ true) }
         ensures refused { IfErr result (λ refusal. (refusal ≡ Refusal.BadConfig)
-            × ¬ IsGoodCreation change.now) }
+            × (is_good_change (Create name.now size block_size) ≡ false)) }
     {
-        let Change::Create {
-            name,
-            size,
-            block_size,
-        } = change;
+        if !is_good_name(name) || !is_good_shape(size, block_size) {
+            return Err(Refusal::BadConfig);
+        }
         let Some(name) = padded(name.as_slice()) else {
             return Err(Refusal::BadConfig);
         };
-        if !is_good_shape(*size, *block_size) {
-            return Err(Refusal::BadConfig);
-        }
         Ok(NewVolume {
             name,
-            size: *size,
-            block_size: *block_size,
+            size,
+            block_size,
         })
     }
 

@@ -1,19 +1,15 @@
 -- Lists in which no block is there twice, and their parts.
-use Rattle.std.proofs.Common.{◌≡◌, ℕ, zero, suc, ◌+◌, ◌<◌, ◌≤◌, List, [], ◌++◌, length, take, drop, get_or, Option, Contains, inl, inr, sym, ap, ◌∙◌, subst, arith}
+use Rattle.std.proofs.Common.{◌≡◌, ℕ, zero, suc, ◌+◌, ◌<◌, ◌≤◌, List, [], ◌++◌, Option, Contains, inl, inr, sym, ap, subst, arith}
 use Rattle.std.specs.List.{flat_map, range_with_len, count_by}
 use Rattle.std.proofs.lemmas.Bool.{cases_eq, cases_lt}
-use Rattle.std.proofs.lemmas.List.{take-append-drop}
-use Rattle.std.proofs.lemmas.List.Concat.{flat_map-append}
 use Rattle.block_pointer.specs.declared.block.Block.{Block}
 use Rattle.block_store.specs.Blocks.{Contents}
 use Rattle.dnode.specs.declared.dnode.Dnode.{Dnode}
 use Rattle.dnode.specs.declared.object_set.ObjectSet.{ObjectSet}
 use Rattle.dnode_slots.specs.Nodes.{birth_of}
-use Rattle.dnode_tree.proofs.Collecting.{joined-take_more}
 use Rattle.dnode_tree.proofs.Exchanging.{count_by-append}
 use Rattle.dnode_tree.proofs.SameBlocks.{same_as, counted, once_counted, distinct_counted}
 use Rattle.dnode_tree.specs.Rewriting.{AreDistinct}
-use Rattle.dnode_tree.specs.Subtree.{joined}
 use Rattle.objset.specs.Laws.{HasEachOnce}
 use Rattle.objset.specs.Objects.{Object, IsObject, AreObjects}
 use Rattle.objset.specs.Within.{blocks_of_set}
@@ -31,11 +27,6 @@ front_once xs ys = fewer_once xs (xs ++ ys) (λ block. omega (arith, count_by-ap
 
 pub back_once : (xs ys : List Block) → AreDistinct (xs ++ ys) → AreDistinct ys
 back_once xs ys = fewer_once ys (xs ++ ys) (λ block. omega (arith, count_by-append (same_as block) xs ys))
-
--- no block is in both parts
-pub parts_apart : (xs ys : List Block) (block : Block) → AreDistinct (xs ++ ys) → Contains xs block → ¬ Contains ys block
-parts_apart xs ys block once one two =
-    omega (arith, once_counted block (xs ++ ys) once, count_by-append (same_as block) xs ys, counted block xs one, counted block ys two)
 
 -- ---- the objects of a set
 
@@ -115,18 +106,3 @@ module _ (stored : Contents) (birth : ℕ) (set : ObjectSet) (objects : ℕ → 
             omega (arith, once_counted block (own ++ all_of) once, count_by-append (same_as block) own all_of, counted block own one, in_all number block two);
         apart = λ number other block one two. apart number other block below one two;
       }
-
--- ---- parts of a list
-
-pub part_once : (parts : List (List Block)) (n : ℕ) → n < length parts → AreDistinct (joined parts) → AreDistinct (get_or parts n [])
-part_once parts n low = fewer_once (get_or parts n []) (joined parts) each
-  where
-    each : (block : Block) → times block (get_or parts n []) ≤ times block (joined parts)
-    each block =
-        let up_to : times block (joined (take (n + 1) parts)) ≡ times block (joined (take n parts)) + times block (get_or parts n []) =
-        ap (times block) (sym (joined-take_more parts n low)) ∙ count_by-append (same_as block) (joined (take n parts)) (get_or parts n []) in
-        let whole : joined parts ≡ joined (take (n + 1) parts) ++ joined (drop (n + 1) parts) =
-        ap joined (sym (take-append-drop (n + 1) parts)) ∙ flat_map-append (λ part. part) (take (n + 1) parts) (drop (n + 1) parts) in
-        let sum : times block (joined parts) ≡ times block (joined (take (n + 1) parts)) + times block (joined (drop (n + 1) parts)) =
-        ap (times block) whole ∙ count_by-append (same_as block) (joined (take (n + 1) parts)) (joined (drop (n + 1) parts)) in
-        omega (arith, up_to, sum)

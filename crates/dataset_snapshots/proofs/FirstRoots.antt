@@ -15,16 +15,18 @@ use Rattle.block_store.specs.Steps.{OnlyReadsAndPlans, OnlyReadsBlocks}
 use Rattle.block_store.specs.Store.{Store}
 use Rattle.dataset_chains.specs.Chains.{Reading}
 use Rattle.dataset_chains.specs.Standing.{HasChains}
-use Rattle.dataset_changes.specs.States.{AreOfOneSet, AreUntouched, set_of}
+use Rattle.dataset_changes.specs.States.{AreOfOneSet, AreUntouched, birth_of, set_of}
+use Rattle.dataset_changes.specs.declared.changes.DatasetChanges.{DatasetChanges}
 use Rattle.dataset_groups.specs.declared.datasets.GroupDatasets.{GroupDatasets}
-use Rattle.dataset_groups.specs.Demands.{AreMade, IsActionRefused, MakesAll}
+use Rattle.dataset_groups.specs.Demands.{AreMade, HasMoreRows, IsActionRefused, MakesAll}
 use Rattle.dataset_groups.specs.Groups.{SpellsGroup}
 use Rattle.dataset_groups.specs.Leaving.{IsReachExchanged}
 use Rattle.dataset_groups.specs.Names.{NamesPool}
-use Rattle.dataset_groups.specs.Touched.{TouchesNew}
+use Rattle.dataset_groups.specs.Touched.{TouchesMade}
 use Rattle.dead_list.specs.Datasets.{Free, Pool, Snapshot}
 use Rattle.dead_list.specs.Datasets.{nothing as no_dataset}
 use Rattle.dead_list.specs.Sound.{Fits, IsSound}
+use Rattle.dnode.specs.declared.object_set.ObjectSet.{ObjectSet}
 use Rattle.dnode.specs.declared.object_set.ObjectSetKind.TheVariants as sets
 use Rattle.dnode_tree.proofs.Exchanging.{count_by-append}
 use Rattle.dnode_tree.specs.Writes.{IsForRoom}
@@ -35,7 +37,7 @@ use Rattle.objset.proofs.Numbers.{changed_left}
 use Rattle.objset.specs.declared.changes.Change.{Change}
 use Rattle.objset.specs.declared.changes.ObjectChange.{ObjectChange}
 use Rattle.objset.specs.Changes.{MayChange, after_change, changed, copies_of}
-use Rattle.objset.specs.Objects.{Object}
+use Rattle.objset.specs.Objects.{AreObjects, Object}
 use Rattle.objset.specs.Within.{blocks_of_set}
 use Rattle.pool_maps.specs.Plans.{AreSparing, OthersStay}
 use Rattle.pool_maps.specs.Refused.{AreFirstRefused}
@@ -45,8 +47,9 @@ use Rattle.pool_model.specs.Pools.{Entry, PlainPool, applied, no_volumes, writte
 use Rattle.pool_model.specs.Pools.{changed as pool_changed}
 use Rattle.raidz_io.proofs.Written.{same_some}
 use Rattle.vdev_label.specs.Plain.{PlainVdev}
+use Rattle.volume.proofs.Made.{no_objects}
 use Rattle.dataset_snapshots.specs.Demands.{AreMisnumbered, HasRootPlaces, IsRootRefused}
-use Rattle.dataset_snapshots.specs.FirstGroup.{AreFirstGroupChanges, AreFirstPlaced, AreFirstVolumes, AreTableChanges, AreWithFirstMaps, HasFirstPlaces, IsFirstRefused, IsWithTables, empty_meta}
+use Rattle.dataset_snapshots.specs.FirstGroup.{AreFirstActionsRefused, AreFirstGroupChanges, AreFirstPlaced, AreFirstVolumes, AreTableChanges, AreWithFirstMaps, HasFirstPlaces, IsFirstRefused, IsWithTables, empty_meta}
 use Rattle.dataset_snapshots.proofs.Asking.{all_demands_in}
 use Rattle.dataset_snapshots.proofs.BelowNext.{not_misnumbered}
 use Rattle.dataset_snapshots.proofs.ChangedRows.{changed_or_not, nothing_in}
@@ -122,26 +125,41 @@ names_none group rows none =
       volumes = tt;
     })
 
+-- the changes of none are over no objects
+pub first_objects : (stored : Contents) (changes : DatasetChanges) → set_of changes ≡ empty_meta → AreObjects stored (birth_of changes) (set_of changes) nothing [] (λ number. [])
+first_objects stored changes of_set = no_objects stored (birth_of changes) (set_of changes) (ap (λ (set : ObjectSet). set.dnodes.pointer) of_set)
+
 -- what was made of none
-pub first_are : (old new : Store) (group : ℕ) (actions : List Action) (before datasets : GroupDatasets) → before.directory ≡ [] → before.next ≡ 5 → set_of before.changes ≡ empty_meta
-    → AreUntouched before.changes → AreOfOneSet before.changes datasets.changes → MakesAll old new group before datasets actions
-    → (count : ℕ) × TouchesNew before.changes datasets.changes before.next count × (datasets.next ≡ before.next + 2 * count) → AreFirstVolumes old new group actions datasets
-first_are old new group actions before datasets no_rows next_is of_set none one_set made (count, touched, then_next) =
-    let same : count ≡ length made.made = omega (arith, then_next, made.names.next) in
-    record {
-      made = made.made;
-      are = subst (λ (rows : List DirectoryRow). AreMade rows [] actions made.made) no_rows made.are;
-      count = (let none = ap (λ (rows : List DirectoryRow). length rows) no_rows in omega (arith, made.names.rows, none));
-      next = omega (arith, made.names.next, next_is);
-      datasets_are = record {
-        of_set = one_set.0 ∙ of_set;
-        before = before.changes;
-        none = none;
-        touched = subst (λ n. TouchesNew before.changes datasets.changes n (length made.made)) next_is
-            (subst (λ n. TouchesNew before.changes datasets.changes before.next n) same touched);
-      };
-      places = made.places;
-    }
+module _ (old new : Store) (group : ℕ) (actions : List Action) (before : GroupDatasets) (no_rows : before.directory ≡ []) (next_is : before.next ≡ 5) (none : AreUntouched before.changes) where
+  pub first_are : (datasets : GroupDatasets) → set_of before.changes ≡ empty_meta → AreOfOneSet before.changes datasets.changes → MakesAll old new group before datasets actions
+      → AreFirstVolumes old new group actions datasets
+  first_are datasets of_set one_set made = record {
+    made = made.made;
+    are = subst (λ (rows : List DirectoryRow). AreMade rows [] actions made.made) no_rows made.are;
+    count = (let no_names = ap (λ (rows : List DirectoryRow). length rows) no_rows in omega (arith, made.names.rows, no_names));
+    next = omega (arith, made.names.next, next_is);
+    datasets_are = record {
+      of_set = one_set.0 ∙ of_set;
+      before = before.changes;
+      none = none;
+      rows = datasets.directory;
+      kept = subst (λ (rows : List DirectoryRow). HasMoreRows rows 5 datasets.directory) no_rows (subst (λ n. HasMoreRows before.directory n datasets.directory) next_is made.names.kept);
+      touched = subst (λ n. TouchesMade before.changes datasets.changes datasets.directory n made.made) next_is made.touched;
+    };
+    places = made.places;
+  }
+
+  -- or an action was refused
+  pub first_actions_refused : (refusal : Refusal) → (refusal ≡ NoMemory) ⊎ IsActionRefused old new before.changes group before.directory before.next actions refusal
+      → (refusal ≡ NoMemory) ⊎ AreFirstActionsRefused old new group actions refusal
+  first_actions_refused refusal (inl memory) = inl memory
+  first_actions_refused refusal (inr why) =
+      inr (
+        before.changes,
+        none,
+        subst (λ (rows : List DirectoryRow). IsActionRefused old new before.changes group rows 5 actions refusal) no_rows
+            (subst (λ n. IsActionRefused old new before.changes group before.directory n actions refusal) next_is why),
+      )
 
 -- ---- the tables
 
@@ -340,10 +358,10 @@ module _ (old mid : Store) (group : ℕ) (vdevs : List PlainVdev) (items : Entry
       }))))
 
 pub first_volumes_refused : (old new : Store) (group : ℕ) (vdevs : List PlainVdev) (items : Entry) (actions : List Action) (refusal : Refusal) → actions ≡ items.actions
-    → (refusal ≡ NoMemory) ⊎ IsActionRefused old new group [] 5 actions refusal → IsFirstRefused old new group vdevs items refusal
+    → (refusal ≡ NoMemory) ⊎ AreFirstActionsRefused old new group actions refusal → IsFirstRefused old new group vdevs items refusal
 first_volumes_refused old new group vdevs items actions refusal same (inl memory) = inl memory
 first_volumes_refused old new group vdevs items actions refusal same (inr why) =
-    inr (inl (subst (λ (list : List Action). IsActionRefused old new group [] 5 list refusal) same why))
+    inr (inl (subst (λ (list : List Action). AreFirstActionsRefused old new group list refusal) same why))
 
 -- what was made of sound datasets is of numbers below the next, and nothing has both a record and a dead list
 pub first_datasets_known : (known : Contents) (group : ℕ) (datasets : GroupDatasets) (pool : Pool) (readings : ℕ → Reading) (plain : PlainPool) (refusal : Refusal)

@@ -1,5 +1,6 @@
 -- What a group is planned from, as it was read.
-use Rattle.std.proofs.Common.{◌≡◌, ◌≢◌, ◌↔◌, ◌⊎◌, ℕ, ◌<◌, List, [], ◌∷◌, map, Option, Some, None, All, AllPairs, Contains, inl, inr, refl, sym, ap, subst, ◌∙◌, arith}
+use Rattle.std.proofs.Common.{◌≡◌, ◌≢◌, ◌↔◌, ◌⊎◌, ℕ, ◌<◌, Bool, true, false, true≢false, List, [], ◌∷◌, map, Option, Some, None, All, AllPairs, Contains, inl, inr, refl, sym, ap, subst, ◌∙◌, arith}
+use Rattle.std.specs.Prelude.{◌&&◌}
 use Rattle.std.specs.List.Sorted.{IsStrictlyIncreasing}
 use Rattle.std.proofs.lemmas.List.Elements.{All-cons, All-contains, All-head, All-nil, All-tail, All-weaker}
 use Rattle.block_pointer.specs.declared.block.Block.{Block}
@@ -10,21 +11,26 @@ use Rattle.block_store.specs.Spaces.{VdevSpace}
 use Rattle.block_store.specs.Store.{Store}
 use Rattle.dataset_chains.specs.Chains.{Reading}
 use Rattle.dataset_groups.specs.declared.writing.WrittenHead.{WrittenHead}
-use Rattle.dataset_groups.specs.Names.{NamesVolume}
+use Rattle.dataset_groups.specs.Names.{IsOfKind, NamesVolume}
 use Rattle.dataset_groups.specs.Writing.{AreWritten, IsAfterWrites, IsHeadRead, numbers_of}
-use Rattle.dead_list.specs.Datasets.{Pool}
-use Rattle.dead_list.specs.Operations.{IsWritable}
+use Rattle.dead_list.specs.Datasets.{Head, Kind, Pool, Snapshot as ASnapshot}
+use Rattle.dead_list.specs.Operations.{IsHead, IsWritable}
 use Rattle.dnode.specs.declared.object_set.ObjectSet.{ObjectSet}
 use Rattle.dnode_slots.specs.declared.reading.FoundDnode.{FoundDnode}
 use Rattle.meta_objset.specs.Found.{IsRecordThere}
 use Rattle.meta_objset.specs.declared.directory.DirectoryRow.{DirectoryRow}
 use Rattle.meta_objset.specs.Names.{IsNamed}
 use Rattle.meta_objset.proofs.Edits.{pairs_head, pairs_tail}
+use Rattle.meta_objset.proofs.Readings.{name_once}
 use Rattle.objset.specs.Objects.{Object}
 use Rattle.objset.specs.Shapes.{shape_of_dnode}
 use Rattle.pool_model.specs.declared.item.Write.{Write}
+use Rattle.pool_model.proofs.Letters.{volume_name}
 use Rattle.pool_model.specs.declared.volume.PlainVolume.{PlainVolume}
-use Rattle.pool_model.specs.Pools.{PlainPool}
+use Rattle.pool_model.specs.declared.volume.VolumeKind.{VolumeKind}
+use Rattle.pool_model.specs.declared.volume.VolumeKind.TheVariants as volumes
+use Rattle.pool_model.specs.Names.{is_name, is_name_for, is_snapshot_name, volume_part}
+use Rattle.pool_model.specs.Pools.{PlainPool, is_snapshot}
 use Rattle.volume_rules.specs.Overlay.{after_writes}
 use Rattle.volume.specs.declared.volume.VolumeSet.{VolumeSet}
 use Rattle.volume.specs.Volume.{IsVolume, Spells, block_of, block_size_of, size_of}
@@ -35,13 +41,24 @@ use Rattle.dataset_snapshots.specs.Opening.{IsOneUnread, IsWrittenOf}
 use Rattle.dataset_snapshots.specs.Pools.{SpellsDataset, SpellsPool}
 use Rattle.dataset_snapshots.specs.Writing.{IsReadFrom, IsVolumeIn, IsWritten}
 use Rattle.dataset_snapshots.proofs.Chained.{IsSpelled, apart_of, row_spelled}
-use Rattle.dataset_snapshots.proofs.ChangedRows.{all_from, any_of, first_or_later, nothing_in, zip_has}
+use Rattle.dataset_snapshots.proofs.ChangedRows.{all_from, any_of, first_or_later, is_first, is_later, nothing_in, zip_has}
 
 -- a record was found of an object of the set alone
 within_set : (spaces : List VdevSpace) (set : ObjectSet) (birth number : ℕ) → IsRecordThere spaces set birth number → number < set.objects
 within_set spaces set birth number (shape, (dnode, block_birth, inl none, is), fits) =
     let clash : Some shape ≡ None = is ∙ ap (λ (found : FoundDnode). shape_of_dnode found.dnode) none.1 in absurd cc
 within_set spaces set birth number (shape, (dnode, block_birth, inr some, is), fits) = some.0
+
+mapped_in : {X Y : Type 0} (f : X → Y) (xs : List X) (x : X) → Contains xs x → Contains (map f xs) (f x)
+mapped_in f [] x held = absurd (nothing_in x held)
+mapped_in f (first ∷ xs) x held = elim (first_or_later first x xs held) [
+  | inl same ↦ subst (λ y. Contains (f first ∷ map f xs) (f y)) same (is_first (f first) (map f xs))
+  | inr later ↦ is_later (f first) (f x) (map f xs) (mapped_in f xs x later)
+]
+
+and_second : (a b : Bool) → (a && b) ≡ true → b ≡ true
+and_second true b both = both
+and_second false b both = absurd (true≢false (sym both))
 
 all_mapped : {X Y : Type 0} (f : X → Y) (P : Y → Type 0) (xs : List X) → All (λ x. P (f x)) xs → All P (map f xs)
 all_mapped f P [] all = All-nil P
@@ -72,6 +89,30 @@ one_row (first ∷ rows) row other apart held also is =
       ]
     ]
 
+-- ---- volumes
+
+-- what has the name of no snapshot is a volume
+volume_by_name : (kind : VolumeKind) (name : List ℕ) → is_name_for kind name ≡ true → is_snapshot_name name ≡ false → kind ≡ volumes.Volume
+volume_by_name volumes.Volume name good none = refl
+volume_by_name volumes.Snapshot name good none =
+    let at : is_snapshot_name name ≡ true = and_second (is_name (volume_part name)) (is_snapshot_name name) good in
+    absurd (true≢false (sym at ∙ none))
+
+-- and a volume has such a name
+volumes_name : (kind : VolumeKind) (name : List ℕ) → is_name_for kind name ≡ true → is_snapshot kind ≡ false → is_snapshot_name name ≡ false
+volumes_name volumes.Volume name good is = volume_name name good
+volumes_name volumes.Snapshot name good is = absurd (true≢false is)
+
+-- a volume's dataset is a head
+head_of : (kind : VolumeKind) (it : Kind) → IsOfKind kind it → kind ≡ volumes.Volume → it ≡ Head
+head_of volumes.Volume it of is = of
+head_of volumes.Snapshot it of is = absurd (cc)
+
+-- and a head's is a volume
+volume_of_head : (kind : VolumeKind) (it : Kind) → IsOfKind kind it → it ≡ Head → is_snapshot kind ≡ false
+volume_of_head volumes.Volume it of is = refl
+volume_of_head volumes.Snapshot it of is = absurd (let wrong : ASnapshot ≡ Head = sym of ∙ is in cc)
+
 -- ---- the head of a row
 
 module _ (stored : Contents) (bound : ℕ) (pool : Pool) (readings : ℕ → Reading) (set : VolumeSet) where
@@ -97,7 +138,7 @@ module _ (stored : Contents) (bound : ℕ) (pool : Pool) (readings : ℕ → Rea
 -- what another group changes has the same names
 names_then : (pool : Pool) (readings : ℕ → Reading) (group : ℕ) (row : DirectoryRow) (volume : PlainVolume) → NamesVolume (record pool { group = group }) readings row volume → NamesVolume pool readings row volume
 names_then pool readings group row volume named =
-    record { name = named.name; kind = named.kind; created = named.created; array = named.array; block_size = named.block_size }
+    record { name = named.name; good = named.good; kind = named.kind; created = named.created; array = named.array; block_size = named.block_size }
 
 module _ (stored : Contents) (birth : ℕ) (root : Block) (plain : PlainPool) (is : SpellsPool stored birth root plain) (writes : List Write) (group : ℕ) (later : root.birth < group) where
   abbrev now : Pool
@@ -118,12 +159,22 @@ module _ (stored : Contents) (birth : ℕ) (root : Block) (plain : PlainPool) (i
       let at = subst (IsReadAt stored root.birth is.datasets is.readings head.volume) from.1.1 read in
       record { is = at.0.0; blocks = at.0.1; block_size = at.1 }
 
-  after : (head : WrittenHead) → IsFrom head → IsAfterWrites now is.readings is.rows writes head
-  after head from row volume held at named =
+  -- the write's name has one row, whose volume is that of a head
+  is_head : (number : ℕ) → IsWritten is.rows writes number → IsHead is.datasets.datasets number
+  is_head number wrote =
+      let row = wrote.4.1 in
+      let to = zip_has (NamesVolume is.datasets is.readings) is.rows plain.volumes row.0 is.names.volumes row.1 in
+      let name = name_once row.0.name to.0.name wrote.1.volume to.1.name row.2 in
+      let kind = volume_by_name to.0.kind to.0.name to.1.good (ap is_snapshot_name name ∙ wrote.4.0) in
+      subst (IsHead is.datasets.datasets) row.3 (head_of to.0.kind (is.datasets.datasets row.0.object).kind to.1.kind kind)
+
+  after : (head : WrittenHead) → IsFrom head → IsHead is.datasets.datasets head.number → IsAfterWrites now is.readings is.rows writes head
+  after head from heads row volume held at named =
       let first : DirectoryRow = from.0 in
       let same : row ≡ first = one_row is.rows row first (apart_of is) held from.1.0 (at ∙ sym from.1.1) in
       let spells = subst (λ (r : DirectoryRow). SpellsDataset stored root.birth is.objects r volume) same (spelled row volume (names_then is.datasets is.readings group row volume named)).0 in
-      subst (λ (n : ℕ). IsArrayWith volume.bytes n head.blocks.items (after_writes volume writes).bytes) spells.is.block_size (from.2 volume spells).1
+      subst (λ (n : ℕ). IsArrayWith volume.bytes n head.blocks.items (after_writes volume writes).bytes) spells.is.block_size
+      ((from.2 volume spells).1 (volume_of_head volume.kind (is.datasets.datasets row.object).kind named.kind (subst (IsHead is.datasets.datasets) (sym at) heads)))
 
   writable : (number : ℕ) → IsWritable now number
   writable number =
@@ -137,17 +188,23 @@ module _ (stored : Contents) (birth : ℕ) (root : Block) (plain : PlainPool) (i
       → ((object : ℕ) → Contains objects object ↔ IsWritten is.rows writes object) → All IsFrom heads → AreWritten stored root.birth now is.readings is.rows writes heads
   written_are heads objects numbers once which from =
       let each : (head : WrittenHead) → Contains heads head → IsFrom head = λ head held. All-contains IsFrom heads head from held in
+      let is_one : (head : WrittenHead) → Contains heads head → IsHead is.datasets.datasets head.number =
+      λ head held. is_head head.number ((which head.number).0 (subst (λ (ns : List ℕ). Contains ns head.number) numbers (mapped_in (λ (h : WrittenHead). h.number) heads head held))) in
       record {
         once = subst IsStrictlyIncreasing (sym numbers) once;
         named = all_from (λ (head : WrittenHead). (row : DirectoryRow) × Contains is.rows row × (row.object ≡ head.number)) heads (λ head held.
             let it = each head held in (it.0, it.1.0, it.1.1));
         read = all_from (IsHeadRead stored root.birth now is.readings) heads (λ head held. head_read head (each head held));
+        are = all_from (λ (head : WrittenHead). IsHead now.datasets head.number) heads is_one;
         writable = all_from (λ (head : WrittenHead). IsWritable now head.number) heads (λ head held. writable head.number);
-        after = all_from (IsAfterWrites now is.readings is.rows writes) heads (λ head held. after head (each head held));
+        after = all_from (IsAfterWrites now is.readings is.rows writes) heads (λ head held. after head (each head held) (is_one head held));
         all = λ row volume held named wrote.
             subst (λ (ns : List ℕ). Contains ns row.object) (sym numbers)
             ((which row.object).1
-            (any_of (λ (w : Write). IsRowOf is.rows w.volume row.object) writes wrote.0 wrote.1 (row, held, subst (IsNamed row.name) (sym wrote.2) named.name, refl)));
+            (any_of (λ (w : Write). (is_snapshot_name w.volume ≡ false) × IsRowOf is.rows w.volume row.object) writes wrote.1.0 wrote.1.1 (
+              ap is_snapshot_name wrote.1.2 ∙ volumes_name volume.kind volume.name named.good wrote.0,
+              (row, held, subst (IsNamed row.name) (sym wrote.1.2) named.name, refl),
+            )));
       }
 
 -- ---- why it isn't read

@@ -9,7 +9,7 @@ use Rattle.dataset_chains.proofs.Staying.{chains_stay}
 use Rattle.dataset_chains.specs.Chains.{Reading}
 use Rattle.dataset_changes.specs.Over.{AreOver, IsForList, IsForRecord, IsListOver, IsRecordOver}
 use Rattle.dataset_changes.specs.Results.{AreChangesOf, IsRecordChanged}
-use Rattle.dataset_changes.specs.States.{IsNumber, birth_of, list_at, record_at, set_of}
+use Rattle.dataset_changes.specs.States.{AreOfOneSet, IsNumber, birth_of, list_at, record_at, set_of}
 use Rattle.dataset_changes.specs.declared.changes.DatasetChanges.{DatasetChanges}
 use Rattle.dataset_changes.specs.declared.states.ListState.{ListState}
 use Rattle.dataset_changes.specs.declared.states.ListState.TheVariants as lists
@@ -47,6 +47,12 @@ group_stays stored planned group objects datasets pool readings plain more spell
   fresh = spells.fresh;
   unmixed = spells.unmixed;
 }
+
+-- changes of one set are over the same objects
+pub objects_still : (stored : Contents) (old new : DatasetChanges) (objects : ℕ → Option Object) (own : List Block) (blocks : ℕ → List Block) → AreOfOneSet old new
+    → AreObjects stored (birth_of old) (set_of old) objects own blocks → AreObjects stored (birth_of new) (set_of new) objects own blocks
+objects_still stored old new objects own blocks one are =
+    subst (λ (n : ℕ). AreObjects stored n (set_of new) objects own blocks) (sym one.1) (subst (λ (set : ObjectSet). AreObjects stored (birth_of old) set objects own blocks) (sym one.0) are)
 
 -- a group that is opened begins with these datasets, and writes to these heads
 pub begun : (stored planned : Contents) (birth group : ℕ) (root : Block) (plain : PlainPool) (is : SpellsPool stored birth root plain) (writes : List Write) (opened : Opened) → Extends stored planned

@@ -1,93 +1,32 @@
 -- Which records and dead lists a group changed, and what its volumes ask.
-use Rattle.std.proofs.Common.{◌≡◌, ◌⊎◌, inl, inr, ℕ, ◌+◌, ◌*◌, ◌<◌, List, [], ◌∷◌, length, Contains, Some, None, refl, sym, ap, subst, ◌∙◌, arith}
-use Rattle.std.proofs.lemmas.List.Elements.{All-contains}
+use Rattle.std.proofs.Common.{◌≡◌, ◌⊎◌, inl, inr, ℕ, ◌+◌, ◌*◌, List, [], ◌∷◌, length, refl, sym, ap, subst, ◌∙◌, arith}
 use Rattle.block_store.proofs.Demands.{have_both}
 use Rattle.block_store.specs.Demands.{Demand}
 use Rattle.block_store.specs.declared.refusal.Refusal.{Refusal}
 use Rattle.block_store.specs.declared.refusal.Refusal.TheVariants.{NoMemory, BadPointer}
 use Rattle.block_store.specs.Places.{shapes_of}
+use Rattle.block_store.specs.Spaces.{VdevSpace}
 use Rattle.block_store.specs.Steps.{OnlyReadsAndPlans}
 use Rattle.block_store.specs.Store.{Store}
-use Rattle.dataset_chains.proofs.Touching.{at_most_on, still_known}
-use Rattle.dataset_chains.specs.Refused.{HasKnown}
-use Rattle.dataset_chains.specs.Touched.{IsAtMostRead, TouchesOnly}
-use Rattle.dataset_changes.specs.States.{AreOfOneSet, record_at}
-use Rattle.dataset_changes.specs.declared.changes.DatasetChanges.{DatasetChanges}
-use Rattle.dataset_changes.specs.declared.states.RecordState.TheVariants as records
+use Rattle.dataset_changes.specs.States.{AreOfOneSet}
 use Rattle.dataset_groups.specs.declared.datasets.GroupDatasets.{GroupDatasets}
-use Rattle.dataset_groups.specs.Demands.{AreAsked, AreMade, HasActionDemands, HasHeadDemands, HavePlacesFor, IsActionRefused, MakesAll}
+use Rattle.dataset_groups.specs.Demands.{AreAsked, AreMade, HasActionDemands, HasChangeDemands, HasHeadDemands, HasMoreRows, HavePlacesFor, IsActionRefused, MakesAll}
 use Rattle.dataset_groups.specs.Groups.{first_number}
-use Rattle.dataset_groups.specs.Touched.{IsNewNumber, TouchesHeads, TouchesNew}
-use Rattle.dataset_groups.specs.Writing.{IsListOf}
+use Rattle.dataset_groups.specs.Touched.{TouchesHeads, TouchesMade}
 use Rattle.meta_objset.specs.declared.directory.DirectoryRow.{DirectoryRow}
-use Rattle.meta_objset.specs.declared.record.DatasetRecord.{DatasetRecord}
 use Rattle.objset.specs.declared.changes.ObjectChange.{ObjectChange}
 use Rattle.pool_model.specs.declared.item.Action.{Action}
-use Rattle.pool_model.specs.declared.item.Write.{Write}
+use Rattle.pool_model.specs.declared.item.Change.{Change}
+use Rattle.pool_model.specs.declared.item.Change.TheVariants.{Create, Snapshot}
 use Rattle.volume.specs.Demands.{empty_set}
 use Rattle.dataset_snapshots.specs.declared.groups.Opened.{Opened}
 use Rattle.dataset_snapshots.specs.Demands.{AreGroupChanges, AreGroupDatasets, AreMisnumbered, AreVolumesRefused, HasDatasetChanges, HasVolumePlaces}
-use Rattle.dataset_snapshots.specs.Groups.{IsOpened, objects_of}
+use Rattle.dataset_snapshots.specs.Groups.{objects_of}
 use Rattle.dataset_snapshots.proofs.Asking.{set_demands_in}
-
--- ---- what was touched
-
--- a record that is known and isn't made anew is known still
-still : (mid new : DatasetChanges) (next count number : ℕ) (r : DatasetRecord) → HasKnown mid number r → number < next
-    → IsAtMostRead (record_at mid number) (record_at new number) ⊎ IsNewNumber next count number → HasKnown new number r
-still mid new next count number r known low (inl (inl same)) = still_known mid new number r same known
-still mid new next count number r known low (inl (inr read)) = absurd (not_none known read.0)
-  where
-    not_none : HasKnown mid number r → record_at mid number ≡ None → ⊥
-    not_none (inl is) none = let clash : None ≡ Some (records.Read r) = sym none ∙ is in cc
-    not_none (inr (inl is)) none = let clash : None ≡ Some (records.Changed r) = sym none ∙ is in cc
-    not_none (inr (inr is)) none = let clash : None ≡ Some (records.Made r) = sym none ∙ is in cc
-still mid new next count number r known low (inr made) = let least = made.0 in absurd (omega (arith, low, least))
-
-module _ (old mid new : DatasetChanges) (numbers : List ℕ) (next count : ℕ) (below : (number : ℕ) → Contains numbers number → number < next) (heads : TouchesHeads old mid numbers)
-    (made : TouchesNew mid new next count) where
-  list_still : (list : ℕ) → IsListOf mid numbers list → IsListOf new numbers list
-  list_still list (number, one, (r, known, is)) = (number, one, (r, still mid new next count number r known (below number one) (made.records number), is))
-
-  touched_both : TouchesOnly old new (λ number. Contains numbers number ⊎ IsNewNumber next count number) (λ number. IsListOf new numbers number ⊎ IsNewNumber next count number)
-  touched_both = record {
-    records = λ number. elim (made.records number) [
-      | inl read ↦ elim (heads.records number) [
-        | inl first ↦ inl (at_most_on (record_at old number) (record_at mid number) (record_at new number) first read)
-        | inr one ↦ inr (inl one)
-      ]
-      | inr new_one ↦ inr (inr new_one)
-    ];
-    lists = λ number. elim (made.lists number) [
-      | inl same ↦ elim (heads.lists number) [
-        | inl first ↦ inl (same ∙ first)
-        | inr one ↦ inr (inl (list_still number one))
-      ]
-      | inr new_one ↦ inr (inr new_one)
-    ];
-  }
-
-module _ (writes : List Write) (opened : Opened) (opens : IsOpened writes opened) where
-  -- the objects of the set are below the first number that is given
-  first_above : (number : ℕ) → Contains (objects_of opened) number → number < first_number opened.set
-  first_above number held = let low = All-contains (λ (n : ℕ). n < opened.set.objects) (objects_of opened) number opens.within held in omega (arith, low)
-
-  -- those of the heads, and those that were made
-  pub group_datasets : (mid new : GroupDatasets) (count made : ℕ) → mid.next ≡ opened.datasets.next → AreOfOneSet opened.datasets.changes mid.changes → AreOfOneSet mid.changes new.changes
-      → TouchesHeads opened.datasets.changes mid.changes (objects_of opened) → TouchesNew mid.changes new.changes mid.next count → new.next ≡ mid.next + 2 * count → new.next ≡ mid.next + 2 * made
-      → AreGroupDatasets opened made new.changes
-  group_datasets mid new count made next one two heads touched counted is =
-      let first : mid.next ≡ first_number opened.set = next ∙ opens.next in
-      let as_many : count ≡ made = omega (arith, counted, is) in
-      let all = subst (λ (n : ℕ). TouchesNew mid.changes new.changes n made) first (subst (λ (n : ℕ). TouchesNew mid.changes new.changes mid.next n) as_many touched) in
-      record {
-        one_set = (two.0 ∙ one.0, two.1 ∙ one.1);
-        touched = touched_both opened.datasets.changes mid.changes new.changes (objects_of opened) (first_number opened.set) made first_above heads all;
-      }
 
 -- ---- the changes
 
-pub group_changes : (opened : Opened) (datasets : GroupDatasets) (first : ℕ) (made : List Action) (changes : List ObjectChange) → AreGroupDatasets opened (length made) datasets.changes
+pub group_changes : (opened : Opened) (datasets : GroupDatasets) (first : ℕ) (made : List Action) (changes : List ObjectChange) → AreGroupDatasets opened made datasets.changes
     → datasets.next ≡ first + 2 * length made → length datasets.directory ≡ length opened.datasets.directory + length made → HasDatasetChanges datasets first changes
     → AreGroupChanges opened made changes
 group_changes opened datasets first [] changes are next rows (of, of_are, alone, behind) = record {
@@ -128,9 +67,17 @@ asked_so : {X : Type 0} (Asks Others : X → List Demand → Type 0) → ((x : X
 asked_so Asks Others so [] demands none = none
 asked_so Asks Others so (x ∷ xs) demands (first, rest, here, later, is) = (first, rest, so x first here, asked_so Asks Others so xs rest later, is)
 
+-- a change asks the same of vdevs of the same shapes
+change_asks : (old mid : List VdevSpace) → shapes_of mid ≡ shapes_of old → (group : ℕ) (change : Change) (demands : List Demand) → HasChangeDemands mid group change demands
+    → HasChangeDemands old group change demands
+change_asks old mid same group (Create name size block_size) demands has = (has.0, has.1, set_demands_in old mid same empty_set group has.0 demands has.2)
+change_asks old mid same group (Snapshot volume part) demands none = none
+
+-- the volumes that are written to were placed, and then the actions are done
 module _ (old mid new : Store) (group : ℕ) (opened : Opened) (actions : List Action) (first last : GroupDatasets) (rows_are : first.directory ≡ opened.datasets.directory)
-    (next_is : first.next ≡ first_number opened.set) (places : HavePlacesFor old mid (HasHeadDemands old.spaces group) opened.written.items) where
-  pub actions_refused : (refusal : Refusal) → OnlyReadsAndPlans old mid [] → (refusal ≡ NoMemory) ⊎ IsActionRefused mid new group first.directory first.next actions refusal
+    (next_is : first.next ≡ first_number opened.set) (heads : TouchesHeads opened.datasets.changes first.changes (objects_of opened))
+    (places : HavePlacesFor old mid (HasHeadDemands old.spaces group) opened.written.items) where
+  pub actions_refused : (refusal : Refusal) → OnlyReadsAndPlans old mid [] → (refusal ≡ NoMemory) ⊎ IsActionRefused mid new first.changes group first.directory first.next actions refusal
       → AreVolumesRefused old new group opened actions refusal
   actions_refused refusal steps (inl memory) = inl memory
   actions_refused refusal steps (inr why) =
@@ -138,16 +85,30 @@ module _ (old mid new : Store) (group : ℕ) (opened : Opened) (actions : List A
         mid = mid;
         before = steps;
         places = places;
-        why = subst (λ (rows : List DirectoryRow). IsActionRefused mid new group rows (first_number opened.set) actions refusal) rows_are
-            (subst (λ (n : ℕ). IsActionRefused mid new group first.directory n actions refusal) next_is why);
+        written = first.changes;
+        heads = heads;
+        why = subst (λ (rows : List DirectoryRow). IsActionRefused mid new first.changes group rows (first_number opened.set) actions refusal) rows_are
+            (subst (λ (n : ℕ). IsActionRefused mid new first.changes group first.directory n actions refusal) next_is why);
       })))
 
-  module _ (makes : MakesAll mid new group first last actions) (are : AreGroupDatasets opened (length makes.made) last.changes) where
+  module _ (one : AreOfOneSet opened.datasets.changes first.changes) (two : AreOfOneSet first.changes last.changes) (makes : MakesAll mid new group first last actions) where
     made_are : AreMade opened.datasets.directory [] actions makes.made
     made_are = subst (λ (rows : List DirectoryRow). AreMade rows [] actions makes.made) rows_are makes.are
 
     last_next : last.next ≡ first_number opened.set + 2 * length makes.made
     last_next = makes.names.next ∙ ap (λ (n : ℕ). n + 2 * length makes.made) next_is
+
+    -- those of the heads, and those that the actions made and changed
+    datasets_are : AreGroupDatasets opened makes.made last.changes
+    datasets_are = record {
+      one_set = (two.0 ∙ one.0, two.1 ∙ one.1);
+      written = first.changes;
+      heads = heads;
+      rows = last.directory;
+      kept = subst (λ (rows : List DirectoryRow). HasMoreRows rows (first_number opened.set) last.directory) rows_are
+          (subst (λ (n : ℕ). HasMoreRows first.directory n last.directory) next_is makes.names.kept);
+      touched = subst (λ (n : ℕ). TouchesMade first.changes last.changes last.directory n makes.made) next_is makes.touched;
+    }
 
     pub datasets_refused : (refusal : Refusal) → OnlyReadsAndPlans old new [] → (refusal ≡ NoMemory) ⊎ ((refusal ≡ BadPointer) × AreMisnumbered last.changes last.next)
         → AreVolumesRefused old new group opened actions refusal
@@ -159,7 +120,7 @@ module _ (old mid new : Store) (group : ℕ) (opened : Opened) (actions : List A
           made = makes.made;
           made_are = made_are;
           datasets = last.changes;
-          datasets_are = are;
+          datasets_are = datasets_are;
           mis = subst (AreMisnumbered last.changes) last_next mis;
         })))
 
@@ -171,12 +132,12 @@ module _ (old mid new : Store) (group : ℕ) (opened : Opened) (actions : List A
           made = makes.made;
           made_are = made_are;
           next_is = is ∙ last_next;
-          changes_are = group_changes opened last (first_number opened.set) makes.made changes are last_next
+          changes_are = group_changes opened last (first_number opened.set) makes.made changes datasets_are last_next
               (makes.names.rows ∙ ap (λ (rows : List DirectoryRow). length rows + length makes.made) rows_are) changes_are;
           of_written = places.0;
           written_ask = places.1;
           of_made = asked.0;
-          made_ask = asked_so (HasActionDemands mid.spaces group) (HasActionDemands old.spaces group)
-              (λ action demands has. (has.0, has.1, set_demands_in old.spaces mid.spaces same empty_set group has.0 demands has.2)) makes.made asked.0 asked.1;
+          made_ask = asked_so (HasActionDemands mid.spaces group) (HasActionDemands old.spaces group) (λ action. change_asks old.spaces mid.spaces same group action.change)
+              makes.made asked.0 asked.1;
           places = have_both old.spaces mid.spaces new.spaces places.0 asked.0 places.2 asked.2;
         }

@@ -2,6 +2,7 @@ pub mod Asking
 pub mod BelowNext
 pub mod BlocksOnce
 pub mod Chained
+pub mod ChainWalks
 pub mod ChangedRows
 pub mod Copied
 pub mod Datasets
@@ -40,3 +41,4 @@ pub mod Standing
 pub mod Staying
 pub mod WalkedRows
 pub mod WrittenObjects
+pub mod YoungerRefusals

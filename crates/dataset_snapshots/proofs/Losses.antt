@@ -6,7 +6,8 @@ use Rattle.block_store.specs.declared.refusal.Refusal.{Refusal}
 use Rattle.block_store.specs.declared.refusal.Refusal.TheVariants.{DiskFault}
 use Rattle.block_store.specs.Losses.{IsBlockLost}
 use Rattle.block_store.specs.Store.{Store}
-use Rattle.dataset_groups.specs.Demands.{IsActionRefused, IsMakingRefused}
+use Rattle.dataset_changes.specs.declared.changes.DatasetChanges.{DatasetChanges}
+use Rattle.dataset_groups.specs.Demands.{IsActionRefused, IsMakingRefused, IsUnmade}
 use Rattle.dnode.specs.declared.object_set.ObjectSet.{ObjectSet}
 use Rattle.dnode_slots.proofs.Losses.{set_lost}
 use Rattle.meta_objset.proofs.Losses.{record_lost, rows_lost}
@@ -19,6 +20,7 @@ use Rattle.objset.specs.declared.changes.ObjectChange.{ObjectChange}
 use Rattle.pool_maps.specs.Refused.{AreFirstRefused, IsPlanRefused as AreMapsUnplanned, no_set}
 use Rattle.pool_model.specs.declared.item.Action.{Action}
 use Rattle.pool_model.specs.declared.item.Change.{Change}
+use Rattle.pool_model.specs.declared.item.Change.TheVariants.{Create, Snapshot}
 use Rattle.pool_model.specs.declared.item.Write.{Write}
 use Rattle.volume.proofs.Losses.{plan_lost, read_lost}
 use Rattle.volume.specs.Demands.{empty_set}
@@ -29,7 +31,7 @@ use Rattle.dataset_snapshots.specs.FirstGroup.{empty_meta}
 use Rattle.dataset_snapshots.specs.Laws.{LossesByRows, LossesOfDatasets, LossesOfFirstGroups, LossesOfGroups, LossesOfRanges}
 use Rattle.dataset_snapshots.specs.Opening.{IsGroupUnread, IsWrittenRefused}
 use Rattle.dataset_snapshots.specs.Ranges.{IsRangeRefusedIn}
-use Rattle.dataset_snapshots.proofs.LostHeads.{head_lost}
+use Rattle.dataset_snapshots.proofs.LostHeads.{chain_lost, head_lost}
 use Rattle.dataset_snapshots.proofs.LostMaps.{some_map_lost}
 
 pub meta_lost : (old new : Store) (missing : List ℕ) (birth : ℕ) (root : Block) (refusal : Refusal) → IsMetaRefused old new missing birth root refusal → refusal ≡ DiskFault → IsBlockLost old new missing
@@ -65,17 +67,22 @@ unread_lost old new birth root rows writes refusal (inr volume) is =
     lost_behind_reads old volume.mid new [] volume.before
     (lost_behind_reads volume.mid one.mid new [] one.before (blocks_lost one.mid new volume.set root.birth writes one.row refusal one.why is))
 
-making_lost : (old new : Store) (group : ℕ) (rows : List DirectoryRow) (earlier : List Action) (next : ℕ) (change : Change) (refusal : Refusal)
-    → IsMakingRefused old new group rows earlier next change refusal → refusal ≡ DiskFault → IsBlockLost old new []
-making_lost old new group rows earlier next change refusal (inl memory) is = absurd (cc)
-making_lost old new group rows earlier next change refusal (inr (inl (bad, none))) is = absurd (cc)
-making_lost old new group rows earlier next change refusal (inr (inr (lacks, inl (space, full)))) is = absurd (cc)
-making_lost old new group rows earlier next change refusal (inr (inr (lacks, inr (creation, made, why)))) is = plan_lost old new empty_set group group creation refusal why is
+unmade_lost : (old new : Store) (changes : DatasetChanges) (group : ℕ) (rows : List DirectoryRow) (next : ℕ) (change : Change) (refusal : Refusal)
+    → IsUnmade old new changes group rows next change refusal → refusal ≡ DiskFault → IsBlockLost old new []
+unmade_lost old new changes group rows next (Create name size block_size) refusal (creation, made, why) is = plan_lost old new empty_set group group creation refusal why is
+unmade_lost old new changes group rows next (Snapshot volume part) refusal untaken is = chain_lost old new untaken.far untaken.last untaken.head _ refusal untaken.why is
 
-action_lost : (old new : Store) (group : ℕ) (rows : List DirectoryRow) (next : ℕ) (actions : List Action) (refusal : Refusal) → IsActionRefused old new group rows next actions refusal
-    → refusal ≡ DiskFault → IsBlockLost old new []
-action_lost old new group rows next actions refusal one is =
-    lost_later old one.mid new [] one.before (making_lost one.mid new group rows one.first _ one.action.change refusal one.why is)
+making_lost : (old new : Store) (changes : DatasetChanges) (group : ℕ) (rows : List DirectoryRow) (made : List Action) (next : ℕ) (change : Change) (refusal : Refusal)
+    → IsMakingRefused old new changes group rows made next change refusal → refusal ≡ DiskFault → IsBlockLost old new []
+making_lost old new changes group rows made next change refusal (inl memory) is = absurd (cc)
+making_lost old new changes group rows made next change refusal (inr (inl (bad, none))) is = absurd (cc)
+making_lost old new changes group rows made next change refusal (inr (inr (making, inl (space, full)))) is = absurd (cc)
+making_lost old new changes group rows made next change refusal (inr (inr (making, inr why))) is = unmade_lost old new changes group rows next change refusal why is
+
+action_lost : (old new : Store) (changes : DatasetChanges) (group : ℕ) (rows : List DirectoryRow) (next : ℕ) (actions : List Action) (refusal : Refusal)
+    → IsActionRefused old new changes group rows next actions refusal → refusal ≡ DiskFault → IsBlockLost old new []
+action_lost old new changes group rows next actions refusal one is =
+    lost_later old one.mid new [] one.before (making_lost one.mid new changes group rows one.made next one.action.change refusal one.why is)
 
 volumes_lost : (old new : Store) (group : ℕ) (opened : Opened) (actions : List Action) (refusal : Refusal) → AreVolumesRefused old new group opened actions refusal → refusal ≡ DiskFault
     → IsBlockLost old new []
@@ -83,7 +90,7 @@ volumes_lost old new group opened actions refusal (inl memory) is = absurd (cc)
 volumes_lost old new group opened actions refusal (inr (inl (inl memory))) is = absurd (cc)
 volumes_lost old new group opened actions refusal (inr (inl (inr unplaced))) is = head_lost old new opened.datasets.changes group opened.written.items refusal unplaced is
 volumes_lost old new group opened actions refusal (inr (inr (inl refused))) is =
-    lost_later old refused.mid new [] refused.before (action_lost refused.mid new group opened.datasets.directory _ actions refusal refused.why is)
+    lost_later old refused.mid new [] refused.before (action_lost refused.mid new refused.written group opened.datasets.directory _ actions refusal refused.why is)
 volumes_lost old new group opened actions refusal (inr (inr (inr mis))) is = absurd (let bad = mis.bad in cc)
 
 root_lost : (old new : Store) (set : ObjectSet) (before group : ℕ) (changes : List ObjectChange) (refusal : Refusal) → IsRootRefused old new set before group changes refusal → refusal ≡ DiskFault
@@ -125,7 +132,7 @@ first_maps_lost old new changes next refusal maps is = elim maps.why [
 
 pub losses_of_first_groups : LossesOfFirstGroups
 losses_of_first_groups old new group vdevs items refusal (inl memory) is = absurd (cc)
-losses_of_first_groups old new group vdevs items refusal (inr (inl action)) is = action_lost old new group [] 5 items.actions refusal action is
+losses_of_first_groups old new group vdevs items refusal (inr (inl (before, none, action))) is = action_lost old new before group [] 5 items.actions refusal action is
 losses_of_first_groups old new group vdevs items refusal (inr (inr (inl mis))) is = absurd (let bad = mis.bad in cc)
 losses_of_first_groups old new group vdevs items refusal (inr (inr (inr (inl maps)))) is =
     lost_later old maps.mid new [] maps.volumes.before (first_maps_lost maps.mid new maps.changes maps.next refusal maps.why is)

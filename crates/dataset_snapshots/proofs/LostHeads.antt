@@ -56,7 +56,7 @@ end_unread_lost old new changes number refusal (inr (inr (bad, none))) is = absu
 
 -- ---- chains
 
-chain_lost : (old new : Store) (changes far : DatasetChanges) (number : ℕ) (kind : DatasetKind) (refusal : Refusal) → IsChainRefused old new changes far number kind refusal → refusal ≡ DiskFault
+pub chain_lost : (old new : Store) (changes far : DatasetChanges) (number : ℕ) (kind : DatasetKind) (refusal : Refusal) → IsChainRefused old new changes far number kind refusal → refusal ≡ DiskFault
     → IsBlockLost old new []
 chain_lost old new changes far number kind refusal (inl memory) is = absurd (cc)
 chain_lost old new changes far number kind refusal (inr (inl record_is)) is =

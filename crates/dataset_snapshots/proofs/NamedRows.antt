@@ -17,6 +17,7 @@ use Rattle.dnode.specs.declared.object_set.ObjectSet.{ObjectSet}
 use Rattle.dnode_tree.specs.ReadRefusals.{IsForRead}
 use Rattle.meta_objset.proofs.Edits.{apart, pairs_head, pairs_tail}
 use Rattle.meta_objset.specs.declared.directory.DirectoryRow.{DirectoryRow}
+use Rattle.meta_objset.specs.declared.record.DatasetKind.{DatasetKind}
 use Rattle.meta_objset.specs.declared.record.DatasetRecord.{DatasetRecord}
 use Rattle.meta_objset.specs.Names.{IsBefore, IsName, IsNamed}
 use Rattle.object_table.proofs.Tables.{spaces_stay}
@@ -24,7 +25,6 @@ use Rattle.objset.specs.Objects.{Object}
 use Rattle.pool_model.proofs.Places.{same_is, volume_more}
 use Rattle.pool_model.specs.declared.volume.PlainVolume.{PlainVolume}
 use Rattle.pool_model.specs.declared.volume.VolumeKind.{VolumeKind}
-use Rattle.pool_model.specs.declared.volume.VolumeKind.TheVariants as volumes
 use Rattle.pool_model.specs.Names.{same}
 use Rattle.pool_model.specs.Pools.{PlainPool, volume_at, with_volume}
 use Rattle.volume_rules.specs.declared.index.NameIndex.{NameIndex}
@@ -32,7 +32,8 @@ use Rattle.volume_rules.specs.declared.shape.VolumeShape.{VolumeShape}
 use Rattle.volume_rules.specs.Index.{Knows}
 use Rattle.volume_rules.specs.Shapes.{shape_of}
 use Rattle.dataset_snapshots.specs.Contents.{AreVolumesNamed, IsVolumeNamed, IsVolumeShapeFound}
-use Rattle.dataset_snapshots.specs.Pools.{IsRecordOf, SpellsDataset}
+use Rattle.dataset_snapshots.specs.Pools.{IsRecordKind, IsRecordOf, SpellsDataset}
+use Rattle.dataset_snapshots.proofs.Chained.{one_kind}
 use Rattle.dataset_snapshots.proofs.Rows.{at, padded_same}
 
 abbrev Before : DirectoryRow → DirectoryRow → Type 0
@@ -97,12 +98,13 @@ shapes_same : (shape other : VolumeShape) → shape.size ≡ other.size → shap
 shapes_same shape other size block_size group kind = λ i. record { size = size i; block_size = block_size i; group = group i; kind = kind i }
 
 -- the record that was read has the volume's shape
-pub shape_is : (volume : PlainVolume) (r found : DatasetRecord) (kind : VolumeKind) → found ≡ r → kind ≡ volumes.Volume → IsRecordOf r volume
+pub shape_is : (volume : PlainVolume) (r found : DatasetRecord) (kind : VolumeKind) → found ≡ r → IsRecordKind kind found.kind → IsRecordOf r volume
     → shape_of volume ≡ record { size = found.size; block_size = found.block_size; group = found.created; kind = kind }
 shape_is volume r found kind same kind_is is =
+    let kinds = ap (λ (other : DatasetRecord). other.kind) same in
     shapes_same (shape_of volume) (record { size = found.size; block_size = found.block_size; group = found.created; kind = kind })
     (sym is.size ∙ ap (λ (other : DatasetRecord). other.size) (sym same)) (sym is.block_size ∙ ap (λ (other : DatasetRecord). other.block_size) (sym same))
-    (sym is.created ∙ ap (λ (other : DatasetRecord). other.created) (sym same)) (is.is_volume ∙ sym kind_is)
+    (sym is.created ∙ ap (λ (other : DatasetRecord). other.created) (sym same)) (one_kind volume.kind kind r.kind is.kind (subst (λ (of : DatasetKind). IsRecordKind kind of) kinds kind_is))
 
 -- ---- whatever the root is
 
@@ -131,15 +133,16 @@ module _ (spaces : List VdevSpace) (set : ObjectSet) (birth : ℕ) where
       → IsName row.name → IsVolumeShapeFound spaces set birth row.object shape → AreVolumesNamed spaces set birth (take k rows) names
       → ((pool : PlainPool) (volume : PlainVolume) → Knows names pool → IsNamed row.name volume.name → volume_at volume.name pool ≡ None → shape_of volume ≡ shape → Knows after (with_volume volume pool))
       → AreVolumesNamed spaces set birth (take (k + 1) rows) after
-  named_more rows k row other names after shape order low is named (r, has, kind, shape_is) (before, all, known) added =
+  named_more rows k row other names after shape order low is named found (before, all, known) added =
+      let r = found.r in
       let none : ℕ = 0 in
-      let volume : PlainVolume = record { name = named.0; bytes = replicate r.size none; block_size = r.block_size; group = r.created; kind = volumes.Volume } in
+      let volume : PlainVolume = record { name = named.0; bytes = replicate r.size none; block_size = r.block_size; group = r.created; kind = shape.kind } in
       let size : length volume.bytes ≡ r.size = length-replicate r.size none in
-      let record_is : IsRecordOf r volume = record { kind = kind; is_volume = refl; size = sym size; block_size = refl; created = refl } in
-      let is_named : IsVolumeNamed spaces set birth row volume = record { name = named.1; r = r; has = has; is = record_is } in
+      let record_is : IsRecordOf r volume = record { kind = found.kind; size = sym size; block_size = refl; created = refl } in
+      let is_named : IsVolumeNamed spaces set birth row volume = record { name = named.1; r = r; has = found.has; is = record_is } in
       let new : at volume.name before ≡ None = no_name (take k rows) before row volume.name all (before_row rows k row other order low is) named.1 in
       let same_shape : shape_of volume ≡ shape =
-      shapes_same (shape_of volume) (record { size = r.size; block_size = r.block_size; group = r.created; kind = volumes.Volume }) size refl refl refl ∙ sym shape_is in
+      shapes_same (shape_of volume) shape (size ∙ sym found.size) (sym found.block_size) (sym found.created) refl in
       let taken : take k rows ++ row ∷ [] ≡ take (k + 1) rows = ap (λ (r : DirectoryRow). take k rows ++ r ∷ []) is ∙ sym (take_more rows k other low) in (
         before ++ volume ∷ [],
         subst (λ (rs : List DirectoryRow). AllZip (IsVolumeNamed spaces set birth) rs (before ++ volume ∷ [])) taken

@@ -1,6 +1,6 @@
--- The volumes of datasets, and whether enough blocks are left to walk them.
-use Rattle.std.proofs.Common.{◌≡◌, ℕ, zero, suc, ◌+◌, ◌≤◌, List, [], ◌∷◌, ◌++◌, length, Option, Some, None, Contains, inl, inr, sym, ap, ◌∙◌, subst, arith}
-use Rattle.std.specs.List.{flat_map, range_with_len, AllZip}
+-- Whether enough blocks are left to walk a set, and what a root reaches.
+use Rattle.std.proofs.Common.{◌≡◌, ℕ, zero, suc, ◌+◌, ◌≤◌, List, [], ◌∷◌, ◌++◌, length, Option, Some, None, Contains, inl, inr, ap, ◌∙◌, subst, arith}
+use Rattle.std.specs.List.{flat_map, range_with_len}
 use Rattle.std.specs.Prelude.{not, ◌==◌}
 use Rattle.std.proofs.lemmas.List.{length-append}
 use Rattle.std.proofs.lemmas.List.Elements.{Contains-append_cases}
@@ -9,56 +9,30 @@ use Rattle.block_pointer.specs.declared.block.Block.{Block}
 use Rattle.block_store.specs.Blocks.{Contents}
 use Rattle.block_store.specs.Steps.{OnlyReadsBlocks}
 use Rattle.block_store.specs.Store.{Store}
+use Rattle.dataset_chains.specs.Chains.{Reading}
+use Rattle.dataset_chains.specs.Standing.{HasChains}
+use Rattle.dataset_groups.proofs.KnownBlocks.{IsKnown, free_or_not, volume_known}
+use Rattle.dead_list.specs.Datasets.{Dataset, Pool}
+use Rattle.dead_list.specs.Datasets.{IsReached as IsDatasetBlock}
 use Rattle.dnode.specs.declared.dnode.Dnode.{Dnode}
 use Rattle.dnode.specs.declared.dnode.Dnode.TheVariants.{Free, Object as Node}
 use Rattle.dnode.specs.declared.object_set.ObjectSet.{ObjectSet}
 use Rattle.dnode_slots.specs.Nodes.{birth_of}
 use Rattle.dnode_tree.proofs.Standing.{tree_blocks_known}
-use Rattle.dnode_tree.specs.Rewriting.{AreDistinct}
-use Rattle.dnode_tree.specs.Subtree.{joined}
-use Rattle.meta_objset.specs.declared.directory.DirectoryRow.{DirectoryRow}
-use Rattle.meta_objset.specs.declared.record.DatasetRecord.{DatasetRecord}
 use Rattle.object_table.proofs.Tables.{spaces_stay}
-use Rattle.objset.specs.Laws.{HasEachOnce}
 use Rattle.objset.specs.Objects.{Object, IsObject, AreObjects}
-use Rattle.objset.specs.Within.{blocks_of_objects, blocks_of_set, reads_of, IsSetWalked}
-use Rattle.pool_model.specs.declared.volume.PlainVolume.{PlainVolume}
+use Rattle.objset.specs.Within.{blocks_of_set, reads_of, IsSetWalked}
 use Rattle.pool_model.specs.Pools.{PlainPool}
-use Rattle.volume.specs.Volume.{IsVolume, Spells, block_of, block_size_of, size_of}
-use Rattle.volume.specs.Walking.{blocks_of_volume, reads_of_volume}
-use Rattle.dataset_snapshots.specs.declared.finding.Dataset.{Dataset}
-use Rattle.dataset_snapshots.specs.Finding.{IsMetaFound, IsVolumeOf}
+use Rattle.dataset_snapshots.specs.Finding.{IsMetaFound}
 use Rattle.dataset_snapshots.specs.Laws.{ReachesLieApart}
-use Rattle.dataset_snapshots.specs.Pools.{SpellsDataset, SpellsPool}
-use Rattle.dataset_snapshots.specs.Reach.{blocks_of_dataset, parts_of, reach_of, volume_blocks_of, AreVolumesWalked, IsReached}
-use Rattle.dataset_snapshots.proofs.BlocksOnce.{back_once, set_once}
-use Rattle.dataset_snapshots.proofs.Chained.{parts_are_reach, volumes_of}
+use Rattle.dataset_snapshots.specs.Pools.{SpellsPool}
+use Rattle.dataset_snapshots.specs.Reach.{reach_of, volume_blocks_of, AreVolumesWalked, IsReached}
+use Rattle.dataset_snapshots.proofs.ChainWalks.{reached_by_rows}
 use Rattle.dataset_snapshots.proofs.Holding.{first_or_later}
-
--- what is said of the volume that was found is said of the one that the record has
-pub of_record : (stored : Contents) (birth : ℕ) (array : List ℕ) (Q : (block : Block) (size block_size : ℕ) → IsVolume stored birth block size block_size array → Type 0)
-    (dataset : Dataset) (r : DatasetRecord) → dataset.record ≡ r → IsVolumeOf dataset
-    → ((is : Spells stored birth dataset.volume array) → Q (block_of dataset.volume) (size_of dataset.volume) (block_size_of dataset.volume) is)
-    → (is : IsVolume stored birth r.object_set r.size r.block_size array) → Q r.object_set r.size r.block_size is
-of_record stored birth array Q dataset r same of told =
-    let size : dataset.volume.size ≡ r.size = of.0.0 ∙ ap (λ (other : DatasetRecord). other.size) same in
-    let block_size : dataset.volume.block_size ≡ r.block_size = of.0.1 ∙ ap (λ (other : DatasetRecord). other.block_size) same in
-    let block : dataset.volume.block ≡ r.object_set = of.1 ∙ ap (λ (other : DatasetRecord). other.object_set) same in
-    subst (λ n. (is : IsVolume stored birth r.object_set r.size n array) → Q r.object_set r.size n is) block_size
-    (subst (λ n. (is : IsVolume stored birth r.object_set n dataset.volume.block_size array) → Q r.object_set n dataset.volume.block_size is) size
-    (subst (λ (b : Block). (is : IsVolume stored birth b dataset.volume.size dataset.volume.block_size array) → Q b dataset.volume.size dataset.volume.block_size is) block told))
 
 -- no more blocks of a set are read than it has
 pub reads_few : (own below : List Block) → reads_of own below ≤ length (own ++ below)
 reads_few own below = omega (arith, count_by-le-length (λ (b : Block). not (b.property.level == 0)) below, length-append own below)
-
--- a volume that has each block once, and of which as many may be read
-pub volume_enough : (stored : Contents) (birth : ℕ) (block : Block) (set : ObjectSet) (objects : ℕ → Option Object) (own : List Block) (blocks : ℕ → List Block) (left : ℕ) (Loss : Type 0)
-    → AreObjects stored birth set objects own blocks → (HasEachOnce own blocks → reads_of_volume set own blocks ≤ left → Loss)
-    → AreDistinct (blocks_of_volume block set own blocks) → length (blocks_of_volume block set own blocks) ≤ left → Loss
-volume_enough stored birth block set objects own blocks left Loss are told once long =
-    told (set_once stored birth set objects own blocks are (back_once (block ∷ []) (blocks_of_set set own blocks) once))
-    (omega (arith, reads_few own (blocks_of_objects set blocks), long))
 
 -- the root's block, and what was found behind it
 pub parts_are : (root : Block) (own own_is below below_is : List Block) → own ≡ own_is → below ≡ below_is → root ∷ own ++ below ≡ root ∷ own_is ++ below_is
@@ -81,9 +55,6 @@ reached_by old mid now missing birth root set before left rest after own below f
 }
 
 -- ---- the blocks of a reach are known
-
-abbrev IsKnown : Contents → Block → Type 0
-IsKnown stored block = (bytes : List ℕ) × (stored block ≡ Some bytes)
 
 in_range : (blocks : ℕ → List Block) (block : Block) (first count : ℕ) → Contains (flat_map blocks (range_with_len first count)) block → (number : ℕ) × Contains (blocks number) block
 in_range blocks block first zero held = absurd (omega (arith, held.1))
@@ -108,23 +79,17 @@ set_known stored birth set objects own blocks block are held =
           object_known stored (birth_of are.dnodes.births there.0) (are.nodes there.0) (objects there.0) (blocks there.0) block (are.each there.0) there.1
     ]
 
-dataset_known : (stored : Contents) (birth : ℕ) (objects : ℕ → Option Object) (row : DirectoryRow) (volume : PlainVolume) (is : SpellsDataset stored birth objects row volume) (block : Block)
-    → Contains (blocks_of_dataset is) block → IsKnown stored block
-dataset_known stored birth objects row volume is block held =
-    elim (first_or_later is.r.object_set block (blocks_of_set is.bytes.set is.bytes.has.own is.bytes.has.blocks) held) [
-      | inl same ↦ subst (IsKnown stored) same (is.bytes.is_set.bytes, is.bytes.is_set.known)
-      | inr later ↦ set_known stored is.r.object_set.birth is.bytes.set is.bytes.has.objects is.bytes.has.own is.bytes.has.blocks block is.bytes.has.are later
-    ]
-
-rows_known : (stored : Contents) (birth : ℕ) (objects : ℕ → Option Object) (rows : List DirectoryRow) (volumes : List PlainVolume) (all : AllZip (SpellsDataset stored birth objects) rows volumes) (block : Block)
-    → Contains (joined (parts_of stored birth objects rows volumes all)) block → IsKnown stored block
-rows_known stored birth objects [] volumes all block held = absurd (omega (arith, held.1))
-rows_known stored birth objects (row ∷ rows) [] all block held = absurd all
-rows_known stored birth objects (row ∷ rows) (volume ∷ volumes) all block held =
-    elim (Contains-append_cases (blocks_of_dataset all.0) (joined (parts_of stored birth objects rows volumes all.1)) block held) [
-      | inl here ↦ dataset_known stored birth objects row volume all.0 block here
-      | inr later ↦ rows_known stored birth objects rows volumes all.1 block later
-    ]
+-- so are those that some dataset reaches
+chains_known : (stored : Contents) (birth : ℕ) (objects : ℕ → Option Object) (pool : Pool) (readings : ℕ → Reading) (block : Block) → HasChains stored birth objects pool readings
+    → IsDatasetBlock pool.datasets block → IsKnown stored block
+chains_known stored birth objects pool readings block chains (m, held) = elim (free_or_not (pool.datasets m).kind) [
+  | inl free ↦
+      let there : Contains [] block = subst (λ (d : Dataset). Contains d.blocks block) (chains.none m free).is held in
+      absurd (omega (arith, there.1))
+  | inr some ↦
+      let it = chains.each m some in
+      volume_known stored birth it.r (pool.datasets m).blocks (readings m) block it.leads held
+]
 
 pub reach_known : (stored : Contents) (birth : ℕ) (root : Block) (pool : PlainPool) (is : SpellsPool stored birth root pool) (block : Block) → Contains (reach_of is) block → IsKnown stored block
 reach_known stored birth root pool is block held =
@@ -132,7 +97,7 @@ reach_known stored birth root pool is block held =
       | inl same ↦ subst (IsKnown stored) same (is.is_set.bytes, is.is_set.known)
       | inr later ↦ elim (Contains-append_cases (blocks_of_set is.set is.own is.blocks) (volume_blocks_of is) block later) [
         | inl here ↦ set_known stored root.birth is.set is.objects is.own is.blocks block is.are here
-        | inr below ↦ rows_known stored root.birth is.objects is.rows pool.volumes (volumes_of is) block (subst (λ (bs : List Block). Contains bs block) (sym (parts_are_reach is)) below)
+        | inr below ↦ chains_known stored root.birth is.objects is.datasets is.readings block is.chains (reached_by_rows is.datasets is.rows block below)
       ]
     ]
 

@@ -12,11 +12,12 @@ use Rattle.meta_objset.specs.declared.directory.DirectoryRow.{DirectoryRow}
 use Rattle.meta_objset.specs.Found.{AreDirectoryRows}
 use Rattle.meta_objset.specs.Reading.{directory_kind}
 use Rattle.objset.proofs.ReadRefusals.{set_walk_read}
-use Rattle.volume.proofs.ReadRefusals.{blocks_read, volume_walk_read}
+use Rattle.volume.proofs.ReadRefusals.{blocks_read}
 use Rattle.dataset_snapshots.specs.Finding.{IsDirectoryRefused, IsMetaRefused, IsRefused, IsRefusedIn}
 use Rattle.dataset_snapshots.specs.Laws.{ReadsNeedNoRoom}
 use Rattle.dataset_snapshots.specs.Ranges.{IsRangeRefused, IsRangeRefusedIn}
 use Rattle.dataset_snapshots.specs.Reach.{AreVolumesUnwalked, IsDatasetUnwalked, IsMetaMissed, IsReachRefused}
+use Rattle.dataset_snapshots.proofs.YoungerRefusals.{younger_volume_read}
 
 meta_read : (old new : Store) (missing : List ℕ) (birth : ℕ) (root : Block) (refusal : Refusal) → IsMetaRefused old new missing birth root refusal → IsForRead refusal
 meta_read old new missing birth root refusal (inl unread) = set_read old new missing birth root refusal unread
@@ -57,7 +58,9 @@ dataset_walk_read : (old new : Store) (missing : List ℕ) (set : ObjectSet) (bi
     → IsDatasetUnwalked old new missing set birth object before after refusal → IsForRead refusal
 dataset_walk_read old new missing set birth object before after refusal (inl memory) = inl memory
 dataset_walk_read old new missing set birth object before after refusal (inr (inl of_record)) = record_read old new missing set birth object refusal of_record
-dataset_walk_read old new missing set birth object before after refusal (inr (inr there)) = volume_walk_read there.mid new missing there.dataset.volume birth before after refusal there.why
+dataset_walk_read old new missing set birth object before after refusal (inr (inr (inl there))) = record_read there.mid new missing set birth there.dataset.record.previous refusal there.why
+dataset_walk_read old new missing set birth object before after refusal (inr (inr (inr there))) =
+    younger_volume_read there.since there.mid new missing there.dataset.volume birth before after refusal there.why
 
 volumes_walk_read : (old new : Store) (missing : List ℕ) (set : ObjectSet) (birth before after : ℕ) (refusal : Refusal) → AreVolumesUnwalked old new missing set birth before after refusal
     → IsForRead refusal

@@ -1,17 +1,23 @@
 -- A root spells one pool, and leads to one list of blocks.
 use Rattle.pool_maps.specs.Reached.{AreMapsFor}
 use Rattle.block_pointer.specs.Copies.{dvas}
-use Rattle.std.proofs.Common.{◌≡◌, ℕ, ◌%◌, List, [], ◌∷◌, ◌++◌, Option, refl, sym, ap, subst, ◌∙◌, All, length, ◌≢◌}
-use Rattle.std.specs.List.{AllZip}
+use Rattle.std.proofs.Common.{◌≡◌, ℕ, ◌%◌, List, [], ◌∷◌, ◌++◌, Option, inl, inr, refl, sym, ap, subst, ◌∙◌, All, length, ◌≢◌}
+use Rattle.std.specs.List.{AllZip, flat_map}
 use Rattle.block_pointer.specs.declared.block.Block.{Block}
 use Rattle.block_store.specs.Opened.{AreBlocksApart}
 use Rattle.block_store.specs.Blocks.{Contents}
+use Rattle.dataset_chains.specs.Chains.{Reading}
+use Rattle.dataset_chains.specs.Standing.{HasChains, StandsAt}
+use Rattle.dataset_groups.proofs.KnownBlocks.{free_or_not}
+use Rattle.dataset_groups.specs.Names.{objects_of_rows, reach_by}
+use Rattle.dead_list.specs.Datasets.{Dataset, Pool, group_before}
+use Rattle.dead_list.specs.Reach.{born_after, own_of}
 use Rattle.dnode.specs.declared.object_set.ObjectSet.{ObjectSet}
 use Rattle.dnode_slots.proofs.Readings.{set_block_once}
 use Rattle.dnode_tree.specs.Rewriting.{AreDistinct}
-use Rattle.dnode_tree.specs.Subtree.{joined}
 use Rattle.meta_objset.proofs.Readings.{directory_once, name_once, record_once}
 use Rattle.meta_objset.specs.declared.directory.DirectoryRow.{DirectoryRow}
+use Rattle.meta_objset.specs.declared.record.DatasetKind.{DatasetKind}
 use Rattle.meta_objset.specs.declared.record.DatasetRecord.{DatasetRecord}
 use Rattle.meta_objset.specs.Reading.{HasDirectory}
 use Rattle.objset.proofs.Readings.{objects_are_one}
@@ -22,9 +28,9 @@ use Rattle.volume.proofs.Readings.{volumes_read_as_one}
 use Rattle.volume.specs.Volume.{IsVolume}
 use Rattle.volume.specs.Walking.{blocks_of_volume}
 use Rattle.dataset_snapshots.specs.Laws.{RootsSpellOnePool}
-use Rattle.dataset_snapshots.specs.Pools.{SpellsDataset}
-use Rattle.dataset_snapshots.specs.Reach.{blocks_of_dataset, parts_of, reach_of, volume_blocks_of}
-use Rattle.dataset_snapshots.proofs.Chained.{parts_are_reach, volumes_of}
+use Rattle.dataset_snapshots.specs.Pools.{IsRecordKind, SpellsDataset}
+use Rattle.dataset_snapshots.specs.Reach.{reach_of, volume_blocks_of}
+use Rattle.dataset_snapshots.proofs.Chained.{one_kind, volumes_of}
 use Rattle.dataset_snapshots.proofs.KeptVolumes.{volume_blocks}
 
 -- ---- datasets
@@ -43,45 +49,75 @@ volume_once stored birth array other r s same whole one =
         let blocks = reads.3 in
         (reads.0, λ i. blocks_of_volume r.object_set (set i) (own i) (blocks i))
 
-dataset_once : (stored : Contents) (birth : ℕ) (objects : ℕ → Option Object) (row : DirectoryRow) (volume other : PlainVolume) (one : SpellsDataset stored birth objects row volume)
-    (two : SpellsDataset stored birth objects row other) → (volume ≡ other) × (blocks_of_dataset one ≡ blocks_of_dataset two)
+dataset_once : (stored : Contents) (birth : ℕ) (objects : ℕ → Option Object) (row : DirectoryRow) (volume other : PlainVolume) → SpellsDataset stored birth objects row volume
+    → SpellsDataset stored birth objects row other → volume ≡ other
 dataset_once stored birth objects row volume other one two =
     let r = record_once (objects row.object) one.r two.r one.has two.has in
-    let reads = volume_once stored birth volume.bytes other.bytes one.r two.r r one.has.spelled.0.record_is.whole one.bytes two.bytes in
     let name = name_once row.name volume.name other.name one.name two.name in
-    let bytes = reads.0 in
+    let bytes = (volume_once stored birth volume.bytes other.bytes one.r two.r r one.has.spelled.0.record_is.whole one.bytes two.bytes).0 in
     let block_size : volume.block_size ≡ other.block_size = sym one.is.block_size ∙ ap (λ (r : DatasetRecord). r.block_size) r ∙ two.is.block_size in
     let group : volume.group ≡ other.group = sym one.is.created ∙ ap (λ (r : DatasetRecord). r.created) r ∙ two.is.created in
-    let kind : volume.kind ≡ other.kind = one.is.is_volume ∙ sym two.is.is_volume in
-    (λ i. record { name = name i; bytes = bytes i; block_size = block_size i; group = group i; kind = kind i }, reads.1)
+    let kinds = ap (λ (r : DatasetRecord). r.kind) r in
+    let kind : volume.kind ≡ other.kind = one_kind volume.kind other.kind two.r.kind (subst (λ (of : DatasetKind). IsRecordKind volume.kind of) kinds one.is.kind) two.is.kind in
+    λ i. record { name = name i; bytes = bytes i; block_size = block_size i; group = group i; kind = kind i }
 
-datasets_once : (stored : Contents) (birth : ℕ) (objects : ℕ → Option Object) (rows : List DirectoryRow) (volumes others : List PlainVolume) (one : AllZip (SpellsDataset stored birth objects) rows volumes)
-    (two : AllZip (SpellsDataset stored birth objects) rows others) → (volumes ≡ others) × (parts_of stored birth objects rows volumes one ≡ parts_of stored birth objects rows others two)
-datasets_once stored birth objects [] [] [] one two = (refl, refl)
+datasets_once : (stored : Contents) (birth : ℕ) (objects : ℕ → Option Object) (rows : List DirectoryRow) (volumes others : List PlainVolume)
+    → AllZip (SpellsDataset stored birth objects) rows volumes → AllZip (SpellsDataset stored birth objects) rows others → volumes ≡ others
+datasets_once stored birth objects [] [] [] one two = refl
 datasets_once stored birth objects [] [] (other ∷ others) one two = absurd two
 datasets_once stored birth objects [] (volume ∷ volumes) others one two = absurd one
 datasets_once stored birth objects (row ∷ rows) [] others one two = absurd one
 datasets_once stored birth objects (row ∷ rows) (volume ∷ volumes) [] one two = absurd two
 datasets_once stored birth objects (row ∷ rows) (volume ∷ volumes) (other ∷ others) one two =
     let first = dataset_once stored birth objects row volume other one.0 two.0 in
-    let rest = datasets_once stored birth objects rows volumes others one.1 two.1 in (
-      ap (λ (v : PlainVolume). v ∷ volumes) first.0 ∙ ap (λ (vs : List PlainVolume). other ∷ vs) rest.0,
-      ap (λ (part : List Block). part ∷ parts_of stored birth objects rows volumes one.1) first.1
-          ∙ ap (λ (parts : List (List Block)). blocks_of_dataset two.0 ∷ parts) rest.1,
-    )
+    let rest = datasets_once stored birth objects rows volumes others one.1 two.1 in
+    λ i. first i ∷ rest i
 
--- the datasets are those of these others
-abbrev AreAlike : (stored : Contents) (birth : ℕ) (objects others : ℕ → Option Object) (rows lines : List DirectoryRow) (volumes more : List PlainVolume)
-    → AllZip (SpellsDataset stored birth objects) rows volumes → Type 0
-AreAlike stored birth objects others rows lines volumes more one =
-    (two : AllZip (SpellsDataset stored birth others) lines more) → (volumes ≡ more) × (parts_of stored birth objects rows volumes one ≡ parts_of stored birth others lines more two)
+-- ---- what datasets reach
 
--- of equal objects and equal rows
-datasets_alike : (stored : Contents) (birth : ℕ) (objects others : ℕ → Option Object) (rows lines : List DirectoryRow) (volumes more : List PlainVolume) → objects ≡ others → rows ≡ lines
-    → (one : AllZip (SpellsDataset stored birth objects) rows volumes) → AreAlike stored birth objects others rows lines volumes more one
-datasets_alike stored birth objects others rows lines volumes more same rows_same one =
-    subst (λ os. AreAlike stored birth objects os rows lines volumes more one) same
-    (subst (λ (rs : List DirectoryRow). AreAlike stored birth objects objects rows rs volumes more one) rows_same (λ two. datasets_once stored birth objects rows volumes more one two))
+-- what two chains of the same objects have at a number: of one group, behind one snapshot, with the same blocks
+record AreAlike (x y : Dataset) : Type 0 where
+  pub group : x.group ≡ y.group
+  pub before : x.before ≡ y.before
+  pub blocks : x.blocks ≡ y.blocks
+
+module _ (stored : Contents) (birth : ℕ) (objects : ℕ → Option Object) (pool other : Pool) (readings more : ℕ → Reading) (one : HasChains stored birth objects pool readings)
+    (two : HasChains stored birth objects other more) where
+  stand_alike : (m : ℕ) → StandsAt stored birth objects pool readings m → StandsAt stored birth objects other more m → AreAlike (pool.datasets m) (other.datasets m)
+  stand_alike m this that =
+      let r = record_once (objects m) this.r that.r this.has that.has in
+      let blocks = (volume_once stored birth (readings m).array (more m).array this.r that.r r this.has.spelled.0.record_is.whole this.leads.bytes that.leads.bytes).1 in
+      record {
+        group = this.is.created ∙ (ap (λ (of : DatasetRecord). of.created) r ∙ sym that.is.created);
+        before = this.is.previous ∙ (ap (λ (of : DatasetRecord). of.previous) r ∙ sym that.is.previous);
+        blocks = sym this.leads.blocks_are ∙ (blocks ∙ that.leads.blocks_are);
+      }
+
+  none_alike : (m : ℕ) → pool.datasets m ≡ other.datasets m → AreAlike (pool.datasets m) (other.datasets m)
+  none_alike m same = record { group = ap (λ (x : Dataset). x.group) same; before = ap (λ (x : Dataset). x.before) same; blocks = ap (λ (x : Dataset). x.blocks) same }
+
+  alike : (m : ℕ) → AreAlike (pool.datasets m) (other.datasets m)
+  alike m = elim (free_or_not (pool.datasets m).kind) [
+    | inl free ↦ elim (free_or_not (other.datasets m).kind) [
+      | inl also ↦ none_alike m ((one.none m free).is ∙ sym (two.none m also).is)
+      | inr there ↦ let it = two.each m there in absurd ((one.none m free).none it.r it.has)
+    ]
+    | inr there ↦ elim (free_or_not (other.datasets m).kind) [
+      | inl free ↦ let it = one.each m there in absurd ((two.none m free).none it.r it.has)
+      | inr also ↦ stand_alike m (one.each m there) (two.each m also)
+    ]
+  ]
+
+  own_once : (m : ℕ) → own_of pool.datasets m ≡ own_of other.datasets m
+  own_once m =
+      let same = alike m in
+      let before : group_before pool.datasets m ≡ group_before other.datasets m = (alike (pool.datasets m).before).group ∙ ap (λ n. (other.datasets n).group) same.before in
+      let blocks = same.blocks in
+      λ i. born_after (before i) (blocks i)
+
+  -- they reach the same
+  reach_once : (rows : List DirectoryRow) → reach_by pool rows ≡ reach_by other rows
+  reach_once rows = λ i. flat_map (λ m. own_once m i) (objects_of_rows rows)
 
 -- ---- roots
 
@@ -93,9 +129,12 @@ roots_spell_one_pool stored birth later root pool other one two =
     let own = same.1 in
     let blocks = same.2 in
     let rows = directory_once (two.objects 1) one.rows two.rows (subst (λ objects. HasDirectory (objects 1) one.rows) same.0 one.directory) two.directory in
-    let datasets = datasets_alike stored root.birth one.objects two.objects one.rows two.rows pool.volumes other.volumes same.0 rows (volumes_of one) (volumes_of two) in
-    let volumes = datasets.0 in
-    let below : volume_blocks_of one ≡ volume_blocks_of two = sym (parts_are_reach one) ∙ ap joined datasets.1 ∙ parts_are_reach two in
+    let spelled = subst (λ objects. AllZip (SpellsDataset stored root.birth objects) two.rows pool.volumes) same.0
+    (subst (λ (list : List DirectoryRow). AllZip (SpellsDataset stored root.birth one.objects) list pool.volumes) rows (volumes_of one)) in
+    let volumes = datasets_once stored root.birth two.objects two.rows pool.volumes other.volumes spelled (volumes_of two) in
+    let chains = subst (λ objects. HasChains stored root.birth objects one.datasets one.readings) same.0 one.chains in
+    let below : volume_blocks_of one ≡ volume_blocks_of two =
+    reach_once stored root.birth two.objects one.datasets two.datasets one.readings two.readings chains two.chains one.rows ∙ ap (reach_by two.datasets) rows in
     let reach : reach_of one ≡ reach_of two = λ i. root ∷ blocks_of_set (set i) (own i) (blocks i) ++ below i in (
       λ i. record { volumes = volumes i },
       reach,

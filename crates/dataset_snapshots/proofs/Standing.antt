@@ -1,5 +1,5 @@
 -- A root stands on the blocks that it leads to.
-use Rattle.std.proofs.Common.{◌≢◌, ℕ, zero, suc, ◌+◌, ◌<◌, ◌≤◌, List, [], ◌∷◌, ◌++◌, Option, Contains, inl, inr, refl, ap, ◌∙◌, arith, subst, sym}
+use Rattle.std.proofs.Common.{◌≢◌, ℕ, zero, suc, ◌+◌, ◌<◌, ◌≤◌, List, [], ◌∷◌, ◌++◌, Option, Contains, inl, inr, refl, ◌∙◌, arith, subst, sym}
 use Rattle.std.specs.List.{flat_map, range_with_len}
 use Rattle.std.proofs.lemmas.Bool.{cases_eq}
 use Rattle.std.proofs.lemmas.List.Elements.{Contains-append_left, Contains-append_right}
@@ -7,24 +7,18 @@ use Rattle.block_pointer.specs.declared.block.Block.{Block}
 use Rattle.block_store.specs.Blocks.{Contents}
 use Rattle.dataset_chains.specs.Chains.{LeadsTo, Reading}
 use Rattle.dataset_chains.specs.Standing.{HasChains}
-use Rattle.dataset_groups.specs.Names.{NamesPool, objects_of_rows, reach_by}
-use Rattle.dead_list.specs.Datasets.{Dataset, Free, Pool}
-use Rattle.dead_list.specs.Reach.{own_of}
-use Rattle.dead_list.specs.Sound.{IsSound}
+use Rattle.dead_list.specs.Datasets.{Free, Pool}
 use Rattle.dnode.specs.declared.object_set.ObjectSet.{ObjectSet}
 use Rattle.dnode_tree.proofs.Standing.{first_in}
-use Rattle.meta_objset.specs.declared.directory.DirectoryRow.{DirectoryRow}
 use Rattle.meta_objset.specs.declared.record.DatasetRecord.{DatasetRecord}
 use Rattle.objset.proofs.Kept.{objects_stand}
 use Rattle.objset.specs.Objects.{Object, AreObjects}
 use Rattle.objset.specs.Within.{blocks_of_set}
-use Rattle.pool_model.specs.Pools.{PlainPool}
 use Rattle.volume.specs.Volume.{IsVolume}
 use Rattle.dataset_snapshots.specs.Laws.{KeepsEach, ReachIsKnown, RootsStandOnTheirReach}
 use Rattle.dataset_snapshots.specs.Reach.{volume_blocks_of}
 use Rattle.dataset_snapshots.proofs.BlocksOnce.{numbered}
-use Rattle.dataset_snapshots.proofs.Chained.{all_are_own}
-use Rattle.dataset_snapshots.proofs.Holding.{in_one}
+use Rattle.dataset_snapshots.proofs.ChainWalks.{in_reach}
 use Rattle.dataset_snapshots.proofs.KeptVolumes.{HasVolumeBlocks, volume_blocks}
 use Rattle.dataset_snapshots.proofs.Reaching.{reach_known}
 
@@ -107,13 +101,6 @@ chains_stand old new group objects pool readings keeps chains = record {
   apart = chains.apart;
 }
 
--- each block of a dataset is among those that the datasets of the rows reach
-in_reach : (pool : Pool) (readings : ℕ → Reading) (rows : List DirectoryRow) (plain : PlainPool) → NamesPool pool readings rows plain → IsSound pool → (m : ℕ) → (pool.datasets m).kind ≢ Free
-    → (block : Block) → Contains (pool.datasets m).blocks block → Contains (reach_by pool rows) block
-in_reach pool readings rows plain names sound m some block held =
-    in_one (own_of pool.datasets) (objects_of_rows rows) m block (names.numbers.each m (λ none. some (ap (λ (x : Dataset). x.kind) none)))
-    (subst (λ (blocks : List Block). Contains blocks block) (sym (all_are_own pool readings rows plain names sound m)) held)
-
 pub roots_stand : RootsStandOnTheirReach
 roots_stand old new bound birth root pool le is keeps =
     let own = blocks_of_set is.set is.own is.blocks in
@@ -138,7 +125,7 @@ roots_stand old new bound birth root pool le is keeps =
         datasets = is.datasets;
         readings = is.readings;
         chains = chains_stand old new root.birth is.objects is.datasets is.readings
-            (λ m some block bytes held known. of_volumes block bytes (in_reach is.datasets is.readings is.rows pool is.names is.chains.sound m some block held) known) is.chains;
+            (λ m some block bytes held known. of_volumes block bytes (in_reach is.datasets is.chains.sound block is.readings is.rows pool is.names m held) known) is.chains;
         names = is.names;
       },
       refl,

@@ -1,5 +1,5 @@
 -- The objects that a group's writes name.
-use Rattle.std.proofs.Common.{◌≡◌, ◌↔◌, ℕ, ◌+◌, ◌<◌, List, [], ◌∷◌, ◌++◌, length, take, get_or, AllPairs, Contains, inl, inr, ⊎_elim, refl, sym, ap, subst, ◌∙◌}
+use Rattle.std.proofs.Common.{◌≡◌, ◌↔◌, ℕ, ◌+◌, ◌<◌, true, false, true≢false, List, [], ◌∷◌, ◌++◌, length, take, get_or, AllPairs, Contains, inl, inr, ⊎_elim, refl, sym, ap, subst, ◌∙◌}
 use Rattle.std.specs.Prelude.{IsPermutation, nat_eq}
 use Rattle.std.specs.List.{dedup}
 use Rattle.std.proofs.lemmas.List.{take_more}
@@ -12,6 +12,7 @@ use Rattle.meta_objset.specs.declared.directory.DirectoryRow.{DirectoryRow}
 use Rattle.meta_objset.specs.Names.{IsBefore}
 use Rattle.meta_objset.proofs.Edits.{apart, pairs_head, pairs_tail}
 use Rattle.pool_model.specs.declared.item.Write.{Write}
+use Rattle.pool_model.specs.Names.{is_snapshot_name}
 use Rattle.dataset_snapshots.specs.Finding.{HasNoRow, IsRowOf}
 use Rattle.dataset_snapshots.specs.Writing.{IsWritten}
 use Rattle.dataset_snapshots.proofs.ChangedRows.{first_or_later, nothing_in}
@@ -41,6 +42,10 @@ one_object rows name object other order (row, held, named, is) (next, also, name
     let same : row ≡ next = one_name rows row next order held also (padded_same row.name next.name name name named named_too refl) in
     sym is ∙ (ap (λ (r : DirectoryRow). r.object) same ∙ is_too)
 
+-- the write is to a name, and no snapshot's, that the directory has with this object
+abbrev IsTo : List DirectoryRow → ℕ → Write → Type 0
+IsTo rows object write = (is_snapshot_name write.volume ≡ false) × IsRowOf rows write.volume object
+
 abbrev AreWritten : List DirectoryRow → List Write → List ℕ → Type 0
 AreWritten rows writes objects = (object : ℕ) → Contains objects object ↔ IsWritten rows writes object
 
@@ -49,27 +54,36 @@ module _ (rows : List DirectoryRow) (writes : List Write) (i : ℕ) (write : Wri
   taken_more = take_more writes i write lt ∙ ap (λ w. take i writes ++ w ∷ []) (sym is)
 
   -- one more name that the directory has
-  pub one_more : (objects new : List ℕ) (object : ℕ) → AllPairs (λ before later. IsBefore before.name later.name) rows → IsRowOf rows write.volume object → new ≡ objects ++ object ∷ []
-      → AreWritten rows (take i writes) objects → AreWritten rows (take (i + 1) writes) new
-  one_more objects new object order row more so_far = subst (λ ws. AreWritten rows ws new) (sym taken_more) (subst (AreWritten rows (take i writes ++ write ∷ [])) (sym more) (λ x. (
-    λ held.
-        ⊎_elim (λ old. any_append_left (λ (w : Write). IsRowOf rows w.volume x) (take i writes) write ((so_far x).0 old))
-        (λ same. Any-push (λ (w : Write). IsRowOf rows w.volume x) (take i writes) write (subst (IsRowOf rows write.volume) same row))
-        (Contains-push_cases objects object x held),
-    λ any.
-        ⊎_elim (λ old. Contains-append_left objects (object ∷ []) x ((so_far x).1 old))
-        (λ here. subst (Contains (objects ++ object ∷ [])) (one_object rows write.volume object x order row here) (Contains-push objects object))
-        (any_push_cases (λ (w : Write). IsRowOf rows w.volume x) (take i writes) write any),
+  pub one_more : (objects new : List ℕ) (object : ℕ) → AllPairs (λ before later. IsBefore before.name later.name) rows → is_snapshot_name write.volume ≡ false → IsRowOf rows write.volume object
+      → new ≡ objects ++ object ∷ [] → AreWritten rows (take i writes) objects → AreWritten rows (take (i + 1) writes) new
+  one_more objects new object order volume row more so_far =
+      subst (λ ws. AreWritten rows ws new) (sym taken_more) (subst (AreWritten rows (take i writes ++ write ∷ [])) (sym more) (λ x. (
+        λ held.
+            ⊎_elim (λ old. any_append_left (IsTo rows x) (take i writes) write ((so_far x).0 old))
+            (λ same. Any-push (IsTo rows x) (take i writes) write (volume, subst (IsRowOf rows write.volume) same row))
+            (Contains-push_cases objects object x held),
+        λ any.
+            ⊎_elim (λ old. Contains-append_left objects (object ∷ []) x ((so_far x).1 old))
+            (λ here. subst (Contains (objects ++ object ∷ [])) (one_object rows write.volume object x order row here.1) (Contains-push objects object))
+            (any_push_cases (IsTo rows x) (take i writes) write any),
+      )))
+
+  -- a write that is to no volume
+  none_more : (objects new : List ℕ) → ((object : ℕ) → ¬ IsTo rows object write) → new ≡ objects → AreWritten rows (take i writes) objects → AreWritten rows (take (i + 1) writes) new
+  none_more objects new none same so_far = subst (λ ws. AreWritten rows ws new) (sym taken_more) (subst (AreWritten rows (take i writes ++ write ∷ [])) (sym same) (λ x. (
+    λ held. any_append_left (IsTo rows x) (take i writes) write ((so_far x).0 held),
+    λ any. ⊎_elim (λ old. (so_far x).1 old) (λ here. absurd (none x here)) (any_push_cases (IsTo rows x) (take i writes) write any),
   )))
 
-  -- and one that it hasn't got
+  -- whose name the directory hasn't got
   pub no_more : (objects new : List ℕ) → HasNoRow rows write.volume → new ≡ objects → AreWritten rows (take i writes) objects → AreWritten rows (take (i + 1) writes) new
-  no_more objects new none same so_far = subst (λ ws. AreWritten rows ws new) (sym taken_more) (subst (AreWritten rows (take i writes ++ write ∷ [])) (sym same) (λ x. (
-    λ held. any_append_left (λ (w : Write). IsRowOf rows w.volume x) (take i writes) write ((so_far x).0 held),
-    λ any.
-        ⊎_elim (λ old. (so_far x).1 old) (λ here. absurd (All-contains (λ (row : DirectoryRow). ¬ (row.name ≡ here.0.name)) rows here.0 (none here.0.name here.2) here.1 refl))
-        (any_push_cases (λ (w : Write). IsRowOf rows w.volume x) (take i writes) write any),
-  )))
+  no_more objects new none same so_far =
+      none_more objects new
+      (λ object here. All-contains (λ (row : DirectoryRow). ¬ (row.name ≡ here.1.0.name)) rows here.1.0 (none here.1.0.name here.1.2) here.1.1 refl) same so_far
+
+  -- or whose name is a snapshot's
+  pub skipped : (objects new : List ℕ) → is_snapshot_name write.volume ≡ true → new ≡ objects → AreWritten rows (take i writes) objects → AreWritten rows (take (i + 1) writes) new
+  skipped objects new snapshot same so_far = none_more objects new (λ object here. true≢false (sym snapshot ∙ here.0)) same so_far
 
 -- each once, in order
 pub sorted_once : (objects sorted once : List ℕ) (P : ℕ → Type 0) → IsPermutation objects sorted → once ≡ dedup nat_eq sorted → ((object : ℕ) → Contains objects object ↔ P object)

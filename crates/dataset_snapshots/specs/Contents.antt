@@ -1,21 +1,19 @@
 -- What an open keeps of a pool's root.
-use Rattle.std.specs.Prelude.{ℕ, ◌≡◌, ◌≢◌, ◌⊎◌, ◌∷◌, ◌++◌, List}
+use Rattle.std.specs.Prelude.{ℕ, ◌≡◌, ◌⊎◌, ◌∷◌, ◌++◌, List}
 use Rattle.std.specs.List.{AllZip}
 use Rattle.block_pointer.specs.declared.block.Block.{Block}
 use Rattle.block_store.specs.Blocks.{Contents}
 use Rattle.block_store.specs.declared.refusal.Refusal.{Refusal}
-use Rattle.block_store.specs.declared.refusal.Refusal.TheVariants.{NoMemory, BadPointer}
+use Rattle.block_store.specs.declared.refusal.Refusal.TheVariants.{NoMemory}
 use Rattle.block_store.specs.Spaces.{VdevSpace}
 use Rattle.block_store.specs.Steps.{OnlyReadsBlocks}
 use Rattle.block_store.specs.Store.{Store}
 use Rattle.dnode.specs.declared.object_set.ObjectSet.{ObjectSet}
 use Rattle.meta_objset.specs.declared.directory.DirectoryRow.{DirectoryRow}
-use Rattle.meta_objset.specs.declared.record.DatasetKind.TheVariants as datasets
 use Rattle.meta_objset.specs.declared.record.DatasetRecord.{DatasetRecord}
 use Rattle.meta_objset.specs.Found.{IsRecordFound, IsRecordRefused}
 use Rattle.meta_objset.specs.Names.{IsNamed}
 use Rattle.pool_model.specs.declared.volume.PlainVolume.{PlainVolume}
-use Rattle.pool_model.specs.declared.volume.VolumeKind.TheVariants as volumes
 use Rattle.pool_model.specs.Pools.{PlainPool}
 use Rattle.pool_maps.specs.Loads.{AreFreeFound, AreMapsUnread, AreReadMaps}
 use Rattle.space_map_objects.specs.declared.refusal.Refusal.{Refusal as MapRefusal}
@@ -25,7 +23,7 @@ use Rattle.volume_rules.specs.declared.shape.VolumeShape.{VolumeShape}
 use Rattle.volume_rules.specs.Index.{Knows}
 use Rattle.dataset_snapshots.specs.declared.contents.RootContents.{RootContents}
 use Rattle.dataset_snapshots.specs.Finding.{AreRowsFound, IsDirectoryRefused, IsMetaFound, IsMetaRefused}
-use Rattle.dataset_snapshots.specs.Pools.{IsRecordOf, SpellsPool}
+use Rattle.dataset_snapshots.specs.Pools.{IsRecordKind, IsRecordOf, SpellsPool}
 use Rattle.dataset_snapshots.specs.Reach.{meta_blocks_of, IsMetaWalked, IsMetaWalkRefused}
 
 -- these are the root's own: the rows that it spells its pool by, the names of the pool, the blocks
@@ -40,16 +38,15 @@ pub record AreContentsOf (stored : Contents) (spaces : List VdevSpace) (birth : 
 
 -- ---- what was read, whether or not the root is whole
 
--- the dataset's record was read, and is that of a volume of this shape
-abbrev pub IsVolumeShapeFound : List VdevSpace → ObjectSet → ℕ → ℕ → VolumeShape → Type 0
-IsVolumeShapeFound spaces set birth object shape =
-    (r : DatasetRecord) × IsRecordFound spaces set birth object r × (r.kind ≡ datasets.Volume)
-    × (shape ≡ record {
-      size = r.size;
-      block_size = r.block_size;
-      group = r.created;
-      kind = volumes.Volume;
-    })
+-- the dataset's record was read, and is that of a volume or snapshot of this shape
+pub record IsVolumeShapeFound (spaces : List VdevSpace) (set : ObjectSet) (birth object : ℕ) (shape : VolumeShape)
+    : Type 0 where
+  pub r : DatasetRecord
+  pub has : IsRecordFound spaces set birth object r
+  pub kind : IsRecordKind shape.kind r.kind
+  pub size : shape.size ≡ r.size
+  pub block_size : shape.block_size ≡ r.block_size
+  pub created : shape.group ≡ r.created
 
 -- the volume has the row's name, and what its record says, which was read
 pub record IsVolumeNamed (spaces : List VdevSpace) (set : ObjectSet) (birth : ℕ)
@@ -86,18 +83,7 @@ pub record AreContentsFound (spaces : List VdevSpace) (birth : ℕ) (root : Bloc
 
 -- ---- why it was not
 
--- the dataset's record was read, and is no volume's
-abbrev pub IsOtherKind : List VdevSpace → ObjectSet → ℕ → ℕ → Type 0
-IsOtherKind spaces set birth object =
-    (r : DatasetRecord) × IsRecordFound spaces set birth object r × (r.kind ≢ datasets.Volume)
-
--- why the shape of a volume was not read: its record was not, or is another dataset's
-abbrev pub IsShapeRefused : Store → Store → List ℕ → ObjectSet → ℕ → ℕ → Refusal → Type 0
-IsShapeRefused old new missing set birth object refusal =
-    IsRecordRefused old new missing set birth object refusal
-    ⊎ ((refusal ≡ BadPointer) × IsOtherKind old.spaces set birth object)
-
--- behind other reads, the shape of the volume of one of the rows was refused
+-- behind other reads, the record of one of the rows was refused
 pub record IsRowUnnamed (old new : Store) (missing : List ℕ) (set : ObjectSet) (birth : ℕ)
     (rows : List DirectoryRow) (refusal : Refusal) : Type 0 where
   pub first : List DirectoryRow
@@ -106,7 +92,7 @@ pub record IsRowUnnamed (old new : Store) (missing : List ℕ) (set : ObjectSet)
   pub are : rows ≡ first ++ row ∷ rest
   pub mid : Store
   pub reads : OnlyReadsBlocks old mid missing
-  pub why : IsShapeRefused mid new missing set birth row.object refusal
+  pub why : IsRecordRefused mid new missing set birth row.object refusal
 
 -- the root was read, and then one of the rows was refused
 pub record AreRowsUnnamed (old new : Store) (missing : List ℕ) (birth : ℕ) (root : Block)

@@ -3,7 +3,7 @@ use Rattle.meta_objset.specs.Found.{AreMapsFound}
 use Rattle.meta_objset.specs.declared.space_maps.MetaslabMap.{MetaslabMap}
 use Rattle.pool_maps.specs.Plans.{AreSparing, OthersStay}
 use Rattle.pool_maps.specs.Refused.{IsPlanRefused as AreMapsUnplanned}
-use Rattle.std.specs.Prelude.{ℕ, ◌≡◌, ◌≢◌, ◌⊎◌, ◌+◌, ◌*◌, ◌≤◌, ◌-◌, List, [], ◌∷◌, ◌++◌, length, Any, Contains, Some}
+use Rattle.std.specs.Prelude.{ℕ, ◌≡◌, ◌≢◌, ◌⊎◌, ◌+◌, ◌*◌, ◌≤◌, ◌-◌, List, [], ◌∷◌, ◌++◌, length, Any, Some}
 use Rattle.block_pointer.specs.declared.block.Block.{Block}
 use Rattle.block_store.specs.declared.refusal.Refusal.{Refusal}
 use Rattle.block_store.specs.declared.refusal.Refusal.TheVariants.{NoMemory, NoSpace, BadPointer}
@@ -11,15 +11,13 @@ use Rattle.block_store.specs.Spaces.{VdevSpace}
 use Rattle.block_store.specs.Demands.{Demand, HavePlaces, LackPlaces}
 use Rattle.block_store.specs.Steps.{OnlyReadsAndPlans, OnlyReadsBlocks}
 use Rattle.block_store.specs.Store.{Store}
-use Rattle.dataset_chains.specs.Touched.{TouchesOnly}
 use Rattle.dataset_changes.specs.Results.{AreChangesOf, AreMixed}
 use Rattle.dataset_changes.specs.States.{AreOfOneSet}
 use Rattle.dataset_changes.specs.declared.changes.DatasetChanges.{DatasetChanges}
 use Rattle.dataset_groups.specs.declared.datasets.GroupDatasets.{GroupDatasets}
-use Rattle.dataset_groups.specs.Demands.{AreAsked, AreHeadsRefused, AreMade, HasActionDemands, HasHeadDemands, HavePlacesFor, IsActionRefused}
+use Rattle.dataset_groups.specs.Demands.{AreAsked, AreHeadsRefused, AreMade, HasActionDemands, HasHeadDemands, HasMoreRows, HavePlacesFor, IsActionRefused}
 use Rattle.dataset_groups.specs.Groups.{first_number}
-use Rattle.dataset_groups.specs.Touched.{IsNewNumber}
-use Rattle.dataset_groups.specs.Writing.{IsListOf}
+use Rattle.dataset_groups.specs.Touched.{TouchesHeads, TouchesMade}
 use Rattle.dnode.specs.declared.object_set.ObjectSet.{ObjectSet}
 use Rattle.meta_objset.specs.declared.directory.DirectoryRow.{DirectoryRow}
 use Rattle.meta_objset.specs.Reading.{HasDirectory, directory_kind}
@@ -50,7 +48,7 @@ abbrev pub WritesDirectory : ℕ → ObjectsChange → Type 0
 WritesDirectory names change =
     (rows : List DirectoryRow) × (length rows ≡ names) × WritesRows rows change
 
--- where volumes are made the directory is written anew, with so many names
+-- where volumes or snapshots are made the directory is written anew, with so many names
 abbrev pub AreDirectoryChanges : ℕ → List Action → List ObjectChange → Type 0
 AreDirectoryChanges names [] changes = changes ≡ []
 AreDirectoryChanges names (action ∷ made) changes =
@@ -93,13 +91,15 @@ IsRootRefused old new set before group changes refusal =
 
 -- ---- the group
 
--- Of the records and dead lists of the set those are changed that these heads have, and those are made that have the next numbers: two for
--- each of so many volumes.
-pub record AreGroupDatasets (opened : Opened) (count : ℕ) (datasets : DatasetChanges) : Type 0 where
+-- Of the records and dead lists of the set those are changed that the heads have which are written to, and then those that these actions
+-- make and change, under rows that have come to those that there were.
+pub record AreGroupDatasets (opened : Opened) (made : List Action) (datasets : DatasetChanges) : Type 0 where
   pub one_set : AreOfOneSet opened.datasets.changes datasets
-  pub touched : TouchesOnly opened.datasets.changes datasets
-      (λ number. Contains (objects_of opened) number ⊎ IsNewNumber (first_number opened.set) count number)
-      (λ number. IsListOf datasets (objects_of opened) number ⊎ IsNewNumber (first_number opened.set) count number)
+  pub written : DatasetChanges
+  pub heads : TouchesHeads opened.datasets.changes written (objects_of opened)
+  pub rows : List DirectoryRow
+  pub kept : HasMoreRows opened.datasets.directory (first_number opened.set) rows
+  pub touched : TouchesMade written datasets rows (first_number opened.set) made
 
 -- The changes that a group makes of the set: that of the directory, where volumes are made; and those that its records and dead lists come to.
 pub record AreGroupChanges (opened : Opened) (made : List Action) (changes : List ObjectChange) : Type 0 where
@@ -107,7 +107,7 @@ pub record AreGroupChanges (opened : Opened) (made : List Action) (changes : Lis
   pub directory_are :
       AreDirectoryChanges (length opened.datasets.directory + length made) made of_directory
   pub datasets : DatasetChanges
-  pub datasets_are : AreGroupDatasets opened (length made) datasets
+  pub datasets_are : AreGroupDatasets opened made datasets
   pub of_datasets : List ObjectChange
   pub of_datasets_are : AreChangesOf datasets of_datasets
   pub are : changes ≡ of_directory ++ of_datasets
@@ -147,7 +147,9 @@ pub record AreActionsRefused (old new : Store) (group : ℕ) (opened : Opened) (
   pub mid : Store
   pub before : OnlyReadsAndPlans old mid []
   pub places : HavePlacesFor old mid (HasHeadDemands old.spaces group) opened.written.items
-  pub why : IsActionRefused mid new group opened.datasets.directory (first_number opened.set) actions refusal
+  pub written : DatasetChanges
+  pub heads : TouchesHeads opened.datasets.changes written (objects_of opened)
+  pub why : IsActionRefused mid new written group opened.datasets.directory (first_number opened.set) actions refusal
 
 -- all volumes were placed, and what becomes of their records and dead lists can't be
 pub record AreDatasetsRefused (old new : Store) (group : ℕ) (opened : Opened) (actions : List Action)
@@ -157,7 +159,7 @@ pub record AreDatasetsRefused (old new : Store) (group : ℕ) (opened : Opened) 
   pub made : List Action
   pub made_are : AreMade opened.datasets.directory [] actions made
   pub datasets : DatasetChanges
-  pub datasets_are : AreGroupDatasets opened (length made) datasets
+  pub datasets_are : AreGroupDatasets opened made datasets
   pub mis : AreMisnumbered datasets (first_number opened.set + 2 * length made)
 
 -- why the volumes of a group were not placed

@@ -11,8 +11,8 @@ use Rattle.dataset_changes.specs.Results.{AreChangesOf}
 use Rattle.dataset_changes.specs.States.{AreUntouched, set_of}
 use Rattle.dataset_changes.specs.declared.changes.DatasetChanges.{DatasetChanges}
 use Rattle.dataset_groups.specs.declared.datasets.GroupDatasets.{GroupDatasets}
-use Rattle.dataset_groups.specs.Demands.{AreAsked, AreMade, HasActionDemands, HavePlacesFor, IsActionRefused}
-use Rattle.dataset_groups.specs.Touched.{TouchesNew}
+use Rattle.dataset_groups.specs.Demands.{AreAsked, AreMade, HasActionDemands, HasMoreRows, HavePlacesFor, IsActionRefused}
+use Rattle.dataset_groups.specs.Touched.{TouchesMade}
 use Rattle.dnode.specs.declared.object_set.ObjectSet.{ObjectSet}
 use Rattle.dnode.specs.declared.object_set.ObjectSetKind.TheVariants as sets
 use Rattle.meta_objset.specs.declared.directory.DirectoryRow.{DirectoryRow}
@@ -51,12 +51,14 @@ pub record AreTableChanges (vdevs : List PlainVdev) (rows : List DirectoryRow) (
   pub has_config : HasConfig (after_change config None) vdevs
   pub has_spans : HasTable spans_kind (after_change spans None) []
 
--- Records and dead lists are made of so many volumes, with the numbers behind the tables, and none is changed that was there.
-pub record AreFirstDatasets (count : ℕ) (datasets : DatasetChanges) : Type 0 where
+-- Records and dead lists are made by these actions, with the numbers behind the tables, where there were none.
+pub record AreFirstDatasets (made : List Action) (datasets : DatasetChanges) : Type 0 where
   pub of_set : set_of datasets ≡ empty_meta
   pub before : DatasetChanges
   pub none : AreUntouched before
-  pub touched : TouchesNew before datasets 5 count
+  pub rows : List DirectoryRow
+  pub kept : HasMoreRows [] 5 rows
+  pub touched : TouchesMade before datasets rows 5 made
 
 -- the changes that make the objects of a pool of these volumes: the tables, of which the directory names each, and behind them those that the
 -- records and dead lists come to
@@ -67,7 +69,7 @@ pub record AreFirstGroupChanges (vdevs : List PlainVdev) (made : List Action) (c
   pub tables : List ObjectChange
   pub tables_are : AreTableChanges vdevs rows tables
   pub datasets : DatasetChanges
-  pub datasets_are : AreFirstDatasets (length made) datasets
+  pub datasets_are : AreFirstDatasets made datasets
   pub of_datasets : List ObjectChange
   pub of_datasets_are : AreChangesOf datasets of_datasets
   pub are : changes ≡ tables ++ of_datasets
@@ -78,7 +80,7 @@ pub record AreFirstVolumes (old new : Store) (group : ℕ) (actions : List Actio
   pub are : AreMade [] [] actions made
   pub count : length datasets.directory ≡ length made
   pub next : datasets.next ≡ 5 + 2 * length made
-  pub datasets_are : AreFirstDatasets (length made) datasets.changes
+  pub datasets_are : AreFirstDatasets made datasets.changes
   pub places : HavePlacesFor old new (HasActionDemands old.spaces group) made
 
 -- in front of the objects of the volumes the tables are made, of which the directory has the rows so far
@@ -127,8 +129,13 @@ pub record AreFirstDatasetsRefused (old new : Store) (group : ℕ) (actions : Li
   pub made : List Action
   pub made_are : AreMade [] [] actions made
   pub datasets : DatasetChanges
-  pub datasets_are : AreFirstDatasets (length made) datasets
+  pub datasets_are : AreFirstDatasets made datasets
   pub mis : AreMisnumbered datasets (5 + 2 * length made)
+
+-- where nothing was made so far, an action was refused
+abbrev pub AreFirstActionsRefused : Store → Store → ℕ → List Action → Refusal → Type 0
+AreFirstActionsRefused old new group actions refusal =
+    (before : DatasetChanges) × AreUntouched before × IsActionRefused old new before group [] 5 actions refusal
 
 -- and then the space maps were refused
 pub record AreFirstMapsRefused (old new : Store) (group : ℕ) (vdevs : List PlainVdev) (actions : List Action)
@@ -156,7 +163,7 @@ pub record IsFirstSetRefused (old new : Store) (group : ℕ) (vdevs : List Plain
 abbrev pub IsFirstRefused : Store → Store → ℕ → List PlainVdev → Entry → Refusal → Type 0
 IsFirstRefused old new group vdevs items refusal =
     (refusal ≡ NoMemory)
-    ⊎ (IsActionRefused old new group [] 5 items.actions refusal
+    ⊎ (AreFirstActionsRefused old new group items.actions refusal
     ⊎ (AreFirstDatasetsRefused old new group items.actions refusal
     ⊎ (AreFirstMapsRefused old new group vdevs items.actions refusal
     ⊎ IsFirstSetRefused old new group vdevs items.actions refusal)))

@@ -19,7 +19,7 @@ use Rattle.vdev_label.specs.Plain.{PlainVdev}
 use Rattle.dataset_snapshots.specs.Demands.{IsGroupRefused}
 use Rattle.dataset_snapshots.specs.Finding.{IsDirectoryRefused, IsMetaRefused, IsRefused, IsRefusedIn}
 use Rattle.dataset_snapshots.specs.FirstGroup.{IsFirstRefused}
-use Rattle.dataset_groups.specs.NewVolumes.{AreGoodCreations}
+use Rattle.dataset_groups.specs.NewVolumes.{AreGoodChanges}
 use Rattle.dataset_groups.specs.Leaving.{IsReachExchanged}
 use Rattle.dataset_snapshots.specs.Mapped.{HasItsMaps}
 use Rattle.block_store.specs.Spaces.{VdevSpace}
@@ -143,7 +143,7 @@ pub record ReadsNeedNoRoom : Type 0 where
 -- What a pool accepts to be made can have its row and its volume.
 abbrev pub GoodChangesMayBeMade : Type 0
 GoodChangesMayBeMade =
-    (entry : Entry) → MakesGoodVolumes entry → AreGoodCreations entry.actions
+    (entry : Entry) → MakesGoodVolumes entry → AreGoodChanges entry.actions
 
 -- Of the blocks that a stored root leads to no two copies share a sector, be they of one block or
 -- of two.

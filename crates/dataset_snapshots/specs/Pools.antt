@@ -1,5 +1,5 @@
 -- What a root spells: the pool of a group.
-use Rattle.std.specs.Prelude.{ℕ, ◌≡◌, ◌<◌, List, Option, length}
+use Rattle.std.specs.Prelude.{ℕ, ◌≡◌, ◌<◌, true, List, Option, length}
 use Rattle.block_pointer.specs.declared.block.Block.{Block}
 use Rattle.block_store.specs.Blocks.{Contents}
 use Rattle.dataset_chains.specs.Chains.{Reading}
@@ -10,6 +10,7 @@ use Rattle.dnode.specs.declared.object_set.ObjectSet.{ObjectSet}
 use Rattle.dnode.specs.declared.object_set.ObjectSetKind.TheVariants as sets
 use Rattle.dnode_slots.specs.Sets.{IsSetBlock}
 use Rattle.meta_objset.specs.declared.directory.DirectoryRow.{DirectoryRow}
+use Rattle.meta_objset.specs.declared.record.DatasetKind.{DatasetKind}
 use Rattle.meta_objset.specs.declared.record.DatasetKind.TheVariants as datasets
 use Rattle.meta_objset.specs.declared.record.DatasetRecord.{DatasetRecord}
 use Rattle.meta_objset.specs.Datasets.{HasRecord}
@@ -17,14 +18,20 @@ use Rattle.meta_objset.specs.Names.{IsNamed}
 use Rattle.meta_objset.specs.Reading.{HasDirectory}
 use Rattle.objset.specs.Objects.{Object, AreObjects}
 use Rattle.pool_model.specs.declared.volume.PlainVolume.{PlainVolume}
+use Rattle.pool_model.specs.declared.volume.VolumeKind.{VolumeKind}
 use Rattle.pool_model.specs.declared.volume.VolumeKind.TheVariants as volumes
+use Rattle.pool_model.specs.Names.{is_name_for}
 use Rattle.pool_model.specs.Pools.{PlainPool}
 use Rattle.volume.specs.Volume.{IsVolume}
 
--- the record is that of a volume of this size, block size and creation group
+-- the record of a volume, or of a snapshot
+abbrev pub IsRecordKind : VolumeKind → DatasetKind → Type 0
+IsRecordKind volumes.Volume kind = kind ≡ datasets.Volume
+IsRecordKind volumes.Snapshot kind = kind ≡ datasets.Snapshot
+
+-- the record is that of a volume of this kind, size, block size and creation group
 pub record IsRecordOf (r : DatasetRecord) (volume : PlainVolume) : Type 0 where
-  pub kind : r.kind ≡ datasets.Volume
-  pub is_volume : volume.kind ≡ volumes.Volume
+  pub kind : IsRecordKind volume.kind r.kind
   pub size : r.size ≡ length volume.bytes
   pub block_size : r.block_size ≡ volume.block_size
   pub created : r.created ≡ volume.group
@@ -34,6 +41,7 @@ pub record IsRecordOf (r : DatasetRecord) (volume : PlainVolume) : Type 0 where
 pub record SpellsDataset (stored : Contents) (birth : ℕ) (objects : ℕ → Option Object)
     (row : DirectoryRow) (volume : PlainVolume) : Type 0 where
   pub name : IsNamed row.name volume.name
+  pub good : is_name_for volume.kind volume.name ≡ true
   pub behind : 4 < row.object
   pub r : DatasetRecord
   pub has : HasRecord (objects row.object) r

@@ -1,6 +1,5 @@
 -- All blocks that the root of a pool leads to.
-use Rattle.std.specs.Prelude.{ℕ, suc, ◌≡◌, ◌⊎◌, List, [], ◌∷◌, ◌++◌, Option}
-use Rattle.std.specs.List.{AllZip}
+use Rattle.std.specs.Prelude.{ℕ, suc, ◌≡◌, ◌≢◌, ◌⊎◌, List, [], ◌∷◌, ◌++◌, Option}
 use Rattle.block_pointer.specs.declared.block.Block.{Block}
 use Rattle.block_store.specs.Blocks.{Contents}
 use Rattle.block_store.specs.declared.refusal.Refusal.{Refusal}
@@ -12,13 +11,15 @@ use Rattle.dataset_groups.specs.Names.{reach_by}
 use Rattle.dnode.specs.declared.object_set.ObjectSet.{ObjectSet}
 use Rattle.dnode_tree.specs.Rewriting.{AreDistinct}
 use Rattle.meta_objset.specs.declared.directory.DirectoryRow.{DirectoryRow}
+use Rattle.meta_objset.specs.declared.record.DatasetRecord.{DatasetRecord}
 use Rattle.meta_objset.specs.Found.{AreDirectoryRows, IsDirectoryFound, IsRecordFound, IsRecordRefused, IsRowsRefused}
 use Rattle.meta_objset.specs.Reading.{directory_kind}
 use Rattle.objset.specs.Objects.{Object}
 use Rattle.objset.specs.Within.{blocks_of_set, IsSetWalked, IsSetWalkRefused}
 use Rattle.pool_model.specs.declared.volume.PlainVolume.{PlainVolume}
 use Rattle.pool_model.specs.Pools.{PlainPool}
-use Rattle.volume.specs.Walking.{blocks_of_volume, IsVolumeWalked, IsVolumeWalkRefused}
+use Rattle.volume.specs.Walking.{blocks_of_volume}
+use Rattle.volume.specs.Younger.{IsYoungerVolumeRefused, IsYoungerVolumeWalked}
 use Rattle.dataset_snapshots.specs.declared.finding.Dataset.{Dataset}
 use Rattle.dataset_snapshots.specs.Finding.{IsMetaFound, IsMetaRefused, IsVolumeOf}
 use Rattle.dataset_snapshots.specs.Pools.{SpellsDataset, SpellsPool}
@@ -29,15 +30,6 @@ abbrev pub blocks_of_dataset : {stored : Contents} {birth : ℕ} {objects : ℕ 
     → List Block
 blocks_of_dataset is =
     blocks_of_volume is.r.object_set is.bytes.set is.bytes.has.own is.bytes.has.blocks
-
--- those of each dataset, in the order of the rows
-abbrev pub parts_of : (stored : Contents) (birth : ℕ) (objects : ℕ → Option Object)
-    (rows : List DirectoryRow) (volumes : List PlainVolume)
-    → AllZip (SpellsDataset stored birth objects) rows volumes → List (List Block)
-parts_of stored birth objects [] volumes all = []
-parts_of stored birth objects (row ∷ rows) [] all = []
-parts_of stored birth objects (row ∷ rows) (volume ∷ volumes) all =
-    blocks_of_dataset all.0 ∷ parts_of stored birth objects rows volumes all.1
 
 -- the root's block, and those of the meta object set
 abbrev pub meta_blocks_of : {stored : Contents} {birth : ℕ} {root : Block} {pool : PlainPool}
@@ -67,13 +59,21 @@ pub record IsMetaWalked (spaces : List VdevSpace) (birth : ℕ) (root : Block) (
   pub walked : IsSetWalked spaces set root.birth left after own
   pub are : found ≡ root ∷ own
 
--- the dataset's record was read, and behind it the volume was walked
+-- the group of the snapshot before a dataset: 0 where there is none, else what its record tells, which was read
+abbrev pub IsGroupBefore : List VdevSpace → ObjectSet → ℕ → DatasetRecord → ℕ → Type 0
+IsGroupBefore spaces set birth r since =
+    ((r.previous ≡ 0) × (since ≡ 0))
+    ⊎ ((r.previous ≢ 0) × ((s : DatasetRecord) × IsRecordFound spaces set birth r.previous s × (s.created ≡ since)))
+
+-- the dataset's record was read, and that of the snapshot before it, and behind them what of the volume was born after that was walked
 pub record IsDatasetWalked (spaces : List VdevSpace) (set : ObjectSet)
     (birth object before after : ℕ) (found : List Block) : Type 0 where
   pub dataset : Dataset
   pub has : IsRecordFound spaces set birth object dataset.record
   pub is : IsVolumeOf dataset
-  pub walked : IsVolumeWalked spaces dataset.volume birth before after found
+  pub since : ℕ
+  pub since_is : IsGroupBefore spaces set birth dataset.record since
+  pub walked : IsYoungerVolumeWalked since spaces dataset.volume birth before after found
 
 -- the volumes of the rows were walked, one after the other
 abbrev pub AreRowsWalked :
@@ -108,23 +108,36 @@ pub record IsReached (spaces : List VdevSpace) (birth : ℕ) (root : Block) (bef
 
 -- ---- why it was not
 
--- the dataset's record was read, and the walk over the volume was refused
+-- the dataset's record was read, and that of the snapshot before it was refused
+pub record IsBeforeUnread (old new : Store) (missing : List ℕ) (set : ObjectSet) (birth object : ℕ) (refusal : Refusal)
+    : Type 0 where
+  pub dataset : Dataset
+  pub has : IsRecordFound old.spaces set birth object dataset.record
+  pub some : dataset.record.previous ≢ 0
+  pub mid : Store
+  pub first : OnlyReadsBlocks old mid missing
+  pub why : IsRecordRefused mid new missing set birth dataset.record.previous refusal
+
+-- both were read, and the walk over the volume was refused
 pub record IsVolumeUnwalked (old new : Store) (missing : List ℕ) (set : ObjectSet)
     (birth object before after : ℕ) (refusal : Refusal) : Type 0 where
   pub dataset : Dataset
   pub has : IsRecordFound old.spaces set birth object dataset.record
   pub is : IsVolumeOf dataset
+  pub since : ℕ
+  pub since_is : IsGroupBefore old.spaces set birth dataset.record since
   pub mid : Store
   pub first : OnlyReadsBlocks old mid missing
-  pub why : IsVolumeWalkRefused mid new missing dataset.volume birth before after refusal
+  pub why : IsYoungerVolumeRefused since mid new missing dataset.volume birth before after refusal
 
--- why a dataset was not walked: its record was not read, or its volume not walked
+-- why a dataset was not walked: its record was not read, or that of the snapshot before it, or its volume not walked
 abbrev pub IsDatasetUnwalked :
     Store → Store → List ℕ → ObjectSet → ℕ → ℕ → ℕ → ℕ → Refusal → Type 0
 IsDatasetUnwalked old new missing set birth object before after refusal =
     (refusal ≡ NoMemory)
     ⊎ (IsRecordRefused old new missing set birth object refusal
-    ⊎ IsVolumeUnwalked old new missing set birth object before after refusal)
+    ⊎ (IsBeforeUnread old new missing set birth object refusal
+    ⊎ IsVolumeUnwalked old new missing set birth object before after refusal))
 
 -- the volumes of the first rows were walked, and then the dataset of the next was refused
 pub record IsRowUnwalked (old new : Store) (missing : List ℕ) (set : ObjectSet) (birth : ℕ)

@@ -1,5 +1,5 @@
 -- Volumes that a group writes to, as they are read.
-use Rattle.std.specs.Prelude.{ℕ, ◌≡◌, List, Contains, Option, Any}
+use Rattle.std.specs.Prelude.{ℕ, ◌≡◌, false, List, Contains, Option, Any}
 use Rattle.block_store.specs.Blocks.{Contents}
 use Rattle.dataset_chains.specs.Chains.{Reading}
 use Rattle.dataset_chains.specs.Touched.{TouchesOnly}
@@ -13,7 +13,8 @@ use Rattle.meta_objset.specs.declared.record.DatasetRecord.{DatasetRecord}
 use Rattle.objset.specs.Objects.{Object}
 use Rattle.pool_model.specs.declared.item.Write.{Write}
 use Rattle.pool_model.specs.declared.volume.PlainVolume.{PlainVolume}
-use Rattle.pool_model.specs.Pools.{PlainPool}
+use Rattle.pool_model.specs.Names.{is_snapshot_name}
+use Rattle.pool_model.specs.Pools.{PlainPool, is_snapshot}
 use Rattle.volume_rules.specs.Overlay.{after_writes}
 use Rattle.volume.specs.declared.volume.VolumeSet.{VolumeSet}
 use Rattle.volume.specs.Volume.{HasShape, block_of}
@@ -21,9 +22,10 @@ use Rattle.volume.specs.Writing.{IsArrayWith}
 use Rattle.dataset_snapshots.specs.Finding.{IsRowOf}
 use Rattle.dataset_snapshots.specs.Pools.{SpellsDataset}
 
--- one of the writes is to a name that the directory has with this object
+-- one of the writes is to a name, and no snapshot's, that the directory has with this object
 abbrev pub IsWritten : List DirectoryRow → List Write → ℕ → Type 0
-IsWritten rows writes object = Any (λ write. IsRowOf rows write.volume object) writes
+IsWritten rows writes object =
+    Any (λ write. (is_snapshot_name write.volume ≡ false) × IsRowOf rows write.volume object) writes
 
 -- the row is one of these, and has this object
 abbrev pub HasRow : List DirectoryRow → ℕ → DirectoryRow → Type 0
@@ -33,12 +35,12 @@ HasRow rows object row = Contains rows row × (row.object ≡ object)
 abbrev pub IsVolumeIn : VolumeSet → DatasetRecord → Type 0
 IsVolumeIn volume r = HasShape volume r.size r.block_size × (block_of volume ≡ r.object_set)
 
--- it has the row's volume, and the blocks that make that volume's bytes those after the writes
+-- it has the row's volume, and the blocks that make its bytes, where it is no snapshot, those after the writes
 abbrev pub IsReadFor : Contents → ℕ → (ℕ → Option Object) → List Write → DirectoryRow → WrittenHead → Type 0
 IsReadFor stored birth objects writes row head =
     (volume : PlainVolume) (is : SpellsDataset stored birth objects row volume)
     → IsVolumeIn head.volume is.r
-    × IsArrayWith volume.bytes is.r.block_size head.blocks.items (after_writes volume writes).bytes
+    × (is_snapshot volume.kind ≡ false → IsArrayWith volume.bytes is.r.block_size head.blocks.items (after_writes volume writes).bytes)
 
 -- so it is for one of the rows
 abbrev pub IsReadFrom : Contents → ℕ → (ℕ → Option Object) → List Write → List DirectoryRow → WrittenHead → Type 0

@@ -38,10 +38,10 @@ pub struct RootContents {
 
 /// What is kept of a root as its pool is opened. The meta object set alone is read, and no block of a volume: the root three times,
 /// the directory, the record of each dataset, the space maps and their table once each, and the blocks that `objset::walk_within`
-/// reads. The names are read before the walk, so a root with a dataset that is no volume is refused early.
+/// reads.
 ///
 /// The pool may be forged. The walk reads at most as many blocks as are left to be read, and counts each of them off. `Unread` with
-/// `BadPointer` where the block is no root of a pool, its object 1 no directory, the object of a name no record of a volume, where
+/// `BadPointer` where the block is no root of a pool, its object 1 no directory, the object of a name no record of a dataset, where
 /// no block is left to be read, where a block of the set is there twice, and where the space maps are none of the pool's vdevs, as
 /// `pool_maps::read_maps` says; `BadMap` where one of them is no map. The root was born in the transaction group `birth` or before.
 /// The disks that are named are taken as missing.

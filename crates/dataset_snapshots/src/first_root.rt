@@ -16,13 +16,12 @@ ghost use Rattle.vdev_label.specs.Config.{FitsConfig, config_bytes};
 ghost use Rattle.vdev_label.specs.Plain.{config_view};
 ghost use Rattle.dataset_snapshots.specs.Creating.{HasFirstTables};
 ghost use Rattle.dataset_chains.specs.Chains.{Reading};
-ghost use Rattle.dataset_groups.specs.Demands.{IsActionRefused};
 ghost use Rattle.dataset_groups.specs.Groups.{SpellsGroup};
 ghost use Rattle.dataset_groups.specs.Names.{reach_by};
-ghost use Rattle.dataset_groups.specs.NewVolumes.{AreGoodCreations, numbers_end};
+ghost use Rattle.dataset_groups.specs.NewVolumes.{AreGoodChanges, numbers_end};
 ghost use Rattle.dead_list.specs.Datasets.{Pool};
 ghost use Rattle.dataset_snapshots.specs.Demands.{AreMisnumbered};
-ghost use Rattle.dataset_snapshots.specs.FirstGroup.{AreFirstVolumes, AreTableChanges, HasFirstPlaces, IsFirstRefused, IsWithTables};
+ghost use Rattle.dataset_snapshots.specs.FirstGroup.{AreFirstActionsRefused, AreFirstVolumes, AreTableChanges, HasFirstPlaces, IsFirstRefused, IsWithTables};
 ghost use Rattle.dataset_snapshots.specs.Groups.{IsNextOf};
 ghost use Rattle.dataset_groups.specs.Leaving.{AddsData, IsReachExchanged};
 ghost use Rattle.dataset_snapshots.specs.Mapped.{HasMapsBehind};
@@ -51,9 +50,9 @@ pub struct FirstRoot {
 }
 
 /// Plans the first root of a pool, which had no volumes so far, after the items of the transaction group `group`: the volumes that it
-/// makes, and then the tables of the meta object set: the directory, the configuration, a table of stale spans with no rows, and
-/// the space maps. Writes do nothing where there are no volumes. `BadConfig` where a volume can't have its name or its sizes;
-/// `NoSpace` also where no numbers are left for objects.
+/// makes, with the snapshots that it takes of them, and then the tables of the meta object set: the directory, the configuration, a
+/// table of stale spans with no rows, and the space maps. Writes do nothing where there are no volumes. `BadConfig` where a volume
+/// can't have its name or its sizes, or a snapshot its name; `NoSpace` also where no numbers are left for objects.
 ///
 /// After an error blocks may be planned that no root has: begin another plan.
 pub fn first_group<D: Disk + Drop>(
@@ -89,7 +88,7 @@ pub fn first_group<D: Disk + Drop>(
     // Over disks that answer truly, and where all may be made, only room is wanting.
     ensures known { IfErr result (λ refusal. (stored planned : Contents)
         → Plans store.old stored planned → UseNothing store.old.spaces filled
-        → AnswersAreTrue store.old store.new → AreGoodCreations items.now.actions
+        → AnswersAreTrue store.old store.new → AreGoodChanges items.now.actions
         → IsForRoom refusal ⊎ (refusal ≡ Refusal.DiskFault)) }
 
     // What places are taken for, and on a refusal its cause.
@@ -110,7 +109,7 @@ pub fn first_group<D: Disk + Drop>(
     Ok(FirstRoot { root, directory })
 }
 
-/// Makes the volumes of these actions where there are none, in order, and plans their sets.
+/// Does these actions where there are no volumes, in order: makes volumes, whose sets it plans, and takes snapshots of them.
 fn first_volumes<D: Disk + Drop>(
     store: &mut BlockStore<D>,
     alloc: Global,
@@ -131,20 +130,20 @@ fn first_volumes<D: Disk + Drop>(
         × AddsData planned later) }
     ensures known { IfErr result (λ refusal. (stored planned : Contents)
         → Plans store.old stored planned → AnswersAreTrue store.old store.new
-        → AreGoodCreations actions.now
+        → AreGoodChanges actions.now
         → IsForRoom refusal ⊎ (refusal ≡ Refusal.DiskFault)) }
     ensures places { IfOk result (AreFirstVolumes store.old store.new group actions.now) }
     ensures refused { IfErr result (λ refusal. (refusal ≡ Refusal.NoMemory)
-        ⊎ IsActionRefused store.old store.new group [] 5 actions.now refusal) }
+        ⊎ AreFirstActionsRefused store.old store.new group actions.now refusal) }
 {
     let mut datasets = GroupDatasets::new(alloc, EMPTY, group, Directory::new(alloc));
-    datasets.create_all(store, alloc, group, actions)?;
+    datasets.act_all(store, alloc, group, actions)?;
     Ok(datasets)
 }
 
 /// What was made, with the changes that make the tables but for the space maps' in front of those of the volumes' objects; the directory
-/// has a row for each volume. `NoMemory`, also where the directory would have 2^40 names; `BadPointer` where one number has both a record and a
-/// dead list, and where one that is made is no number below the next.
+/// has a row for each volume and each snapshot. `NoMemory`, also where the directory would have 2^40 names; `BadPointer` where one number has both
+/// a record and a dead list, and where one that is made is no number below the next.
 fn with_tables(datasets: GroupDatasets, alloc: Global, config: &Config) -> Result<Made, Refusal>
     requires fits { FitsConfig (config_view config.now) }
     requires few { length (config_bytes (config_view config.now)) < 2 ^ 46 }

@@ -28,7 +28,7 @@ ghost use Rattle.vdev_label.specs.Plain.{PlainVdev};
 ghost use Rattle.dataset_snapshots.specs.Creating.{HasFirstTables};
 ghost use Rattle.dataset_snapshots.specs.Demands.{AreMappedRefused, HasDatasetChanges, AreMisnumbered, AreVolumesRefused, HasGroupPlaces, HasMappedPlaces, HasRootPlaces, HasVolumePlaces, IsGroupRefused, IsRootRefused};
 ghost use Rattle.dataset_groups.specs.Names.{reach_by};
-ghost use Rattle.dataset_groups.specs.NewVolumes.{AreGoodCreations, numbers_end};
+ghost use Rattle.dataset_groups.specs.NewVolumes.{AreGoodChanges, numbers_end};
 ghost use Rattle.dataset_snapshots.specs.Groups.{AreOfDatasets, IsNextOf, IsOpened, IsOpenedFrom, IsSetOf, SpellsAfter};
 ghost use Rattle.dataset_groups.specs.Leaving.{AddsData, AddsMeta, IsReachExchanged};
 ghost use Rattle.dataset_snapshots.specs.Mapped.{HasMapsBehind, HasMapsBy, StandsOnce};
@@ -87,12 +87,12 @@ const DIRECTORY: u64 = 1;
 /// A directory of so many names has 2^46 bytes.
 pub(crate) const MOST_NAMES: usize = 1 << 40;
 
-/// Plans the root of a pool after the items of the transaction group `group`: its writes, and then the volumes that it makes. `root`
-/// is the root of the group before, and `directory` the one under it, which is kept in memory: none of its blocks is read. Each
-/// block that a write reaches is read, and then each of them is planned anew: so where one can't be read that is the answer,
-/// whether or not there is room. Of a volume without writes neither the record nor anything behind it is read. All changes of the
-/// meta object set are planned at once; its own block is new in each group. `BadConfig` where a volume can't have its name or its
-/// sizes.
+/// Plans the root of a pool after the items of the transaction group `group`: its writes, and then its actions: volumes that it makes, and
+/// snapshots that it takes of what volumes are by then. `root` is the root of the group before, and `directory` the one under it, which
+/// is kept in memory: none of its blocks is read. Each block that a write reaches is read, and then each of them is planned anew: so
+/// where one can't be read that is the answer, whether or not there is room. Of a volume without writes nothing is read but, where a
+/// snapshot is taken of it, its record and that of the snapshot before. All changes of the meta object set are planned at once; its own
+/// block is new in each group. `BadConfig` where a volume can't have its name or its sizes, or a snapshot its name.
 ///
 /// After an error blocks may be planned that no root has: begin another plan.
 pub fn after_group<D: Disk + Drop>(
@@ -133,7 +133,7 @@ pub fn after_group<D: Disk + Drop>(
         → Plans store.old stored planned → (is : SpellsPool stored (group - 1) root.now pool)
         → directory.now ≡ is.rows → HasMapsBy store.old.spaces filled is
         → StandsOnce store.old.spaces is → AnswersAreTrue store.old store.new
-        → AreGoodCreations items.now.actions
+        → AreGoodChanges items.now.actions
         → IsForRoom refusal ⊎ (refusal ≡ Refusal.DiskFault)) }
 
     // Whatever the root and the directory are: what places are taken for and what is given back, and
@@ -249,7 +249,7 @@ fn mapped_changes<D: Disk + Drop>(
         → root.birth ≡ born → born < group → IsOpened writes opened
         → IsOpenedFrom stored birth root pool is writes opened
         → AreMapsOf is.objects store.old.spaces filled → StandsOnce store.old.spaces is
-        → AnswersAreTrue store.old store.new → AreGoodCreations actions.now
+        → AnswersAreTrue store.old store.new → AreGoodChanges actions.now
         → IsForRoom refusal ⊎ (refusal ≡ Refusal.DiskFault)) }
     ensures places { IfOk result (λ made. HasMappedPlaces store.old store.new born group opened
         actions.now gone.new.items made.changes.items) }
@@ -311,7 +311,7 @@ fn changes_of<D: Disk + Drop>(
         → Plans store.old stored planned → (is : SpellsPool stored birth root pool)
         → root.birth < group → IsOpened writes opened
         → IsOpenedFrom stored birth root pool is writes opened
-        → AnswersAreTrue store.old store.new → AreGoodCreations actions.now
+        → AnswersAreTrue store.old store.new → AreGoodChanges actions.now
         → IsForRoom refusal ⊎ (refusal ≡ Refusal.DiskFault)) }
     ensures places { IfOk result (λ made.
         HasVolumePlaces store.old store.new group opened actions.now made.changes.items
@@ -326,13 +326,13 @@ fn changes_of<D: Disk + Drop>(
     } = opened;
     let first = datasets.next;
     datasets.write_all(store, alloc, group, written, replaced)?;
-    datasets.create_all(store, alloc, group, actions)?;
+    datasets.act_all(store, alloc, group, actions)?;
     with_directory(datasets, alloc, first)
 }
 
 /// What became of the datasets: the changes of the objects of their records and dead lists, with the change of the directory in front where the next
-/// number isn't the first one any more: where a volume was made. `NoMemory`, also where the directory would have 2^40 names; `BadPointer` where one
-/// number has both a record and a dead list, and where one that is changed is no number below the next.
+/// number isn't the first one any more: where a volume was made or a snapshot taken. `NoMemory`, also where the directory would have 2^40 names;
+/// `BadPointer` where one number has both a record and a dead list, and where one that is changed is no number below the next.
 fn with_directory(datasets: GroupDatasets, alloc: Global, first: u64) -> Result<Made, Refusal>
     requires behind { 4 < datasets.next }
     requires within { datasets.next ≤ numbers_end }

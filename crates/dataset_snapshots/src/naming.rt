@@ -9,6 +9,7 @@ ghost use Rattle.block_store.specs.Store.{Holds};
 ghost use Rattle.dnode.specs.ObjectSet.{FitsObjectSet};
 ghost use Rattle.meta_objset.specs.declared.directory.DirectoryRow.{DirectoryRow};
 ghost use Rattle.meta_objset.specs.Directory.{IsDirectory};
+ghost use Rattle.meta_objset.specs.Found.{IsRecordRefused};
 ghost use Rattle.meta_objset.specs.Names.{IsName, IsNamed};
 ghost use Rattle.objset.specs.Objects.{Object, AreObjects};
 ghost use Rattle.pool_model.specs.declared.volume.PlainVolume.{PlainVolume};
@@ -16,8 +17,8 @@ ghost use Rattle.pool_model.specs.Pools.{PlainPool, volume_at, with_volume};
 ghost use Rattle.volume_rules.specs.Index.{Knows};
 ghost use Rattle.volume_rules.specs.Shapes.{shape_of};
 ghost use Rattle.dataset_snapshots.specs.Contents.{AreNamesFound, AreNamesRefused, AreVolumesNamed};
-ghost use Rattle.dataset_snapshots.specs.Contents.{IsRowUnnamed, IsShapeRefused, IsVolumeShapeFound};
-ghost use Rattle.dataset_snapshots.specs.Pools.{SpellsDataset, SpellsPool};
+ghost use Rattle.dataset_snapshots.specs.Contents.{IsRowUnnamed, IsVolumeShapeFound};
+ghost use Rattle.dataset_snapshots.specs.Pools.{IsRecordKind, SpellsDataset, SpellsPool};
 
 use crate::finding::{read_dataset, read_meta};
 use block_pointer::Block;
@@ -30,7 +31,7 @@ use std::alloc::{AllocError, Global};
 use volume_rules::{NameIndex, VolumeShape};
 
 /// The names of the pool whose root has this directory, and at each the shape of its volume. It reads the root and the record of
-/// each dataset. `BadPointer` where the block is no root of a pool, or the object of a name no record of a volume.
+/// each dataset. `BadPointer` where the block is no root of a pool, or the object of a name no record of a dataset.
 pub(crate) fn names_by<D: Disk + Drop>(
     root: &Block,
     store: &mut BlockStore<D>,
@@ -90,7 +91,7 @@ fn names_of<D: Disk + Drop>(
     Ok(names)
 }
 
-/// The shape of the volume whose record an object has. `BadPointer` where the record is another dataset's.
+/// The shape of the volume or snapshot whose record an object has.
 fn read_shape<D: Disk + Drop>(
     set: &ObjectSet,
     store: &mut BlockStore<D>,
@@ -108,7 +109,7 @@ fn read_shape<D: Disk + Drop>(
         → AnswersAreTrue store.old store.new → shape_of volume ≡ shape) }
     ensures found { IfOk result (IsVolumeShapeFound store.old.spaces set.now birth object) }
     ensures refused { IfErr result (λ refusal. (refusal ≡ Refusal.NoMemory)
-        ⊎ IsShapeRefused store.old store.new missing.now set.now birth object refusal) }
+        ⊎ IsRecordRefused store.old store.new missing.now set.now birth object refusal) }
     ensures cause { IfErr result (λ refusal. refusal ≢ Refusal.NoSpace) }
     ensures known { IfErr result (λ refusal. (stored : Contents) (objects : ℕ → Option Object)
         (own : List Block) (blocks : ℕ → List Block) (row : DirectoryRow) (volume : PlainVolume)
@@ -118,14 +119,21 @@ fn read_shape<D: Disk + Drop>(
 {
     let dataset = read_dataset(set, store, alloc, birth, object, missing)?;
     let record = dataset.record;
-    match record.kind {
-        DatasetKind::Volume => Ok(VolumeShape {
-            size: record.size,
-            block_size: record.block_size,
-            group: record.created,
-            kind: VolumeKind::Volume,
-        }),
-        DatasetKind::Snapshot => Err(Refusal::BadPointer),
+    Ok(VolumeShape {
+        size: record.size,
+        block_size: record.block_size,
+        group: record.created,
+        kind: kind_of(record.kind),
+    })
+}
+
+/// What the name of a dataset stands for.
+fn kind_of(kind: DatasetKind) -> VolumeKind
+    ensures { IsRecordKind result kind }
+{
+    match kind {
+        DatasetKind::Volume => VolumeKind::Volume,
+        DatasetKind::Snapshot => VolumeKind::Snapshot,
     }
 }
 

@@ -1,44 +1,49 @@
 //! All blocks that the root of a pool leads to.
-ghost use Rattle.std.specs.Prelude.{◌≡◌, ◌≢◌, ◌⊎◌, ◌+◌, ◌++◌, ◌∷◌, ◌<◌, ◌≤◌, ℕ, List, Option, length, IfOk, IfErr, OnOk};
-ghost use Rattle.std.specs.List.{AllZip};
+ghost use Rattle.std.specs.Prelude.{◌≡◌, ◌≢◌, ◌⊎◌, ◌+◌, ◌++◌, ◌∷◌, ◌<◌, ◌≤◌, ℕ, All, List, Option, length, IfOk, IfErr, OnOk};
 ghost use Rattle.block_pointer.specs.declared.block.Block.{Block};
 ghost use Rattle.block_store.specs.Blocks.{Contents};
 ghost use Rattle.block_store.specs.Losses.{IsForLoss};
 ghost use Rattle.block_store.specs.Steps.{OnlyReadsBlocks, AnswersAreTrue};
 ghost use Rattle.block_store.specs.Store.{Holds};
+ghost use Rattle.dataset_chains.specs.Chains.{Reading};
+ghost use Rattle.dataset_chains.specs.Standing.{HasChains};
+ghost use Rattle.dataset_groups.specs.Names.{reach_by};
+ghost use Rattle.dead_list.specs.Datasets.{Free, Pool, group_before};
+ghost use Rattle.dead_list.specs.Reach.{own_of};
 ghost use Rattle.dnode.specs.declared.object_set.ObjectSet.{ObjectSet};
 ghost use Rattle.dnode.specs.declared.object_set.ObjectSetKind.TheVariants as sets;
 ghost use Rattle.dnode.specs.ObjectSet.{FitsObjectSet};
 ghost use Rattle.dnode_slots.specs.Sets.{IsSetBlock};
 ghost use Rattle.dnode_tree.specs.Rewriting.{AreDistinct};
-ghost use Rattle.dnode_tree.specs.Subtree.{joined};
 ghost use Rattle.meta_objset.specs.declared.directory.DirectoryRow.{DirectoryRow};
+ghost use Rattle.meta_objset.specs.Found.{IsRecordRefused};
 ghost use Rattle.meta_objset.specs.Reading.{HasDirectory};
 ghost use Rattle.objset.specs.Objects.{Object, AreObjects};
-ghost use Rattle.pool_model.specs.declared.volume.PlainVolume.{PlainVolume};
 ghost use Rattle.pool_model.specs.Pools.{PlainPool};
 ghost use Rattle.dataset_snapshots.specs.Finding.{IsMetaFound};
-ghost use Rattle.dataset_snapshots.specs.Pools.{SpellsDataset, SpellsPool};
-ghost use Rattle.dataset_snapshots.specs.Reach.{blocks_of_dataset, meta_blocks_of, parts_of, reach_of};
+ghost use Rattle.dataset_snapshots.specs.Pools.{SpellsPool};
+ghost use Rattle.dataset_snapshots.specs.Reach.{meta_blocks_of, reach_of};
 ghost use Rattle.dataset_snapshots.specs.Reach.{AreRowsWalked, AreVolumesUnwalked, AreVolumesWalked, IsDatasetUnwalked};
-ghost use Rattle.dataset_snapshots.specs.Reach.{IsDatasetWalked, IsMetaMissed, IsMetaWalkRefused, IsMetaWalked, IsReachRefused, IsReached, IsRowUnwalked};
+ghost use Rattle.dataset_snapshots.specs.Reach.{IsDatasetWalked, IsGroupBefore, IsMetaMissed, IsMetaWalkRefused, IsMetaWalked};
+ghost use Rattle.dataset_snapshots.specs.Reach.{IsReachRefused, IsReached, IsRowUnwalked};
 
 use crate::finding::{read_dataset, read_meta};
 use block_pointer::Block;
 use block_store::{BlockStore, Refusal};
 use dnode::ObjectSet;
 use dnode_tree::are_distinct;
-use meta_objset::{DirectoryRow, read_directory};
+use meta_objset::{DatasetRecord, DirectoryRow, read_directory};
 use model_disk::Disk;
 use std::alloc::{AllocError, Global};
 
 /// All blocks that the root of a pool leads to, each once: that of the root; those of the meta object set, as
-/// `objset::walk_within` finds them; and for each row of the directory, in their order, those of its volume, as
-/// `VolumeSet::walk_within` finds them.
+/// `objset::walk_within` finds them; and for each row of the directory, in their order, those of its volume or snapshot that were
+/// born after the snapshot before it, as `VolumeSet::walk_younger` finds them.
 ///
 /// The pool may be forged. The walks read at most as many blocks as are left to be read, and count each of them off; beside them
-/// the directory is read, and the record of each dataset. `BadPointer` also where none is left, and where a block is there
-/// twice. The root was born in the transaction group `birth` or before. The disks that are named are taken as missing.
+/// the directory is read, and the record of each dataset and of the snapshot before it. `BadPointer` also where none is left, and
+/// where a block is there twice. The root was born in the transaction group `birth` or before. The disks that are named are taken
+/// as missing.
 pub fn reach<D: Disk + Drop>(
     root: &Block,
     store: &mut BlockStore<D>,
@@ -157,7 +162,7 @@ fn count_meta<D: Disk + Drop>(
     read_meta(root, store, alloc, birth, missing)
 }
 
-/// The blocks of all volumes that the directory of a set names, in the order of its rows.
+/// The younger blocks of all datasets that the directory of a set names, in the order of its rows.
 fn walk_volumes<D: Disk + Drop>(
     set: &ObjectSet,
     store: &mut BlockStore<D>,
@@ -170,31 +175,31 @@ fn walk_volumes<D: Disk + Drop>(
     ensures reads { OnlyReadsBlocks store.old store.new missing.now }
     ensures fewer { left.new ≤ left.old }
     ensures blocks { IfOk result (λ found. (stored : Contents) (objects : ℕ → Option Object)
-        (own : List Block) (blocks : ℕ → List Block) (rows : List DirectoryRow)
-        (volumes : List PlainVolume) → Holds store.old stored
+        (own : List Block) (blocks : ℕ → List Block) (pool : Pool) (readings : ℕ → Reading)
+        (rows : List DirectoryRow) → Holds store.old stored
         → AreObjects stored birth set.now objects own blocks → HasDirectory (objects 1) rows
-        → (all : AllZip (SpellsDataset stored birth objects) rows volumes)
-        → AnswersAreTrue store.old store.new
-        → found.items ≡ joined (parts_of stored birth objects rows volumes all)) }
+        → HasChains stored birth objects pool readings
+        → All (λ row. (pool.datasets row.object).kind ≢ Free) rows
+        → AnswersAreTrue store.old store.new → found.items ≡ reach_by pool rows) }
     ensures count { IfOk result (λ found.
         AreVolumesWalked store.old.spaces set.now birth left.old left.new found.items) }
     ensures refused { IfErr result (AreVolumesUnwalked store.old store.new missing.now set.now birth
         left.old left.new) }
     ensures cause { IfErr result (λ refusal. refusal ≢ Refusal.NoSpace) }
     ensures known { IfErr result (λ refusal. (stored : Contents) (objects : ℕ → Option Object)
-        (own : List Block) (blocks : ℕ → List Block) (rows : List DirectoryRow)
-        (volumes : List PlainVolume) → Holds store.old stored
+        (own : List Block) (blocks : ℕ → List Block) (pool : Pool) (readings : ℕ → Reading)
+        (rows : List DirectoryRow) → Holds store.old stored
         → AreObjects stored birth set.now objects own blocks → HasDirectory (objects 1) rows
-        → (all : AllZip (SpellsDataset stored birth objects) rows volumes)
-        → AreDistinct (joined (parts_of stored birth objects rows volumes all))
-        → length (joined (parts_of stored birth objects rows volumes all)) ≤ left.old
+        → HasChains stored birth objects pool readings
+        → All (λ row. (pool.datasets row.object).kind ≢ Free) rows
+        → length (reach_by pool rows) ≤ left.old
         → AnswersAreTrue store.old store.new → IsForLoss refusal) }
 {
     let directory = read_directory(set, store, alloc, birth, missing)?;
     walk_rows(set, directory.rows(), store, alloc, birth, left, missing)
 }
 
-/// The blocks of the volumes that the rows name, one after the other.
+/// The younger blocks of the datasets that the rows name, one after the other.
 fn walk_rows<D: Disk + Drop>(
     set: &ObjectSet,
     rows: &[DirectoryRow],
@@ -208,11 +213,11 @@ fn walk_rows<D: Disk + Drop>(
     ensures reads { OnlyReadsBlocks store.old store.new missing.now }
     ensures fewer { left.new ≤ left.old }
     ensures blocks { IfOk result (λ found. (stored : Contents) (objects : ℕ → Option Object)
-        (own : List Block) (blocks : ℕ → List Block) (volumes : List PlainVolume)
+        (own : List Block) (blocks : ℕ → List Block) (pool : Pool) (readings : ℕ → Reading)
         → Holds store.old stored → AreObjects stored birth set.now objects own blocks
-        → (all : AllZip (SpellsDataset stored birth objects) rows.now volumes)
-        → AnswersAreTrue store.old store.new
-        → found.items ≡ joined (parts_of stored birth objects rows.now volumes all)) }
+        → HasChains stored birth objects pool readings
+        → All (λ row. (pool.datasets row.object).kind ≢ Free) rows.now
+        → AnswersAreTrue store.old store.new → found.items ≡ reach_by pool rows.now) }
     ensures count { IfOk result (λ found.
         AreRowsWalked store.old.spaces set.now birth rows.now left.old left.new found.items) }
     ensures refused { IfErr result (λ refusal. (refusal ≡ Refusal.NoMemory)
@@ -220,11 +225,11 @@ fn walk_rows<D: Disk + Drop>(
         refusal) }
     ensures cause { IfErr result (λ refusal. refusal ≢ Refusal.NoSpace) }
     ensures known { IfErr result (λ refusal. (stored : Contents) (objects : ℕ → Option Object)
-        (own : List Block) (blocks : ℕ → List Block) (volumes : List PlainVolume)
+        (own : List Block) (blocks : ℕ → List Block) (pool : Pool) (readings : ℕ → Reading)
         → Holds store.old stored → AreObjects stored birth set.now objects own blocks
-        → (all : AllZip (SpellsDataset stored birth objects) rows.now volumes)
-        → AreDistinct (joined (parts_of stored birth objects rows.now volumes all))
-        → length (joined (parts_of stored birth objects rows.now volumes all)) ≤ left.old
+        → HasChains stored birth objects pool readings
+        → All (λ row. (pool.datasets row.object).kind ≢ Free) rows.now
+        → length (reach_by pool rows.now) ≤ left.old
         → AnswersAreTrue store.old store.new → IsForLoss refusal) }
 {
     let mut found = Vec::new(alloc);
@@ -235,7 +240,7 @@ fn walk_rows<D: Disk + Drop>(
     Ok(found)
 }
 
-/// The blocks of the volume whose record an object has.
+/// Of the dataset whose record an object has, the blocks that were born after the snapshot before it.
 fn walk_dataset<D: Disk + Drop>(
     set: &ObjectSet,
     store: &mut BlockStore<D>,
@@ -249,26 +254,65 @@ fn walk_dataset<D: Disk + Drop>(
     ensures reads { OnlyReadsBlocks store.old store.new missing.now }
     ensures fewer { left.new ≤ left.old }
     ensures blocks { IfOk result (λ found. (stored : Contents) (objects : ℕ → Option Object)
-        (own : List Block) (blocks : ℕ → List Block) (row : DirectoryRow) (volume : PlainVolume)
+        (own : List Block) (blocks : ℕ → List Block) (pool : Pool) (readings : ℕ → Reading)
         → Holds store.old stored → AreObjects stored birth set.now objects own blocks
-        → (is : SpellsDataset stored birth objects row volume) → row.object ≡ object
-        → AnswersAreTrue store.old store.new → found.items ≡ blocks_of_dataset is) }
+        → HasChains stored birth objects pool readings → (pool.datasets object).kind ≢ Free
+        → AnswersAreTrue store.old store.new → found.items ≡ own_of pool.datasets object) }
     ensures count { IfOk result (λ found.
         IsDatasetWalked store.old.spaces set.now birth object left.old left.new found.items) }
     ensures refused { IfErr result (IsDatasetUnwalked store.old store.new missing.now set.now birth
         object left.old left.new) }
     ensures cause { IfErr result (λ refusal. refusal ≢ Refusal.NoSpace) }
     ensures known { IfErr result (λ refusal. (stored : Contents) (objects : ℕ → Option Object)
-        (own : List Block) (blocks : ℕ → List Block) (row : DirectoryRow) (volume : PlainVolume)
+        (own : List Block) (blocks : ℕ → List Block) (pool : Pool) (readings : ℕ → Reading)
         → Holds store.old stored → AreObjects stored birth set.now objects own blocks
-        → (is : SpellsDataset stored birth objects row volume) → row.object ≡ object
-        → AreDistinct (blocks_of_dataset is) → length (blocks_of_dataset is) ≤ left.old
+        → HasChains stored birth objects pool readings → (pool.datasets object).kind ≢ Free
+        → length (own_of pool.datasets object) ≤ left.old
         → AnswersAreTrue store.old store.new → IsForLoss refusal) }
 {
     let dataset = read_dataset(set, store, alloc, birth, object, missing)?;
+    let since = group_before(set, store, alloc, birth, &dataset.record, missing)?;
     dataset
         .volume
-        .walk_within(store, alloc, birth, left, missing)
+        .walk_younger(store, alloc, birth, since, left, missing)
+}
+
+/// The group of the snapshot that a record has before its dataset, or 0 where it has none.
+fn group_before<D: Disk + Drop>(
+    set: &ObjectSet,
+    store: &mut BlockStore<D>,
+    alloc: Global,
+    birth: u64,
+    record: &DatasetRecord,
+    missing: &[usize],
+) -> Result<u64, Refusal>
+    requires { FitsObjectSet set.now }
+    ensures reads { OnlyReadsBlocks store.old store.new missing.now }
+    ensures value { IfOk result (λ since. (stored : Contents) (objects : ℕ → Option Object)
+        (own : List Block) (blocks : ℕ → List Block) (pool : Pool) (readings : ℕ → Reading)
+        (object : ℕ) → Holds store.old stored
+        → AreObjects stored birth set.now objects own blocks
+        → HasChains stored birth objects pool readings
+        → (pool.datasets object).before ≡ (record.now).previous
+        → AnswersAreTrue store.old store.new → since ≡ group_before pool.datasets object) }
+    ensures found { IfOk result (IsGroupBefore store.old.spaces set.now birth record.now) }
+    ensures refused { IfErr result (λ refusal. (refusal ≡ Refusal.NoMemory)
+        ⊎ (((record.now).previous ≢ 0) × IsRecordRefused store.old store.new missing.now set.now
+        birth (record.now).previous refusal)) }
+    ensures cause { IfErr result (λ refusal. refusal ≢ Refusal.NoSpace) }
+    ensures known { IfErr result (λ refusal. (stored : Contents) (objects : ℕ → Option Object)
+        (own : List Block) (blocks : ℕ → List Block) (pool : Pool) (readings : ℕ → Reading)
+        (object : ℕ) → Holds store.old stored
+        → AreObjects stored birth set.now objects own blocks
+        → HasChains stored birth objects pool readings
+        → (pool.datasets object).before ≡ (record.now).previous
+        → AnswersAreTrue store.old store.new → IsForLoss refusal) }
+{
+    if record.previous == 0 {
+        return Ok(0);
+    }
+    let before = read_dataset(set, store, alloc, birth, record.previous, missing)?;
+    Ok(before.record.created)
 }
 
 /// Adds blocks to a list.

@@ -1,5 +1,5 @@
 //! Volumes that a group writes to, as they are read.
-ghost use Rattle.std.specs.Prelude.{◌≡◌, ◌≢◌, ◌↔◌, ◌⊎◌, ◌++◌, ◌∷◌, [], ℕ, List, Option, None, All, Contains, IfSome, IfNone, IfOk, IfErr, OnOk};
+ghost use Rattle.std.specs.Prelude.{◌≡◌, ◌≢◌, ◌↔◌, false, ◌⊎◌, ◌++◌, ◌∷◌, [], ℕ, List, Option, None, All, Contains, IfSome, IfNone, IfOk, IfErr, OnOk};
 ghost use Rattle.std.specs.List.{AllZip};
 ghost use Rattle.std.specs.List.Sorted.{IsStrictlyIncreasing};
 ghost use Rattle.block_pointer.specs.declared.block.Block.{Block};
@@ -14,6 +14,7 @@ ghost use Rattle.meta_objset.specs.declared.directory.DirectoryRow.{DirectoryRow
 ghost use Rattle.meta_objset.specs.Names.{IsName, IsNamed};
 ghost use Rattle.objset.specs.Objects.{Object, AreObjects};
 ghost use Rattle.pool_model.specs.declared.volume.PlainVolume.{PlainVolume};
+ghost use Rattle.pool_model.specs.Pools.{is_snapshot};
 ghost use Rattle.volume_rules.specs.Overlay.{after_writes};
 ghost use Rattle.volume.specs.Volume.{Spells, block_size_of};
 ghost use Rattle.volume.specs.Writing.{AreBlocksOf, IsArrayWith};
@@ -32,7 +33,7 @@ use std::alloc::{AllocError, Global};
 use txg_pipeline::Pending;
 use volume::{BlockWrite, GroupWrites, VolumeSet};
 
-/// The objects of the volumes that are written to, in the order of their numbers.
+/// The objects of the volumes that are written to, in the order of their numbers. A write to the name of a snapshot does nothing.
 pub(crate) fn written_objects(
     directory: &Directory,
     alloc: Global,
@@ -46,6 +47,9 @@ pub(crate) fn written_objects(
     let _rows = directory.rows();
     let mut objects = Vec::new(alloc);
     for write in writes {
+        if write.volume.is_of_snapshot() {
+            continue;
+        }
         if let Some(object) = number_in(directory, &write.volume) {
             objects.push(object)?;
         }
@@ -177,7 +181,8 @@ fn changed_blocks<D: Disk + Drop>(
     ensures blocks { IfOk result (λ blocks. AreBlocksOf volume.now blocks.items) }
     ensures value { IfOk result (λ blocks. (stored : Contents) (plain : PlainVolume)
         → Holds store.old stored → IsNamed row.now.name plain.name
-        → Spells stored birth volume.now plain.bytes → AnswersAreTrue store.old store.new
+        → is_snapshot plain.kind ≡ false → Spells stored birth volume.now plain.bytes
+        → AnswersAreTrue store.old store.new
         → IsArrayWith plain.bytes (block_size_of volume.now) blocks.items
         (after_writes plain items.now.writes).bytes) }
     ensures known { IfErr result (λ refusal. (stored : Contents) (array : List ℕ)

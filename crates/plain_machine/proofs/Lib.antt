@@ -2,4 +2,3 @@ pub mod Judging
 pub mod Stepping
 pub mod Reaching
 pub mod Running
-pub mod Placing

@@ -117,7 +117,11 @@ impl Machine {
         let Ok(now) = self.now() else {
             return Reply::Refused(Refusal::NoMemory);
         };
-        match against_change(&action.change, now.shape(action.change.name())) {
+        let Ok(name) = action.change.name(self.alloc) else {
+            return Reply::Refused(Refusal::NoMemory);
+        };
+        let volume = now.shape(action.change.volume());
+        match against_change(&action.change, volume, now.shape(&name)) {
             Some(cause) => return Reply::Refused(cause),
             None => {}
         }

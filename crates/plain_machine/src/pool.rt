@@ -3,6 +3,7 @@ ghost use Rattle.std.specs.Prelude.{◌≡◌, ◌≤◌, fold, length, map, IfO
 ghost use Rattle.std.specs.List.{position_or_len};
 ghost use Rattle.std.specs.Option.{option_copied};
 ghost use Rattle.pool_model.specs.Names.{is_before};
+ghost use Rattle.pool_model.specs.declared.item.Change.TheVariants.{Snapshot};
 ghost use Rattle.pool_model.specs.Pools.{no_volumes, with_volume, applied, changed, volume_after, volume_at, written};
 ghost use Rattle.volume_rules.specs.Shapes.{shape_at};
 
@@ -117,7 +118,35 @@ impl Pool {
                 group,
                 kind: VolumeKind::Volume,
             }),
+            Change::Snapshot { volume, part } => self.take(alloc, group, volume, part),
         }
+    }
+
+    // A volume that isn't there, or is a snapshot itself, is passed over.
+    fn take(
+        &mut self,
+        alloc: Global,
+        group: u64,
+        volume: &Name,
+        part: &Name,
+    ) -> Result<(), AllocError>
+        ensures { OnOk result (self.new
+            ≡ changed group self.old (Snapshot volume.now part.now)) }
+    {
+        let Some(found) = self.find(volume) else {
+            return Ok(());
+        };
+        if found.kind.is_snapshot() {
+            return Ok(());
+        }
+        let snapshot = PlainVolume {
+            name: volume.with_part(alloc, part)?,
+            bytes: found.bytes.copied(alloc)?,
+            block_size: found.block_size,
+            group,
+            kind: VolumeKind::Snapshot,
+        };
+        self.add(snapshot)
     }
 
     // A volume whose name is there already is not added.
@@ -165,11 +194,11 @@ fn write_each(volumes: &mut Vec<PlainVolume>, write: &Write)
     }
 }
 
-// A volume of another name stays as it is.
+// A volume of another name stays as it is, and so does a snapshot.
 fn write_to(volume: &mut PlainVolume, write: &Write)
     ensures { volume.new ≡ volume_after write.now volume.old }
 {
-    if volume.name.is(&write.volume) {
+    if volume.name.is(&write.volume) && !volume.kind.is_snapshot() {
         volume.bytes.store(write.offset as usize, &write.bytes);
     }
 }

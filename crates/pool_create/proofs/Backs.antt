@@ -10,7 +10,8 @@ use Rattle.model_disk.specs.Joint.{Disks}
 use Rattle.model_disk.specs.Runs.{Makes, no_write}
 use Rattle.model_disk.proofs.RunLemmas.{Makes-none}
 use Rattle.pool_core.specs.State.{CoreState, disks_of}
-use Rattle.pool_model.specs.Pools.{no_volumes}
+use Rattle.pool_model.specs.declared.volume.PlainVolume.{PlainVolume}
+use Rattle.pool_model.specs.Pools.{no_volumes, volume_at}
 use Rattle.pool_open.specs.Causes.{of_root, of_slots}
 use Rattle.pool_open.specs.Held.{IsLaidOver}
 use Rattle.pool_open.specs.Opening.{AreMisplacedOver}
@@ -87,8 +88,14 @@ among_others old mid new it root u refusal taken is before after why =
 
 -- ---- the core
 
+nothing_there : {A : Type 0} (name : List ℕ) (volume : PlainVolume) → volume_at name no_volumes ≡ Some volume → A
+nothing_there name volume found = absurd (let clash : None ≡ Some volume = found in cc)
+
 none_made_by : (group : ℕ) → IsMadeBy group no_volumes
-none_made_by group name volume found = absurd (let clash : None ≡ Some volume = found in cc)
+none_made_by group = record {
+  older = λ name volume found. nothing_there name volume found;
+  named = λ name volume found. nothing_there name volume found;
+}
 
 -- what was read of the root, and the core that was made of it
 pub record AreRead (old surveyed read : Disks) (it : NewPool) (root : Block) (u : Uberblock) (contents : RootContents) : Type 0 where

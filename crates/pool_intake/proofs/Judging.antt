@@ -1,27 +1,22 @@
 -- The first cause against a step of a pool that is not suspended, put together from the tests that the intake makes.
 use Rattle.std.proofs.Common.{◌≡◌, ◌≢◌, ◌⊎◌, ⊎_elim, inl, inr, ℕ, ◌<◌, ◌≤◌, Bool, true, false, true≢false, List, [], ◌∷◌, Option, Some, None, refl, sym, ap, ◌∙◌, arith}
-use Rattle.std.specs.Prelude.{is_some, is_none, not, nat_le, ◌%◌, ◌^◌, ◌==◌, ◌&&◌, ◌||◌, if◌then◌else◌}
+use Rattle.std.specs.Prelude.{is_some, is_none, not, nat_le, ◌==◌, ◌&&◌, ◌||◌, if◌then◌else◌}
 use Rattle.std.proofs.lemmas.Bool.Decides.{nat_tests}
 use Rattle.pool_model.specs.declared.group.Stage.TheVariants.{Quiescing}
 use Rattle.pool_model.specs.declared.item.Action.{Action}
-use Rattle.pool_model.specs.declared.item.Change.{Change}
-use Rattle.pool_model.specs.declared.item.Change.TheVariants.{Create}
 use Rattle.pool_model.specs.declared.item.Write.{Write}
 use Rattle.pool_model.specs.declared.refusal.Refusal.TheVariants as causes
 use Rattle.pool_model.specs.declared.refusal.Refusal.{Refusal as Cause}
 use Rattle.pool_model.specs.declared.step.Step.TheVariants.{Hold, Write as WriteStep, Act, Release, Close, Quiesce, Plan}
 use Rattle.pool_model.specs.declared.volume.PlainVolume.{PlainVolume}
-use Rattle.pool_model.specs.Names.{is_name, is_block_size}
 use Rattle.pool_model.specs.Pools.{PlainPool, volume_at}
 use Rattle.pool_model.specs.View.{View, is_syncing, is_planned, is_quiescing, is_quiesced, is_suspended, waiting_group, open_group, hold_group, is_held, now_of}
 use Rattle.pool_model.specs.Flow.{flow_of}
 use Rattle.pool_model.specs.Refusals.{greatest, first_cause, or_else, number_refusal, place_refusal, write_refusal, change_refusal, act_refusal, may_plan, refusal_of}
-use Rattle.pool_model.proofs.Causes.{none_of}
 use Rattle.txg_pipeline.specs.declared.refusal.Refusal.{Refusal}
 use Rattle.txg_pipeline.specs.declared.refusal.Refusal.TheVariants.{NoMemory, AlreadyHeld, NoHold, OutOfOrder, NotNow}
 use Rattle.txg_pipeline.specs.Carries.{IsAdmitted, IsNotAdmitted}
 use Rattle.txg_pipeline.specs.Calls.{cause_of}
-use Rattle.volume_rules.specs.GoodChanges.{is_good_change}
 
 -- a test that fails is passed over
 passed : (b : Bool) (cause : Cause) (rest : List (Bool × Cause)) → b ≡ false → first_cause ((b, cause) ∷ rest) ≡ first_cause rest
@@ -186,19 +181,3 @@ change_free v a u e = held (hold_group a.writer v.holds) (sym (act_cause v a u) 
     held : (hold : Option ℕ) → act_refusal a (v.next a.writer) (open_group v) (now_of v) hold ≡ None → change_refusal a.change (now_of v) ≡ None
     held None e = absurd (cc)
     held (Some group) e = last _ _ (last _ _ e)
-
-tests_free : (named there block whole low high : Bool) → first_cause ((not named, causes.BadName) ∷ (there, causes.Exists) ∷ (not (block && whole), causes.Misaligned) ∷ (not (low && high), causes.OutOfRange) ∷ []) ≡ None → (there ≡ false) × ((named && (block && (whole && (low && high)))) ≡ true)
-tests_free false there block whole low high e = absurd (cc)
-tests_free true true block whole low high e = absurd (cc)
-tests_free true false false whole low high e = absurd (cc)
-tests_free true false true false low high e = absurd (cc)
-tests_free true false true true false high e = absurd (cc)
-tests_free true false true true true false e = absurd (cc)
-tests_free true false true true true true e = (refl, refl)
-
--- the name of a new volume is free
-pub name_free : (name : List ℕ) (size block_size : ℕ) (pool : PlainPool) → change_refusal (Create name size block_size) pool ≡ None → volume_at name pool ≡ None
-name_free name size block_size pool e = none_of (volume_at name pool) (tests_free (is_name name) (is_some (volume_at name pool)) (is_block_size block_size) (size % block_size == 0) (nat_le block_size size) (nat_le size (2 ^ 40)) e).0
-
-pub is_good : (change : Change) (pool : PlainPool) → change_refusal change pool ≡ None → is_good_change change ≡ true
-is_good (Create name size block_size) pool e = (tests_free (is_name name) (is_some (volume_at name pool)) (is_block_size block_size) (size % block_size == 0) (nat_le block_size size) (nat_le size (2 ^ 40)) e).1

@@ -1,10 +1,9 @@
 -- Where all that was accepted is committed.
-use Rattle.std.proofs.Common.{◌≡◌, ◌⊎◌, ⊎_elim, inl, inr, ℕ, suc, ◌≤◌, ◌<◌, Bool, true, false, true≢false, Option, Some, None, refl, sym, ap, ◌∙◌, subst, arith}
+use Rattle.std.proofs.Common.{◌≡◌, inl, inr, suc, Bool, false, true≢false, Option, Some, None, refl, ap, ◌∙◌, subst, arith}
 use Rattle.std.specs.Prelude.{is_some}
 use Rattle.std.proofs.lemmas.Bool.{cases_lt}
-use Rattle.pool_model.specs.Pools.{applied, no_items, upto, Entry}
-use Rattle.pool_model.specs.View.{View, is_syncing, open_after, open_group, now_of}
-use Rattle.pool_model.specs.Flow.{flow_of}
+use Rattle.pool_model.specs.Pools.{applied, no_items, upto}
+use Rattle.pool_model.specs.View.{View, is_syncing, open_after, open_group}
 use Rattle.pool_model.specs.Sound.{IsSound}
 use Rattle.pool_model.proofs.Uptos.{upto_one}
 use Rattle.pool_intake.specs.Rest.{IsAtRest, NowIsCommitted}

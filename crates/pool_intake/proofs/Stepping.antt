@@ -5,8 +5,6 @@ use Rattle.pool_model.specs.declared.group.Holder.{Holder}
 use Rattle.pool_model.specs.declared.group.Stage.{Stage}
 use Rattle.pool_model.specs.declared.group.Stage.TheVariants.{Quiescing, Quiesced as QuiescedStage}
 use Rattle.pool_model.specs.declared.item.Action.{Action}
-use Rattle.pool_model.specs.declared.item.Change.{Change}
-use Rattle.pool_model.specs.declared.item.Change.TheVariants.{Create}
 use Rattle.pool_model.specs.declared.item.Item.{Item}
 use Rattle.pool_model.specs.declared.item.Item.TheVariants.{Write as WriteItem, Action as ActionItem}
 use Rattle.pool_model.specs.declared.item.Write.{Write}
@@ -16,10 +14,10 @@ use Rattle.pool_model.specs.declared.step.Step.{Step}
 use Rattle.pool_model.specs.declared.step.Step.TheVariants.{Hold, Write as WriteStep, Act, Release, Close, Quiesce, Plan, Device}
 use Rattle.pool_model.specs.declared.step.Reply.{Reply}
 use Rattle.pool_model.specs.declared.step.Reply.TheVariants.{Held, Receipt, Released, Closed, Quiesced, Planned, Committed, Refused}
-use Rattle.pool_model.specs.Pools.{upto, no_items, PlainPool, Ledger, Entry, volume_at, changed, applied}
+use Rattle.pool_model.specs.Pools.{upto, no_items, PlainPool, Ledger, Entry, changed, applied}
 use Rattle.pool_model.specs.View.{View, Vdev, opened_as, nothing_given, Unplanned, is_syncing, is_planned, is_quiescing, is_quiesced, is_suspended, hold_group, is_held, now_of, open_group, waiting_group}
 use Rattle.pool_model.specs.Flow.{Flow, flow_of, opened, added, counted_on, ledger_accepted, with_hold, without_hold, with_accepted, with_taken}
-use Rattle.pool_model.specs.Refusals.{greatest, change_refusal, refusal_of}
+use Rattle.pool_model.specs.Refusals.{greatest, refusal_of}
 use Rattle.pool_model.specs.Machine.{StepOf, MayAnswer, MayLack, with_flow, taken, committed_next, without_memory}
 use Rattle.pool_model.proofs.Answering.{taken_already}
 use Rattle.pool_model.proofs.Plans.{nothing_quiet, may_nothing}
@@ -33,16 +31,16 @@ use Rattle.txg_pipeline.specs.Carries.{Carries, empty_after, Does, IsUnchanged, 
 use Rattle.txg_pipeline.specs.Calls.{cause_of}
 use Rattle.txg_pipeline.proofs.Carrying.{kept_synced}
 use Rattle.volume_rules.specs.declared.index.NameIndex.{NameIndex}
-use Rattle.volume_rules.specs.declared.shape.VolumeShape.{VolumeShape}
 use Rattle.volume_rules.specs.GoodChanges.{is_good_change, MakesGoodVolumes}
 use Rattle.volume_rules.specs.Index.{Knows}
 use Rattle.volume_rules.specs.NowMoves.{IsMadeBy, is_action_taken}
 use Rattle.volume_rules.proofs.NowMoves.{knows_step, moves_now, now_taken, now_committed}
+use Rattle.volume_rules.proofs.GoodChanges.{not_refused}
 use Rattle.volume_rules.proofs.Overlays.{made_by_applied}
-use Rattle.volume_rules.proofs.Pending.{below_step}
+use Rattle.volume_rules.proofs.Pending.{below_now, below_step}
 use Rattle.pool_intake.specs.declared.intake.Intake.{Intake}
 use Rattle.pool_intake.specs.Follows.{Follows, KeepsCommitted}
-use Rattle.pool_intake.proofs.Judging.{hold_free, hold_held, release_free, close_free, close_early, quiesce_free, quiesce_early, plan_free, plan_early, write_barred, act_barred, act_late, change_free, name_free, is_good}
+use Rattle.pool_intake.proofs.Judging.{hold_free, hold_held, release_free, close_free, close_early, quiesce_free, quiesce_early, plan_free, plan_early, write_barred, act_barred, act_late, change_free}
 
 -- some view after the step, which the intake follows
 abbrev pub Goes : View → Step → Reply → Intake → Type 0
@@ -126,7 +124,7 @@ goes old new v step reply waiting holds next ledger r s k n g same = (
     sound = sound_step v nothing_given step reply (moved v waiting holds next ledger) r.sound s;
     flow = k;
     names = n;
-    made = below_step v nothing_given step reply (moved v waiting holds next ledger) s r.made;
+    made = below_step v nothing_given step reply (moved v waiting holds next ledger) r.good s r.made;
     good = g;
   },
   record { vdevs = refl; slots = refl; first = refl; committed = refl; sync = refl; pools = refl; out = refl; synced = same },
@@ -186,19 +184,17 @@ wrote pipeline other index v w group r none d =
     goes_on pipeline other index v (WriteStep w) (Receipt group) v.waiting v.holds (counted_on v.next w.writer) (ledger_accepted v.ledger group (WriteItem w)) r none ((g.1.0, g.1.1, g.1.2, refl), refl) refl (subst (Carries other) g.1.3 g.2) (good_took v.ledger group (WriteItem w) tt r.good) (λ s. sym (kept_synced (flow_of v) group (WriteItem w) _ takes s refl))
 
 -- the index knows the name that the action makes
-pub acted : (pipeline other : Pipeline) (index added_to : NameIndex) (v : View) (a : Action) (group : ℕ) (name : List ℕ) (shape : VolumeShape) → Follows (record { pipeline = pipeline; index = index }) v → is_suspended v ≡ false → refusal_of v (Act a) ≡ None → Does pipeline (Act a) (Receipt group) other
-    → a.change ≡ Create name shape.size shape.block_size → shape.group ≡ open_group v
-    → ((pool : PlainPool) → Knows index pool → volume_at name pool ≡ None → Knows added_to (changed shape.group pool (Create name shape.size shape.block_size)))
+pub acted : (pipeline other : Pipeline) (index added_to : NameIndex) (v : View) (a : Action) (group : ℕ) → Follows (record { pipeline = pipeline; index = index }) v → is_suspended v ≡ false → refusal_of v (Act a) ≡ None → Does pipeline (Act a) (Receipt group) other
+    → ((pool : PlainPool) → Knows index pool → Knows added_to (changed (open_group v) pool a.change))
     → Goes v (Act a) (Receipt group) (record { pipeline = other; index = added_to })
-acted pipeline other index added_to v a group name shape r u none d is opened add =
+acted pipeline other index added_to v a group r u none d add =
     let g = d (flow_of v) r.flow in
     let takes = taken_hold (flow_of v) a.writer group v.holds r.sound.flow.holds g.1.0 in
     let s : StepOf v nothing_given (Act a) (Receipt group) (with_flow v (with_accepted (flow_of v) a.writer group (ActionItem a))) = inr (inr (record { none = none; answered = ((g.1.0, g.1.1, g.1.2, g.1.3, refl), refl); calls = may_nothing (Act a) })) in
     let moves = moves_now v nothing_given (Act a) (Receipt group) (with_flow v (with_accepted (flow_of v) a.writer group (ActionItem a))) r.sound s in
-    let free = change_free v a u none in
-    let named : volume_at name (now_of v) ≡ None = name_free name shape.size shape.block_size (now_of v) (ap (λ (x : Change). change_refusal x (now_of v)) (sym is) ∙ free) in
-    let now : now_of (with_flow v (with_accepted (flow_of v) a.writer group (ActionItem a))) ≡ changed shape.group (now_of v) (Create name shape.size shape.block_size) = moves.1 ∙ (λ i. changed ((moves.0 ∙ sym opened) i) (now_of v) (is i)) in
-    goes (record { pipeline = pipeline; index = index }) (record { pipeline = other; index = added_to }) v (Act a) (Receipt group) v.waiting v.holds (counted_on v.next a.writer) (ledger_accepted v.ledger group (ActionItem a)) r s (subst (Carries other) g.1.4 g.2) (subst (Knows added_to) (sym now) (add (now_of v) r.names named)) (good_took v.ledger group (ActionItem a) (is_good a.change (now_of v) free) r.good) (λ s. sym (kept_synced (flow_of v) group (ActionItem a) _ takes s refl))
+    let now : now_of (with_flow v (with_accepted (flow_of v) a.writer group (ActionItem a))) ≡ changed (open_group v) (now_of v) a.change = moves.1 ∙ ap (λ n. changed n (now_of v) a.change) moves.0 in
+    let good = not_refused a.change (now_of v) (below_now v r.good r.made).named (change_free v a u none) in
+    goes (record { pipeline = pipeline; index = index }) (record { pipeline = other; index = added_to }) v (Act a) (Receipt group) v.waiting v.holds (counted_on v.next a.writer) (ledger_accepted v.ledger group (ActionItem a)) r s (subst (Carries other) g.1.4 g.2) (subst (Knows added_to) (sym now) (add (now_of v) r.names)) (good_took v.ledger group (ActionItem a) good r.good) (λ s. sym (kept_synced (flow_of v) group (ActionItem a) _ takes s refl))
 
 -- ---- the group that is synced
 
@@ -239,7 +235,7 @@ commits pipeline other index v group r d =
         sound = record { first = let f = r.sound.first in omega arith; flow = flow.sound };
         flow = flow;
         names = subst (Knows index) (sym (now_committed v g.1.0)) r.names;
-        made = subst (λ b. IsMadeBy (suc v.committed) (cond b (applied (suc v.committed) (v.pools v.committed) (v.ledger (suc v.committed))) (v.pools (suc v.committed)))) (sym (itself (suc v.committed))) (made_by_applied v.committed (v.pools v.committed) (v.ledger (suc v.committed)) r.made);
+        made = subst (λ b. IsMadeBy (suc v.committed) (cond b (applied (suc v.committed) (v.pools v.committed) (v.ledger (suc v.committed))) (v.pools (suc v.committed)))) (sym (itself (suc v.committed))) (made_by_applied v.committed (v.pools v.committed) (v.ledger (suc v.committed)) r.made (r.good (suc v.committed)));
         good = r.good;
       },
     )

@@ -1,14 +1,8 @@
 //! The intake of a pool.
-ghost use Rattle.std.specs.Prelude.{◌≡◌, IfOk};
-ghost use Rattle.pool_model.specs.declared.item.Change.TheVariants.{Create};
-ghost use Rattle.pool_model.specs.declared.volume.VolumeKind.TheVariants.{Volume};
-
-use pool_model::{Action, Change, Item, Name, Refusal, Reply, VolumeKind, Write};
+use pool_model::{Action, Item, Name, Refusal, Reply, Write};
 use std::alloc::{AllocError, Global};
 use txg_pipeline::{Pending, Pipeline};
-use volume_rules::{
-    NameIndex, VolumeShape, against_change, against_write, is_covered, read_pending,
-};
+use volume_rules::{NameIndex, VolumeShape, against_write, is_covered, read_pending, read_taken};
 
 /// What a pool accepts: its groups, the holds of writers, the pending items, and the names of NOW.
 ///
@@ -20,7 +14,7 @@ pub struct Intake {
 }
 
 impl Intake {
-    ghost use Rattle.std.specs.Prelude.{◌↔◌, ◌<◌, Bool, IsTrue, ℕ, suc, List, length, replicate, ◌+◌, ◌≤◌, None, Some, false, is_some, IfSome, IfErr, OnOk};
+    ghost use Rattle.std.specs.Prelude.{◌↔◌, ◌<◌, Bool, IsTrue, ℕ, suc, List, length, replicate, ◌+◌, ◌≤◌, None, Some, false, true, is_some, IfSome, IfOk, IfErr, OnOk, ◌≡◌};
     ghost use Rattle.pool_model.specs.declared.step.Step.TheVariants as steps;
     ghost use Rattle.pool_model.specs.declared.volume.PlainVolume.{PlainVolume};
     ghost use Rattle.pool_model.specs.Pools.{PlainPool, volume_at};
@@ -31,7 +25,9 @@ impl Intake {
     ghost use Rattle.volume_rules.specs.Covering.{IsCovered};
     ghost use Rattle.volume_rules.specs.Index.{Knows};
     ghost use Rattle.volume_rules.specs.NowMoves.{IsMadeBy};
+    ghost use Rattle.pool_model.specs.Names.{volume_part};
     ghost use Rattle.volume_rules.specs.Overlay.{base_of, HasRange};
+    ghost use Rattle.volume_rules.specs.Taken.{is_pending_snapshot};
     ghost use Rattle.pool_intake.specs.Follows.{Follows, TakesStep, TakesStepUnlessSuspended};
     ghost use Rattle.pool_intake.specs.Rest.{IsAtRest};
 
@@ -85,18 +81,22 @@ impl Intake {
     pub fn act(&mut self, alloc: Global, action: Action) -> Reply
         ensures { TakesStepUnlessSuspended self.old (steps.Act action) result self.new }
     {
-        if let Some(cause) = self.action_refusal(&action) {
-            return Reply::Refused(cause);
-        }
-        let Ok(()) = self.index.reserve() else {
+        let Ok(refusal) = self.action_refusal(alloc, &action) else {
             return Reply::Refused(Refusal::NoMemory);
         };
-        let Ok((name, shape)) = new_volume(alloc, &action.change, self.pipeline.open_group()) else {
+        if let Some(cause) = refusal {
+            return Reply::Refused(cause);
+        }
+        let group = self.pipeline.open_group();
+        let Ok(new) = self.index.made_by(alloc, group, &action.change) else {
+            return Reply::Refused(Refusal::NoMemory);
+        };
+        let Ok(()) = self.index.reserve() else {
             return Reply::Refused(Refusal::NoMemory);
         };
         match self.pipeline.accept(Item::Action(action)) {
             Ok(group) => {
-                self.index.add(name, shape);
+                self.index.add_new(new);
                 Reply::Receipt(group)
             }
             Err(cause) => Reply::Refused(Refusal::from(cause)),
@@ -208,7 +208,7 @@ impl Intake {
         requires { offset + length buffer.old ≤ shape.size }
         ensures laid { (v : View) (volume : PlainVolume) → Follows self.now v
             → volume_at name.now (now_of v) ≡ Some volume → shape_of volume ≡ shape →
-            HasRange buffer.old (base_of v name.now volume) offset
+            is_pending_snapshot v shape ≡ false → HasRange buffer.old (base_of v name.now volume) offset
             → HasRange buffer.new volume.bytes offset }
 
         // Where a pending write has the whole range, zeros may lie under it.
@@ -219,6 +219,35 @@ impl Intake {
             → HasRange buffer.new volume.bytes offset }
     {
         read_pending(&self.pipeline, shape, name, offset, buffer);
+    }
+
+    /// Whether it is the shape of a snapshot that isn't committed yet.
+    pub fn is_pending_snapshot(&self, shape: VolumeShape) -> bool
+        ensures { (v : View) → Follows self.now v → result ≡ is_pending_snapshot v shape }
+    {
+        shape.kind.is_snapshot() && self.pipeline.committed_group() < shape.group
+    }
+
+    /// Lays the pending writes up to a group over a range of the volume of this name, which has this shape in NOW: the buffer holds
+    /// the range of the bytes that lie under the volume's writes, as for `read_pending`, and then has the range of the bytes of the
+    /// snapshot of the volume that this pending group takes.
+    pub fn read_taken(
+        &self,
+        shape: VolumeShape,
+        name: &Name,
+        group: u64,
+        offset: u64,
+        buffer: &mut [u8],
+    )
+        requires { offset + length buffer.old ≤ shape.size }
+        ensures { (v : View) (taken : List ℕ) (snapshot volume : PlainVolume)
+            → Follows self.now v → volume_at taken (now_of v) ≡ Some snapshot
+            → volume_part taken ≡ name.now → is_pending_snapshot v (shape_of snapshot) ≡ true
+            → snapshot.group ≡ group → volume_at name.now (now_of v) ≡ Some volume
+            → shape_of volume ≡ shape → HasRange buffer.old (base_of v name.now volume) offset
+            → HasRange buffer.new snapshot.bytes offset }
+    {
+        read_taken(&self.pipeline, shape, name, group, offset, buffer);
     }
 
     /// Whether one pending write to the volume of this name, which has this shape in NOW, has every byte of the range.
@@ -241,37 +270,14 @@ impl Intake {
     }
 
     // Why an action is refused, by its writer's hold and number and by the names of NOW.
-    fn action_refusal(&self, action: &Action) -> Option<Refusal>
-        ensures { (v : View) → Follows self.now v → is_suspended v ≡ false
-            → result ≡ refusal_of v (steps.Act action.now) }
+    fn action_refusal(&self, alloc: Global, action: &Action) -> Result<Option<Refusal>, AllocError>
+        ensures { IfOk result (λ refusal. (v : View) → Follows self.now v
+            → is_suspended v ≡ false → refusal ≡ refusal_of v (steps.Act action.now)) }
     {
         match self.pipeline.admitted(action.writer, action.number) {
-            Ok(group) if group != self.pipeline.open_group() => Some(Refusal::NotNow),
-            Ok(_) => against_change(&action.change, self.index.find(action.change.name())),
-            Err(cause) => Some(Refusal::from(cause)),
-        }
-    }
-}
-
-// The name and the shape of the volume that a change makes in this group.
-fn new_volume(alloc: Global, change: &Change, group: u64) -> Result<(Name, VolumeShape), AllocError>
-    ensures { IfOk result
-        (λ volume. (change.now ≡ Create volume.0 volume.1.size volume.1.block_size)
-        × (volume.1.group ≡ group) × (volume.1.kind ≡ Volume)) }
-{
-    match change {
-        Change::Create {
-            name,
-            size,
-            block_size,
-        } => {
-            let shape = VolumeShape {
-                size: *size,
-                block_size: *block_size,
-                group,
-                kind: VolumeKind::Volume,
-            };
-            Ok((name.copied(alloc)?, shape))
+            Ok(group) if group != self.pipeline.open_group() => Ok(Some(Refusal::NotNow)),
+            Ok(_) => self.index.against(alloc, &action.change),
+            Err(cause) => Ok(Some(Refusal::from(cause))),
         }
     }
 }

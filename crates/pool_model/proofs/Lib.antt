@@ -1,4 +1,6 @@
 pub mod Causes
+pub mod Letters
+pub mod Placing
 pub mod Moves
 pub mod Plans
 pub mod Flows

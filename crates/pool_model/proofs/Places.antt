@@ -1,6 +1,6 @@
 -- Volumes by name: what a pool has at a name, and that its volumes ascend.
 use Rattle.std.proofs.Common.{◌≡◌, ℕ, zero, suc, ◌+◌, Bool, true, false, true≢false, List, [], ◌∷◌, map, Option, Some, None, refl, sym, ap, ◌∙◌, subst, arith}
-use Rattle.std.specs.Prelude.{cond, fold, find, is_some, not, insert, nat_le}
+use Rattle.std.specs.Prelude.{◌&&◌, cond, fold, find, is_some, not, insert, nat_le}
 use Rattle.std.specs.declared.cmp.Ordering.{Ordering}
 use Rattle.std.specs.declared.cmp.Ordering.TheVariants.{Less, Equal, Greater}
 use Rattle.std.specs.Cmp.Lexicographic.{slice_cmp}
@@ -13,11 +13,11 @@ use Rattle.std.proofs.lemmas.Map.Text.{is_eq-slice_cmp}
 use Rattle.std.proofs.lemmas.Slice.Eq.{bytes_eq-Decides}
 use Rattle.pool_model.specs.declared.item.Action.{Action}
 use Rattle.pool_model.specs.declared.item.Change.{Change}
-use Rattle.pool_model.specs.declared.item.Change.TheVariants.{Create}
+use Rattle.pool_model.specs.declared.item.Change.TheVariants.{Create, Snapshot}
 use Rattle.pool_model.specs.declared.item.Write.{Write}
 use Rattle.pool_model.specs.declared.volume.PlainVolume.{PlainVolume}
-use Rattle.pool_model.specs.Names.{same, is_before, stored}
-use Rattle.pool_model.specs.Pools.{PlainPool, Entry, Ledger, AreAscending, volume_at, volume_after, written, created, placed, with_volume, changed, applied, upto}
+use Rattle.pool_model.specs.Names.{same, is_before, stored, snapshot_name}
+use Rattle.pool_model.specs.Pools.{PlainPool, Entry, Ledger, AreAscending, volume_at, volume_after, written, created, is_snapshot, placed, snapshot_of, with_snapshot, with_volume, changed, applied, upto}
 
 -- ---- names
 
@@ -120,7 +120,7 @@ volume_more pool volume name = cases (volume_at volume.name pool) refl
         ∙ find_put volume name pool.volumes (λ s. ap (λ n. volume_at n pool) (sym (same_is volume.name name s)) ∙ e))
 
 pub name_after : (w : Write) (volume : PlainVolume) → (volume_after w volume).name ≡ volume.name
-name_after w volume = elim (same volume.name w.volume) as (λ b. (cond b (record volume { bytes = stored w.offset w.bytes volume.bytes }) volume).name ≡ volume.name) [ true ↦ refl | false ↦ refl ]
+name_after w volume = elim (same volume.name w.volume && not (is_snapshot volume.kind)) as (λ b. (cond b (record volume { bytes = stored w.offset w.bytes volume.bytes }) volume).name ≡ volume.name) [ true ↦ refl | false ↦ refl ]
 
 -- the volume of a name after a write is its volume after the write
 pub volume_written : (pool : PlainPool) (w : Write) (name : List ℕ) → volume_at name (written pool w) ≡ option_map (volume_after w) (volume_at name pool)
@@ -179,6 +179,14 @@ ascending_writes pool (w ∷ writes) up = ascending_writes (written pool w) writ
 
 ascending_changed : (group : ℕ) (pool : PlainPool) (change : Change) → AreAscending pool.volumes → AreAscending (changed group pool change).volumes
 ascending_changed group pool (Create name size block_size) up = ascending_more pool (created group name size block_size) up
+ascending_changed group pool (Snapshot volume part) up = taken (volume_at volume pool)
+  where
+    taken : (found : Option PlainVolume) → AreAscending (with_snapshot group (snapshot_name volume part) found pool).volumes
+    taken None = up
+    taken (Some it) = elim (is_snapshot it.kind) as (λ b. AreAscending (cond b pool (with_volume (snapshot_of group (snapshot_name volume part) it) pool)).volumes) [
+      | true ↦ up
+      | false ↦ ascending_more pool (snapshot_of group (snapshot_name volume part) it) up
+    ]
 
 ascending_actions : (group : ℕ) (pool : PlainPool) (actions : List Action) → AreAscending pool.volumes → AreAscending (fold (λ p a. changed group p a.change) pool actions).volumes
 ascending_actions group pool [] up = up

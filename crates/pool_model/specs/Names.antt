@@ -1,10 +1,12 @@
 -- Names and bytes as lists.
 use Rattle.std.specs.Prelude.{ℕ, ◌+◌, List, [], ◌∷◌, ◌++◌, length, take, drop, Bool, false, nat_eq, nat_le, ◌==◌, ◌&&◌, ◌||◌, if◌then◌else◌}
-use Rattle.std.specs.List.{list_all, list_any}
+use Rattle.std.specs.List.{list_all, list_any, position_or_len}
 use Rattle.std.specs.Cmp.Lexicographic.{pointwise, slice_cmp}
 use Rattle.std.specs.Ordering.{nat_cmp, is_lt}
 use Rattle.pool_model.specs.declared.item.Change.{Change}
-use Rattle.pool_model.specs.declared.item.Change.TheVariants.{Create}
+use Rattle.pool_model.specs.declared.item.Change.TheVariants.{Create, Snapshot}
+use Rattle.pool_model.specs.declared.volume.VolumeKind.{VolumeKind}
+use Rattle.pool_model.specs.declared.volume.VolumeKind.TheVariants.{Volume, Snapshot as SnapshotKind}
 
 -- whether two names are the same
 abbrev pub same : List ℕ → List ℕ → Bool
@@ -34,6 +36,29 @@ is_name (c ∷ cs) = is_letter c && (nat_le (length cs) 26 && list_all is_name_l
 abbrev pub is_block_size : ℕ → Bool
 is_block_size n = list_any (λ size. n == size) (512 ∷ 1024 ∷ 2048 ∷ 4096 ∷ 8192 ∷ 16384 ∷ 32768 ∷ 65536 ∷ 131072 ∷ [])
 
--- the name of the volume that a change is of
+-- the name of a volume's snapshot: the volume's, an '@', and the snapshot's part
+abbrev pub snapshot_name : List ℕ → List ℕ → List ℕ
+snapshot_name volume part = volume ++ 64 ∷ part
+
+-- whether it is the name of a snapshot: it has an '@'
+abbrev pub is_snapshot_name : List ℕ → Bool
+is_snapshot_name name = list_any (λ c. c == 64) name
+
+-- the name of the volume that a snapshot is of: what is before the first '@'
+abbrev pub volume_part : List ℕ → List ℕ
+volume_part name = take (position_or_len (λ c. c == 64) name) name
+
+-- whether something of that kind may have the name: a volume a name, a snapshot one of a volume's snapshot
+abbrev pub is_name_for : VolumeKind → List ℕ → Bool
+is_name_for Volume name = is_name name
+is_name_for SnapshotKind name = is_name (volume_part name) && is_snapshot_name name
+
+-- the name that a change makes
 abbrev pub name_of : Change → List ℕ
 name_of (Create name size block_size) = name
+name_of (Snapshot volume part) = snapshot_name volume part
+
+-- the name of the volume that a change is of: the new one, or the one that a snapshot is taken of
+abbrev pub volume_of : Change → List ℕ
+volume_of (Create name size block_size) = name
+volume_of (Snapshot volume part) = volume

@@ -1,16 +1,17 @@
 -- Plain pools, and what the items of a group make of them.
-use Rattle.std.specs.Prelude.{ℕ, zero, suc, List, [], map, fold, find, insert, replicate, Option, is_some, nat_le, if◌then◌else◌}
+use Rattle.std.specs.Prelude.{ℕ, zero, suc, Bool, true, false, not, ◌&&◌, List, [], map, fold, find, insert, replicate, Option, Some, None, is_some, nat_le, if◌then◌else◌}
 use Rattle.std.specs.Cmp.Lexicographic.{slice_cmp}
 use Rattle.std.specs.List.{position_or_len}
 use Rattle.std.specs.List.Sorted.{IsStrictlySortedBy}
 use Rattle.std.specs.Ordering.{nat_cmp}
 use Rattle.pool_model.specs.declared.item.Action.{Action}
 use Rattle.pool_model.specs.declared.item.Change.{Change}
-use Rattle.pool_model.specs.declared.item.Change.TheVariants.{Create}
+use Rattle.pool_model.specs.declared.item.Change.TheVariants.{Create, Snapshot as TakeSnapshot}
 use Rattle.pool_model.specs.declared.item.Write.{Write}
 use Rattle.pool_model.specs.declared.volume.PlainVolume.{PlainVolume}
-use Rattle.pool_model.specs.declared.volume.VolumeKind.TheVariants.{Volume}
-use Rattle.pool_model.specs.Names.{same, is_before, stored}
+use Rattle.pool_model.specs.declared.volume.VolumeKind.{VolumeKind}
+use Rattle.pool_model.specs.declared.volume.VolumeKind.TheVariants.{Volume, Snapshot}
+use Rattle.pool_model.specs.Names.{same, is_before, stored, snapshot_name}
 
 -- A map from names to volumes, as the list of its volumes in the order of their names. What it has at a name is `volume_at`.
 pub record PlainPool : Type 0 where
@@ -27,9 +28,13 @@ AreAscending volumes = IsStrictlySortedBy (slice_cmp nat_cmp) (map (λ v. v.name
 abbrev pub volume_at : List ℕ → PlainPool → Option PlainVolume
 volume_at name pool = find (λ v. same v.name name) pool.volumes
 
--- a volume after a write: the one that is named has the bytes at their offset
+abbrev pub is_snapshot : VolumeKind → Bool
+is_snapshot Volume = false
+is_snapshot Snapshot = true
+
+-- a volume after a write: the one that is named has the bytes at their offset; a snapshot stays as it is
 abbrev pub volume_after : Write → PlainVolume → PlainVolume
-volume_after w v = if same v.name w.volume then record v { bytes = stored w.offset w.bytes v.bytes } else v
+volume_after w v = if same v.name w.volume && not (is_snapshot v.kind) then record v { bytes = stored w.offset w.bytes v.bytes } else v
 
 -- the pool after a write
 abbrev pub written : PlainPool → Write → PlainPool
@@ -47,9 +52,19 @@ placed volume volumes = insert volumes (position_or_len (λ v. is_before volume.
 abbrev pub with_volume : PlainVolume → PlainPool → PlainPool
 with_volume volume pool = if is_some (volume_at volume.name pool) then pool else record pool { volumes = placed volume pool.volumes }
 
+-- a snapshot has what its volume has, and the group that takes it is its creation group
+abbrev pub snapshot_of : ℕ → List ℕ → PlainVolume → PlainVolume
+snapshot_of group name volume = record volume { name = name; group = group; kind = Snapshot }
+
+-- the pool and a snapshot of this volume, unless there is none or it is a snapshot itself
+abbrev pub with_snapshot : ℕ → List ℕ → Option PlainVolume → PlainPool → PlainPool
+with_snapshot group name None pool = pool
+with_snapshot group name (Some volume) pool = if is_snapshot volume.kind then pool else with_volume (snapshot_of group name volume) pool
+
 -- the pool after a change that a group takes
 abbrev pub changed : ℕ → PlainPool → Change → PlainPool
 changed group pool (Create name size block_size) = with_volume (created group name size block_size) pool
+changed group pool (TakeSnapshot volume part) = with_snapshot group (snapshot_name volume part) (volume_at volume pool) pool
 
 -- what a group has accepted, each kind in the order accepted
 pub record Entry : Type 0 where

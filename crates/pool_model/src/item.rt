@@ -1,8 +1,9 @@
 //! What writers ask for: writes and actions.
-ghost use Rattle.std.specs.Prelude.{◌≡◌};
-ghost use Rattle.pool_model.specs.Names.{name_of};
+ghost use Rattle.std.specs.Prelude.{◌≡◌, IfOk};
+ghost use Rattle.pool_model.specs.Names.{name_of, volume_of};
 
 use crate::text::{Bytes, Name};
+use std::alloc::{AllocError, Global};
 
 /// Bytes to be written to a volume, under the writer's hold.
 #[derive(Debug, Drop)]
@@ -27,15 +28,31 @@ pub enum Change {
         /// In bytes, a power of two from 512 to 131,072.
         block_size: u64,
     },
+    /// Keeps what a volume has after the group's writes, under the name `volume@part`.
+    Snapshot {
+        volume: Name,
+        part: Name,
+    },
 }
 
 impl Change {
-    /// The name of the volume that the change is of.
-    pub fn name(&self) -> &Name
-        ensures { result.now ≡ name_of self.now }
+    /// The name that the change makes: of a snapshot that of its volume, an '@' and its part.
+    pub fn name(&self, alloc: Global) -> Result<Name, AllocError>
+        ensures { IfOk result (λ name. name ≡ name_of self.now) }
+    {
+        match self {
+            Change::Create { name, .. } => name.copied(alloc),
+            Change::Snapshot { volume, part } => volume.with_part(alloc, part),
+        }
+    }
+
+    /// The name of the volume that the change is of: the new one's, or the one that a snapshot is taken of.
+    pub fn volume(&self) -> &Name
+        ensures { result.now ≡ volume_of self.now }
     {
         match self {
             Change::Create { name, .. } => name,
+            Change::Snapshot { volume, .. } => volume,
         }
     }
 }

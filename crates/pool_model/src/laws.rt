@@ -1,5 +1,5 @@
 //! Laws of the machine, over every run: functions with no code, whose contracts are proved of the definitions.
-ghost use Rattle.std.specs.Prelude.{ℕ, suc, List, [], ◌∷◌, ◌++◌, Contains, ◌≡◌, ◌⊎◌, false, Some, None, if◌then◌else◌};
+ghost use Rattle.std.specs.Prelude.{ℕ, suc, List, [], ◌∷◌, ◌++◌, Contains, ◌≡◌, ◌⊎◌, false, true, Some, None, if◌then◌else◌};
 ghost use Rattle.std.specs.Option.{option_map, option_or};
 ghost use Rattle.pool_model.specs.declared.step.Phase.{Phase};
 ghost use Rattle.pool_model.specs.declared.step.Step.{Step};
@@ -9,7 +9,7 @@ ghost use Rattle.pool_model.specs.declared.step.Reply.TheVariants.{Held, Receipt
 ghost use Rattle.pool_model.specs.declared.item.Action.{Action};
 ghost use Rattle.pool_model.specs.declared.item.Write.{Write};
 ghost use Rattle.pool_model.specs.declared.volume.PlainVolume.{PlainVolume};
-ghost use Rattle.pool_model.specs.Names.{same};
+ghost use Rattle.pool_model.specs.Names.{same, is_name, is_snapshot_name, snapshot_name, volume_part};
 ghost use Rattle.pool_model.specs.Pools.{PlainPool, Entry, Ledger, AreAscending, volume_at, volume_after, written, with_volume, applied, upto};
 ghost use Rattle.pool_model.specs.View.{View, Given, Vdev, DueCall, Unplanned, Due, nothing_given, started, is_planned, open_group, waiting_group};
 ghost use Rattle.pool_model.specs.Refusals.{refusal_of};
@@ -121,6 +121,15 @@ pub fn pools_are_maps()
     ensures more { (pool : PlainPool) (volume : PlainVolume) (name : List ℕ) →
         volume_at name (with_volume volume pool)
         ≡ option_or (volume_at name pool) (if same volume.name name then Some volume else None) }
+{}
+
+/// The name of a snapshot has an '@', and that of a volume has none: so it tells the volume.
+pub fn names_tell_snapshots()
+    ensures volumes { (name : List ℕ) → is_name name ≡ true → is_snapshot_name name ≡ false }
+    ensures snapshots { (volume part : List ℕ) →
+        is_snapshot_name (snapshot_name volume part) ≡ true }
+    ensures parts { (volume part : List ℕ) → is_name volume ≡ true →
+        volume_part (snapshot_name volume part) ≡ volume }
 {}
 
 /// The volumes of a pool ascend by name: so they do at the start, and after each group where they did before it. Two such

@@ -16,9 +16,9 @@ pub use group::{Holder, Stage};
 pub use item::{Action, Change, Item, Write};
 pub use laws::{
     commits_leave_no_call, dropped_plans_leave_their_groups, flows_are_once_in_order,
-    headline_of_runs, plans_are_made_by_their_commit, pools_are_maps, pools_ascend_by_name,
-    runs_keep_flows_sound, runs_keep_views_sound, steps_follow_runs, steps_move_groups,
-    steps_without_a_cause_may_be_answered,
+    headline_of_runs, names_tell_snapshots, plans_are_made_by_their_commit, pools_are_maps,
+    pools_ascend_by_name, runs_keep_flows_sound, runs_keep_views_sound, steps_follow_runs,
+    steps_move_groups, steps_without_a_cause_may_be_answered,
 };
 pub use refusal::Refusal;
 pub use step::{Phase, Reply, Step};

@@ -1,6 +1,6 @@
 //! Names and bytes, which a contract sees as lists.
 ghost use Rattle.std.specs.Prelude.{◌≡◌, ◌==◌, IfOk};
-ghost use Rattle.pool_model.specs.Names.{same, is_before};
+ghost use Rattle.pool_model.specs.Names.{same, is_before, is_snapshot_name, snapshot_name, volume_part};
 
 use std::alloc::{AllocError, Global};
 use std::marker::Model;
@@ -62,6 +62,36 @@ impl Name {
     {
         let letters = Vec::from_slice(alloc, self.letters.as_slice())?;
         Ok(Name { letters })
+    }
+
+    /// The name of the snapshot of this volume that has this part: `volume@part`.
+    pub fn with_part(&self, alloc: Global, part: &Name) -> Result<Name, AllocError>
+        ensures { IfOk result (λ name. name ≡ snapshot_name self.now part.now) }
+    {
+        let mut letters = Vec::from_slice(alloc, self.letters.as_slice())?;
+        letters.push(b'@')?;
+        letters.extend_from_slice(part.letters.as_slice())?;
+        Ok(Name { letters })
+    }
+
+    /// The name of the volume that a snapshot of this name is of: what is before the first '@'.
+    pub fn volume_part(&self, alloc: Global) -> Result<Name, AllocError>
+        ensures { IfOk result (λ name. name ≡ volume_part self.now) }
+    {
+        let letters = self.letters.as_slice();
+        let end = letters
+            .iter()
+            .position(|c| *c == b'@')
+            .unwrap_or(letters.len());
+        let letters = Vec::from_slice(alloc, &letters[..end])?;
+        Ok(Name { letters })
+    }
+
+    /// Whether it is the name of a snapshot: it has an '@'.
+    pub fn is_of_snapshot(&self) -> bool
+        ensures { result ≡ is_snapshot_name self.now }
+    {
+        self.letters.as_slice().iter().any(|c| *c == b'@')
     }
 }
 

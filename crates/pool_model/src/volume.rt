@@ -6,6 +6,22 @@ use crate::text::{Bytes, Name};
 pub enum VolumeKind {
     /// A volume that was made with zeros, and that writers may write.
     Volume,
+    /// What a volume had when the snapshot was taken of it. It stays as it is.
+    Snapshot,
+}
+
+impl VolumeKind {
+    ghost use Rattle.std.specs.Prelude.{◌≡◌};
+    ghost use Rattle.pool_model.specs.Pools.{is_snapshot};
+
+    pub fn is_snapshot(self) -> bool
+        ensures { result ≡ is_snapshot self }
+    {
+        match self {
+            VolumeKind::Volume => false,
+            VolumeKind::Snapshot => true,
+        }
+    }
 }
 
 /// A volume as one array of bytes.
@@ -15,7 +31,7 @@ pub struct PlainVolume {
     pub bytes: Bytes,
     /// In bytes.
     pub block_size: u64,
-    /// The group that made it.
+    /// The group that made it, or took it.
     pub group: u64,
     pub kind: VolumeKind,
 }

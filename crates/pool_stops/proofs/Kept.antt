@@ -34,6 +34,7 @@ use Rattle.pool_open.specs.Trees.{IsTreeOf}
 use Rattle.pool_open.proofs.Holding.{alike_stores_hold_alike}
 use Rattle.pool_slots.specs.Possible.{TreeStands}
 use Rattle.volume_rules.specs.NowMoves.{IsMadeBy}
+use Rattle.volume_rules.specs.GoodChanges.{MakesGoodVolumes}
 use Rattle.volume_rules.proofs.Overlays.{made_by_applied}
 use Rattle.pool_stops.specs.Filled.{is_filled, is_for_blocks}
 use Rattle.pool_stops.specs.Running.{IsOfKept, IsWhole}
@@ -190,8 +191,9 @@ planned_stand s stored planned block bytes i extent none written plans known cop
 
 -- all bytes for blocks are the tree of a planned group, once no write is due
 pub plan_tree : (s : State) (v : View) (plan : Planned) → Backs s v → IsWhole s → s.planned ≡ Some plan → s.store.due ≡ [] → IsMadeBy v.committed (v.pools v.committed)
+    → MakesGoodVolumes (v.ledger (suc v.committed))
     → WholeTreeOf (block_trees s.store.spaces s.store.disks) s.store.disks.starts (shapes_of s.store.spaces) s.store.out plan.uberblock (pool_after v)
-plan_tree s v plan backs whole is written made =
+plan_tree s v plan backs whole is written made good =
     let has : HasPlan s backs.blocks.planned plan v = subst (λ (o : Option Planned). IsPlanOf s backs.blocks.planned o v) is backs.blocks.plan in
     let none : outs s.store ≡ [] = no_outs s whole.none in
     let planned : Contents = backs.blocks.planned in
@@ -210,7 +212,7 @@ plan_tree s v plan backs whole is written made =
       spells = mapped.0;
       mapped = mapped.1;
       made = subst (λ (u : Uberblock). IsMadeBy u.group (pool_after v)) (sym has.uberblock.is)
-          (made_by_applied v.committed (v.pools v.committed) (v.ledger (suc v.committed)) made);
+          (made_by_applied v.committed (v.pools v.committed) (v.ledger (suc v.committed)) made good);
       held = λ disks same tree.
           hold_over s.store disks planned none plans.placed.blocks places
           (λ block bytes i extent known copy.

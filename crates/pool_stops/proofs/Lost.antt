@@ -17,7 +17,7 @@ use Rattle.meta_objset.specs.Reading.{directory_kind}
 use Rattle.meta_objset.specs.SpaceMaps.{maps_kind}
 use Rattle.object_table.proofs.Losses.{table_lost}
 use Rattle.objset.proofs.Losses.{set_walk_lost}
-use Rattle.dataset_snapshots.specs.Contents.{AreContentsRefused, AreNamesRefused, IsRootUnread, IsShapeRefused}
+use Rattle.dataset_snapshots.specs.Contents.{AreContentsRefused, AreNamesRefused, IsRootUnread}
 use Rattle.dataset_snapshots.specs.Finding.{IsDirectoryRefused}
 use Rattle.dataset_snapshots.specs.Reach.{IsMetaWalkRefused}
 use Rattle.dataset_snapshots.proofs.Losses.{meta_lost}
@@ -35,10 +35,6 @@ directory_lost : (old new : Store) (birth : ℕ) (root : Block) (refusal : Refus
 directory_lost old new birth root refusal directory is =
     lost_behind_reads old directory.mid new [] directory.before (rows_lost directory.mid new [] directory.set root.birth directory_kind 1 AreDirectoryRows refusal directory.why is)
 
-shape_lost : (old new : Store) (set : ObjectSet) (birth object : ℕ) (refusal : Refusal) → IsShapeRefused old new [] set birth object refusal → refusal ≡ DiskFault → IsBlockLost old new []
-shape_lost old new set birth object refusal (inl of_record) is = record_lost old new [] set birth object refusal of_record is
-shape_lost old new set birth object refusal (inr (bad, other)) is = absurd (cc)
-
 names_lost : (old new : Store) (birth : ℕ) (root : Block) (rows : List DirectoryRow) (refusal : Refusal) → AreNamesRefused old new [] birth root rows refusal → refusal ≡ DiskFault
     → IsBlockLost old new []
 names_lost old new birth root rows refusal (inl memory) is = absurd (cc)
@@ -46,7 +42,7 @@ names_lost old new birth root rows refusal (inr (inl refused)) is = meta_lost ol
 names_lost old new birth root rows refusal (inr (inr unnamed)) is =
     let row = unnamed.why in
     lost_behind_reads old unnamed.mid new [] unnamed.first
-    (lost_behind_reads unnamed.mid row.mid new [] row.reads (shape_lost row.mid new unnamed.set root.birth row.row.object refusal row.why is))
+    (lost_behind_reads unnamed.mid row.mid new [] row.reads (record_lost row.mid new [] unnamed.set root.birth row.row.object refusal row.why is))
 
 -- the meta object set was not walked
 meta_walk_lost : (old new : Store) (birth : ℕ) (root : Block) (before after : ℕ) (refusal : Refusal) → IsMetaWalkRefused old new [] birth root before after refusal → refusal ≡ DiskFault

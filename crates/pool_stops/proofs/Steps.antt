@@ -173,7 +173,7 @@ stops_in_slots old v new plan last before runs is group written always =
     λ u reach. kept_tree_too s u (pool_of v u) (tree_with s v last before old refl runs u reach) in
     let planned : Tree plan.uberblock (pool_of v plan.uberblock) =
     subst (λ (pool : PlainPool). Tree plan.uberblock pool) (sym (pool_of_next v plan.uberblock group))
-    (plan_tree s v plan runs.represents.backs runs.whole is written runs.represents.follows.made) in
+    (plan_tree s v plan runs.represents.backs runs.whole is written runs.represents.follows.made (runs.represents.follows.good (suc v.committed))) in
     let each : (u : Uberblock) → IsInReach (last_or last before plan.uberblock) u → Tree u (pool_of v u) = λ u reach. ⊎_elim
     (λ among. ⊎_elim
     (λ same. subst (λ (x : Uberblock). Tree x (pool_of v x)) (sym same) (kept last (last_in_reach last before)))

@@ -1,13 +1,13 @@
 //! What the commands of a schedule do to a pool.
 ghost use Rattle.std.specs.Prelude.{◌≡◌, ℕ, MatchOption, IfOk, OnErr};
 ghost use Rattle.pool_model.specs.declared.step.Step.TheVariants as step;
-ghost use Rattle.programs.specs.Answers.{Answers, Begins, IsNoStep, RunsOn, action_of, next_of, runs_on, write_of};
+ghost use Rattle.programs.specs.Answers.{Answers, Begins, IsNoStep, RunsOn, action_of, next_of, runs_on, snapshot_by, write_of};
 ghost use Rattle.programs.specs.Lengths.{StandsFor};
 
 use crate::machine::StepMachine;
 use crate::written::written_len;
 use pool_model::{Action, Bytes, Change, Reply, Step, Write};
-use schedule_lines::{Command, CreateLine, ReadLine, UnderLine, WriteLine};
+use schedule_lines::{Command, CreateLine, ReadLine, SnapshotLine, UnderLine, WriteLine};
 use std::alloc::{AllocError, Global};
 
 // A schedule tells no time.
@@ -37,6 +37,19 @@ fn create_step(line: CreateLine) -> Step
             name: line.volume,
             size: line.size,
             block_size: line.block_size,
+        },
+    })
+}
+
+fn snapshot_step(line: SnapshotLine) -> Step
+    ensures { result ≡ step.Act (snapshot_by line) }
+{
+    Step::Act(Action {
+        writer: line.writer,
+        number: line.number,
+        change: Change::Snapshot {
+            volume: line.volume,
+            part: line.part,
         },
     })
 }
@@ -72,6 +85,7 @@ pub(crate) fn first_step(alloc: Global, command: Command) -> Result<Option<Step>
         Command::Release { writer } => Step::Release(writer),
         Command::Write(line) => write_step(alloc, line)?,
         Command::Create(line) => create_step(line),
+        Command::Snapshot(line) => snapshot_step(line),
         Command::Close | Command::Sync => Step::Close,
         Command::Quiesced => Step::Quiesce,
         Command::Plan | Command::Commit => Step::Plan {

@@ -9,12 +9,13 @@ use Rattle.schedule_lines.specs.declared.refusal.Refusal.TheVariants.{Fault, NoM
 use Rattle.schedule_lines.specs.declared.command.Line.{Line}
 use Rattle.schedule_lines.specs.declared.command.Line.TheVariants.{Skipped, Command as CommandLine}
 use Rattle.schedule_lines.specs.declared.command.Command.{Command}
-use Rattle.schedule_lines.specs.declared.command.Command.TheVariants.{Pool, Hold, Release, Write, Create, Close, Quiesced, Plan, Device, Commit, Sync, Read, Under, Stop, Reopen}
+use Rattle.schedule_lines.specs.declared.command.Command.TheVariants.{Pool, Hold, Release, Write, Create, Snapshot, Close, Quiesced, Plan, Device, Commit, Sync, Read, Under, Stop, Reopen}
 use Rattle.schedule_lines.specs.declared.command.StopPoint.{StopPoint}
 use Rattle.schedule_lines.specs.declared.command.StopPoint.TheVariants.{Blocks, Slots, Claim}
 use Rattle.schedule_lines.specs.declared.command.PoolLine.{PoolLine}
 use Rattle.schedule_lines.specs.declared.command.WriteLine.{WriteLine}
 use Rattle.schedule_lines.specs.declared.command.CreateLine.{CreateLine}
+use Rattle.schedule_lines.specs.declared.command.SnapshotLine.{SnapshotLine}
 use Rattle.schedule_lines.specs.declared.command.ReadLine.{ReadLine}
 use Rattle.schedule_lines.specs.declared.command.UnderLine.{UnderLine}
 use Rattle.schedule_lines.specs.declared.command.ReopenLine.{ReopenLine}
@@ -100,6 +101,14 @@ create_at words = do
   block_size ← number_at (2 ^ 64) size.1
   Some (record { writer = writer.0; number = number.0; volume = volume.0; size = size.0; block_size = block_size.0 }, block_size.1)
 
+unfoldable pub snapshot_at : Parse SnapshotLine
+snapshot_at words = do
+  writer ← number_at (2 ^ 32) words
+  number ← number_at (2 ^ 64) writer.1
+  volume ← name_at number.1
+  part ← name_at volume.1
+  Some (record { writer = writer.0; number = number.0; volume = volume.0; part = part.0 }, part.1)
+
 unfoldable pub read_at : Parse ReadLine
 read_at words = do
   name ← name_at words
@@ -156,6 +165,7 @@ command_at keyword.Hold words = of_read Hold (number_at (2 ^ 32) words)
 command_at keyword.Release words = of_read Release (number_at (2 ^ 32) words)
 command_at keyword.Write words = of_read Write (write_at words)
 command_at keyword.Create words = of_read Create (create_at words)
+command_at keyword.Snapshot words = of_read Snapshot (snapshot_at words)
 command_at keyword.Close words = Some (Close, words)
 command_at keyword.Quiesced words = Some (Quiesced, words)
 command_at keyword.Plan words = Some (Plan, words)

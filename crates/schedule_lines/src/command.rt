@@ -18,6 +18,7 @@ pub enum Command {
     Release { writer: u32 },
     Write(WriteLine),
     Create(CreateLine),
+    Snapshot(SnapshotLine),
     Close,
     Quiesced,
     Plan,
@@ -71,6 +72,17 @@ pub struct CreateLine {
     pub size: u64,
     /// In bytes.
     pub block_size: u64,
+}
+
+/// A snapshot of a volume, taken as a writer's item.
+#[derive(Debug, Drop)]
+pub struct SnapshotLine {
+    pub writer: u32,
+    /// The item's number.
+    pub number: u64,
+    pub volume: Name,
+    /// What stands behind the '@' in the snapshot's name.
+    pub part: Name,
 }
 
 /// A range of what all accepted groups make.

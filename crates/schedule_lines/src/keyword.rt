@@ -10,6 +10,7 @@ pub(crate) enum Keyword {
     Release,
     Write,
     Create,
+    Snapshot,
     Close,
     Quiesced,
     Plan,
@@ -23,12 +24,13 @@ pub(crate) enum Keyword {
 }
 
 impl Keyword {
-    const ALL: [Keyword; 15] = [
+    const ALL: [Keyword; 16] = [
         Keyword::Pool,
         Keyword::Hold,
         Keyword::Release,
         Keyword::Write,
         Keyword::Create,
+        Keyword::Snapshot,
         Keyword::Close,
         Keyword::Quiesced,
         Keyword::Plan,
@@ -50,6 +52,7 @@ impl Keyword {
             Keyword::Release => "release",
             Keyword::Write => "write",
             Keyword::Create => "create",
+            Keyword::Snapshot => "snapshot",
             Keyword::Close => "close",
             Keyword::Quiesced => "quiesced",
             Keyword::Plan => "plan",

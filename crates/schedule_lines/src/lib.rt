@@ -13,7 +13,8 @@ mod reply;
 mod words;
 
 pub use command::{
-    Command, CreateLine, Line, PoolLine, ReadLine, ReopenLine, StopPoint, UnderLine, WriteLine,
+    Command, CreateLine, Line, PoolLine, ReadLine, ReopenLine, SnapshotLine, StopPoint, UnderLine,
+    WriteLine,
 };
 pub use disk_numbers::DiskNumbers;
 pub use equal_bytes::{Run, runs, runs_text};

@@ -2,10 +2,11 @@
 ghost use Rattle.std.specs.Prelude.{◌≡◌, ◌⊎◌, List, ℕ, IfOk, Ok, Err};
 ghost use Rattle.schedule_lines.specs.declared.command.Line.{Line};
 ghost use Rattle.schedule_lines.specs.Grammar.{Spells};
-ghost use Rattle.schedule_lines.specs.Reading.{Gives, pool_at, write_at, create_at, read_at, under_at, stop_at, numbers_at, reopen_at, command_at, line_of};
+ghost use Rattle.schedule_lines.specs.Reading.{Gives, pool_at, write_at, create_at, snapshot_at, read_at, under_at, stop_at, numbers_at, reopen_at, command_at, line_of};
 
 use crate::command::{
-    Command, CreateLine, Line, PoolLine, ReadLine, ReopenLine, StopPoint, UnderLine, WriteLine,
+    Command, CreateLine, Line, PoolLine, ReadLine, ReopenLine, SnapshotLine, StopPoint, UnderLine,
+    WriteLine,
 };
 use crate::disk_numbers::DiskNumbers;
 use crate::keyword::Keyword;
@@ -50,6 +51,18 @@ fn create(alloc: Global, words: &mut Words) -> Result<CreateLine, Refusal>
         volume: words.name(alloc)?,
         size: words.number64()?,
         block_size: words.number64()?,
+    })
+}
+
+#[tactic(auto, unfolding(crate::specs::Reading::snapshot_at))]
+fn snapshot(alloc: Global, words: &mut Words) -> Result<SnapshotLine, Refusal>
+    ensures { Gives (λ snapshot. (snapshot, words.new)) result (snapshot_at words.old) }
+{
+    Ok(SnapshotLine {
+        writer: words.number32()?,
+        number: words.number64()?,
+        volume: words.name(alloc)?,
+        part: words.name(alloc)?,
     })
 }
 
@@ -132,6 +145,7 @@ fn command(alloc: Global, keyword: Keyword, words: &mut Words) -> Result<Command
         },
         Keyword::Write => Command::Write(write(alloc, words)?),
         Keyword::Create => Command::Create(create(alloc, words)?),
+        Keyword::Snapshot => Command::Snapshot(snapshot(alloc, words)?),
         Keyword::Close => Command::Close,
         Keyword::Quiesced => Command::Quiesced,
         Keyword::Plan => Command::Plan,

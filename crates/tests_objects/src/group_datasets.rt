@@ -29,7 +29,7 @@ fn creation(alloc: Global) -> Result<[Action; 1], Fail> {
 fn made(store: &mut Store, alloc: Global) -> Result<GroupDatasets, Fail> {
     let actions = creation(alloc)?;
     let mut datasets = GroupDatasets::new(alloc, EMPTY, 1, Directory::new(alloc));
-    datasets.create_all(store, alloc, 1, &actions)?;
+    datasets.act_all(store, alloc, 1, &actions)?;
     store_plan(store);
     Ok(datasets)
 }

@@ -405,7 +405,8 @@ fn change_cause(
     let change = create(alloc, volume, size, block_size)?;
     let mut index = NameIndex::new(alloc);
     add(alloc, &mut index, "v", SHAPE)?;
-    Ok(against_change(&change, index.find(change.name())))
+    let found = index.find(change.volume());
+    Ok(against_change(&change, found, found))
 }
 
 /// The name of a volume that is made, its size, that of its blocks, and why it is refused, if it is.

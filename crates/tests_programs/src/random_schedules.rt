@@ -27,6 +27,9 @@ const FIRST_LINES: [&str; 6] = [
 /// Names of volumes, one of them seldom and one that no volume may have.
 const NAMES: [&str; 11] = ["v", "w", "x", "v", "w", "x", "v", "w", "x", "seldom", "A"];
 
+/// Names of snapshots, behind those of the volumes.
+const PARTS: [&str; 4] = ["a", "b", "c", "d"];
+
 /// Sizes of blocks, two of which no volume may have.
 const BLOCK_SIZES: [u64; 6] = [512, 1024, 512, 1024, 768, 256];
 
@@ -108,8 +111,9 @@ impl Writers {
         let block_size = BLOCK_SIZES[self.dice.below(6) as usize];
         let group = self.group();
         let name = NAMES[self.dice.below(11) as usize];
+        let part = PARTS[self.dice.below(4) as usize];
         let (offset, len) = self.dice.range();
-        Ok(match self.dice.below(39) {
+        Ok(match self.dice.below(44) {
             0..=4 => format!(in alloc; "hold {writer}")?,
             5..=10 => format!(in alloc; "release {writer}")?,
             11..=19 => format!(in alloc;
@@ -120,7 +124,10 @@ impl Writers {
             24..=27 => format!(in alloc; "quiesced")?,
             28..=31 => format!(in alloc; "commit")?,
             32..=35 => format!(in alloc; "read {name} {offset} {len}")?,
-            _ => format!(in alloc; "under {group} {name} {offset} {len}")?,
+            36..=38 => format!(in alloc; "under {group} {name} {offset} {len}")?,
+            39..=40 => format!(in alloc; "snapshot {writer} {number} {name} {part}")?,
+            41..=42 => format!(in alloc; "read {name}@{part} {offset} {len}")?,
+            _ => format!(in alloc; "under {group} {name}@{part} {offset} {len}")?,
         })
     }
 

@@ -49,6 +49,7 @@ close -> refused 13 NotNow
 quiesced -> refused 13 NotNow
 commit -> refused 13 NotNow
 sync -> refused 13 NotNow
+snapshot 1 2 v a -> refused 13 NotNow
 write 1 2 v 512 512 01 -> receipt 5
 release 1 -> released
 quiesced -> quiesced 5
@@ -120,6 +121,55 @@ under 6 v 0 512 -> 06x512
 under 5 v 0 512 -> refused 17 GroupGone
 ";
 
+/// Behind it, a snapshot of group 5 has all writes of that group and none of later ones, as it is taken and once it is committed.
+const TAKEN: &str = "hold 1 -> held 5
+snapshot 1 2 v a -> receipt 5
+write 1 3 v 0 512 0a -> receipt 5
+read v@a 0 1024 -> 0ax512 00x512
+snapshot 1 4 v a -> refused 10 Exists
+snapshot 1 4 v A -> refused 16 BadName
+snapshot 1 4 w a -> refused 8 NoSuchName
+snapshot 1 4 v@a b -> refused 8 NoSuchName
+write 1 4 v@a 0 512 01 -> refused 8 NoSuchName
+read v@a 512 513 -> refused 11 OutOfRange
+release 1 -> released
+sync -> committed 5
+hold 1 -> held 6
+write 1 4 v 0 512 0b -> receipt 6
+read v@a 0 512 -> 0ax512
+release 1 -> released
+sync -> committed 6
+read v@a 0 512 -> 0ax512
+read v 0 512 -> 0bx512
+under 6 v@a 0 512 -> 0ax512
+under 5 v@a 0 512 -> 0ax512
+under 5 v 0 512 -> 0ax512
+under 4 v@a 0 512 -> refused 8 NoSuchName
+";
+
+/// Behind those, a snapshot of a quiescing group, while the open one is written to; and one of a volume that its group makes.
+const TAKEN_AGAIN: &str = "hold 1 -> held 7
+snapshot 1 5 v b -> receipt 7
+create 1 6 w 512 512 -> receipt 7
+snapshot 1 7 w b -> receipt 7
+close -> closed 7
+hold 2 -> held 8
+write 2 1 v 512 512 0c -> receipt 8
+read v@b 512 512 -> 00x512
+write 1 8 v 512 512 0d -> receipt 7
+read v@b 0 1024 -> 0bx512 0dx512
+read v 0 1024 -> 0bx512 0cx512
+release 1 -> released
+quiesced -> quiesced 7
+commit -> committed 7
+release 2 -> released
+read w@b 0 512 -> 00x512
+sync -> committed 8
+read v@b 0 1024 -> 0bx512 0dx512
+read v 0 1024 -> 0bx512 0cx512
+read v@a 0 1024 -> 0ax512 00x512
+";
+
 /// Names are judged against all that is accepted, and each step by the first cause that applies.
 const CAUSES: &str = "pool 1 3 8388608 12 2 -> pool 3 claim 1
 device -> refused 13 NotNow
@@ -165,11 +215,12 @@ device -> refused 13 NotNow
 ";
 
 /// What the machine in memory replies.
-const IN_MEMORY: [&[&str]; 5] = [
+const IN_MEMORY: [&[&str]; 6] = [
     &[FIRST],
     &[FIRST, TWO_GROUPS],
     &[FIRST, REFUSALS, PLANNED, COMMITTED],
     &[FIRST, KEPT],
+    &[FIRST, TAKEN, TAKEN_AGAIN],
     &[CAUSES, NO_CAUSES],
 ];
 
@@ -178,13 +229,14 @@ const IN_MEMORY: [&[&str]; 5] = [
 /// three copies of two; the dnodes of the meta object set and that set three of three, which are
 /// 18, and two space maps too, which are 18 more: 62 columns. Group 4 makes a volume and the first root,
 /// with its maps: 99 columns.
-const OVER_DISKS: [&[&str]; 5] = [
+const OVER_DISKS: [&[&str]; 6] = [
     &[FIRST],
     &[FIRST, TWO_GROUPS],
     &[
         FIRST, REFUSALS, PLANNED, TEN_WRITES, SIX_WRITES, SLOTS, COMMITTED,
     ],
     &[FIRST, KEPT],
+    &[FIRST, TAKEN, TAKEN_AGAIN],
     &[
         CAUSES,
         TEN_WRITES,

@@ -9,7 +9,7 @@ use std::alloc::{AllocError, Global};
 use std::test::Fail;
 
 /// Lines, and what each says.
-const LINES: [(&str, &str); 24] = [
+const LINES: [(&str, &str); 25] = [
     ("", "Skipped"),
     ("# a  line of words", "Skipped"),
     (
@@ -30,6 +30,10 @@ const LINES: [(&str, &str); 24] = [
     (
         "create 3 1 v 8192 512",
         "Command(Create(CreateLine { writer: 3, number: 1, volume: Name { letters: [118] }, size: 8192, block_size: 512 }))",
+    ),
+    (
+        "snapshot 3 2 v s",
+        "Command(Snapshot(SnapshotLine { writer: 3, number: 2, volume: Name { letters: [118] }, part: Name { letters: [115] } }))",
     ),
     ("close", "Command(Close)"),
     ("quiesced", "Command(Quiesced)"),

@@ -1,4 +1,4 @@
-//! Groups that overwrite random blocks of volumes in a store that has room for little more.
+//! Groups that overwrite random blocks of volumes in a store that has room for little more, with snapshots between them.
 use crate::stores::{Store, new_store, store_plan};
 use crate::walked::{sectors_if_right, sectors_of};
 use block_store::Refusal;
@@ -20,10 +20,11 @@ struct Volume {
     most: u64,
 }
 
-/// Their blocks take 48 sectors with parity, 5,184 in all, and what leads to the blocks of each volume takes 200: so 5,584 of the
+/// Their blocks take 48 sectors with parity, 2,880 in all, and what leads to the blocks of each volume takes 200: so 3,280 of the
 /// 8,192 sectors before the meta region hold what a root leads to. A group writes to at most two volumes, and takes 592 at most.
 /// As it is planned, what two groups before it gave back can't be used yet, and what it replaces itself is in use still: so there
-/// are up to 7,360 in use then, 89 of 100.
+/// are up to 5,056 in use then. Each of two snapshots of the smaller volume keeps up to 960 more, and 200 that lead to them: so
+/// there are up to 7,376 in use at last, 90 of 100.
 const VOLUMES: [Volume; 2] = [
     Volume {
         letter: b'v',
@@ -34,7 +35,7 @@ const VOLUMES: [Volume; 2] = [
     Volume {
         letter: b'w',
         block_bytes: 16384,
-        blocks: 88,
+        blocks: 40,
         most: 2,
     },
 ];
@@ -133,6 +134,27 @@ fn accept_random(
     Ok(())
 }
 
+/// Groups that take a snapshot of the smaller volume, and the letter that is its part.
+const SNAPSHOTS: [(u64, u8); 2] = [(500, b'a'), (1200, b'b')];
+
+/// The snapshot that a group takes, if it takes one.
+fn accept_snapshot(pipeline: &mut Pipeline, alloc: Global, group: u64) -> Result<(), Fail> {
+    for &(taken, part) in &SNAPSHOTS {
+        if taken == group {
+            let change = Change::Snapshot {
+                volume: name_of(alloc, &VOLUMES[0])?,
+                part: Name::new(vec![in alloc; part; 1]?),
+            };
+            pipeline.accept(Item::Action(Action {
+                writer: 1,
+                number: 3,
+                change,
+            }))?;
+        }
+    }
+    Ok(())
+}
+
 /// The first root of a pool with the volumes.
 fn made(store: &mut Store, alloc: Global) -> Result<FirstRoot, Fail> {
     let config = Config {
@@ -208,6 +230,7 @@ fn random_next(
     let value = (before.root.birth % 256) as u8;
     let mut pipeline = Pipeline::new(alloc, 3);
     accept_random(&mut pipeline, alloc, numbers, value)?;
+    accept_snapshot(&mut pipeline, alloc, before.root.birth.saturating_add(1))?;
     Ok(next(before, store, alloc, &pipeline, in_use)?)
 }
 

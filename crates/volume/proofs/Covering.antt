@@ -8,12 +8,12 @@ use Rattle.std.proofs.lemmas.List.Edits.{get_or-between}
 use Rattle.pool_model.specs.declared.item.Write.{Write}
 use Rattle.pool_model.specs.declared.volume.PlainVolume.{PlainVolume}
 use Rattle.pool_model.specs.Names.{same, stored}
-use Rattle.pool_model.specs.Pools.{volume_after}
+use Rattle.pool_model.specs.Pools.{is_snapshot}
 use Rattle.pool_model.proofs.Places.{is_same, name_after}
 use Rattle.volume_rules.specs.declared.shape.VolumeShape.{VolumeShape}
 use Rattle.volume_rules.specs.Covering.{AreCovering, CoversRange}
 use Rattle.volume_rules.specs.Overlay.{after_writes}
-use Rattle.volume_rules.proofs.Covering.{Sets, after_all}
+use Rattle.volume_rules.proofs.Covering.{IsOf, Sets, after_all}
 use Rattle.volume_rules.proofs.Overlays.{length_after_writes}
 use Rattle.volume.specs.declared.volume.VolumeSet.{VolumeSet}
 use Rattle.volume.specs.Volume.{part}
@@ -22,15 +22,16 @@ use Rattle.volume.proofs.BlockData.{length-part}
 use Rattle.volume.proofs.Changed.{Any-push_cases}
 use Rattle.volume.proofs.Ranges.{block_fits, slice_zeros}
 
--- In a block that one of the writes covers, two volumes of one name and size have the same bytes after the writes, whatever they had before.
-pub covered_alike : (name : List ℕ) (size block_size id : ℕ) (volume other : PlainVolume) (writes : List Write) → volume.name ≡ name → other.name ≡ name
-    → length volume.bytes ≡ size → length other.bytes ≡ size → Any (λ write. (write.volume ≡ name) × Covers size block_size write id) writes
+-- In a block that one of the writes covers, two volumes of one name and size, which are no snapshots, have the same bytes after the
+-- writes, whatever they had before.
+pub covered_alike : (name : List ℕ) (size block_size id : ℕ) (volume other : PlainVolume) (writes : List Write) → IsOf name size volume → IsOf name size other
+    → Any (λ write. (write.volume ≡ name) × Covers size block_size write id) writes
     → part (after_writes volume writes).bytes block_size id ≡ part (after_writes other writes).bytes block_size id
-covered_alike name size block_size id volume other writes named also is too any =
-    same_lists (part (after_writes volume writes).bytes block_size id) (part (after_writes other writes).bytes block_size id) (long volume is ∙ sym (long other too))
-    (λ k d lt. let inside : k < block_size = omega (arith, long volume is) in
+covered_alike name size block_size id volume other writes is also any =
+    same_lists (part (after_writes volume writes).bytes block_size id) (part (after_writes other writes).bytes block_size id) (long volume is.sized ∙ sym (long other also.sized))
+    (λ k d lt. let inside : k < block_size = omega (arith, long volume is.sized) in
     get_or-between (after_writes volume writes).bytes (id * block_size) (id * block_size + block_size) k d (omega arith)
-    ∙ after_all name size volume other writes (id * block_size + k) d named also is too (inr (any.0, any.1, any.2, any.3, sets k inside))
+    ∙ after_all name size volume other writes (id * block_size + k) d is also (inr (any.0, any.1, any.2, any.3, sets k inside))
     ∙ sym (get_or-between (after_writes other writes).bytes (id * block_size) (id * block_size + block_size) k d (omega arith)))
   where
     within : id * block_size + block_size ≤ size
@@ -49,12 +50,14 @@ covered_alike name size block_size id volume other writes named also is too any 
 
 -- So what is laid over zeros is what is laid over the volume's own bytes.
 pub laid_over_zeros : (volume : VolumeSet) (plain : PlainVolume) (name : List ℕ) (writes : List Write) (id : ℕ) (zeros new : List ℕ) → id < volume.size / volume.block_size → plain.name ≡ name
-    → length plain.bytes ≡ volume.size → IsCovered volume name writes id → zeros ≡ replicate volume.block_size 0
-    → ((v : PlainVolume) → v.name ≡ name → length v.bytes ≡ volume.size → zeros ≡ part v.bytes volume.block_size id → new ≡ part (after_writes v writes).bytes volume.block_size id)
+    → is_snapshot plain.kind ≡ false → length plain.bytes ≡ volume.size → IsCovered volume name writes id → zeros ≡ replicate volume.block_size 0
+    → ((v : PlainVolume) → v.name ≡ name → is_snapshot v.kind ≡ false → length v.bytes ≡ volume.size
+    → zeros ≡ part v.bytes volume.block_size id → new ≡ part (after_writes v writes).bytes volume.block_size id)
     → new ≡ part (after_writes plain writes).bytes volume.block_size id
-laid_over_zeros volume plain name writes id zeros new below named size covered are lays =
-    lays blank named (length-replicate volume.size 0) (are ∙ slice_zeros volume.size (id * volume.block_size) volume.block_size (block_fits id volume.size volume.block_size below))
-    ∙ covered_alike name volume.size volume.block_size id blank plain writes named named (length-replicate volume.size 0) size covered
+laid_over_zeros volume plain name writes id zeros new below named writable size covered are lays =
+    lays blank named writable (length-replicate volume.size 0) (are ∙ slice_zeros volume.size (id * volume.block_size) volume.block_size (block_fits id volume.size volume.block_size below))
+    ∙ covered_alike name volume.size volume.block_size id blank plain writes
+    (record { named = named; sized = length-replicate volume.size 0; writable = writable }) (record { named = named; sized = size; writable = writable }) covered
   where
     blank : PlainVolume
     blank = record plain { bytes = replicate volume.size 0 }

@@ -1,4 +1,5 @@
 pub mod BlockData
+mod BlocksOnce
 mod Changed
 mod Covering
 pub mod Demanding
@@ -18,3 +19,4 @@ pub mod Refusing
 pub mod Sizes
 pub mod Standing
 mod Untouched
+mod YoungerBlocks

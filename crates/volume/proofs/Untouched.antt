@@ -1,6 +1,6 @@
 -- Blocks that writes leave.
 use Rattle.std.proofs.Common.{◌≡◌, ◌⊎◌, ⊎_elim, inl, inr, ℕ, suc, ◌+◌, ◌-◌, ◌*◌, ◌/◌, ◌<◌, ◌≤◌, Bool, true, false, nat_le, List, [], ◌∷◌, ◌++◌, take, drop, length, refl, sym, ap, ◌∙◌, subst, arith}
-use Rattle.std.specs.Prelude.{Any, Contains, cond, slice_range}
+use Rattle.std.specs.Prelude.{◌&&◌, Any, Contains, cond, not, slice_range}
 use Rattle.std.proofs.lemmas.Bool.{cases_lt, cases_eq}
 use Rattle.std.proofs.lemmas.Bool.Decides.{nat_tests}
 use Rattle.std.proofs.lemmas.List.Edits.{length-between}
@@ -8,7 +8,7 @@ use Rattle.std.proofs.Math.Nat.{mul-le-mul_left}
 use Rattle.pool_model.specs.declared.item.Write.{Write}
 use Rattle.pool_model.specs.declared.volume.PlainVolume.{PlainVolume}
 use Rattle.pool_model.specs.Names.{same, stored}
-use Rattle.pool_model.specs.Pools.{volume_after}
+use Rattle.pool_model.specs.Pools.{is_snapshot, volume_after}
 use Rattle.volume_rules.specs.declared.shape.VolumeShape.{VolumeShape}
 use Rattle.volume_rules.specs.Overlay.{after_writes}
 use Rattle.pool_model.proofs.Places.{same_is, name_after}
@@ -48,14 +48,21 @@ stored_elsewhere array write block_size id fits apart = cases (nat_le (write.off
         ∙ ap (λ n. slice_range (stored write.offset write.bytes array) (id * block_size) (id * block_size + n)) size)
     cases false e = ap (λ (b : Bool). part (cond b (take write.offset array ++ (write.bytes ++ drop (write.offset + length write.bytes) array)) array) block_size id) e
 
+first_holds : (a b : Bool) → (a && b) ≡ true → a ≡ true
+first_holds true b e = refl
+first_holds false b e = e
+
 after_one : (volume : PlainVolume) (name : List ℕ) (write : Write) (block_size id : ℕ) → volume.name ≡ name → id * block_size + block_size ≤ length volume.bytes
     → ((write.volume ≡ name) × Reaches (length volume.bytes) block_size write id → ⊥) → part (volume_after write volume).bytes block_size id ≡ part volume.bytes block_size id
-after_one volume name write block_size id named fits apart = cases (same volume.name write.volume) refl
+after_one volume name write block_size id named fits apart = cases (same volume.name write.volume && not (is_snapshot volume.kind)) refl
   where
-    cases : (b : Bool) → same volume.name write.volume ≡ b → part (volume_after write volume).bytes block_size id ≡ part volume.bytes block_size id
+    cases : (b : Bool) → (same volume.name write.volume && not (is_snapshot volume.kind)) ≡ b
+        → part (volume_after write volume).bytes block_size id ≡ part volume.bytes block_size id
     cases true e =
         ap (λ (b : Bool). let v : PlainVolume = cond b (record volume { bytes = stored write.offset write.bytes volume.bytes }) volume in part v.bytes block_size id) e
-        ∙ stored_elsewhere volume.bytes write block_size id fits (λ reaches. apart (sym (same_is volume.name write.volume e) ∙ named, reaches))
+        ∙ stored_elsewhere volume.bytes write block_size id fits
+        (λ reaches. let meant = first_holds (same volume.name write.volume) (not (is_snapshot volume.kind)) e in
+        apart (sym (same_is volume.name write.volume meant) ∙ named, reaches))
     cases false e = ap (λ (b : Bool). let v : PlainVolume = cond b (record volume { bytes = stored write.offset write.bytes volume.bytes }) volume in part v.bytes block_size id) e
 
 pub Any-front : {X : Type 0} (P : X → Type 0) (x : X) (xs : List X) → P x → Any P (x ∷ xs)

@@ -5,4 +5,5 @@ pub mod Placing
 pub mod Reading
 pub mod Volume
 pub mod Walking
+pub mod Younger
 pub mod Writing

@@ -1,5 +1,5 @@
 //! A volume with other blocks of data.
-ghost use Rattle.std.specs.Prelude.{◌≡◌, ◌≢◌, ◌⊎◌, ◌≤◌, ◌<◌, ◌++◌, ◌∷◌, [], ℕ, List, Vec, Option, OnOk, IfOk, IfErr, IsOkAnd};
+ghost use Rattle.std.specs.Prelude.{◌≡◌, ◌≢◌, ◌⊎◌, ◌≤◌, ◌<◌, ◌++◌, ◌∷◌, [], ℕ, List, Vec, Option, OnOk, IfOk, IfErr, IsOkAnd, false};
 ghost use Rattle.std.specs.declared.alloc.Global.{Global};
 ghost use Rattle.block_pointer.specs.declared.block.Block.{Block};
 ghost use Rattle.block_pointer.specs.Block.{FitsBlock};
@@ -18,6 +18,7 @@ ghost use Rattle.volume.specs.Volume.{size_of, block_size_of, block_of, HasData,
 ghost use Rattle.volume.specs.Writing.{AreBlocksOf, IsArrayWith, IsChanged};
 ghost use Rattle.pool_model.specs.declared.volume.PlainVolume.{PlainVolume};
 ghost use Rattle.dnode.specs.declared.object_set.ObjectSetKind.TheVariants as kinds;
+ghost use Rattle.pool_model.specs.Pools.{is_snapshot};
 ghost use Rattle.volume_rules.specs.Overlay.{after_writes};
 
 use crate::volume::{DATA, VolumeSet};
@@ -123,6 +124,7 @@ impl VolumeSet {
             HasShape done.volume (size_of self.now) (block_size_of self.now)) }
         ensures value { IfOk result (λ done. (stored planned : Contents) (volume : PlainVolume)
             → Plans store.old stored planned → volume.name ≡ changes.now.name.now
+            → is_snapshot volume.kind ≡ false
             → Spells stored birth_before self.now volume.bytes → birth_before ≤ birth
             → AnswersAreTrue store.old store.new
             → (later : Contents) × Plans store.new stored later × Extends planned later

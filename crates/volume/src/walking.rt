@@ -1,14 +1,17 @@
 //! All blocks of a volume that need not be one.
-ghost use Rattle.std.specs.Prelude.{◌≡◌, ◌≢◌, ◌+◌, ◌<◌, ◌≤◌, ◌∷◌, ℕ, List, IfOk, IfErr};
+ghost use Rattle.std.specs.Prelude.{◌≡◌, ◌≢◌, ◌+◌, ◌<◌, ◌≤◌, ◌∷◌, ℕ, List, length, IfOk, IfErr};
 ghost use Rattle.block_store.specs.Blocks.{Contents};
 ghost use Rattle.block_store.specs.Losses.{IsForLoss};
 ghost use Rattle.block_store.specs.Steps.{OnlyReadsBlocks, AnswersAreTrue};
 ghost use Rattle.block_store.specs.Store.{Holds};
 ghost use Rattle.dnode.specs.ObjectSet.{FitsObjectSet};
+ghost use Rattle.dnode_tree.specs.Rewriting.{AreDistinct};
+ghost use Rattle.dnode_tree.specs.Younger.{younger};
 ghost use Rattle.objset.specs.Laws.{HasEachOnce};
 ghost use Rattle.volume.specs.Volume.{Spells, block_of};
 ghost use Rattle.volume.specs.Walking.{blocks_of_volume, reads_of_volume, IsSetMissed, IsSetThere};
 ghost use Rattle.volume.specs.Walking.{IsVolumeWalked, IsVolumeWalkRefused};
+ghost use Rattle.volume.specs.Younger.{IsYoungerVolumeRefused, IsYoungerVolumeWalked};
 
 use crate::opening::is_of_volume;
 use crate::volume::VolumeSet;
@@ -59,6 +62,50 @@ impl VolumeSet {
     {
         let set = self.count_set(store, alloc, birth, left, missing)?;
         let below = objset::walk_within(&set, store, alloc, self.block.birth, left, missing)?;
+        Ok(with_first(below, self.block)?)
+    }
+
+    /// All blocks of a volume that were born after the transaction group `since`, in the order of `walk_within`, of a volume that may
+    /// be forged. Where the block of the object set is older nothing is younger, and nothing is read. What else is asked, read and
+    /// counted off is as in `walk_within`, of the younger blocks.
+    pub fn walk_younger<D: Disk + Drop>(
+        &self,
+        store: &mut BlockStore<D>,
+        alloc: Global,
+        birth: u64,
+        since: u64,
+        left: &mut u64,
+        missing: &[usize],
+    ) -> Result<Vec<Block>, Refusal>
+        ensures reads { OnlyReadsBlocks store.old store.new missing.now }
+        ensures fewer { left.new ≤ left.old }
+        ensures blocks { IfOk result (λ found. (stored : Contents) (bound : ℕ) (array : List ℕ)
+            → Holds store.old stored → (is : Spells stored bound self.now array) → bound ≤ birth
+            → AnswersAreTrue store.old store.new → found.items ≡ younger since
+            (blocks_of_volume (block_of self.now) is.set is.has.own is.has.blocks)) }
+
+        // Whatever the volume is: what was found, by so many reads, and on a refusal its cause.
+        ensures count { IfOk result (λ found. IsYoungerVolumeWalked since store.old.spaces self.now
+            birth left.old left.new found.items) }
+        ensures refused { IfErr result (IsYoungerVolumeRefused since store.old store.new missing.now
+            self.now birth left.old left.new) }
+        ensures cause { IfErr result (λ refusal. refusal ≢ Refusal.NoSpace) }
+
+        // And a volume that has each block once is walked, over disks that answer truly, where as
+        // many are left as it has younger ones, unless too many disks miss of a block.
+        ensures known { IfErr result (λ refusal. (stored : Contents) (bound : ℕ) (array : List ℕ)
+            → Holds store.old stored → (is : Spells stored bound self.now array) → bound ≤ birth
+            → AreDistinct (blocks_of_volume (block_of self.now) is.set is.has.own is.has.blocks)
+            → length (younger since
+            (blocks_of_volume (block_of self.now) is.set is.has.own is.has.blocks)) ≤ left.old
+            → AnswersAreTrue store.old store.new → IsForLoss refusal) }
+    {
+        if self.block.birth <= since {
+            return Ok(Vec::new(alloc));
+        }
+        let set = self.count_set(store, alloc, birth, left, missing)?;
+        let birth = self.block.birth;
+        let below = objset::walk_younger(&set, store, alloc, birth, since, left, missing)?;
         Ok(with_first(below, self.block)?)
     }
 

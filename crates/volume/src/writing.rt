@@ -1,8 +1,9 @@
 //! The blocks that a group's writes change.
-ghost use Rattle.std.specs.Prelude.{◌≡◌, ◌≢◌, ◌⊎◌, ◌↔◌, ◌/◌, ◌<◌, ◌++◌, ◌∷◌, [], ℕ, List, Vec, IfOk, IfErr, IfSome, OnOk, length, map, Option, Some, None, Contains, All};
+ghost use Rattle.std.specs.Prelude.{◌≡◌, ◌≢◌, ◌⊎◌, ◌↔◌, false, ◌/◌, ◌<◌, ◌++◌, ◌∷◌, [], ℕ, List, Vec, IfOk, IfErr, IfSome, OnOk, length, map, Option, Some, None, Contains, All};
 ghost use Rattle.std.specs.declared.alloc.Global.{Global};
 ghost use Rattle.std.specs.List.Sorted.{IsStrictlyIncreasing};
 ghost use Rattle.pool_model.specs.declared.volume.PlainVolume.{PlainVolume};
+ghost use Rattle.pool_model.specs.Pools.{is_snapshot};
 ghost use Rattle.volume_rules.specs.Overlay.{after_writes};
 ghost use Rattle.block_store.specs.Blocks.{Contents};
 ghost use Rattle.block_store.specs.Losses.{IsForLoss};
@@ -56,6 +57,7 @@ impl VolumeSet {
         // They turn the volume's bytes into those after the writes.
         ensures value { IfOk result (λ blocks. (stored : Contents) (volume : PlainVolume)
             → Holds store.old stored → volume.name ≡ changes.now.name.now
+            → is_snapshot volume.kind ≡ false
             → Spells stored birth self.now volume.bytes → AnswersAreTrue store.old store.new
             → IsArrayWith volume.bytes (block_size_of self.now) blocks.items
             (after_writes volume changes.now.items.now.writes).bytes) }
@@ -103,6 +105,7 @@ impl VolumeSet {
             length block.bytes.items ≡ block_size_of self.now) blocks.items) }
         ensures value { IfOk result (λ blocks. (stored : Contents) (volume : PlainVolume)
             → Holds store.old stored → volume.name ≡ changes.now.name.now
+            → is_snapshot volume.kind ≡ false
             → HasData stored (block_of self.now).birth set.now (size_of self.now)
             (block_size_of self.now) volume.bytes → AnswersAreTrue store.old store.new
             → All (λ block. block.bytes.items ≡ part
@@ -165,7 +168,8 @@ impl VolumeSet {
         ensures whole { IfOk result (λ blocks. All (λ block.
             length block.bytes.items ≡ block_size_of self.now) blocks.items) }
         ensures value { IfOk result (λ blocks. (volume : PlainVolume)
-            → volume.name ≡ changes.now.name.now → length volume.bytes ≡ size_of self.now
+            → volume.name ≡ changes.now.name.now → is_snapshot volume.kind ≡ false
+            → length volume.bytes ≡ size_of self.now
             → HaveInTurn
             (IsCovered self.now changes.now.name.now changes.now.items.now.writes)
             (λ id bytes. bytes.items ≡ part volume.bytes (block_size_of self.now) id)
@@ -220,7 +224,8 @@ impl VolumeSet {
         ensures id { IfOk result (λ block. block.id ≡ id) }
         ensures len { IfOk result (λ block. length block.bytes.items ≡ block_size_of self.now) }
         ensures value { IfOk result (λ block. (volume : PlainVolume)
-            → volume.name ≡ changes.now.name.now → length volume.bytes ≡ size_of self.now
+            → volume.name ≡ changes.now.name.now → is_snapshot volume.kind ≡ false
+            → length volume.bytes ≡ size_of self.now
             → IfSome old (λ bytes.
             bytes.items ≡ part volume.bytes (block_size_of self.now) id)
             → block.bytes.items ≡ part (after_writes volume changes.now.items.now.writes).bytes
@@ -240,7 +245,7 @@ impl VolumeSet {
         ensures id { result.id ≡ id }
         ensures len { length result.bytes.items ≡ block_size_of self.now }
         ensures value { (volume : PlainVolume) → volume.name ≡ changes.now.name.now
-            → length volume.bytes ≡ size_of self.now
+            → is_snapshot volume.kind ≡ false → length volume.bytes ≡ size_of self.now
             → under.items ≡ part volume.bytes (block_size_of self.now) id
             → result.bytes.items ≡ part (after_writes volume changes.now.items.now.writes).bytes
             (block_size_of self.now) id }

@@ -3,7 +3,7 @@ use Rattle.std.proofs.Common.{◌≡◌, ◌⊎◌, ⊎_elim, inl, inr, ℕ, suc
 use Rattle.std.specs.Prelude.{◌↔◌, IsTrue, cond, is_some}
 use Rattle.std.proofs.lemmas.Bool.{cases_lt}
 use Rattle.pool_model.specs.Groups.{taken_upto}
-use Rattle.pool_model.specs.Pools.{Entry}
+use Rattle.pool_model.specs.Pools.{Entry, is_snapshot}
 use Rattle.pool_model.specs.View.{View, is_syncing, waiting_group, open_group}
 use Rattle.volume_rules.specs.declared.shape.VolumeShape.{VolumeShape}
 use Rattle.volume_rules.specs.Covering.{AreCovering, IsCovered, IsCoveredBetween}
@@ -16,20 +16,21 @@ module _ (v : View) (name : List ℕ) (shape : VolumeShape) (offset len : ℕ) w
 
   -- what is told of the items of a group
   abbrev Covers : ℕ → Entry → Type 0
-  Covers before items = (shape.group ≤ before) × AreCovering name shape.size offset len items.writes
+  Covers before items = (is_snapshot shape.kind ≡ false) × (shape.group ≤ before) × AreCovering name shape.size offset len items.writes
 
   one_group : (n before : ℕ) (items : Entry) (b : Bool) → before ≡ n → items ≡ v.ledger (suc n) → (IsTrue b ↔ Covers before items) → IsTrue b ↔ Between n (suc n)
   one_group n before items b at is h = (
     λ t. let known = h.0 t in record {
+      writable = known.0;
       group = suc n;
       pending = omega arith;
       accepted = omega arith;
-      behind = let low = known.0 in omega arith;
-      covering = subst (λ (e : Entry). AreCovering name shape.size offset len e.writes) is known.1;
+      behind = let low = known.1 in omega arith;
+      covering = subst (λ (e : Entry). AreCovering name shape.size offset len e.writes) is known.2;
     },
     λ c.
         let same : c.group ≡ suc n = let low = c.pending in let high = c.accepted in omega arith in
-        h.1 ((let below = c.behind in omega arith), subst (λ (e : Entry). AreCovering name shape.size offset len e.writes) (ap v.ledger same ∙ sym is) c.covering),
+        h.1 (c.writable, (let below = c.behind in omega arith), subst (λ (e : Entry). AreCovering name shape.size offset len e.writes) (ap v.ledger same ∙ sym is) c.covering),
   )
 
   no_group : (n : ℕ) → IsTrue false ↔ Between n n
@@ -61,6 +62,7 @@ module _ (v : View) (name : List ℕ) (shape : VolumeShape) (offset len : ℕ) w
 
   wider : (from to low high : ℕ) → low ≤ from → to ≤ high → Between from to → Between low high
   wider from to low high le more c = record {
+    writable = c.writable;
     group = c.group;
     pending = let p = c.pending in omega arith;
     accepted = let a = c.accepted in omega arith;
@@ -69,7 +71,7 @@ module _ (v : View) (name : List ℕ) (shape : VolumeShape) (offset len : ℕ) w
   }
 
   part : (from to : ℕ) (c : Between v.committed (open_group v)) → from < c.group → c.group ≤ to → Between from to
-  part from to c low high = record { group = c.group; pending = low; accepted = high; behind = c.behind; covering = c.covering }
+  part from to c low high = record { writable = c.writable; group = c.group; pending = low; accepted = high; behind = c.behind; covering = c.covering }
 
   -- a pending group is the one that is synced, the waiting one or the open one
   pub any_pending : (Between v.committed (taken_upto v) → IsCovered v name shape offset len)

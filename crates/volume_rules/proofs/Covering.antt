@@ -1,6 +1,6 @@
 -- Bytes that a write sets: those before make no difference.
 use Rattle.std.proofs.Common.{◌≡◌, ◌⊎◌, ⊎_elim, inl, inr, ℕ, zero, suc, ◌+◌, ◌-◌, ◌<◌, ◌≤◌, Bool, true, false, true≢false, nat_le, List, [], ◌∷◌, ◌++◌, take, drop, length, get_or, replicate, Option, Some, None, refl, sym, ap, ◌∙◌, subst, arith}
-use Rattle.std.specs.Prelude.{Any, cond}
+use Rattle.std.specs.Prelude.{◌&&◌, Any, cond, not}
 use Rattle.std.proofs.lemmas.Bool.{cases_lt}
 use Rattle.std.proofs.lemmas.Bool.Decides.{nat_tests}
 use Rattle.std.proofs.lemmas.List.{get_or-take, get_or-drop, get_or_append_left, get_or-append_right, length-take-le, length-replicate, get_or-replicate}
@@ -8,16 +8,17 @@ use Rattle.std.proofs.lemmas.Option.{cond_some}
 use Rattle.pool_model.specs.declared.item.Write.{Write}
 use Rattle.pool_model.specs.declared.volume.PlainVolume.{PlainVolume}
 use Rattle.pool_model.specs.Flow.{flow_of}
-use Rattle.pool_model.specs.Names.{same, stored}
-use Rattle.pool_model.specs.Pools.{PlainPool, Ledger, volume_at, volume_after, applied, upto}
+use Rattle.pool_model.specs.Names.{is_name_for, same, stored}
+use Rattle.pool_model.specs.Pools.{PlainPool, Ledger, is_snapshot, volume_at, volume_after, applied, upto}
 use Rattle.pool_model.specs.View.{View, open_group, now_of}
 use Rattle.pool_model.proofs.Places.{same_is, is_same, name_after}
 use Rattle.volume_rules.specs.declared.shape.VolumeShape.{VolumeShape}
 use Rattle.volume_rules.specs.Shapes.{shape_of}
-use Rattle.volume_rules.specs.NowMoves.{GroupsAreBelow}
+use Rattle.volume_rules.specs.NowMoves.{GroupsAreBelow, HasGoodNames, IsOlder}
 use Rattle.volume_rules.specs.Covering.{IsCovered}
 use Rattle.volume_rules.specs.Overlay.{after_writes, bytes_or_zeros, base_of, HasRange}
-use Rattle.volume_rules.proofs.Overlays.{name_after_writes, shape_after_writes, applied_found, found_named}
+use Rattle.volume_rules.proofs.Made.{found_named}
+use Rattle.volume_rules.proofs.Overlays.{name_after_writes, shape_after_writes, applied_found}
 use Rattle.volume_rules.proofs.Ranges.{range_from, range_at}
 use Rattle.volume_rules.proofs.Volumes.{shape_after}
 
@@ -78,23 +79,40 @@ stored_alike name write xs ys k d same alike = cases (nat_le (write.offset + len
         ∙ ⊎_elim (λ was. was) (λ (sets : Sets name (length xs) write k). absurd (let within = sets.within in let past : length xs < write.offset + length write.bytes = grind (arith, nat_tests, e) in omega arith)) alike
         ∙ sym (ap (λ b. get_or (after b ys) k d) (test false e))
 
-after_one : (name : List ℕ) (volume other : PlainVolume) (write : Write) (k d : ℕ) → volume.name ≡ name → other.name ≡ name → length volume.bytes ≡ length other.bytes
-    → (get_or volume.bytes k d ≡ get_or other.bytes k d) ⊎ Sets name (length volume.bytes) write k
+-- a volume of that name and size, which is no snapshot
+pub record IsOf (name : List ℕ) (size : ℕ) (volume : PlainVolume) : Type 0 where
+  pub named : volume.name ≡ name
+  pub sized : length volume.bytes ≡ size
+  pub writable : is_snapshot volume.kind ≡ false
+
+meant_cases : (name : List ℕ) (size : ℕ) (volume : PlainVolume) (write : Write) (b : Bool) → IsOf name size volume → same name write.volume ≡ b → (same volume.name write.volume && not (is_snapshot volume.kind)) ≡ b
+meant_cases name size volume write b is e =
+    ap (λ k. same volume.name write.volume && not k) is.writable ∙ (and_true (same volume.name write.volume) ∙ (ap (λ n. same n write.volume) is.named ∙ e))
+  where
+    and_true : (t : Bool) → (t && true) ≡ t
+    and_true true = refl
+    and_true false = refl
+
+after_one : (name : List ℕ) (size : ℕ) (volume other : PlainVolume) (write : Write) (k d : ℕ) → IsOf name size volume → IsOf name size other
+    → (get_or volume.bytes k d ≡ get_or other.bytes k d) ⊎ Sets name size write k
     → get_or (volume_after write volume).bytes k d ≡ get_or (volume_after write other).bytes k d
-after_one name volume other write k d named also same_size alike = cases (same volume.name write.volume) refl
+after_one name size volume other write k d is also alike = cases (same name write.volume) refl
   where
     byte : Bool → PlainVolume → ℕ
     byte b v = let after : PlainVolume = cond b (record v { bytes = stored write.offset write.bytes v.bytes }) v in get_or after.bytes k d
 
-    test : (b : Bool) → same volume.name write.volume ≡ b → same other.name write.volume ≡ b
-    test b e = ap (λ n. same n write.volume) (also ∙ sym named) ∙ e
+    same_size : length volume.bytes ≡ length other.bytes
+    same_size = is.sized ∙ sym also.sized
 
-    cases : (b : Bool) → same volume.name write.volume ≡ b → get_or (volume_after write volume).bytes k d ≡ get_or (volume_after write other).bytes k d
-    cases true e = ap (λ b. byte b volume) e ∙ stored_alike name write volume.bytes other.bytes k d same_size alike ∙ sym (ap (λ b. byte b other) (test true e))
+    cases : (b : Bool) → same name write.volume ≡ b → get_or (volume_after write volume).bytes k d ≡ get_or (volume_after write other).bytes k d
+    cases true e =
+        ap (λ b. byte b volume) (meant_cases name size volume write true is e)
+        ∙ stored_alike name write volume.bytes other.bytes k d same_size (⊎_elim (λ was. inl was) (λ sets. inr (subst (λ n. Sets name n write k) (sym is.sized) sets)) alike)
+        ∙ sym (ap (λ b. byte b other) (meant_cases name size other write true also e))
     cases false e =
-        ap (λ b. byte b volume) e
-        ∙ ⊎_elim (λ was. was) (λ (sets : Sets name (length volume.bytes) write k). absurd (true≢false (sym (is_same volume.name write.volume (named ∙ sym sets.named)) ∙ e))) alike
-        ∙ sym (ap (λ b. byte b other) (test false e))
+        ap (λ b. byte b volume) (meant_cases name size volume write false is e)
+        ∙ ⊎_elim (λ was. was) (λ (sets : Sets name size write k). absurd (true≢false (sym (is_same name write.volume (sym sets.named)) ∙ e))) alike
+        ∙ sym (ap (λ b. byte b other) (meant_cases name size other write false also e))
 
 -- ---- after writes of which one sets the byte
 
@@ -105,20 +123,24 @@ Any-cases P x xs (k, y, within, at, is) = first_or_later k within at
     first_or_later zero lt e = inl (subst P (sym e) is)
     first_or_later (suc i) lt e = inr (i, y, omega arith, e, is)
 
-size_after : (write : Write) (volume : PlainVolume) → length (volume_after write volume).bytes ≡ length volume.bytes
-size_after write volume = ap (λ (s : VolumeShape). s.size) (shape_after write volume)
+is_of_after : (name : List ℕ) (size : ℕ) (write : Write) (volume : PlainVolume) → IsOf name size volume → IsOf name size (volume_after write volume)
+is_of_after name size write volume is = record {
+  named = name_after write volume ∙ is.named;
+  sized = ap (λ (s : VolumeShape). s.size) (shape_after write volume) ∙ is.sized;
+  writable = ap (λ (s : VolumeShape). is_snapshot s.kind) (shape_after write volume) ∙ is.writable;
+}
 
-pub after_all : (name : List ℕ) (size : ℕ) (volume other : PlainVolume) (writes : List Write) (k d : ℕ) → volume.name ≡ name → other.name ≡ name → length volume.bytes ≡ size → length other.bytes ≡ size
+pub after_all : (name : List ℕ) (size : ℕ) (volume other : PlainVolume) (writes : List Write) (k d : ℕ) → IsOf name size volume → IsOf name size other
     → (get_or volume.bytes k d ≡ get_or other.bytes k d) ⊎ Any (λ write. Sets name size write k) writes
     → get_or (after_writes volume writes).bytes k d ≡ get_or (after_writes other writes).bytes k d
-after_all name size volume other [] k d named also is too (inl was) = was
-after_all name size volume other [] k d named also is too (inr any) = absurd (omega (arith, any.2))
-after_all name size volume other (write ∷ writes) k d named also is too alike =
-    after_all name size (volume_after write volume) (volume_after write other) writes k d (name_after write volume ∙ named) (name_after write other ∙ also) (size_after write volume ∙ is) (size_after write other ∙ too)
-    (⊎_elim (λ was. inl (one (inl was))) (λ any. ⊎_elim (λ sets. inl (one (inr (subst (λ n. Sets name n write k) (sym is) sets)))) (λ later. inr later) (Any-cases (λ w. Sets name size w k) write writes any)) alike)
+after_all name size volume other [] k d is also (inl was) = was
+after_all name size volume other [] k d is also (inr any) = absurd (omega (arith, any.2))
+after_all name size volume other (write ∷ writes) k d is also alike =
+    after_all name size (volume_after write volume) (volume_after write other) writes k d (is_of_after name size write volume is) (is_of_after name size write other also)
+    (⊎_elim (λ was. inl (one (inl was))) (λ any. ⊎_elim (λ sets. inl (one (inr sets))) (λ later. inr later) (Any-cases (λ w. Sets name size w k) write writes any)) alike)
   where
-    one : (get_or volume.bytes k d ≡ get_or other.bytes k d) ⊎ Sets name (length volume.bytes) write k → get_or (volume_after write volume).bytes k d ≡ get_or (volume_after write other).bytes k d
-    one = after_one name volume other write k d named also (is ∙ sym too)
+    one : (get_or volume.bytes k d ≡ get_or other.bytes k d) ⊎ Sets name size write k → get_or (volume_after write volume).bytes k d ≡ get_or (volume_after write other).bytes k d
+    one = after_one name size volume other write k d is also
 
 -- ---- after groups
 
@@ -154,23 +176,27 @@ name_later base (suc n) ledger x =
       | false ↦ name_after_writes (later x base ledger n) (ledger (suc n)).writes ∙ name_later base n ledger x
     ]
 
+is_of_later : (name : List ℕ) (size base n : ℕ) (ledger : Ledger) (x : PlainVolume) → IsOf name size x → IsOf name size (later x base ledger n)
+is_of_later name size base n ledger x is = record {
+  named = name_later base n ledger x ∙ is.named;
+  sized = ap (λ (s : VolumeShape). s.size) (shape_later base n ledger x) ∙ is.sized;
+  writable = ap (λ (s : VolumeShape). is_snapshot s.kind) (shape_later base n ledger x) ∙ is.writable;
+}
+
 -- a group behind the base one, up to another, sets the byte
 abbrev SetBetween : List ℕ → ℕ → ℕ → ℕ → Ledger → ℕ → Type 0
 SetBetween name size base n ledger k = (group : ℕ) × (base < group) × (group ≤ n) × Any (λ write. Sets name size write k) (ledger group).writes
 
-later_alike : (name : List ℕ) (size base n : ℕ) (ledger : Ledger) (x y : PlainVolume) (k d : ℕ) → x.name ≡ name → y.name ≡ name → length x.bytes ≡ size → length y.bytes ≡ size
+later_alike : (name : List ℕ) (size base n : ℕ) (ledger : Ledger) (x y : PlainVolume) (k d : ℕ) → IsOf name size x → IsOf name size y
     → (get_or x.bytes k d ≡ get_or y.bytes k d) ⊎ SetBetween name size base n ledger k
     → get_or (later x base ledger n).bytes k d ≡ get_or (later y base ledger n).bytes k d
 unfolding later
-later_alike name size base zero ledger x y k d named also is too (inl was) = was
-later_alike name size base zero ledger x y k d named also is too (inr set) = absurd (let low = set.1 in let high = set.2 in omega arith)
-later_alike name size base (suc n) ledger x y k d named also is too alike = cases (nat_le (suc n) base) refl (later_alike name size base n ledger x y k d named also is too)
+later_alike name size base zero ledger x y k d is also (inl was) = was
+later_alike name size base zero ledger x y k d is also (inr set) = absurd (let low = set.1 in let high = set.2 in omega arith)
+later_alike name size base (suc n) ledger x y k d is also alike = cases (nat_le (suc n) base) refl (later_alike name size base n ledger x y k d is also)
   where
     byte : Bool → PlainVolume → ℕ
     byte b v = let u : PlainVolume = cond b v (after_writes (later v base ledger n) (ledger (suc n)).writes) in get_or u.bytes k d
-
-    sized : (v : PlainVolume) → length v.bytes ≡ size → length (later v base ledger n).bytes ≡ size
-    sized v e = ap (λ (s : VolumeShape). s.size) (shape_later base n ledger v) ∙ e
 
     now_or_before : SetBetween name size base (suc n) ledger k → Any (λ write. Sets name size write k) (ledger (suc n)).writes ⊎ SetBetween name size base n ledger k
     now_or_before set = ⊎_elim
@@ -187,7 +213,7 @@ later_alike name size base (suc n) ledger x y k d named also is too alike = case
         ∙ sym (ap (λ b. byte b y) e)
     cases false e earlier =
         ap (λ b. byte b x) e
-        ∙ after_all name size (later x base ledger n) (later y base ledger n) (ledger (suc n)).writes k d (name_later base n ledger x ∙ named) (name_later base n ledger y ∙ also) (sized x is) (sized y too)
+        ∙ after_all name size (later x base ledger n) (later y base ledger n) (ledger (suc n)).writes k d (is_of_later name size base n ledger x is) (is_of_later name size base n ledger y also)
         (⊎_elim (λ was. inl (earlier (inl was))) (λ set. ⊎_elim (λ here. inr here) (λ before. inl (earlier (inr before))) (now_or_before set)) alike)
         ∙ sym (ap (λ b. byte b y) e)
 
@@ -240,8 +266,19 @@ covered_laid v name volume offset old new below found fits whole covered zeros l
         there : volume_at name ((with_one v blank).pools v.committed) ≡ Some blank
         there = ap (λ b. cond b (Some blank) None) (found_named name (v.pools v.committed) x e)
 
+        older : IsOlder v.committed (record { volumes = blank ∷ [] })
+        older n u is = let one = cond_some (same x.name n) blank u is in let low = below.older name x e in subst (λ (w : PlainVolume). w.group ≤ v.committed) one.1 low
+
+        good : HasGoodNames (record { volumes = blank ∷ [] })
+        good n u is =
+            let one = cond_some (same x.name n) blank u is in
+            subst (λ (w : PlainVolume). is_name_for w.kind n ≡ true) one.1 (subst (λ m. is_name_for x.kind m ≡ true) (sym named ∙ same_is x.name n one.0) (below.named name x e))
+
         still_below : GroupsAreBelow (with_one v blank)
-        still_below n u is = let one = cond_some (same x.name n) blank u is in let low = below name x e in subst (λ (w : PlainVolume). w.group ≤ v.committed) one.1 low
+        still_below = record { older = older; named = good }
+
+        writable : is_snapshot x.kind ≡ false
+        writable = ap (λ (s : VolumeShape). is_snapshot s.kind) shaped ∙ covered.writable
 
         has : HasRange new after.bytes offset
         has = lays (with_one v blank) after refl still_below (found_later name v.committed (open_group v) (record { volumes = blank ∷ [] }) v.ledger blank there)
@@ -270,5 +307,6 @@ covered_laid v name volume offset old new below found fits whole covered zeros l
 
         alike : (k d : ℕ) → k < length old → get_or after.bytes (offset + k) d ≡ get_or volume.bytes (offset + k) d
         alike k d lt =
-            later_alike name (length x.bytes) v.committed (open_group v) v.ledger blank x (offset + k) d named named (length-replicate (length x.bytes) 0) refl (inr (set k lt))
+            later_alike name (length x.bytes) v.committed (open_group v) v.ledger blank x (offset + k) d
+            (record { named = named; sized = length-replicate (length x.bytes) 0; writable = writable }) (record { named = named; sized = refl; writable = writable }) (inr (set k lt))
             ∙ ap (λ (u : PlainVolume). get_or u.bytes (offset + k) d) is_volume

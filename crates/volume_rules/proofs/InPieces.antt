@@ -11,6 +11,7 @@ use borrow.Rule.Slice.PartMut.{put_mid}
 use Rattle.pool_model.specs.declared.item.Write.{Write}
 use Rattle.pool_model.specs.declared.volume.PlainVolume.{PlainVolume}
 use Rattle.pool_model.specs.Names.{same, stored}
+use Rattle.pool_model.specs.Pools.{is_snapshot}
 use Rattle.pool_model.proofs.Places.{same_is, is_same}
 use Rattle.txg_pipeline.specs.Positions.{HasByteIn, IsAt, AreTouching}
 use Rattle.volume_rules.specs.Covering.{AreCovering, CoversRange}
@@ -66,10 +67,10 @@ stays buffer bytes write offset within fits not h = ⊎_elim
         (cases_lt (offset + k) (write.offset + length write.bytes)))
         (cases_lt (offset + k) write.offset)
 
-passes : (volume : PlainVolume) (writes : List Write) (name buffer : List ℕ) (offset i : ℕ) → same volume.name name ≡ true → offset % 131072 + length buffer ≤ 131072 → offset + length buffer ≤ length volume.bytes
+passes : (volume : PlainVolume) (writes : List Write) (name buffer : List ℕ) (offset i : ℕ) → same volume.name name ≡ true → is_snapshot volume.kind ≡ false → offset % 131072 + length buffer ≤ 131072 → offset + length buffer ≤ length volume.bytes
     → i < length writes → (IsAt (Touching name (offset / 131072)) writes i → ⊥)
     → HasRange buffer (after_writes volume (take i writes)).bytes offset → HasRange buffer (after_writes volume (take (i + 1) writes)).bytes offset
-passes volume writes name buffer offset i named within fits lt not h = cases (same item.volume name) refl
+passes volume writes name buffer offset i named writable within fits lt not h = cases (same item.volume name) refl
   where
     item : Write
     item = (some_at writes i lt).0
@@ -82,27 +83,27 @@ passes volume writes name buffer offset i named within fits lt not h = cases (sa
 
     cases : (b : Bool) → same item.volume name ≡ b → HasRange buffer (after_writes volume (take (i + 1) writes)).bytes offset
     cases false e = skip_more volume writes i item name buffer buffer offset lt is named e refl h
-    cases true e = lay_more volume writes i item name buffer buffer offset lt is named e refl
+    cases true e = lay_more volume writes i item name buffer buffer offset lt is named writable e refl
         (stays buffer (after_writes volume (take i writes)).bytes item offset within (let s = size in omega (arith, s)) (λ has. not (item, lt, sym is, (same_is item.volume name e, has))) h)
 
 -- so do many in a row
-gap : (volume : PlainVolume) (writes : List Write) (name buffer : List ℕ) (offset d m n : ℕ) → same volume.name name ≡ true → offset % 131072 + length buffer ≤ 131072 → offset + length buffer ≤ length volume.bytes
+gap : (volume : PlainVolume) (writes : List Write) (name buffer : List ℕ) (offset d m n : ℕ) → same volume.name name ≡ true → is_snapshot volume.kind ≡ false → offset % 131072 + length buffer ≤ 131072 → offset + length buffer ≤ length volume.bytes
     → n ≡ m + d → n ≤ length writes → ((p : ℕ) → m ≤ p → p < n → IsAt (Touching name (offset / 131072)) writes p → ⊥)
     → HasRange buffer (after_writes volume (take m writes)).bytes offset → HasRange buffer (after_writes volume (take n writes)).bytes offset
-gap volume writes name buffer offset zero m n named within fits e le none h =
+gap volume writes name buffer offset zero m n named writable within fits e le none h =
     let same_place : m ≡ n = omega arith in subst (λ (k : ℕ). HasRange buffer (after_writes volume (take k writes)).bytes offset) same_place h
-gap volume writes name buffer offset (suc d) m n named within fits e le none h =
+gap volume writes name buffer offset (suc d) m n named writable within fits e le none h =
     let last : m + d + 1 ≡ n = omega arith in
     subst (λ (k : ℕ). HasRange buffer (after_writes volume (take k writes)).bytes offset) last
-    (passes volume writes name buffer offset (m + d) named within fits (omega arith) (none (m + d) (omega arith) (omega arith))
-    (gap volume writes name buffer offset d m (m + d) named within fits refl (omega arith) (λ p low high. none p low (omega arith)) h))
+    (passes volume writes name buffer offset (m + d) named writable within fits (omega arith) (none (m + d) (omega arith) (omega arith))
+    (gap volume writes name buffer offset d m (m + d) named writable within fits refl (omega arith) (λ p low high. none p low (omega arith)) h))
 
 -- before the first position
 pub laid_none : (volume : PlainVolume) (writes : List Write) (name buffer positions : List ℕ) (offset n : ℕ) → AreTouching name (offset / 131072) writes positions
-    → same volume.name name ≡ true → offset % 131072 + length buffer ≤ 131072 → offset + length buffer ≤ length volume.bytes → n ≤ length writes → Reaches positions 0 n
+    → same volume.name name ≡ true → is_snapshot volume.kind ≡ false → offset % 131072 + length buffer ≤ 131072 → offset + length buffer ≤ length volume.bytes → n ≤ length writes → Reaches positions 0 n
     → HasRange buffer volume.bytes offset → HasRange buffer (after_writes volume (take n writes)).bytes offset
-laid_none volume writes name buffer positions offset n are named within fits le reach h =
-    gap volume writes name buffer offset n 0 n named within fits (omega arith) le none h
+laid_none volume writes name buffer positions offset n are named writable within fits le reach h =
+    gap volume writes name buffer offset n 0 n named writable within fits (omega arith) le none h
   where
     none : (p : ℕ) → 0 ≤ p → p < n → IsAt (Touching name (offset / 131072)) writes p → ⊥
     none p low high at =
@@ -113,13 +114,13 @@ laid_none volume writes name buffer positions offset n are named within fits le 
 
 -- one position more
 pub laid_more : (volume : PlainVolume) (writes : List Write) (name buffer new positions : List ℕ) (item : Write) (offset size i n p : ℕ) → AreTouching name (offset / 131072) writes positions
-    → same volume.name name ≡ true → offset % 131072 + length new ≤ 131072 → offset + length new ≤ length volume.bytes → length volume.bytes ≡ size
+    → same volume.name name ≡ true → is_snapshot volume.kind ≡ false → offset % 131072 + length new ≤ 131072 → offset + length new ≤ length volume.bytes → length volume.bytes ≡ size
     → i < length positions → p ≡ get_or positions i 0 → item ≡ get_or writes p item
     → ((m : ℕ) → m ≤ length writes → Reaches positions i m → HasRange buffer (after_writes volume (take m writes)).bytes offset)
     → ((bytes : List ℕ) → length bytes ≡ size → HasRange buffer bytes offset → HasRange new (stored item.offset item.bytes bytes) offset)
     → n ≤ length writes → Reaches positions (i + 1) n → HasRange new (after_writes volume (take n writes)).bytes offset
-laid_more volume writes name buffer new positions item offset size i n p are named within fits sized lt is item_is laid lays le reach =
-    gap volume writes name new offset (n - (p + 1)) (p + 1) n named within fits (omega (arith, below)) le none one
+laid_more volume writes name buffer new positions item offset size i n p are named writable within fits sized lt is item_is laid lays le reach =
+    gap volume writes name new offset (n - (p + 1)) (p + 1) n named writable within fits (omega (arith, below)) le none one
   where
     at : IsAt (Touching name (offset / 131072)) writes p
     at = (are.exactly p).0 (is_listed positions i p lt is)
@@ -146,7 +147,7 @@ laid_more volume writes name buffer new positions item offset size i n p are nam
     here = (after_writes volume (take p writes)).bytes
 
     one : HasRange new (after_writes volume (take (p + 1) writes)).bytes offset
-    one = lay_more volume writes p item name new new offset at.1 item_is named wanted refl
+    one = lay_more volume writes p item name new new offset at.1 item_is named writable wanted refl
         (lays (after_writes volume (take p writes)).bytes (length_after_writes volume (take p writes) ∙ sized) (laid p (let l = at.1 in omega (arith, l)) prior))
 
     none : (q : ℕ) → p + 1 ≤ q → q < n → IsAt (Touching name (offset / 131072)) writes q → ⊥

@@ -1,15 +1,21 @@
 -- A map from keys to shapes, looked up by names.
 use Rattle.std.proofs.Common.{◌≡◌, ℕ, Bool, true, false, true≢false, List, [], ◌∷◌, Option, Some, None, refl, sym, ap, ◌∙◌, subst}
-use Rattle.std.specs.Prelude.{cond, Result, Ok, Err, OnOk, IsOk}
+use Rattle.std.specs.Prelude.{cond, is_some, Result, Ok, Err, OnOk, IsOk}
 use Rattle.std.specs.List.{AllZip}
 use Rattle.std.specs.Map.{lookup}
 use Rattle.std.specs.Option.{option_map, option_or}
+use Rattle.std.proofs.lemmas.Option.{none-some, same_Some}
+use Rattle.pool_model.specs.declared.item.Change.{Change}
+use Rattle.pool_model.specs.declared.item.Change.TheVariants.{Create, Snapshot}
 use Rattle.pool_model.specs.declared.volume.PlainVolume.{PlainVolume}
-use Rattle.pool_model.specs.Names.{same}
-use Rattle.pool_model.specs.Pools.{PlainPool, volume_at, with_volume}
+use Rattle.pool_model.specs.Names.{name_of, same, snapshot_name}
+use Rattle.pool_model.specs.Pools.{PlainPool, created, is_snapshot, snapshot_of, volume_at, with_snapshot, with_volume}
 use Rattle.pool_model.proofs.Places.{same_is, is_same, volume_more}
+use Rattle.volume_rules.specs.declared.index.NewName.{NewName}
 use Rattle.volume_rules.specs.declared.shape.VolumeShape.{VolumeShape}
-use Rattle.volume_rules.specs.Shapes.{shape_of, shape_at}
+use Rattle.volume_rules.specs.Index.{MakesName, MakesShape}
+use Rattle.volume_rules.specs.Shapes.{shape_of, shape_at, taken_shape}
+use Rattle.volume_rules.proofs.Volumes.{or_none}
 
 pub on_ok : {T E P : Type 0} (r : Result T E) → IsOk r → OnOk r P → P
 on_ok (Ok x) i p = p
@@ -55,10 +61,6 @@ same_in_clone items IsKey IsValue key value (p ∷ old) (q ∷ new) h name =
 
 -- ---- one volume more
 
-or_none : {A : Type 0} (o : Option A) → option_or o None ≡ o
-or_none None = refl
-or_none (Some x) = refl
-
 pub other_name : (pool : PlainPool) (volume : PlainVolume) (name : List ℕ) → same volume.name name ≡ false → volume_at name (with_volume volume pool) ≡ volume_at name pool
 other_name pool volume name e = volume_more pool volume name ∙ (ap (λ b. option_or (volume_at name pool) (cond b (Some volume) None)) e ∙ or_none (volume_at name pool))
 
@@ -83,3 +85,37 @@ shapes_added items old new key pool volume was none called here others name = ca
     cases false e =
         let other : same volume.name name ≡ false = ap (λ m. same m name) called ∙ e in
         agree_at items old new name (λ q n. others q (ap (same (items key)) (sym n) ∙ e)) ∙ (was name ∙ sym (ap (option_map shape_of) (other_name pool volume name other)))
+
+-- ---- what a change makes
+
+none_there : (found : Option PlainVolume) → is_some (option_map shape_of found) ≡ false → found ≡ None
+none_there None e = refl
+none_there (Some volume) e = absurd (true≢false e)
+
+-- the pool afterwards has one volume more, which has this name and shape
+abbrev Makes : PlainPool → NewName → PlainPool → Type 0
+Makes pool new after =
+    (volume : PlainVolume) × (volume.name ≡ new.name) × (shape_of volume ≡ new.shape)
+    × (volume_at volume.name pool ≡ None) × (after ≡ with_volume volume pool)
+
+-- the shape of what a change makes, where its name is not there, is that of the volume that the pool then has more
+pub makes_new : (group : ℕ) (pool : PlainPool) (change : Change) (new : NewName)
+    → new.name ≡ name_of change → is_some (shape_at (name_of change) pool) ≡ false
+    → MakesShape group pool change (Some new.shape) → MakesName group pool change (Some new)
+makes_new group pool (Create name size block_size) new called none e =
+    (created group name size block_size, sym called, sym (same_Some new.shape _ e), none_there (volume_at name pool) none, refl)
+makes_new group pool (Snapshot volume part) new called none e = taken (volume_at volume pool) e
+  where
+    absent : volume_at (snapshot_name volume part) pool ≡ None
+    absent = none_there (volume_at (snapshot_name volume part) pool) none
+
+    taken : (found : Option PlainVolume) → Some new.shape ≡ taken_shape group (option_map shape_of found)
+        → Makes pool new (with_snapshot group (snapshot_name volume part) found pool)
+    taken None e = absurd (none-some new.shape (sym e))
+    taken (Some it) e =
+        let snapshot : PlainVolume = snapshot_of group (snapshot_name volume part) it in
+        elim (is_snapshot it.kind) as (λ b. Some new.shape ≡ cond b None (Some (shape_of snapshot))
+        → Makes pool new (cond b pool (with_volume snapshot pool))) [
+          | true ↦ λ f. absurd (none-some new.shape (sym f))
+          | false ↦ λ f. (snapshot, sym called, sym (same_Some new.shape _ f), absent, refl)
+        ] e

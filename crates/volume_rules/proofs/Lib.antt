@@ -1,9 +1,12 @@
+pub mod GoodChanges
 pub mod Indexes
 pub mod Volumes
 pub mod NowMoves
 pub mod Ranges
+pub mod Made
 pub mod Overlays
 pub mod Pending
+pub mod Taken
 pub mod Covering
 pub mod CoveredGroups
 pub mod InPieces

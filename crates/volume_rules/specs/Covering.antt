@@ -1,6 +1,7 @@
 -- Ranges of a volume that a pending write covers.
-use Rattle.std.specs.Prelude.{◌≡◌, ℕ, ◌+◌, ◌<◌, ◌≤◌, List, length, Any}
+use Rattle.std.specs.Prelude.{◌≡◌, false, ℕ, ◌+◌, ◌<◌, ◌≤◌, List, length, Any}
 use Rattle.pool_model.specs.declared.item.Write.{Write}
+use Rattle.pool_model.specs.Pools.{is_snapshot}
 use Rattle.pool_model.specs.View.{View, open_group}
 use Rattle.volume_rules.specs.declared.shape.VolumeShape.{VolumeShape}
 
@@ -15,9 +16,11 @@ abbrev pub AreCovering : List ℕ → ℕ → ℕ → ℕ → List Write → Typ
 AreCovering name size offset len writes =
     Any (λ write. (write.volume ≡ name) × CoversRange size offset len write) writes
 
--- one write of a group behind that one and up to another, and behind the one that made the volume, has every byte of the range
+-- the volume is no snapshot, and one write of a group behind that one and up to another, and behind the one that made it, has every
+-- byte of the range
 pub record IsCoveredBetween (v : View) (name : List ℕ) (shape : VolumeShape) (offset len from to : ℕ)
     : Type 0 where
+  pub writable : is_snapshot shape.kind ≡ false
   pub group : ℕ
   pub pending : from < group
   pub accepted : group ≤ to

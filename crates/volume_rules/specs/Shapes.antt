@@ -1,8 +1,9 @@
 -- What is known of a pool's volumes without their bytes.
-use Rattle.std.specs.Prelude.{◌≡◌, ℕ, List, length, Option}
+use Rattle.std.specs.Prelude.{◌≡◌, ℕ, List, length, Option, Some, None, if◌then◌else◌}
 use Rattle.std.specs.Option.{option_map}
 use Rattle.pool_model.specs.declared.volume.PlainVolume.{PlainVolume}
-use Rattle.pool_model.specs.Pools.{PlainPool, volume_at}
+use Rattle.pool_model.specs.declared.volume.VolumeKind.TheVariants.{Snapshot}
+use Rattle.pool_model.specs.Pools.{PlainPool, is_snapshot, volume_at}
 use Rattle.volume_rules.specs.declared.shape.VolumeShape.{VolumeShape}
 
 abbrev pub shape_of : PlainVolume → VolumeShape
@@ -15,3 +16,8 @@ shape_at name pool = option_map shape_of (volume_at name pool)
 -- the same names, and at each the same shape
 abbrev pub HaveSameShapes : PlainPool → PlainPool → Type 0
 HaveSameShapes pool other = (name : List ℕ) → shape_at name pool ≡ shape_at name other
+
+-- the shape of a snapshot that a group takes: that of the volume, where there is one and it is no snapshot
+abbrev pub taken_shape : ℕ → Option VolumeShape → Option VolumeShape
+taken_shape group None = None
+taken_shape group (Some shape) = if is_snapshot shape.kind then None else Some (record shape { group = group; kind = Snapshot })

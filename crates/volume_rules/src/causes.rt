@@ -3,9 +3,9 @@ ghost use Rattle.std.specs.Prelude.{◌≡◌, ◌↔◌, IsTrue, Option, length
 ghost use Rattle.std.specs.List.{list_all};
 ghost use Rattle.std.specs.Option.{option_map};
 ghost use Rattle.pool_model.specs.declared.volume.PlainVolume.{PlainVolume};
-ghost use Rattle.pool_model.specs.Names.{is_name_letter, is_name, is_block_size, name_of};
+ghost use Rattle.pool_model.specs.Names.{is_name_letter, is_name, is_block_size, name_of, volume_of};
 ghost use Rattle.pool_model.specs.Pools.{PlainPool};
-ghost use Rattle.pool_model.specs.Refusals.{is_aligned, is_in_range, place_refusal, change_refusal, read_refusal};
+ghost use Rattle.pool_model.specs.Refusals.{is_aligned, is_in_range, is_volume, place_refusal, change_refusal, read_refusal};
 ghost use Rattle.volume_rules.specs.GoodChanges.{is_good_size, is_good_change, MakesGoodVolumes};
 ghost use Rattle.volume_rules.specs.Shapes.{shape_of, shape_at};
 
@@ -31,7 +31,8 @@ fn are_letters_of_name(letters: &[u8]) -> bool
     letters.iter().all(|c| is_letter_of_name(*c))
 }
 
-fn may_be_named(name: &Name) -> bool
+/// Whether a volume, or the part of a snapshot's name, may have this name.
+pub fn is_good_name(name: &Name) -> bool
     ensures { result ≡ is_name name.now }
 {
     match name.as_slice() {
@@ -61,8 +62,8 @@ pub fn is_good_shape(size: u64, block_size: u64) -> bool
         && size <= LARGEST_VOLUME
 }
 
-/// Whether a volume may be made so: with such a name, and of such a size.
-fn may_be_made(change: &Change) -> bool
+/// Whether a volume may be made so, with such a name and of such a size, or a snapshot be taken so.
+pub fn is_good_change(change: &Change) -> bool
     ensures { result ≡ is_good_change change.now }
 {
     match change {
@@ -70,18 +71,19 @@ fn may_be_made(change: &Change) -> bool
             name,
             size,
             block_size,
-        } => may_be_named(name) && is_good_shape(*size, *block_size),
+        } => is_good_name(name) && is_good_shape(*size, *block_size),
+        Change::Snapshot { volume, part } => is_good_name(volume) && is_good_name(part),
     }
 }
 
-/// Whether each volume that a group makes may be made.
+/// Whether each volume and snapshot that a group makes may be made.
 pub fn makes_good_volumes(items: &Pending) -> bool
     ensures { IsTrue result ↔ MakesGoodVolumes items.now }
 {
     items
         .actions()
         .iter()
-        .all(|action| may_be_made(&action.change))
+        .all(|action| is_good_change(&action.change))
 }
 
 fn is_in_sectors(offset: u64, len: u64) -> bool
@@ -105,6 +107,9 @@ pub fn against_write(write: &Write, group: u64, found: Option<VolumeShape>) -> O
     let Some(volume) = found else {
         return Some(Refusal::NoSuchName);
     };
+    if volume.kind.is_snapshot() {
+        return Some(Refusal::NoSuchName);
+    }
     if group <= volume.group {
         return Some(Refusal::NotYet);
     }
@@ -118,10 +123,14 @@ pub fn against_write(write: &Write, group: u64, found: Option<VolumeShape>) -> O
     None
 }
 
-/// Why a change is refused, by the shape of the volume that has its name.
-pub fn against_change(change: &Change, found: Option<VolumeShape>) -> Option<Refusal>
-    ensures { (pool : PlainPool) → found ≡ shape_at (name_of change.now) pool →
-        result ≡ change_refusal change.now pool }
+/// Why a change is refused, by the shape of the volume that it is of and of the one that has the name that it makes.
+pub fn against_change(
+    change: &Change,
+    volume: Option<VolumeShape>,
+    found: Option<VolumeShape>,
+) -> Option<Refusal>
+    ensures { (pool : PlainPool) → volume ≡ shape_at (volume_of change.now) pool →
+        found ≡ shape_at (name_of change.now) pool → result ≡ change_refusal change.now pool }
 {
     match change {
         Change::Create {
@@ -129,7 +138,7 @@ pub fn against_change(change: &Change, found: Option<VolumeShape>) -> Option<Ref
             size,
             block_size,
         } => {
-            if !may_be_named(name) {
+            if !is_good_name(name) {
                 return Some(Refusal::BadName);
             }
             if found.is_some() {
@@ -143,6 +152,29 @@ pub fn against_change(change: &Change, found: Option<VolumeShape>) -> Option<Ref
             }
             None
         }
+        Change::Snapshot { part, .. } => {
+            if !is_good_name(part) {
+                return Some(Refusal::BadName);
+            }
+            if !is_volume(volume) {
+                return Some(Refusal::NoSuchName);
+            }
+            if found.is_some() {
+                return Some(Refusal::Exists);
+            }
+            None
+        }
+    }
+}
+
+/// Whether it is the shape of a volume, and of no snapshot.
+fn is_volume(found: Option<VolumeShape>) -> bool
+    ensures { (volume : Option PlainVolume) → found ≡ option_map shape_of volume →
+        result ≡ is_volume volume }
+{
+    match found {
+        Some(shape) => !shape.kind.is_snapshot(),
+        None => false,
     }
 }
 

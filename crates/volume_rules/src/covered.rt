@@ -1,7 +1,8 @@
 //! Whether a pending write has all bytes of a range.
-ghost use Rattle.std.specs.Prelude.{◌↔◌, ◌≤◌, IsTrue};
+ghost use Rattle.std.specs.Prelude.{◌≡◌, ◌↔◌, ◌≤◌, false, IsTrue};
 ghost use Rattle.pool_model.specs.Flow.{flow_of};
 ghost use Rattle.pool_model.specs.Groups.{taken_upto};
+ghost use Rattle.pool_model.specs.Pools.{is_snapshot};
 ghost use Rattle.pool_model.specs.View.{View, open_group};
 ghost use Rattle.txg_pipeline.specs.Carries.{Carries};
 ghost use Rattle.volume_rules.specs.Covering.{AreCovering, CoversRange, IsCovered, IsCoveredBetween};
@@ -12,8 +13,8 @@ use crate::shape::VolumeShape;
 use pool_model::{Name, Write};
 use txg_pipeline::{Pending, Pipeline};
 
-/// Whether one pending write to the volume of this name, which has this shape in NOW, has every byte of the range, so that
-/// none of the bytes under it shows.
+/// Whether one pending write to the volume of this name, which has this shape in NOW, has every byte of the range, so
+/// that none of the bytes under it shows. Of a snapshot none has.
 pub fn is_covered(
     pipeline: &Pipeline,
     shape: VolumeShape,
@@ -78,7 +79,7 @@ fn is_covered_by_open(
     is_covered_by(open.saturating_sub(1), items, shape, name, offset, len)
 }
 
-// The writes of a group are to a volume that the group before it made, or an earlier one.
+// The writes of a group are to a volume, and no snapshot, that the group before it made, or an earlier one.
 fn is_covered_by(
     before: u64,
     items: &Pending,
@@ -87,10 +88,12 @@ fn is_covered_by(
     offset: u64,
     len: u64,
 ) -> bool
-    ensures { IsTrue result ↔ (shape.group ≤ before)
+    ensures { IsTrue result ↔ (is_snapshot shape.kind ≡ false) × (shape.group ≤ before)
         × AreCovering name.now shape.size offset len items.now.writes }
 {
-    shape.group <= before && covers_any(items, name, shape.size, offset, len)
+    !shape.kind.is_snapshot()
+        && shape.group <= before
+        && covers_any(items, name, shape.size, offset, len)
 }
 
 pub(crate) fn covers(write: &Write, size: u64, offset: u64, len: u64) -> bool

@@ -1,11 +1,19 @@
 //! The names of a pool.
-ghost use Rattle.std.specs.Prelude.{◌≡◌, ◌↔◌, None, OnOk, IfOk, fold};
+ghost use Rattle.std.specs.Prelude.{◌≡◌, ◌↔◌, ℕ, None, OnOk, IfOk, fold};
 
+use crate::causes::against_change;
 use crate::shape::VolumeShape;
-use pool_model::{Action, Change, Name, VolumeKind};
+use pool_model::{Action, Change, Name, Refusal, VolumeKind};
 use std::alloc::{AllocError, Global};
 use std::collections::HashMap;
 use txg_pipeline::Pending;
+
+/// A name that a change makes, and the shape of what stands there.
+#[derive(Debug, Drop)]
+pub struct NewName {
+    pub name: Name,
+    pub shape: VolumeShape,
+}
 
 /// For each name of a pool, the shape of the volume.
 ///
@@ -17,12 +25,12 @@ pub struct NameIndex {
 }
 
 impl NameIndex {
-    ghost use Rattle.pool_model.specs.declared.item.Change.TheVariants.{Create};
+    ghost use Rattle.pool_model.specs.declared.item.Change.{Change as ChangeValue};
     ghost use Rattle.pool_model.specs.declared.volume.PlainVolume.{PlainVolume};
-    ghost use Rattle.pool_model.specs.declared.volume.VolumeKind.TheVariants.{Volume};
+    ghost use Rattle.pool_model.specs.Refusals.{change_refusal};
     ghost use Rattle.pool_model.specs.Pools.{PlainPool, no_volumes, volume_at, with_volume, applied, changed};
     ghost use Rattle.volume_rules.specs.Shapes.{shape_of, shape_at};
-    ghost use Rattle.volume_rules.specs.Index.{Knows, HasRoom};
+    ghost use Rattle.volume_rules.specs.Index.{HasRoom, Knows, MakesName, MakesShape};
 
     /// The index of a pool with no volume.
     pub fn new(alloc: Global) -> NameIndex
@@ -60,14 +68,82 @@ impl NameIndex {
     /// Adds the name of a new volume, for which there is room.
     pub fn add(&mut self, name: Name, shape: VolumeShape)
         requires { HasRoom self.old }
-        ensures added { (pool : PlainPool) (volume : PlainVolume) → Knows self.old pool →
+        ensures { (pool : PlainPool) (volume : PlainVolume) → Knows self.old pool →
             volume_at name pool ≡ None → volume.name ≡ name → shape_of volume ≡ shape →
             Knows self.new (with_volume volume pool) }
-        ensures created { (pool : PlainPool) → Knows self.old pool →
-            volume_at name pool ≡ None → shape.kind ≡ Volume →
-            Knows self.new (changed shape.group pool (Create name shape.size shape.block_size)) }
     {
         let _ = self.shapes.insert(name.into_vec(), shape);
+    }
+
+    /// Adds what a change makes, for which there is room.
+    pub fn add_new(&mut self, new: Option<NewName>)
+        requires { HasRoom self.old }
+        ensures { (group : ℕ) (pool : PlainPool) (change : ChangeValue) → Knows self.old pool →
+            MakesName group pool change new → Knows self.new (changed group pool change) }
+    {
+        if let Some(new) = new {
+            self.add(new.name, new.shape);
+        }
+    }
+
+    /// What a change makes in this group: nothing where its name is there already, or where there is no volume that a snapshot
+    /// could be taken of.
+    pub fn made_by(
+        &self,
+        alloc: Global,
+        group: u64,
+        change: &Change,
+    ) -> Result<Option<NewName>, AllocError>
+        ensures { IfOk result (λ new. (pool : PlainPool) → Knows self.now pool →
+            MakesName group pool change.now new) }
+    {
+        let name = change.name(alloc)?;
+        if self.find(&name).is_some() {
+            return Ok(None);
+        }
+        let Some(shape) = self.shape_by(group, change) else {
+            return Ok(None);
+        };
+        Ok(Some(NewName { name, shape }))
+    }
+
+    /// The shape of what a change would make in this group.
+    fn shape_by(&self, group: u64, change: &Change) -> Option<VolumeShape>
+        ensures { (pool : PlainPool) → Knows self.now pool →
+            MakesShape group pool change.now result }
+    {
+        match change {
+            Change::Create {
+                size,
+                block_size,
+                ..
+            } => Some(VolumeShape {
+                size: *size,
+                block_size: *block_size,
+                group,
+                kind: VolumeKind::Volume,
+            }),
+            Change::Snapshot { volume, .. } => {
+                let found = self.find(volume)?;
+                if found.kind.is_snapshot() {
+                    return None;
+                }
+                Some(VolumeShape {
+                    group,
+                    kind: VolumeKind::Snapshot,
+                    ..found
+                })
+            }
+        }
+    }
+
+    /// Why a change is refused.
+    pub fn against(&self, alloc: Global, change: &Change) -> Result<Option<Refusal>, AllocError>
+        ensures { IfOk result (λ cause. (pool : PlainPool) → Knows self.now pool →
+            cause ≡ change_refusal change.now pool) }
+    {
+        let name = change.name(alloc)?;
+        Ok(against_change(change, self.find(change.volume()), self.find(&name)))
     }
 
     /// The index after the items of a group. This one stays as it is.
@@ -85,7 +161,7 @@ impl NameIndex {
         Ok(after)
     }
 
-    /// Adds the names of the volumes that these actions make. One that is there already is passed over.
+    /// Adds the names that these actions make.
     fn make_all(&mut self, alloc: Global, group: u64, actions: &[Action]) -> Result<(), AllocError>
         ensures { OnOk result ((pool : PlainPool) → Knows self.old pool
             → Knows self.new (fold (λ p a. changed group p a.change) pool actions.now)) }
@@ -96,30 +172,14 @@ impl NameIndex {
         Ok(())
     }
 
-    /// Adds the name of the volume that a change makes, unless it is there already.
+    /// Adds the name that a change makes, if it makes one.
     fn make(&mut self, alloc: Global, group: u64, change: &Change) -> Result<(), AllocError>
         ensures { OnOk result ((pool : PlainPool) → Knows self.old pool
             → Knows self.new (changed group pool change.now)) }
     {
-        let Change::Create {
-            name,
-            size,
-            block_size,
-        } = change;
-        if self.find(name).is_some() {
-            return Ok(());
-        }
-        let name = name.copied(alloc)?;
+        let new = self.made_by(alloc, group, change)?;
         self.reserve()?;
-        self.add(
-            name,
-            VolumeShape {
-                size: *size,
-                block_size: *block_size,
-                group,
-                kind: VolumeKind::Volume,
-            },
-        );
+        self.add_new(new);
         Ok(())
     }
 }

@@ -12,14 +12,15 @@ ghost use Rattle.pool_model.specs.declared.volume.PlainVolume.{PlainVolume};
 ghost use Rattle.pool_model.specs.Pools.{PlainPool, Entry, volume_at, changed, applied};
 ghost use Rattle.pool_model.specs.View.{View, Given, Sync, Vdev, started, is_syncing, open_group, now_of};
 ghost use Rattle.pool_model.specs.Refusals.{may_plan, change_refusal};
-ghost use Rattle.volume_rules.specs.GoodChanges.{is_good_change};
+ghost use Rattle.volume_rules.specs.GoodChanges.{MakesGoodVolumes, is_good_change};
 ghost use Rattle.pool_model.specs.Flow.{flow_of, with_hold, without_hold, with_accepted};
 ghost use Rattle.pool_model.specs.Machine.{with_flow, taken, dropped, committed_next, StepOf};
 ghost use Rattle.pool_model.specs.Sound.{IsSound};
 ghost use Rattle.volume_rules.specs.declared.index.NameIndex.{NameIndex};
-ghost use Rattle.volume_rules.specs.Shapes.{HaveSameShapes};
+ghost use Rattle.volume_rules.specs.Shapes.{HaveSameShapes, shape_of};
+ghost use Rattle.volume_rules.specs.Taken.{IsTakenOf, is_pending_snapshot};
 ghost use Rattle.volume_rules.specs.Index.{Knows};
-ghost use Rattle.volume_rules.specs.NowMoves.{MovesNow, is_action_taken, IsMadeBy, GroupsAreBelow};
+ghost use Rattle.volume_rules.specs.NowMoves.{AreGood, GroupsAreBelow, HasGoodNames, IsMadeBy, MovesNow, is_action_taken};
 ghost use Rattle.volume_rules.specs.Overlay.{base_of, IsCommitted};
 
 /// A step moves NOW as its definition says: an action that is accepted takes effect, a write that is accepted leaves
@@ -64,14 +65,26 @@ pub fn indexes_follow_now()
         Knows index (now_of v) → Knows index (now_of w) }
 {}
 
-/// No volume of the committed pool was made by a later group: so it is at the start, after each group that takes effect,
-/// and after each step.
+/// No volume of the committed pool was made by a later group, and each has a name that one of its kind may have: so it is
+/// at the start, after each group of good changes that takes effect, and after each step where such groups are accepted;
+/// and so it is with NOW.
 pub fn groups_stay_below()
     ensures start { (vdevs : List Vdev) → GroupsAreBelow (started vdevs) }
     ensures applied { (group : ℕ) (pool : PlainPool) (entry : Entry) → IsMadeBy group pool →
-        IsMadeBy (suc group) (applied (suc group) pool entry) }
+        MakesGoodVolumes entry → IsMadeBy (suc group) (applied (suc group) pool entry) }
     ensures step { (v : View) (given : Given) (step : Step) (reply : Reply) (w : View) →
-        StepOf v given step reply w → GroupsAreBelow v → GroupsAreBelow w }
+        AreGood v.ledger → StepOf v given step reply w → GroupsAreBelow v → GroupsAreBelow w }
+    ensures now { (v : View) → AreGood v.ledger → GroupsAreBelow v →
+        IsMadeBy (open_group v) (now_of v) }
+{}
+
+/// The snapshot of NOW that isn't committed yet has the bytes that its volume, which is there too, had after the group
+/// that takes it.
+pub fn pending_snapshots_are_of_volumes()
+    ensures { (v : View) (name : List ℕ) (snapshot : PlainVolume) → GroupsAreBelow v →
+        AreGood v.ledger → volume_at name (now_of v) ≡ Some snapshot →
+        is_pending_snapshot v (shape_of snapshot) ≡ true →
+        (volume : PlainVolume) × IsTakenOf v name snapshot volume }
 {}
 
 /// By its creation group a volume of NOW is committed or not, and so are the bytes that lie under its pending writes.
@@ -86,8 +99,9 @@ pub fn creation_groups_tell_what_is_committed()
         base_of v name volume ≡ replicate (length volume.bytes) 0 }
 {}
 
-/// A change that is not refused makes a volume that may be made.
+/// A change that is not refused makes a volume that may be made, or takes a snapshot that may be taken, where the volumes that are
+/// there have names that may be had.
 pub fn changes_that_are_not_refused_are_good()
-    ensures { (change : ChangeValue) (pool : PlainPool) → change_refusal change pool ≡ None →
-        is_good_change change ≡ true }
+    ensures { (change : ChangeValue) (pool : PlainPool) → HasGoodNames pool →
+        change_refusal change pool ≡ None → is_good_change change ≡ true }
 {}

@@ -10,13 +10,17 @@ mod overlay;
 mod pieces;
 mod shape;
 
-pub use causes::{against_change, against_read, against_write, is_good_shape, makes_good_volumes};
+pub use causes::{
+    against_change, against_read, against_write, is_good_change, is_good_name, is_good_shape,
+    makes_good_volumes,
+};
 pub use covered::is_covered;
-pub use index::NameIndex;
+pub use index::{NameIndex, NewName};
 pub use laws::{
     changes_move_now, changes_that_are_not_refused_are_good,
-    creation_groups_tell_what_is_committed, groups_stay_below, indexes_follow_now, steps_move_now,
+    creation_groups_tell_what_is_committed, groups_stay_below, indexes_follow_now,
+    pending_snapshots_are_of_volumes, steps_move_now,
 };
-pub use overlay::{lay_over, read_pending};
+pub use overlay::{lay_over, read_pending, read_taken};
 pub use pieces::{covers_any, lay_pending};
 pub use shape::VolumeShape;

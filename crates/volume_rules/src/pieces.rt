@@ -1,8 +1,9 @@
 //! The pending writes of a group, looked at piece by piece.
-ghost use Rattle.std.specs.Prelude.{◌≡◌, ◌↔◌, ℕ, ◌+◌, ◌%◌, ◌<◌, ◌≤◌, List, IsTrue, length, true};
+ghost use Rattle.std.specs.Prelude.{◌≡◌, ◌↔◌, ℕ, ◌+◌, ◌%◌, ◌<◌, ◌≤◌, IsTrue, length, false, true};
 ghost use Rattle.std.specs.List.{Contains};
 ghost use Rattle.pool_model.specs.declared.volume.PlainVolume.{PlainVolume};
 ghost use Rattle.pool_model.specs.Names.{same};
+ghost use Rattle.pool_model.specs.Pools.{is_snapshot};
 ghost use Rattle.txg_pipeline.specs.Positions.{IsAt};
 ghost use Rattle.volume_rules.specs.Covering.{AreCovering, CoversRange};
 ghost use Rattle.volume_rules.specs.Overlay.{after_writes, HasRange};
@@ -18,6 +19,7 @@ use txg_pipeline::{PIECE_BYTES, Pending};
 pub fn lay_pending(items: &Pending, name: &Name, size: u64, offset: u64, buffer: &mut [u8])
     requires { offset + length buffer.old ≤ size }
     ensures { (volume : PlainVolume) → same volume.name name.now ≡ true →
+        is_snapshot volume.kind ≡ false →
         length volume.bytes ≡ size → HasRange buffer.old volume.bytes offset →
         HasRange buffer.new (after_writes volume items.now.writes).bytes offset }
 {
@@ -75,6 +77,7 @@ fn lay_piece(items: &Pending, name: &Name, size: u64, offset: u64, buffer: &mut 
     requires fits { offset + length buffer.old ≤ size }
     requires within { offset % PIECE_BYTES + length buffer.old ≤ PIECE_BYTES }
     ensures { (volume : PlainVolume) → same volume.name name.now ≡ true →
+        is_snapshot volume.kind ≡ false →
         length volume.bytes ≡ size → HasRange buffer.old volume.bytes offset →
         HasRange buffer.new (after_writes volume items.now.writes).bytes offset }
 {

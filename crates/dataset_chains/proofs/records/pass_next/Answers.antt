@@ -1,8 +1,9 @@
-use Rattle.std.proofs.Common.{inr, refl}
+use Rattle.std.proofs.Common.{inl, inr, refl}
 use Rattle.dnode_tree.proofs.Refusing.{passed_on as refused_on}
 use Rattle.dataset_chains.proofs.Passed.{found_alone, passed_none, passed_not, passed_on}
 use Rattle.dataset_chains.proofs.ReadRecords.{before_there}
 use Rattle.dataset_chains.proofs.Refusing.{lost_first}
+use Rattle.dataset_chains.proofs.Touching.{none_read, passes, read_at_most}
 use Rattle.dataset_chains.proofs.records.pass_next.Goals as goal
 
 pub returns-then-before-eq0-clause-value : goal.returns-then-before-eq0-clause-value
@@ -39,3 +40,17 @@ returns-else-dataset-from-clause-value g c = λ stored objects own blocks held a
       passed_not objects c.args.changes.now c.record.new.self c.args.before c.args.from c.args.to c.if-before-eq0.false c.in_ok-dataset.dataset c.in_ok-dataset.ensures.kept value
           c.if-dataset-from.false,
     )
+
+pub returns-then-before-eq0-clause-touched : goal.returns-then-before-eq0-clause-touched
+returns-then-before-eq0-clause-touched g c = λ number. inl (none_read c.args.changes.now number)
+
+pub returns-in_ok-change_record-clause-touched : goal.returns-in_ok-change_record-clause-touched
+returns-in_ok-change_record-clause-touched g c =
+    let old = c.args.changes.now in
+    let mid = c.record.new.self in
+    passes old mid c.change_record.new.self c.args.before _ c.if-before-eq0.false
+    (read_at_most old mid c.args.before c.in_ok-dataset.dataset c.in_ok-dataset.ensures.kept) c.in_ok-change_record.ensures.put
+
+pub returns-else-dataset-from-clause-touched : goal.returns-else-dataset-from-clause-touched
+returns-else-dataset-from-clause-touched g c = λ number.
+    inl (read_at_most c.args.changes.now c.record.new.self c.args.before c.in_ok-dataset.dataset c.in_ok-dataset.ensures.kept number)

@@ -1,4 +1,4 @@
-use Rattle.std.proofs.Common.{⊎_elim, inl, inr, sym, ℕ, subst}
+use Rattle.std.proofs.Common.{⊎_elim, inl, inr, sym, ℕ, subst, ◌∙◌}
 use Rattle.block_store.proofs.Steps.{reads_on}
 use Rattle.dnode_tree.proofs.FurtherReads.{true_before, true_after}
 use Rattle.dnode_tree.proofs.Refusing.{passed_on}
@@ -7,6 +7,7 @@ use Rattle.dataset_chains.proofs.Chained.{objects_on}
 use Rattle.dataset_chains.proofs.ReadRecords.{head_read}
 use Rattle.dataset_chains.proofs.Refusing.{lost_later}
 use Rattle.dataset_chains.proofs.Snapped.{head_kept, snapped}
+use Rattle.dataset_chains.proofs.Touching.{takes}
 use Rattle.dataset_chains.proofs.Unused.{new_list_on}
 use Rattle.dataset_chains.proofs.taking.snapshot.Goals as goal
 
@@ -74,3 +75,12 @@ returns-in_err-pass_next-clause-known g c =
     let it = head_read known group objects pool readings c.record_of_kind.new.changes c.args.head c.in_ok-dataset.dataset first.0 first.1 head in
     c.in_err-pass_next.ensures.known stored known group objects own blocks pool readings (r1.keeps stored held)
     (objects_on stored objects own blocks c.args.changes.now c.record_of_kind.new.changes c.record_of_kind.ensures.one_set are) (true_after _ _ _ _ r1 r2 honest) first.0 c.args.head it.before)
+
+pub returns-clause-touched : goal.returns-clause-touched
+returns-clause-touched g c =
+    takes c.args.changes.now c.record_of_kind.new.changes c.pass_next.new.changes c.make_record.new.self c.change_record.new.self c.make_list.new.self
+    c.args.head c.args.numbers.dataset c.args.numbers.dead_list c.in_ok-dataset.dataset _ _ _
+    c.record_of_kind.ensures.one_set c.in_ok-dataset.ensures.known_as c.in_ok-dataset.ensures.touched c.in_ok-pass_next.ensures.touched
+    c.in_ok-make_record.ensures.put c.in_ok-change_record.ensures.put c.make_list.ensures.records
+    (λ one. c.change_record.ensures.lists one ∙ c.make_record.ensures.lists one ∙ c.pass_next.ensures.lists one ∙ c.record_of_kind.ensures.lists one)
+    c.in_ok-make_list.ensures.put

@@ -1,4 +1,4 @@
-use Rattle.std.proofs.Common.{inl, inr, ⊎_elim, List, sym, ap, subst, ◌∙◌}
+use Rattle.std.proofs.Common.{inl, inr, ⊎_elim, List, sym, subst}
 use Rattle.block_store.proofs.Steps.{reads_on}
 use Rattle.block_store.specs.Spaces.{VdevSpace}
 use Rattle.dnode_tree.proofs.FurtherReads.{true_before, true_after}

@@ -4,7 +4,7 @@ use Rattle.std.proofs.lemmas.Result.{IfErr-weaker}
 use Rattle.block_store.proofs.Steps.{steps_on, steps_read, true_before, true_after}
 use Rattle.block_store.specs.Store.{Store}
 use Rattle.dataset_groups.specs.Groups.{SpellsGroup}
-use Rattle.dataset_groups.specs.NewVolumes.{AreGoodCreations}
+use Rattle.dataset_groups.specs.NewVolumes.{AreGoodChanges}
 use Rattle.dnode.specs.declared.object_set.ObjectSetKind.TheVariants as sets
 use Rattle.dnode_tree.proofs.Refusing.{passed_on}
 use Rattle.objset.specs.declared.changes.ObjectChange.{ObjectChange}
@@ -27,7 +27,7 @@ use Rattle.dataset_snapshots.proofs.first_root.first_group.Goals as goal
 pub returns-in_err-datasets-clause-known : goal.returns-in_err-datasets-clause-known
 returns-in_err-datasets-clause-known g c =
     passed_on _ _ _ c.from_residual.ensures.1 (λ stored planned plans unused honest good.
-    c.in_err-datasets.ensures.known stored planned plans honest (subst AreGoodCreations (sym c.actions.ensures) good))
+    c.in_err-datasets.ensures.known stored planned plans honest (subst AreGoodChanges (sym c.actions.ensures) good))
 
 pub returns-in_err-datasets-clause-refused : goal.returns-in_err-datasets-clause-refused
 returns-in_err-datasets-clause-refused g c =

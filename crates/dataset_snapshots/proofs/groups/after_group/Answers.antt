@@ -17,7 +17,7 @@ use Rattle.objset.specs.Within.{blocks_of_set}
 use Rattle.pool_model.specs.Pools.{PlainPool}
 use Rattle.dataset_snapshots.specs.Reach.{volume_blocks_of}
 use Rattle.dataset_snapshots.proofs.GroupReach.{AreVolumesGiven, IsRootGiven}
-use Rattle.dataset_groups.specs.NewVolumes.{AreGoodCreations}
+use Rattle.dataset_groups.specs.NewVolumes.{AreGoodChanges}
 use Rattle.objset.specs.Objects.{AreObjects}
 use Rattle.std.specs.Prelude.{AllPairs}
 use Rattle.std.proofs.Common.{◌<◌}
@@ -60,7 +60,7 @@ returns-in_err-made-clause-known g c =
     let early = c.in_ok-opened.ensures.early in
     c.in_err-made.ensures.known stored planned _ c.args.root.now pool _ (first.plans stored planned plans) is refl (omega (arith, early)) c.in_ok-opened.ensures.opened
     (c.in_ok-opened.ensures.value stored pool plans.held is same before) (subst (λ (spaces : List VdevSpace). AreMapsOf is.objects spaces filled) unchanged maps.maps)
-    (subst (λ (spaces : List VdevSpace). StandsOnce spaces is) unchanged stands) after (subst AreGoodCreations (sym c.actions.ensures) good))
+    (subst (λ (spaces : List VdevSpace). StandsOnce spaces is) unchanged stands) after (subst AreGoodChanges (sym c.actions.ensures) good))
 
 pub returns-clause-steps : goal.returns-clause-steps
 returns-clause-steps g c = steps_on _ _ _ _ (steps_on _ _ _ _ (steps_read _ _ _ c.in_ok-opened.ensures.reads) c.in_ok-made.ensures.steps) c.plan_root.ensures.steps

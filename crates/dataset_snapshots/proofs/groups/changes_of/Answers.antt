@@ -1,4 +1,4 @@
-use Rattle.std.proofs.Common.{◌≡◌, ℕ, List, [], length, ⊎_elim, inl, inr, sym, subst, ◌∙◌, arith}
+use Rattle.std.proofs.Common.{◌≡◌, ℕ, List, [], ⊎_elim, inl, inr, sym, subst, ◌∙◌, arith}
 use Rattle.std.specs.Prelude.{fold}
 use Rattle.std.proofs.lemmas.Result.{IfErr-weaker, IfOk-weaker}
 use Rattle.block_pointer.specs.declared.block.Block.{Block}
@@ -14,8 +14,8 @@ use Rattle.dataset_snapshots.specs.Demands.{HasDatasetChanges}
 use Rattle.dataset_snapshots.proofs.BelowNext.{not_misnumbered}
 use Rattle.dataset_snapshots.proofs.Copied.{adds_on}
 use Rattle.dataset_snapshots.proofs.Exchanges.{given_then}
-use Rattle.dataset_snapshots.proofs.GroupsLeft.{begun, left_by}
-use Rattle.dataset_snapshots.proofs.GroupsTouched.{actions_refused, datasets_refused, group_datasets, idle_rows, volumes_have}
+use Rattle.dataset_snapshots.proofs.GroupsLeft.{begun, left_by, objects_still}
+use Rattle.dataset_snapshots.proofs.GroupsTouched.{actions_refused, datasets_refused, idle_rows, volumes_have}
 use Rattle.dataset_snapshots.proofs.groups.changes_of.Goals as goal
 
 pub returns-in_err-write_all-clause-known : goal.returns-in_err-write_all-clause-known
@@ -28,48 +28,51 @@ returns-in_err-write_all-clause-known g c =
 pub returns-in_err-write_all-clause-refused : goal.returns-in_err-write_all-clause-refused
 returns-in_err-write_all-clause-refused g c = passed_on _ _ _ c.from_residual.ensures.1 (inr (inl c.in_err-write_all.ensures.refused))
 
-pub returns-in_err-create_all-clause-steps : goal.returns-in_err-create_all-clause-steps
-returns-in_err-create_all-clause-steps g c = steps_on _ _ _ _ c.write_all.ensures.steps c.create_all.ensures.steps
+pub returns-in_err-act_all-clause-steps : goal.returns-in_err-act_all-clause-steps
+returns-in_err-act_all-clause-steps g c = steps_on _ _ _ _ c.write_all.ensures.steps c.act_all.ensures.steps
 
-pub returns-in_err-create_all-clause-known : goal.returns-in_err-create_all-clause-known
-returns-in_err-create_all-clause-known g c =
-    passed_on _ _ _ c.from_residual-in_err-create_all.ensures.1
+pub returns-in_err-act_all-clause-known : goal.returns-in_err-act_all-clause-known
+returns-in_err-act_all-clause-known g c =
+    passed_on _ _ _ c.from_residual-in_err-act_all.ensures.1
     (λ stored planned birth root pool writes plans is lt opens from honest good.
     let it = begun stored planned birth c.args.group root pool is writes c.args.opened (λ block bytes known. plans.kept block bytes known) lt opens from in
     let placed = c.in_ok-write_all.ensures.value stored planned root.birth is.objects is.own is.blocks (record is.datasets { group = c.args.group }) is.readings pool writes plans it.0
-    (true_before c.args.store.now c.write_all.new.store c.create_all.new.store c.create_all.ensures.steps.reads honest) (omega (arith, lt)) it.1 it.2 in
-    c.in_err-create_all.ensures.known good stored placed.0 placed.1
-    (true_after c.args.store.now c.write_all.new.store c.create_all.new.store c.write_all.ensures.steps.reads honest))
+    (true_before c.args.store.now c.write_all.new.store c.act_all.new.store c.act_all.ensures.steps.reads honest) (omega (arith, lt)) it.1 it.2 in
+    c.in_err-act_all.ensures.known stored placed.0 is.objects is.own is.blocks placed.3 placed.4 (fold written pool writes) good placed.1
+    (objects_still stored c.args.opened.datasets.changes c.write_all.new.self.changes is.objects is.own is.blocks c.write_all.ensures.one_set it.0)
+    (true_after c.args.store.now c.write_all.new.store c.act_all.new.store c.write_all.ensures.steps.reads honest) placed.5)
 
-pub returns-in_err-create_all-clause-refused : goal.returns-in_err-create_all-clause-refused
-returns-in_err-create_all-clause-refused g c =
+pub returns-in_err-act_all-clause-refused : goal.returns-in_err-act_all-clause-refused
+returns-in_err-act_all-clause-refused g c =
     let opens = c.requires.opened.1 in
-    let old : GroupDatasets = c.args.opened.datasets in
     let mid : GroupDatasets = c.write_all.new.self in
-    passed_on _ _ _ c.from_residual-in_err-create_all.ensures.1
-    (actions_refused c.args.store.now c.write_all.new.store c.create_all.new.store c.args.group c.args.opened c.args.actions.now mid c.create_all.new.self c.write_all.ensures.directory
-    (c.write_all.ensures.next ∙ opens.next) c.in_ok-write_all.ensures.places _ c.write_all.ensures.steps c.in_err-create_all.ensures.refused)
+    passed_on _ _ _ c.from_residual-in_err-act_all.ensures.1
+    (actions_refused c.args.store.now c.write_all.new.store c.act_all.new.store c.args.group c.args.opened c.args.actions.now mid c.act_all.new.self c.write_all.ensures.directory
+    (c.write_all.ensures.next ∙ opens.next) c.in_ok-write_all.ensures.touched c.in_ok-write_all.ensures.places _ c.write_all.ensures.steps c.in_err-act_all.ensures.refused)
 
 pub returns-clause-steps : goal.returns-clause-steps
-returns-clause-steps g c = steps_on _ _ _ _ c.write_all.ensures.steps c.create_all.ensures.steps
+returns-clause-steps g c = steps_on _ _ _ _ c.write_all.ensures.steps c.act_all.ensures.steps
 
 pub returns-clause-value : goal.returns-clause-value
 returns-clause-value g c =
     let old : GroupDatasets = c.args.opened.datasets in
     let mid : GroupDatasets = c.write_all.new.self in
-    let new : GroupDatasets = c.create_all.new.self in
+    let new : GroupDatasets = c.act_all.new.self in
     let group = c.args.group in
     IfOk-weaker c.with_directory.result _ _ (λ all both stored planned birth root pool writes plans is lt opens from honest.
     let it = begun stored planned birth group root pool is writes c.args.opened (λ block bytes known. plans.kept block bytes known) lt opens from in
     let placed = c.in_ok-write_all.ensures.value stored planned root.birth is.objects is.own is.blocks (record is.datasets { group = group }) is.readings pool writes plans it.0
-    (true_before c.args.store.now c.write_all.new.store c.create_all.new.store c.create_all.ensures.steps.reads honest) (omega (arith, lt)) it.1 it.2 in
-    let made = c.in_ok-create_all.ensures.value stored placed.0 is.objects placed.3 placed.4 (fold written pool writes) placed.1
-    (true_after c.args.store.now c.write_all.new.store c.create_all.new.store c.write_all.ensures.steps.reads honest) placed.5 in
+    (true_before c.args.store.now c.write_all.new.store c.act_all.new.store c.act_all.ensures.steps.reads honest) (omega (arith, lt)) it.1 it.2 in
+    let made = c.in_ok-act_all.ensures.value stored placed.0 is.objects is.own is.blocks placed.3 placed.4 (fold written pool writes) placed.1
+    (objects_still stored old.changes mid.changes is.objects is.own is.blocks c.write_all.ensures.one_set it.0)
+    (true_after c.args.store.now c.write_all.new.store c.act_all.new.store c.write_all.ensures.steps.reads honest) placed.5 in
     let rows_are : mid.directory ≡ is.rows = c.write_all.ensures.directory ∙ from.directory in
-    let left = left_by made.0 group is.objects is.rows new made.3 made.4 (fold (λ p a. pool_changed group p a.change) (fold written pool writes) c.args.actions.now) old.next all.changes.items is.directory made.5
-    (idle_rows c.write_all.new.store c.create_all.new.store group mid new c.args.actions.now old.next is.rows c.write_all.ensures.next rows_are c.in_ok-create_all.ensures.places) both.0 in
+    let acted = made.3 in
+    let left = left_by made.0 group is.objects is.rows new acted.after acted.readings (fold (λ p a. pool_changed group p a.change) (fold written pool writes) c.args.actions.now) old.next
+    all.changes.items is.directory acted.spells
+    (idle_rows c.write_all.new.store c.act_all.new.store group mid new c.args.actions.now old.next is.rows c.write_all.ensures.next rows_are c.in_ok-act_all.ensures.places) both.0 in
     let first = subst (λ (rows : List DirectoryRow). IsReachExchanged group planned placed.0 (reach_by (record is.datasets { group = group }) rows) (reach_by placed.3 rows) placed.6) from.directory placed.8 in
-    let second = subst (λ (rows : List DirectoryRow). IsReachExchanged group placed.0 made.0 (reach_by placed.3 rows) (reach_by made.3 new.directory) []) rows_are made.6 in
+    let second = subst (λ (rows : List DirectoryRow). IsReachExchanged group placed.0 made.0 (reach_by placed.3 rows) (reach_by acted.after new.directory) []) rows_are acted.exchanged in
     let last = subst (λ (blocks : List Block). IsReachExchanged group placed.0 made.0 (reach_by placed.3 is.rows) blocks []) (sym left.2) second in (
       made.0,
       made.1,
@@ -79,38 +82,40 @@ returns-clause-value g c =
       placed.7,
       given_then group planned placed.0 made.0 (reach_by is.datasets is.rows) (reach_by placed.3 is.rows) (reach_by left.0.datasets left.0.rows) placed.6 placed.2 made.2 first last,
       left.1 ∙ sym both.1,
-      adds_on planned placed.0 made.0 placed.9 made.7,
+      adds_on planned placed.0 made.0 placed.9 acted.adds,
       left.3,
     )) (ok_both c.with_directory.result _ _ c.with_directory.ensures.changes c.with_directory.ensures.directory)
 
 pub returns-clause-known : goal.returns-clause-known
 returns-clause-known g c =
-    let new : GroupDatasets = c.create_all.new.self in
+    let old : GroupDatasets = c.args.opened.datasets in
+    let mid : GroupDatasets = c.write_all.new.self in
+    let new : GroupDatasets = c.act_all.new.self in
     let group = c.args.group in
     IfErr-weaker c.with_directory.result _ _ (λ refusal why stored planned birth root pool writes plans is lt opens from honest good.
     let it = begun stored planned birth group root pool is writes c.args.opened (λ block bytes known. plans.kept block bytes known) lt opens from in
     let placed = c.in_ok-write_all.ensures.value stored planned root.birth is.objects is.own is.blocks (record is.datasets { group = group }) is.readings pool writes plans it.0
-    (true_before c.args.store.now c.write_all.new.store c.create_all.new.store c.create_all.ensures.steps.reads honest) (omega (arith, lt)) it.1 it.2 in
-    let made = c.in_ok-create_all.ensures.value stored placed.0 is.objects placed.3 placed.4 (fold written pool writes) placed.1
-    (true_after c.args.store.now c.write_all.new.store c.create_all.new.store c.write_all.ensures.steps.reads honest) placed.5 in
+    (true_before c.args.store.now c.write_all.new.store c.act_all.new.store c.act_all.ensures.steps.reads honest) (omega (arith, lt)) it.1 it.2 in
+    let made = c.in_ok-act_all.ensures.value stored placed.0 is.objects is.own is.blocks placed.3 placed.4 (fold written pool writes) placed.1
+    (objects_still stored old.changes mid.changes is.objects is.own is.blocks c.write_all.ensures.one_set it.0)
+    (true_after c.args.store.now c.write_all.new.store c.act_all.new.store c.write_all.ensures.steps.reads honest) placed.5 in
     ⊎_elim (λ memory. inl (inl memory))
     (λ mis.
-    absurd (not_misnumbered made.0 group is.objects new made.3 made.4 (fold (λ p a. pool_changed group p a.change) (fold written pool writes) c.args.actions.now) made.5 mis.1))
+    absurd (not_misnumbered made.0 group is.objects new made.3.after made.3.readings (fold (λ p a. pool_changed group p a.change) (fold written pool writes) c.args.actions.now) made.3.spells
+    mis.1))
     why) c.with_directory.ensures.refused
 
 pub returns-clause-places : goal.returns-clause-places
 returns-clause-places g c =
     let opens = c.requires.opened.1 in
     let mid : GroupDatasets = c.write_all.new.self in
-    let new : GroupDatasets = c.create_all.new.self in
-    let makes = c.in_ok-create_all.ensures.places in
-    let touched = c.in_ok-create_all.ensures.touched in
-    let are = group_datasets c.requires.opened.0 c.args.opened opens mid new touched.0 (length makes.made) c.write_all.ensures.next c.write_all.ensures.one_set c.create_all.ensures.one_set
-    c.in_ok-write_all.ensures.touched touched.1 touched.2 makes.names.next in
+    let new : GroupDatasets = c.act_all.new.self in
+    let makes = c.in_ok-act_all.ensures.places in
     IfOk-weaker c.with_directory.result _ _
     (λ all both.
-    volumes_have c.args.store.now c.write_all.new.store c.create_all.new.store c.args.group c.args.opened c.args.actions.now mid new c.write_all.ensures.directory
-    (c.write_all.ensures.next ∙ opens.next) c.in_ok-write_all.ensures.places makes are all.changes.items all.next both.1 c.write_all.ensures.steps.shapes
+    volumes_have c.args.store.now c.write_all.new.store c.act_all.new.store c.args.group c.args.opened c.args.actions.now mid new c.write_all.ensures.directory
+    (c.write_all.ensures.next ∙ opens.next) c.in_ok-write_all.ensures.touched c.in_ok-write_all.ensures.places c.write_all.ensures.one_set c.act_all.ensures.one_set makes
+    all.changes.items all.next both.1 c.write_all.ensures.steps.shapes
     (subst (λ (n : ℕ). HasDatasetChanges new n all.changes.items) opens.next both.0))
     (ok_both c.with_directory.result _ _ c.with_directory.ensures.changes c.with_directory.ensures.next_is)
 
@@ -118,14 +123,11 @@ pub returns-clause-refused : goal.returns-clause-refused
 returns-clause-refused g c =
     let opens = c.requires.opened.1 in
     let mid : GroupDatasets = c.write_all.new.self in
-    let new : GroupDatasets = c.create_all.new.self in
-    let makes = c.in_ok-create_all.ensures.places in
-    let touched = c.in_ok-create_all.ensures.touched in
-    let are = group_datasets c.requires.opened.0 c.args.opened opens mid new touched.0 (length makes.made) c.write_all.ensures.next c.write_all.ensures.one_set c.create_all.ensures.one_set
-    c.in_ok-write_all.ensures.touched touched.1 touched.2 makes.names.next in
+    let new : GroupDatasets = c.act_all.new.self in
+    let makes = c.in_ok-act_all.ensures.places in
     IfErr-weaker c.with_directory.result _ _
     (λ refusal why.
-    datasets_refused c.args.store.now c.write_all.new.store c.create_all.new.store c.args.group c.args.opened c.args.actions.now mid new c.write_all.ensures.directory
-    (c.write_all.ensures.next ∙ opens.next) c.in_ok-write_all.ensures.places makes are refusal
-    (steps_on c.args.store.now c.write_all.new.store c.create_all.new.store [] c.write_all.ensures.steps c.create_all.ensures.steps) why)
+    datasets_refused c.args.store.now c.write_all.new.store c.act_all.new.store c.args.group c.args.opened c.args.actions.now mid new c.write_all.ensures.directory
+    (c.write_all.ensures.next ∙ opens.next) c.in_ok-write_all.ensures.touched c.in_ok-write_all.ensures.places c.write_all.ensures.one_set c.act_all.ensures.one_set makes refusal
+    (steps_on c.args.store.now c.write_all.new.store c.act_all.new.store [] c.write_all.ensures.steps c.act_all.ensures.steps) why)
     c.with_directory.ensures.refused

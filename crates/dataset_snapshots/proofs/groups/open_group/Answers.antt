@@ -35,7 +35,7 @@ read_written-requires-clause-rows g c =
     (all_from (λ object. (row : DirectoryRow) × HasRow rows object row) c.in_ok-objects.objects.items
     (λ object held.
     let named = ((subst (λ (ws : List Write). (object : ℕ) → Contains c.in_ok-objects.objects.items object ↔ IsWritten rows ws object) c.writes.ensures c.in_ok-objects.ensures.objects) object).0 held in
-    let row = named.4 in
+    let row = named.4.1 in
     (row.0, (row.1, row.3)))))
 
 pub returns-in_err-written-clause-reads : goal.returns-in_err-written-clause-reads

@@ -12,7 +12,7 @@ use Rattle.dnode_tree.specs.Rewriting.{AreDistinct}
 use Rattle.objset.specs.Within.{blocks_of_objects, blocks_of_set, reads_of, IsSetWalked}
 use Rattle.dataset_snapshots.specs.Reach.{reach_of, volume_blocks_of}
 use Rattle.dataset_snapshots.proofs.BlocksOnce.{back_once, front_once, set_once}
-use Rattle.dataset_snapshots.proofs.Chained.{parts_are_reach, volumes_of}
+use Rattle.dataset_snapshots.proofs.ChainWalks.{rows_some}
 use Rattle.dataset_snapshots.proofs.Datasets.{are_of_root}
 use Rattle.dataset_snapshots.proofs.Reaching.{parts_are, reached_by, reads_few}
 use Rattle.dataset_snapshots.proofs.WalkedRows.{set_few}
@@ -92,10 +92,9 @@ returns-in_err-below-clause-known g c =
     c.in_ok-own.ensures.blocks stored is.objects is.own is.blocks (first.keeps stored held) are (true_after _ _ _ _ first second before)
     ∙ ap (λ (set : ObjectSet). blocks_of_set set is.own is.blocks) same in
     let few = set_few _ _ _ _ _ _ c.in_ok-own.ensures.count in
-    c.in_err-below.ensures.known stored is.objects is.own is.blocks is.rows pool.volumes (both.keeps stored held) are is.directory (volumes_of is)
-    (subst (λ (them : List Block). AreDistinct them) (sym (parts_are_reach is)) (back_once own below (back_once (c.args.root.now ∷ []) (own ++ below) once)))
-    (subst (λ (them : List Block). length them ≤ c.walk_within.new.left) (sym (parts_are_reach is))
-    (omega (arith, few, ap length own_is, length-append own below, c.in_ok-set.ensures.count, long)))
+    c.in_err-below.ensures.known stored is.objects is.own is.blocks is.datasets is.readings is.rows (both.keeps stored held) are is.directory is.chains
+    (rows_some is.datasets is.readings is.rows pool.volumes is.names.volumes)
+    (omega (arith, few, ap length own_is, length-append own below, c.in_ok-set.ensures.count, long))
     (true_after _ _ _ _ both third honest))
 
 pub returns-in_err-found-clause-reads : goal.returns-in_err-found-clause-reads
@@ -128,7 +127,8 @@ returns-clause-reach g c =
     (c.in_ok-own.ensures.blocks stored is.objects is.own is.blocks (first.keeps stored held) are (true_after _ _ _ _ first second before)
     ∙ ap (λ (set : ObjectSet). blocks_of_set set is.own is.blocks) same)
     (c.deref.ensures.value
-    ∙ c.in_ok-below.ensures.blocks stored is.objects is.own is.blocks is.rows pool.volumes (both.keeps stored held) are is.directory (volumes_of is) (true_after _ _ _ _ both third honest) ∙ parts_are_reach is)))
+    ∙ c.in_ok-below.ensures.blocks stored is.objects is.own is.blocks is.datasets is.readings is.rows (both.keeps stored held) are is.directory is.chains
+    (rows_some is.datasets is.readings is.rows pool.volumes is.names.volumes) (true_after _ _ _ _ both third honest))))
     c.whole.ensures.same
 
 pub returns-clause-count : goal.returns-clause-count
@@ -174,6 +174,7 @@ returns-clause-known g c =
     (c.in_ok-own.ensures.blocks stored is.objects is.own is.blocks (first.keeps stored held) are (true_after _ _ _ _ first second before)
     ∙ ap (λ (set : ObjectSet). blocks_of_set set is.own is.blocks) same)
     (c.deref.ensures.value
-    ∙ c.in_ok-below.ensures.blocks stored is.objects is.own is.blocks is.rows pool.volumes (both.keeps stored held) are is.directory (volumes_of is) (true_after _ _ _ _ both third honest) ∙ parts_are_reach is) in
+    ∙ c.in_ok-below.ensures.blocks stored is.objects is.own is.blocks is.datasets is.readings is.rows (both.keeps stored held) are is.directory is.chains
+    (rows_some is.datasets is.readings is.rows pool.volumes is.names.volumes) (true_after _ _ _ _ both third honest)) in
     ⊎_elim (λ memory. inl memory) (λ bad. absurd (bad.1 (subst (λ blocks. AreDistinct blocks) (sym found_is) once))) why)
     c.whole.ensures.refused

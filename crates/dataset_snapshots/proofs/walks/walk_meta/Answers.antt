@@ -1,4 +1,4 @@
-use Rattle.std.proofs.Common.{◌≡◌, ◌∙◌, ◌++◌, ◌∷◌, ◌≤◌, [], List, inl, inr, ⊎_elim, refl, sym, ap, subst, length, arith}
+use Rattle.std.proofs.Common.{◌≡◌, ◌∙◌, ◌∷◌, ◌≤◌, [], List, inl, inr, ⊎_elim, refl, sym, ap, subst, arith}
 use Rattle.std.proofs.lemmas.List.{append-nil}
 use Rattle.block_pointer.specs.declared.block.Block.{Block}
 use Rattle.block_store.proofs.Steps.{reads_on}
@@ -9,7 +9,7 @@ use Rattle.dnode_tree.proofs.Refusing.{passed_on}
 use Rattle.dnode_tree.specs.Rewriting.{AreDistinct}
 use Rattle.object_table.proofs.Tables.{spaces_stay}
 use Rattle.objset.specs.Within.{blocks_of_objects, blocks_of_set, reads_of, IsSetWalked}
-use Rattle.dataset_snapshots.specs.Reach.{meta_blocks_of, IsMetaWalked}
+use Rattle.dataset_snapshots.specs.Reach.{meta_blocks_of}
 use Rattle.dataset_snapshots.proofs.BlocksOnce.{back_once, set_once}
 use Rattle.dataset_snapshots.proofs.Datasets.{are_of_root}
 use Rattle.dataset_snapshots.proofs.Reaching.{reads_few}

@@ -1,14 +1,13 @@
-use Rattle.std.proofs.Common.{◌∙◌, ◌+◌, ◌++◌, ◌<◌, ◌≤◌, ℕ, List, inr, refl, sym, ap, subst, length, take, drop, arith}
+use Rattle.std.proofs.Common.{◌∙◌, ◌+◌, ◌++◌, List, inr, refl, ap, subst, take, drop, arith}
 use Rattle.std.proofs.lemmas.List.{take_all}
 use Rattle.block_store.proofs.Steps.{reads_on}
+use Rattle.dataset_groups.specs.Names.{reach_by}
 use Rattle.dnode_tree.proofs.FurtherReads.{true_before, true_after}
 use Rattle.dnode_tree.proofs.Refusing.{passed_on}
-use Rattle.dnode_tree.specs.Rewriting.{AreDistinct}
-use Rattle.dnode_tree.specs.Subtree.{joined}
 use Rattle.meta_objset.specs.declared.directory.DirectoryRow.{DirectoryRow}
-use Rattle.dataset_snapshots.specs.Reach.{parts_of, AreRowsWalked}
-use Rattle.dataset_snapshots.proofs.BlocksOnce.{part_once}
-use Rattle.dataset_snapshots.proofs.WalkedRows.{as_many, at_row, next_part, next_row, part_at, part_within, rows_few}
+use Rattle.dataset_snapshots.specs.Reach.{AreRowsWalked}
+use Rattle.dataset_snapshots.proofs.ChainWalks.{enough_left, next_walked}
+use Rattle.dataset_snapshots.proofs.WalkedRows.{at_row, next_row, rows_few}
 use Rattle.dataset_snapshots.proofs.walks.walk_rows.Goals as goal
 
 pub returns-in_err-more-clause-reads : goal.returns-in_err-more-clause-reads
@@ -33,16 +32,11 @@ pub returns-in_err-more-clause-known : goal.returns-in_err-more-clause-known
 returns-in_err-more-clause-known g c =
     let first = c.loop-row.invariant.reads in
     let rest = c.in_err-more.ensures.reads in
-    passed_on _ _ _ c.from_residual.ensures.1 (λ stored objects own blocks volumes held are all once long honest.
-    let parts : List _ = parts_of stored c.args.birth objects c.args.rows.now volumes all in
-    let k : ℕ = c.loop-row.row-index in
-    let low : k < length parts = omega (arith, as_many stored c.args.birth objects c.args.rows.now volumes all, c.loop-row-test.true) in
-    let one = part_at stored c.args.birth objects c.args.rows.now volumes all k _ _ c.loop-row-test.true refl in
-    let so_far = c.loop-row.invariant.value stored objects own blocks volumes held are all (true_before _ _ _ _ first rest honest) in
+    passed_on _ _ _ c.from_residual.ensures.1 (λ stored objects own blocks pool readings held are chains some long honest.
+    let so_far = c.loop-row.invariant.value stored objects own blocks pool readings held are chains some (true_before _ _ _ _ first rest honest) in
     let few = rows_few _ _ _ _ _ _ _ c.loop-row.invariant.walked in
-    c.in_err-more.ensures.known stored objects own blocks _ one.volume (first.keeps stored held) are one.is refl
-    (subst (λ part. AreDistinct part) one.same (part_once parts k low once))
-    (omega (arith, part_within parts k low, few, ap length so_far, ap length one.same, long))
+    c.in_err-more.ensures.known stored objects own blocks pool readings (first.keeps stored held) are chains (some c.loop-row.row-index _ c.loop-row-test.true)
+    (enough_left pool c.args.rows.now c.loop-row.row-index _ _ c.loop-row.found.items c.args.left.now c.loop-row.left c.loop-row-test.true refl so_far few long)
     (true_after _ _ _ _ first rest honest))
 
 pub returns-in_err-add-clause-reads : goal.returns-in_err-add-clause-reads
@@ -58,14 +52,11 @@ loop-row-preserved g c =
       walked = next_row c.args.store.now c.loop-row.store c.args.missing.now c.args.set.now c.args.birth c.args.rows.now c.loop-row.row-index _ _ c.args.left.now c.loop-row.left
           c.walk_dataset.new.left c.loop-row.found.items c.in_ok-more.more.items c.add.new.found.items first c.loop-row-test.true c.in_ok-more.ensures.count refl
           c.loop-row.invariant.walked (c.in_ok-add.ensures ∙ ap (λ back. c.loop-row.found.items ++ back) c.deref.ensures.value);
-      value = λ stored objects own blocks volumes held are all honest.
-          let parts : List _ = parts_of stored c.args.birth objects c.args.rows.now volumes all in
-          let k : ℕ = c.loop-row.row-index in
-          let low : k < length parts = omega (arith, as_many stored c.args.birth objects c.args.rows.now volumes all, c.loop-row-test.true) in
-          let one = part_at stored c.args.birth objects c.args.rows.now volumes all k _ _ c.loop-row-test.true refl in
-          next_part parts k c.loop-row.found.items c.in_ok-more.more.items c.add.new.found.items low
-          (c.loop-row.invariant.value stored objects own blocks volumes held are all (true_before _ _ _ _ first rest honest))
-          (c.in_ok-more.ensures.blocks stored objects own blocks _ one.volume (first.keeps stored held) are one.is refl (true_after _ _ _ _ first rest honest) ∙ sym one.same)
+      value = λ stored objects own blocks pool readings held are chains some honest.
+          next_walked pool c.args.rows.now c.loop-row.row-index _ _ c.loop-row.found.items c.in_ok-more.more.items c.add.new.found.items c.loop-row-test.true refl
+          (c.loop-row.invariant.value stored objects own blocks pool readings held are chains some (true_before _ _ _ _ first rest honest))
+          (c.in_ok-more.ensures.blocks stored objects own blocks pool readings (first.keeps stored held) are chains (some c.loop-row.row-index _ c.loop-row-test.true)
+          (true_after _ _ _ _ first rest honest))
           (c.in_ok-add.ensures ∙ ap (λ back. c.loop-row.found.items ++ back) c.deref.ensures.value);
     }
 
@@ -73,10 +64,9 @@ pub returns-clause-reads : goal.returns-clause-reads
 returns-clause-reads g c = c.loop-row.invariant.reads
 
 pub returns-clause-blocks : goal.returns-clause-blocks
-returns-clause-blocks g c = λ stored objects own blocks volumes held are all honest.
-    let parts : List _ = parts_of stored c.args.birth objects c.args.rows.now volumes all in
-    let past : length parts ≤ c.loop-row.row-index = omega (arith, as_many stored c.args.birth objects c.args.rows.now volumes all, c.loop-row-test.false) in
-    c.loop-row.invariant.value stored objects own blocks volumes held are all honest ∙ ap joined (take_all c.loop-row.row-index parts past)
+returns-clause-blocks g c = λ stored objects own blocks pool readings held are chains some honest.
+    c.loop-row.invariant.value stored objects own blocks pool readings held are chains some honest
+    ∙ ap (reach_by pool) (take_all c.loop-row.row-index c.args.rows.now c.loop-row-test.false)
 
 pub returns-clause-count : goal.returns-clause-count
 returns-clause-count g c =

@@ -1,23 +1,23 @@
-use Rattle.std.proofs.Common.{◌≡◌, ◌≤◌, ℕ, List, Option, take}
-use Rattle.std.specs.List.{AllZip}
+use Rattle.std.proofs.Common.{◌≡◌, ◌≢◌, ◌≤◌, ℕ, All, List, Option, take}
 use Rattle.block_pointer.specs.declared.block.Block.{Block}
 use Rattle.block_store.specs.Blocks.{Contents}
 use Rattle.block_store.specs.Steps.{OnlyReadsBlocks, AnswersAreTrue}
 use Rattle.block_store.specs.Store.{Holds}
-use Rattle.dnode_tree.specs.Subtree.{joined}
+use Rattle.dataset_chains.specs.Chains.{Reading}
+use Rattle.dataset_chains.specs.Standing.{HasChains}
+use Rattle.dataset_groups.specs.Names.{reach_by}
+use Rattle.dead_list.specs.Datasets.{Free, Pool}
 use Rattle.objset.specs.Objects.{Object, AreObjects}
-use Rattle.pool_model.specs.declared.volume.PlainVolume.{PlainVolume}
-use Rattle.dataset_snapshots.specs.Pools.{SpellsDataset}
-use Rattle.dataset_snapshots.specs.Reach.{parts_of, AreRowsWalked}
+use Rattle.dataset_snapshots.specs.Reach.{AreRowsWalked}
 use Rattle.dataset_snapshots.proofs.walks.walk_rows.Given as goal
 
--- the volumes of the rows so far
+-- the datasets of the rows so far
 abbrev pub invariant-loop-row : goal.invariant-loop-row
 invariant-loop-row g l = record {
   reads : OnlyReadsBlocks l.fn.store l.store l.missing;
   fewer : l.left ≤ l.fn.left;
   walked : AreRowsWalked l.fn.store.spaces l.set l.birth (take l.row-index l.rows) l.fn.left l.left l.found.items;
-  value : (stored : Contents) (objects : ℕ → Option Object) (own : List Block) (blocks : ℕ → List Block) (volumes : List PlainVolume) → Holds l.fn.store stored
-      → AreObjects stored l.birth l.set objects own blocks → (all : AllZip (SpellsDataset stored l.birth objects) l.rows volumes) → AnswersAreTrue l.fn.store l.store
-      → l.found.items ≡ joined (take l.row-index (parts_of stored l.birth objects l.rows volumes all));
+  value : (stored : Contents) (objects : ℕ → Option Object) (own : List Block) (blocks : ℕ → List Block) (pool : Pool) (readings : ℕ → Reading) → Holds l.fn.store stored
+      → AreObjects stored l.birth l.set objects own blocks → HasChains stored l.birth objects pool readings → All (λ row. (pool.datasets row.object).kind ≢ Free) l.rows
+      → AnswersAreTrue l.fn.store l.store → l.found.items ≡ reach_by pool (take l.row-index l.rows);
 }

@@ -1,17 +1,15 @@
-use Rattle.std.proofs.Common.{◌≡◌, ◌∙◌, ◌≤◌, List, inl, inr, ⊎_elim, ap, subst, length}
-use Rattle.std.specs.List.{AllZip}
+use Rattle.std.proofs.Common.{◌≡◌, ◌≢◌, ◌∙◌, ◌≤◌, All, List, inl, inr, ⊎_elim, ap, subst, length}
 use Rattle.std.proofs.lemmas.Result.{IfOk-weaker, IfErr-weaker}
 use Rattle.block_store.proofs.Steps.{reads_on}
 use Rattle.block_store.specs.Spaces.{VdevSpace}
 use Rattle.block_store.specs.Losses.{IsForLoss}
 use Rattle.block_store.specs.Store.{Store}
+use Rattle.dataset_groups.specs.Names.{reach_by}
+use Rattle.dead_list.specs.Datasets.{Free}
 use Rattle.dnode_tree.proofs.FurtherReads.{true_before, true_after}
 use Rattle.dnode_tree.proofs.Refusing.{passed_on}
-use Rattle.dnode_tree.specs.Rewriting.{AreDistinct}
-use Rattle.dnode_tree.specs.Subtree.{joined}
 use Rattle.meta_objset.specs.declared.directory.DirectoryRow.{DirectoryRow}
-use Rattle.dataset_snapshots.specs.Pools.{SpellsDataset}
-use Rattle.dataset_snapshots.specs.Reach.{parts_of, AreRowsWalked, IsRowUnwalked}
+use Rattle.dataset_snapshots.specs.Reach.{AreRowsWalked, IsRowUnwalked}
 use Rattle.dataset_snapshots.proofs.walks.walk_volumes.Goals as goal
 
 pub returns-in_err-directory-clause-refused : goal.returns-in_err-directory-clause-refused
@@ -20,7 +18,7 @@ returns-in_err-directory-clause-refused g c =
 
 pub returns-in_err-directory-clause-known : goal.returns-in_err-directory-clause-known
 returns-in_err-directory-clause-known g c =
-    passed_on _ _ _ c.from_residual.ensures.1 (λ stored objects own blocks rows volumes held are has all once long honest.
+    passed_on _ _ _ c.from_residual.ensures.1 (λ stored objects own blocks pool readings rows held are has chains some long honest.
     ⊎_elim (λ loss. loss) (λ bad. absurd (bad.1 rows has)) (c.in_err-directory.ensures.known stored objects own blocks held are honest))
 
 pub returns-clause-reads : goal.returns-clause-reads
@@ -31,10 +29,10 @@ returns-clause-blocks g c =
     let first = c.in_ok-directory.ensures.reads in
     let rest = c.walk_rows.ensures.reads in
     IfOk-weaker c.walk_rows.result _ _
-    (λ found told stored objects own blocks rows volumes held are has all honest.
+    (λ found told stored objects own blocks pool readings rows held are has chains some honest.
     let rows_are : c.rows.result.now ≡ rows = c.rows.ensures.value ∙ c.in_ok-directory.ensures.one stored objects own blocks held are (true_before _ _ _ _ first rest honest) rows has in
-    subst (λ (rs : List DirectoryRow). (zip : AllZip (SpellsDataset stored c.args.birth objects) rs volumes) → found.items ≡ joined (parts_of stored c.args.birth objects rs volumes zip)) rows_are
-    (λ zip. told stored objects own blocks volumes (first.keeps stored held) are zip (true_after _ _ _ _ first rest honest)) all)
+    subst (λ (rs : List DirectoryRow). All (λ row. (pool.datasets row.object).kind ≢ Free) rs → found.items ≡ reach_by pool rs) rows_are
+    (λ each. told stored objects own blocks pool readings (first.keeps stored held) are chains each (true_after _ _ _ _ first rest honest)) some)
     c.walk_rows.ensures.blocks
 
 pub returns-clause-count : goal.returns-clause-count
@@ -67,9 +65,8 @@ returns-clause-known g c =
     let first = c.in_ok-directory.ensures.reads in
     let rest = c.walk_rows.ensures.reads in
     IfErr-weaker c.walk_rows.result _ _
-    (λ refusal known stored objects own blocks rows volumes held are has all once long honest.
+    (λ refusal known stored objects own blocks pool readings rows held are has chains some long honest.
     let rows_are : c.rows.result.now ≡ rows = c.rows.ensures.value ∙ c.in_ok-directory.ensures.one stored objects own blocks held are (true_before _ _ _ _ first rest honest) rows has in
-    subst (λ (rs : List DirectoryRow). (zip : AllZip (SpellsDataset stored c.args.birth objects) rs volumes) → AreDistinct (joined (parts_of stored c.args.birth objects rs volumes zip))
-    → length (joined (parts_of stored c.args.birth objects rs volumes zip)) ≤ c.args.left.now → IsForLoss refusal) rows_are
-    (λ zip each enough. known stored objects own blocks volumes (first.keeps stored held) are zip each enough (true_after _ _ _ _ first rest honest)) all once long)
+    subst (λ (rs : List DirectoryRow). All (λ row. (pool.datasets row.object).kind ≢ Free) rs → length (reach_by pool rs) ≤ c.args.left.now → IsForLoss refusal) rows_are
+    (λ each enough. known stored objects own blocks pool readings (first.keeps stored held) are chains each enough (true_after _ _ _ _ first rest honest)) some long)
     c.walk_rows.ensures.known

@@ -7,8 +7,8 @@ use Rattle.dataset_snapshots.proofs.writing.changed_blocks.Goals as goal
 
 pub returns-clause-value : goal.returns-clause-value
 returns-clause-value g c =
-    IfOk-weaker c.changed_blocks.result _ _ (λ blocks laid stored plain held named spells honest.
-    laid stored plain held (names_same c.args.row.now.name plain.name c.unpadded.result.now named c.unpadded.ensures ∙ (sym c.in_ok-from_slice.ensures.items ∙ sym c.new-name.ensures)) spells honest)
+    IfOk-weaker c.changed_blocks.result _ _ (λ blocks laid stored plain held named is_volume spells honest.
+    laid stored plain held (names_same c.args.row.now.name plain.name c.unpadded.result.now named c.unpadded.ensures ∙ (sym c.in_ok-from_slice.ensures.items ∙ sym c.new-name.ensures)) is_volume spells honest)
     c.changed_blocks.ensures.value
 
 pub returns-clause-found : goal.returns-clause-found

@@ -103,9 +103,9 @@ returns-clause-value g c = λ stored there own blocks held are honest over.
             let shape = c.new-volume.ensures.shape in
             let block = c.new-volume.ensures.block in (
               volume_in stored c.args.birth there c.in-Some.row.now volume c.in_ok-record.record c.new-volume.result spelled same shape block,
-              subst (λ n. IsArrayWith volume.bytes n c.in_ok-blocks.blocks.items (after_writes volume c.args.items.now.writes).bytes)
+              λ is_volume. subst (λ n. IsArrayWith volume.bytes n c.in_ok-blocks.blocks.items (after_writes volume c.args.items.now.writes).bytes)
                   (sym (block_size_is stored c.args.birth there c.in-Some.row.now volume c.in_ok-record.record c.new-volume.result spelled same shape block))
-                  (c.in_ok-blocks.ensures.value stored volume (first.keeps stored held) spelled.name
+                  (c.in_ok-blocks.ensures.value stored volume (first.keeps stored held) spelled.name is_volume
                   (volume_spelled stored c.args.birth there c.in-Some.row.now volume c.in_ok-record.record c.new-volume.result spelled same shape block) (true_after _ _ _ _ first second honest)),
             ),
       ),

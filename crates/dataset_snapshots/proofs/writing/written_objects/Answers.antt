@@ -9,9 +9,14 @@ use Rattle.std.specs.declared.alloc.Global.{Global}
 use Rattle.dataset_snapshots.specs.Finding.{IsNumberIn}
 use Rattle.pool_model.specs.declared.item.Write.{Write}
 use Rattle.dataset_snapshots.specs.Writing.{IsWritten}
-use Rattle.dataset_snapshots.proofs.WrittenObjects.{one_more, no_more, sorted_once}
+use Rattle.dataset_snapshots.proofs.WrittenObjects.{one_more, no_more, skipped, sorted_once}
 use Rattle.dataset_snapshots.proofs.writing.written_objects.Goals as goal
 use Rattle.dataset_snapshots.proofs.writing.written_objects.Goals.{in-Some+in_ok-push, in_default}
+
+pub loop-write-preserved-then-is_of_snapshot : goal.loop-write-preserved-then-is_of_snapshot
+loop-write-preserved-then-is_of_snapshot c =
+    skipped c.args.directory.now c.args.writes.now c.loop-write.write-index c.write-item.result c.loop-write-test.true c.write-item.is c.loop-write.objects.items c.loop-write.objects.items
+    (sym c.is_of_snapshot.ensures ∙ c.if-is_of_snapshot.true) refl c.loop-write.invariant
 
 pub loop-write-preserved : goal.loop-write-preserved
 loop-write-preserved c =
@@ -20,7 +25,8 @@ loop-write-preserved c =
     elim c.match-number_in.branch [
       | in-Some+in_ok-push w ↦ subst P (sym w.objects-is)
           (one_more rows c.args.writes.now c.loop-write.write-index c.write-item.result c.loop-write-test.true c.write-item.is c.loop-write.objects.items w.push.new.self.items w.in-Some.object
-          c.rows-rows.ensures.is.order (subst (IsNumberIn rows c.write-item.result.volume) w.in-Some.is c.number_in.ensures) w.in_ok-push.ensures.items c.loop-write.invariant)
+          c.rows-rows.ensures.is.order (sym c.is_of_snapshot.ensures ∙ c.if-is_of_snapshot.false) (subst (IsNumberIn rows c.write-item.result.volume) w.in-Some.is c.number_in.ensures)
+          w.in_ok-push.ensures.items c.loop-write.invariant)
       | in_default w ↦ subst P (sym w.objects-is)
           (no_more rows c.args.writes.now c.loop-write.write-index c.write-item.result c.loop-write-test.true c.write-item.is c.loop-write.objects.items c.loop-write.objects.items
           (subst (IsNumberIn rows c.write-item.result.volume) w.in_default.is c.number_in.ensures) refl c.loop-write.invariant)

@@ -7,7 +7,7 @@ use Rattle.volume_rules.proofs.pieces.lay_pending.Goals as goal
 pub loop-done-init : goal.loop-done-init
 loop-done-init c = record {
   most = omega arith;
-  laid = λ volume named size h. up_to_none c.args.buffer.now (after_writes volume c.args.items.now.writes).bytes volume.bytes c.args.offset h;
+  laid = λ volume named writable size h. up_to_none c.args.buffer.now (after_writes volume c.args.items.now.writes).bytes volume.bytes c.args.offset h;
 }
 
 pub loop-done-preserved : goal.loop-done-preserved
@@ -20,15 +20,15 @@ loop-done-preserved c =
     let fits = c.requires in
     record {
       most = (let long = put_length c.loop-done.done c.count_in_piece-count.result c.loop-done.buffer c.lay_piece.new.buffer part room in omega (arith, long));
-      laid = λ volume named size h.
+      laid = λ volume named writable size h.
           up_to_more c.loop-done.done c.count_in_piece-count.result c.loop-done.buffer c.lay_piece.new.buffer (after_writes volume c.args.items.now.writes).bytes volume.bytes c.args.offset
-          room part (omega (arith, fits, same, size)) (c.loop-done.invariant.laid volume named size h) (c.lay_piece.ensures volume named size);
+          room part (omega (arith, fits, same, size)) (c.loop-done.invariant.laid volume named writable size h) (c.lay_piece.ensures volume named writable size);
     }
 
 pub returns : goal.returns
-returns c = λ volume named size h.
+returns c = λ volume named writable size h.
     let long = length_after_writes volume c.args.items.now.writes in
     let same = c.loop-done.auto.buffer in
     let fits = c.requires in
     up_to_all c.loop-done.done c.loop-done.buffer (after_writes volume c.args.items.now.writes).bytes volume.bytes c.args.offset
-    (omega (arith, long, same, fits, size)) c.loop-done-test.false (c.loop-done.invariant.laid volume named size h)
+    (omega (arith, long, same, fits, size)) c.loop-done-test.false (c.loop-done.invariant.laid volume named writable size h)

@@ -17,25 +17,25 @@ offset_bounds-writes-position c =
     omega arith
 
 pub loop-position-init : goal.loop-position-init
-loop-position-init c = λ volume n named size h le reach.
+loop-position-init c = λ volume n named writable size h le reach.
     let are = subst (λ (writes : List Write). AreTouching c.args.name.now (c.args.offset / 131072) writes c.places_at-places.result.now) (sym c.writes-writes.ensures) c.places_at-places.ensures in
-    laid_none volume c.writes-writes.result.now c.args.name.now c.args.buffer.now c.places_at-places.result.now c.args.offset n are named c.requires.within
+    laid_none volume c.writes-writes.result.now c.args.name.now c.args.buffer.now c.places_at-places.result.now c.args.offset n are named writable c.requires.within
     (let fits = c.requires.fits in omega (arith, fits, size)) le reach h
 
 pub loop-position-preserved : goal.loop-position-preserved
-loop-position-preserved c = λ volume n named size h le reach.
+loop-position-preserved c = λ volume n named writable size h le reach.
     let are = subst (λ (writes : List Write). AreTouching c.args.name.now (c.args.offset / 131072) writes c.places_at-places.result.now) (sym c.writes-writes.ensures) c.places_at-places.ensures in
     let was = c.loop-position.auto.buffer in
     let now = c.lay_one.auto.buffer in
     let fits = c.requires.fits in
     let within = c.requires.within in
-    laid_more volume c.writes-writes.result.now c.args.name.now c.loop-position.buffer c.lay_one.new.buffer c.places_at-places.result.now c.index-writes-position.result c.args.offset c.args.size c.loop-position.position-index n (get_or c.places_at-places.result.now c.loop-position.position-index 0) are named
+    laid_more volume c.writes-writes.result.now c.args.name.now c.loop-position.buffer c.lay_one.new.buffer c.places_at-places.result.now c.index-writes-position.result c.args.offset c.args.size c.loop-position.position-index n (get_or c.places_at-places.result.now c.loop-position.position-index 0) are named writable
     (omega (arith, within, was, now)) (omega (arith, fits, size, was, now)) size c.loop-position-test.true refl c.index-writes-position.is
-    (λ m low r. c.loop-position.invariant volume m named size h low r) c.lay_one.ensures le reach
+    (λ m low r. c.loop-position.invariant volume m named writable size h low r) c.lay_one.ensures le reach
 
 pub returns : goal.returns
-returns c = λ volume named size h.
+returns c = λ volume named writable size h.
     let are = subst (λ (writes : List Write). AreTouching c.args.name.now (c.args.offset / 131072) writes c.places_at-places.result.now) (sym c.writes-writes.ensures) c.places_at-places.ensures in
     subst (λ (writes : List Write). HasRange c.loop-position.buffer (after_writes volume writes).bytes c.args.offset) c.writes-writes.ensures
     (laid_all volume c.writes-writes.result.now c.args.name.now c.loop-position.buffer c.places_at-places.result.now c.args.offset c.loop-position.position-index are c.loop-position-test.false
-    (λ n le reach. c.loop-position.invariant volume n named size h le reach))
+    (λ n le reach. c.loop-position.invariant volume n named writable size h le reach))

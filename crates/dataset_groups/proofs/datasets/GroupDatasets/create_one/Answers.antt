@@ -1,19 +1,22 @@
 use Rattle.std.proofs.Common.{◌≡◌, ℕ, ◌+◌, ◌≤◌, Bool, true, false, [], Option, Some, None, List, inl, inr, refl, sym, ap, subst, ◌∙◌, arith}
 use Rattle.std.specs.Prelude.{is_some, IfSome}
-use Rattle.std.proofs.lemmas.Result.{IfErr-weaker, IfOk-weaker}
+use Rattle.std.proofs.lemmas.Result.{IfErr-weaker, on_ok_weaker}
 use Rattle.block_store.proofs.Steps.{steps_none}
+use Rattle.block_store.specs.Store.{Store}
+use Rattle.block_store.specs.declared.refusal.Refusal.{Refusal}
 use Rattle.dnode_tree.proofs.Refusing.{passed_on}
 use Rattle.meta_objset.specs.declared.directory.DirectoryRow.{DirectoryRow}
 use Rattle.meta_objset.specs.declared.record.DatasetRecord.{DatasetRecord}
 use Rattle.meta_objset.specs.Directory.{LacksName}
-use Rattle.pool_model.specs.declared.item.Change.{Change}
+use Rattle.pool_model.specs.declared.item.Change.TheVariants.{Create}
+use Rattle.pool_model.specs.Names.{is_name}
+use Rattle.volume_rules.specs.GoodChanges.{is_good_change, is_good_size}
 use Rattle.dataset_groups.specs.declared.new_volume.NewVolume.{NewVolume}
-use Rattle.dataset_groups.specs.Adding.{IsAdded}
-use Rattle.dataset_groups.specs.Demands.{HasNewPlaces, IsThereAlready}
+use Rattle.dataset_groups.specs.Demands.{HasNewPlaces, IsMaking, IsNewRefused}
 use Rattle.dataset_groups.specs.NewVolumes.{IsNewVolume, numbers_end}
 use Rattle.dataset_groups.proofs.AddedDatasets.{volume_made, volume_passed}
-use Rattle.dataset_groups.proofs.Copied.{adds_none}
-use Rattle.dataset_groups.proofs.MakingDemands.{lacks_change, one_made, sized_change, sized_refused}
+use Rattle.dataset_groups.proofs.GoodNames.{both}
+use Rattle.dataset_groups.proofs.MakingDemands.{has_name, in_rows, not_there, one_made}
 use Rattle.dataset_groups.proofs.NewTouches.{touches_one}
 use Rattle.dataset_groups.proofs.datasets.GroupDatasets.create_one.Goals as goal
 
@@ -38,44 +41,60 @@ returns-then-is_some-clause-value g c = λ stored planned plans honest.
       plans,
       λ block bytes known. known,
       λ objects pool readings plain spells.
-          volume_passed c.args.self.now c.args.change.now c.in_ok-new.new c.args.group there.0 planned objects pool readings plain c.in_ok-new.ensures.is there.1 spells,
-      adds_none planned,
+          volume_passed c.args.self.now c.args.name.now c.args.size c.args.block_size c.in_ok-new.new c.args.group there.0 planned objects pool readings plain c.in_ok-new.ensures.is there.1 spells,
     )
+
+pub returns-then-is_some-clause-places : goal.returns-then-is_some-clause-places
+returns-then-is_some-clause-places g c =
+    let there = is_there c.get.result _ _ c.is_some.ensures c.if-is_some.true c.get.ensures.found in
+    inl (λ making. making.0 (inl (has_name c.args.self.now.directory c.in_ok-new.new.name c.args.name.now there.0 c.in_ok-new.ensures.is.0 there.1)), refl, refl)
 
 pub returns-then-self-clause-steps : goal.returns-then-self-clause-steps
 returns-then-self-clause-steps g c = steps_none c.args.store.now []
 
 -- the name is new
-name_lacks : (rows : List DirectoryRow) (change : Change) (v : NewVolume) → IsNewVolume change v → LacksName rows v.name → ¬ IsThereAlready rows [] change
-name_lacks rows change v is lacks (inl there) = lacks_change rows change v is lacks there
-name_lacks rows change v is lacks (inr asked) = absurd (let low = asked.2 in omega (arith, low))
+makes : (rows : List DirectoryRow) (name : List ℕ) (size block_size : ℕ) (v : NewVolume) → IsNewVolume name size block_size v → LacksName rows v.name
+    → IsMaking rows [] (Create name size block_size)
+makes rows name size block_size v is lacks = (λ there. not_there rows v.name name is.0 lacks (in_rows rows name there), tt)
+
+pub returns-then-self-clause-refused : goal.returns-then-self-clause-refused
+returns-then-self-clause-refused g c =
+    let lacks = c.get.ensures.none (is_none _ _ c.is_some.ensures c.if-is_some.false) in
+    inr (inr (makes c.args.self.now.directory c.args.name.now c.args.size c.args.block_size c.in_ok-new.new c.in_ok-new.ensures.is lacks, inl (refl, omega arith)))
+
+sized_refused : (old new : Store) (group size other : ℕ) (refusal : Refusal) → size ≡ other → IsNewRefused old new group size refusal → IsNewRefused old new group other refusal
+sized_refused old new group size other refusal same why = subst (λ n. IsNewRefused old new group n refusal) same why
 
 pub returns-in_err-object_set-clause-refused : goal.returns-in_err-object_set-clause-refused
 returns-in_err-object_set-clause-refused g c =
     let lacks = c.get.ensures.none (is_none _ _ c.is_some.ensures c.if-is_some.false) in
+    let is = c.in_ok-new.ensures.is in
     passed_on _ _ _ c.from_residual-in_err-object_set.ensures.1
     (inr (inr (
-      name_lacks c.args.self.now.directory c.args.change.now c.in_ok-new.new c.in_ok-new.ensures.is lacks,
-      inr (sized_refused c.args.store.now c.planned.new.store c.args.group _ _ _ (sized_change c.args.change.now c.in_ok-new.new c.in_ok-new.ensures.is) c.in_err-object_set.ensures.refused),
+      makes c.args.self.now.directory c.args.name.now c.args.size c.args.block_size c.in_ok-new.new is lacks,
+      inr (sized_refused c.args.store.now c.planned.new.store c.args.group _ _ _ is.2 c.in_err-object_set.ensures.refused),
     )))
 
 pub add-requires-clause-lacks : goal.add-requires-clause-lacks
 add-requires-clause-lacks g c = c.get.ensures.none (is_none _ _ c.is_some.ensures c.if-is_some.false)
 
+good_name : (name : List ℕ) (size block_size : ℕ) → is_good_change (Create name size block_size) ≡ true → is_name name ≡ true
+good_name name size block_size good = (both (is_name name) (is_good_size size block_size) good).0
+
 pub returns-clause-value : goal.returns-clause-value
 returns-clause-value g c =
     let lacks = c.get.ensures.none (is_none _ _ c.is_some.ensures c.if-is_some.false) in
     let left : c.args.self.now.next + 2 ≤ numbers_end = omega arith in
-    IfOk-weaker c.add.result (λ done. IsAdded c.args.self.now c.in_ok-new.new.name c.record-dataset.result c.add.new.self) _
-    (λ done added stored planned plans honest.
+    on_ok_weaker c.add.result
+    (λ added stored planned plans honest.
     let is = c.in_ok-object_set.ensures.value stored planned plans honest in (
       is.0,
       is.1,
       is.2,
       λ objects pool readings plain spells.
-          volume_made c.args.self.now c.add.new.self c.args.change.now c.in_ok-new.new c.args.group c.in_ok-object_set.object_set c.record-dataset.result planned is.0 objects pool readings plain
-          c.in_ok-new.ensures.is c.requires.born c.requires.behind left lacks added c.record-dataset.ensures.value is.2 is.3 is.4 spells,
-      is.5,
+          volume_made c.args.self.now c.add.new.self c.args.name.now c.args.size c.args.block_size c.in_ok-new.new c.args.group c.in_ok-object_set.object_set c.record-dataset.result planned is.0 objects
+          pool readings plain c.in_ok-new.ensures.is (good_name c.args.name.now c.args.size c.args.block_size c.in_ok-new.ensures.good) c.requires.born c.requires.behind left lacks added
+          c.record-dataset.ensures.value is.2 is.3 is.4 is.5 spells,
     ))
     c.add.ensures.added
 
@@ -85,16 +104,20 @@ returns-clause-known g c = IfErr-weaker c.add.result _ _ (λ refusal memory good
 pub returns-clause-places : goal.returns-clause-places
 returns-clause-places g c =
     let lacks = c.get.ensures.none (is_none _ _ c.is_some.ensures c.if-is_some.false) in
-    IfOk-weaker c.add.result (λ done. IsAdded c.args.self.now c.in_ok-new.new.name c.record-dataset.result c.add.new.self) _
-    (λ done added.
+    let is = c.in_ok-new.ensures.is in
+    on_ok_weaker c.add.result
+    (λ added.
     inr (
-      lacks_change c.args.self.now.directory c.args.change.now c.in_ok-new.new c.in_ok-new.ensures.is lacks,
-      one_made c.args.self.now c.add.new.self c.record-dataset.result c.args.change.now c.in_ok-new.new c.in_ok-new.ensures.is added,
-      subst (λ n. HasNewPlaces c.args.store.now c.planned.new.store c.args.group n) (sized_change c.args.change.now c.in_ok-new.new c.in_ok-new.ensures.is) c.in_ok-object_set.ensures.places,
+      makes c.args.self.now.directory c.args.name.now c.args.size c.args.block_size c.in_ok-new.new is lacks,
+      one_made c.args.self.now c.add.new.self c.in_ok-new.new.name c.args.name.now is.0 added.row added.next,
+      subst (λ n. HasNewPlaces c.args.store.now c.planned.new.store c.args.group n) is.2 c.in_ok-object_set.ensures.places,
     ))
     c.add.ensures.added
 
 pub returns-clause-touched : goal.returns-clause-touched
 returns-clause-touched g c =
-    IfOk-weaker c.add.result (λ done. IsAdded c.args.self.now c.in_ok-new.new.name c.record-dataset.result c.add.new.self) _
-    (λ done added. (1, touches_one c.args.self.now.changes c.add.new.self.changes c.args.self.now.next c.record-dataset.result.dead_list (ap (λ (r : DatasetRecord). r.dead_list) c.record-dataset.ensures.value) added.touched, added.next)) c.add.ensures.added
+    on_ok_weaker c.add.result
+    (λ added.
+    inr (touches_one c.args.self.now.changes c.add.new.self.changes c.args.self.now.next c.record-dataset.result.dead_list
+    (ap (λ (r : DatasetRecord). r.dead_list) c.record-dataset.ensures.value) added.touched))
+    c.add.ensures.added

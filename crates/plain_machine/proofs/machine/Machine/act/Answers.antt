@@ -21,12 +21,12 @@ returns-in_default c = λ v r. (v, lacks v (Act c.args.action) refl, r)
 
 pub returns-in-Some : goal.returns-in-Some
 returns-in-Some c = λ v r.
-    let cause = act_placed v c.args.action c.in-Ok.group c.in-Ok-now.now r.vdevs (c.in-Ok.ensures.ok (flow_of v) r.flow) (c.if-group-open_group.false ∙ c.open_group.ensures (flow_of v) r.flow) (c.in-Ok-now.ensures v r) ∙ sym (c.against_change.ensures c.in-Ok-now.now (c.shape.ensures ∙ ap (λ name. shape_at name c.in-Ok-now.now) c.name.ensures)) in
+    let cause = act_placed v c.args.action c.in-Ok.group c.in-Ok-now.now r.vdevs (c.in-Ok.ensures.ok (flow_of v) r.flow) (c.if-group-open_group.false ∙ c.open_group.ensures (flow_of v) r.flow) (c.in-Ok-now.ensures v r) ∙ sym (c.against_change.ensures c.in-Ok-now.now (c.shape-volume.ensures ∙ ap (λ name. shape_at name c.in-Ok-now.now) c.volume.ensures) (c.shape.ensures ∙ ap (λ name. shape_at name c.in-Ok-now.now) c.in-Ok-name.ensures)) in
     (v, refuses v (Act c.args.action) _ (cause ∙ c.in-Some.is), r)
 
 pub returns-in-Ok-accept : goal.returns-in-Ok-accept
 returns-in-Ok-accept c = λ v r.
-    let cause = act_placed v c.args.action c.in-Ok.group c.in-Ok-now.now r.vdevs (c.in-Ok.ensures.ok (flow_of v) r.flow) (c.if-group-open_group.false ∙ c.open_group.ensures (flow_of v) r.flow) (c.in-Ok-now.ensures v r) ∙ sym (c.against_change.ensures c.in-Ok-now.now (c.shape.ensures ∙ ap (λ name. shape_at name c.in-Ok-now.now) c.name.ensures)) in
+    let cause = act_placed v c.args.action c.in-Ok.group c.in-Ok-now.now r.vdevs (c.in-Ok.ensures.ok (flow_of v) r.flow) (c.if-group-open_group.false ∙ c.open_group.ensures (flow_of v) r.flow) (c.in-Ok-now.ensures v r) ∙ sym (c.against_change.ensures c.in-Ok-now.now (c.shape-volume.ensures ∙ ap (λ name. shape_at name c.in-Ok-now.now) c.volume.ensures) (c.shape.ensures ∙ ap (λ name. shape_at name c.in-Ok-now.now) c.in-Ok-name.ensures)) in
     acted c.args.self.now _ v c.args.action _ r (cause ∙ c.in-None.is) c.in-Ok-accept.ensures.accepted
 
 pub returns : goal.returns

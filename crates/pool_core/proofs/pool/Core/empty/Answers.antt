@@ -7,6 +7,9 @@ use Rattle.pool_core.proofs.pool.Core.empty.Goals as goal
 pub returns-clause-represents : goal.returns-clause-represents
 returns-clause-represents g c = record {
   follows = c.opened.ensures (vdevs_of c.args.store.spaces) (is_out c.args.store.out) no_volumes c.new.ensures
-      (λ name volume found. absurd (let clash : None ≡ Some volume = found in cc));
+      (record {
+        older = λ name volume found. absurd (let clash : None ≡ Some volume = found in cc);
+        named = λ name volume found. absurd (let clash : None ≡ Some volume = found in cc);
+      });
   backs = c.in_ok-commit.ensures.backs;
 }

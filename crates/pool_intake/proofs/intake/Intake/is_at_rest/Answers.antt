@@ -1,4 +1,4 @@
-use Rattle.std.proofs.Common.{◌∙◌, ap, false, sym, true≢false}
+use Rattle.std.proofs.Common.{◌∙◌, ap, sym, true≢false}
 use Rattle.std.specs.Prelude.{is_some}
 use Rattle.pool_model.specs.Flow.{flow_of}
 use Rattle.pool_intake.proofs.Resting.{not_none, open_is_empty, rests}

@@ -23,7 +23,7 @@ returns-then-is_empty-clause-changed g c =
     (empty_ids c.new.result.items c.in_ok-ids.ids.items c.new.ensures.items none) c.in_ok-ids.ensures.ids
 
 pub returns-then-is_empty-clause-value : goal.returns-then-is_empty-clause-value
-returns-then-is_empty-clause-value g c = λ stored volume held named is honest.
+returns-then-is_empty-clause-value g c = λ stored volume held named writable is honest.
     let none : length c.in_ok-ids.ids.items ≡ 0 = grind (arith, nat_tests, c.is_empty.ensures, c.if-is_empty.true) in
     after_is_with c.args.self.now volume c.args.changes.now.name.now c.args.changes.now.items.now.writes c.new.result.items named is.has.data_is.size_is
     (same_ids c.new.result.items c.in_ok-ids.ids.items (IsChanged c.args.self.now c.args.changes.now.name.now c.args.changes.now.items.now.writes)
@@ -72,10 +72,10 @@ returns-clause-value g c =
     let first = c.in_ok-set.ensures.reads in
     let rest = c.blocks_of.ensures.reads in
     IfOk-weaker c.blocks_of.result _ _
-    (λ blocks both stored volume held named is honest.
+    (λ blocks both stored volume held named writable is honest.
     after_is_with c.args.self.now volume c.args.changes.now.name.now c.args.changes.now.items.now.writes blocks.items named is.has.data_is.size_is
     (same_ids blocks.items c.in_ok-ids.ids.items (IsChanged c.args.self.now c.args.changes.now.name.now c.args.changes.now.items.now.writes) (both.0 ∙ c.deref.ensures.value) c.in_ok-ids.ensures.ids)
-    (both.1 stored volume (first.keeps stored held) named
+    (both.1 stored volume (first.keeps stored held) named writable
     (subst (λ (set : ObjectSet). HasData stored _ set _ _ volume.bytes) (sym (c.in_ok-set.ensures.value stored _ _ held is (omega arith) (true_before _ _ _ _ first rest honest))) is.has)
     (true_after _ _ _ _ first rest honest)))
     (ok_both c.blocks_of.result _ _ c.blocks_of.ensures.ids c.blocks_of.ensures.value)

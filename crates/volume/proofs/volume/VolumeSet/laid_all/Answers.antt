@@ -48,14 +48,14 @@ loop-id-preserved c =
           c.next_old-under.ensures.covered c.next_old-under.ensures.next).1;
       ids = one_id_more so_far now block c.args.ids.now c.loop-id.id-index c.in_ok-push.ensures c.in_ok-block.ensures.id c.loop-id-test.true c.loop-id.invariant.ids;
       whole = all_more (λ b. length b.bytes.items ≡ c.args.self.now.block_size) so_far now block c.in_ok-push.ensures c.loop-id.invariant.whole c.in_ok-block.ensures.len;
-      value = λ volume named sized have.
+      value = λ volume named writable sized have.
           let IsOld : ℕ → Vec ℕ Global → Type 0 = λ id bytes. bytes.items ≡ part volume.bytes c.args.self.now.block_size id in
-          let before = c.loop-id.invariant.value volume named sized have in
+          let before = c.loop-id.invariant.value volume named writable sized have in
           let next = next_in_turn IsOut IsOld id rest c.loop-id.left.items c.next_old-under.new.left.items c.next_old-under.result
           (subst (λ ids. HaveInTurn IsOut IsOld ids c.loop-id.left.items) place before.1)
           c.next_old-under.ensures.covered c.next_old-under.ensures.next in (
             all_more (λ b. b.bytes.items ≡ part (after_writes volume c.args.changes.now.items.now.writes).bytes c.args.self.now.block_size b.id) so_far now block c.in_ok-push.ensures before.0
-                (c.in_ok-block.ensures.value volume named sized (next_item IsOut IsOld id rest c.next_old-under.result c.next_old-under.new.left.items next)),
+                (c.in_ok-block.ensures.value volume named writable sized (next_item IsOut IsOld id rest c.next_old-under.result c.next_old-under.new.left.items next)),
             next.1,
           );
     }

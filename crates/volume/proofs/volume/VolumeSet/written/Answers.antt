@@ -27,13 +27,13 @@ pub returns-clause-value : goal.returns-clause-value
 returns-clause-value g c =
     let first = steps_read c.args.store.now c.changed_blocks.new.store [] c.in_ok-blocks.ensures.reads in
     IfOk-weaker c.placed.result _ _
-    (λ done value stored planned volume plans named is le honest.
+    (λ done value stored planned volume plans named writable is le honest.
     let did = value stored planned c.args.birth_before volume.bytes (c.in_ok-blocks.ensures.reads.plans stored planned plans) is le
     (true_after c.args.store.now c.changed_blocks.new.store c.placed.new.store first.reads honest) in (
       did.0,
       did.1,
       did.2,
-      did.3 (after_writes volume c.args.changes.now.items.now.writes).bytes (c.in_ok-blocks.ensures.value stored volume plans.held named is
+      did.3 (after_writes volume c.args.changes.now.items.now.writes).bytes (c.in_ok-blocks.ensures.value stored volume plans.held named writable is
           (true_before c.args.store.now c.changed_blocks.new.store c.placed.new.store c.placed.ensures.steps.reads honest)),
     ))
     c.placed.ensures.value

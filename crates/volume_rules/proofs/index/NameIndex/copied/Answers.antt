@@ -1,4 +1,4 @@
-use Rattle.std.proofs.Common.{ℕ, List, Vec, Global, sym, ◌∙◌}
+use Rattle.std.proofs.Common.{ℕ, Vec, Global, sym, ◌∙◌}
 use Rattle.std.specs.List.{each_same}
 use Rattle.volume_rules.proofs.Indexes.{same_in_clone}
 use Rattle.volume_rules.proofs.index.NameIndex.copied.Goals as goal

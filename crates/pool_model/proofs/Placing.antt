@@ -1,4 +1,4 @@
--- Where a volume stands among the volumes of a pool.
+-- Where the first element stands that passes a test.
 use Rattle.std.proofs.Common.{◌≡◌, ℕ, ◌≤◌, Bool, List, length, Option, Some, None, arith}
 use Rattle.std.specs.Prelude.{cond, not, nat_lt}
 use Rattle.std.specs.List.{position_or_len}

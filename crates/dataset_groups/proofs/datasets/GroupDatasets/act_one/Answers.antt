@@ -1,0 +1,53 @@
+use Rattle.std.proofs.Common.{◌≡◌, true, [], sym, subst}
+use Rattle.std.proofs.lemmas.Result.{IfErr-weaker, on_ok_weaker}
+use Rattle.block_store.proofs.Steps.{steps_read}
+use Rattle.pool_model.specs.declared.item.Change.{Change}
+use Rattle.pool_model.specs.Pools.{changed}
+use Rattle.volume_rules.specs.GoodChanges.{is_good_change}
+use Rattle.dataset_groups.specs.Actions.{AreActed}
+use Rattle.dataset_groups.specs.Demands.{MakesOne}
+use Rattle.dataset_groups.proofs.datasets.GroupDatasets.act_one.Goals as goal
+
+-- ---- a volume
+
+pub returns-in-Create-clause-value : goal.returns-in-Create-clause-value
+returns-in-Create-clause-value g c = on_ok_weaker c.create_one.result (λ value stored planned plans honest.
+    let done = value stored planned plans honest in (
+      done.0,
+      done.1,
+      done.2,
+      λ objects own blocks pool readings plain are spells.
+          subst (λ (change : Change). AreActed c.args.group objects planned done.0 c.args.self.now c.create_one.new.self pool (changed c.args.group plain change)) (sym c.in-Create.is)
+          (done.3 objects pool readings plain spells),
+    )) c.create_one.ensures.value
+
+pub returns-in-Create-clause-known : goal.returns-in-Create-clause-known
+returns-in-Create-clause-known g c = IfErr-weaker c.create_one.result _ _ (λ refusal known stored planned objects own blocks pool readings plain good plans are honest spells.
+    known (subst (λ (change : Change). is_good_change change ≡ true) c.in-Create.is good) stored planned plans honest) c.create_one.ensures.known
+
+pub returns-in-Create-clause-places : goal.returns-in-Create-clause-places
+returns-in-Create-clause-places g c = on_ok_weaker c.create_one.result (λ places.
+    subst (λ (change : Change). MakesOne c.args.store.now c.create_one.new.store c.args.group c.args.self.now c.create_one.new.self change) (sym c.in-Create.is) places) c.create_one.ensures.places
+
+-- ---- a snapshot
+
+pub returns-in-Snapshot-clause-steps : goal.returns-in-Snapshot-clause-steps
+returns-in-Snapshot-clause-steps g c = steps_read c.args.store.now c.take_one.new.store [] c.take_one.ensures.reads
+
+pub returns-in-Snapshot-clause-value : goal.returns-in-Snapshot-clause-value
+returns-in-Snapshot-clause-value g c = on_ok_weaker c.take_one.result (λ value stored planned plans honest. (
+  planned,
+  c.take_one.ensures.reads.plans stored planned plans,
+  λ block bytes known. known,
+  λ objects own blocks pool readings plain are spells.
+      subst (λ (change : Change). AreActed c.args.group objects planned planned c.args.self.now c.take_one.new.self pool (changed c.args.group plain change)) (sym c.in-Snapshot.is)
+      (value stored planned objects own blocks pool readings plain plans.held are honest spells),
+)) c.take_one.ensures.value
+
+pub returns-in-Snapshot-clause-known : goal.returns-in-Snapshot-clause-known
+returns-in-Snapshot-clause-known g c = IfErr-weaker c.take_one.result _ _ (λ refusal known stored planned objects own blocks pool readings plain good plans are honest spells.
+    known stored planned objects own blocks pool readings plain (subst (λ (change : Change). is_good_change change ≡ true) c.in-Snapshot.is good) plans.held are honest spells) c.take_one.ensures.known
+
+pub returns-in-Snapshot-clause-places : goal.returns-in-Snapshot-clause-places
+returns-in-Snapshot-clause-places g c = on_ok_weaker c.take_one.result (λ places.
+    subst (λ (change : Change). MakesOne c.args.store.now c.take_one.new.store c.args.group c.args.self.now c.take_one.new.self change) (sym c.in-Snapshot.is) places) c.take_one.ensures.places

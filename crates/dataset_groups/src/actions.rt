@@ -1,0 +1,134 @@
+//! What the actions of a group make.
+ghost use Rattle.std.specs.Prelude.{◌≡◌, ◌⊎◌, ◌<◌, ◌≤◌, false, true, ℕ, List, [], Option, fold, OnOk, IfErr};
+ghost use Rattle.block_pointer.specs.declared.block.Block.{Block};
+ghost use Rattle.block_store.specs.Blocks.{Contents, Extends};
+ghost use Rattle.block_store.specs.Plans.{Plans};
+ghost use Rattle.block_store.specs.Steps.{OnlyReadsAndPlans, AnswersAreTrue};
+ghost use Rattle.dataset_chains.specs.Chains.{Reading};
+ghost use Rattle.dataset_changes.specs.States.{AreOfOneSet, birth_of, set_of};
+ghost use Rattle.dead_list.specs.Datasets.{Pool};
+ghost use Rattle.dnode_tree.specs.Writes.{IsForRoom};
+ghost use Rattle.objset.specs.Objects.{Object, AreObjects};
+ghost use Rattle.pool_model.specs.Pools.{PlainPool, changed};
+ghost use Rattle.volume_rules.specs.GoodChanges.{is_good_change};
+ghost use Rattle.dataset_groups.specs.Actions.{AreActed};
+ghost use Rattle.dataset_groups.specs.Demands.{IsActionRefused, IsMakingRefused, MakesAll, MakesOne};
+ghost use Rattle.dataset_groups.specs.Groups.{SpellsGroup};
+ghost use Rattle.dataset_groups.specs.NewVolumes.{AreGoodChanges, numbers_end};
+ghost use Rattle.dataset_groups.specs.Touched.{TouchesChange};
+
+use crate::datasets::GroupDatasets;
+use block_store::{BlockStore, Refusal};
+use model_disk::Disk;
+use pool_model::{Action, Change};
+use std::alloc::Global;
+
+/// The numbers of objects are below 32 * 128^5.
+pub(crate) const NUMBERS_END: u64 = 1 << 40;
+
+impl GroupDatasets {
+    /// Does these actions, in order: makes volumes, and takes snapshots of what volumes are by then. A name that is there already is passed
+    /// over, and so is a snapshot of a volume that isn't there. Each volume and each snapshot takes two objects, for records and dead lists.
+    /// `BadConfig` where a name or a size is none that a volume or a snapshot can have; `NoSpace` also where no numbers are left for objects;
+    /// `BadPointer` where a snapshot's volume has no record of a volume.
+    pub fn act_all<D: Disk + Drop>(
+        &mut self,
+        store: &mut BlockStore<D>,
+        alloc: Global,
+        group: u64,
+        actions: &[Action],
+    ) -> Result<(), Refusal>
+        requires born { 0 < group }
+        requires behind { 4 < self.old.next }
+        ensures steps { OnlyReadsAndPlans store.old store.new [] }
+        ensures behind { 4 < self.new.next }
+        ensures within { self.old.next ≤ numbers_end → self.new.next ≤ numbers_end }
+        ensures one_set { AreOfOneSet self.old.changes self.new.changes }
+
+        // The datasets are those after the actions.
+        ensures value { OnOk result ((stored planned : Contents) (objects : ℕ → Option Object)
+            (own : List Block) (blocks : ℕ → List Block) (pool : Pool) (readings : ℕ → Reading)
+            (plain : PlainPool) → Plans store.old stored planned
+            → AreObjects stored (birth_of self.old.changes) (set_of self.old.changes) objects own blocks
+            → AnswersAreTrue store.old store.new
+            → SpellsGroup planned group objects self.old pool readings plain
+            → (later : Contents) × Plans store.new stored later × Extends planned later
+            × AreActed group objects planned later self.old self.new pool
+            (fold (λ p a. changed group p a.change) plain actions.now)) }
+        ensures bad { IfErr result (λ refusal. refusal ≡ Refusal.BadConfig
+            → ¬ AreGoodChanges actions.now) }
+
+        // Over disks that answer truly, and where all may be done, only room is wanting, or disks.
+        ensures known { IfErr result (λ refusal. (stored planned : Contents)
+            (objects : ℕ → Option Object) (own : List Block) (blocks : ℕ → List Block)
+            (pool : Pool) (readings : ℕ → Reading) (plain : PlainPool) → AreGoodChanges actions.now
+            → Plans store.old stored planned
+            → AreObjects stored (birth_of self.old.changes) (set_of self.old.changes) objects own blocks
+            → AnswersAreTrue store.old store.new
+            → SpellsGroup planned group objects self.old pool readings plain
+            → IsForRoom refusal ⊎ (refusal ≡ Refusal.DiskFault)) }
+
+        // Whatever the datasets are: what is made, which records and lists are touched, what places are taken for, and on a refusal its cause.
+        ensures places { OnOk result
+            (MakesAll store.old store.new group self.old self.new actions.now) }
+        ensures refused { IfErr result (λ refusal. (refusal ≡ Refusal.NoMemory)
+            ⊎ IsActionRefused store.old store.new self.old.changes group self.old.directory
+            self.old.next actions.now refusal) }
+    {
+        for action in actions {
+            self.act_one(store, alloc, group, &action.change)?;
+        }
+        Ok(())
+    }
+
+    /// Does one action.
+    fn act_one<D: Disk + Drop>(
+        &mut self,
+        store: &mut BlockStore<D>,
+        alloc: Global,
+        group: u64,
+        change: &Change,
+    ) -> Result<(), Refusal>
+        requires born { 0 < group }
+        requires behind { 4 < self.old.next }
+        ensures steps { OnlyReadsAndPlans store.old store.new [] }
+        ensures behind { 4 < self.new.next }
+        ensures within { self.old.next ≤ numbers_end → self.new.next ≤ numbers_end }
+        ensures one_set { AreOfOneSet self.old.changes self.new.changes }
+        ensures value { OnOk result ((stored planned : Contents) → Plans store.old stored planned
+            → AnswersAreTrue store.old store.new
+            → (later : Contents) × Plans store.new stored later × Extends planned later
+            × ((objects : ℕ → Option Object) (own : List Block) (blocks : ℕ → List Block)
+            (pool : Pool) (readings : ℕ → Reading) (plain : PlainPool)
+            → AreObjects stored (birth_of self.old.changes) (set_of self.old.changes) objects own blocks
+            → SpellsGroup planned group objects self.old pool readings plain
+            → AreActed group objects planned later self.old self.new pool
+            (changed group plain change.now))) }
+        ensures bad { IfErr result (λ refusal. refusal ≡ Refusal.BadConfig
+            → is_good_change change.now ≡ false) }
+        ensures known { IfErr result (λ refusal. (stored planned : Contents)
+            (objects : ℕ → Option Object) (own : List Block) (blocks : ℕ → List Block)
+            (pool : Pool) (readings : ℕ → Reading) (plain : PlainPool)
+            → is_good_change change.now ≡ true → Plans store.old stored planned
+            → AreObjects stored (birth_of self.old.changes) (set_of self.old.changes) objects own blocks
+            → AnswersAreTrue store.old store.new
+            → SpellsGroup planned group objects self.old pool readings plain
+            → IsForRoom refusal ⊎ (refusal ≡ Refusal.DiskFault)) }
+        ensures places { OnOk result
+            (MakesOne store.old store.new group self.old self.new change.now) }
+        ensures touched { OnOk result ((self.new ≡ self.old)
+            ⊎ TouchesChange self.old.changes self.new.changes self.old.directory self.old.next
+            change.now) }
+        ensures refused { IfErr result (IsMakingRefused store.old store.new self.old.changes group
+            self.old.directory [] self.old.next change.now) }
+    {
+        match change {
+            Change::Create {
+                name,
+                size,
+                block_size,
+            } => self.create_one(store, alloc, group, name, *size, *block_size),
+            Change::Snapshot { volume, part } => self.take_one(store, alloc, group, volume, part),
+        }
+    }
+}

@@ -1,0 +1,104 @@
+use Rattle.std.proofs.Common.{◌≡◌, ◌≤◌, ◌∷◌, ◌∙◌, List, inl, inr, refl, sym, ap, subst, arith}
+use Rattle.block_store.proofs.Steps.{reads_on}
+use Rattle.block_store.specs.Spaces.{VdevSpace}
+use Rattle.block_store.specs.Store.{Store}
+use Rattle.dnode.specs.declared.object_set.ObjectSet.{ObjectSet}
+use Rattle.dnode_tree.proofs.FurtherReads.{true_before, true_after}
+use Rattle.dnode_tree.specs.Younger.{younger}
+use Rattle.objset.specs.Objects.{AreObjects}
+use Rattle.objset.specs.Within.{blocks_of_objects, blocks_of_set, reads_of}
+use Rattle.objset.specs.Younger.{IsYoungerSetWalked}
+use Rattle.volume.proofs.Refusing.{passed_on}
+use Rattle.volume.proofs.YoungerBlocks.{few_reads, first_younger, none_younger, some_read, volume_once}
+use Rattle.volume.proofs.volume.VolumeSet.walk_younger.Goals as goal
+
+pub returns-then-self-since-clause-blocks : goal.returns-then-self-since-clause-blocks
+returns-then-self-since-clause-blocks g c = λ stored bound array held is le honest.
+    c.new.ensures.items ∙ sym (none_younger c.args.since stored bound c.args.self.now.size c.args.self.now.block_size array c.args.self.now.block is c.if-self-since.true)
+
+pub returns-then-self-since-clause-count : goal.returns-then-self-since-clause-count
+returns-then-self-since-clause-count g c = inl (c.if-self-since.true, refl, c.new.ensures.items)
+
+pub returns-in_err-set-clause-refused : goal.returns-in_err-set-clause-refused
+returns-in_err-set-clause-refused g c = passed_on _ _ _ c.from_residual.ensures.1 (inr (c.if-self-since.false, inl c.in_err-set.ensures.refused))
+
+pub returns-in_err-set-clause-known : goal.returns-in_err-set-clause-known
+returns-in_err-set-clause-known g c =
+    passed_on _ _ _ c.from_residual.ensures.1 (λ stored bound array held is le once enough honest.
+    c.in_err-set.ensures.known stored bound array held is le
+    (some_read c.args.since c.args.left.now c.args.self.now.block is.set is.has.own is.has.blocks c.if-self-since.false enough) honest)
+
+pub returns-in_err-below-clause-reads : goal.returns-in_err-below-clause-reads
+returns-in_err-below-clause-reads g c = reads_on _ _ _ _ c.in_ok-set.ensures.reads c.in_err-below.ensures.reads
+
+pub returns-in_err-below-clause-refused : goal.returns-in_err-below-clause-refused
+returns-in_err-below-clause-refused g c =
+    passed_on _ _ _ c.from_residual-in_err-below.ensures.1 (inr (
+      c.if-self-since.false,
+      inr (record {
+        set = c.in_ok-set.set;
+        is_set = c.in_ok-set.ensures.found;
+        left = c.count_set.new.left;
+        count = omega (arith, c.in_ok-set.ensures.count);
+        mid = c.count_set.new.store;
+        first = c.in_ok-set.ensures.reads;
+        why = c.in_err-below.ensures.refused;
+      }),
+    ))
+
+pub returns-in_err-below-clause-known : goal.returns-in_err-below-clause-known
+returns-in_err-below-clause-known g c =
+    let first = c.in_ok-set.ensures.reads in
+    let rest = c.in_err-below.ensures.reads in
+    passed_on _ _ _ c.from_residual-in_err-below.ensures.1 (λ stored bound array held is le once enough honest.
+    let block = c.args.self.now.block in
+    let same : c.in_ok-set.set ≡ is.set = c.in_ok-set.ensures.value stored bound array held is le (true_before _ _ _ _ first rest honest) in
+    c.in_err-below.ensures.known stored is.has.objects is.has.own is.has.blocks (first.keeps stored held)
+    (subst (λ (set : ObjectSet). AreObjects stored block.birth set is.has.objects is.has.own is.has.blocks) (sym same) is.has.are)
+    (volume_once stored block.birth block is.set is.has.objects is.has.own is.has.blocks is.has.are once)
+    (subst (λ (set : ObjectSet). reads_of (younger c.args.since is.has.own) (younger c.args.since (blocks_of_objects set is.has.blocks)) ≤ c.count_set.new.left) (sym same)
+    (few_reads c.args.since c.count_set.new.left block is.set is.has.own is.has.blocks c.if-self-since.false (omega (arith, enough, c.in_ok-set.ensures.count))))
+    (true_after _ _ _ _ first rest honest))
+
+pub returns-in_err-with_first-clause-reads : goal.returns-in_err-with_first-clause-reads
+returns-in_err-with_first-clause-reads g c = reads_on _ _ _ _ c.in_ok-set.ensures.reads c.in_ok-below.ensures.reads
+
+pub returns-in_err-with_first-clause-refused : goal.returns-in_err-with_first-clause-refused
+returns-in_err-with_first-clause-refused g c = passed_on _ _ _ c.from_residual-in_err-with_first.ensures.1 (inl refl)
+
+pub returns-in_err-with_first-clause-known : goal.returns-in_err-with_first-clause-known
+returns-in_err-with_first-clause-known g c =
+    passed_on _ _ _ c.from_residual-in_err-with_first.ensures.1 (λ stored bound array held is le once enough honest. inl refl)
+
+pub returns-clause-reads : goal.returns-clause-reads
+returns-clause-reads g c = reads_on _ _ _ _ c.in_ok-set.ensures.reads c.in_ok-below.ensures.reads
+
+pub returns-clause-blocks : goal.returns-clause-blocks
+returns-clause-blocks g c = λ stored bound array held is le honest.
+    let first = c.in_ok-set.ensures.reads in
+    let rest = c.in_ok-below.ensures.reads in
+    let block = c.args.self.now.block in
+    let same : c.in_ok-set.set ≡ is.set = c.in_ok-set.ensures.value stored bound array held is le (true_before _ _ _ _ first rest honest) in
+    c.in_ok-with_first.ensures
+    ∙ ap (λ blocks. block ∷ blocks)
+    (c.in_ok-below.ensures.blocks stored is.has.objects is.has.own is.has.blocks (first.keeps stored held)
+    (subst (λ (set : ObjectSet). AreObjects stored block.birth set is.has.objects is.has.own is.has.blocks) (sym same) is.has.are)
+    (true_after _ _ _ _ first rest honest)
+    ∙ ap (λ (set : ObjectSet). younger c.args.since (blocks_of_set set is.has.own is.has.blocks)) same)
+    ∙ first_younger c.args.since block is.set is.has.own is.has.blocks c.if-self-since.false
+
+pub returns-clause-count : goal.returns-clause-count
+returns-clause-count g c = inr (record {
+  younger = c.if-self-since.false;
+  set = c.in_ok-set.set;
+  is_set = c.in_ok-set.ensures.found;
+  left = c.count_set.new.left;
+  count = omega (arith, c.in_ok-set.ensures.count);
+  below = c.in_ok-below.below.items;
+  walked = subst
+      (λ (spaces : List VdevSpace).
+      IsYoungerSetWalked c.args.since spaces c.in_ok-set.set c.args.self.now.block.birth c.count_set.new.left c.walk_younger.new.left c.in_ok-below.below.items)
+      (ap (λ (s : Store). s.spaces) c.in_ok-set.ensures.reads.rest) c.in_ok-below.ensures.count;
+  once = c.in_ok-below.ensures.once;
+  are = c.in_ok-with_first.ensures;
+})
