@@ -20,28 +20,38 @@ fn letter(alloc: Global, letter: u8) -> Result<Name, Fail> {
     Ok(Name::new(vec![in alloc; letter; 1]?))
 }
 
-/// Makes the volume of this letter and size.
-pub(crate) fn creation(alloc: Global, number: u64, name: u8, size: u64) -> Result<Item, Fail> {
-    Ok(Item::Action(Action {
+/// Makes the volume of this name and size.
+pub(crate) fn creation_of(number: u64, name: Name, size: u64) -> Item {
+    Item::Action(Action {
         writer: 1,
         number,
         change: Change::Create {
-            name: letter(alloc, name)?,
+            name,
             size,
             block_size: 512,
         },
-    }))
+    })
+}
+
+/// Makes the volume of this letter and size.
+pub(crate) fn creation(alloc: Global, number: u64, name: u8, size: u64) -> Result<Item, Fail> {
+    Ok(creation_of(number, letter(alloc, name)?, size))
 }
 
 /// Writes 600 bytes of 7 from byte 500 of a volume on: to the end of its first block, its second, and the front of its third.
-pub(crate) fn write(alloc: Global, number: u64, name: u8) -> Result<Item, Fail> {
+pub(crate) fn write_to(alloc: Global, number: u64, volume: Name) -> Result<Item, Fail> {
     Ok(Item::Write(Write {
         writer: 1,
         number,
-        volume: letter(alloc, name)?,
+        volume,
         offset: 500,
         bytes: Bytes::new(vec![in alloc; 7; 600]?),
     }))
+}
+
+/// The same write, to the volume of this letter.
+pub(crate) fn write(alloc: Global, number: u64, name: u8) -> Result<Item, Fail> {
+    write_to(alloc, number, letter(alloc, name)?)
 }
 
 /// Accepts an item in the open group, which writer 1 holds then.

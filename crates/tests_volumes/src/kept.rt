@@ -1,7 +1,7 @@
 //! Directories that are kept in memory.
 use crate::groups::{
-    FROM, LEN, SIZE, accept, creation, group_of, group_of_three, is_after, is_bad, next_group,
-    write,
+    FROM, LEN, SIZE, accept, creation, creation_of, group_of, group_of_three, is_after, is_bad,
+    next_group, write, write_to,
 };
 use crate::roots::first_with;
 use crate::sets::name_of;
@@ -14,7 +14,7 @@ use dataset_snapshots::{
 use meta_objset::Directory;
 use model_disk::{Disk, DiskError, MemDisk};
 use pool_model::Name;
-use std::alloc::Global;
+use std::alloc::{AllocError, Global};
 use std::test::Fail;
 use txg_pipeline::Pipeline;
 
@@ -79,18 +79,17 @@ fn roots_come_with_their_directories(rt: HostRuntime) -> Result<(), Fail> {
     Ok(())
 }
 
-/// The bytes of the volume of a letter from one on, by a directory that is kept.
+/// The bytes of a volume from one on, by a directory that is kept.
 fn bytes_in<D: Disk + Drop>(
     root: &Block,
     store: &mut BlockStore<D>,
     alloc: Global,
     directory: &Directory,
-    name: u8,
+    name: &Name,
     offset: u64,
 ) -> Result<Vec<u8>, Refusal> {
-    let name = Name::new(vec![in alloc; name; 1]?);
     let range = VolumeRange {
-        name: &name,
+        name,
         offset,
         len: LEN,
     };
@@ -115,7 +114,8 @@ fn bytes_of(
     name: u8,
     offset: u64,
 ) -> Result<Vec<u8>, Refusal> {
-    bytes_in(&next.root, store, alloc, &next.directory, name, offset)
+    let name = Name::new(vec![in alloc; name; 1]?);
+    bytes_in(&next.root, store, alloc, &next.directory, &name, offset)
 }
 
 /// Whether `v` reads as it is to after the write.
@@ -205,11 +205,17 @@ fn reads_of(store: CountedStore) -> u64 {
     reads
 }
 
-/// Makes so many volumes, whose names are the bytes from 1 on.
+/// The name of a volume among many: two letters, in the order of the numbers.
+fn name_among(alloc: Global, number: u8) -> Result<Name, AllocError> {
+    let letters = [b'a' + number / 26, b'a' + number % 26];
+    Ok(Name::new(Vec::from_slice(alloc, &letters)?))
+}
+
+/// Makes so many volumes, whose numbers are those from 1 on.
 fn accept_many(pipeline: &mut Pipeline, alloc: Global, count: u8) -> Result<(), Fail> {
-    for name in 1..=count {
-        let item = creation(alloc, u64::from(name), name, SIZE)?;
-        if name == 1 {
+    for number in 1..=count {
+        let item = creation_of(u64::from(number), name_among(alloc, number)?, SIZE);
+        if number == 1 {
             accept(pipeline, item)?;
         } else {
             pipeline.accept(item)?;
@@ -242,7 +248,7 @@ fn root_with_directory(
 }
 
 /// Whether a range of a volume reads as zeros, by the directory that a root came with.
-fn is_zeros_in(first: &FirstRoot, store: &mut CountedStore, alloc: Global, name: u8) -> bool {
+fn is_zeros_in(first: &FirstRoot, store: &mut CountedStore, alloc: Global, name: &Name) -> bool {
     match bytes_in(&first.root, store, alloc, &first.directory, name, FROM) {
         Ok(bytes) => is_after(&bytes, false),
         Err(_) => false,
@@ -256,8 +262,9 @@ fn is_last_read(
     count: u8,
     is_kept: bool,
 ) -> Result<bool, Fail> {
+    let name = name_among(alloc, count)?;
     let first = root_with_directory(store, alloc, count, is_kept)?;
-    Ok(is_zeros_in(&first, store, alloc, count))
+    Ok(is_zeros_in(&first, store, alloc, &name))
 }
 
 /// How many reads of disks a range of the last of so many volumes takes, by the directory that was kept, or by one that is read first.
@@ -289,7 +296,7 @@ fn reads_do_not_grow_with_the_names(rt: HostRuntime) -> Result<(), Fail> {
 
 /// The root after a group that writes to the last of so many volumes.
 fn written_of_many(store: &mut CountedStore, alloc: Global, count: u8) -> Result<NextRoot, Fail> {
-    let pipeline = group_of(alloc, write(alloc, 1, count)?)?;
+    let pipeline = group_of(alloc, write_to(alloc, 1, name_among(alloc, count)?)?)?;
     let first = root_of_many(store, alloc, count)?;
     store.drop_plan(2);
     let root = &first.root;
