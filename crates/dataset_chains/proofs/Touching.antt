@@ -8,7 +8,7 @@ use Rattle.dataset_changes.specs.declared.states.RecordState.{RecordState}
 use Rattle.dataset_changes.specs.declared.states.RecordState.TheVariants as records
 use Rattle.meta_objset.specs.declared.record.DatasetRecord.{DatasetRecord}
 use Rattle.dataset_chains.specs.Refused.{HasKnown}
-use Rattle.dataset_chains.specs.Touched.{AreAtMostRead, IsAtMostRead, IsSnapshotTouched, TouchesOnly}
+use Rattle.dataset_chains.specs.Touched.{AreAtMostRead, IsAtMostRead, IsCloneTouched, IsSnapshotTouched, TouchesOnly}
 
 -- ---- reading
 
@@ -117,4 +117,24 @@ takes old read passed made put new head dataset list r first second third one_se
       | inr ne ↦ inl (list_put.1 m ne ∙ lists m)
     ];
   };
+}
+
+-- ---- a clone
+
+-- the snapshot's record is read and changed, the clone's made, and a dead list made
+pub clones : (old read put made new : DatasetChanges) (snapshot dataset list : ℕ) (first second : Option RecordState) (third : Option ListState) → AreAtMostRead old read
+    → HasRecordPut read snapshot first put → HasRecordPut put dataset second made → HaveSameRecords made new → HaveSameLists old made → HasListPut made list third new
+    → IsCloneTouched old new snapshot dataset list
+clones old read put made new snapshot dataset list first second third reads changes makes same lists list_put = record {
+  records = λ m. elim (cases_eq m dataset) [
+    | inl e ↦ inr (inl e)
+    | inr apart ↦ elim (cases_eq m snapshot) [
+      | inl e ↦ inr (inr e)
+      | inr other ↦ inl (subst (λ (s : Option RecordState). IsAtMostRead (record_at old m) s) (sym (same m ∙ makes.1 m apart ∙ changes.1 m other)) (reads m))
+    ]
+  ];
+  lists = λ m. elim (cases_eq m list) [
+    | inl e ↦ inr e
+    | inr ne ↦ inl (list_put.1 m ne ∙ lists m)
+  ];
 }

@@ -41,3 +41,8 @@ pub record IsSnapshotTouched (old new : DatasetChanges) (head dataset dead_list 
   pub known : HasKnown far head r
   pub touched : TouchesOnly old new
       (λ number. (number ≡ dataset) ⊎ ((number ≡ head) ⊎ ((number ≡ r.previous) × (number ≢ 0)))) (λ list. list ≡ dead_list)
+
+-- For a clone of a snapshot the records of two datasets are touched: the clone's is made, and the snapshot's is changed. One dead list is made.
+abbrev pub IsCloneTouched : DatasetChanges → DatasetChanges → ℕ → ℕ → ℕ → Type 0
+IsCloneTouched old new snapshot dataset dead_list =
+    TouchesOnly old new (λ number. (number ≡ dataset) ⊎ (number ≡ snapshot)) (λ list. list ≡ dead_list)

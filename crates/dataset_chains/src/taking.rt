@@ -12,7 +12,7 @@ ghost use Rattle.meta_objset.specs.declared.record.DatasetKind.TheVariants as ki
 ghost use Rattle.objset.specs.Objects.{Object, AreObjects};
 ghost use Rattle.dataset_chains.specs.Chains.{AreNewNumbers, Reading, SpellsChains};
 ghost use Rattle.dataset_chains.specs.Refused.{HasMostClones, IsChainRefused};
-ghost use Rattle.dataset_chains.specs.Touched.{IsSnapshotTouched};
+ghost use Rattle.dataset_chains.specs.Touched.{IsCloneTouched, IsSnapshotTouched};
 
 use crate::records::{pass_next, record_of_kind};
 use block_store::{BlockStore, Refusal};
@@ -117,6 +117,8 @@ pub fn clone<D: Disk + Drop>(
         → SpellsChains known group objects changes.new
         (with_dataset pool numbers.dataset (clone_of pool snapshot))
         (updated readings numbers.dataset (readings snapshot))) }
+    ensures touched { OnOk result (IsCloneTouched changes.old changes.new snapshot numbers.dataset
+        numbers.dead_list) }
     ensures refused { IfErr result (λ refusal. HasMostClones changes.new snapshot refusal
         ⊎ IsChainRefused store.old store.new changes.old changes.new snapshot kinds.Snapshot
         refusal) }

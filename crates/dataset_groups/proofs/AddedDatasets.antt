@@ -4,17 +4,14 @@ use Rattle.std.proofs.lemmas.List.{length-replicate}
 use Rattle.block_pointer.specs.declared.block.Block.{Block}
 use Rattle.block_store.specs.Blocks.{Contents, Extends}
 use Rattle.dataset_chains.proofs.Staying.{chains_stay}
-use Rattle.dataset_chains.specs.Chains.{AreNewNumbers, LeadsTo, Reading, SpellsChains}
-use Rattle.dataset_changes.specs.Over.{HasRecordNow, IsRecordNow}
-use Rattle.dataset_changes.specs.declared.changes.DatasetChanges.{DatasetChanges}
-use Rattle.dataset_changes.specs.declared.states.RecordState.{RecordState}
+use Rattle.dataset_chains.specs.Chains.{LeadsTo, Reading}
+use Rattle.dataset_chains.specs.Making.{volume_with}
 use Rattle.dead_list.specs.Blocks.{AreDistinct}
-use Rattle.dead_list.specs.Datasets.{Pool, updated}
+use Rattle.dead_list.specs.Datasets.{Head, Pool}
 use Rattle.dead_list.specs.Operations.{AreNew, IsUnused}
 use Rattle.dnode_tree.proofs.SameBlocks.{counted, distinct_counted, found, once_counted, same_as}
 use Rattle.meta_objset.specs.declared.directory.DirectoryRow.{DirectoryRow}
 use Rattle.meta_objset.specs.declared.record.DatasetRecord.{DatasetRecord}
-use Rattle.meta_objset.specs.Datasets.{HasRecord}
 use Rattle.meta_objset.specs.Directory.{LacksName}
 use Rattle.objset.specs.Objects.{Object}
 use Rattle.pool_model.specs.declared.item.Change.TheVariants.{Create}
@@ -24,19 +21,20 @@ use Rattle.volume.specs.Volume.{IsVolume}
 use Rattle.volume.specs.Walking.{blocks_of_volume}
 use Rattle.dataset_groups.specs.Actions.{AreActed}
 use Rattle.dataset_groups.specs.Adding.{IsAdded}
-use Rattle.dataset_groups.specs.Groups.{IsFresh, SpellsGroup}
+use Rattle.dataset_groups.specs.Groups.{SpellsGroup}
 use Rattle.dataset_groups.specs.Leaving.{AddsData, IsReachExchanged}
 use Rattle.dataset_groups.specs.Names.{reach_by}
 use Rattle.dataset_groups.specs.NewVolumes.{IsNewVolume, new_record, numbers_end}
 use Rattle.dataset_groups.specs.declared.datasets.GroupDatasets.{GroupDatasets}
 use Rattle.dataset_groups.specs.declared.new_volume.NewVolume.{NewVolume}
-use Rattle.dataset_groups.proofs.AddedNames.{names_with, not_new}
 use Rattle.dataset_groups.proofs.AddedReach.{reach_with}
-use Rattle.dataset_groups.proofs.Copied.{adds_none, adds_on}
-use Rattle.dataset_groups.proofs.Exchanges.{given_then, same_given}
-use Rattle.dataset_groups.proofs.KnownBlocks.{free_or_not, reached_known}
+use Rattle.dataset_groups.proofs.Copied.{adds_on}
+use Rattle.dataset_groups.proofs.Exchanges.{given_then}
+use Rattle.dataset_groups.proofs.KnownBlocks.{reached_known}
 use Rattle.dataset_groups.proofs.MakingVolumes.{volumes_same}
-use Rattle.dataset_groups.proofs.NewTouches.{stays_fresh, stays_unmixed}
+use Rattle.dataset_groups.proofs.MoreDatasets.{acts_with, new_numbers, next_unused, passed_over}
+use Rattle.dataset_groups.proofs.MoreNames.{names_with, not_new}
+use Rattle.dataset_groups.proofs.OneMore.{one_with}
 
 -- ---- new blocks
 
@@ -53,35 +51,6 @@ module _ (group : ℕ) (planned later : Contents) (blocks : List Block) (one : I
   each_once : AreDistinct blocks
   each_once = distinct_counted blocks (λ block. omega (arith, once_counted block one.added one.once, one.after_are (same_as block), one.before_are (same_as block)))
 
--- ---- new numbers
-
-no_record_now : (objects : ℕ → Option Object) (changes : DatasetChanges) (number : ℕ) (r : DatasetRecord) → IsFresh objects changes number → HasRecordNow objects changes number r → ⊥
-no_record_now objects changes number r fresh has =
-    let there : HasRecord (objects number) r = subst (λ (state : Option RecordState). IsRecordNow (objects number) state r) fresh.no_record has in
-    let clash : None ≡ Some there.there = sym fresh.no_object ∙ there.is in
-    cc
-
-is_unused : (known : Contents) (group : ℕ) (objects : ℕ → Option Object) (changes : DatasetChanges) (pool : Pool) (readings : ℕ → Reading) (number : ℕ)
-    → SpellsChains known group objects changes pool readings → 0 < number → IsFresh objects changes number → IsUnused pool.datasets number
-is_unused known group objects changes pool readings number spells behind fresh = (
-  λ none. absurd (omega (arith, behind, none)),
-  elim (free_or_not (pool.datasets number).kind) [
-    | inl free ↦ (spells.none number free).is
-    | inr some ↦ let it = spells.each number some in absurd (no_record_now objects changes number it.r fresh it.has)
-  ],
-)
-
-new_numbers : (objects : ℕ → Option Object) (changes : DatasetChanges) (number list : ℕ) → list ≡ number + 1 → 4 < number → number + 2 ≤ numbers_end → IsFresh objects changes number
-    → IsFresh objects changes list → AreNewNumbers objects changes number list
-new_numbers objects changes number list is behind within one two = record {
-  apart = λ same. absurd (omega (arith, is, same));
-  number_is = (behind, omega (arith, within));
-  list_is = (omega (arith, is, behind), omega (arith, is, within));
-  no_object = (one.no_object, two.no_object);
-  no_record = (one.no_record, two.no_record);
-  no_list = (one.no_list, two.no_list);
-}
-
 -- ---- the datasets
 
 -- the volume of a change is made
@@ -97,11 +66,9 @@ volume_made old new name size block_size v group object_set r planned later obje
     let blocks : List Block = blocks_of_volume object_set bytes.set bytes.has.own bytes.has.blocks in
     let reading : Reading = record { array = replicate v.size 0; block_size = v.block_size } in
     let n : ℕ = old.next in
-    let list : ℕ = old.next + 1 in
     let row : DirectoryRow = record { name = v.name; object = n } in
-    let here : IsFresh objects old.changes n = spells.fresh n (omega arith) in
-    let beside : IsFresh objects old.changes list = spells.fresh list (omega arith) in
-    let unused : IsUnused pool.datasets n = is_unused planned group objects old.changes pool readings n spells.chains (omega (arith, behind)) here in
+    let unused : IsUnused pool.datasets n = next_unused old group planned objects pool readings plain spells behind in
+    let one_more = one_with pool n (volume_with pool blocks) unused refl in
     let in_group = spells.chains.now in
     let are_new : AreNew pool blocks = λ block held. (
       born_now group planned later blocks one block held ∙ sym in_group,
@@ -113,52 +80,30 @@ volume_made old new name size block_size v group object_set r planned later obje
     let leads : LeadsTo later group made blocks reading = record { size = sym (length-replicate v.size 0); block_size = refl; bytes = bytes; blocks_are = refl } in
     let chains = it.adds later group objects pool readings blocks reading some (chains_stay.more planned later group objects old.changes pool readings more spells.chains) unused
     (record { kind = refl; created = refl; previous = refl; next = refl; clones = refl })
-    (new_numbers objects old.changes n list refl behind within here beside) leads are_new (each_once group planned later blocks one) in
-    let next = it.next in record {
-      after = _;
-      readings = updated readings n reading;
-      spells = record {
-        chains = chains;
-        names = names_with pool readings old.directory plain spells.names spells.chains.sound n unused blocks reading new.directory row (created group name size block_size) it.row lacks refl is.0 good
-            refl in_group (ap (λ k. replicate k 0) is.1) is.2;
-        fresh = λ number le.
-            stays_fresh objects old.changes new.changes n list spells.chains.over chains.over it.touched number (λ e. absurd (omega (arith, le, next, e))) (λ e. absurd (omega (arith, le, next, e)))
-            (spells.fresh number (omega (arith, le, next)));
-        unmixed = stays_unmixed objects old.changes new.changes n list spells.chains.over chains.over it.touched (λ e. absurd (omega (arith, e))) here beside spells.unmixed;
-      };
-      exchanged = reach_with group planned later pool spells.chains.sound n unused blocks old.directory new.directory row it.row.at
-          (λ block held. let birth = born_now group planned later blocks one block held in omega (arith, birth, some)) refl
-          (not_new pool readings old.directory plain spells.names spells.chains.sound n unused) it.row.placed one;
-      adds = adds;
-    }
+    (new_numbers old group planned objects pool readings plain spells behind within) leads are_new (each_once group planned later blocks one) in
+    acts_with old group planned objects pool readings plain spells later new _ _ Head reading one_more chains
+    (names_with pool _ n Head one_more readings old.directory plain spells.names reading new.directory row (created group name size block_size) it.row lacks refl is.0 good refl in_group
+    (ap (λ k. replicate k 0) is.1) is.2)
+    it.next it.touched.lists
+    (reach_with group planned later pool spells.chains.sound n unused blocks old.directory new.directory row it.row.at
+    (λ block held. let birth = born_now group planned later blocks one block held in omega (arith, birth, some)) refl
+    (not_new pool _ n Head one_more readings old.directory plain spells.names) it.row.placed one)
+    adds
 
 -- or its name is there
 pub volume_passed : (datasets : GroupDatasets) (name : List ℕ) (size block_size : ℕ) (v : NewVolume) (group object : ℕ) (stored : Contents) (objects : ℕ → Option Object) (pool : Pool)
     (readings : ℕ → Reading) (plain : PlainPool) → IsNewVolume name size block_size v → Contains datasets.directory (record { name = v.name; object = object })
     → SpellsGroup stored group objects datasets pool readings plain → AreActed group objects stored stored datasets datasets pool (changed group plain (Create name size block_size))
-volume_passed datasets name size block_size v group object stored objects pool readings plain is held spells = record {
-  after = pool;
-  readings = readings;
-  spells =
-      subst (SpellsGroup stored group objects datasets pool readings)
-      (sym (volumes_same _ (λ r volume named. named.name) datasets.directory (record { name = v.name; object = object }) plain (created group name size block_size) held is.0 spells.names.volumes))
-      spells;
-  exchanged = same_given group stored (reach_by pool datasets.directory);
-  adds = adds_none stored;
-}
+volume_passed datasets name size block_size v group object stored objects pool readings plain is held spells =
+    passed_over datasets group stored objects pool readings plain _
+    (volumes_same _ (λ r volume named. named.name) datasets.directory (record { name = v.name; object = object }) plain (created group name size block_size) held is.0 spells.names.volumes) spells
 
 -- ---- one after the other
 
 -- nothing was done yet
 pub acts_none : (datasets : GroupDatasets) (group : ℕ) (stored : Contents) (objects : ℕ → Option Object) (pool : Pool) (readings : ℕ → Reading) (plain : PlainPool)
     → SpellsGroup stored group objects datasets pool readings plain → AreActed group objects stored stored datasets datasets pool plain
-acts_none datasets group stored objects pool readings plain spells = record {
-  after = pool;
-  readings = readings;
-  spells = spells;
-  exchanged = same_given group stored (reach_by pool datasets.directory);
-  adds = adds_none stored;
-}
+acts_none datasets group stored objects pool readings plain spells = passed_over datasets group stored objects pool readings plain plain refl spells
 
 -- and then more
 pub acts_on : (first mid last : GroupDatasets) (group : ℕ) (planned now later : Contents) (objects : ℕ → Option Object) (pool : Pool) (plain then_plain : PlainPool) → Extends planned now

@@ -1,28 +1,19 @@
--- Which records and dead lists are touched where volumes are made and snapshots taken.
-use Rattle.std.proofs.Common.{◌≡◌, ◌≢◌, ◌⊎◌, ◌+◌, ◌*◌, ℕ, List, [], ◌∷◌, ◌++◌, length, Contains, Option, Some, None, inl, inr, refl, sym, ap, subst, ◌∙◌, arith}
+-- Which records and dead lists are touched where volumes and clones are made and snapshots taken.
+use Rattle.std.proofs.Common.{◌≡◌, ◌⊎◌, ◌+◌, ◌*◌, ℕ, List, [], ◌∷◌, ◌++◌, length, Contains, inl, inr, refl, sym, ◌∙◌, arith}
 use Rattle.std.proofs.lemmas.List.{length-append}
 use Rattle.std.proofs.lemmas.List.Quantifiers.{Any-push}
 use Rattle.dataset_chains.specs.Refused.{HasKnown}
 use Rattle.dataset_chains.specs.Touched.{TouchesOnly}
 use Rattle.dataset_chains.proofs.Chained.{one_set_on}
 use Rattle.dataset_chains.proofs.Touching.{at_most_on}
-use Rattle.dataset_changes.specs.Over.{AreOver, IsForList, IsListOver, IsRecordOver}
-use Rattle.dataset_changes.specs.Results.{AreMixed}
-use Rattle.dataset_changes.specs.States.{AreOfOneSet, list_at, record_at}
+use Rattle.dataset_changes.specs.States.{AreOfOneSet, record_at}
 use Rattle.dataset_changes.specs.declared.changes.DatasetChanges.{DatasetChanges}
-use Rattle.dataset_changes.specs.declared.states.ListState.{ListState}
-use Rattle.dataset_changes.specs.declared.states.ListState.TheVariants as lists
-use Rattle.dataset_changes.specs.declared.states.RecordState.{RecordState}
-use Rattle.dataset_changes.specs.declared.states.RecordState.TheVariants as records
 use Rattle.meta_objset.specs.declared.directory.DirectoryRow.{DirectoryRow}
 use Rattle.meta_objset.specs.declared.record.DatasetRecord.{DatasetRecord}
-use Rattle.meta_objset.specs.Datasets.{HasRecord}
-use Rattle.objset.specs.Objects.{Object}
 use Rattle.pool_model.specs.declared.item.Action.{Action}
 use Rattle.pool_model.specs.declared.item.Change.{Change}
-use Rattle.pool_model.specs.declared.item.Change.TheVariants.{Create, Snapshot}
-use Rattle.dataset_groups.specs.Groups.{IsFresh}
-use Rattle.dataset_groups.specs.Touched.{IsBeforeTaken, IsHeadTaken, IsNewNumber, IsTakenBy, TouchesChange, TouchesMade, TouchesNew}
+use Rattle.pool_model.specs.declared.item.Change.TheVariants.{Clone, Create, Snapshot}
+use Rattle.dataset_groups.specs.Touched.{IsBeforeTaken, IsClonedBy, IsHeadTaken, IsNewNumber, IsOriginTaken, IsTakenBy, TouchesChange, TouchesMade, TouchesNew}
 use Rattle.dataset_groups.proofs.ListParts.{any_append_left}
 
 -- ---- one change
@@ -46,7 +37,7 @@ IsBeforeOne changes rows change number =
 
 -- one of the records that a change touches
 abbrev IsTouchedBy : DatasetChanges → List DirectoryRow → ℕ → Change → ℕ → Type 0
-IsTouchedBy changes rows next change number = IsNewNumber next 1 number ⊎ (IsTakenBy rows number change ⊎ IsBeforeOne changes rows change number)
+IsTouchedBy changes rows next change number = IsNewNumber next 1 number ⊎ (IsTakenBy rows number change ⊎ (IsBeforeOne changes rows change number ⊎ IsClonedBy rows number change))
 
 by_change : (old new : DatasetChanges) (rows : List DirectoryRow) (next : ℕ) (change : Change) → TouchesChange old new rows next change
     → TouchesOnly old new (IsTouchedBy old rows next change) (IsNewNumber next 1)
@@ -62,9 +53,20 @@ by_change old new rows next (Snapshot volume part) (row, held, named, taken) = r
     | inl kept ↦ inl kept
     | inr (inl made) ↦ inr (inl (omega (arith, made), omega (arith, made)))
     | inr (inr (inl head)) ↦ inr (inr (inl (row, held, named, sym head)))
-    | inr (inr (inr before)) ↦ inr (inr (inr (taken.far, taken.one_set, row.object, (row, held, named, refl), (taken.r, taken.known, sym before.0))))
+    | inr (inr (inr before)) ↦ inr (inr (inr (inl (taken.far, taken.one_set, row.object, (row, held, named, refl), (taken.r, taken.known, sym before.0)))))
   ];
   lists = λ number. elim (taken.touched.lists number) [
+    | inl kept ↦ inl kept
+    | inr made ↦ inr (omega (arith, made), omega (arith, made))
+  ];
+}
+by_change old new rows next (Clone snapshot name) (row, held, named, cloned) = record {
+  records = λ number. elim (cloned.records number) [
+    | inl kept ↦ inl kept
+    | inr (inl made) ↦ inr (inl (omega (arith, made), omega (arith, made)))
+    | inr (inr origin) ↦ inr (inr (inr (inr (row, held, named, sym origin))))
+  ];
+  lists = λ number. elim (cloned.lists number) [
     | inl kept ↦ inl kept
     | inr made ↦ inr (omega (arith, made), omega (arith, made))
   ];
@@ -92,6 +94,12 @@ module _ (next mid : ℕ) (made : List Action) (action : Action) (at : mid ≡ n
   taken_grows : (number : ℕ) (change : Change) → IsTakenBy rows number change → IsTakenBy more_rows number change
   taken_grows number (Create name size block_size) taken = taken
   taken_grows number (Snapshot volume part) (row, held, named, is) = (row, grows row held, named, is)
+  taken_grows number (Clone snapshot name) taken = taken
+
+  cloned_grows : (number : ℕ) (change : Change) → IsClonedBy rows number change → IsClonedBy more_rows number change
+  cloned_grows number (Create name size block_size) cloned = cloned
+  cloned_grows number (Snapshot volume part) cloned = cloned
+  cloned_grows number (Clone snapshot name) (row, held, named, is) = (row, grows row held, named, is)
 
   taken_sooner : (number : ℕ) → IsHeadTaken rows made number → IsHeadTaken more_rows all number
   taken_sooner number taken =
@@ -106,6 +114,13 @@ module _ (next mid : ℕ) (made : List Action) (action : Action) (at : mid ≡ n
   before_later : (number : ℕ) → IsBeforeOne between rows action.change number → IsBeforeTaken old more_rows all number
   before_later number (far, same, head, taken, before) = (far, one_set_on old between far one_set same, head, taken_later head taken, before)
 
+  origin_sooner : (number : ℕ) → IsOriginTaken rows made number → IsOriginTaken more_rows all number
+  origin_sooner number cloned =
+      any_append_left (λ (a : Action). IsClonedBy more_rows number a.change) made action (cloned.0, cloned.1, cloned.2, cloned.3, cloned_grows number cloned.1.change cloned.4)
+
+  origin_later : (number : ℕ) → IsClonedBy rows number action.change → IsOriginTaken more_rows all number
+  origin_later number cloned = Any-push (λ (a : Action). IsClonedBy more_rows number a.change) made action (cloned_grows number action.change cloned)
+
   pub touches_on : TouchesMade old between rows next made → TouchesChange between new rows mid action.change → TouchesMade old new more_rows next all
   touches_on one change =
       let two = by_change between new rows mid action.change change in
@@ -113,11 +128,13 @@ module _ (next mid : ℕ) (made : List Action) (action : Action) (at : mid ≡ n
         records = λ number. elim (one.records number) [
           | inr (inl is) ↦ inr (inl (number_sooner number is))
           | inr (inr (inl taken)) ↦ inr (inr (inl (taken_sooner number taken)))
-          | inr (inr (inr before)) ↦ inr (inr (inr (before_sooner number before)))
+          | inr (inr (inr (inl before))) ↦ inr (inr (inr (inl (before_sooner number before))))
+          | inr (inr (inr (inr origin))) ↦ inr (inr (inr (inr (origin_sooner number origin))))
           | inl kept ↦ elim (two.records number) [
             | inr (inl is) ↦ inr (inl (number_later number is))
             | inr (inr (inl taken)) ↦ inr (inr (inl (taken_later number taken)))
-            | inr (inr (inr before)) ↦ inr (inr (inr (before_later number before)))
+            | inr (inr (inr (inl before))) ↦ inr (inr (inr (inl (before_later number before))))
+            | inr (inr (inr (inr origin))) ↦ inr (inr (inr (inr (origin_later number origin))))
             | inl still ↦ inl (at_most_on (record_at old number) (record_at between number) (record_at new number) kept still)
           ]
         ];
@@ -129,72 +146,3 @@ module _ (next mid : ℕ) (made : List Action) (action : Action) (at : mid ≡ n
           ]
         ];
       }
-
--- ---- no object has a record and a dead list
-
-other_types : (object : Option Object) (one other : Object) → object ≡ Some one → object ≡ Some other → one.object_type ≡ 201 → other.object_type ≡ 202 → ⊥
-other_types object one other is also a b =
-    let same : Some one ≡ Some other = sym is ∙ also in
-    let here : one ≡ other = cc in
-    let types : one.object_type ≡ other.object_type = ap (λ (o : Object). o.object_type) here in
-    omega (arith, a, b, types)
-
-of_list_kind : (object : Option Object) (r : DatasetRecord) → HasRecord object r → IsForList object → ⊥
-of_list_kind object r has list = other_types object has.there list.0 has.is list.1 has.of_record.object_type list.2.0
-
-no_object_no_record : (object : Option Object) (r : DatasetRecord) → HasRecord object r → object ≡ None → ⊥
-no_object_no_record object r has none = let clash : None ≡ Some has.there = sym none ∙ has.is in cc
-
-record_or_list : (object : Option Object) (state : Option ListState) (r : DatasetRecord) → HasRecord object r → IsListOver object state → state ≡ None
-record_or_list object None r has over = refl
-record_or_list object (Some (lists.Added end blocks)) r has over =
-    let table = over.2.table in
-    absurd (other_types object has.there table.there has.is table.is has.of_record.object_type table.of_kind.0)
-record_or_list object (Some (lists.Whole list)) r has over = absurd (of_list_kind object r has over)
-record_or_list object (Some (lists.Made list)) r has over = absurd (no_object_no_record object r has over)
-record_or_list object (Some lists.Gone) r has over = absurd (of_list_kind object r has over)
-
-module _ (objects : ℕ → Option Object) (old new : DatasetChanges) (n list : ℕ) (over_old : AreOver objects old) (over_new : AreOver objects new)
-    (touched : TouchesOnly old new (λ one. one ≡ n) (λ one. one ≡ list)) where
-  -- what was read has its object
-  was_read : (number : ℕ) (r : DatasetRecord) → record_at new number ≡ Some (records.Read r) → HasRecord (objects number) r
-  was_read number r read = subst (λ (state : Option RecordState). IsRecordOver (objects number) state) read (over_new.records number)
-
-  -- what was no object's and isn't touched stays so
-  pub stays_fresh : (number : ℕ) → number ≢ n → number ≢ list → IsFresh objects old number → IsFresh objects new number
-  stays_fresh number not_n not_list fresh = record {
-    no_object = fresh.no_object;
-    no_record = elim (touched.records number) [
-      | inr here ↦ absurd (not_n here)
-      | inl (inl kept) ↦ kept ∙ fresh.no_record
-      | inl (inr read) ↦ absurd (no_object_no_record (objects number) read.1.0 (was_read number read.1.0 read.1.1) fresh.no_object)
-    ];
-    no_list = elim (touched.lists number) [
-      | inr here ↦ absurd (not_list here)
-      | inl kept ↦ kept ∙ fresh.no_list
-    ];
-  }
-
-  module _ (apart : n ≢ list) (fresh_n : IsFresh objects old n) (fresh_list : IsFresh objects old list) (unmixed : ¬ AreMixed old) where
-    unrecorded : record_at new list ≡ None
-    unrecorded = elim (touched.records list) [
-      | inr here ↦ absurd (apart (sym here))
-      | inl (inl kept) ↦ kept ∙ fresh_list.no_record
-      | inl (inr read) ↦ absurd (no_object_no_record (objects list) read.1.0 (was_read list read.1.0 read.1.1) fresh_list.no_object)
-    ]
-
-    unlisted : list_at new n ≡ None
-    unlisted = elim (touched.lists n) [
-      | inr here ↦ absurd (apart here)
-      | inl kept ↦ kept ∙ fresh_n.no_list
-    ]
-
-    pub stays_unmixed : ¬ AreMixed new
-    stays_unmixed (number, recorded, listed) = elim (touched.lists number) [
-      | inr here ↦ recorded (ap (record_at new) here ∙ unrecorded)
-      | inl kept ↦ elim (touched.records number) [
-        | inr here ↦ listed (ap (list_at new) here ∙ unlisted)
-        | inl (inl still) ↦ unmixed (number, λ none. recorded (still ∙ none), λ none. listed (kept ∙ none))
-        | inl (inr read) ↦ listed (kept ∙ record_or_list (objects number) (list_at old number) read.1.0 (was_read number read.1.0 read.1.1) (over_old.lists number))
-      ]
-    ]

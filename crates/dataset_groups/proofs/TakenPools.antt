@@ -1,9 +1,10 @@
 -- A pool with a snapshot more.
 use Rattle.std.proofs.Common.{◌≡◌, ◌≢◌, ℕ, inl, inr, sym, ap, ◌∙◌}
 use Rattle.std.proofs.lemmas.Bool.{cases_eq}
-use Rattle.dead_list.specs.Datasets.{Dataset, Free, Head, Pool, nothing, updated}
+use Rattle.dead_list.specs.Datasets.{Dataset, Free, Head, Pool, Snapshot, nothing, updated}
 use Rattle.dead_list.specs.Operations.{IsHead, IsUnused, head_after, snapshot_of, with_snapshot}
 use Rattle.dead_list.proofs.Updates.{other_at, same_at}
+use Rattle.dataset_groups.proofs.OneMore.{IsOneMore}
 
 module _ (pool : Pool) (head n : ℕ) (is : IsHead pool.datasets head) (unused : IsUnused pool.datasets n) where
   abbrev taken : ℕ → Dataset
@@ -18,7 +19,7 @@ module _ (pool : Pool) (head n : ℕ) (is : IsHead pool.datasets head) (unused :
       absurd cc
 
   -- the snapshot is there
-  pub at_new : taken n ≡ snapshot_of pool.group (pool.datasets head)
+  at_new : taken n ≡ snapshot_of pool.group (pool.datasets head)
   at_new =
       other_at with_new head (head_after n (pool.datasets head)) n (not_head n unused.1)
       ∙ same_at pool.datasets n (snapshot_of pool.group (pool.datasets head))
@@ -32,22 +33,24 @@ module _ (pool : Pool) (head n : ℕ) (is : IsHead pool.datasets head) (unused :
       ∙ other_at pool.datasets n (snapshot_of pool.group (pool.datasets head)) m nn
 
   -- the others keep their kinds and their groups
-  pub kind_kept : (m : ℕ) → m ≢ n → (taken m).kind ≡ (pool.datasets m).kind
+  kind_kept : (m : ℕ) → m ≢ n → (taken m).kind ≡ (pool.datasets m).kind
   kind_kept m nn = elim (cases_eq m head) [
     | inl e ↦ ap (λ (k : ℕ). (taken k).kind) e ∙ ap (λ (d : Dataset). d.kind) at_head ∙ ap (λ (k : ℕ). (pool.datasets k).kind) (sym e)
     | inr nh ↦ ap (λ (d : Dataset). d.kind) (at_other m nh nn)
   ]
 
-  pub group_kept : (m : ℕ) → m ≢ n → (taken m).group ≡ (pool.datasets m).group
+  group_kept : (m : ℕ) → m ≢ n → (taken m).group ≡ (pool.datasets m).group
   group_kept m nn = elim (cases_eq m head) [
     | inl e ↦ ap (λ (k : ℕ). (taken k).group) e ∙ ap (λ (d : Dataset). d.group) at_head ∙ ap (λ (k : ℕ). (pool.datasets k).group) (sym e)
     | inr nh ↦ ap (λ (d : Dataset). d.group) (at_other m nh nn)
   ]
 
-  -- and stand for something only where they did
-  pub some_before : (m : ℕ) → m ≢ n → taken m ≢ nothing → pool.datasets m ≢ nothing
-  some_before m nn some none = some (at_other m (not_head m none) nn ∙ none)
-
-  -- a dataset doesn't have the new number
-  pub not_new_number : (m : ℕ) → (pool.datasets m).kind ≢ Free → m ≢ n
-  not_new_number m some e = some (ap (λ (k : ℕ). (pool.datasets k).kind) e ∙ ap (λ (d : Dataset). d.kind) unused.1)
+  pub one_taken : IsOneMore pool (with_snapshot pool head n) n Snapshot
+  one_taken = record {
+    unused = unused;
+    some_before = λ m nn some none. some (at_other m (not_head m none) nn ∙ none);
+    kinds = kind_kept;
+    groups = group_kept;
+    new_kind = ap (λ (d : Dataset). d.kind) at_new;
+    new_group = ap (λ (d : Dataset). d.group) at_new;
+  }

@@ -6,12 +6,12 @@ use Rattle.block_store.specs.Steps.{AnswersAreTrue}
 use Rattle.block_store.specs.Store.{Holds, Store}
 use Rattle.dataset_chains.specs.Chains.{AreNewNumbers, LeadsTo, Reading, SpellsChains}
 use Rattle.dataset_chains.specs.Making.{IsNewRecord, volume_with}
-use Rattle.dataset_chains.specs.Touched.{IsSnapshotTouched, TouchesOnly}
+use Rattle.dataset_chains.specs.Touched.{IsCloneTouched, IsSnapshotTouched, TouchesOnly}
 use Rattle.dataset_changes.specs.States.{birth_of, set_of}
 use Rattle.dataset_changes.specs.declared.changes.DatasetChanges.{DatasetChanges}
 use Rattle.dead_list.specs.Blocks.{AreDistinct}
 use Rattle.dead_list.specs.Datasets.{Pool, updated}
-use Rattle.dead_list.specs.Operations.{AreNew, IsHead, IsUnused, with_dataset, with_snapshot}
+use Rattle.dead_list.specs.Operations.{AreNew, IsHead, IsSnapshot, IsUnused, clone_of, with_dataset, with_snapshot}
 use Rattle.meta_objset.specs.declared.record.DatasetRecord.{DatasetRecord}
 use Rattle.meta_objset.specs.Directory.{IsPlacedAmong}
 use Rattle.objset.specs.Objects.{AreObjects, Object}
@@ -47,3 +47,19 @@ pub record IsTaken (before after : Store) (group head : ℕ) (old : GroupDataset
   pub next : new.next ≡ old.next + 2
   pub adds : AddsSnapshot before after group head old.changes new.changes old.next
   pub touched : IsSnapshotTouched old.changes new.changes head old.next (old.next + 1)
+
+-- where the origin is a snapshot and the number unused, the chains have a clone of it there; blocks of the set alone are read
+abbrev pub AddsClone : Store → Store → ℕ → ℕ → DatasetChanges → DatasetChanges → ℕ → Type 0
+AddsClone before after group origin old new number =
+    (stored known : Contents) (objects : ℕ → Option Object) (own : List Block) (blocks : ℕ → List Block) (pool : Pool)
+    (readings : ℕ → Reading) → Holds before stored → AreObjects stored (birth_of old) (set_of old) objects own blocks
+    → AnswersAreTrue before after → SpellsChains known group objects old pool readings → IsSnapshot pool.datasets origin
+    → IsUnused pool.datasets number → AreNewNumbers objects old number (number + 1)
+    → SpellsChains known group objects new (with_dataset pool number (clone_of pool origin)) (updated readings number (readings origin))
+
+-- The clone has the next number, and its dead list the one behind it. The name has a row that names the clone.
+pub record IsCloned (before after : Store) (group origin : ℕ) (old : GroupDatasets) (name : List ℕ) (new : GroupDatasets) : Type 0 where
+  pub row : IsPlacedAmong old.directory (record { name = name; object = old.next }) new.directory
+  pub next : new.next ≡ old.next + 2
+  pub adds : AddsClone before after group origin old.changes new.changes old.next
+  pub touched : IsCloneTouched old.changes new.changes origin old.next (old.next + 1)

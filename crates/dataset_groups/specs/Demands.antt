@@ -7,7 +7,7 @@ use Rattle.block_store.specs.Demands.{Demand, HavePlaces}
 use Rattle.block_store.specs.Spaces.{VdevSpace}
 use Rattle.block_store.specs.Steps.{OnlyReadsAndPlans}
 use Rattle.block_store.specs.Store.{Store}
-use Rattle.dataset_chains.specs.Refused.{IsBlockMisfit, IsChainRefused}
+use Rattle.dataset_chains.specs.Refused.{HasMostClones, IsBlockMisfit, IsChainRefused}
 use Rattle.dataset_changes.specs.States.{AreOfOneSet}
 use Rattle.dataset_changes.specs.declared.changes.DatasetChanges.{DatasetChanges}
 use Rattle.dnode.specs.declared.object_set.ObjectSet.{ObjectSet}
@@ -18,7 +18,7 @@ use Rattle.objset.specs.declared.changes.Change.{Change as ObjectsChange}
 use Rattle.objset.specs.declared.changes.Change.TheVariants.{Put}
 use Rattle.pool_model.specs.declared.item.Action.{Action}
 use Rattle.pool_model.specs.declared.item.Change.{Change}
-use Rattle.pool_model.specs.declared.item.Change.TheVariants.{Create, Snapshot}
+use Rattle.pool_model.specs.declared.item.Change.TheVariants.{Clone, Create, Snapshot}
 use Rattle.pool_model.specs.Names.{name_of}
 use Rattle.volume.specs.Demands.{empty_set, HasPlacesFor, HasSetDemands, IsCreation, IsPlacingRefused, IsPlanRefused}
 use Rattle.volume.specs.Reading.{IsVolumeFound}
@@ -99,16 +99,17 @@ IsNameMade actions name = Any (λ action. name_of action.change ≡ name) action
 abbrev pub IsThereAlready : List DirectoryRow → List Action → List ℕ → Type 0
 IsThereAlready rows made name = IsNameThere rows name ⊎ IsNameMade made name
 
--- what the change needs is there: the volume that a snapshot is of
+-- what the change needs is there: the volume that a snapshot is of, or the snapshot that a clone is of
 abbrev pub HasVolume : List DirectoryRow → List Action → Change → Type 0
 HasVolume rows made (Create name size block_size) = Unit {0}
 HasVolume rows made (Snapshot volume part) = IsThereAlready rows made volume
+HasVolume rows made (Clone snapshot name) = IsThereAlready rows made snapshot
 
--- behind actions that made a volume or a snapshot each, the change makes one: its name isn't there, and what it needs is
+-- behind actions that made a volume, a snapshot or a clone each, the change makes one: its name isn't there, and what it needs is
 abbrev pub IsMaking : List DirectoryRow → List Action → Change → Type 0
 IsMaking rows made change = (¬ IsThereAlready rows made (name_of change)) × HasVolume rows made change
 
--- those of the actions that make a volume or a snapshot, behind those that did before
+-- those of the actions that make a volume, a snapshot or a clone, behind those that did before
 abbrev pub AreMade : List DirectoryRow → List Action → List Action → List Action → Type 0
 AreMade rows before [] made = made ≡ []
 AreMade rows before (action ∷ actions) made =
@@ -122,11 +123,12 @@ HasNewDemands spaces group block_size demands =
     (creation : ObjectsChange) × IsCreation block_size creation
     × HasSetDemands spaces empty_set group creation demands
 
--- a change asks these; a snapshot asks nothing
+-- a change asks these; a snapshot and a clone ask nothing
 abbrev pub HasChangeDemands : List VdevSpace → ℕ → Change → List Demand → Type 0
 HasChangeDemands spaces group (Create name size block_size) demands =
     HasNewDemands spaces group block_size demands
 HasChangeDemands spaces group (Snapshot volume part) demands = demands ≡ []
+HasChangeDemands spaces group (Clone snapshot name) demands = demands ≡ []
 
 abbrev pub HasActionDemands : List VdevSpace → ℕ → Action → List Demand → Type 0
 HasActionDemands spaces group action demands = HasChangeDemands spaces group action.change demands
@@ -141,6 +143,7 @@ HasNewPlaces old new group block_size =
 abbrev pub HasChangePlaces : Store → Store → ℕ → Change → Type 0
 HasChangePlaces old new group (Create name size block_size) = HasNewPlaces old new group block_size
 HasChangePlaces old new group (Snapshot volume part) = new.spaces ≡ old.spaces
+HasChangePlaces old new group (Clone snapshot name) = new.spaces ≡ old.spaces
 
 -- or it was not planned
 abbrev pub IsNewRefused : Store → Store → ℕ → ℕ → Refusal → Type 0
@@ -154,7 +157,7 @@ HasMoreRows old next new =
     ((row : DirectoryRow) → Contains old row → Contains new row)
     × ((row : DirectoryRow) → Contains new row → Contains old row ⊎ (next ≤ row.object))
 
--- one volume or snapshot of that name was made: its name is there too, and it took the next two numbers
+-- one volume, snapshot or clone of that name was made: its name is there too, and it took the next two numbers
 pub record IsOneMade (old new : GroupDatasets) (name : List ℕ) : Type 0 where
   pub names : (other : List ℕ) → IsNameThere new.directory other
       ↔ (IsNameThere old.directory other ⊎ (name ≡ other))
@@ -204,14 +207,27 @@ pub record IsUntaken (old new : Store) (changes : DatasetChanges) (rows : List D
   pub last : DatasetChanges
   pub why : IsChainRefused old new far last head kinds.Volume refusal
 
--- a volume was not planned, or a snapshot not taken
+-- the snapshot's record was not changed for a clone of it
+pub record IsUncloned (old new : Store) (changes : DatasetChanges) (rows : List DirectoryRow) (snapshot : List ℕ) (next : ℕ)
+    (refusal : Refusal) : Type 0 where
+  pub origin : ℕ
+  pub is : IsObjectFor rows snapshot next origin
+  pub far : DatasetChanges
+  pub one_set : AreOfOneSet changes far
+  pub last : DatasetChanges
+  pub why : HasMostClones last origin refusal
+      ⊎ IsChainRefused old new far last origin kinds.Snapshot refusal
+
+-- a volume was not planned, or a snapshot not taken, or a clone not made
 abbrev pub IsUnmade : Store → Store → DatasetChanges → ℕ → List DirectoryRow → ℕ → Change → Refusal → Type 0
 IsUnmade old new changes group rows next (Create name size block_size) refusal =
     IsNewRefused old new group block_size refusal
 IsUnmade old new changes group rows next (Snapshot volume part) refusal =
     IsUntaken old new changes rows volume next refusal
+IsUnmade old new changes group rows next (Clone snapshot name) refusal =
+    IsUncloned old new changes rows snapshot next refusal
 
--- why the change is not done, behind those that made a volume or a snapshot each: its names or sizes are not good, or where it makes
+-- why the change is not done, behind those that made a volume, a snapshot or a clone each: its names or sizes are not good, or where it makes
 -- something, no two numbers are left, or what it makes was not made
 abbrev pub IsMakingRefused :
     Store → Store → DatasetChanges → ℕ → List DirectoryRow → List Action → ℕ → Change → Refusal → Type 0

@@ -31,6 +31,6 @@ new_record new group dead_list object_set = record {
   object_set = object_set;
 }
 
--- each of them makes a volume that may be made, or takes a snapshot that may be taken
+-- each of them makes a volume or a clone that may be made, or takes a snapshot that may be taken
 abbrev pub AreGoodChanges : List Action → Type 0
 AreGoodChanges actions = All (λ action. is_good_change action.change ≡ true) actions

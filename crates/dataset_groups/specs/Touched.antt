@@ -1,6 +1,6 @@
 -- Which records and dead lists a group's changes are of.
 use Rattle.std.specs.Prelude.{ℕ, ◌≡◌, ◌⊎◌, ◌+◌, ◌*◌, ◌<◌, ◌≤◌, List, Any, Contains, length}
-use Rattle.dataset_chains.specs.Touched.{IsSnapshotTouched, TouchesOnly}
+use Rattle.dataset_chains.specs.Touched.{IsCloneTouched, IsSnapshotTouched, TouchesOnly}
 use Rattle.dataset_changes.specs.declared.changes.DatasetChanges.{DatasetChanges}
 use Rattle.dataset_chains.specs.Refused.{HasKnown}
 use Rattle.dataset_changes.specs.States.{AreOfOneSet}
@@ -9,10 +9,10 @@ use Rattle.meta_objset.specs.declared.directory.DirectoryRow.{DirectoryRow}
 use Rattle.meta_objset.specs.declared.record.DatasetRecord.{DatasetRecord}
 use Rattle.pool_model.specs.declared.item.Action.{Action}
 use Rattle.pool_model.specs.declared.item.Change.{Change}
-use Rattle.pool_model.specs.declared.item.Change.TheVariants.{Create, Snapshot}
+use Rattle.pool_model.specs.declared.item.Change.TheVariants.{Clone, Create, Snapshot}
 use Rattle.dataset_groups.specs.Writing.{IsListOf}
 
--- one of the two numbers that each of so many volumes takes, from that on
+-- one of the two numbers that each of so many datasets takes, from that on
 abbrev pub IsNewNumber : ℕ → ℕ → ℕ → Type 0
 IsNewNumber next count number = (next ≤ number) × (number < next + 2 * count)
 
@@ -20,11 +20,19 @@ IsNewNumber next count number = (next ≤ number) × (number < next + 2 * count)
 abbrev pub TouchesHeads : DatasetChanges → DatasetChanges → List ℕ → Type 0
 TouchesHeads old new numbers = TouchesOnly old new (λ number. Contains numbers number) (IsListOf new numbers)
 
--- by one of these actions a snapshot is taken of the volume that a row names, with this object
+-- by this change a snapshot is taken of the volume that a row names, with this object
 abbrev pub IsTakenBy : List DirectoryRow → ℕ → Change → Type 0
 IsTakenBy rows number (Create name size block_size) = ⊥
 IsTakenBy rows number (Snapshot volume part) =
     (row : DirectoryRow) × Contains rows row × IsNamed row.name volume × (row.object ≡ number)
+IsTakenBy rows number (Clone snapshot name) = ⊥
+
+-- by this change a clone is made of the snapshot that a row names, with this object
+abbrev pub IsClonedBy : List DirectoryRow → ℕ → Change → Type 0
+IsClonedBy rows number (Create name size block_size) = ⊥
+IsClonedBy rows number (Snapshot volume part) = ⊥
+IsClonedBy rows number (Clone snapshot name) =
+    (row : DirectoryRow) × Contains rows row × IsNamed row.name snapshot × (row.object ≡ number)
 
 -- a volume is made, with the two next numbers
 abbrev pub TouchesNew : DatasetChanges → DatasetChanges → ℕ → Type 0
@@ -36,10 +44,17 @@ TouchesTaken old new rows next volume =
     (row : DirectoryRow) × Contains rows row × IsNamed row.name volume
     × IsSnapshotTouched old new row.object next (next + 1)
 
+-- or a clone is made of the snapshot that a row names: its record is changed
+abbrev pub TouchesCloned : DatasetChanges → DatasetChanges → List DirectoryRow → ℕ → List ℕ → Type 0
+TouchesCloned old new rows next snapshot =
+    (row : DirectoryRow) × Contains rows row × IsNamed row.name snapshot
+    × IsCloneTouched old new row.object next (next + 1)
+
 -- by one change
 abbrev pub TouchesChange : DatasetChanges → DatasetChanges → List DirectoryRow → ℕ → Change → Type 0
 TouchesChange old new rows next (Create name size block_size) = TouchesNew old new next
 TouchesChange old new rows next (Snapshot volume part) = TouchesTaken old new rows next volume
+TouchesChange old new rows next (Clone snapshot name) = TouchesCloned old new rows next snapshot
 
 abbrev pub IsHeadTaken : List DirectoryRow → List Action → ℕ → Type 0
 IsHeadTaken rows made number = Any (λ action. IsTakenBy rows number action.change) made
@@ -50,10 +65,15 @@ IsBeforeTaken changes rows made number =
     (far : DatasetChanges) × AreOfOneSet changes far × (head : ℕ) × IsHeadTaken rows made head
     × ((r : DatasetRecord) × HasKnown far head r × (r.previous ≡ number))
 
+-- of the snapshot with this object one of the actions made a clone
+abbrev pub IsOriginTaken : List DirectoryRow → List Action → ℕ → Type 0
+IsOriginTaken rows made number = Any (λ action. IsClonedBy rows number action.change) made
+
 -- Records and dead lists are made, with the next numbers, of what these actions made; of each volume that a snapshot was taken of, under
--- these rows, the record is changed, and that of the snapshot before it.
+-- these rows, the record is changed, and that of the snapshot before it; and that of each snapshot that a clone was made of.
 abbrev pub TouchesMade : DatasetChanges → DatasetChanges → List DirectoryRow → ℕ → List Action → Type 0
 TouchesMade old new rows next made =
     TouchesOnly old new
-    (λ number. IsNewNumber next (length made) number ⊎ (IsHeadTaken rows made number ⊎ IsBeforeTaken old rows made number))
+    (λ number. IsNewNumber next (length made) number
+    ⊎ (IsHeadTaken rows made number ⊎ (IsBeforeTaken old rows made number ⊎ IsOriginTaken rows made number)))
     (IsNewNumber next (length made))

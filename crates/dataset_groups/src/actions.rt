@@ -27,10 +27,11 @@ use std::alloc::Global;
 pub(crate) const NUMBERS_END: u64 = 1 << 40;
 
 impl GroupDatasets {
-    /// Does these actions, in order: makes volumes, and takes snapshots of what volumes are by then. A name that is there already is passed
-    /// over, and so is a snapshot of a volume that isn't there. Each volume and each snapshot takes two objects, for records and dead lists.
-    /// `BadConfig` where a name or a size is none that a volume or a snapshot can have; `NoSpace` also where no numbers are left for objects;
-    /// `BadPointer` where a snapshot's volume has no record of a volume.
+    /// Does these actions, in order: makes volumes, takes snapshots of what volumes are by then, and makes clones of snapshots. A name that is
+    /// there already is passed over, and so is a snapshot of a volume, or a clone of a snapshot, that isn't there. Each volume, snapshot and
+    /// clone takes two objects, for records and dead lists. `BadConfig` where a name or a size is none that a volume or a snapshot can have;
+    /// `NoSpace` also where no numbers are left for objects, or a snapshot's clones can't be counted any more; `BadPointer` where a snapshot's
+    /// volume has no record of a volume, or a clone's snapshot none of a snapshot.
     pub fn act_all<D: Disk + Drop>(
         &mut self,
         store: &mut BlockStore<D>,
@@ -81,7 +82,7 @@ impl GroupDatasets {
         Ok(())
     }
 
-    /// Does one action.
+    /// Does one action: makes a volume, takes a snapshot, or makes a clone.
     fn act_one<D: Disk + Drop>(
         &mut self,
         store: &mut BlockStore<D>,
@@ -129,6 +130,9 @@ impl GroupDatasets {
                 block_size,
             } => self.create_one(store, alloc, group, name, *size, *block_size),
             Change::Snapshot { volume, part } => self.take_one(store, alloc, group, volume, part),
+            Change::Clone { snapshot, name } => {
+                self.clone_one(store, alloc, group, snapshot, name)
+            }
         }
     }
 }

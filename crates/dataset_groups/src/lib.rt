@@ -1,8 +1,9 @@
-//! What a transaction group makes of a pool's datasets: heads that are written to, volumes that are made, and snapshots that are taken, with
-//! the names that they stand under.
+//! What a transaction group makes of a pool's datasets: heads that are written to, volumes and clones that are made, and snapshots that are
+//! taken, with the names that they stand under.
 #![tactic(auto)]
 
 mod actions;
+mod cloning;
 mod datasets;
 mod laws;
 mod making;

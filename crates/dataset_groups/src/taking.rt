@@ -138,7 +138,7 @@ impl GroupDatasets {
     }
 
     /// The object that the directory has for a name.
-    fn object_of(&self, name: &Name) -> Option<u64>
+    pub(crate) fn object_of(&self, name: &Name) -> Option<u64>
         ensures order { IsDirectory (self.now).directory }
         ensures found { IfSome result (λ object. (row : DirectoryRow)
             × Contains (self.now).directory row × IsNamed row.name name.now

@@ -3,7 +3,7 @@ ghost use Rattle.std.specs.Prelude.{◌≡◌, ◌≤◌, fold, length, map, IfO
 ghost use Rattle.std.specs.List.{position_or_len};
 ghost use Rattle.std.specs.Option.{option_copied};
 ghost use Rattle.pool_model.specs.Names.{is_before};
-ghost use Rattle.pool_model.specs.declared.item.Change.TheVariants.{Snapshot};
+ghost use Rattle.pool_model.specs.declared.item.Change.TheVariants.{Clone, Snapshot};
 ghost use Rattle.pool_model.specs.Pools.{no_volumes, with_volume, applied, changed, volume_after, volume_at, written};
 ghost use Rattle.volume_rules.specs.Shapes.{shape_at};
 
@@ -119,6 +119,7 @@ impl Pool {
                 kind: VolumeKind::Volume,
             }),
             Change::Snapshot { volume, part } => self.take(alloc, group, volume, part),
+            Change::Clone { snapshot, name } => self.clone_snapshot(alloc, group, snapshot, name),
         }
     }
 
@@ -147,6 +148,33 @@ impl Pool {
             kind: VolumeKind::Snapshot,
         };
         self.add(snapshot)
+    }
+
+    // A snapshot that isn't there, or is a volume, is passed over.
+    fn clone_snapshot(
+        &mut self,
+        alloc: Global,
+        group: u64,
+        snapshot: &Name,
+        name: &Name,
+    ) -> Result<(), AllocError>
+        ensures { OnOk result (self.new
+            ≡ changed group self.old (Clone snapshot.now name.now)) }
+    {
+        let Some(found) = self.find(snapshot) else {
+            return Ok(());
+        };
+        if !found.kind.is_snapshot() {
+            return Ok(());
+        }
+        let volume = PlainVolume {
+            name: name.copied(alloc)?,
+            bytes: found.bytes.copied(alloc)?,
+            block_size: found.block_size,
+            group,
+            kind: VolumeKind::Volume,
+        };
+        self.add(volume)
     }
 
     // A volume whose name is there already is not added.

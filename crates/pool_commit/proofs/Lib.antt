@@ -16,7 +16,7 @@ pub mod Phasing
 pub mod Holding
 pub mod Reaching
 pub mod ReadCauses
-pub mod ReadingBase
+pub mod ReadingAt
 pub mod Starting
 pub mod Tolerating
 pub mod Unread

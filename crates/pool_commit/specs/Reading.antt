@@ -92,6 +92,11 @@ pub record IsUnreadUnder (old new : State) (group : ℕ) (name : List ℕ) (offs
   pub kept : group_at old.kept group ≡ Some under
   pub unread : IsUnreadOf old.store new.store under group name offset len missing refusal
 
+-- so it is under a kept group, with no disk missing but those that are out, where there are bytes to be read
+abbrev pub IsUnreadAt : State → State → ℕ → Option (List ℕ) → ℕ → ℕ → Refusal → Type 0
+IsUnreadAt old new group None offset len refusal = ⊥
+IsUnreadAt old new group (Some name) offset len refusal = IsUnreadUnder old new group name offset len [] refusal
+
 -- since a plan was begun the root after the items was refused: that is the answer
 pub record IsUnreadForPlan (old new : State) (items : Entry) (refusal : Refusal) : Type 0 where
   pub cause : StoreRefusal
@@ -102,6 +107,11 @@ pub record IsUnreadForPlan (old new : State) (items : Entry) (refusal : Refusal)
 pub record IsLostUnder (v : View) (old new : State) (group : ℕ) (name : List ℕ) (offset len : ℕ) (missing : List ℕ) (refusal : Refusal) : Type 0 where
   pub unread : IsUnreadUnder old new group name offset len missing refusal
   pub lost : IsLost v missing old new old.store refusal
+
+-- so it is of the committed group, where there are bytes to be read
+abbrev pub IsLostAt : View → State → State → Option (List ℕ) → ℕ → ℕ → Refusal → Type 0
+IsLostAt v old new None offset len refusal = ⊥
+IsLostAt v old new (Some name) offset len refusal = IsLostUnder v old new v.committed name offset len [] refusal
 
 pub record IsLostForPlan (v : View) (old new : State) (items : Entry) (refusal : Refusal) : Type 0 where
   pub unread : IsUnreadForPlan old new items refusal

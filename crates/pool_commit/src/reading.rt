@@ -1,12 +1,10 @@
 //! Reads of volumes.
-ghost use Rattle.std.specs.Prelude.{◌≡◌, ◌⊎◌, ◌+◌, ◌≤◌, ◌^◌, [], Some, None, IfOk, IfErr, length};
-ghost use Rattle.pool_model.specs.declared.volume.PlainVolume.{PlainVolume};
+ghost use Rattle.std.specs.Prelude.{◌≡◌, ◌⊎◌, ℕ, ◌+◌, ◌≤◌, ◌^◌, [], Some, None, IfOk, IfErr, length};
+ghost use Rattle.std.specs.Option.{option_copied};
 ghost use Rattle.pool_model.specs.Machine.{AreBytesOf};
 ghost use Rattle.pool_model.specs.Pools.{volume_at};
-ghost use Rattle.pool_model.specs.View.{View, now_of};
-ghost use Rattle.volume_rules.specs.NowMoves.{GroupsAreBelow};
-ghost use Rattle.volume_rules.specs.Overlay.{base_of, HasRange};
-ghost use Rattle.volume_rules.specs.Shapes.{shape_of};
+ghost use Rattle.pool_model.specs.View.{View};
+ghost use Rattle.volume_rules.specs.Overlay.{HasRangeAt, StandsThere};
 ghost use Rattle.block_store.specs.Blocks.{Contents};
 ghost use Rattle.block_store.specs.Steps.{OnlyReadsBlocks, AnswersAreTrue};
 ghost use Rattle.block_store.specs.Store.{Holds};
@@ -16,7 +14,7 @@ ghost use Rattle.pool_commit.specs.Backs.{Backs, SpellsGroup};
 ghost use Rattle.pool_commit.specs.StateOf.{state_of};
 ghost use Rattle.pool_commit.specs.Reading.{PoolAnswersTruly, OnlyReadsPool, IsReadFault};
 ghost use Rattle.pool_commit.specs.Reading.{IsFaultIn, IsUnreadOf, IsUnreadUnder, IsLostUnder};
-ghost use Rattle.pool_commit.specs.Reading.{HasNoCause, IsUnderCause, IsReadCause};
+ghost use Rattle.pool_commit.specs.Reading.{HasNoCause, IsUnderCause, IsReadCause, IsLostAt, IsUnreadAt};
 
 use crate::commit::Commit;
 use crate::kept::KeptGroup;
@@ -26,7 +24,7 @@ use dataset_snapshots::{VolumeRange, read_range_in};
 use model_disk::Disk;
 use pool_model::Name;
 use std::alloc::Global;
-use volume_rules::{VolumeShape, against_read};
+use volume_rules::against_read;
 
 /// A range of a volume under a kept group. One that the pool of the group hasn't got is refused by the names that the group has in
 /// memory, before any disk is read. Nor is a block of the directory read, which the group has in memory too.
@@ -105,40 +103,37 @@ impl<D: Disk + Drop> Commit<D> {
         read_of(kept, &mut self.store, alloc, group, &range, missing)
     }
 
-    /// A range of the bytes that lie under the pending writes to a volume of NOW, which has this shape: those of the
-    /// committed volume, or zeros where a pending group makes it.
+    /// A range of what the committed pool has at a name, or of zeros where no name is given.
     pub fn read_committed(
         &mut self,
         alloc: Global,
-        name: &Name,
-        shape: VolumeShape,
+        name: Option<&Name>,
         offset: u64,
         len: u64,
     ) -> Result<Vec<u8>, Refusal>
-        requires within { offset + len ≤ shape.size }
         requires few { len ≤ 2 ^ 20 }
         ensures reads { OnlyReadsPool (state_of self.old) (state_of self.new) [] }
         ensures len { IfOk result (λ bytes. length bytes.items ≡ len) }
-        ensures bytes { IfOk result (λ bytes. (v : View) (volume : PlainVolume)
-            → Backs (state_of self.old) v → GroupsAreBelow v
+        ensures bytes { IfOk result (λ bytes. (v : View) (size : ℕ)
+            → Backs (state_of self.old) v
             → PoolAnswersTruly (state_of self.old) (state_of self.new)
-            → volume_at name.now (now_of v) ≡ Some volume → shape_of volume ≡ shape
-            → HasRange bytes.items (base_of v name.now volume) offset) }
-        ensures refused { IfErr result (λ refusal. (v : View) (volume : PlainVolume)
-            → Backs (state_of self.old) v → GroupsAreBelow v
-            → volume_at name.now (now_of v) ≡ Some volume → shape_of volume ≡ shape
+            → StandsThere (option_copied name.entry) (v.pools v.committed) size → offset + len ≤ size
+            → HasRangeAt bytes.items (option_copied name.entry) (v.pools v.committed) size offset) }
+        ensures refused { IfErr result (λ refusal. (v : View) (size : ℕ)
+            → Backs (state_of self.old) v
+            → StandsThere (option_copied name.entry) (v.pools v.committed) size → offset + len ≤ size
             → (refusal ≡ Refusal.NoMemory)
-            ⊎ IsLostUnder v (state_of self.old) (state_of self.new) v.committed name.now
-            offset len [] refusal) }
+            ⊎ IsLostAt v (state_of self.old) (state_of self.new) (option_copied name.entry)
+            offset len refusal) }
         ensures unread { IfErr result (λ refusal. IsReadFault refusal
-            → IsUnreadUnder (state_of self.old) (state_of self.new)
-            (state_of self.old).kept.committed name.now offset len [] refusal) }
+            → IsUnreadAt (state_of self.old) (state_of self.new)
+            (state_of self.old).kept.committed (option_copied name.entry) offset len refusal) }
     {
-        let committed = self.kept.committed();
-        if shape.group > committed {
+        let Some(name) = name else {
             return Ok(vec![in alloc; 0; len as usize]?);
-        }
+        };
         let range = VolumeRange { name, offset, len };
+        let committed = self.kept.committed();
         let last = self.kept.last();
         read_of(last, &mut self.store, alloc, committed, &range, &[])
     }

@@ -1,7 +1,7 @@
 -- Reads as steps of the machine.
-use Rattle.std.proofs.Common.{rules, ◌≡◌, ◌⊎◌, ℕ, ◌+◌, Bool, true, false, true≢false, List, [], ◌∷◌, length, Option, Some, None, refl, sym, ap, ◌∙◌, subst, inl, inr}
+use Rattle.std.proofs.Common.{rules, ◌≡◌, ◌⊎◌, ℕ, ◌+◌, Bool, true, false, true≢false, List, [], length, Option, Some, None, refl, sym, ap, ◌∙◌, subst, inl, inr}
 use Rattle.std.specs.Option.{option_map}
-use Rattle.std.specs.Prelude.{cond, nat_le, not, slice_range, ◌&&◌, ◌^◌}
+use Rattle.std.specs.Prelude.{slice_range}
 use Rattle.pool_model.specs.declared.refusal.Refusal.TheVariants as causes
 use Rattle.pool_model.specs.declared.refusal.Refusal.{Refusal as Cause}
 use Rattle.pool_model.specs.declared.step.Step.{Step}
@@ -9,26 +9,25 @@ use Rattle.pool_model.specs.declared.step.Reply.{Reply}
 use Rattle.pool_model.specs.declared.step.Step.TheVariants.{Read, ReadUnder}
 use Rattle.pool_model.specs.declared.step.Reply.TheVariants.{Bytes, Refused}
 use Rattle.pool_model.specs.declared.volume.PlainVolume.{PlainVolume}
-use Rattle.pool_model.specs.Names.{volume_part}
 use Rattle.pool_model.specs.Pools.{PlainPool, volume_at}
 use Rattle.pool_model.specs.View.{View, Vdev, now_of}
-use Rattle.pool_model.specs.Refusals.{first_cause, read_refusal, refusal_of}
+use Rattle.pool_model.specs.Refusals.{refusal_of}
 use Rattle.pool_model.specs.Machine.{AreBytesOf, StepOf}
 use Rattle.volume_rules.specs.declared.shape.VolumeShape.{VolumeShape}
 use Rattle.volume_rules.specs.Overlay.{HasRange}
 use Rattle.volume_rules.specs.Shapes.{shape_of, shape_at}
-use Rattle.volume_rules.specs.Taken.{IsTakenOf, is_pending_snapshot}
+use Rattle.volume_rules.specs.Sources.{base_name}
 use Rattle.pool_commit.specs.declared.refusal.Refusal.{Refusal}
 use Rattle.pool_commit.specs.declared.refusal.Refusal.TheVariants.{NoMemory, NoSuchName, OutOfRange, GroupGone}
-use Rattle.pool_commit.specs.Reading.{PoolAnswersTruly as AnswersAreTrue, HasNoCause, IsUnderCause, IsLostUnder, OnlyReadsPool}
+use Rattle.pool_commit.specs.Reading.{PoolAnswersTruly as AnswersAreTrue, HasNoCause, IsUnderCause, IsLostAt, IsLostUnder, OnlyReadsPool}
 use Rattle.pool_commit.specs.State.{State}
 use Rattle.pool_commit.specs.Causes.{cause_of}
 use Rattle.pool_core.specs.Represents.{Represents}
 use Rattle.pool_core.specs.State.{CoreState}
-use Rattle.pool_core.specs.Steps.{LosesBlock, Goes}
-use Rattle.pool_core.specs.Reading.{IsLostAnswer, LosesUnder, name_by, name_under}
+use Rattle.pool_core.specs.Steps.{LosesBlock, Goes, PoolAnswersTruly}
+use Rattle.pool_core.specs.Reading.{IsLostAnswer, LosesAt}
 use Rattle.pool_core.proofs.Fronting.{IsFrontStep, front_commits_none, front_shows_none, front_calls}
-use Rattle.pool_core.proofs.Phases.{given_by_reads, reads_are_given, reads_quiet, under_given, spares_outs}
+use Rattle.pool_core.proofs.Phases.{GivesLost, given_by_reads, reads_are_given, reads_quiet, under_given, spares_outs}
 
 -- ---- under a kept group
 
@@ -121,37 +120,24 @@ reads_now s commit v trusted name offset len bytes volume r reads none at count 
       calls = reads_quiet s (record s { commit = commit }) None trusted false;
     })))
 
--- a read of anything but a snapshot that isn't committed yet begins with the committed bytes of that name
-pub of_itself : (v : View) (name : List ℕ) (shape : VolumeShape) → Some shape ≡ shape_at name (now_of v) → is_pending_snapshot v shape ≡ false → name ≡ name_under v name
-of_itself v name shape is other = sym (ap (λ b. cond b (volume_part name) name) other) ∙ ap (λ o. name_by v o name) is
+-- what could not be read are bytes that the committed pool has, where there are such
+lost_given : (v : View) (old new : CoreState) (trusted : Bool) (base : Option (List ℕ)) (offset len : ℕ) (refusal : Refusal) → IsLostAt v old.commit new.commit base offset len refusal
+    → (trusted ≡ true → PoolAnswersTruly old new) → GivesLost v old new trusted (cause_of refusal) (LosesAt v old.commit new.commit base offset len)
+lost_given v old new trusted None offset len refusal lost honest = absurd lost
+lost_given v old new trusted (Some name) offset len refusal lost honest = under_given v old new trusted v.committed name offset len refusal lost honest
 
--- and a read of one with those of its volume
-pub of_volume : (v : View) (name : List ℕ) (shape : VolumeShape) → Some shape ≡ shape_at name (now_of v) → is_pending_snapshot v shape ≡ true → volume_part name ≡ name_under v name
-of_volume v name shape is pending = sym (ap (λ b. cond b (volume_part name) name) pending) ∙ ap (λ o. name_by v o name) is
-
--- volumes of one length are refused the same ranges
-same_range : (offset len : ℕ) (one other : PlainVolume) → length one.bytes ≡ length other.bytes → read_refusal offset len (Some one) ≡ read_refusal offset len (Some other)
-same_range offset len one other same = ap (λ n. first_cause ((not (nat_le (offset + len) n && nat_le len (2 ^ 20)), causes.OutOfRange) ∷ [])) same
-
--- a snapshot that isn't committed yet is refused the ranges that its volume is
-pub volume_range : (v : View) (name : List ℕ) (offset len : ℕ) (snapshot volume : PlainVolume) → IsTakenOf v name snapshot volume → volume_at name (now_of v) ≡ Some snapshot
-    → read_refusal offset len (volume_at name (now_of v)) ≡ None → read_refusal offset len (Some volume) ≡ None
-volume_range v name offset len snapshot volume it at free =
-    sym (same_range offset len snapshot volume (ap (length {A = ℕ}) it.bytes ∙ ap (λ (shape : VolumeShape). shape.size) it.shape))
-    ∙ sym (ap (read_refusal offset len) at) ∙ free
-
--- what could not be read are committed bytes that the read begins with
-pub refuses_now : (s : CoreState) (commit : State) (v : View) (trusted : Bool) (name of : List ℕ) (offset len : ℕ) (refusal : Refusal) (named : Cause) → named ≡ cause_of refusal → of ≡ name_under v name → Represents s v
-    → OnlyReadsPool s.commit commit [] → refusal_of v (Read name offset len) ≡ None → (trusted ≡ true → AnswersAreTrue s.commit commit) → (refusal ≡ NoMemory) ⊎ IsLostUnder v s.commit commit v.committed of offset len [] refusal
+pub refuses_now : (s : CoreState) (commit : State) (v : View) (trusted : Bool) (name : List ℕ) (offset len : ℕ) (refusal : Refusal) (named : Cause) → named ≡ cause_of refusal → Represents s v
+    → OnlyReadsPool s.commit commit [] → refusal_of v (Read name offset len) ≡ None → (trusted ≡ true → AnswersAreTrue s.commit commit)
+    → (refusal ≡ NoMemory) ⊎ IsLostAt v s.commit commit (base_name v name) offset len refusal
     → Goes s v trusted (Read name offset len) (Refused named) (record s { commit = commit })
-refuses_now s commit v trusted name of offset len refusal named is under r reads none honest why =
+refuses_now s commit v trusted name offset len refusal named is r reads none honest why =
     let new : CoreState = record s { commit = commit } in
     let step : Step = Read name offset len in elim why [
       | inl memory ↦ read_goes s commit v None trusted step (Refused named) r reads tt (none_lost _)
           (inr (inl (record { may = refl; answer = ap Refused (is ∙ ap cause_of memory); leaves = refl; calls = reads_quiet s new None trusted false })))
-      | inr lost ↦ let gives = under_given v s new trusted v.committed of offset len refusal lost honest in
+      | inr lost ↦ let gives = lost_given v s new trusted (base_name v name) offset len refusal lost honest in
           subst (λ (c : Cause). Goes s v trusted step (Refused c) new) (sym is)
-          (read_goes s commit v gives.lost trusted step (Refused (cause_of refusal)) r reads tt (λ vdev at. subst (λ n. LosesUnder v s.commit commit v.committed n offset len vdev) under (gives.loses vdev at))
+          (read_goes s commit v gives.lost trusted step (Refused (cause_of refusal)) r reads tt gives.loses
           (inr (inr (record { none = none; answered = (gives.unreadable, refl); calls = reads_quiet s new gives.lost trusted false }))))
     ]
 

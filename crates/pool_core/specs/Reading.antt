@@ -1,12 +1,8 @@
 -- Reads that are refused, and blocks that could not be read.
-use Rattle.std.specs.Prelude.{ℕ, ◌≡◌, List, [], Option, Some, None, if◌then◌else◌}
+use Rattle.std.specs.Prelude.{ℕ, ◌≡◌, List, [], Option, Some, None}
 use Rattle.pool_model.specs.declared.refusal.Refusal.{Refusal as Cause}
 use Rattle.pool_model.specs.Pools.{Entry}
-use Rattle.pool_model.specs.Names.{volume_part}
-use Rattle.pool_model.specs.View.{View, Vdev, now_of}
-use Rattle.volume_rules.specs.declared.shape.VolumeShape.{VolumeShape}
-use Rattle.volume_rules.specs.Shapes.{shape_at}
-use Rattle.volume_rules.specs.Taken.{is_pending_snapshot}
+use Rattle.pool_model.specs.View.{View, Vdev}
 use Rattle.pool_commit.specs.declared.refusal.Refusal.{Refusal}
 use Rattle.pool_commit.specs.declared.refusal.Refusal.TheVariants.{DiskFault}
 use Rattle.pool_commit.specs.Reading.{IsUnreadUnder, IsUnreadForPlan, IsLostUnder, LosesOn}
@@ -24,14 +20,10 @@ pub record LosesUnder (v : View) (old new : State) (group : ℕ) (name : List �
   pub unread : IsUnreadUnder old new group name offset len [] DiskFault
   pub on : LosesOn v [] old.store new.store vdev
 
--- the name of the committed volume that a read of a name begins with, by what NOW has there: for a snapshot that isn't committed yet that
--- of its volume, else the name itself
-abbrev pub name_by : View → Option VolumeShape → List ℕ → List ℕ
-name_by v None name = name
-name_by v (Some shape) name = if is_pending_snapshot v shape then volume_part name else name
-
-abbrev pub name_under : View → List ℕ → List ℕ
-name_under v name = name_by v (shape_at name (now_of v)) name
+-- where there are bytes to be read in the committed pool, these could not be read for lack of disks, and this is the vdev
+abbrev pub LosesAt : View → State → State → Option (List ℕ) → ℕ → ℕ → Vdev → Type 0
+LosesAt v old new None offset len vdev = ⊥
+LosesAt v old new (Some name) offset len vdev = LosesUnder v old new v.committed name offset len vdev
 
 -- so it is of a plan of a group's items
 pub record LosesForPlan (v : View) (old new : State) (items : Entry) (vdev : Vdev) : Type 0 where

@@ -15,7 +15,8 @@ use Rattle.pool_commit.specs.declared.kept.Planned.{Planned as GroupPlan}
 use Rattle.pool_commit.specs.declared.kept.SlotWrite.{SlotWrite}
 use Rattle.pool_commit.specs.Slots.{ShowsIn, uberblock_of}
 use Rattle.pool_commit.specs.Room.{LacksRoom}
-use Rattle.pool_core.specs.Reading.{LosesUnder, LosesForPlan, name_under}
+use Rattle.volume_rules.specs.Sources.{base_name}
+use Rattle.pool_core.specs.Reading.{LosesAt, LosesUnder, LosesForPlan}
 use Rattle.pool_core.specs.State.{CoreState, disks_of}
 use Rattle.pool_core.specs.Represents.{Represents}
 
@@ -32,7 +33,7 @@ is_barred step = true
 
 -- a block that the step had to read could not be, and this is the vdev of its last copy
 abbrev pub LosesBlock : CoreState → View → Step → CoreState → Vdev → Type 0
-LosesBlock old v (Read name offset len) new vdev = LosesUnder v old.commit new.commit v.committed (name_under v name) offset len vdev
+LosesBlock old v (Read name offset len) new vdev = LosesAt v old.commit new.commit (base_name v name) offset len vdev
 LosesBlock old v (ReadUnder group name offset len) new vdev = LosesUnder v old.commit new.commit group name offset len vdev
 LosesBlock old v (Plan timestamp) new vdev = LosesForPlan v old.commit new.commit (v.ledger (suc v.committed)) vdev
 LosesBlock old v step new vdev = ⊥

@@ -1,5 +1,5 @@
 //! Reads.
-ghost use Rattle.std.specs.Prelude.{[], ◌≡◌, ◌⊎◌, ◌+◌, ◌≤◌, Bool, Some, None, true, IfOk, IfErr};
+ghost use Rattle.std.specs.Prelude.{[], ◌≡◌, ◌⊎◌, ◌+◌, ◌≤◌, Bool, Some, None, IfOk, IfErr};
 ghost use Rattle.pool_model.specs.declared.step.Step.TheVariants as steps;
 ghost use Rattle.pool_model.specs.Machine.{AreBytesOf};
 ghost use Rattle.pool_model.specs.Refusals.{refusal_of};
@@ -8,7 +8,6 @@ ghost use Rattle.pool_model.specs.Pools.{volume_at};
 ghost use Rattle.pool_model.specs.View.{View, now_of};
 ghost use Rattle.volume_rules.specs.Covering.{IsCovered};
 ghost use Rattle.volume_rules.specs.Shapes.{shape_of};
-ghost use Rattle.volume_rules.specs.Taken.{is_pending_snapshot};
 ghost use Rattle.pool_commit.specs.Calls.{GrewTo};
 ghost use Rattle.pool_commit.specs.Reading.{OnlyReadsPool};
 ghost use Rattle.pool_core.specs.Reading.{IsLostAnswer};
@@ -43,58 +42,14 @@ impl<D: Disk + Drop> Core<D> {
         let Some(shape) = found else {
             return Reply::Refused(Refusal::NoSuchName);
         };
-        if self.intake.is_pending_snapshot(shape) {
-            return self.read_taken(name, shape.group, offset, len);
-        }
         if self.intake.is_covered(shape, name, offset, len) {
             return self.read_covered(name, shape, offset, len);
         }
-        match self
-            .commit
-            .read_committed(self.alloc, name, shape, offset, len)
-        {
+        let base = self.intake.base_name(name);
+        match self.commit.read_committed(self.alloc, base, offset, len) {
             Ok(mut bytes) => {
                 self.intake
                     .read_pending(shape, name, offset, bytes.as_mut_slice());
-                Reply::Bytes(Bytes::new(bytes))
-            }
-            Err(refusal) => Reply::Refused(Refusal::from(refusal)),
-        }
-    }
-
-    /// Reads a range of a snapshot of NOW that isn't committed yet, and that this group takes: what its volume has with the pending
-    /// writes up to that group.
-    fn read_taken(&mut self, name: &Name, group: u64, offset: u64, len: u64) -> Reply
-        ensures grew { GrewTo (disks_in self.old) (disks_in self.new) }
-        ensures moves { OnlyReadsPool (state_of self.old).commit (state_of self.new).commit [] }
-        ensures goes { (v : View) (trusted : Bool) (snapshot : PlainVolume)
-            → Represents (state_of self.old) v
-            → (trusted ≡ true → PoolAnswersTruly (state_of self.old) (state_of self.new))
-            → volume_at name.now (now_of v) ≡ Some snapshot → snapshot.group ≡ group
-            → is_pending_snapshot v (shape_of snapshot) ≡ true
-            → refusal_of v (steps.Read name.now offset len) ≡ None
-            → Goes (state_of self.old) v trusted (steps.Read name.now offset len) result
-            (state_of self.new) }
-    {
-        let Ok(volume) = name.volume_part(self.alloc) else {
-            return Reply::Refused(Refusal::NoMemory);
-        };
-        let found = self.intake.find(&volume);
-        match against_read(offset, len, found) {
-            Some(cause) => return Reply::Refused(cause),
-            None => {}
-        }
-        let Some(shape) = found else {
-            return Reply::Refused(Refusal::NoSuchName);
-        };
-        match self
-            .commit
-            .read_committed(self.alloc, &volume, shape, offset, len)
-        {
-            Ok(mut bytes) => {
-                let buffer = bytes.as_mut_slice();
-                self.intake
-                    .read_taken(shape, &volume, group, offset, buffer);
                 Reply::Bytes(Bytes::new(bytes))
             }
             Err(refusal) => Reply::Refused(Refusal::from(refusal)),

@@ -23,7 +23,7 @@ use Rattle.pool_model.proofs.Answering.{taken_already}
 use Rattle.pool_model.proofs.Plans.{nothing_quiet, may_nothing}
 use Rattle.pool_model.proofs.SoundFlows.{all_snoc, taken_hold}
 use Rattle.pool_model.proofs.Sounds.{sound_opened, sound_step}
-use Rattle.pool_model.proofs.Uptos.{itself, upto_one}
+use Rattle.pool_model.proofs.Uptos.{itself, upto_from, upto_one}
 use Rattle.txg_pipeline.specs.declared.pipeline.Pipeline.{Pipeline}
 use Rattle.txg_pipeline.specs.declared.refusal.Refusal.{Refusal}
 use Rattle.txg_pipeline.specs.declared.refusal.Refusal.TheVariants.{NoMemory, AlreadyHeld, NoHold, OutOfOrder, NotNow}
@@ -31,10 +31,12 @@ use Rattle.txg_pipeline.specs.Carries.{Carries, empty_after, Does, IsUnchanged, 
 use Rattle.txg_pipeline.specs.Calls.{cause_of}
 use Rattle.txg_pipeline.proofs.Carrying.{kept_synced}
 use Rattle.volume_rules.specs.declared.index.NameIndex.{NameIndex}
+use Rattle.volume_rules.specs.Effects.{PendingTakeEffect}
 use Rattle.volume_rules.specs.GoodChanges.{is_good_change, MakesGoodVolumes}
 use Rattle.volume_rules.specs.Index.{Knows}
 use Rattle.volume_rules.specs.NowMoves.{IsMadeBy, is_action_taken}
 use Rattle.volume_rules.proofs.NowMoves.{knows_step, moves_now, now_taken, now_committed}
+use Rattle.volume_rules.proofs.Effects.{AllTakeEffect, GroupTakesEffect, effects_step}
 use Rattle.volume_rules.proofs.GoodChanges.{not_refused}
 use Rattle.volume_rules.proofs.Overlays.{made_by_applied}
 use Rattle.volume_rules.proofs.Pending.{below_now, below_step}
@@ -53,10 +55,10 @@ kept v = record { vdevs = refl; slots = refl; first = refl; committed = refl; sy
 
 -- the pipeline carries the same flow, and the index knows the same pool
 pub stays : (pipeline other : Pipeline) (index : NameIndex) (v : View) → Follows (record { pipeline = pipeline; index = index }) v → IsUnchanged pipeline other → Follows (record { pipeline = other; index = index }) v
-stays pipeline other index v r u = record { sound = r.sound; flow = u (flow_of v) r.flow; names = r.names; made = r.made; good = r.good }
+stays pipeline other index v r u = record { sound = r.sound; flow = u (flow_of v) r.flow; names = r.names; made = r.made; good = r.good; effects = r.effects }
 
 pub knows_on : (pipeline : Pipeline) (index other : NameIndex) (v : View) → Follows (record { pipeline = pipeline; index = index }) v → (Knows index (now_of v) → Knows other (now_of v)) → Follows (record { pipeline = pipeline; index = other }) v
-knows_on pipeline index other v r f = record { sound = r.sound; flow = r.flow; names = f r.names; made = r.made; good = r.good }
+knows_on pipeline index other v r f = record { sound = r.sound; flow = r.flow; names = f r.names; made = r.made; good = r.good; effects = r.effects }
 
 pub refuses : (new : Intake) (v : View) (step : Step) (cause : Cause) → Follows new v → refusal_of v step ≡ Some cause → Goes v step (Refused cause) new
 refuses new v step cause r e = (v, inl (record { cause = cause; first = e; answer = refl; unchanged = refl; quiet = nothing_quiet; calls = may_nothing step }), r, kept v)
@@ -126,6 +128,7 @@ goes old new v step reply waiting holds next ledger r s k n g same = (
     names = n;
     made = below_step v nothing_given step reply (moved v waiting holds next ledger) r.good s r.made;
     good = g;
+    effects = effects_step v nothing_given step reply (moved v waiting holds next ledger) r.sound s r.effects;
   },
   record { vdevs = refl; slots = refl; first = refl; committed = refl; sync = refl; pools = refl; out = refl; synced = same },
 )
@@ -217,6 +220,7 @@ takes_group pipeline other index v timestamp group r u p idle d =
       names = subst (Knows index) (sym (now_taken v Unplanned (λ i. not (p i) && (idle i || q i)) refl)) r.names;
       made = r.made;
       good = r.good;
+      effects = r.effects;
     }
 
 -- there was none to take
@@ -224,6 +228,16 @@ pub takes_none : (v : View) (timestamp : ℕ) (cause : Refusal) (named : Cause) 
 takes_none v timestamp cause named u p idle n c h =
     plan_early v timestamp u p idle (⊎_elim (λ s. absurd (true≢false (sym s ∙ idle))) (λ q. q) h)
     ∙ ap Some (sym (n ∙ ap cause_of c))
+
+-- where the group above a base one is the base, the pools above it are the same
+effects_above : (base : ℕ) (pool : PlainPool) (ledger : Ledger) → AllTakeEffect base pool ledger → AllTakeEffect (suc base) (applied (suc base) pool (ledger (suc base))) ledger
+effects_above base pool ledger effects n above =
+    subst (λ (before : PlainPool). GroupTakesEffect (suc n) before (ledger (suc n))) (sym (upto_from base pool ledger n above)) (effects n (omega arith))
+
+effects_committed : (v : View) → PendingTakeEffect v → PendingTakeEffect (committed_next v)
+effects_committed v effects =
+    subst (λ b. AllTakeEffect (suc v.committed) (cond b (applied (suc v.committed) (v.pools v.committed) (v.ledger (suc v.committed))) (v.pools (suc v.committed))) v.ledger)
+    (sym (itself (suc v.committed))) (effects_above v.committed (v.pools v.committed) v.ledger effects)
 
 -- the group that is synced is committed
 pub commits : (pipeline other : Pipeline) (index : NameIndex) (v : View) (group : ℕ) → Follows (record { pipeline = pipeline; index = index }) v → Does pipeline Device (Committed group) other → (group ≡ suc v.committed) × Follows (record { pipeline = other; index = index }) (committed_next v)
@@ -237,6 +251,7 @@ commits pipeline other index v group r d =
         names = subst (Knows index) (sym (now_committed v g.1.0)) r.names;
         made = subst (λ b. IsMadeBy (suc v.committed) (cond b (applied (suc v.committed) (v.pools v.committed) (v.ledger (suc v.committed))) (v.pools (suc v.committed)))) (sym (itself (suc v.committed))) (made_by_applied v.committed (v.pools v.committed) (v.ledger (suc v.committed)) r.made (r.good (suc v.committed)));
         good = r.good;
+        effects = effects_committed v r.effects;
       },
     )
 
@@ -251,6 +266,8 @@ followed intake v w r e p f =
       names = subst (Knows intake.index) (sym now) r.names;
       made = subst (λ group. IsMadeBy group (w.pools w.committed)) (sym same) (subst (IsMadeBy v.committed) (sym (λ i. p i (same i))) r.made);
       good = λ group. subst MakesGoodVolumes (ap (λ (x : Flow). x.ledger group) (sym e)) (r.good group);
+      effects = subst (λ (x : Flow). AllTakeEffect x.committed (w.pools x.committed) x.ledger) (sym e)
+          (subst (λ (pools : ℕ → PlainPool). AllTakeEffect v.committed (pools v.committed) v.ledger) (sym p) r.effects);
     }
   where
     same : w.committed ≡ v.committed
@@ -274,4 +291,5 @@ follows_opened pipeline index vdevs out group pool below carries knows made = re
   names = subst (Knows index) (sym (now_opened vdevs out group pool)) knows;
   made = made;
   good = λ other. tt;
+  effects = λ n le. tt;
 }

@@ -7,6 +7,7 @@ use Rattle.pool_model.specs.Flow.{flow_of}
 use Rattle.pool_model.specs.Machine.{StepOf}
 use Rattle.pool_model.specs.Sound.{IsSound}
 use Rattle.txg_pipeline.specs.Carries.{Carries}
+use Rattle.volume_rules.specs.Effects.{PendingTakeEffect}
 use Rattle.volume_rules.specs.GoodChanges.{MakesGoodVolumes}
 use Rattle.volume_rules.specs.Index.{Knows}
 use Rattle.volume_rules.specs.NowMoves.{GroupsAreBelow}
@@ -20,6 +21,8 @@ pub record Follows (intake : Intake) (v : View) : Type 0 where
   pub made : GroupsAreBelow v
   -- each volume that a group is to make may be made
   pub good : (group : ℕ) → MakesGoodVolumes (v.ledger group)
+  -- each pending change takes effect
+  pub effects : PendingTakeEffect v
 
 -- what is committed, and what the group that is synced has accepted, stays
 pub record KeepsCommitted (v w : View) : Type 0 where

@@ -2,7 +2,7 @@
 use pool_model::{Action, Item, Name, Refusal, Reply, Write};
 use std::alloc::{AllocError, Global};
 use txg_pipeline::{Pending, Pipeline};
-use volume_rules::{NameIndex, VolumeShape, against_write, is_covered, read_pending, read_taken};
+use volume_rules::{NameIndex, VolumeShape, against_write, base_name, is_covered, read_pending};
 
 /// What a pool accepts: its groups, the holds of writers, the pending items, and the names of NOW.
 ///
@@ -14,7 +14,8 @@ pub struct Intake {
 }
 
 impl Intake {
-    ghost use Rattle.std.specs.Prelude.{◌↔◌, ◌<◌, Bool, IsTrue, ℕ, suc, List, length, replicate, ◌+◌, ◌≤◌, None, Some, false, true, is_some, IfSome, IfOk, IfErr, OnOk, ◌≡◌};
+    ghost use Rattle.std.specs.Option.{option_copied};
+    ghost use Rattle.std.specs.Prelude.{◌↔◌, ◌<◌, Bool, IsTrue, ℕ, suc, List, length, replicate, ◌+◌, ◌≤◌, None, Some, false, is_some, IfSome, IfOk, IfErr, OnOk, ◌≡◌};
     ghost use Rattle.pool_model.specs.declared.step.Step.TheVariants as steps;
     ghost use Rattle.pool_model.specs.declared.volume.PlainVolume.{PlainVolume};
     ghost use Rattle.pool_model.specs.Pools.{PlainPool, volume_at};
@@ -25,9 +26,8 @@ impl Intake {
     ghost use Rattle.volume_rules.specs.Covering.{IsCovered};
     ghost use Rattle.volume_rules.specs.Index.{Knows};
     ghost use Rattle.volume_rules.specs.NowMoves.{IsMadeBy};
-    ghost use Rattle.pool_model.specs.Names.{volume_part};
     ghost use Rattle.volume_rules.specs.Overlay.{base_of, HasRange};
-    ghost use Rattle.volume_rules.specs.Taken.{is_pending_snapshot};
+    ghost use Rattle.volume_rules.specs.Sources.{base_name};
     ghost use Rattle.pool_intake.specs.Follows.{Follows, TakesStep, TakesStepUnlessSuspended};
     ghost use Rattle.pool_intake.specs.Rest.{IsAtRest};
 
@@ -201,14 +201,23 @@ impl Intake {
         self.index.find(name)
     }
 
-    /// Lays all pending writes over a range of the volume of this name, which has this shape in NOW: the buffer holds the
-    /// range of the bytes that lie under them (those of the committed volume, or zeros where a pending group makes the
-    /// volume), and then has the range of the volume's bytes.
+    /// Where in the committed pool the bytes stand that a name of NOW has but for pending writes: at the name itself; of a
+    /// snapshot or a clone that isn't committed yet at the name that it comes from; nowhere where a pending group makes a
+    /// volume of zeros.
+    pub fn base_name<'a>(&'a self, name: &'a Name) -> Option<&'a Name>
+        ensures { (v : View) → Follows self.now v → option_copied result ≡ base_name v name.now }
+    {
+        base_name(&self.pipeline, name)
+    }
+
+    /// Lays all pending writes over a range of what this name of NOW stands for, which has this shape: the buffer holds the
+    /// range of the bytes that lie under them (those that the committed pool has at the base name, or zeros where there is
+    /// none), and then has the range of its bytes.
     pub fn read_pending(&self, shape: VolumeShape, name: &Name, offset: u64, buffer: &mut [u8])
         requires { offset + length buffer.old ≤ shape.size }
         ensures laid { (v : View) (volume : PlainVolume) → Follows self.now v
-            → volume_at name.now (now_of v) ≡ Some volume → shape_of volume ≡ shape →
-            is_pending_snapshot v shape ≡ false → HasRange buffer.old (base_of v name.now volume) offset
+            → volume_at name.now (now_of v) ≡ Some volume → shape_of volume ≡ shape
+            → HasRange buffer.old (base_of v name.now volume) offset
             → HasRange buffer.new volume.bytes offset }
 
         // Where a pending write has the whole range, zeros may lie under it.
@@ -219,35 +228,6 @@ impl Intake {
             → HasRange buffer.new volume.bytes offset }
     {
         read_pending(&self.pipeline, shape, name, offset, buffer);
-    }
-
-    /// Whether it is the shape of a snapshot that isn't committed yet.
-    pub fn is_pending_snapshot(&self, shape: VolumeShape) -> bool
-        ensures { (v : View) → Follows self.now v → result ≡ is_pending_snapshot v shape }
-    {
-        shape.kind.is_snapshot() && self.pipeline.committed_group() < shape.group
-    }
-
-    /// Lays the pending writes up to a group over a range of the volume of this name, which has this shape in NOW: the buffer holds
-    /// the range of the bytes that lie under the volume's writes, as for `read_pending`, and then has the range of the bytes of the
-    /// snapshot of the volume that this pending group takes.
-    pub fn read_taken(
-        &self,
-        shape: VolumeShape,
-        name: &Name,
-        group: u64,
-        offset: u64,
-        buffer: &mut [u8],
-    )
-        requires { offset + length buffer.old ≤ shape.size }
-        ensures { (v : View) (taken : List ℕ) (snapshot volume : PlainVolume)
-            → Follows self.now v → volume_at taken (now_of v) ≡ Some snapshot
-            → volume_part taken ≡ name.now → is_pending_snapshot v (shape_of snapshot) ≡ true
-            → snapshot.group ≡ group → volume_at name.now (now_of v) ≡ Some volume
-            → shape_of volume ≡ shape → HasRange buffer.old (base_of v name.now volume) offset
-            → HasRange buffer.new snapshot.bytes offset }
-    {
-        read_taken(&self.pipeline, shape, name, group, offset, buffer);
     }
 
     /// Whether one pending write to the volume of this name, which has this shape in NOW, has every byte of the range.

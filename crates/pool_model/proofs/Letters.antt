@@ -1,7 +1,7 @@
 -- The letters of names: none of them is an '@'.
-use Rattle.std.proofs.Common.{arith, ◌+◌, ◌≡◌, ℕ, suc, Bool, true, false, true≢false, List, [], ◌∷◌, ◌++◌, refl, sym, ap, ◌∙◌, subst}
+use Rattle.std.proofs.Common.{arith, ◌+◌, ◌≡◌, ℕ, suc, Bool, true, false, true≢false, List, [], ◌∷◌, refl, sym, ap, ◌∙◌, subst}
 use Rattle.std.specs.Prelude.{◌&&◌, ◌||◌, ◌==◌, cond, not, length, nat_le, take}
-use Rattle.std.specs.List.{list_all, list_any, position_or_len}
+use Rattle.std.specs.List.{list_all, position_or_len}
 use Rattle.std.proofs.lemmas.Bool.Decides.{nat_tests}
 use Rattle.pool_model.specs.Names.{is_letter, is_name, is_name_letter, is_snapshot_name, snapshot_name, volume_part}
 

@@ -1,6 +1,7 @@
 pub mod Causes
 pub mod Letters
 pub mod Placing
+pub mod Parts
 pub mod Moves
 pub mod Plans
 pub mod Flows

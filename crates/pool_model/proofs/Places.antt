@@ -13,11 +13,11 @@ use Rattle.std.proofs.lemmas.Map.Text.{is_eq-slice_cmp}
 use Rattle.std.proofs.lemmas.Slice.Eq.{bytes_eq-Decides}
 use Rattle.pool_model.specs.declared.item.Action.{Action}
 use Rattle.pool_model.specs.declared.item.Change.{Change}
-use Rattle.pool_model.specs.declared.item.Change.TheVariants.{Create, Snapshot}
+use Rattle.pool_model.specs.declared.item.Change.TheVariants.{Clone, Create, Snapshot}
 use Rattle.pool_model.specs.declared.item.Write.{Write}
 use Rattle.pool_model.specs.declared.volume.PlainVolume.{PlainVolume}
 use Rattle.pool_model.specs.Names.{same, is_before, stored, snapshot_name}
-use Rattle.pool_model.specs.Pools.{PlainPool, Entry, Ledger, AreAscending, volume_at, volume_after, written, created, is_snapshot, placed, snapshot_of, with_snapshot, with_volume, changed, applied, upto}
+use Rattle.pool_model.specs.Pools.{PlainPool, Entry, Ledger, AreAscending, volume_at, volume_after, written, clone_of, created, is_snapshot, placed, snapshot_of, with_clone, with_snapshot, with_volume, changed, applied, upto}
 
 -- ---- names
 
@@ -186,6 +186,14 @@ ascending_changed group pool (Snapshot volume part) up = taken (volume_at volume
     taken (Some it) = elim (is_snapshot it.kind) as (λ b. AreAscending (cond b pool (with_volume (snapshot_of group (snapshot_name volume part) it) pool)).volumes) [
       | true ↦ up
       | false ↦ ascending_more pool (snapshot_of group (snapshot_name volume part) it) up
+    ]
+ascending_changed group pool (Clone snapshot name) up = cloned (volume_at snapshot pool)
+  where
+    cloned : (found : Option PlainVolume) → AreAscending (with_clone group name found pool).volumes
+    cloned None = up
+    cloned (Some it) = elim (is_snapshot it.kind) as (λ b. AreAscending (cond b (with_volume (clone_of group name it) pool) pool).volumes) [
+      | true ↦ ascending_more pool (clone_of group name it) up
+      | false ↦ up
     ]
 
 ascending_actions : (group : ℕ) (pool : PlainPool) (actions : List Action) → AreAscending pool.volumes → AreAscending (fold (λ p a. changed group p a.change) pool actions).volumes

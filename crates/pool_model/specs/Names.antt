@@ -4,7 +4,7 @@ use Rattle.std.specs.List.{list_all, list_any, position_or_len}
 use Rattle.std.specs.Cmp.Lexicographic.{pointwise, slice_cmp}
 use Rattle.std.specs.Ordering.{nat_cmp, is_lt}
 use Rattle.pool_model.specs.declared.item.Change.{Change}
-use Rattle.pool_model.specs.declared.item.Change.TheVariants.{Create, Snapshot}
+use Rattle.pool_model.specs.declared.item.Change.TheVariants.{Clone, Create, Snapshot}
 use Rattle.pool_model.specs.declared.volume.VolumeKind.{VolumeKind}
 use Rattle.pool_model.specs.declared.volume.VolumeKind.TheVariants.{Volume, Snapshot as SnapshotKind}
 
@@ -57,8 +57,10 @@ is_name_for SnapshotKind name = is_name (volume_part name) && is_snapshot_name n
 abbrev pub name_of : Change → List ℕ
 name_of (Create name size block_size) = name
 name_of (Snapshot volume part) = snapshot_name volume part
+name_of (Clone snapshot name) = name
 
--- the name of the volume that a change is of: the new one, or the one that a snapshot is taken of
+-- the name of what a change is of: the new volume, the one that a snapshot is taken of, or the snapshot that a clone is of
 abbrev pub volume_of : Change → List ℕ
 volume_of (Create name size block_size) = name
 volume_of (Snapshot volume part) = volume
+volume_of (Clone snapshot name) = snapshot

@@ -6,7 +6,7 @@ use Rattle.std.specs.List.Sorted.{IsStrictlySortedBy}
 use Rattle.std.specs.Ordering.{nat_cmp}
 use Rattle.pool_model.specs.declared.item.Action.{Action}
 use Rattle.pool_model.specs.declared.item.Change.{Change}
-use Rattle.pool_model.specs.declared.item.Change.TheVariants.{Create, Snapshot as TakeSnapshot}
+use Rattle.pool_model.specs.declared.item.Change.TheVariants.{Clone, Create, Snapshot as TakeSnapshot}
 use Rattle.pool_model.specs.declared.item.Write.{Write}
 use Rattle.pool_model.specs.declared.volume.PlainVolume.{PlainVolume}
 use Rattle.pool_model.specs.declared.volume.VolumeKind.{VolumeKind}
@@ -61,10 +61,20 @@ abbrev pub with_snapshot : ℕ → List ℕ → Option PlainVolume → PlainPool
 with_snapshot group name None pool = pool
 with_snapshot group name (Some volume) pool = if is_snapshot volume.kind then pool else with_volume (snapshot_of group name volume) pool
 
+-- a clone has what its snapshot has, and the group that makes it is its creation group
+abbrev pub clone_of : ℕ → List ℕ → PlainVolume → PlainVolume
+clone_of group name snapshot = record snapshot { name = name; group = group; kind = Volume }
+
+-- the pool and a clone of this snapshot, unless there is none or it is a volume
+abbrev pub with_clone : ℕ → List ℕ → Option PlainVolume → PlainPool → PlainPool
+with_clone group name None pool = pool
+with_clone group name (Some snapshot) pool = if is_snapshot snapshot.kind then with_volume (clone_of group name snapshot) pool else pool
+
 -- the pool after a change that a group takes
 abbrev pub changed : ℕ → PlainPool → Change → PlainPool
 changed group pool (Create name size block_size) = with_volume (created group name size block_size) pool
 changed group pool (TakeSnapshot volume part) = with_snapshot group (snapshot_name volume part) (volume_at volume pool) pool
+changed group pool (Clone snapshot name) = with_clone group name (volume_at snapshot pool) pool
 
 -- what a group has accepted, each kind in the order accepted
 pub record Entry : Type 0 where

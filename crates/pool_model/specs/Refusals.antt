@@ -2,7 +2,7 @@
 use Rattle.std.specs.Prelude.{ℕ, ◌+◌, ◌%◌, ◌^◌, List, [], ◌∷◌, length, Bool, true, false, not, Option, Some, None, is_some, is_none, nat_le, nat_lt, ◌==◌, ◌&&◌, ◌||◌, if◌then◌else◌}
 use Rattle.pool_model.specs.declared.item.Action.{Action}
 use Rattle.pool_model.specs.declared.item.Change.{Change}
-use Rattle.pool_model.specs.declared.item.Change.TheVariants.{Create, Snapshot}
+use Rattle.pool_model.specs.declared.item.Change.TheVariants.{Clone, Create, Snapshot}
 use Rattle.pool_model.specs.declared.item.Write.{Write}
 use Rattle.pool_model.specs.declared.step.Step.{Step}
 use Rattle.pool_model.specs.declared.step.Step.TheVariants.{Hold, Write as WriteStep, Act, Release, Close, Quiesce, Plan, Device, Read, ReadUnder}
@@ -52,9 +52,15 @@ abbrev pub is_volume : Option PlainVolume → Bool
 is_volume None = false
 is_volume (Some volume) = not (is_snapshot volume.kind)
 
+-- a snapshot stands there, and no volume
+abbrev pub is_snapshot_there : Option PlainVolume → Bool
+is_snapshot_there None = false
+is_snapshot_there (Some volume) = is_snapshot volume.kind
+
 abbrev pub change_refusal : Change → PlainPool → Option Refusal
 change_refusal (Create name size block_size) now = first_cause ((not (is_name name), BadName) ∷ (is_some (volume_at name now), Exists) ∷ (not (is_block_size block_size && (size % block_size == 0)), Misaligned) ∷ (not (nat_le block_size size && nat_le size (2 ^ 40)), OutOfRange) ∷ [])
 change_refusal (Snapshot volume part) now = first_cause ((not (is_name part), BadName) ∷ (not (is_volume (volume_at volume now)), NoSuchName) ∷ (is_some (volume_at (snapshot_name volume part) now), Exists) ∷ [])
+change_refusal (Clone snapshot name) now = first_cause ((not (is_name name), BadName) ∷ (not (is_snapshot_there (volume_at snapshot now)), NoSuchName) ∷ (is_some (volume_at name now), Exists) ∷ [])
 
 abbrev pub act_refusal : Action → ℕ → ℕ → PlainPool → Option ℕ → Option Refusal
 act_refusal a expected opened now None = Some NoHold

@@ -33,6 +33,12 @@ pub enum Change {
         volume: Name,
         part: Name,
     },
+    /// Makes a volume that has what a snapshot has.
+    Clone {
+        /// The snapshot's whole name.
+        snapshot: Name,
+        name: Name,
+    },
 }
 
 impl Change {
@@ -41,18 +47,19 @@ impl Change {
         ensures { IfOk result (λ name. name ≡ name_of self.now) }
     {
         match self {
-            Change::Create { name, .. } => name.copied(alloc),
+            Change::Create { name, .. } | Change::Clone { name, .. } => name.copied(alloc),
             Change::Snapshot { volume, part } => volume.with_part(alloc, part),
         }
     }
 
-    /// The name of the volume that the change is of: the new one's, or the one that a snapshot is taken of.
+    /// The name of what the change is of: of a new volume its own, of a snapshot its volume's, of a clone its snapshot's.
     pub fn volume(&self) -> &Name
         ensures { result.now ≡ volume_of self.now }
     {
         match self {
             Change::Create { name, .. } => name,
             Change::Snapshot { volume, .. } => volume,
+            Change::Clone { snapshot, .. } => snapshot,
         }
     }
 }

@@ -87,6 +87,19 @@ impl Name {
         Ok(Name { letters })
     }
 
+    /// Whether it is the name of the snapshot of that volume that has that part.
+    pub fn is_snapshot_of(&self, volume: &Name, part: &Name) -> bool
+        ensures { result ≡ same (snapshot_name volume.now part.now) self.now }
+    {
+        let Some(behind) = self.as_slice().strip_prefix(volume.as_slice()) else {
+            return false;
+        };
+        let Some((first, rest)) = behind.split_first() else {
+            return false;
+        };
+        *first == b'@' && rest == part.as_slice()
+    }
+
     /// Whether it is the name of a snapshot: it has an '@'.
     pub fn is_of_snapshot(&self) -> bool
         ensures { result ≡ is_snapshot_name self.now }

@@ -4,7 +4,7 @@ use crate::text::{Bytes, Name};
 /// What a name of the pool stands for.
 #[derive(Clone, Copy, Debug, PartialEq, Eq, Drop)]
 pub enum VolumeKind {
-    /// A volume that was made with zeros, and that writers may write.
+    /// A volume that was made with zeros or as a clone of a snapshot, and that writers may write.
     Volume,
     /// What a volume had when the snapshot was taken of it. It stays as it is.
     Snapshot,

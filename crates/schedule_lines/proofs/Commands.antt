@@ -8,16 +8,17 @@ use Rattle.schedule_lines.specs.declared.command.PoolLine.{PoolLine}
 use Rattle.schedule_lines.specs.declared.command.WriteLine.{WriteLine}
 use Rattle.schedule_lines.specs.declared.command.CreateLine.{CreateLine}
 use Rattle.schedule_lines.specs.declared.command.SnapshotLine.{SnapshotLine}
+use Rattle.schedule_lines.specs.declared.command.CloneLine.{CloneLine}
 use Rattle.schedule_lines.specs.declared.command.ReadLine.{ReadLine}
 use Rattle.schedule_lines.specs.declared.command.UnderLine.{UnderLine}
 use Rattle.schedule_lines.specs.declared.command.ReopenLine.{ReopenLine}
 use Rattle.schedule_lines.specs.declared.command.StopPoint.{StopPoint}
 use Rattle.schedule_lines.specs.declared.command.StopPoint.TheVariants.{Blocks, Slots, Claim}
 use Rattle.schedule_lines.specs.declared.command.Command.{Command}
-use Rattle.schedule_lines.specs.declared.command.Command.TheVariants.{Pool, Write, Create, Snapshot, Read, Under, Stop, Reopen}
+use Rattle.schedule_lines.specs.declared.command.Command.TheVariants.{Pool, Write, Create, Snapshot, Clone, Read, Under, Stop, Reopen}
 use Rattle.schedule_lines.specs.Hexadecimal.{byte_text}
 use Rattle.schedule_lines.specs.Grammar.{words_of_stop, words_of, StopFits, NumbersFit}
-use Rattle.schedule_lines.specs.Reading.{word_at, number_at, pool_at, write_at, create_at, snapshot_at, read_at, under_at, of_read, point_at, stop_at, reopen_at}
+use Rattle.schedule_lines.specs.Reading.{word_at, number_at, pool_at, write_at, create_at, snapshot_at, clone_at, read_at, under_at, of_read, point_at, stop_at, reopen_at}
 use Rattle.schedule_lines.proofs.Fields.{bind_some, some, some_is, Words, IsFull, word_taken, Number, number_taken, number_then, number_read, Byte, byte_then, byte_read, NameWord, name_then, name_read}
 use Rattle.schedule_lines.proofs.Numbers.{Numbers, numbers_then, numbers_read}
 
@@ -145,6 +146,33 @@ snapshot_read snapshot fits full =
     let from_volume : Words = snapshot.volume ∷ from_part in
     let from_number : Words = decimal snapshot.number ∷ from_volume in
     rw (number_read (2 ^ 32) snapshot.writer from_number (omega arith) fits.0, number_read (2 ^ 64) snapshot.number from_volume (omega arith) fits.1, name_read snapshot.volume from_part full.1.1.1.0, name_read snapshot.part [] full.1.1.1.1.0) refl
+
+clone_made : (words : Words) (a b : ℕ × Words) (c d : List ℕ × Words) → Number words (2 ^ 32) a → Number a.1 (2 ^ 64) b → NameWord b.1 c → NameWord c.1 d
+    → Taken (codes "clone" ∷ words) (Clone (record { writer = a.0; number = b.0; snapshot = c.0; name = d.0 })) d.1
+clone_made words a b c d is_writer is_number is_snapshot is_name =
+    record {
+      parts = onto _ _ _ (is_writer.word ∙ onto _ _ _ (is_number.word ∙ onto _ _ _ (is_snapshot.word ∙ onto _ _ _ (is_name.word))));
+      fits = (is_writer.fits, is_number.fits);
+      full = (lit< tt, (is_writer.full, (is_number.full, (is_snapshot.full, (is_name.full, tt)))));
+    }
+
+pub clone_taken : (words : Words) (clone : CloneLine) (rest : Words) → clone_at words ≡ Some (clone, rest) → Taken (codes "clone" ∷ words) (Clone clone) rest
+unfolding clone_at
+clone_taken words clone rest e =
+    let a = number_then (2 ^ 32) words _ (clone, rest) (omega arith) e in
+    let b = number_then (2 ^ 64) a.0.1 _ (clone, rest) (omega arith) a.2 in
+    let c = name_then b.0.1 _ (clone, rest) b.2 in
+    let d = name_then c.0.1 _ (clone, rest) c.2 in
+    let same = some_is (record { writer = a.0.0; number = b.0.0; snapshot = c.0.0; name = d.0.0 }, d.0.1) (clone, rest) d.2 in
+    subst (λ (x : CloneLine × Words). Taken (codes "clone" ∷ words) (Clone x.0) x.1) same (clone_made words a.0 b.0 c.0 d.0 a.1 b.1 c.1 d.1)
+
+pub clone_read : (clone : CloneLine) → NumbersFit (Clone clone) → AllByRecursion IsFull (words_of (Clone clone)) → clone_at (drop 1 (words_of (Clone clone))) ≡ Some (clone, [])
+unfolding clone_at
+clone_read clone fits full =
+    let from_name : Words = clone.name ∷ [] in
+    let from_snapshot : Words = clone.snapshot ∷ from_name in
+    let from_number : Words = decimal clone.number ∷ from_snapshot in
+    rw (number_read (2 ^ 32) clone.writer from_number (omega arith) fits.0, number_read (2 ^ 64) clone.number from_snapshot (omega arith) fits.1, name_read clone.snapshot from_name full.1.1.1.0, name_read clone.name [] full.1.1.1.1.0) refl
 
 read_made : (words : Words) (b c : ℕ × Words) (a : List ℕ × Words) → NameWord words a → Number a.1 (2 ^ 64) b → Number b.1 (2 ^ 64) c
     → Taken (codes "read" ∷ words) (Read (record { name = a.0; offset = b.0; len = c.0 })) c.1

@@ -9,13 +9,14 @@ use Rattle.schedule_lines.specs.declared.refusal.Refusal.TheVariants.{Fault, NoM
 use Rattle.schedule_lines.specs.declared.command.Line.{Line}
 use Rattle.schedule_lines.specs.declared.command.Line.TheVariants.{Skipped, Command as CommandLine}
 use Rattle.schedule_lines.specs.declared.command.Command.{Command}
-use Rattle.schedule_lines.specs.declared.command.Command.TheVariants.{Pool, Hold, Release, Write, Create, Snapshot, Close, Quiesced, Plan, Device, Commit, Sync, Read, Under, Stop, Reopen}
+use Rattle.schedule_lines.specs.declared.command.Command.TheVariants.{Pool, Hold, Release, Write, Create, Snapshot, Clone, Close, Quiesced, Plan, Device, Commit, Sync, Read, Under, Stop, Reopen}
 use Rattle.schedule_lines.specs.declared.command.StopPoint.{StopPoint}
 use Rattle.schedule_lines.specs.declared.command.StopPoint.TheVariants.{Blocks, Slots, Claim}
 use Rattle.schedule_lines.specs.declared.command.PoolLine.{PoolLine}
 use Rattle.schedule_lines.specs.declared.command.WriteLine.{WriteLine}
 use Rattle.schedule_lines.specs.declared.command.CreateLine.{CreateLine}
 use Rattle.schedule_lines.specs.declared.command.SnapshotLine.{SnapshotLine}
+use Rattle.schedule_lines.specs.declared.command.CloneLine.{CloneLine}
 use Rattle.schedule_lines.specs.declared.command.ReadLine.{ReadLine}
 use Rattle.schedule_lines.specs.declared.command.UnderLine.{UnderLine}
 use Rattle.schedule_lines.specs.declared.command.ReopenLine.{ReopenLine}
@@ -109,6 +110,14 @@ snapshot_at words = do
   part ← name_at volume.1
   Some (record { writer = writer.0; number = number.0; volume = volume.0; part = part.0 }, part.1)
 
+unfoldable pub clone_at : Parse CloneLine
+clone_at words = do
+  writer ← number_at (2 ^ 32) words
+  number ← number_at (2 ^ 64) writer.1
+  snapshot ← name_at number.1
+  name ← name_at snapshot.1
+  Some (record { writer = writer.0; number = number.0; snapshot = snapshot.0; name = name.0 }, name.1)
+
 unfoldable pub read_at : Parse ReadLine
 read_at words = do
   name ← name_at words
@@ -166,6 +175,7 @@ command_at keyword.Release words = of_read Release (number_at (2 ^ 32) words)
 command_at keyword.Write words = of_read Write (write_at words)
 command_at keyword.Create words = of_read Create (create_at words)
 command_at keyword.Snapshot words = of_read Snapshot (snapshot_at words)
+command_at keyword.Clone words = of_read Clone (clone_at words)
 command_at keyword.Close words = Some (Close, words)
 command_at keyword.Quiesced words = Some (Quiesced, words)
 command_at keyword.Plan words = Some (Plan, words)

@@ -19,6 +19,7 @@ pub enum Command {
     Write(WriteLine),
     Create(CreateLine),
     Snapshot(SnapshotLine),
+    Clone(CloneLine),
     Close,
     Quiesced,
     Plan,
@@ -83,6 +84,18 @@ pub struct SnapshotLine {
     pub volume: Name,
     /// What stands behind the '@' in the snapshot's name.
     pub part: Name,
+}
+
+/// A clone of a snapshot, made as a writer's item.
+#[derive(Debug, Drop)]
+pub struct CloneLine {
+    pub writer: u32,
+    /// The item's number.
+    pub number: u64,
+    /// The snapshot's whole name.
+    pub snapshot: Name,
+    /// The clone's.
+    pub name: Name,
 }
 
 /// A range of what all accepted groups make.

@@ -11,6 +11,7 @@ pub(crate) enum Keyword {
     Write,
     Create,
     Snapshot,
+    Clone,
     Close,
     Quiesced,
     Plan,
@@ -24,13 +25,14 @@ pub(crate) enum Keyword {
 }
 
 impl Keyword {
-    const ALL: [Keyword; 16] = [
+    const ALL: [Keyword; 17] = [
         Keyword::Pool,
         Keyword::Hold,
         Keyword::Release,
         Keyword::Write,
         Keyword::Create,
         Keyword::Snapshot,
+        Keyword::Clone,
         Keyword::Close,
         Keyword::Quiesced,
         Keyword::Plan,
@@ -53,6 +55,7 @@ impl Keyword {
             Keyword::Write => "write",
             Keyword::Create => "create",
             Keyword::Snapshot => "snapshot",
+            Keyword::Clone => "clone",
             Keyword::Close => "close",
             Keyword::Quiesced => "quiesced",
             Keyword::Plan => "plan",

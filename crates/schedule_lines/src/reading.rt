@@ -2,11 +2,11 @@
 ghost use Rattle.std.specs.Prelude.{◌≡◌, ◌⊎◌, List, ℕ, IfOk, Ok, Err};
 ghost use Rattle.schedule_lines.specs.declared.command.Line.{Line};
 ghost use Rattle.schedule_lines.specs.Grammar.{Spells};
-ghost use Rattle.schedule_lines.specs.Reading.{Gives, pool_at, write_at, create_at, snapshot_at, read_at, under_at, stop_at, numbers_at, reopen_at, command_at, line_of};
+ghost use Rattle.schedule_lines.specs.Reading.{Gives, pool_at, write_at, create_at, snapshot_at, clone_at, read_at, under_at, stop_at, numbers_at, reopen_at, command_at, line_of};
 
 use crate::command::{
-    Command, CreateLine, Line, PoolLine, ReadLine, ReopenLine, SnapshotLine, StopPoint, UnderLine,
-    WriteLine,
+    CloneLine, Command, CreateLine, Line, PoolLine, ReadLine, ReopenLine, SnapshotLine, StopPoint,
+    UnderLine, WriteLine,
 };
 use crate::disk_numbers::DiskNumbers;
 use crate::keyword::Keyword;
@@ -63,6 +63,18 @@ fn snapshot(alloc: Global, words: &mut Words) -> Result<SnapshotLine, Refusal>
         number: words.number64()?,
         volume: words.name(alloc)?,
         part: words.name(alloc)?,
+    })
+}
+
+#[tactic(auto, unfolding(crate::specs::Reading::clone_at))]
+fn clone(alloc: Global, words: &mut Words) -> Result<CloneLine, Refusal>
+    ensures { Gives (λ clone. (clone, words.new)) result (clone_at words.old) }
+{
+    Ok(CloneLine {
+        writer: words.number32()?,
+        number: words.number64()?,
+        snapshot: words.name(alloc)?,
+        name: words.name(alloc)?,
     })
 }
 
@@ -146,6 +158,7 @@ fn command(alloc: Global, keyword: Keyword, words: &mut Words) -> Result<Command
         Keyword::Write => Command::Write(write(alloc, words)?),
         Keyword::Create => Command::Create(create(alloc, words)?),
         Keyword::Snapshot => Command::Snapshot(snapshot(alloc, words)?),
+        Keyword::Clone => Command::Clone(clone(alloc, words)?),
         Keyword::Close => Command::Close,
         Keyword::Quiesced => Command::Quiesced,
         Keyword::Plan => Command::Plan,

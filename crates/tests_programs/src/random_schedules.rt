@@ -14,21 +14,40 @@ const LINES: usize = 300;
 
 const POOL: &str = "pool 1 3 8388608 12 2 -> pool 3 claim 1\n";
 
-/// Makes the volumes v, w and x in group 4, and commits it.
-const FIRST_LINES: [&str; 6] = [
+/// Makes the volumes v, w and x and snapshots of two of them in group 4, and commits it.
+const FIRST_LINES: [&str; 8] = [
     "hold 1",
     "create 1 1 v 4096 512",
     "create 1 2 w 4096 1024",
     "create 1 3 x 4096 512",
+    "snapshot 1 4 v a",
+    "snapshot 1 5 w a",
     "release 1",
     "sync",
 ];
 
-/// Names of volumes, one of them seldom and one that no volume may have.
-const NAMES: [&str; 11] = ["v", "w", "x", "v", "w", "x", "v", "w", "x", "seldom", "A"];
+/// Read all that may be there at the end.
+const LAST_LINES: [&str; 8] = [
+    "read v 0 4096",
+    "read w 0 4096",
+    "read x 0 4096",
+    "read p 0 4096",
+    "read q 0 4096",
+    "read r 0 4096",
+    "read s 0 4096",
+    "read t 0 4096",
+];
+
+/// Names of volumes, some that only clones have, one that is seldom made and one that no volume may have.
+const NAMES: [&str; 16] = [
+    "v", "w", "x", "v", "w", "x", "v", "w", "x", "p", "q", "r", "s", "t", "seldom", "A",
+];
 
 /// Names of snapshots, behind those of the volumes.
-const PARTS: [&str; 4] = ["a", "b", "c", "d"];
+const PARTS: [&str; 4] = ["a", "a", "b", "c"];
+
+/// Names of clones: one of them is that of a volume which is there.
+const CLONES: [&str; 6] = ["p", "q", "r", "s", "t", "v"];
 
 /// Sizes of blocks, two of which no volume may have.
 const BLOCK_SIZES: [u64; 6] = [512, 1024, 512, 1024, 768, 256];
@@ -73,6 +92,7 @@ struct Writers {
     numbers: [u64; 4],
     committed: u64,
     receipts: u64,
+    clones: u64,
     reads: u64,
 }
 
@@ -84,6 +104,7 @@ impl Writers {
             numbers: [1; 4],
             committed: 3,
             receipts: 0,
+            clones: 0,
             reads: 0,
         }
     }
@@ -110,31 +131,36 @@ impl Writers {
         let byte = self.dice.below(256) as u8;
         let block_size = BLOCK_SIZES[self.dice.below(6) as usize];
         let group = self.group();
-        let name = NAMES[self.dice.below(11) as usize];
+        let name = NAMES[self.dice.below(16) as usize];
         let part = PARTS[self.dice.below(4) as usize];
+        let clone = CLONES[self.dice.below(6) as usize];
         let (offset, len) = self.dice.range();
-        Ok(match self.dice.below(44) {
-            0..=4 => format!(in alloc; "hold {writer}")?,
-            5..=10 => format!(in alloc; "release {writer}")?,
-            11..=19 => format!(in alloc;
+        Ok(match self.dice.below(56) {
+            0..=6 => format!(in alloc; "hold {writer}")?,
+            7..=11 => format!(in alloc; "release {writer}")?,
+            12..=20 => format!(in alloc;
                 "write {writer} {number} {name} {offset} {len} {byte:02x}"
             )?,
-            20 => format!(in alloc; "create {writer} {number} {name} 4096 {block_size}")?,
-            21..=23 => format!(in alloc; "close")?,
-            24..=27 => format!(in alloc; "quiesced")?,
-            28..=31 => format!(in alloc; "commit")?,
-            32..=35 => format!(in alloc; "read {name} {offset} {len}")?,
-            36..=38 => format!(in alloc; "under {group} {name} {offset} {len}")?,
-            39..=40 => format!(in alloc; "snapshot {writer} {number} {name} {part}")?,
-            41..=42 => format!(in alloc; "read {name}@{part} {offset} {len}")?,
-            _ => format!(in alloc; "under {group} {name}@{part} {offset} {len}")?,
+            21 => format!(in alloc; "create {writer} {number} {name} 4096 {block_size}")?,
+            22..=24 => format!(in alloc; "close")?,
+            25..=28 => format!(in alloc; "quiesced")?,
+            29..=32 => format!(in alloc; "commit")?,
+            33..=37 => format!(in alloc; "read {name} {offset} {len}")?,
+            38..=40 => format!(in alloc; "under {group} {name} {offset} {len}")?,
+            41..=44 => format!(in alloc; "snapshot {writer} {number} {name} {part}")?,
+            45..=46 => format!(in alloc; "read {name}@{part} {offset} {len}")?,
+            47 => format!(in alloc; "under {group} {name}@{part} {offset} {len}")?,
+            _ => format!(in alloc; "clone {writer} {number} {name}@{part} {clone}")?,
         })
     }
 
-    fn learn(&mut self, reply: &Reply) {
+    fn learn(&mut self, line: &str, reply: &Reply) {
         match reply {
             Reply::Receipt(_) => {
                 self.receipts = self.receipts.saturating_add(1);
+                self.clones = self
+                    .clones
+                    .saturating_add(u64::from(line.starts_with("clone")));
                 if let Some(number) = self.numbers.get_mut(self.writer) {
                     *number = number.saturating_add(1);
                 }
@@ -148,7 +174,7 @@ impl Writers {
     }
 
     fn is_lucky(&self) -> bool {
-        self.committed >= 6 && self.receipts >= 10 && self.reads >= 8
+        self.committed >= 6 && self.receipts >= 10 && self.clones >= 2 && self.reads >= 16
     }
 }
 
@@ -160,20 +186,43 @@ fn row(
     line: &str,
 ) -> Result<String, Fail> {
     let reply = reply_to(alloc, machine, line)?;
-    writers.learn(&reply);
+    writers.learn(line, &reply);
     Ok(format!(in alloc; "{line} -> {}\n", reply_text(alloc, &reply)?)?)
 }
 
-// The lines that make the volumes, and those that are chosen, with what the machine in memory replies.
-fn rows_of(alloc: Global, machine: &mut Machine, writers: &mut Writers) -> Result<String, Fail> {
+// These lines, with what the machine in memory replies.
+fn fixed_rows(
+    alloc: Global,
+    machine: &mut Machine,
+    writers: &mut Writers,
+    lines: &[&str],
+) -> Result<String, Fail> {
     let mut rows = String::new(alloc);
-    for line in &FIRST_LINES {
+    for line in lines {
         rows.push_str(row(alloc, machine, writers, line)?.as_str())?;
     }
+    Ok(rows)
+}
+
+// The lines that are chosen, with what it replies.
+fn chosen_rows(
+    alloc: Global,
+    machine: &mut Machine,
+    writers: &mut Writers,
+) -> Result<String, Fail> {
+    let mut rows = String::new(alloc);
     for _ in 0..LINES {
         let line = writers.line(alloc)?;
         rows.push_str(row(alloc, machine, writers, line.as_str())?.as_str())?;
     }
+    Ok(rows)
+}
+
+// The first lines, those that are chosen, and the last ones.
+fn rows_of(alloc: Global, machine: &mut Machine, writers: &mut Writers) -> Result<String, Fail> {
+    let mut rows = fixed_rows(alloc, machine, writers, &FIRST_LINES)?;
+    rows.push_str(chosen_rows(alloc, machine, writers)?.as_str())?;
+    rows.push_str(fixed_rows(alloc, machine, writers, &LAST_LINES)?.as_str())?;
     Ok(rows)
 }
 
@@ -204,10 +253,10 @@ fn all_other_replies(alloc: Global, seeds: &[u64]) -> Result<String, Fail> {
 
 #[test]
 fn disks_reply_as_memory_does(rt: HostRuntime) -> Result<(), Fail> {
-    expect_none(&rt, all_other_replies(rt.alloc(), &[1, 2, 3]))
+    expect_none(&rt, all_other_replies(rt.alloc(), &[3, 8, 12]))
 }
 
 #[test]
 fn disks_reply_as_memory_does_again(rt: HostRuntime) -> Result<(), Fail> {
-    expect_none(&rt, all_other_replies(rt.alloc(), &[20, 77, 4096]))
+    expect_none(&rt, all_other_replies(rt.alloc(), &[22, 25, 77]))
 }

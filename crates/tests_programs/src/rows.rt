@@ -170,6 +170,146 @@ read v 0 1024 -> 0bx512 0cx512
 read v@a 0 1024 -> 0ax512 00x512
 ";
 
+/// Behind the first ones, a clone of a committed snapshot: what it reads and takes, before it is committed and after.
+const CLONED: &str = "hold 1 -> held 5
+write 1 2 v 0 512 0a -> receipt 5
+snapshot 1 3 v a -> receipt 5
+release 1 -> released
+sync -> committed 5
+hold 1 -> held 6
+write 1 4 v 0 512 0b -> receipt 6
+clone 1 5 v@a w -> receipt 6
+read w 0 512 -> 0ax512
+read w 0 1024 -> 0ax512 00x512
+read w 512 513 -> refused 11 OutOfRange
+write 1 6 w 0 512 0c -> refused 9 NotYet
+clone 1 6 v@b x -> refused 8 NoSuchName
+clone 1 6 x x -> refused 8 NoSuchName
+clone 1 6 v x -> refused 8 NoSuchName
+clone 1 6 w x -> refused 8 NoSuchName
+clone 1 6 v@a V -> refused 16 BadName
+clone 1 6 v@a v@b -> refused 16 BadName
+clone 1 6 v V -> refused 16 BadName
+clone 1 6 v@a v -> refused 10 Exists
+clone 1 6 v@a w -> refused 10 Exists
+clone 1 6 v w -> refused 8 NoSuchName
+clone 1 7 v@a V -> refused 7 OutOfOrder 6
+clone 2 1 v@a x -> refused 6 NoHold
+release 1 -> released
+sync -> committed 6
+read w 0 1024 -> 0ax512 00x512
+read v 0 1024 -> 0bx512 00x512
+under 6 w 0 1024 -> 0ax512 00x512
+under 5 w 0 512 -> refused 8 NoSuchName
+hold 1 -> held 7
+write 1 6 w 512 512 0c -> receipt 7
+read w 512 512 -> 0cx512
+read w 0 1024 -> 0ax512 0cx512
+release 1 -> released
+sync -> committed 7
+read w 0 1024 -> 0ax512 0cx512
+read v 0 1024 -> 0bx512 00x512
+read v@a 0 1024 -> 0ax512 00x512
+under 7 w 0 1024 -> 0ax512 0cx512
+under 6 w 0 1024 -> 0ax512 00x512
+under 7 v@a 0 1024 -> 0ax512 00x512
+";
+
+/// Behind those, all in group 8: a snapshot and a clone of it, a snapshot of that and a clone of that one. The writes of the group
+/// count for each of them, those that come behind it too, and those of group 9, which is open meanwhile, for none.
+const CLONED_AT_ONCE: &str = "hold 1 -> held 8
+write 1 7 v 0 512 0d -> receipt 8
+snapshot 1 8 v b -> receipt 8
+clone 1 9 v@b x -> receipt 8
+read x 0 1024 -> 0dx512 00x512
+snapshot 1 10 x c -> receipt 8
+read x@c 0 1024 -> 0dx512 00x512
+clone 1 11 x@c y -> receipt 8
+read y 0 1024 -> 0dx512 00x512
+write 1 12 v 512 512 0e -> receipt 8
+read v 0 1024 -> 0dx512 0ex512
+read v@b 0 1024 -> 0dx512 0ex512
+read x 0 1024 -> 0dx512 0ex512
+read x@c 0 1024 -> 0dx512 0ex512
+read y 0 1024 -> 0dx512 0ex512
+write 1 13 x 0 512 0f -> refused 9 NotYet
+write 1 13 x@c 0 512 0f -> refused 8 NoSuchName
+close -> closed 8
+clone 1 13 v@b z -> refused 13 NotNow
+clone 1 13 v V -> refused 13 NotNow
+hold 2 -> held 9
+write 2 1 v 0 512 11 -> receipt 9
+write 2 2 x 512 512 12 -> receipt 9
+clone 2 3 v@b z -> receipt 9
+snapshot 2 4 x d -> receipt 9
+clone 2 5 x@d u -> receipt 9
+read z 0 1024 -> 0dx512 0ex512
+read u 0 1024 -> 0dx512 12x512
+write 1 13 v 0 512 13 -> receipt 8
+read v 0 1024 -> 11x512 0ex512
+read v@b 0 1024 -> 13x512 0ex512
+read x 0 1024 -> 13x512 12x512
+read x@c 0 1024 -> 13x512 0ex512
+read x@d 0 1024 -> 13x512 12x512
+read y 0 1024 -> 13x512 0ex512
+read z 0 1024 -> 13x512 0ex512
+read u 0 1024 -> 13x512 12x512
+write 1 14 y 0 512 14 -> refused 9 NotYet
+write 1 14 z 0 512 14 -> refused 9 NotYet
+release 1 -> released
+quiesced -> quiesced 8
+commit -> committed 8
+read x 0 1024 -> 13x512 12x512
+read u 0 1024 -> 13x512 12x512
+under 8 v 0 1024 -> 13x512 0ex512
+under 8 x 0 1024 -> 13x512 0ex512
+under 8 y 0 1024 -> 13x512 0ex512
+under 8 u 0 1024 -> refused 8 NoSuchName
+release 2 -> released
+sync -> committed 9
+read v 0 1024 -> 11x512 0ex512
+read v@b 0 1024 -> 13x512 0ex512
+read x 0 1024 -> 13x512 12x512
+read x@c 0 1024 -> 13x512 0ex512
+read x@d 0 1024 -> 13x512 12x512
+read y 0 1024 -> 13x512 0ex512
+read z 0 1024 -> 13x512 0ex512
+read u 0 1024 -> 13x512 12x512
+read w 0 1024 -> 0ax512 0cx512
+under 8 x 0 1024 -> 13x512 0ex512
+under 7 x 0 1024 -> refused 8 NoSuchName
+";
+
+/// Behind those, clones of clones while group 10 is planned, group 11 waits and group 12 is open.
+const CLONED_IN_FLOW: &str = "hold 1 -> held 10
+write 1 14 y 0 512 15 -> receipt 10
+snapshot 1 15 y e -> receipt 10
+clone 1 16 y@e q -> receipt 10
+release 1 -> released
+close -> closed 10
+quiesced -> quiesced 10
+plan -> planned 10
+read q 0 1024 -> 15x512 0ex512
+hold 1 -> held 11
+write 1 17 q 512 512 16 -> receipt 11
+snapshot 1 18 q f -> receipt 11
+clone 1 19 q@f r -> receipt 11
+read r 0 1024 -> 15x512 16x512
+close -> closed 11
+hold 2 -> held 12
+write 2 6 r 0 512 17 -> receipt 12
+write 2 7 q 0 512 18 -> receipt 12
+clone 2 8 q@f s -> receipt 12
+write 1 20 q 512 512 19 -> receipt 11
+read y 0 1024 -> 15x512 0ex512
+read y@e 0 1024 -> 15x512 0ex512
+read q 0 1024 -> 18x512 19x512
+read q@f 0 1024 -> 15x512 19x512
+read r 0 1024 -> 17x512 19x512
+read s 0 1024 -> 15x512 19x512
+under 9 q 0 1024 -> refused 8 NoSuchName
+";
+
 /// Names are judged against all that is accepted, and each step by the first cause that applies.
 const CAUSES: &str = "pool 1 3 8388608 12 2 -> pool 3 claim 1
 device -> refused 13 NotNow
@@ -215,12 +355,13 @@ device -> refused 13 NotNow
 ";
 
 /// What the machine in memory replies.
-const IN_MEMORY: [&[&str]; 6] = [
+const IN_MEMORY: [&[&str]; 7] = [
     &[FIRST],
     &[FIRST, TWO_GROUPS],
     &[FIRST, REFUSALS, PLANNED, COMMITTED],
     &[FIRST, KEPT],
     &[FIRST, TAKEN, TAKEN_AGAIN],
+    &[FIRST, CLONED, CLONED_AT_ONCE, CLONED_IN_FLOW],
     &[CAUSES, NO_CAUSES],
 ];
 
@@ -229,7 +370,7 @@ const IN_MEMORY: [&[&str]; 6] = [
 /// three copies of two; the dnodes of the meta object set and that set three of three, which are
 /// 18, and two space maps too, which are 18 more: 62 columns. Group 4 makes a volume and the first root,
 /// with its maps: 99 columns.
-const OVER_DISKS: [&[&str]; 6] = [
+const OVER_DISKS: [&[&str]; 7] = [
     &[FIRST],
     &[FIRST, TWO_GROUPS],
     &[
@@ -237,6 +378,7 @@ const OVER_DISKS: [&[&str]; 6] = [
     ],
     &[FIRST, KEPT],
     &[FIRST, TAKEN, TAKEN_AGAIN],
+    &[FIRST, CLONED, CLONED_AT_ONCE, CLONED_IN_FLOW],
     &[
         CAUSES,
         TEN_WRITES,

@@ -9,7 +9,7 @@ use std::alloc::{AllocError, Global};
 use std::test::Fail;
 
 /// Lines, and what each says.
-const LINES: [(&str, &str); 25] = [
+const LINES: [(&str, &str); 26] = [
     ("", "Skipped"),
     ("# a  line of words", "Skipped"),
     (
@@ -34,6 +34,10 @@ const LINES: [(&str, &str); 25] = [
     (
         "snapshot 3 2 v s",
         "Command(Snapshot(SnapshotLine { writer: 3, number: 2, volume: Name { letters: [118] }, part: Name { letters: [115] } }))",
+    ),
+    (
+        "clone 3 4 v@s w",
+        "Command(Clone(CloneLine { writer: 3, number: 4, snapshot: Name { letters: [118, 64, 115] }, name: Name { letters: [119] } }))",
     ),
     ("close", "Command(Close)"),
     ("quiesced", "Command(Quiesced)"),
@@ -71,7 +75,7 @@ const LINES: [(&str, &str); 25] = [
 ];
 
 /// Lines that say nothing, and why.
-const FAULTS: [(&str, &str); 30] = [
+const FAULTS: [(&str, &str); 33] = [
     (" ", "two empty words"),
     (" # no comment", "a space before the mark"),
     ("hold", "a word is missing"),
@@ -91,6 +95,9 @@ const FAULTS: [(&str, &str); 30] = [
     ("write 1 2 v 512 1024 A5", "an upper case digit"),
     ("write 1 2 v 512 1024 5", "one digit of a byte"),
     ("write 1 2 v 512 1024 0a5", "three digits of a byte"),
+    ("clone 1 2 v@s", "no name of a clone"),
+    ("clone 1 2 v s w", "a snapshot's name in two words"),
+    ("clone 1 v@s w", "no number of an item"),
     ("close now", "a word behind the last"),
     ("stop", "no point"),
     ("stop slots", "no number of disks"),

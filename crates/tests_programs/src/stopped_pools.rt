@@ -90,6 +90,43 @@ reopen 0 1 -> stopped
 reopen 0 0 -> opened 8 claim 3
 sync -> committed 9";
 
+/// A clone is there again where the disks are opened again, and a group back, without one of them, it has what it had then; a later one
+/// isn't there.
+const CLONE_OPENED: &str = "pool 1 3 8388608 12 2 -> pool 3 claim 1
+hold 1 -> held 4
+create 1 1 v 1024 512 -> receipt 4
+release 1 -> released
+sync -> committed 4
+hold 1 -> held 5
+write 1 2 v 0 512 0a -> receipt 5
+snapshot 1 3 v a -> receipt 5
+clone 1 4 v@a w -> receipt 5
+release 1 -> released
+sync -> committed 5
+reopen 0 -> opened 5 claim 2
+read w 0 1024 -> 0ax512 00x512
+hold 1 -> held 6
+write 1 1 w 512 512 0b -> receipt 6
+write 1 2 v 0 512 0c -> receipt 6
+release 1 -> released
+sync -> committed 6
+hold 1 -> held 7
+write 1 3 w 0 512 0d -> receipt 7
+clone 1 4 v@a x -> receipt 7
+release 1 -> released
+sync -> committed 7
+read w 0 1024 -> 0dx512 0bx512
+reopen 1 1 -> opened 6 claim 3
+read w 0 1024 -> 0ax512 0bx512
+read v@a 0 1024 -> 0ax512 00x512
+read v 0 1024 -> 0cx512 00x512
+read x 0 1024 -> refused 8 NoSuchName
+reopen 0 -> opened 6 claim 4
+hold 1 -> held 7
+clone 1 1 v@a w -> refused 10 Exists
+clone 1 1 v@a x -> receipt 7
+read x 0 1024 -> 0ax512 00x512";
+
 /// Behind a pool at group 8, rows that stop commits.
 const STOPPED_COMMITS: [&[&str]; 6] = [
     &[EIGHT, STOPPED_TWICE],
@@ -101,11 +138,12 @@ const STOPPED_COMMITS: [&[&str]; 6] = [
 ];
 
 /// Rows that stop claims, and some that go back.
-const STOPPED_CLAIMS: [&[&str]; 4] = [
+const STOPPED_CLAIMS: [&[&str]; 5] = [
     &[EIGHT, CLAIM_OF_ONE],
     &[EIGHT, CLAIM_OF_NONE],
     &[EIGHT, CLAIM_OF_ALL],
     &[GONE_BACK],
+    &[CLONE_OPENED],
 ];
 
 #[test]

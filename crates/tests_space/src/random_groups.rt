@@ -1,4 +1,4 @@
-//! Groups that overwrite random blocks of volumes in a store that has room for little more, with snapshots between them.
+//! Groups that overwrite random blocks of volumes in a store that has room for little more, with snapshots and a clone between them.
 use crate::stores::{Store, new_store, store_plan};
 use crate::walked::{sectors_if_right, sectors_of};
 use block_store::Refusal;
@@ -20,16 +20,16 @@ struct Volume {
     most: u64,
 }
 
-/// Their blocks take 48 sectors with parity, 2,880 in all, and what leads to the blocks of each volume takes 200: so 3,280 of the
+/// Their blocks take 48 sectors with parity, 2,592 in all, and what leads to the blocks of each volume takes 200: so 2,992 of the
 /// 8,192 sectors before the meta region hold what a root leads to. A group writes to at most two volumes, and takes 592 at most.
 /// As it is planned, what two groups before it gave back can't be used yet, and what it replaces itself is in use still: so there
-/// are up to 5,056 in use then. Each of two snapshots of the smaller volume keeps up to 960 more, and 200 that lead to them: so
-/// there are up to 7,376 in use at last, 90 of 100.
+/// are up to 4,768 in use then. Each of two snapshots of the smaller volume keeps up to 672 more, and 200 that lead to them, and so
+/// does a clone of the first: so there are up to 7,384 in use at last, 90 of 100.
 const VOLUMES: [Volume; 2] = [
     Volume {
         letter: b'v',
         block_bytes: 16384,
-        blocks: 20,
+        blocks: 14,
         most: 2,
     },
     Volume {
@@ -108,14 +108,25 @@ impl Numbers {
     }
 }
 
-/// Overwrites random blocks of a random volume.
+/// A random volume that a group may write to.
+fn random_volume(numbers: &mut Numbers, group: u64) -> Volume {
+    let count = if group > CLONED { 3 } else { 2 };
+    match numbers.below(count) {
+        0 => VOLUMES[0],
+        1 => VOLUMES[1],
+        _ => CLONE,
+    }
+}
+
+/// Overwrites random blocks of a random volume, in a group.
 fn random_write(
     alloc: Global,
     numbers: &mut Numbers,
+    group: u64,
     number: u64,
-    value: u8,
 ) -> Result<Item, AllocError> {
-    let volume = VOLUMES[numbers.below(2) as usize % 2];
+    let value = (group % 256) as u8;
+    let volume = random_volume(numbers, group);
     let first = numbers.below(volume.blocks);
     let count = numbers.below(volume.most).saturating_add(1);
     let left = volume.blocks.saturating_sub(first);
@@ -126,31 +137,53 @@ fn accept_random(
     pipeline: &mut Pipeline,
     alloc: Global,
     numbers: &mut Numbers,
-    value: u8,
+    group: u64,
 ) -> Result<(), Fail> {
     pipeline.hold(1)?;
-    pipeline.accept(random_write(alloc, numbers, 1, value)?)?;
-    pipeline.accept(random_write(alloc, numbers, 2, value)?)?;
+    pipeline.accept(random_write(alloc, numbers, group, 1)?)?;
+    pipeline.accept(random_write(alloc, numbers, group, 2)?)?;
     Ok(())
 }
 
 /// Groups that take a snapshot of the smaller volume, and the letter that is its part.
 const SNAPSHOTS: [(u64, u8); 2] = [(500, b'a'), (1200, b'b')];
 
-/// The snapshot that a group takes, if it takes one.
-fn accept_snapshot(pipeline: &mut Pipeline, alloc: Global, group: u64) -> Result<(), Fail> {
+/// The group that makes a clone of the first snapshot; later ones write to it too.
+const CLONED: u64 = 800;
+
+const CLONE: Volume = Volume {
+    letter: b'u',
+    block_bytes: 16384,
+    blocks: 14,
+    most: 2,
+};
+
+/// What a group changes besides its writes: the snapshot that it takes, or the clone that it makes.
+fn change_in(alloc: Global, group: u64) -> Result<Option<Change>, AllocError> {
+    if group == CLONED {
+        return Ok(Some(Change::Clone {
+            snapshot: Name::new(Vec::from_slice(alloc, b"v@a")?),
+            name: name_of(alloc, &CLONE)?,
+        }));
+    }
     for &(taken, part) in &SNAPSHOTS {
         if taken == group {
-            let change = Change::Snapshot {
+            return Ok(Some(Change::Snapshot {
                 volume: name_of(alloc, &VOLUMES[0])?,
                 part: Name::new(vec![in alloc; part; 1]?),
-            };
-            pipeline.accept(Item::Action(Action {
-                writer: 1,
-                number: 3,
-                change,
-            }))?;
+            }));
         }
+    }
+    Ok(None)
+}
+
+fn accept_change(pipeline: &mut Pipeline, alloc: Global, group: u64) -> Result<(), Fail> {
+    if let Some(change) = change_in(alloc, group)? {
+        pipeline.accept(Item::Action(Action {
+            writer: 1,
+            number: 3,
+            change,
+        }))?;
     }
     Ok(())
 }
@@ -227,10 +260,10 @@ fn random_next(
     numbers: &mut Numbers,
     in_use: &mut InUse,
 ) -> Result<FirstRoot, Fail> {
-    let value = (before.root.birth % 256) as u8;
+    let group = before.root.birth.saturating_add(1);
     let mut pipeline = Pipeline::new(alloc, 3);
-    accept_random(&mut pipeline, alloc, numbers, value)?;
-    accept_snapshot(&mut pipeline, alloc, before.root.birth.saturating_add(1))?;
+    accept_random(&mut pipeline, alloc, numbers, group)?;
+    accept_change(&mut pipeline, alloc, group)?;
     Ok(next(before, store, alloc, &pipeline, in_use)?)
 }
 

@@ -1,24 +1,30 @@
 -- Bytes that a write sets: those before make no difference.
 use Rattle.std.proofs.Common.{◌≡◌, ◌⊎◌, ⊎_elim, inl, inr, ℕ, zero, suc, ◌+◌, ◌-◌, ◌<◌, ◌≤◌, Bool, true, false, true≢false, nat_le, List, [], ◌∷◌, ◌++◌, take, drop, length, get_or, replicate, Option, Some, None, refl, sym, ap, ◌∙◌, subst, arith}
-use Rattle.std.specs.Prelude.{◌&&◌, Any, cond, not}
+use Rattle.std.specs.Prelude.{◌&&◌, Any, cond, find, map, not}
+use Rattle.std.specs.Option.{option_map}
 use Rattle.std.proofs.lemmas.Bool.{cases_lt}
 use Rattle.std.proofs.lemmas.Bool.Decides.{nat_tests}
 use Rattle.std.proofs.lemmas.List.{get_or-take, get_or-drop, get_or_append_left, get_or-append_right, length-take-le, length-replicate, get_or-replicate}
-use Rattle.std.proofs.lemmas.Option.{cond_some}
 use Rattle.pool_model.specs.declared.item.Write.{Write}
 use Rattle.pool_model.specs.declared.volume.PlainVolume.{PlainVolume}
 use Rattle.pool_model.specs.Flow.{flow_of}
 use Rattle.pool_model.specs.Names.{is_name_for, same, stored}
-use Rattle.pool_model.specs.Pools.{PlainPool, Ledger, is_snapshot, volume_at, volume_after, applied, upto}
+use Rattle.pool_model.specs.Pools.{PlainPool, Ledger, is_snapshot, volume_at, volume_after}
 use Rattle.pool_model.specs.View.{View, open_group, now_of}
 use Rattle.pool_model.proofs.Places.{same_is, is_same, name_after}
 use Rattle.volume_rules.specs.declared.shape.VolumeShape.{VolumeShape}
-use Rattle.volume_rules.specs.Shapes.{shape_of}
-use Rattle.volume_rules.specs.NowMoves.{GroupsAreBelow, HasGoodNames, IsOlder}
+use Rattle.volume_rules.specs.Shapes.{shape_of, HaveSameShapes}
+use Rattle.volume_rules.specs.NowMoves.{GroupsAreBelow, IsMadeBy}
+use Rattle.volume_rules.specs.Effects.{PendingTakeEffect}
+use Rattle.volume_rules.specs.Sources.{base_name, found_at, pool_upto}
 use Rattle.volume_rules.specs.Covering.{IsCovered}
-use Rattle.volume_rules.specs.Overlay.{after_writes, bytes_or_zeros, base_of, HasRange}
+use Rattle.volume_rules.specs.Overlay.{after_writes, bytes_or_zeros, base_of, HasRange, StandsThere}
 use Rattle.volume_rules.proofs.Made.{found_named}
-use Rattle.volume_rules.proofs.Overlays.{name_after_writes, shape_after_writes, applied_found}
+use Rattle.volume_rules.proofs.Effects.{effects_along}
+use Rattle.volume_rules.proofs.Later.{later, found_later, made_behind, name_later, shape_later}
+use Rattle.volume_rules.proofs.Laying.{base_stands}
+use Rattle.volume_rules.proofs.NowMoves.{shapes_upto}
+use Rattle.pool_model.proofs.Uptos.{upto_chain}
 use Rattle.volume_rules.proofs.Ranges.{range_from, range_at}
 use Rattle.volume_rules.proofs.Volumes.{shape_after}
 
@@ -144,38 +150,6 @@ after_all name size volume other (write ∷ writes) k d is also alike =
 
 -- ---- after groups
 
--- a volume after the writes of the groups behind a base one, up to another
-later : PlainVolume → ℕ → Ledger → ℕ → PlainVolume
-later volume base ledger zero = volume
-later volume base ledger (suc n) = cond (nat_le (suc n) base) volume (after_writes (later volume base ledger n) (ledger (suc n)).writes)
-
-found_later : (name : List ℕ) (base n : ℕ) (pool : PlainPool) (ledger : Ledger) (x : PlainVolume) → volume_at name pool ≡ Some x → volume_at name (upto base pool ledger n) ≡ Some (later x base ledger n)
-unfolding later
-found_later name base zero pool ledger x e = e
-found_later name base (suc n) pool ledger x e =
-    elim (nat_le (suc n) base) as (λ b. volume_at name (cond b pool (applied (suc n) (upto base pool ledger n) (ledger (suc n)))) ≡ Some (cond b x (after_writes (later x base ledger n) (ledger (suc n)).writes))) [
-      | true ↦ e
-      | false ↦ applied_found (suc n) (upto base pool ledger n) (ledger (suc n)) name (later x base ledger n) (found_later name base n pool ledger x e)
-    ]
-
-shape_later : (base n : ℕ) (ledger : Ledger) (x : PlainVolume) → shape_of (later x base ledger n) ≡ shape_of x
-unfolding later
-shape_later base zero ledger x = refl
-shape_later base (suc n) ledger x =
-    elim (nat_le (suc n) base) as (λ b. shape_of (cond b x (after_writes (later x base ledger n) (ledger (suc n)).writes)) ≡ shape_of x) [
-      | true ↦ refl
-      | false ↦ shape_after_writes (later x base ledger n) (ledger (suc n)).writes ∙ shape_later base n ledger x
-    ]
-
-name_later : (base n : ℕ) (ledger : Ledger) (x : PlainVolume) → (later x base ledger n).name ≡ x.name
-unfolding later
-name_later base zero ledger x = refl
-name_later base (suc n) ledger x =
-    elim (nat_le (suc n) base) as (λ b. let v : PlainVolume = cond b x (after_writes (later x base ledger n) (ledger (suc n)).writes) in v.name ≡ x.name) [
-      | true ↦ refl
-      | false ↦ name_after_writes (later x base ledger n) (ledger (suc n)).writes ∙ name_later base n ledger x
-    ]
-
 is_of_later : (name : List ℕ) (size base n : ℕ) (ledger : Ledger) (x : PlainVolume) → IsOf name size x → IsOf name size (later x base ledger n)
 is_of_later name size base n ledger x is = record {
   named = name_later base n ledger x ∙ is.named;
@@ -224,89 +198,165 @@ zeros_in n size offset fits =
     range_from (replicate n 0) (replicate size 0) offset (let a = length-replicate {A = ℕ} n 0 in let b = length-replicate {A = ℕ} size 0 in omega arith)
     (λ k d lt. get_or-replicate n k 0 d (let a = length-replicate {A = ℕ} n 0 in omega arith) ∙ sym (get_or-replicate size (offset + k) 0 d (let a = length-replicate {A = ℕ} n 0 in omega arith)))
 
--- a view whose committed pool has that volume alone
-abbrev with_one : View → PlainVolume → View
-with_one v x = record v { pools = λ group. record { volumes = x ∷ [] } }
+-- a volume with zeros in place of its bytes, and a pool of such
+abbrev blank : PlainVolume → PlainVolume
+blank volume = record volume { bytes = replicate (length volume.bytes) 0 }
+
+abbrev blanked : PlainPool → PlainPool
+blanked pool = record { volumes = map blank pool.volumes }
+
+blank_shape : (volume : PlainVolume) → shape_of (blank volume) ≡ shape_of volume
+blank_shape volume = ap (λ n. record (shape_of volume) { size = n }) (length-replicate {A = ℕ} (length volume.bytes) 0)
+
+blank_at : (name : List ℕ) (pool : PlainPool) → volume_at name (blanked pool) ≡ option_map blank (volume_at name pool)
+blank_at name pool = along pool.volumes
+  where
+    along : (volumes : List PlainVolume) → find (λ v. same v.name name) (map blank volumes) ≡ option_map blank (find (λ v. same v.name name) volumes)
+    along [] = refl
+    along (volume ∷ volumes) =
+        ap (cond (same volume.name name) (Some (blank volume))) (along volumes)
+        ∙ elim (same volume.name name) as (λ b. cond b (Some (blank volume)) (option_map blank (find (λ v. same v.name name) volumes)) ≡ option_map blank (cond b (Some volume) (find (λ v. same v.name name) volumes))) [ true ↦ refl | false ↦ refl ]
+
+blank_shapes : (pool : PlainPool) → HaveSameShapes pool (blanked pool)
+blank_shapes pool name = sym (ap (option_map shape_of) (blank_at name pool) ∙ same_shape (volume_at name pool))
+  where
+    same_shape : (o : Option PlainVolume) → option_map shape_of (option_map blank o) ≡ option_map shape_of o
+    same_shape None = refl
+    same_shape (Some volume) = ap Some (blank_shape volume)
+
+-- a volume of the same shape
+shaped_at : (name : List ℕ) (pool other : PlainPool) (volume : PlainVolume) → HaveSameShapes pool other → volume_at name other ≡ Some volume → (was : PlainVolume) × (volume_at name pool ≡ Some was) × (shape_of was ≡ shape_of volume)
+shaped_at name pool other volume h e = cases (volume_at name pool) refl (h name ∙ ap (option_map shape_of) e)
+  where
+    cases : (o : Option PlainVolume) → volume_at name pool ≡ o → option_map shape_of o ≡ Some (shape_of volume) → (was : PlainVolume) × (volume_at name pool ≡ Some was) × (shape_of was ≡ shape_of volume)
+    cases None f g = absurd (cc)
+    cases (Some was) f g = (was, f, cc)
+
+made_along : (group : ℕ) (pool other : PlainPool) → HaveSameShapes pool other → IsMadeBy group pool → IsMadeBy group other
+made_along group pool other h made = record {
+  older = λ name volume e. let was = shaped_at name pool other volume h e in subst (λ (s : VolumeShape). s.group ≤ group) was.2 (made.older name was.0 was.1);
+  named = λ name volume e. let was = shaped_at name pool other volume h e in subst (λ (s : VolumeShape). is_name_for s.kind name ≡ true) was.2 (made.named name was.0 was.1);
+}
+
+-- zeros lie wherever something stands, and nowhere
+blank_bytes : (source : Option (List ℕ)) (pool : PlainPool) (size : ℕ) → StandsThere source (blanked pool) size → bytes_or_zeros (found_at source (blanked pool)) size ≡ replicate size 0
+blank_bytes None pool size h = refl
+blank_bytes (Some name) pool size h = ap (λ o. bytes_or_zeros o size) (blank_at name pool) ∙ cases (volume_at name pool) (sym (blank_at name pool) ∙ h.1)
+  where
+    cases : (o : Option PlainVolume) → option_map blank o ≡ Some h.0 → bytes_or_zeros (option_map blank o) size ≡ replicate size 0
+    cases None e = absurd (cc)
+    cases (Some volume) e =
+        let is : blank volume ≡ h.0 = cc in
+        ap (λ n. replicate n 0) (sym (length-replicate {A = ℕ} (length volume.bytes) 0) ∙ (ap (λ (v : PlainVolume). length v.bytes) is ∙ h.2))
+
+-- a view whose committed pool has zeros for bytes
+abbrev with_zeros : View → View
+with_zeros v = record v { pools = λ group. blanked (v.pools group) }
 
 -- What makes the bytes of a volume of the bytes under its pending writes, in each view, makes them of zeros too where a pending write covers the range.
-pub covered_laid : (v : View) (name : List ℕ) (volume : PlainVolume) (offset : ℕ) (old new : List ℕ) → GroupsAreBelow v → volume_at name (now_of v) ≡ Some volume
+pub covered_laid : (v : View) (name : List ℕ) (volume : PlainVolume) (offset : ℕ) (old new : List ℕ) → GroupsAreBelow v → PendingTakeEffect v → volume_at name (now_of v) ≡ Some volume
     → offset + length old ≤ length volume.bytes → length new ≡ length old → IsCovered v name (shape_of volume) offset (length old) → old ≡ replicate (length old) 0
-    → ((w : View) (u : PlainVolume) → flow_of w ≡ flow_of v → GroupsAreBelow w → volume_at name (now_of w) ≡ Some u → shape_of u ≡ shape_of volume → HasRange old (base_of w name u) offset → HasRange new u.bytes offset)
+    → ((w : View) (u : PlainVolume) → flow_of w ≡ flow_of v → GroupsAreBelow w → PendingTakeEffect w → volume_at name (now_of w) ≡ Some u → shape_of u ≡ shape_of volume → HasRange old (base_of w name u) offset → HasRange new u.bytes offset)
     → HasRange new volume.bytes offset
-covered_laid v name volume offset old new below found fits whole covered zeros lays = cases (volume_at name (v.pools v.committed)) refl
+covered_laid v name volume offset old new below effects found fits whole covered zeros lays =
+    range_from new volume.bytes offset (omega arith) (λ k d lt. range_at new other.0.bytes offset has k d lt ∙ alike k d (let a = whole in omega arith))
   where
-    under : HasRange old (replicate (length volume.bytes) 0) offset
-    under = subst (λ xs. HasRange xs (replicate (length volume.bytes) 0) offset) (sym zeros) (zeros_in (length old) (length volume.bytes) offset fits)
+    pools : HaveSameShapes (v.pools v.committed) (blanked (v.pools v.committed))
+    pools = blank_shapes (v.pools v.committed)
 
-    cases : (o : Option PlainVolume) → volume_at name (v.pools v.committed) ≡ o → HasRange new volume.bytes offset
-    cases None e = lays v volume refl below found refl (subst (λ (o : Option PlainVolume). HasRange old (bytes_or_zeros o (length volume.bytes)) offset) (sym e) under)
-    cases (Some x) e = range_from new volume.bytes offset (omega arith) (λ k d lt. range_at new after.bytes offset has k d lt ∙ alike k d (let a = whole in omega arith))
+    upto_shapes : (n : ℕ) → HaveSameShapes (pool_upto v n) (pool_upto (with_zeros v) n)
+    upto_shapes n = shapes_upto v.committed (v.pools v.committed) (blanked (v.pools v.committed)) v.ledger v.ledger n pools (λ group. refl)
+
+    back : (n : ℕ) → HaveSameShapes (pool_upto (with_zeros v) n) (pool_upto v n)
+    back n called = sym (upto_shapes n called)
+
+    still : PendingTakeEffect (with_zeros v)
+    still = effects_along v.committed (v.pools v.committed) (blanked (v.pools v.committed)) v.ledger v.ledger pools (λ group. refl) effects
+
+    -- what stands in the other view
+    other : (u : PlainVolume) × (volume_at name (now_of (with_zeros v)) ≡ Some u) × (shape_of u ≡ shape_of volume)
+    other = shaped_at name (now_of (with_zeros v)) (now_of v) volume (back (open_group v)) found
+
+    size : length other.0.bytes ≡ length volume.bytes
+    size = ap (λ (s : VolumeShape). s.size) other.2
+
+    under : HasRange old (base_of (with_zeros v) name other.0) offset
+    under =
+        subst (λ xs. HasRange old xs offset) (sym (blank_bytes (base_name (with_zeros v) name) (v.pools v.committed) (length other.0.bytes) (base_stands (with_zeros v) name other.0 still other.1)))
+        (subst (λ n. HasRange old (replicate n 0) offset) (sym size) (subst (λ xs. HasRange xs (replicate (length volume.bytes) 0) offset) (sym zeros) (zeros_in (length old) (length volume.bytes) offset fits)))
+
+    has : HasRange new other.0.bytes offset
+    has = lays (with_zeros v) other.0 refl (made_along v.committed (v.pools v.committed) (blanked (v.pools v.committed)) pools below) still other.1 other.2 under
+
+    -- the group before the one that covers the range
+    before : (n : ℕ) × (covered.group ≡ suc n) × (v.committed ≤ n)
+    before = pred covered.group covered.pending
       where
-        blank : PlainVolume
-        blank = record x { bytes = replicate (length x.bytes) 0 }
+        pred : (g : ℕ) → v.committed < g → (n : ℕ) × (g ≡ suc n) × (v.committed ≤ n)
+        pred zero lt = absurd (omega arith)
+        pred (suc n) lt = (n, refl, omega arith)
 
-        after : PlainVolume
-        after = later blank v.committed v.ledger (open_group v)
+    behind : volume.group ≤ before.0
+    behind = let a = covered.behind in let b = before.1 in omega arith
 
-        named : x.name ≡ name
-        named = same_is x.name name (found_named name (v.pools v.committed) x e)
+    within : before.0 ≤ open_group v
+    within = let a = covered.accepted in let b = before.1 in omega arith
 
-        is_volume : later x v.committed v.ledger (open_group v) ≡ volume
-        is_volume = let both : Some (later x v.committed v.ledger (open_group v)) ≡ Some volume = sym (found_later name v.committed (open_group v) (v.pools v.committed) v.ledger x e) ∙ found in cc
+    -- the volume stood there already
+    stood : (x : PlainVolume) × (volume_at name (pool_upto v before.0) ≡ Some x)
+    stood = cases (volume_at name (pool_upto v before.0)) refl
+      where
+        cases : (o : Option PlainVolume) → volume_at name (pool_upto v before.0) ≡ o → (x : PlainVolume) × (volume_at name (pool_upto v before.0) ≡ Some x)
+        cases (Some x) e = (x, e)
+        cases None e = absurd (let high = made_behind before.0 (open_group v) (pool_upto v before.0) v.ledger name volume e within (ap (volume_at name) (upto_chain v.committed before.0 (v.pools v.committed) v.ledger (open_group v) before.2 within) ∙ found) in let low = behind in omega arith)
 
-        shaped : shape_of x ≡ shape_of volume
-        shaped = sym (shape_later v.committed (open_group v) v.ledger x) ∙ ap shape_of is_volume
+    stood_other : (y : PlainVolume) × (volume_at name (pool_upto (with_zeros v) before.0) ≡ Some y) × (shape_of y ≡ shape_of stood.0)
+    stood_other = shaped_at name (pool_upto (with_zeros v) before.0) (pool_upto v before.0) stood.0 (back before.0) stood.1
 
-        size : length x.bytes ≡ length volume.bytes
-        size = ap (λ (s : VolumeShape). s.size) shaped
+    is_volume : later stood.0 before.0 v.ledger (open_group v) ≡ volume
+    is_volume =
+        let both : Some (later stood.0 before.0 v.ledger (open_group v)) ≡ Some volume =
+        sym (found_later name before.0 (open_group v) (pool_upto v before.0) v.ledger stood.0 stood.1)
+        ∙ (ap (volume_at name) (upto_chain v.committed before.0 (v.pools v.committed) v.ledger (open_group v) before.2 within) ∙ found) in cc
 
-        blank_shaped : shape_of blank ≡ shape_of x
-        blank_shaped = ap (λ n. record (shape_of x) { size = n }) (length-replicate {A = ℕ} (length x.bytes) 0)
+    is_other : later stood_other.0 before.0 v.ledger (open_group v) ≡ other.0
+    is_other =
+        let both : Some (later stood_other.0 before.0 v.ledger (open_group v)) ≡ Some other.0 =
+        sym (found_later name before.0 (open_group v) (pool_upto (with_zeros v) before.0) v.ledger stood_other.0 stood_other.1)
+        ∙ (ap (volume_at name) (upto_chain v.committed before.0 (blanked (v.pools v.committed)) v.ledger (open_group v) before.2 within) ∙ other.1) in cc
 
-        there : volume_at name ((with_one v blank).pools v.committed) ≡ Some blank
-        there = ap (λ b. cond b (Some blank) None) (found_named name (v.pools v.committed) x e)
+    shaped : shape_of stood.0 ≡ shape_of volume
+    shaped = sym (shape_later before.0 (open_group v) v.ledger stood.0) ∙ ap shape_of is_volume
 
-        older : IsOlder v.committed (record { volumes = blank ∷ [] })
-        older n u is = let one = cond_some (same x.name n) blank u is in let low = below.older name x e in subst (λ (w : PlainVolume). w.group ≤ v.committed) one.1 low
+    is_of : (x : PlainVolume) (p : PlainPool) → volume_at name p ≡ Some x → shape_of x ≡ shape_of volume → IsOf name (length volume.bytes) x
+    is_of x p e s = record {
+      named = same_is x.name name (found_named name p x e);
+      sized = ap (λ (t : VolumeShape). t.size) s;
+      writable = ap (λ (t : VolumeShape). is_snapshot t.kind) s ∙ covered.writable;
+    }
 
-        good : HasGoodNames (record { volumes = blank ∷ [] })
-        good n u is =
-            let one = cond_some (same x.name n) blank u is in
-            subst (λ (w : PlainVolume). is_name_for w.kind n ≡ true) one.1 (subst (λ m. is_name_for x.kind m ≡ true) (sym named ∙ same_is x.name n one.0) (below.named name x e))
+    set : (k : ℕ) → k < length old → SetBetween name (length volume.bytes) before.0 (open_group v) v.ledger (offset + k)
+    set k lt = let any = covered.covering in (
+      covered.group,
+      (let a = before.1 in omega arith),
+      covered.accepted,
+      (
+        any.0,
+        any.1,
+        any.2,
+        any.3,
+        record {
+          named = any.4.0;
+          within = any.4.1.within;
+          begins = let a = any.4.1.begins in omega arith;
+          ends = let a = any.4.1.ends in omega arith;
+        },
+      ),
+    )
 
-        still_below : GroupsAreBelow (with_one v blank)
-        still_below = record { older = older; named = good }
-
-        writable : is_snapshot x.kind ≡ false
-        writable = ap (λ (s : VolumeShape). is_snapshot s.kind) shaped ∙ covered.writable
-
-        has : HasRange new after.bytes offset
-        has = lays (with_one v blank) after refl still_below (found_later name v.committed (open_group v) (record { volumes = blank ∷ [] }) v.ledger blank there)
-            (shape_later v.committed (open_group v) v.ledger blank ∙ blank_shaped ∙ shaped)
-            (subst (λ (o : Option PlainVolume). HasRange old (bytes_or_zeros o (length after.bytes)) offset) (sym there)
-            (subst (λ n. HasRange old (replicate n 0) offset) (sym size) under))
-
-        set : (k : ℕ) → k < length old → SetBetween name (length x.bytes) v.committed (open_group v) v.ledger (offset + k)
-        set k lt = let any = covered.covering in (
-          covered.group,
-          covered.pending,
-          covered.accepted,
-          (
-            any.0,
-            any.1,
-            any.2,
-            any.3,
-            record {
-              named = any.4.0;
-              within = subst (λ n. any.1.offset + length any.1.bytes ≤ n) (sym size) any.4.1.within;
-              begins = let a = any.4.1.begins in omega arith;
-              ends = let a = any.4.1.ends in omega arith;
-            },
-          ),
-        )
-
-        alike : (k d : ℕ) → k < length old → get_or after.bytes (offset + k) d ≡ get_or volume.bytes (offset + k) d
-        alike k d lt =
-            later_alike name (length x.bytes) v.committed (open_group v) v.ledger blank x (offset + k) d
-            (record { named = named; sized = length-replicate (length x.bytes) 0; writable = writable }) (record { named = named; sized = refl; writable = writable }) (inr (set k lt))
-            ∙ ap (λ (u : PlainVolume). get_or u.bytes (offset + k) d) is_volume
+    alike : (k d : ℕ) → k < length old → get_or other.0.bytes (offset + k) d ≡ get_or volume.bytes (offset + k) d
+    alike k d lt =
+        ap (λ (u : PlainVolume). get_or u.bytes (offset + k) d) (sym is_other)
+        ∙ (later_alike name (length volume.bytes) before.0 (open_group v) v.ledger stood_other.0 stood.0 (offset + k) d
+        (is_of stood_other.0 (pool_upto (with_zeros v) before.0) stood_other.1 (stood_other.2 ∙ shaped)) (is_of stood.0 (pool_upto v before.0) stood.1 shaped) (inr (set k lt))
+        ∙ ap (λ (u : PlainVolume). get_or u.bytes (offset + k) d) is_volume)

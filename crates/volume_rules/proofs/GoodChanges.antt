@@ -1,19 +1,22 @@
 -- Changes that are not refused.
-use Rattle.std.proofs.Common.{◌≡◌, ℕ, Bool, true, false, true≢false, List, [], ◌∷◌, Option, Some, None, refl, sym}
-use Rattle.std.specs.Prelude.{◌%◌, ◌^◌, ◌==◌, ◌&&◌, is_some, nat_le, not}
+use Rattle.std.proofs.Common.{◌≡◌, ℕ, suc, ◌+◌, Bool, true, false, true≢false, List, [], ◌∷◌, length, take, Option, Some, None, refl, sym, ap, ◌∙◌, arith}
+use Rattle.std.specs.Prelude.{◌%◌, ◌^◌, ◌==◌, ◌&&◌, ◌||◌, cond, is_some, nat_le, nat_lt, not}
+use Rattle.std.specs.List.{position, position_or_len}
+use Rattle.std.proofs.lemmas.Bool.Decides.{nat_tests}
+use Rattle.std.proofs.lemmas.Option.{cond_some}
 use Rattle.pool_model.specs.declared.item.Change.{Change}
-use Rattle.pool_model.specs.declared.item.Change.TheVariants.{Create, Snapshot}
+use Rattle.pool_model.specs.declared.item.Change.TheVariants.{Clone, Create, Snapshot}
 use Rattle.pool_model.specs.declared.refusal.Refusal.TheVariants.{BadName, Exists, Misaligned, NoSuchName, OutOfRange}
 use Rattle.pool_model.specs.declared.volume.PlainVolume.{PlainVolume}
 use Rattle.pool_model.specs.declared.volume.VolumeKind.{VolumeKind}
 use Rattle.pool_model.specs.declared.volume.VolumeKind.TheVariants.{Volume, Snapshot as SnapshotKind}
-use Rattle.pool_model.specs.Names.{is_block_size, is_name, is_name_for, snapshot_name}
+use Rattle.pool_model.specs.Names.{is_block_size, is_name, is_name_for, is_snapshot_name, snapshot_name, volume_part}
 use Rattle.pool_model.specs.Pools.{PlainPool, is_snapshot, volume_at}
-use Rattle.pool_model.specs.Refusals.{first_cause, is_volume, change_refusal}
+use Rattle.pool_model.specs.Refusals.{first_cause, is_snapshot_there, is_volume, change_refusal}
 use Rattle.volume_rules.specs.GoodChanges.{is_good_change}
 use Rattle.volume_rules.specs.NowMoves.{HasGoodNames}
 
--- what the missing cause of a creation says, and that of a snapshot
+-- what the missing cause of a creation says, and that of a snapshot or a clone
 creation_is_good : (named there block whole ranged : Bool)
     → first_cause ((not named, BadName) ∷ (there, Exists) ∷ (not (block && whole), Misaligned) ∷ (not ranged, OutOfRange) ∷ []) ≡ None
     → (named && (block && (whole && ranged))) ≡ true
@@ -24,12 +27,12 @@ creation_is_good true false true false ranged e = absurd (cc)
 creation_is_good true false true true false e = absurd (cc)
 creation_is_good true false true true true e = refl
 
-snapshot_is_good : (named found there : Bool)
+from_there_is_good : (named found there : Bool)
     → first_cause ((not named, BadName) ∷ (not found, NoSuchName) ∷ (there, Exists) ∷ []) ≡ None
     → (found ≡ true) × (named ≡ true)
-snapshot_is_good false found there e = absurd (cc)
-snapshot_is_good true false there e = absurd (cc)
-snapshot_is_good true true there e = (refl, refl)
+from_there_is_good false found there e = absurd (cc)
+from_there_is_good true false there e = absurd (cc)
+from_there_is_good true true there e = (refl, refl)
 
 name_of_volume : (kind : VolumeKind) (name : List ℕ) → not (is_snapshot kind) ≡ true → is_name_for kind name ≡ true → is_name name ≡ true
 name_of_volume Volume name e f = f
@@ -41,10 +44,57 @@ pub volume_named : (pool : PlainPool) (name : List ℕ) (found : Option PlainVol
 volume_named pool name None h m e = absurd (true≢false (sym e))
 volume_named pool name (Some volume) h m e = name_of_volume volume.kind name e (h name volume m)
 
+name_of_snapshot : (kind : VolumeKind) (name : List ℕ) → is_snapshot kind ≡ true → is_name_for kind name ≡ true → is_name_for SnapshotKind name ≡ true
+name_of_snapshot Volume name e f = absurd (true≢false (sym e))
+name_of_snapshot SnapshotKind name e f = f
+
+-- a snapshot has a snapshot's name
+pub snapshot_named : (pool : PlainPool) (name : List ℕ) (found : Option PlainVolume)
+    → HasGoodNames pool → volume_at name pool ≡ found → is_snapshot_there found ≡ true → is_name_for SnapshotKind name ≡ true
+snapshot_named pool name None h m e = absurd (true≢false (sym e))
+snapshot_named pool name (Some volume) h m e = name_of_snapshot volume.kind name e (h name volume m)
+
 pub not_refused : (change : Change) (pool : PlainPool) → HasGoodNames pool → change_refusal change pool ≡ None → is_good_change change ≡ true
 not_refused (Create name size block_size) pool h e =
     creation_is_good (is_name name) (is_some (volume_at name pool)) (is_block_size block_size) (size % block_size == 0)
     (nat_le block_size size && nat_le size (2 ^ 40)) e
 not_refused (Snapshot volume part) pool h e =
-    let good = snapshot_is_good (is_name part) (is_volume (volume_at volume pool)) (is_some (volume_at (snapshot_name volume part) pool)) e in
+    let good = from_there_is_good (is_name part) (is_volume (volume_at volume pool)) (is_some (volume_at (snapshot_name volume part) pool)) e in
     λ i. volume_named pool volume (volume_at volume pool) h refl good.0 i && good.1 i
+not_refused (Clone snapshot name) pool h e =
+    let good = from_there_is_good (is_name name) (is_snapshot_there (volume_at snapshot pool)) (is_some (volume_at name pool)) e in
+    λ i. snapshot_named pool snapshot (volume_at snapshot pool) h refl good.0 i && good.1 i
+
+-- ---- the names of snapshots
+
+has_first : (letters : List ℕ) → is_snapshot_name letters ≡ nat_lt (position_or_len (λ c. c == 64) letters) (length letters)
+has_first [] = refl
+has_first (c ∷ letters) = cases (c == 64) (has_first letters)
+  where
+    later : (n m : ℕ) → nat_lt n m ≡ nat_lt (1 + n) (suc m)
+    later n m = grind (arith, nat_tests)
+
+    cases : (b : Bool) → is_snapshot_name letters ≡ nat_lt (position_or_len (λ c. c == 64) letters) (length letters)
+        → (b || is_snapshot_name letters) ≡ nat_lt (cond (not b) (1 + position_or_len (λ c. c == 64) letters) 0) (suc (length letters))
+    cases true e = grind (arith, nat_tests)
+    cases false e = e ∙ later (position_or_len (λ c. c == 64) letters) (length letters)
+
+pub good_before : (letters : List ℕ) (end : ℕ) → position (λ c. c == 64) letters ≡ Some end → is_name (take end letters) ≡ is_name_for SnapshotKind letters
+good_before letters end e =
+    let parts = cond_some (nat_lt (position_or_len (λ c. c == 64) letters) (length letters)) (position_or_len (λ c. c == 64) letters) end e in
+    and_true (is_name (take end letters)) ∙ (λ i. is_name (take (sym parts.1 i) letters) && sym (has_first letters ∙ parts.0) i)
+  where
+    and_true : (b : Bool) → b ≡ (b && true)
+    and_true true = refl
+    and_true false = refl
+
+pub none_good : (letters : List ℕ) → position (λ c. c == 64) letters ≡ None → false ≡ is_name_for SnapshotKind letters
+none_good letters e = and_false (is_name (volume_part letters)) ∙ ap (λ b. is_name (volume_part letters) && b) (sym (has_first letters ∙ past (nat_lt (position_or_len (λ c. c == 64) letters) (length letters)) (position_or_len (λ c. c == 64) letters) e))
+  where
+    and_false : (b : Bool) → false ≡ (b && false)
+    and_false true = refl
+    and_false false = refl
+
+    past : (b : Bool) (n : ℕ) → cond b (Some n) None ≡ None → b ≡ false
+    past true n f = absurd (cc)
+    past false n f = refl

@@ -6,15 +6,15 @@ use Rattle.std.specs.Map.{lookup}
 use Rattle.std.specs.Option.{option_map, option_or}
 use Rattle.std.proofs.lemmas.Option.{none-some, same_Some}
 use Rattle.pool_model.specs.declared.item.Change.{Change}
-use Rattle.pool_model.specs.declared.item.Change.TheVariants.{Create, Snapshot}
+use Rattle.pool_model.specs.declared.item.Change.TheVariants.{Clone, Create, Snapshot}
 use Rattle.pool_model.specs.declared.volume.PlainVolume.{PlainVolume}
 use Rattle.pool_model.specs.Names.{name_of, same, snapshot_name}
-use Rattle.pool_model.specs.Pools.{PlainPool, created, is_snapshot, snapshot_of, volume_at, with_snapshot, with_volume}
+use Rattle.pool_model.specs.Pools.{PlainPool, clone_of, created, is_snapshot, snapshot_of, volume_at, with_clone, with_snapshot, with_volume}
 use Rattle.pool_model.proofs.Places.{same_is, is_same, volume_more}
 use Rattle.volume_rules.specs.declared.index.NewName.{NewName}
 use Rattle.volume_rules.specs.declared.shape.VolumeShape.{VolumeShape}
 use Rattle.volume_rules.specs.Index.{MakesName, MakesShape}
-use Rattle.volume_rules.specs.Shapes.{shape_of, shape_at, taken_shape}
+use Rattle.volume_rules.specs.Shapes.{shape_of, shape_at, cloned_shape, taken_shape}
 use Rattle.volume_rules.proofs.Volumes.{or_none}
 
 pub on_ok : {T E P : Type 0} (r : Result T E) → IsOk r → OnOk r P → P
@@ -118,4 +118,19 @@ makes_new group pool (Snapshot volume part) new called none e = taken (volume_at
         → Makes pool new (cond b pool (with_volume snapshot pool))) [
           | true ↦ λ f. absurd (none-some new.shape (sym f))
           | false ↦ λ f. (snapshot, sym called, sym (same_Some new.shape _ f), absent, refl)
+        ] e
+makes_new group pool (Clone snapshot name) new called none e = cloned (volume_at snapshot pool) e
+  where
+    absent : volume_at name pool ≡ None
+    absent = none_there (volume_at name pool) none
+
+    cloned : (found : Option PlainVolume) → Some new.shape ≡ cloned_shape group (option_map shape_of found)
+        → Makes pool new (with_clone group name found pool)
+    cloned None e = absurd (none-some new.shape (sym e))
+    cloned (Some it) e =
+        let clone : PlainVolume = clone_of group name it in
+        elim (is_snapshot it.kind) as (λ b. Some new.shape ≡ cond b (Some (shape_of clone)) None
+        → Makes pool new (cond b (with_volume clone pool) pool)) [
+          | true ↦ λ f. (clone, sym called, sym (same_Some new.shape _ f), absent, refl)
+          | false ↦ λ f. absurd (none-some new.shape (sym f))
         ] e

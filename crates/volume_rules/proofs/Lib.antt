@@ -5,8 +5,11 @@ pub mod NowMoves
 pub mod Ranges
 pub mod Made
 pub mod Overlays
+pub mod Later
 pub mod Pending
-pub mod Taken
+pub mod Effects
+pub mod Sources
+pub mod Laying
 pub mod Covering
 pub mod CoveredGroups
 pub mod InPieces

@@ -29,18 +29,18 @@ use Rattle.volume_rules.proofs.Volumes.{shapes_applied}
 
 -- ---- writes
 
-shapes_upto : (c : ℕ) (pool : PlainPool) (ledger other : Ledger) (n : ℕ) → ((group : ℕ) → (ledger group).actions ≡ (other group).actions) → HaveSameShapes (upto c pool ledger n) (upto c pool other n)
-shapes_upto c pool ledger other zero f name = refl
-shapes_upto c pool ledger other (suc n) f name =
-    let rest = shapes_applied (suc n) (upto c pool ledger n) (upto c pool other n) (ledger (suc n)) (other (suc n)) (f (suc n)) (shapes_upto c pool ledger other n f) name in
-    elim (nat_le (suc n) c) as (λ b. shape_at name (cond b pool (applied (suc n) (upto c pool ledger n) (ledger (suc n)))) ≡ shape_at name (cond b pool (applied (suc n) (upto c pool other n) (other (suc n))))) [ true ↦ refl | false ↦ rest ]
+pub shapes_upto : (c : ℕ) (pool other : PlainPool) (ledger also : Ledger) (n : ℕ) → HaveSameShapes pool other → ((group : ℕ) → (ledger group).actions ≡ (also group).actions) → HaveSameShapes (upto c pool ledger n) (upto c other also n)
+shapes_upto c pool other ledger also zero h f name = h name
+shapes_upto c pool other ledger also (suc n) h f name =
+    let rest = shapes_applied (suc n) (upto c pool ledger n) (upto c other also n) (ledger (suc n)) (also (suc n)) (f (suc n)) (shapes_upto c pool other ledger also n h f) name in
+    elim (nat_le (suc n) c) as (λ b. shape_at name (cond b pool (applied (suc n) (upto c pool ledger n) (ledger (suc n)))) ≡ shape_at name (cond b other (applied (suc n) (upto c other also n) (also (suc n))))) [ true ↦ h name | false ↦ rest ]
 
-actions_stay : (ledger : Ledger) (group : ℕ) (x : Write) (g : ℕ) → (ledger_accepted ledger group (WriteItem x) g).actions ≡ (ledger g).actions
+pub actions_stay : (ledger : Ledger) (group : ℕ) (x : Write) (g : ℕ) → (ledger_accepted ledger group (WriteItem x) g).actions ≡ (ledger g).actions
 actions_stay ledger group x g = elim (g == group) as (λ b. (cond b (added (ledger g) (WriteItem x)) (ledger g)).actions ≡ (ledger g).actions) [ true ↦ refl | false ↦ refl ]
 
 -- a write that is accepted leaves every shape
 pub now_wrote : (v : View) (writer group : ℕ) (x : Write) → HaveSameShapes (now_of (with_flow v (with_accepted (flow_of v) writer group (WriteItem x)))) (now_of v)
-now_wrote v writer group x = shapes_upto v.committed (v.pools v.committed) (ledger_accepted v.ledger group (WriteItem x)) v.ledger (open_group v) (actions_stay v.ledger group x)
+now_wrote v writer group x = shapes_upto v.committed (v.pools v.committed) (v.pools v.committed) (ledger_accepted v.ledger group (WriteItem x)) v.ledger (open_group v) (λ name. refl) (actions_stay v.ledger group x)
 
 -- ---- actions
 

@@ -1,5 +1,5 @@
 -- Pending writes over the bytes that lie under them.
-use Rattle.std.proofs.Common.{◌≡◌, ℕ, suc, ◌+◌, ◌<◌, ◌≤◌, Bool, true, false, true≢false, List, [], ◌∷◌, ◌++◌, length, take, replicate, get_or, Option, Some, None, refl, sym, ap, ◌∙◌, subst, arith}
+use Rattle.std.proofs.Common.{◌≡◌, ℕ, suc, ◌+◌, ◌<◌, ◌≤◌, Bool, true, false, true≢false, List, [], ◌∷◌, ◌++◌, length, take, get_or, Option, Some, None, refl, sym, ap, ◌∙◌, subst, arith}
 use Rattle.std.specs.Prelude.{◌&&◌, cond, fold, not}
 use Rattle.std.specs.Option.{option_map}
 use Rattle.std.proofs.lemmas.List.{take_more}
@@ -13,8 +13,8 @@ use Rattle.volume_rules.specs.declared.shape.VolumeShape.{VolumeShape}
 use Rattle.volume_rules.specs.Shapes.{shape_of}
 use Rattle.volume_rules.specs.GoodChanges.{MakesGoodVolumes}
 use Rattle.volume_rules.specs.NowMoves.{HasGoodNames, IsMadeBy, IsOlder}
-use Rattle.volume_rules.specs.Overlay.{after_writes, bytes_or_zeros, HasRange, ComesTo}
-use Rattle.volume_rules.proofs.Made.{IsFresh, found_changes, found_named, fresh_changes, names_changes}
+use Rattle.volume_rules.specs.Overlay.{after_writes, HasRange}
+use Rattle.volume_rules.proofs.Made.{found_changes, fresh_changes, names_changes}
 use Rattle.volume_rules.proofs.Volumes.{shape_after}
 use Rattle.volume_rules.proofs.NowMoves.{fold_push}
 
@@ -90,7 +90,7 @@ map_after : (w : Write) (writes : List Write) (o : Option PlainVolume) → optio
 map_after w writes None = refl
 map_after w writes (Some v) = refl
 
-volume_at_writes : (name : List ℕ) (pool : PlainPool) (writes : List Write) → volume_at name (fold written pool writes) ≡ option_map (λ v. after_writes v writes) (volume_at name pool)
+pub volume_at_writes : (name : List ℕ) (pool : PlainPool) (writes : List Write) → volume_at name (fold written pool writes) ≡ option_map (λ v. after_writes v writes) (volume_at name pool)
 volume_at_writes name pool [] = none_or (volume_at name pool)
   where
     none_or : (o : Option PlainVolume) → o ≡ option_map (λ v. after_writes v []) o
@@ -98,10 +98,10 @@ volume_at_writes name pool [] = none_or (volume_at name pool)
     none_or (Some v) = refl
 volume_at_writes name pool (w ∷ writes) = volume_at_writes name (written pool w) writes ∙ (ap (option_map (λ v. after_writes v writes)) (volume_written pool w name) ∙ map_after w writes (volume_at name pool))
 
-found_written : (name : List ℕ) (pool : PlainPool) (writes : List Write) (x : PlainVolume) → volume_at name pool ≡ Some x → volume_at name (fold written pool writes) ≡ Some (after_writes x writes)
+pub found_written : (name : List ℕ) (pool : PlainPool) (writes : List Write) (x : PlainVolume) → volume_at name pool ≡ Some x → volume_at name (fold written pool writes) ≡ Some (after_writes x writes)
 found_written name pool writes x e = volume_at_writes name pool writes ∙ ap (option_map (λ v. after_writes v writes)) e
 
-pub none_written : (name : List ℕ) (pool : PlainPool) (writes : List Write) → volume_at name pool ≡ None → volume_at name (fold written pool writes) ≡ None
+none_written : (name : List ℕ) (pool : PlainPool) (writes : List Write) → volume_at name pool ≡ None → volume_at name (fold written pool writes) ≡ None
 none_written name pool writes none = volume_at_writes name pool writes ∙ ap (option_map (λ v. after_writes v writes)) none
 
 -- a volume that was there has the group's writes
@@ -109,14 +109,14 @@ pub applied_found : (group : ℕ) (pool : PlainPool) (entry : Entry) (name : Lis
 applied_found group pool entry name x e = found_changes group (fold written pool entry.writes) entry.actions name (after_writes x entry.writes) (found_written name pool entry.writes x e)
 
 -- one that wasn't was made by the group
-pub applied_fresh : (group : ℕ) (pool : PlainPool) (entry : Entry) (name : List ℕ) (y : PlainVolume) → volume_at name pool ≡ None → volume_at name (applied group pool entry) ≡ Some y → IsFresh group y
+pub applied_fresh : (group : ℕ) (pool : PlainPool) (entry : Entry) (name : List ℕ) (y : PlainVolume) → volume_at name pool ≡ None → volume_at name (applied group pool entry) ≡ Some y → y.group ≡ group
 applied_fresh group pool entry name y none e = fresh_changes group (fold written pool entry.writes) entry.actions name y (none_written name pool entry.writes none) e
 
-pub older_applied : (n : ℕ) (pool : PlainPool) (entry : Entry) → IsOlder n pool → IsOlder (suc n) (applied (suc n) pool entry)
+older_applied : (n : ℕ) (pool : PlainPool) (entry : Entry) → IsOlder n pool → IsOlder (suc n) (applied (suc n) pool entry)
 older_applied n pool entry older name y e = cases (volume_at name pool) refl
   where
     cases : (o : Option PlainVolume) → volume_at name pool ≡ o → y.group ≤ suc n
-    cases None f = let g = (applied_fresh (suc n) pool entry name y f e).group in omega arith
+    cases None f = let g = applied_fresh (suc n) pool entry name y f e in omega arith
     cases (Some x) f =
         let low = older name x f in
         let is : Some (after_writes x entry.writes) ≡ Some y = sym (applied_found (suc n) pool entry name x f) ∙ e in
@@ -139,48 +139,3 @@ made_by_applied n pool entry m good = record {
   older = older_applied n pool entry m.older;
   named = names_changes (suc n) (fold written pool entry.writes) entry.actions good (names_writes pool entry.writes m.named);
 }
-
--- ---- what a volume of NOW comes from
-
-pub comes_back : (name : List ℕ) (shape : VolumeShape) (n : ℕ) (pool : PlainPool) (entry : Entry) → ComesTo shape (suc n) (volume_at name (applied (suc n) pool entry)) → ComesTo shape n (volume_at name pool)
-comes_back name shape n pool entry h = cases (volume_at name pool) (volume_at name (applied (suc n) pool entry)) refl refl h
-  where
-    cases : (o p : Option PlainVolume) → volume_at name pool ≡ o → volume_at name (applied (suc n) pool entry) ≡ p → ComesTo shape (suc n) p → ComesTo shape n o
-    cases None None e f k = omega arith
-    cases None (Some y) e f k =
-        let g = (applied_fresh (suc n) pool entry name y e f).group in
-        let s : y.group ≡ shape.group = ap (λ (s : VolumeShape). s.group) k in
-        omega arith
-    cases (Some x) None e f k = let no : Some (after_writes x entry.writes) ≡ None = sym (applied_found (suc n) pool entry name x e) ∙ f in absurd (cc)
-    cases (Some x) (Some y) e f k =
-        let is : Some (after_writes x entry.writes) ≡ Some y = sym (applied_found (suc n) pool entry name x e) ∙ f in
-        let same : after_writes x entry.writes ≡ y = cc in
-        sym (shape_after_writes x entry.writes) ∙ (ap shape_of same ∙ k)
-
--- the writes of a group are laid over a volume that an earlier group made, and over no other
-pub group_laid : (name : List ℕ) (shape : VolumeShape) (n : ℕ) (pool : PlainPool) (entry : Entry) (old new : List ℕ) (offset : ℕ)
-    → (shape.group ≤ n → (volume : PlainVolume) → same volume.name name ≡ true → is_snapshot volume.kind ≡ false → length volume.bytes ≡ shape.size → HasRange old volume.bytes offset → HasRange new (after_writes volume entry.writes).bytes offset)
-    → (n < shape.group → new ≡ old)
-    → IsOlder n pool → is_snapshot shape.kind ≡ false → ComesTo shape (suc n) (volume_at name (applied (suc n) pool entry))
-    → HasRange old (bytes_or_zeros (volume_at name pool) shape.size) offset → HasRange new (bytes_or_zeros (volume_at name (applied (suc n) pool entry)) shape.size) offset
-group_laid name shape n pool entry old new offset lays skips older writable h r = cases (volume_at name pool) (volume_at name (applied (suc n) pool entry)) refl refl h r
-  where
-    cases : (o p : Option PlainVolume) → volume_at name pool ≡ o → volume_at name (applied (suc n) pool entry) ≡ p → ComesTo shape (suc n) p → HasRange old (bytes_or_zeros o shape.size) offset → HasRange new (bytes_or_zeros p shape.size) offset
-    cases None None e f k r = let high : n < shape.group = omega arith in subst (λ xs. HasRange xs (replicate shape.size 0) offset) (sym (skips high)) r
-    cases None (Some y) e f k r =
-        let fresh = applied_fresh (suc n) pool entry name y e f in
-        let g = fresh.group in
-        let s : y.group ≡ shape.group = ap (λ (s : VolumeShape). s.group) k in
-        let high : n < shape.group = omega arith in
-        let size : length y.bytes ≡ shape.size = ap (λ (s : VolumeShape). s.size) k in
-        let zeros : replicate shape.size 0 ≡ y.bytes = ap (λ n. replicate n 0) (sym size) ∙ sym (fresh.zeros (ap (λ (s : VolumeShape). is_snapshot s.kind) k ∙ writable)) in
-        subst (λ xs. HasRange new xs offset) zeros (subst (λ xs. HasRange xs (replicate shape.size 0) offset) (sym (skips high)) r)
-    cases (Some x) None e f k r = let no : Some (after_writes x entry.writes) ≡ None = sym (applied_found (suc n) pool entry name x e) ∙ f in absurd (cc)
-    cases (Some x) (Some y) e f k r =
-        let is : Some (after_writes x entry.writes) ≡ Some y = sym (applied_found (suc n) pool entry name x e) ∙ f in
-        let same : after_writes x entry.writes ≡ y = cc in
-        let shaped : shape_of x ≡ shape = sym (shape_after_writes x entry.writes) ∙ (ap shape_of same ∙ k) in
-        let s : x.group ≡ shape.group = ap (λ (s : VolumeShape). s.group) shaped in
-        let low = older name x e in
-        let below : shape.group ≤ n = omega arith in
-        subst (λ (v : PlainVolume). HasRange new v.bytes offset) same (lays below x (found_named name pool x e) (ap (λ (s : VolumeShape). is_snapshot s.kind) shaped ∙ writable) (ap (λ (s : VolumeShape). s.size) shaped) r)

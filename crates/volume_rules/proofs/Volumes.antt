@@ -6,14 +6,14 @@ use Rattle.std.proofs.lemmas.Bool.Decides.{nat_tests}
 use Rattle.std.proofs.lemmas.List.{length-append, length-take, length-drop}
 use Rattle.std.proofs.lemmas.List.Folds.{fold_along}
 use Rattle.pool_model.specs.declared.item.Change.{Change}
-use Rattle.pool_model.specs.declared.item.Change.TheVariants.{Create, Snapshot}
+use Rattle.pool_model.specs.declared.item.Change.TheVariants.{Clone, Create, Snapshot}
 use Rattle.pool_model.specs.declared.item.Write.{Write}
 use Rattle.pool_model.specs.declared.volume.PlainVolume.{PlainVolume}
 use Rattle.pool_model.specs.Names.{same, snapshot_name, stored}
-use Rattle.pool_model.specs.Pools.{PlainPool, Entry, is_snapshot, volume_at, volume_after, written, created, snapshot_of, with_snapshot, with_volume, changed, applied}
+use Rattle.pool_model.specs.Pools.{PlainPool, Entry, is_snapshot, volume_at, volume_after, written, clone_of, created, snapshot_of, with_clone, with_snapshot, with_volume, changed, applied}
 use Rattle.pool_model.proofs.Places.{volume_more, volume_written}
 use Rattle.volume_rules.specs.declared.shape.VolumeShape.{VolumeShape}
-use Rattle.volume_rules.specs.Shapes.{shape_of, shape_at, taken_shape, HaveSameShapes}
+use Rattle.volume_rules.specs.Shapes.{shape_of, shape_at, cloned_shape, taken_shape, HaveSameShapes}
 
 -- ---- a write
 
@@ -81,6 +81,18 @@ shape_taken group called (Some it) pool name =
       | false ↦ shape_more pool volume name
     ]
 
+shape_cloned : (group : ℕ) (called : List ℕ) (found : Option PlainVolume) (pool : PlainPool) (name : List ℕ)
+    → shape_at name (with_clone group called found pool)
+    ≡ or_new (shape_at name pool) (same called name) (cloned_shape group (option_map shape_of found))
+shape_cloned group called None pool name = sym (nothing_new (shape_at name pool) (same called name))
+shape_cloned group called (Some it) pool name =
+    let volume : PlainVolume = clone_of group called it in
+    elim (is_snapshot it.kind) as (λ b. shape_at name (cond b (with_volume volume pool) pool)
+    ≡ or_new (shape_at name pool) (same called name) (cond b (Some (shape_of volume)) None)) [
+      | true ↦ shape_more pool volume name
+      | false ↦ sym (nothing_new (shape_at name pool) (same called name))
+    ]
+
 pub shapes_changed : (group : ℕ) (pool other : PlainPool) (change : Change) → HaveSameShapes pool other → HaveSameShapes (changed group pool change) (changed group other change)
 shapes_changed group pool other (Create called size block_size) h name =
     let volume : PlainVolume = created group called size block_size in
@@ -91,6 +103,10 @@ shapes_changed group pool other (Snapshot volume part) h name =
     shape_taken group called (volume_at volume pool) pool name
     ∙ ((λ i. or_new (h name i) (same called name) (taken_shape group (h volume i)))
     ∙ sym (shape_taken group called (volume_at volume other) other name))
+shapes_changed group pool other (Clone snapshot called) h name =
+    shape_cloned group called (volume_at snapshot pool) pool name
+    ∙ ((λ i. or_new (h name i) (same called name) (cloned_shape group (h snapshot i)))
+    ∙ sym (shape_cloned group called (volume_at snapshot other) other name))
 
 -- what a group makes of shapes follows from its actions alone
 pub shapes_applied : (group : ℕ) (pool other : PlainPool) (entry also : Entry) → entry.actions ≡ also.actions → HaveSameShapes pool other → HaveSameShapes (applied group pool entry) (applied group other also)

@@ -6,19 +6,21 @@ use Rattle.pool_model.specs.declared.item.Change.{Change}
 use Rattle.pool_model.specs.declared.volume.PlainVolume.{PlainVolume}
 use Rattle.pool_model.specs.Pools.{PlainPool, changed, created, volume_at, with_volume}
 use Rattle.volume_rules.specs.declared.index.NameIndex.{NameIndex}
-use Rattle.pool_model.specs.declared.item.Change.TheVariants.{Create, Snapshot}
+use Rattle.pool_model.specs.declared.item.Change.TheVariants.{Clone, Create, Snapshot}
 use Rattle.volume_rules.specs.declared.index.NewName.{NewName}
 use Rattle.volume_rules.specs.declared.shape.VolumeShape.{VolumeShape}
-use Rattle.volume_rules.specs.Shapes.{shape_at, shape_of, taken_shape}
+use Rattle.volume_rules.specs.Shapes.{cloned_shape, shape_at, shape_of, taken_shape}
 
 -- at every name the index has the shape that the pool has there
 pub record Knows (index : NameIndex) (pool : PlainPool) : Type 0 where
   pub shapes : (name : List ℕ) → get_by (λ key. same name key.items) index.shapes ≡ shape_at name pool
 
--- the shape of what a change would make of a pool, were its name not there: nothing where there is no volume to take a snapshot of
+-- the shape of what a change would make of a pool, were its name not there: nothing where there is no volume to take a snapshot of, or no
+-- snapshot to make a clone of
 abbrev pub MakesShape : ℕ → PlainPool → Change → Option VolumeShape → Type 0
 MakesShape group pool (Create name size block_size) shape = shape ≡ Some (shape_of (created group name size block_size))
 MakesShape group pool (Snapshot volume part) shape = shape ≡ taken_shape group (shape_at volume pool)
+MakesShape group pool (Clone snapshot name) shape = shape ≡ cloned_shape group (shape_at snapshot pool)
 
 -- What a change makes of a pool: nothing, or one volume more, which has this name and shape.
 abbrev pub MakesName : ℕ → PlainPool → Change → Option NewName → Type 0

@@ -3,5 +3,6 @@ pub mod GoodChanges
 pub mod Index
 pub mod NowMoves
 pub mod Overlay
-pub mod Taken
+pub mod Sources
+pub mod Effects
 pub mod Covering

@@ -2,7 +2,7 @@
 use Rattle.std.specs.Prelude.{◌≡◌, ℕ, List, length, Option, Some, None, if◌then◌else◌}
 use Rattle.std.specs.Option.{option_map}
 use Rattle.pool_model.specs.declared.volume.PlainVolume.{PlainVolume}
-use Rattle.pool_model.specs.declared.volume.VolumeKind.TheVariants.{Snapshot}
+use Rattle.pool_model.specs.declared.volume.VolumeKind.TheVariants.{Snapshot, Volume}
 use Rattle.pool_model.specs.Pools.{PlainPool, is_snapshot, volume_at}
 use Rattle.volume_rules.specs.declared.shape.VolumeShape.{VolumeShape}
 
@@ -21,3 +21,8 @@ HaveSameShapes pool other = (name : List ℕ) → shape_at name pool ≡ shape_a
 abbrev pub taken_shape : ℕ → Option VolumeShape → Option VolumeShape
 taken_shape group None = None
 taken_shape group (Some shape) = if is_snapshot shape.kind then None else Some (record shape { group = group; kind = Snapshot })
+
+-- the shape of a clone that a group makes: that of the snapshot, where there is one and it is no volume
+abbrev pub cloned_shape : ℕ → Option VolumeShape → Option VolumeShape
+cloned_shape group None = None
+cloned_shape group (Some shape) = if is_snapshot shape.kind then Some (record shape { group = group; kind = Volume }) else None

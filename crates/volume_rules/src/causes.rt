@@ -1,11 +1,12 @@
 //! Why a step is refused, as far as the shapes of the volumes tell.
-ghost use Rattle.std.specs.Prelude.{◌≡◌, ◌↔◌, IsTrue, Option, length};
-ghost use Rattle.std.specs.List.{list_all};
+ghost use Rattle.std.specs.Prelude.{◌≡◌, ◌↔◌, ◌==◌, ◌∷◌, [], IsTrue, Option, is_some, length, not};
+ghost use Rattle.std.specs.List.{list_all, position};
 ghost use Rattle.std.specs.Option.{option_map};
 ghost use Rattle.pool_model.specs.declared.volume.PlainVolume.{PlainVolume};
-ghost use Rattle.pool_model.specs.Names.{is_name_letter, is_name, is_block_size, name_of, volume_of};
+ghost use Rattle.pool_model.specs.declared.volume.VolumeKind.TheVariants.{Snapshot};
+ghost use Rattle.pool_model.specs.Names.{is_name_letter, is_name, is_name_for, is_block_size, name_of, volume_of};
 ghost use Rattle.pool_model.specs.Pools.{PlainPool};
-ghost use Rattle.pool_model.specs.Refusals.{is_aligned, is_in_range, is_volume, place_refusal, change_refusal, read_refusal};
+ghost use Rattle.pool_model.specs.Refusals.{first_cause, is_aligned, is_in_range, is_snapshot_there, is_volume, place_refusal, change_refusal, read_refusal};
 ghost use Rattle.volume_rules.specs.GoodChanges.{is_good_size, is_good_change, MakesGoodVolumes};
 ghost use Rattle.volume_rules.specs.Shapes.{shape_of, shape_at};
 
@@ -35,7 +36,13 @@ fn are_letters_of_name(letters: &[u8]) -> bool
 pub fn is_good_name(name: &Name) -> bool
     ensures { result ≡ is_name name.now }
 {
-    match name.as_slice() {
+    are_good_letters(name.as_slice())
+}
+
+fn are_good_letters(letters: &[u8]) -> bool
+    ensures { result ≡ is_name letters.now }
+{
+    match letters {
         [] => false,
         [first, rest @ ..] => {
             first.is_ascii_lowercase() && rest.len() <= 26 && are_letters_of_name(rest)
@@ -62,7 +69,7 @@ pub fn is_good_shape(size: u64, block_size: u64) -> bool
         && size <= LARGEST_VOLUME
 }
 
-/// Whether a volume may be made so, with such a name and of such a size, or a snapshot be taken so.
+/// Whether a volume may be made so, with such a name and of such a size or of such a snapshot, or a snapshot be taken so.
 pub fn is_good_change(change: &Change) -> bool
     ensures { result ≡ is_good_change change.now }
 {
@@ -73,7 +80,26 @@ pub fn is_good_change(change: &Change) -> bool
             block_size,
         } => is_good_name(name) && is_good_shape(*size, *block_size),
         Change::Snapshot { volume, part } => is_good_name(volume) && is_good_name(part),
+        Change::Clone { snapshot, name } => is_good_name_of_snapshot(snapshot)
+            && is_good_name(name),
     }
+}
+
+/// Whether a snapshot may have this name: before the first '@' it has a name that a volume may have.
+fn is_good_name_of_snapshot(name: &Name) -> bool
+    ensures { result ≡ is_name_for Snapshot name.now }
+{
+    let letters = name.as_slice();
+    match first_at_sign(letters) {
+        Some(end) => are_good_letters(&letters[..end]),
+        None => false,
+    }
+}
+
+fn first_at_sign(letters: &[u8]) -> Option<usize>
+    ensures { result ≡ position (λ c. c == 64) letters.now }
+{
+    letters.iter().position(|c| *c == b'@')
 }
 
 /// Whether each volume and snapshot that a group makes may be made.
@@ -152,19 +178,27 @@ pub fn against_change(
             }
             None
         }
-        Change::Snapshot { part, .. } => {
-            if !is_good_name(part) {
-                return Some(Refusal::BadName);
-            }
-            if !is_volume(volume) {
-                return Some(Refusal::NoSuchName);
-            }
-            if found.is_some() {
-                return Some(Refusal::Exists);
-            }
-            None
-        }
+        Change::Snapshot { part, .. } => against_new_name(part, is_volume(volume), found),
+        Change::Clone { name, .. } => against_new_name(name, is_snapshot(volume), found),
     }
+}
+
+/// Why a snapshot or a clone is refused: by the name that is given, by whether what it is of is there, and by what has its name.
+fn against_new_name(name: &Name, is_there: bool, found: Option<VolumeShape>) -> Option<Refusal>
+    ensures { (volume : Option PlainVolume) → found ≡ option_map shape_of volume →
+        result ≡ first_cause ((not (is_name name.now), Refusal.BadName)
+        ∷ (not is_there, Refusal.NoSuchName) ∷ (is_some volume, Refusal.Exists) ∷ []) }
+{
+    if !is_good_name(name) {
+        return Some(Refusal::BadName);
+    }
+    if !is_there {
+        return Some(Refusal::NoSuchName);
+    }
+    if found.is_some() {
+        return Some(Refusal::Exists);
+    }
+    None
 }
 
 /// Whether it is the shape of a volume, and of no snapshot.
@@ -174,6 +208,17 @@ fn is_volume(found: Option<VolumeShape>) -> bool
 {
     match found {
         Some(shape) => !shape.kind.is_snapshot(),
+        None => false,
+    }
+}
+
+/// Whether it is the shape of a snapshot.
+fn is_snapshot(found: Option<VolumeShape>) -> bool
+    ensures { (volume : Option PlainVolume) → found ≡ option_map shape_of volume →
+        result ≡ is_snapshot_there volume }
+{
+    match found {
+        Some(shape) => shape.kind.is_snapshot(),
         None => false,
     }
 }

@@ -87,7 +87,7 @@ impl NameIndex {
     }
 
     /// What a change makes in this group: nothing where its name is there already, or where there is no volume that a snapshot
-    /// could be taken of.
+    /// could be taken of, or no snapshot that a clone could be made of.
     pub fn made_by(
         &self,
         alloc: Global,
@@ -131,6 +131,17 @@ impl NameIndex {
                 Some(VolumeShape {
                     group,
                     kind: VolumeKind::Snapshot,
+                    ..found
+                })
+            }
+            Change::Clone { snapshot, .. } => {
+                let found = self.find(snapshot)?;
+                if !found.kind.is_snapshot() {
+                    return None;
+                }
+                Some(VolumeShape {
+                    group,
+                    kind: VolumeKind::Volume,
                     ..found
                 })
             }

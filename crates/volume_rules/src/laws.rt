@@ -1,6 +1,6 @@
 //! How the machine's steps move NOW, and what of it is committed: functions with no code, whose contracts are proved of
 //! the definitions.
-ghost use Rattle.std.specs.Prelude.{◌≡◌, ◌<◌, ◌≤◌, ◌↔◌, ℕ, suc, List, replicate, length, true, false, Some, None};
+ghost use Rattle.std.specs.Prelude.{◌≡◌, ◌≤◌, ◌↔◌, ℕ, suc, List, length, Bool, true, false, Some, None};
 ghost use Rattle.pool_model.specs.declared.item.Change.{Change as ChangeValue};
 ghost use Rattle.pool_model.specs.declared.group.Stage.TheVariants.{Quiescing, Quiesced};
 ghost use Rattle.pool_model.specs.declared.item.Action.{Action as ActionValue};
@@ -10,7 +10,7 @@ ghost use Rattle.pool_model.specs.declared.step.Step.{Step};
 ghost use Rattle.pool_model.specs.declared.step.Reply.{Reply};
 ghost use Rattle.pool_model.specs.declared.volume.PlainVolume.{PlainVolume};
 ghost use Rattle.pool_model.specs.Pools.{PlainPool, Entry, volume_at, changed, applied};
-ghost use Rattle.pool_model.specs.View.{View, Given, Sync, Vdev, started, is_syncing, open_group, now_of};
+ghost use Rattle.pool_model.specs.View.{View, Given, Sync, Vdev, started, opened_as, is_syncing, open_group, now_of};
 ghost use Rattle.pool_model.specs.Refusals.{may_plan, change_refusal};
 ghost use Rattle.volume_rules.specs.GoodChanges.{MakesGoodVolumes, is_good_change};
 ghost use Rattle.pool_model.specs.Flow.{flow_of, with_hold, without_hold, with_accepted};
@@ -18,10 +18,11 @@ ghost use Rattle.pool_model.specs.Machine.{with_flow, taken, dropped, committed_
 ghost use Rattle.pool_model.specs.Sound.{IsSound};
 ghost use Rattle.volume_rules.specs.declared.index.NameIndex.{NameIndex};
 ghost use Rattle.volume_rules.specs.Shapes.{HaveSameShapes, shape_of};
-ghost use Rattle.volume_rules.specs.Taken.{IsTakenOf, is_pending_snapshot};
+ghost use Rattle.volume_rules.specs.Effects.{PendingTakeEffect};
+ghost use Rattle.volume_rules.specs.Sources.{base_name};
 ghost use Rattle.volume_rules.specs.Index.{Knows};
 ghost use Rattle.volume_rules.specs.NowMoves.{AreGood, GroupsAreBelow, HasGoodNames, IsMadeBy, MovesNow, is_action_taken};
-ghost use Rattle.volume_rules.specs.Overlay.{base_of, IsCommitted};
+ghost use Rattle.volume_rules.specs.Overlay.{base_of, IsCommitted, StandsThere};
 
 /// A step moves NOW as its definition says: an action that is accepted takes effect, a write that is accepted leaves
 /// every shape, and any other step leaves NOW as it was.
@@ -78,29 +79,30 @@ pub fn groups_stay_below()
         IsMadeBy (open_group v) (now_of v) }
 {}
 
-/// The snapshot of NOW that isn't committed yet has the bytes that its volume, which is there too, had after the group
-/// that takes it.
-pub fn pending_snapshots_are_of_volumes()
-    ensures { (v : View) (name : List ℕ) (snapshot : PlainVolume) → GroupsAreBelow v →
-        AreGood v.ledger → volume_at name (now_of v) ≡ Some snapshot →
-        is_pending_snapshot v (shape_of snapshot) ≡ true →
-        (volume : PlainVolume) × IsTakenOf v name snapshot volume }
+/// Each pending change takes effect: so it is at the start, as a pool is opened, and after each step.
+pub fn changes_take_effect()
+    ensures start { (vdevs : List Vdev) → PendingTakeEffect (started vdevs) }
+    ensures opened { (vdevs : List Vdev) (out : ℕ → Bool) (group : ℕ) (pool : PlainPool) →
+        PendingTakeEffect (opened_as vdevs out group pool) }
+    ensures step { (v : View) (given : Given) (step : Step) (reply : Reply) (w : View) → IsSound v →
+        StepOf v given step reply w → PendingTakeEffect v → PendingTakeEffect w }
 {}
 
-/// By its creation group a volume of NOW is committed or not, and so are the bytes that lie under its pending writes.
+/// By its creation group a volume of NOW is committed or not; and what is committed has its own bytes under its pending
+/// writes. Whatever is of NOW, the committed pool has as many bytes at its base name, where there is one.
 pub fn creation_groups_tell_what_is_committed()
     ensures committed { (v : View) (name : List ℕ) (volume : PlainVolume) → GroupsAreBelow v →
         volume_at name (now_of v) ≡ Some volume →
         (volume.group ≤ v.committed) ↔ IsCommitted v name volume }
-    ensures bytes { (v : View) (name : List ℕ) (volume base : PlainVolume) →
+    ensures bytes { (v : View) (name : List ℕ) (volume base : PlainVolume) → PendingTakeEffect v →
         volume_at name (v.pools v.committed) ≡ Some base → base_of v name volume ≡ base.bytes }
-    ensures zeros { (v : View) (name : List ℕ) (volume : PlainVolume) → GroupsAreBelow v →
-        volume_at name (now_of v) ≡ Some volume → v.committed < volume.group →
-        base_of v name volume ≡ replicate (length volume.bytes) 0 }
+    ensures stands { (v : View) (name : List ℕ) (volume : PlainVolume) → PendingTakeEffect v →
+        volume_at name (now_of v) ≡ Some volume →
+        StandsThere (base_name v name) (v.pools v.committed) (length volume.bytes) }
 {}
 
-/// A change that is not refused makes a volume that may be made, or takes a snapshot that may be taken, where the volumes that are
-/// there have names that may be had.
+/// A change that is not refused is one that may be made, where the volumes and snapshots that are there have names that
+/// may be had.
 pub fn changes_that_are_not_refused_are_good()
     ensures { (change : ChangeValue) (pool : PlainPool) → HasGoodNames pool →
         change_refusal change pool ≡ None → is_good_change change ≡ true }

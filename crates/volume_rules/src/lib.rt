@@ -17,10 +17,9 @@ pub use causes::{
 pub use covered::is_covered;
 pub use index::{NameIndex, NewName};
 pub use laws::{
-    changes_move_now, changes_that_are_not_refused_are_good,
-    creation_groups_tell_what_is_committed, groups_stay_below, indexes_follow_now,
-    pending_snapshots_are_of_volumes, steps_move_now,
+    changes_move_now, changes_take_effect, changes_that_are_not_refused_are_good,
+    creation_groups_tell_what_is_committed, groups_stay_below, indexes_follow_now, steps_move_now,
 };
-pub use overlay::{lay_over, read_pending, read_taken};
+pub use overlay::{base_name, lay_over, read_pending};
 pub use pieces::{covers_any, lay_pending};
 pub use shape::VolumeShape;

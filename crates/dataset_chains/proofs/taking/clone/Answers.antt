@@ -1,6 +1,7 @@
-use Rattle.std.proofs.Common.{◌≡◌, ◌-◌, ◌^◌, inl, inr, refl, rules}
+use Rattle.std.proofs.Common.{◌≡◌, ◌-◌, ◌^◌, ◌∙◌, inl, inr, refl, rules}
 use Rattle.dnode_tree.proofs.Refusing.{passed_on}
 use Rattle.dataset_chains.proofs.Cloned.{cloned}
+use Rattle.dataset_chains.proofs.Touching.{clones}
 use Rattle.dataset_chains.proofs.Unused.{new_list_on}
 use Rattle.dataset_chains.proofs.taking.clone.Goals as goal
 
@@ -29,3 +30,9 @@ returns-clause-value g c = λ stored known objects own blocks pool readings held
     cloned known c.args.group objects c1 pool readings first.0 s n list c.in-Some.clones found first.1 snapshot unused (new_list_on objects c0 c1 n list c.record_of_kind.ensures.lists fresh) (search rules)
     c.change_record.new.self c.make_record.new.self c.make_list.new.self c.in_ok-change_record.ensures.put c.in_ok-make_record.ensures.put c.make_list.ensures.records
     c.change_record.ensures.lists c.make_record.ensures.lists c.in_ok-make_list.ensures.put over
+
+pub returns-clause-touched : goal.returns-clause-touched
+returns-clause-touched g c =
+    clones c.args.changes.now c.record_of_kind.new.changes c.change_record.new.self c.make_record.new.self c.make_list.new.self c.args.snapshot c.args.numbers.dataset c.args.numbers.dead_list _ _ _
+    c.in_ok-origin.ensures.touched c.in_ok-change_record.ensures.put c.in_ok-make_record.ensures.put c.make_list.ensures.records
+    (λ one. c.make_record.ensures.lists one ∙ c.change_record.ensures.lists one ∙ c.record_of_kind.ensures.lists one) c.in_ok-make_list.ensures.put

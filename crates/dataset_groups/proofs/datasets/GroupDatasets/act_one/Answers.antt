@@ -51,3 +51,26 @@ returns-in-Snapshot-clause-known g c = IfErr-weaker c.take_one.result _ _ (λ re
 pub returns-in-Snapshot-clause-places : goal.returns-in-Snapshot-clause-places
 returns-in-Snapshot-clause-places g c = on_ok_weaker c.take_one.result (λ places.
     subst (λ (change : Change). MakesOne c.args.store.now c.take_one.new.store c.args.group c.args.self.now c.take_one.new.self change) (sym c.in-Snapshot.is) places) c.take_one.ensures.places
+
+-- ---- a clone
+
+pub returns-in-Clone-clause-steps : goal.returns-in-Clone-clause-steps
+returns-in-Clone-clause-steps g c = steps_read c.args.store.now c.clone_one.new.store [] c.clone_one.ensures.reads
+
+pub returns-in-Clone-clause-value : goal.returns-in-Clone-clause-value
+returns-in-Clone-clause-value g c = on_ok_weaker c.clone_one.result (λ value stored planned plans honest. (
+  planned,
+  c.clone_one.ensures.reads.plans stored planned plans,
+  λ block bytes known. known,
+  λ objects own blocks pool readings plain are spells.
+      subst (λ (change : Change). AreActed c.args.group objects planned planned c.args.self.now c.clone_one.new.self pool (changed c.args.group plain change)) (sym c.in-Clone.is)
+      (value stored planned objects own blocks pool readings plain plans.held are honest spells),
+)) c.clone_one.ensures.value
+
+pub returns-in-Clone-clause-known : goal.returns-in-Clone-clause-known
+returns-in-Clone-clause-known g c = IfErr-weaker c.clone_one.result _ _ (λ refusal known stored planned objects own blocks pool readings plain good plans are honest spells.
+    known stored planned objects own blocks pool readings plain (subst (λ (change : Change). is_good_change change ≡ true) c.in-Clone.is good) plans.held are honest spells) c.clone_one.ensures.known
+
+pub returns-in-Clone-clause-places : goal.returns-in-Clone-clause-places
+returns-in-Clone-clause-places g c = on_ok_weaker c.clone_one.result (λ places.
+    subst (λ (change : Change). MakesOne c.args.store.now c.clone_one.new.store c.args.group c.args.self.now c.clone_one.new.self change) (sym c.in-Clone.is) places) c.clone_one.ensures.places

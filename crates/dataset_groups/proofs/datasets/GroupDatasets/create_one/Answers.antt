@@ -1,5 +1,4 @@
-use Rattle.std.proofs.Common.{◌≡◌, ℕ, ◌+◌, ◌≤◌, Bool, true, false, [], Option, Some, None, List, inl, inr, refl, sym, ap, subst, ◌∙◌, arith}
-use Rattle.std.specs.Prelude.{is_some, IfSome}
+use Rattle.std.proofs.Common.{◌≡◌, ℕ, ◌+◌, ◌≤◌, true, [], List, inl, inr, refl, ap, subst, arith}
 use Rattle.std.proofs.lemmas.Result.{IfErr-weaker, on_ok_weaker}
 use Rattle.block_store.proofs.Steps.{steps_none}
 use Rattle.block_store.specs.Store.{Store}
@@ -16,17 +15,11 @@ use Rattle.dataset_groups.specs.Demands.{HasNewPlaces, IsMaking, IsNewRefused}
 use Rattle.dataset_groups.specs.NewVolumes.{IsNewVolume, numbers_end}
 use Rattle.dataset_groups.proofs.AddedDatasets.{volume_made, volume_passed}
 use Rattle.dataset_groups.proofs.GoodNames.{both}
-use Rattle.dataset_groups.proofs.MakingDemands.{has_name, in_rows, not_there, one_made}
+use Rattle.dataset_groups.proofs.MakingDemands.{has_name}
 use Rattle.dataset_groups.proofs.NewTouches.{touches_one}
+use Rattle.dataset_groups.proofs.OneChange.{is_idle, is_making, makes_one}
+use Rattle.dataset_groups.proofs.RowNames.{is_none, is_there}
 use Rattle.dataset_groups.proofs.datasets.GroupDatasets.create_one.Goals as goal
-
-is_none : (found : Option ℕ) (test : Bool) → test ≡ is_some found → test ≡ false → found ≡ None
-is_none None test is off = refl
-is_none (Some object) test is off = let clash : true ≡ false = sym is ∙ off in absurd cc
-
-is_there : (found : Option ℕ) (test : Bool) (P : ℕ → Type 0) → test ≡ is_some found → test ≡ true → IfSome found P → (object : ℕ) × P object
-is_there None test P is on there = let clash : false ≡ true = sym is ∙ on in absurd cc
-is_there (Some object) test P is on there = (object, there)
 
 pub returns-in_err-new-clause-steps : goal.returns-in_err-new-clause-steps
 returns-in_err-new-clause-steps g c = steps_none c.args.store.now []
@@ -47,7 +40,12 @@ returns-then-is_some-clause-value g c = λ stored planned plans honest.
 pub returns-then-is_some-clause-places : goal.returns-then-is_some-clause-places
 returns-then-is_some-clause-places g c =
     let there = is_there c.get.result _ _ c.is_some.ensures c.if-is_some.true c.get.ensures.found in
-    inl (λ making. making.0 (inl (has_name c.args.self.now.directory c.in_ok-new.new.name c.args.name.now there.0 c.in_ok-new.ensures.is.0 there.1)), refl, refl)
+    inl (
+      is_idle c.args.self.now.directory (Create c.args.name.now c.args.size c.args.block_size)
+          (has_name c.args.self.now.directory c.in_ok-new.new.name c.args.name.now there.0 c.in_ok-new.ensures.is.0 there.1),
+      refl,
+      refl,
+    )
 
 pub returns-then-self-clause-steps : goal.returns-then-self-clause-steps
 returns-then-self-clause-steps g c = steps_none c.args.store.now []
@@ -55,7 +53,7 @@ returns-then-self-clause-steps g c = steps_none c.args.store.now []
 -- the name is new
 makes : (rows : List DirectoryRow) (name : List ℕ) (size block_size : ℕ) (v : NewVolume) → IsNewVolume name size block_size v → LacksName rows v.name
     → IsMaking rows [] (Create name size block_size)
-makes rows name size block_size v is lacks = (λ there. not_there rows v.name name is.0 lacks (in_rows rows name there), tt)
+makes rows name size block_size v is lacks = is_making rows (Create name size block_size) v.name is.0 lacks tt
 
 pub returns-then-self-clause-refused : goal.returns-then-self-clause-refused
 returns-then-self-clause-refused g c =
@@ -107,11 +105,9 @@ returns-clause-places g c =
     let is = c.in_ok-new.ensures.is in
     on_ok_weaker c.add.result
     (λ added.
-    inr (
-      makes c.args.self.now.directory c.args.name.now c.args.size c.args.block_size c.in_ok-new.new is lacks,
-      one_made c.args.self.now c.add.new.self c.in_ok-new.new.name c.args.name.now is.0 added.row added.next,
-      subst (λ n. HasNewPlaces c.args.store.now c.planned.new.store c.args.group n) is.2 c.in_ok-object_set.ensures.places,
-    ))
+    makes_one c.args.store.now c.planned.new.store c.args.self.now c.add.new.self c.args.group (Create c.args.name.now c.args.size c.args.block_size) c.in_ok-new.new.name is.0
+    (makes c.args.self.now.directory c.args.name.now c.args.size c.args.block_size c.in_ok-new.new is lacks) added.row added.next
+    (subst (λ n. HasNewPlaces c.args.store.now c.planned.new.store c.args.group n) is.2 c.in_ok-object_set.ensures.places))
     c.add.ensures.added
 
 pub returns-clause-touched : goal.returns-clause-touched

@@ -1,24 +1,18 @@
-use Rattle.std.proofs.Common.{◌≡◌, ℕ, ◌+◌, ◌≤◌, Bool, true, false, Option, Some, None, List, refl, sym, subst, ◌∙◌, arith}
-use Rattle.std.specs.Prelude.{is_some, IfSome}
+use Rattle.std.proofs.Common.{◌≡◌, ℕ, ◌+◌, ◌≤◌, true, List, [], inr, refl, sym, subst, arith}
 use Rattle.std.proofs.lemmas.Result.{IfErr-weaker, IfOk-weaker}
 use Rattle.dead_list.specs.Datasets.{Head}
+use Rattle.object_table.proofs.Tables.{spaces_stay}
 use Rattle.pool_model.specs.declared.item.Change.TheVariants.{Snapshot}
 use Rattle.pool_model.specs.Names.{is_name}
 use Rattle.volume_rules.specs.GoodChanges.{is_good_change}
 use Rattle.dataset_groups.specs.Adding.{IsTaken}
 use Rattle.dataset_groups.specs.NewVolumes.{numbers_end}
 use Rattle.dataset_groups.proofs.GoodNames.{both}
-use Rattle.dataset_groups.proofs.TakenChanges.{for_room, makes_one, not_taken, row_of}
-use Rattle.dataset_groups.proofs.TakenDatasets.{name_there, passed_over, row_is_head, snapshot_made, volume_not_there}
+use Rattle.dataset_groups.proofs.MoreDatasets.{passed_over}
+use Rattle.dataset_groups.proofs.OneChange.{for_room, is_making, is_row_there, makes_one, not_made, row_of}
+use Rattle.dataset_groups.proofs.RowNames.{is_none, is_there}
+use Rattle.dataset_groups.proofs.TakenDatasets.{name_there, row_is_head, snapshot_made, volume_not_there}
 use Rattle.dataset_groups.proofs.datasets.GroupDatasets.take_one.Goals as goal
-
-is_none : (found : Option ℕ) (test : Bool) → test ≡ is_some found → test ≡ false → found ≡ None
-is_none None test is off = refl
-is_none (Some object) test is off = let clash : true ≡ false = sym is ∙ off in absurd cc
-
-is_there : (found : Option ℕ) (test : Bool) (P : ℕ → Type 0) → test ≡ is_some found → test ≡ true → IfSome found P → (object : ℕ) × P object
-is_there None test P is on there = let clash : false ≡ true = sym is ∙ on in absurd cc
-is_there (Some object) test P is on there = (object, there)
 
 good_volume : (volume part : List ℕ) → is_good_change (Snapshot volume part) ≡ true → is_name volume ≡ true
 good_volume volume part good = (both (is_name volume) (is_name part) good).0
@@ -46,11 +40,10 @@ returns-clause-value g c =
     let old = c.args.self.now in
     let volume = c.args.volume.now in
     let part = c.args.part.now in
-    let head = c.in-Some.head in
     let lacks = c.get.ensures.none (is_none _ _ c.is_some.ensures c.if-is_some.false) in
     let has = row_of old.directory volume _ _ c.in-Some.is c.object_of.ensures.found in
     let left : old.next + 2 ≤ numbers_end = omega arith in
-    IfOk-weaker c.take.result (λ done. IsTaken c.args.store.now c.take.new.store c.args.group head old c.in_ok-name.name c.take.new.self) _
+    IfOk-weaker c.take.result (λ done. IsTaken c.args.store.now c.take.new.store c.args.group c.in-Some.head old c.in_ok-name.name c.take.new.self) _
     (λ done taken stored known objects own blocks pool readings plain held are honest spells.
     snapshot_made c.reach_has_each_block_once.ensures c.args.store.now c.take.new.store old c.take.new.self c.args.group c.in_ok-name.name volume part has.0 stored known objects own blocks pool
     readings plain c.requires.behind left c.object_of.ensures.order c.in_ok-name.ensures.named (good_volume volume part c.in_ok-name.ensures.good) lacks has.1 has.2
@@ -61,7 +54,6 @@ pub returns-clause-known : goal.returns-clause-known
 returns-clause-known g c =
     let old = c.args.self.now in
     let volume = c.args.volume.now in
-    let head = c.in-Some.head in
     let has = row_of old.directory volume _ _ c.in-Some.is c.object_of.ensures.found in
     IfErr-weaker c.take.result _ _
     (λ refusal known_for stored known objects own blocks pool readings plain good held are honest spells.
@@ -72,22 +64,25 @@ returns-clause-known g c =
 pub returns-clause-places : goal.returns-clause-places
 returns-clause-places g c =
     let old = c.args.self.now in
-    let head = c.in-Some.head in
+    let change = Snapshot c.args.volume.now c.args.part.now in
     let lacks = c.get.ensures.none (is_none _ _ c.is_some.ensures c.if-is_some.false) in
     let has = row_of old.directory c.args.volume.now _ _ c.in-Some.is c.object_of.ensures.found in
-    IfOk-weaker c.take.result (λ done. IsTaken c.args.store.now c.take.new.store c.args.group head old c.in_ok-name.name c.take.new.self) _
+    let making = is_making old.directory change c.in_ok-name.name c.in_ok-name.ensures.named lacks (is_row_there old.directory c.args.volume.now _ has) in
+    IfOk-weaker c.take.result (λ done. IsTaken c.args.store.now c.take.new.store c.args.group c.in-Some.head old c.in_ok-name.name c.take.new.self) _
     (λ done taken.
-    makes_one old.directory c.args.volume.now c.args.part.now c.in_ok-name.name head c.in_ok-name.ensures.named lacks has c.args.store.now c.take.new.store old c.take.new.self c.args.group refl taken
-    c.take.ensures.reads)
+    makes_one c.args.store.now c.take.new.store old c.take.new.self c.args.group change c.in_ok-name.name c.in_ok-name.ensures.named making taken.row taken.next
+    (spaces_stay c.args.store.now c.take.new.store [] c.take.ensures.reads))
     c.take.ensures.taken
 
 pub returns-clause-refused : goal.returns-clause-refused
 returns-clause-refused g c =
     let old = c.args.self.now in
+    let change = Snapshot c.args.volume.now c.args.part.now in
     let lacks = c.get.ensures.none (is_none _ _ c.is_some.ensures c.if-is_some.false) in
     let has = row_of old.directory c.args.volume.now _ _ c.in-Some.is c.object_of.ensures.found in
+    let making = is_making old.directory change c.in_ok-name.name c.in_ok-name.ensures.named lacks (is_row_there old.directory c.args.volume.now _ has) in
     IfErr-weaker c.take.result _ _
     (λ refusal why.
-    not_taken old.directory c.args.volume.now c.args.part.now c.in_ok-name.name c.in-Some.head c.in_ok-name.ensures.named lacks has c.args.store.now c.take.new.store old.changes why.0 c.args.group
-    old.next refusal why.1)
+    not_made c.args.store.now c.take.new.store old.changes c.args.group old.directory old.next change refusal making
+    (record { head = c.in-Some.head; is = inr has; far = old.changes; one_set = (refl, refl); last = why.0; why = why.1 }))
     c.take.ensures.refused

@@ -1,7 +1,5 @@
 use Rattle.std.proofs.Common.{rules, tests, ℕ, ◌≡◌, length, ap, ◌∙◌}
-use Rattle.std.specs.Prelude.{◌==◌, take}
-use Rattle.std.specs.List.{position_or_len}
-use Rattle.std.specs.Option.{unwrap_or}
+use Rattle.std.specs.Prelude.{◌==◌}
 use Rattle.std.proofs.lemmas.Iterator.{YieldsList-from_slice}
 use Rattle.std.proofs.lemmas.Iterator.Search.{position_from_yields_List}
 use Rattle.pool_model.proofs.Placing.{found_or_end}

@@ -1,22 +1,21 @@
--- Which records and dead lists there are once a snapshot was taken.
-use Rattle.std.proofs.Common.{◌≡◌, ◌≢◌, ◌+◌, ◌≤◌, ℕ, Option, Some, None, inl, inr, refl, ap, ◌∙◌, arith}
+-- Which records and dead lists there are once a dataset came to a pool.
+use Rattle.std.proofs.Common.{◌≡◌, ◌≢◌, ◌⊎◌, ◌+◌, ◌≤◌, ℕ, Option, Some, None, inl, inr, refl, ap, ◌∙◌, arith}
 use Rattle.std.proofs.lemmas.Bool.{cases_eq}
 use Rattle.block_store.specs.Blocks.{Contents}
 use Rattle.dataset_chains.specs.Chains.{Reading, SpellsChains}
-use Rattle.dataset_chains.specs.Touched.{IsSnapshotTouched}
 use Rattle.dataset_changes.specs.Over.{IsRecordNow, IsRecordOver}
 use Rattle.dataset_changes.specs.Results.{AreMixed}
 use Rattle.dataset_changes.specs.States.{list_at, record_at}
 use Rattle.dataset_changes.specs.declared.changes.DatasetChanges.{DatasetChanges}
 use Rattle.dataset_changes.specs.declared.states.RecordState.{RecordState}
 use Rattle.dataset_changes.specs.declared.states.RecordState.TheVariants as records
-use Rattle.dead_list.specs.Datasets.{Free, Pool}
-use Rattle.dead_list.specs.Operations.{IsHead, IsUnused, with_snapshot}
+use Rattle.dead_list.specs.Datasets.{Free, Kind, Pool}
+use Rattle.dead_list.specs.Operations.{IsUnused}
 use Rattle.meta_objset.specs.declared.record.DatasetRecord.{DatasetRecord}
 use Rattle.objset.specs.Objects.{Object}
 use Rattle.dataset_groups.specs.Groups.{IsFresh}
 use Rattle.dataset_groups.proofs.KnownBlocks.{free_or_not}
-use Rattle.dataset_groups.proofs.TakenPools.{kind_kept}
+use Rattle.dataset_groups.proofs.OneMore.{IsOneMore}
 use Rattle.dataset_groups.proofs.TouchedHeads.{for_list, for_record, no_object, not_both, record_made, some_or_none}
 
 -- where there is no object a record that is there was made
@@ -42,23 +41,23 @@ module _ (known : Contents) (group : ℕ) (objects : ℕ → Option Object) (old
   pub fresh_unused : (k : ℕ) → k ≢ 0 → IsFresh objects old k → IsUnused pool.datasets k
   fresh_unused k some fresh = (some, (spells.none k (fresh_free k fresh)).is)
 
-  module _ (new : DatasetChanges) (now : ℕ → Reading) (head n : ℕ) (is : IsHead pool.datasets head) (unused : IsUnused pool.datasets n)
-      (spelled : SpellsChains known group objects new (with_snapshot pool head n) now) (fresh_n : IsFresh objects old n)
-      (fresh_list : IsFresh objects old (n + 1)) (touched : IsSnapshotTouched old new head n (n + 1)) where
+  module _ (later : Contents) (new : DatasetChanges) (after : Pool) (now : ℕ → Reading) (n : ℕ) (of : Kind) (more : IsOneMore pool after n of)
+      (spelled : SpellsChains later group objects new after now) (fresh_n : IsFresh objects old n) (fresh_list : IsFresh objects old (n + 1))
+      (touched : (k : ℕ) → (list_at new k ≡ list_at old k) ⊎ (k ≡ n + 1)) where
     -- where there is no object and no dataset no record is there
     unrecorded : (k : ℕ) → k ≢ n → objects k ≡ None → (pool.datasets k).kind ≡ Free → record_at new k ≡ None
     unrecorded k nn none free = elim (some_or_none (record_at new k)) [
       | inl e ↦ e
       | inr some ↦
           let made = made_there (objects k) (record_at new k) none (spelled.over.records k) some in
-          absurd ((spelled.none k (kind_kept pool head n is unused k nn ∙ free)).none made.0 made.1)
+          absurd ((spelled.none k (more.kinds k nn ∙ free)).none made.0 made.1)
     ]
 
     pub still_fresh : (k : ℕ) → n + 2 ≤ k → IsFresh objects old k → IsFresh objects new k
     still_fresh k le fresh = record {
       no_object = fresh.no_object;
       no_record = unrecorded k (λ e. omega (arith, le, e)) fresh.no_object (fresh_free k fresh);
-      no_list = elim (touched.touched.lists k) [
+      no_list = elim (touched k) [
         | inl kept ↦ kept ∙ fresh.no_list
         | inr here ↦ absurd (omega (arith, le, here))
       ];
@@ -68,7 +67,7 @@ module _ (known : Contents) (group : ℕ) (objects : ℕ → Option Object) (old
     still_unmixed unmixed (k, some_record, some_list) =
         let none : objects k ≡ None =
         not_both (objects k) (for_record (objects k) (record_at new k) (spelled.over.records k) some_record) (for_list (objects k) (list_at new k) (spelled.over.lists k) some_list) in
-        elim (touched.touched.lists k) [
+        elim (touched k) [
           | inr here ↦
               let at : record_at new (n + 1) ≡ None = unrecorded (n + 1) (λ e. omega (arith, e)) fresh_list.no_object (fresh_free (n + 1) fresh_list) in
               some_record (ap (record_at new) here ∙ at)

@@ -1,0 +1,12 @@
+use Rattle.std.proofs.Common.{⊎_elim, inl, inr}
+use Rattle.dnode_tree.proofs.Refusing.{passed_on}
+use Rattle.dataset_groups.proofs.datasets.GroupDatasets.clone_as.Goals as goal
+
+pub returns-in_err-clone-clause-refused : goal.returns-in_err-clone-clause-refused
+returns-in_err-clone-clause-refused g c = passed_on _ _ _ c.from_residual.ensures.1 (c.clone.new.changes, c.in_err-clone.ensures.refused)
+
+pub returns-in_err-clone-clause-known : goal.returns-in_err-clone-clause-known
+returns-in_err-clone-clause-known g c =
+    passed_on _ _ _ c.from_residual.ensures.1
+    (λ stored known objects own blocks pool readings held are honest spells is.
+    ⊎_elim (λ loss. inl loss) (λ most. inr most.0) (c.in_err-clone.ensures.known stored known objects own blocks pool readings held are honest spells is))

@@ -1,0 +1,189 @@
+-- Changes that take effect.
+use Rattle.std.proofs.Common.{◌≡◌, ◌≢◌, ⊎_elim, ℕ, suc, ◌≤◌, Bool, false, List, [], ◌∷◌, ◌++◌, Option, Some, None, refl, sym, ap, ◌∙◌, subst, arith}
+use Rattle.std.specs.Prelude.{◌%◌, ◌^◌, ◌==◌, ◌&&◌, cond, fold, is_some, nat_le, not}
+use Rattle.std.specs.Option.{option_map}
+use Rattle.std.proofs.lemmas.Bool.{cases_lt}
+use Rattle.pool_model.specs.declared.item.Action.{Action}
+use Rattle.pool_model.specs.declared.item.Change.{Change}
+use Rattle.pool_model.specs.declared.item.Change.TheVariants.{Clone, Create, Snapshot}
+use Rattle.pool_model.specs.declared.item.Item.TheVariants.{Action as ActionItem, Write as WriteItem}
+use Rattle.pool_model.specs.declared.refusal.Refusal.TheVariants.{BadName, Exists, Misaligned, NoSuchName, OutOfRange}
+use Rattle.pool_model.specs.declared.step.Step.{Step}
+use Rattle.pool_model.specs.declared.step.Step.TheVariants.{Act}
+use Rattle.pool_model.specs.declared.step.Reply.{Reply}
+use Rattle.pool_model.specs.declared.step.Reply.TheVariants.{Receipt}
+use Rattle.pool_model.specs.declared.volume.PlainVolume.{PlainVolume}
+use Rattle.pool_model.specs.Names.{is_block_size, is_name, snapshot_name}
+use Rattle.pool_model.specs.Pools.{PlainPool, Entry, Ledger, is_snapshot, no_items, volume_at, written, changed, applied, upto}
+use Rattle.pool_model.specs.Refusals.{act_refusal, change_refusal, first_cause, is_snapshot_there, is_volume}
+use Rattle.pool_model.specs.View.{View, Given, Vdev, now_of, opened_as, started}
+use Rattle.pool_model.specs.Flow.{added, ledger_accepted}
+use Rattle.pool_model.specs.Machine.{StepOf}
+use Rattle.pool_model.specs.Sound.{IsSound}
+use Rattle.pool_model.proofs.Causes.{or_none}
+use Rattle.pool_model.proofs.Moves.{EachMove, by_move}
+use Rattle.pool_model.proofs.Told.{stays}
+use Rattle.pool_model.proofs.Uptos.{upto_above, upto_agree, upto_from, itself}
+use Rattle.volume_rules.specs.declared.shape.VolumeShape.{VolumeShape}
+use Rattle.volume_rules.specs.Effects.{PendingTakeEffect, TakeEffect}
+use Rattle.volume_rules.specs.Overlay.{closed_in}
+use Rattle.volume_rules.specs.Shapes.{shape_of, HaveSameShapes}
+use Rattle.volume_rules.proofs.NowMoves.{actions_stay, shapes_upto}
+use Rattle.volume_rules.proofs.Pending.{opens_after, taken_above, closed_above}
+use Rattle.volume_rules.proofs.Volumes.{shapes_changed, shapes_of_writes}
+
+-- ---- a change is refused by names, kinds and sizes alone
+
+some_by : (o : Option PlainVolume) → is_some o ≡ is_some (option_map shape_of o)
+some_by None = refl
+some_by (Some volume) = refl
+
+abbrev is_volume_shape : Option VolumeShape → Bool
+is_volume_shape None = false
+is_volume_shape (Some shape) = not (is_snapshot shape.kind)
+
+volume_by : (o : Option PlainVolume) → is_volume o ≡ is_volume_shape (option_map shape_of o)
+volume_by None = refl
+volume_by (Some volume) = refl
+
+abbrev is_snapshot_shape : Option VolumeShape → Bool
+is_snapshot_shape None = false
+is_snapshot_shape (Some shape) = is_snapshot shape.kind
+
+snapshot_by : (o : Option PlainVolume) → is_snapshot_there o ≡ is_snapshot_shape (option_map shape_of o)
+snapshot_by None = refl
+snapshot_by (Some volume) = refl
+
+same_refusal : (change : Change) (pool other : PlainPool) → HaveSameShapes pool other → change_refusal change pool ≡ change_refusal change other
+same_refusal change pool other h = by change
+  where
+    there : (name : List ℕ) → is_some (volume_at name pool) ≡ is_some (volume_at name other)
+    there name = some_by (volume_at name pool) ∙ (ap is_some (h name) ∙ sym (some_by (volume_at name other)))
+
+    volumes : (name : List ℕ) → is_volume (volume_at name pool) ≡ is_volume (volume_at name other)
+    volumes name = volume_by (volume_at name pool) ∙ (ap is_volume_shape (h name) ∙ sym (volume_by (volume_at name other)))
+
+    snapshots : (name : List ℕ) → is_snapshot_there (volume_at name pool) ≡ is_snapshot_there (volume_at name other)
+    snapshots name = snapshot_by (volume_at name pool) ∙ (ap is_snapshot_shape (h name) ∙ sym (snapshot_by (volume_at name other)))
+
+    by : (change : Change) → change_refusal change pool ≡ change_refusal change other
+    by (Create name size block_size) = ap (λ b. first_cause ((not (is_name name), BadName) ∷ (b, Exists) ∷ (not (is_block_size block_size && (size % block_size == 0)), Misaligned) ∷ (not (nat_le block_size size && nat_le size (2 ^ 40)), OutOfRange) ∷ [])) (there name)
+    by (Snapshot volume part) = λ i. first_cause ((not (is_name part), BadName) ∷ (not (volumes volume i), NoSuchName) ∷ (there (snapshot_name volume part) i, Exists) ∷ [])
+    by (Clone snapshot name) = λ i. first_cause ((not (is_name name), BadName) ∷ (not (snapshots snapshot i), NoSuchName) ∷ (there name i, Exists) ∷ [])
+
+-- ---- the actions of a group
+
+effect_along : (group : ℕ) (pool other : PlainPool) (actions : List Action) → HaveSameShapes pool other → TakeEffect group pool actions → TakeEffect group other actions
+effect_along group pool other [] h effect = tt
+effect_along group pool other (a ∷ actions) h effect = (
+  sym (same_refusal a.change pool other h) ∙ effect.0,
+  effect_along group (changed group pool a.change) (changed group other a.change) actions (shapes_changed group pool other a.change h) effect.1,
+)
+
+effect_more : (group : ℕ) (pool : PlainPool) (actions : List Action) (a : Action) → TakeEffect group pool actions → change_refusal a.change (fold (λ p x. changed group p x.change) pool actions) ≡ None → TakeEffect group pool (actions ++ a ∷ [])
+effect_more group pool [] a effect e = (e, tt)
+effect_more group pool (x ∷ actions) a effect e = (effect.0, effect_more group (changed group pool x.change) actions a effect.1 e)
+
+-- ---- the groups behind a base one
+
+-- those of a group, behind its writes
+abbrev pub GroupTakesEffect : ℕ → PlainPool → Entry → Type 0
+GroupTakesEffect group pool entry = TakeEffect group (fold written pool entry.writes) entry.actions
+
+abbrev pub AllTakeEffect : ℕ → PlainPool → Ledger → Type 0
+AllTakeEffect c pool ledger = (n : ℕ) → c ≤ n → GroupTakesEffect (suc n) (upto c pool ledger n) (ledger (suc n))
+
+-- neither the bytes of the base nor writes make a difference
+pub effects_along : (c : ℕ) (pool other : PlainPool) (ledger also : Ledger) → HaveSameShapes pool other → ((group : ℕ) → (ledger group).actions ≡ (also group).actions) → AllTakeEffect c pool ledger → AllTakeEffect c other also
+effects_along c pool other ledger also h f effects n le =
+    subst (TakeEffect (suc n) (fold written (upto c other also n) (also (suc n)).writes)) (f (suc n))
+    (effect_along (suc n) (fold written (upto c pool ledger n) (ledger (suc n)).writes) (fold written (upto c other also n) (also (suc n)).writes) (ledger (suc n)).actions
+    (λ name. shapes_of_writes (upto c pool ledger n) (ledger (suc n)).writes name ∙ (shapes_upto c pool other ledger also n h f name ∙ sym (shapes_of_writes (upto c other also n) (also (suc n)).writes name)))
+    (effects n le))
+
+-- the last group that has actions takes one more
+effects_more : (c m : ℕ) (pool : PlainPool) (ledger : Ledger) (a : Action) → c ≤ m → ((group : ℕ) → suc m ≤ group → ledger (suc group) ≡ no_items) → change_refusal a.change (upto c pool ledger (suc m)) ≡ None → AllTakeEffect c pool ledger
+    → AllTakeEffect c pool (ledger_accepted ledger (suc m) (ActionItem a))
+effects_more c m pool ledger a low beyond e effects n le = ⊎_elim before (λ ge. ⊎_elim behind (λ le. at (let x = ge in let y = le in omega arith)) (cases_lt m n)) (cases_lt n m)
+  where
+    others : (g : ℕ) → suc m ≢ g → ledger_accepted ledger (suc m) (ActionItem a) g ≡ ledger g
+    others g apart = stays ledger g (suc m) (added (ledger g) (ActionItem a)) apart
+
+    below : (n : ℕ) → n ≤ m → upto c pool (ledger_accepted ledger (suc m) (ActionItem a)) n ≡ upto c pool ledger n
+    below n le = upto_agree c pool (ledger_accepted ledger (suc m) (ActionItem a)) ledger n (λ g h. others g (λ e. omega arith))
+
+    before : suc n ≤ m → GroupTakesEffect (suc n) (upto c pool (ledger_accepted ledger (suc m) (ActionItem a)) n) (ledger_accepted ledger (suc m) (ActionItem a) (suc n))
+    before lt = let same = others (suc n) (λ e. omega arith) in let under = below n (omega arith) in subst (λ (x : PlainPool × Entry). GroupTakesEffect (suc n) x.0 x.1) (λ i. (sym under i, sym same i)) (effects n le)
+
+    behind : suc m ≤ n → GroupTakesEffect (suc n) (upto c pool (ledger_accepted ledger (suc m) (ActionItem a)) n) (ledger_accepted ledger (suc m) (ActionItem a) (suc n))
+    behind lt = subst (GroupTakesEffect (suc n) (upto c pool (ledger_accepted ledger (suc m) (ActionItem a)) n)) (sym (others (suc n) (λ e. omega arith) ∙ beyond n lt)) tt
+
+    here : GroupTakesEffect (suc m) (upto c pool (ledger_accepted ledger (suc m) (ActionItem a)) m) (ledger_accepted ledger (suc m) (ActionItem a) (suc m))
+    here =
+        let under = below m (omega arith) in
+        subst (λ (x : PlainPool × Entry). GroupTakesEffect (suc m) x.0 x.1) (λ i. (sym under i, cond (sym (itself (suc m)) i) (added (ledger (suc m)) (ActionItem a)) (ledger (suc m))))
+        (effect_more (suc m) (fold written (upto c pool ledger m) (ledger (suc m)).writes) (ledger (suc m)).actions a (effects m low)
+        (ap (change_refusal a.change) (sym (upto_above c m pool ledger low)) ∙ e))
+
+    at : n ≡ m → GroupTakesEffect (suc n) (upto c pool (ledger_accepted ledger (suc m) (ActionItem a)) n) (ledger_accepted ledger (suc m) (ActionItem a) (suc n))
+    at same = subst (λ k. GroupTakesEffect (suc k) (upto c pool (ledger_accepted ledger (suc m) (ActionItem a)) k) (ledger_accepted ledger (suc m) (ActionItem a) (suc k))) (sym same) here
+
+-- the first group is committed
+effects_committed : (c : ℕ) (pool : PlainPool) (ledger : Ledger) → AllTakeEffect c pool ledger → AllTakeEffect (suc c) (applied (suc c) pool (ledger (suc c))) ledger
+effects_committed c pool ledger effects n le = subst (λ (p : PlainPool). GroupTakesEffect (suc n) p (ledger (suc n))) (sym (upto_from c pool ledger n le)) (effects n (omega arith))
+
+-- ---- each step
+
+-- an action that is accepted was refused by nothing in NOW
+abbrev GoesUnrefused : View → Step → Reply → Type 0
+GoesUnrefused v (Act a) (Receipt group) = change_refusal a.change (now_of v) ≡ None
+GoesUnrefused v step reply = Unit {0}
+
+unrefused_act : (a : Action) (expected opened : ℕ) (now : PlainPool) (hold : Option ℕ) → act_refusal a expected opened now hold ≡ None → change_refusal a.change now ≡ None
+unrefused_act a expected opened now None e = absurd (cc)
+unrefused_act a expected opened now (Some group) e = (or_none _ _ (or_none _ _ e).1).1
+
+unrefused : (v : View) (given : Given) (step : Step) (reply : Reply) (w : View) → StepOf v given step reply w → GoesUnrefused v step reply
+unrefused v given (Act a) (Receipt group) w s =
+    ⊎_elim (λ r. absurd (let e = r.answer in cc)) (λ rest. ⊎_elim (λ l. absurd (let e = l.answer in cc)) (λ g. unrefused_act a _ _ _ _ (or_none _ _ g.none).1) rest) s
+unrefused v given step reply w s = tt
+
+abbrev KeepsEffects : View → Given → Step → Reply → View → Type 0
+KeepsEffects v given step reply w = IsSound v → GoesUnrefused v step reply → PendingTakeEffect v → PendingTakeEffect w
+
+effect_moves : EachMove KeepsEffects
+effect_moves = record {
+  stays = λ v given step cause may e s u effects. effects;
+  begun = λ v given t cause is s u effects. effects;
+  again = λ v given t cause is s u effects. effects;
+  failed = λ v given disk left e s u effects. effects;
+  replanned = λ v given disk left e s u effects. effects;
+  moved = λ v given phase left rest out e s u effects. effects;
+  read = λ v given name offset len bytes a s u effects. effects;
+  read_under = λ v given g name offset len bytes k a s u effects. effects;
+  held = λ v given by n s u effects. effects;
+  wrote = λ v given x g h n le s u effects. effects_along v.committed (v.pools v.committed) (v.pools v.committed) v.ledger (ledger_accepted v.ledger g (WriteItem x)) (λ name. refl) (λ group. sym (actions_stay v.ledger g x group)) effects;
+  acted = λ v given a g h n le op s u effects.
+      let last = opens_after v in
+      let low : v.committed ≤ closed_in v = let x = taken_above v in let y = closed_above v in omega arith in
+      subst (λ k. AllTakeEffect v.committed (v.pools v.committed) (ledger_accepted v.ledger k (ActionItem a))) (sym (op ∙ last))
+      (effects_more v.committed (closed_in v) (v.pools v.committed) v.ledger a low (λ group le. s.flow.beyond (suc group) (omega arith))
+      (subst (λ k. change_refusal a.change (upto v.committed (v.pools v.committed) v.ledger k) ≡ None) last u) effects);
+  released = λ v given by s u effects. effects;
+  closed = λ v given b s u effects. effects;
+  quiesced = λ v given e s u effects. effects;
+  planned = λ v given t calls s u effects. effects;
+  replanned_group = λ v given t calls s u effects. effects;
+  committed = λ v given left out e s u effects.
+      subst (λ b. AllTakeEffect (suc v.committed) (cond b (applied (suc v.committed) (v.pools v.committed) (v.ledger (suc v.committed))) (v.pools (suc v.committed))) v.ledger) (sym (itself (suc v.committed)))
+      (effects_committed v.committed (v.pools v.committed) v.ledger effects);
+}
+
+pub effects_step : (v : View) (given : Given) (step : Step) (reply : Reply) (w : View) → IsSound v → StepOf v given step reply w → PendingTakeEffect v → PendingTakeEffect w
+effects_step v given step reply w s h effects = by_move KeepsEffects effect_moves v given step reply w h s (unrefused v given step reply w h) effects
+
+pub effects_start : (vdevs : List Vdev) → PendingTakeEffect (started vdevs)
+effects_start vdevs n le = tt
+
+pub effects_opened : (vdevs : List Vdev) (out : ℕ → Bool) (group : ℕ) (pool : PlainPool) → PendingTakeEffect (opened_as vdevs out group pool)
+effects_opened vdevs out group pool n le = tt
